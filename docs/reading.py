@@ -74,7 +74,7 @@ ARTEFACTS = {
         "ether_content/src/laws.rt": ["edits_are_one", "edits_are_some", "edits_grow"],
     },
     "Captures": {
-        "ether_capture/src/run.rt": ["run"],
+        "ether_stream/src/run.rt": ["run"],
         "ether_capture/src/program.rt": ["program"],
     },
     "C": {
@@ -152,12 +152,14 @@ ORDER = {
     """,
     "Captures": """
         ether_pcap: Capture
-        ether_capture: Task Packets LinuxSll2Lines FrameLines Answering Copying
+        ether_stream: Task Packets LinuxSll2Lines FrameLines Answering Copying
         ether_text: Run
-        ether_capture: Run Options
+        ether_stream: Run Tags Words
+        ether_capture: Options
         ether_pcap: Texts PcapngTexts CaptureTexts
         ether_filter: ErrorTexts
-        ether_capture: Outcome Files Program Tags
+        ether_stream: Outcome
+        ether_capture: Files Program
     """,
     "C": """
         ether_c: Numbers Starts Found Units Walk

@@ -8,20 +8,20 @@ use Rattle.std.specs.Io.KnownBytes.{Appends}
 use Rattle.ether_pcap.specs.Capture.{PacketValue}
 use Rattle.ether_text.specs.Run.{IsEndless}
 use Rattle.ether_text.specs.declared.verdict.Verdict.{Verdict}
-use Rattle.ether_capture.specs.Counting.{AreCounted, HasCounted, IfFileRead, IfRead}
+use Rattle.ether_stream.specs.Counting.{AreCounted, HasCounted, IfFileRead, IfRead}
 use Rattle.ether_capture.specs.Files.{HasEnded, ReadsFile, next_task}
 use Rattle.ether_capture.specs.Options.{ListingValue}
-use Rattle.ether_capture.specs.Outcome.{last_bytes, status_of_file, text_of_file}
-use Rattle.ether_capture.specs.Packets.{counted, IsLeftOf}
-use Rattle.ether_capture.specs.Run.{HasNoMemory, OnStreamFault}
-use Rattle.ether_capture.specs.Task.{TaskValue}
-use Rattle.ether_capture.specs.declared.captures.OpenFault.{OpenFault}
-use Rattle.ether_capture.specs.declared.counts.PacketCounts.{PacketCounts}
+use Rattle.ether_stream.specs.Outcome.{last_bytes, status_of_file, text_of_file}
+use Rattle.ether_stream.specs.Packets.{counted, IsLeftOf}
+use Rattle.ether_stream.specs.Run.{HasNoMemory, OnStreamFault}
+use Rattle.ether_stream.specs.Task.{TaskValue}
+use Rattle.ether_stream.specs.declared.open_fault.OpenFault.{OpenFault}
+use Rattle.ether_stream.specs.declared.counts.PacketCounts.{PacketCounts}
 use Rattle.ether_capture.specs.declared.files.Tally.{Tally}
-use Rattle.ether_capture.specs.declared.outcome.FileEnd.{FileEnd}
-use Rattle.ether_capture.specs.declared.outcome.FileEnd.TheVariants as ends
-use Rattle.ether_capture.specs.declared.outcome.RunFault.{RunFault}
-use Rattle.ether_capture.specs.declared.outcome.RunFault.TheVariants as faults
+use Rattle.ether_stream.specs.declared.outcome.FileEnd.{FileEnd}
+use Rattle.ether_stream.specs.declared.outcome.FileEnd.TheVariants as ends
+use Rattle.ether_stream.specs.declared.outcome.RunFault.{RunFault}
+use Rattle.ether_stream.specs.declared.outcome.RunFault.TheVariants as faults
 
 -- the names that are left
 abbrev pub names_in : {A : Type 0} → IntoIter (Bor (List ℕ)) A → List (List ℕ)

@@ -1,10 +1,2 @@
-pub mod InputBufferLemmas
-pub mod PacketsLemmas
-pub mod CopiesLemmas
-pub mod FrameLinesLemmas
-pub mod MadeLemmas
-pub mod ProgressLemmas
-pub mod RunLemmas
 pub mod OptionsLemmas
-pub mod TagsLemmas
 pub mod FilesLemmas

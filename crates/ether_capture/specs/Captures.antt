@@ -1,8 +1,8 @@
 -- Why a capture can't be opened.
 use Rattle.std.specs.declared.io.ErrorKind.{ErrorKind}
 use Rattle.std.specs.declared.io.ErrorKind.TheVariants as kinds
-use Rattle.ether_capture.specs.declared.captures.OpenFault.{OpenFault}
-use Rattle.ether_capture.specs.declared.captures.OpenFault.TheVariants.{NotFound, PermissionDenied, IsADirectory, Other}
+use Rattle.ether_stream.specs.declared.open_fault.OpenFault.{OpenFault}
+use Rattle.ether_stream.specs.declared.open_fault.OpenFault.TheVariants.{NotFound, PermissionDenied, IsADirectory, Other}
 
 -- by the kind of the system's error
 abbrev pub open_fault_of : ErrorKind → OpenFault

@@ -7,17 +7,17 @@ use Rattle.ether_pcap.specs.Capture.{PacketValue}
 use Rattle.ether_pcap.specs.Copies.{Selected}
 use Rattle.ether_text.specs.Run.{IsEndless}
 use Rattle.ether_text.specs.declared.output_fault.OutputFault.{OutputFault}
-use Rattle.ether_capture.specs.FrameLines.{skip_count, totals_line_if}
+use Rattle.ether_stream.specs.FrameLines.{skip_count, totals_line_if}
 use Rattle.ether_capture.specs.Options.{ListingValue}
-use Rattle.ether_capture.specs.Outcome.{last_bytes, status_of_file, text_of_file}
-use Rattle.ether_capture.specs.Packets.{counted, IsLeftOf}
-use Rattle.ether_capture.specs.Run.{HasRunOver, HasNoMemory, OnStreamFault}
-use Rattle.ether_capture.specs.Task.{TaskValue, Lines, IsChosen}
-use Rattle.ether_capture.specs.declared.captures.OpenFault.{OpenFault}
+use Rattle.ether_stream.specs.Outcome.{last_bytes, status_of_file, text_of_file}
+use Rattle.ether_stream.specs.Packets.{counted, IsLeftOf}
+use Rattle.ether_stream.specs.Run.{HasRunOver, HasNoMemory, OnStreamFault}
+use Rattle.ether_stream.specs.Task.{TaskValue, Lines, IsChosen}
+use Rattle.ether_stream.specs.declared.open_fault.OpenFault.{OpenFault}
 use Rattle.ether_capture.specs.declared.files.Tally.{Tally}
-use Rattle.ether_capture.specs.declared.outcome.FileEnd.{FileEnd}
-use Rattle.ether_capture.specs.declared.outcome.FileEnd.TheVariants as ends
-use Rattle.ether_capture.specs.declared.outcome.RunFault.TheVariants.{Output}
+use Rattle.ether_stream.specs.declared.outcome.FileEnd.{FileEnd}
+use Rattle.ether_stream.specs.declared.outcome.FileEnd.TheVariants as ends
+use Rattle.ether_stream.specs.declared.outcome.RunFault.TheVariants.{Output}
 
 -- before the first capture
 abbrev pub nothing_read : (count : Option ℕ) → Tally

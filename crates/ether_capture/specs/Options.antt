@@ -1,5 +1,5 @@
 -- What the arguments ask for. `clap` defines which options words are, and which values these have.
-use Rattle.std.specs.Prelude.{◌≡◌, ◌≢◌, ◌<◌, ◌⊎◌, ℕ, List, [], ◌∷◌, map, codes, Bool, true, false, if◌then◌else◌, ◌||◌, Option, Some, None, unwrap_or, ⊤}
+use Rattle.std.specs.Prelude.{◌≡◌, ◌≢◌, ◌⊎◌, ℕ, List, [], ◌∷◌, map, codes, Bool, true, false, if◌then◌else◌, ◌||◌, Option, Some, None, unwrap_or, ⊤}
 use Rattle.std.specs.Int.NonZero.{non_zero_usize_get}
 use Rattle.std.specs.Option.{option_map, option_map_or, is_some}
 use Rattle.std.specs.Str.{bytes_eq}
@@ -8,19 +8,17 @@ use Rattle.clap.specs.declared.builder.action.ArgAction.TheVariants.{Append, Set
 use Rattle.clap.specs.declared.error.kind.ErrorKind.{ErrorKind}
 use Rattle.clap.specs.declared.error.kind.ErrorKind.TheVariants.{DisplayHelp, DisplayVersion, OutOfMemory}
 use Rattle.ether_filter.specs.Expressions.{Expression}
-use Rattle.ether_filter.specs.Texts.{IsExpressionOf}
-use Rattle.ether_filter.specs.Numerals.{number_in}
 use Rattle.ether_filter.specs.Refusals.{RefusesText}
 use Rattle.ether_filter.specs.declared.filter_error.FilterError.{FilterError}
-use Rattle.ether_content.specs.Editing.{EditValue, CutToHeaders, PopVlan}
+use Rattle.ether_content.specs.Editing.{EditValue}
 use Rattle.ether_content.specs.EditingViews.{edit_view}
-use Rattle.ether_capture.specs.Tags.{IsTagEdit}
+use Rattle.ether_stream.specs.Words.{IsCount, IsIfAny, IsLimit, IsOneEdit, IsSelection}
 use Rattle.ether_pcap.specs.CopiedUnits.{ModeValue, Exact, Changed}
-use Rattle.ether_capture.specs.Copying.{growth_if}
-use Rattle.ether_capture.specs.Task.{TaskValue, FormValue, Lines, Copy, task_view}
+use Rattle.ether_stream.specs.Copying.{growth_if}
+use Rattle.ether_stream.specs.Task.{TaskValue, FormValue, Lines, Copy, task_view}
 use Rattle.ether_capture.specs.declared.options.Asked.{Asked}
 use Rattle.ether_capture.specs.declared.options.Listing.{Listing}
-use Rattle.ether_capture.specs.declared.task.LineOptions.{LineOptions}
+use Rattle.ether_stream.specs.declared.task.LineOptions.{LineOptions}
 use Rattle.ether_capture.specs.declared.options.RequestError.{RequestError}
 use Rattle.ether_capture.specs.declared.options.RequestError.TheVariants as reasons
 use Rattle.ether_capture.specs.declared.options.Request.{Request}
@@ -97,29 +95,7 @@ pub record AskedValue : Type 0 where
 abbrev pub is_set : (name : Text) → List Row → Bool
 is_set name rows = option_map_or (λ text. bytes_eq text (codes "true")) (first_of name rows) false
 
--- a text that may be missing means this
-abbrev pub IsIfAny : {A : Type 0} → (Text → A → Type 0) → Option Text → Option A → Type 0
-IsIfAny Means None None = ⊤
-IsIfAny Means (Some text) (Some it) = Means text it
-IsIfAny Means text it = ⊥
-
--- a number of packets, written as in a filter, and not 0
-abbrev pub IsCount : Text → ℕ → Type 0
-IsCount text n = (number_in text ≡ Some (Some n)) × (0 < n)
-
--- a number of headers, written alike, which may be 0
-abbrev pub IsLimit : Text → ℕ → Type 0
-IsLimit text n = number_in text ≡ Some (Some n)
-
--- one edit at most
-abbrev pub IsOneEdit : (cuts pops : Bool) → (push set : Option Text) → Option EditValue → Type 0
-IsOneEdit false false None None edit = edit ≡ None
-IsOneEdit true false None None edit = edit ≡ Some CutToHeaders
-IsOneEdit false true None None edit = edit ≡ Some PopVlan
-IsOneEdit false false (Some text) None edit = IsIfAny (IsTagEdit (codes "--push-vlan")) (Some text) edit
-IsOneEdit false false None (Some text) edit = IsIfAny (IsTagEdit (codes "--set-vlan")) (Some text) edit
-IsOneEdit cuts pops push set edit = ⊥
-
+-- the edit that options ask for, one at most
 abbrev pub IsEdit : List Row → Option EditValue → Type 0
 IsEdit rows = IsOneEdit (is_set (codes "cut-to-headers") rows) (is_set (codes "pop-vlan") rows) (first_of (codes "push-vlan") rows)
     (first_of (codes "set-vlan") rows)
@@ -135,10 +111,6 @@ pub record Asks (rows : List Row) (a : AskedValue) : Type 0 where
   pub files : a.files ≡ unwrap_or (all_of (codes "file") rows) []
 
 -- ---- requests
-
--- the expression that a text means, if there is one
-abbrev pub IsSelection : (text : Option Text) → Option Expression → Type 0
-IsSelection = IsIfAny IsExpressionOf
 
 -- there are two at least
 abbrev pub are_several : List Text → Bool
@@ -249,11 +221,6 @@ abbrev pub RefusesRows : List Row → RequestError → Type 0
 RefusesRows rows reasons.Usage = (a : AskedValue) → ¬ (Asks rows a)
 RefusesRows rows (reasons.Filter copy e) = ⊥
 RefusesRows rows reasons.Memory = ⊤
-
--- an expression means a text, if there is one, or the text is refused
-abbrev pub RefusesSelection : (text : Option Text) → FilterError → Type 0
-RefusesSelection None e = ⊥
-RefusesSelection (Some text) e = RefusesText text e
 
 -- why what is asked for is no request
 abbrev pub RefusesAsked : AskedValue → RequestError → Type 0

@@ -8,14 +8,14 @@ use Rattle.ether_text.specs.declared.verdict.Verdict.{Verdict}
 use Rattle.ether_capture.specs.Options.{RequestValue, Run, Lists, Help, Version, NamesRequest, RefusesWords}
 use Rattle.ether_capture.specs.declared.options.RequestError.TheVariants as reasons
 use Rattle.ether_capture.specs.Files.{HasListed}
-use Rattle.ether_capture.specs.Run.{HasRun, HasNoMemory, OnStreamFault}
-use Rattle.ether_capture.specs.Task.{TaskValue, is_copy}
-use Rattle.ether_capture.specs.Outcome.{last_bytes, last_text, is_message, status_of_program}
-use Rattle.ether_capture.specs.declared.captures.OpenFault.{OpenFault}
-use Rattle.ether_capture.specs.declared.outcome.Outcome.{Outcome}
-use Rattle.ether_capture.specs.declared.outcome.Outcome.TheVariants as outcomes
-use Rattle.ether_capture.specs.declared.outcome.RunFault.{RunFault}
-use Rattle.ether_capture.specs.declared.outcome.RunFault.TheVariants.{Input}
+use Rattle.ether_stream.specs.Run.{HasRun, HasNoMemory, OnStreamFault}
+use Rattle.ether_stream.specs.Task.{TaskValue, is_copy}
+use Rattle.ether_stream.specs.Outcome.{last_bytes, last_text, is_message, status_of_program}
+use Rattle.ether_stream.specs.declared.open_fault.OpenFault.{OpenFault}
+use Rattle.ether_stream.specs.declared.outcome.Outcome.{Outcome}
+use Rattle.ether_stream.specs.declared.outcome.Outcome.TheVariants as outcomes
+use Rattle.ether_stream.specs.declared.outcome.RunFault.{RunFault}
+use Rattle.ether_stream.specs.declared.outcome.RunFault.TheVariants.{Input}
 
 -- the arguments, with the program's name first, if they can be read
 abbrev pub arguments_of : {A E : Type 0} → Result (IntoIter (String A) A) E → Option (List (List ℕ))

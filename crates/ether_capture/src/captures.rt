@@ -3,44 +3,19 @@ ghost use Rattle.std.specs.Prelude.{◌≡◌, ℕ, List, Option, IfErr, IfOk, �
 ghost use Rattle.std.specs.IoError.{error_kind};
 ghost use Rattle.ether_capture.specs.Captures.{open_fault_of};
 
+use ether_stream::OpenFault;
 use ether_text::Source;
 use std::fs::OpenFile;
 use std::io::ErrorKind;
 use std::rt::Files;
 use std::{fs, io};
 
-/// Why a capture can't be opened.
-#[derive(Clone, Copy, PartialEq, Eq, Debug)]
-pub enum OpenFault {
-    /// There is no file of its name.
-    NotFound,
-    /// The file may not be read.
-    PermissionDenied,
-    /// It is a folder.
-    IsADirectory,
-    /// The system has another reason.
-    Other,
-}
-
-impl From<io::Error> for OpenFault {
-    ghost from_gives = { λ error fault. fault ≡ open_fault_of (error_kind error) };
-
-    fn from(error: io::Error) -> OpenFault {
-        match error.kind() {
-            ErrorKind::NotFound => OpenFault::NotFound,
-            ErrorKind::PermissionDenied => OpenFault::PermissionDenied,
-            ErrorKind::IsADirectory => OpenFault::IsADirectory,
-            _ => OpenFault::Other,
-        }
-    }
-}
-
 /// What opens captures by their names: any [`Files`].
 ///
 /// What is proved for all of them is proved for one that can't fail, too. So whoever reports that a capture can't be opened has
 /// tried it.
 pub trait Captures {
-    ghost use Rattle.ether_capture.specs.declared.captures.OpenFault.{OpenFault};
+    ghost use Rattle.ether_stream.specs.declared.open_fault.OpenFault.{OpenFault};
 
     /// The bytes of a capture.
     type Input: Source + Drop;
@@ -65,10 +40,25 @@ impl<F: Files> Captures for F {
     ghost can_refuse = { λ _. ⊤ };
 
     fn open_named(&self, name: &str) -> Result<F::File, OpenFault> {
-        let file = fs::open(self, name)?;
+        let file = match fs::open(self, name) {
+            Ok(file) => file,
+            Err(error) => return Err(open_fault(&error)),
+        };
         match file.metadata() {
             Ok(metadata) if metadata.is_dir() => Err(OpenFault::IsADirectory),
             _ => Ok(file),
         }
+    }
+}
+
+/// Why a capture can't be opened, by the system's error.
+fn open_fault(error: &io::Error) -> OpenFault
+    ensures { result ≡ open_fault_of (error_kind error.now) }
+{
+    match error.kind() {
+        ErrorKind::NotFound => OpenFault::NotFound,
+        ErrorKind::PermissionDenied => OpenFault::PermissionDenied,
+        ErrorKind::IsADirectory => OpenFault::IsADirectory,
+        _ => OpenFault::Other,
     }
 }

@@ -4,24 +4,23 @@ ghost use Rattle.std.specs.Int.NonZero.{non_zero_usize_get};
 ghost use Rattle.std.specs.Io.KnownBytes.{Appends};
 ghost use Rattle.std.specs.Option.{option_map};
 ghost use Rattle.ether_pcap.specs.Capture.{PacketValue};
-ghost use Rattle.ether_capture.specs.Counting.{AreCounted, IfFileRead};
+ghost use Rattle.ether_stream.specs.Counting.{AreCounted, IfFileRead};
 ghost use Rattle.ether_capture.specs.Files.{HasEnded, HasListed, ReadsFile, ReadsFiles, next_task, nothing_read};
-ghost use Rattle.ether_capture.specs.FrameLines.{totals_line_if};
+ghost use Rattle.ether_stream.specs.FrameLines.{totals_line_if};
 ghost use Rattle.ether_capture.specs.Options.{ListingValue, listing_view};
-ghost use Rattle.ether_capture.specs.Outcome.{last_bytes, status_of_file, text_of_file};
-ghost use Rattle.ether_capture.specs.Packets.{counted};
-ghost use Rattle.ether_capture.specs.Task.{task_view};
-ghost use Rattle.ether_capture.specs.declared.outcome.FileEnd.TheVariants as ends;
-ghost use Rattle.ether_capture.specs.declared.outcome.RunFault.TheVariants.{Output};
+ghost use Rattle.ether_stream.specs.Outcome.{last_bytes, status_of_file, text_of_file};
+ghost use Rattle.ether_stream.specs.Packets.{counted};
+ghost use Rattle.ether_stream.specs.Task.{task_view};
+ghost use Rattle.ether_stream.specs.declared.outcome.FileEnd.TheVariants as ends;
+ghost use Rattle.ether_stream.specs.declared.outcome.RunFault.TheVariants.{Output};
 
 use crate::captures::Captures;
-use crate::counts::PacketCounts;
-use crate::frame_lines::write_totals;
-use crate::line_sink::LineSink;
 use crate::options::Listing;
-use crate::outcome::{FileEnd, RunFault, line_of_file, status_of_file};
-use crate::run::run_input;
-use crate::task::{Form, Task};
+use crate::run_input::run_input;
+use ether_stream::{
+    FileEnd, Form, LineSink, PacketCounts, RunFault, Task, line_of_file, status_of_file,
+    write_totals,
+};
 use ether_text::{OutputBuffer, OutputFault, Sink};
 use std::alloc::Global;
 use std::num::NonZeroUsize;

@@ -1,12 +1,10 @@
 //! Memory for the interfaces of a section.
-ghost use Rattle.std.specs.Prelude.{◌≤◌};
+ghost use Rattle.std.specs.Prelude.{◌≤◌, refl};
 ghost use Rattle.std.specs.Vec.{vec_capacity};
 
 use ether_pcap::{CaptureInterface, InterfaceTable};
+use ether_stream::{MAX_INTERFACES, SectionTable};
 use std::alloc::{AllocError, Global};
-
-/// How many interfaces a section of a capture may describe.
-const MAX_INTERFACES: usize = 65_536;
 
 /// Memory for the interfaces of a section: 65,536 at most.
 #[derive(Drop)]
@@ -45,4 +43,8 @@ impl InterfaceTable for InterfaceBuffer {
     fn remove_all(&mut self) {
         self.interfaces.clear();
     }
+}
+
+impl SectionTable for InterfaceBuffer {
+    ghost has_room = { refl };
 }

@@ -5,25 +5,13 @@
 //! the usage, the last line of a copy, and that a stream failed, to standard error.
 #![tactic(auto)]
 
-pub mod buffers;
 pub mod captures;
-mod copying;
-pub mod counts;
-pub mod edit_buffer;
 pub mod files;
-mod frame_lines;
-pub mod input_buffer;
+pub mod heap_memory;
 pub mod interface_buffer;
-pub mod line_sink;
-mod linux_sll2_lines;
-mod linux_sll_lines;
 pub mod options;
-pub mod outcome;
 pub mod program;
-mod progress;
-pub mod run;
-mod tags;
-pub mod task;
+pub mod run_input;
 
 use ether_text::{Noted, tell_failure};
 use std::process::ExitCode;

@@ -1,23 +1,20 @@
 //! What the arguments ask for.
 ghost use Rattle.std.specs.Prelude.{◌≡◌, ℕ, Some, None, IfOk, IfErr, OnErr, Option, List, [], codes, false, map, string_bytes, unwrap_or};
-ghost use Rattle.std.specs.Int.NonZero.{non_zero_usize_get};
 ghost use Rattle.std.specs.Option.{option_map};
 ghost use Rattle.clap.specs.Words.{all_of, app_of, first_of, found_of, rows_of, rule_of};
 ghost use Rattle.ether_content.specs.Editing.{EditValue};
 ghost use Rattle.ether_pcap.specs.CopiedUnits.{copy_mode_view};
 ghost use Rattle.ether_content.specs.EditingViews.{edit_view};
-ghost use Rattle.ether_capture.specs.Copying.{growth_if};
-ghost use Rattle.ether_capture.specs.Options.{Asks, IsCount, IsEdit, IsIfAny, IsLimit, IsOneEdit, IsRequestOf, IsSelection, KindNames, NamesRequest, RefusesAsked, RefusesKind, RefusesRows, RefusesSelection, RefusesWords, are_several, asked_view, capture_app, clashes, count_rule, file_rule, flag_rule, form_of, is_set, mode_of, option_rule, options_of, request_view};
-ghost use Rattle.ether_capture.specs.Tags.{IsTagEdit, tag_word};
-ghost use Rattle.ether_capture.specs.Task.{form_view};
+ghost use Rattle.ether_stream.specs.Copying.{growth_if};
+ghost use Rattle.ether_capture.specs.Options.{Asks, IsEdit, IsRequestOf, KindNames, NamesRequest, RefusesAsked, RefusesKind, RefusesRows, RefusesWords, are_several, asked_view, capture_app, clashes, count_rule, file_rule, flag_rule, form_of, is_set, mode_of, option_rule, options_of, request_view};
+ghost use Rattle.ether_stream.specs.Task.{form_view};
 
-use crate::tags::{TagEdit, small_number, tag_edit_of};
-use crate::task::{Form, LineOptions, Task};
 use clap::error::ErrorKind;
 use clap::{Arg, ArgAction, ArgMatches, Command};
 use ether_content::PacketEdit;
 use ether_filter::{Filter, FilterError};
 use ether_pcap::CopyMode;
+use ether_stream::{Form, LineOptions, Task, Usage, count_of, edit_of_words, filter_of, limit_of};
 use std::alloc::{AllocError, Global};
 use std::num::NonZeroUsize;
 
@@ -44,6 +41,16 @@ impl From<AllocError> for RequestError {
 
     fn from(_error: AllocError) -> RequestError {
         RequestError::Memory
+    }
+}
+
+impl From<Usage> for RequestError {
+    ghost use Rattle.ether_capture.specs.declared.options.RequestError.TheVariants as reasons;
+
+    ghost from_gives = { λ _ error. error ≡ reasons.Usage };
+
+    fn from(_error: Usage) -> RequestError {
+        RequestError::Usage
     }
 }
 
@@ -316,91 +323,7 @@ fn edit_of(matches: &ArgMatches<'_>) -> Result<Option<PacketEdit>, RequestError>
 {
     let cuts = is_set(matches, "cut-to-headers");
     let pops = is_set(matches, "pop-vlan");
-    one_edit(
-        cuts,
-        pops,
-        text_of(matches, "push-vlan"),
-        text_of(matches, "set-vlan"),
-    )
-}
-
-/// The edit, if one at most is asked for.
-fn one_edit(
-    cuts: bool,
-    pops: bool,
-    push: Option<&str>,
-    set: Option<&str>,
-) -> Result<Option<PacketEdit>, RequestError>
-    ensures ok { IfOk result (λ it. IsOneEdit cuts pops (option_map (λ s. s.now) push.entry) (option_map (λ s. s.now) set.entry) (option_map edit_view it)) }
-    ensures err { OnErr result ((e : Option EditValue)
-        → ¬ (IsOneEdit cuts pops (option_map (λ s. s.now) push.entry) (option_map (λ s. s.now) set.entry) e)) }
-    ensures usage { IfErr result (λ e. e ≡ RequestError.Usage) }
-{
-    match (cuts, pops, push, set) {
-        (false, false, None, None) => Ok(None),
-        (true, false, None, None) => Ok(Some(PacketEdit::CutToHeaders)),
-        (false, true, None, None) => Ok(Some(PacketEdit::PopVlan)),
-        (false, false, Some(text), None) => tag_edit(TagEdit::Push, text),
-        (false, false, None, Some(text)) => tag_edit(TagEdit::Set, text),
-        _ => Err(RequestError::Usage),
-    }
-}
-
-/// The edit of VLAN tags that a text says.
-fn tag_edit(kind: TagEdit, text: &str) -> Result<Option<PacketEdit>, RequestError>
-    ensures ok { IfOk result (λ it. IsIfAny (IsTagEdit (tag_word kind)) (Some text.now) (option_map edit_view it)) }
-    ensures err { OnErr result ((e : EditValue) → ¬ (IsTagEdit (tag_word kind) text.now e)) }
-    ensures usage { IfErr result (λ e. e ≡ RequestError.Usage) }
-{
-    match tag_edit_of(kind, text.as_bytes()) {
-        Some(edit) => Ok(Some(edit)),
-        None => Err(RequestError::Usage),
-    }
-}
-
-/// The number of packets that a text says, if there is one.
-fn count_of(text: Option<&str>) -> Result<Option<NonZeroUsize>, RequestError>
-    ensures ok { IfOk result (λ it. IsIfAny IsCount (option_map (λ s. s.now) text.entry) (option_map non_zero_usize_get it)) }
-    ensures err { OnErr result ((n : Option ℕ) → ¬ (IsIfAny IsCount (option_map (λ s. s.now) text.entry) n)) }
-    ensures usage { IfErr result (λ e. e ≡ RequestError.Usage) }
-{
-    let Some(text) = text else {
-        return Ok(None);
-    };
-    let Some(number) = small_number(text.as_bytes()) else {
-        return Err(RequestError::Usage);
-    };
-    match NonZeroUsize::new(number as usize) {
-        Some(count) => Ok(Some(count)),
-        None => Err(RequestError::Usage),
-    }
-}
-
-/// The number of headers that a text says, if there is one.
-fn limit_of(text: Option<&str>) -> Result<Option<usize>, RequestError>
-    ensures ok { IfOk result (IsIfAny IsLimit (option_map (λ s. s.now) text.entry)) }
-    ensures err { OnErr result ((n : Option ℕ) → ¬ (IsIfAny IsLimit (option_map (λ s. s.now) text.entry) n)) }
-    ensures usage { IfErr result (λ e. e ≡ RequestError.Usage) }
-{
-    let Some(text) = text else {
-        return Ok(None);
-    };
-    match small_number(text.as_bytes()) {
-        Some(number) => Ok(Some(number as usize)),
-        None => Err(RequestError::Usage),
-    }
-}
-
-/// The filter of a text, if there is one.
-fn filter_of(text: Option<&str>) -> Result<Option<Filter>, FilterError>
-    ensures ok { IfOk result (IsSelection (option_map (λ s. s.now) text.entry)) }
-    ensures err { IfErr result (RefusesSelection (option_map (λ s. s.now) text.entry)) }
-{
-    let Some(text) = text else {
-        return Ok(None);
-    };
-    match Filter::parse(text.as_bytes()) {
-        Ok(filter) => Ok(Some(filter)),
-        Err(error) => Err(error),
-    }
+    let push = text_of(matches, "push-vlan");
+    let edit = edit_of_words(cuts, pops, push, text_of(matches, "set-vlan"))?;
+    Ok(edit)
 }

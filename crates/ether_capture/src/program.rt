@@ -1,18 +1,14 @@
 //! The program, over any arguments, files, reader and writer.
 ghost use Rattle.std.specs.Prelude.{◌≡◌, ◌⊎◌, Bool, IfErr, Some, map, string_bytes};
-ghost use Rattle.ether_text.specs.Run.{IsEndless};
-ghost use Rattle.ether_capture.specs.Outcome.{is_message, status_of_program};
+ghost use Rattle.ether_stream.specs.Outcome.{is_message, status_of_program};
 ghost use Rattle.ether_capture.specs.Program.{HasObeyed, HasRunFile, HasServed, PrintsApart, PrintsLast, arguments_of};
-ghost use Rattle.ether_capture.specs.Run.{HasRun, OnStreamFault};
-ghost use Rattle.ether_capture.specs.Task.{task_view};
+ghost use Rattle.ether_stream.specs.Task.{task_view};
 
 use crate::captures::Captures;
 use crate::files::run_files;
-use crate::line_sink::LineSink;
 use crate::options::{Request, RequestError, request_of_words};
-use crate::outcome::{Outcome, RunFault, is_message, last_line, program_status};
-use crate::run::run_input;
-use crate::task::Task;
+use crate::run_input::run_input;
+use ether_stream::{LineSink, Outcome, RunFault, Task, is_message, last_line, program_status};
 use ether_text::{Sink, Source};
 use std::alloc::Global;
 use std::io::Write;

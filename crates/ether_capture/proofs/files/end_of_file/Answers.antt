@@ -1,4 +1,4 @@
-use Rattle.ether_capture.specs.Task.{task_view}
+use Rattle.ether_stream.specs.Task.{task_view}
 use Rattle.ether_capture.proofs.FilesLemmas.{run_ended}
 use Rattle.ether_capture.proofs.files.end_of_file.Goals as goal
 

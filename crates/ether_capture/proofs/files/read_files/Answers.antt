@@ -4,7 +4,7 @@ use Rattle.std.specs.Option.{option_map, is_some}
 use Rattle.ether_text.proofs.ArgumentsLemmas.{items_end}
 use Rattle.ether_capture.specs.Files.{ReadsFiles, no_more, enough, next, next_task}
 use Rattle.ether_capture.specs.Options.{listing_view}
-use Rattle.ether_capture.specs.Task.{Lines}
+use Rattle.ether_stream.specs.Task.{Lines}
 use Rattle.ether_capture.proofs.FilesLemmas.{names_in}
 use Rattle.ether_capture.proofs.files.read_files.Goals as goal
 

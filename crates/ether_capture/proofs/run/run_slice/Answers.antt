@@ -1,8 +1,0 @@
-use Rattle.std.proofs.Common.{Some, ap, arith}
-use Rattle.ether_capture.proofs.RunLemmas.{slice_answered}
-use Rattle.ether_capture.proofs.run.run_slice.Goals as goal
-
-pub returns-clause-run : goal.returns-clause-run
-returns-clause-run g c =
-    slice_answered _ g.W.Sink.can_fail c.args.capture.now _ _ _ _ c.run.result (ap Some c.new-source.ensures)
-    (omega arith) c.run.ensures.run c.run.ensures.failed

@@ -1,0 +1,44 @@
+//! A run with memory of the heap.
+ghost use Rattle.std.specs.Prelude.{◌⊎◌, [], IfErr};
+ghost use Rattle.ether_text.specs.Run.{IsEndless};
+ghost use Rattle.ether_stream.specs.Counting.{AreCounted, HasCounted};
+ghost use Rattle.ether_stream.specs.Run.{HasNoMemory, HasRun, OnStreamFault};
+ghost use Rattle.ether_stream.specs.Task.{task_view};
+
+use crate::heap_memory::HeapMemory;
+use crate::interface_buffer::InterfaceBuffer;
+use ether_stream::run::run_counted;
+use ether_stream::{Buffers, NoMemory, PacketCounts, RunFault, Task};
+use ether_text::{Sink, Source, Verdict};
+use std::alloc::Global;
+
+/// Does as [`run_counted`], with memory that is allocated before.
+pub fn run_input<R: Source, W: Sink>(
+    task: &Task,
+    alloc: Global,
+    reader: &mut R,
+    writer: &mut W,
+) -> (Result<Verdict, RunFault>, PacketCounts)
+    ensures run { HasRun (task_view task.now) (R.remaining reader.old) (R.remaining reader.new)
+        (W.contents writer.old) (W.contents writer.new) result.0
+        ⊎ HasNoMemory (R.remaining reader.old) (R.remaining reader.new) (W.contents writer.old) (W.contents writer.new) result.0 }
+    ensures counted { HasCounted (task_view task.now) (R.remaining reader.old) (R.remaining reader.new)
+        (W.contents writer.old) (W.contents writer.new) result.0 result.1
+        ⊎ (HasNoMemory (R.remaining reader.old) (R.remaining reader.new) (W.contents writer.old) (W.contents writer.new) result.0
+        × AreCounted (task_view task.now) [] result.1) }
+    ensures failed { IfErr result.0 (λ fault. OnStreamFault fault
+        (R.can_fail ⊎ IsEndless (R.remaining reader.old) (R.remaining reader.new)) W.can_fail) }
+{
+    match allocated(alloc) {
+        Ok(buffers) => run_counted(task, buffers, reader, writer),
+        Err(_) => (Err(RunFault::Memory), PacketCounts::none(task)),
+    }
+}
+
+/// Memory for a run.
+fn allocated(alloc: Global) -> Result<Buffers<HeapMemory, InterfaceBuffer>, NoMemory> {
+    match InterfaceBuffer::new(alloc) {
+        Ok(interfaces) => Buffers::new(HeapMemory::new(alloc), HeapMemory::new(alloc), interfaces),
+        Err(_) => Err(NoMemory),
+    }
+}

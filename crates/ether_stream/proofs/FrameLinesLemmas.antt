@@ -1,0 +1,29 @@
+-- The text of a time whose seconds have ten digits.
+use Rattle.std.proofs.Common.{◌≡◌, ℕ, ◌+◌, ◌/◌, ◌%◌, ◌^◌, ◌<◌, ◌≤◌, List, ◌∷◌, ◌++◌, ap, ◌∙◌, arith}
+use Rattle.std.specs.Prelude.{codes, slice_index_or}
+use Rattle.std.specs.Fmt.{decimal}
+use Rattle.ether_text.specs.Decimals.{eight_digits}
+use Rattle.ether_text.proofs.DecimalLemmas.{of_ten}
+use Rattle.ether_stream.specs.FrameLines.{nine_digits}
+
+-- the last two of the digits before the last eight, and these
+abbrev pub ten_digits : ℕ → List ℕ
+ten_digits n =
+    let high = eight_digits (n / 10 ^ 8) in
+    slice_index_or high 6 0 ∷ slice_index_or high 7 0 ∷ eight_digits n
+
+of_ten_digits : (n : ℕ) → 10 ^ 9 ≤ n → n < 10 ^ 10 → ten_digits n ≡ decimal n
+unfolding eight_digits
+of_ten_digits n most few =
+    let tens : n / 10 ^ 8 / 10 % 10 ≡ n / 10 ^ 8 / 10 = omega arith in
+    (λ i. (48 + tens i) ∷ (48 + n / 10 ^ 8 % 10) ∷ eight_digits n) ∙ of_ten n most few
+
+-- the text between two words, with the digits of the seconds
+abbrev pub between_words : List ℕ → ℕ → List ℕ
+between_words seconds nanoseconds =
+    codes " time " ++ ((seconds ++ (codes "." ++ nine_digits nanoseconds)) ++ codes " link ")
+
+pub recent_time : (seconds nanoseconds : ℕ) → 10 ^ 9 ≤ seconds → seconds < 10 ^ 10
+    → between_words (ten_digits seconds) nanoseconds ≡ between_words (decimal seconds) nanoseconds
+recent_time seconds nanoseconds most few =
+    ap (λ (l : List ℕ). between_words l nanoseconds) (of_ten_digits seconds most few)

@@ -1,0 +1,11 @@
+use Rattle.std.proofs.Common.{Bool, sym, ap}
+use Rattle.ether_text.proofs.OutputBufferLemmas.{Takes-then, Takes-same}
+use Rattle.ether_stream.specs.FrameLines.{totals_line_if}
+use Rattle.ether_stream.proofs.frame_lines.write_totals.Goals as goal
+
+pub returns : goal.returns
+returns g c =
+    Takes-same (ap (λ (b : Bool). totals_line_if b c.args.frames c.args.skipped) (sym c.if-is_plain.false))
+    (Takes-then c.append.ensures
+    (Takes-then c.write_decimal.ensures
+    (Takes-then c.append-2.ensures (Takes-then c.write_decimal-2.ensures c.append-3.ensures))))

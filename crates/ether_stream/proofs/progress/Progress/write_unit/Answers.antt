@@ -1,0 +1,91 @@
+use Rattle.std.proofs.Common.{◌≡◌, ◌+◌, [], Some, None, true, false, refl, sym, subst, ◌∙◌}
+use Rattle.std.specs.Prelude.{Option}
+use Rattle.std.specs.Option.{option_map}
+use Rattle.ether_pcap.specs.CaptureViews.{captured_packet_view}
+use Rattle.ether_pcap.specs.declared.capture.captured_packet.CapturedPacket.{CapturedPacket}
+use Rattle.ether_text.proofs.OutputBufferLemmas.{Takes-none}
+use Rattle.ether_stream.specs.Packets.{counted}
+use Rattle.ether_stream.specs.Progress.{MakesText, Makes, other_text, writes_packet}
+use Rattle.ether_stream.specs.Task.{form_view, IsChosen}
+use Rattle.ether_stream.specs.declared.task.Form.{Form}
+use Rattle.ether_stream.proofs.MadeLemmas.{other_made, left_made}
+use Rattle.ether_stream.proofs.progress.Progress.write_unit.Goals as goal
+
+pub returns-in_default-clause-some : goal.returns-in_default-clause-some
+returns-in_default-clause-some g c =
+    let self = c.args.self.now in
+    let task = c.args.task.now in
+    let unit = c.args.unit.now in
+    let form = form_view task.form in
+    subst
+    (λ (o : Option CapturedPacket).
+    MakesText task.filter form self.reader (counted (self.count + 1)) unit (option_map captured_packet_view o)
+    g.W.Sink.contents g.W.Sink.can_fail c.args.out.now true c.write_other.new.out)
+    (sym c.in_default.is)
+    (record {
+      text = other_text form self.reader unit;
+      makes = other_made task.filter form self.reader (counted (self.count + 1)) unit;
+      taken = c.write_other.ensures;
+    })
+
+pub returns-then-not-chooses-clause-some : goal.returns-then-not-chooses-clause-some
+returns-then-not-chooses-clause-some g c =
+    let self = c.args.self.now in
+    let task = c.args.task.now in
+    let unit = c.args.unit.now in
+    let form = form_view task.form in
+    let left : ¬ (IsChosen task.filter (captured_packet_view c.in-Some.packet)) = λ is. let e : true ≡ false = sym
+    (c.chooses.ensures.1 is) ∙ c.if-not-chooses.true in absurd cc in
+    subst
+    (λ (o : Option CapturedPacket).
+    MakesText task.filter form self.reader (counted (self.count + 1)) unit (option_map captured_packet_view o)
+    g.W.Sink.contents g.W.Sink.can_fail c.args.out.now true c.args.out.now)
+    (sym c.in-Some.is)
+    (record {
+      text = [];
+      makes =
+          left_made task.filter form self.reader (counted (self.count + 1)) unit
+          (captured_packet_view c.in-Some.packet) left;
+      taken = Takes-none g.W.Sink.contents g.W.Sink.can_fail c.args.out.now;
+    })
+
+pub returns-then-write_packet-clause-some : goal.returns-then-write_packet-clause-some
+returns-then-write_packet-clause-some g c =
+    let self = c.args.self.now in
+    let task = c.args.task.now in
+    let unit = c.args.unit.now in
+    let w = c.write_packet.ensures.written c.if-write_packet.true in
+    let p = captured_packet_view c.in-Some.packet in
+    let chosen = c.chooses.ensures.0 c.if-not-chooses.false in
+    subst
+    (λ (o : Option CapturedPacket).
+    MakesText task.filter (form_view task.form) self.reader (counted (self.count + 1)) unit
+    (option_map captured_packet_view o) g.W.Sink.contents g.W.Sink.can_fail c.args.out.now true c.write_packet.new.out)
+    (sym c.in-Some.is)
+    (subst
+    (λ (f : Form).
+    MakesText task.filter (form_view f) self.reader (counted (self.count + 1)) unit (Some p)
+    g.W.Sink.contents g.W.Sink.can_fail c.args.out.now true c.write_packet.new.out)
+    (sym c.in-Copy.is)
+    (record {
+      text = w.copy;
+      makes = (writes_packet p w.edited (Some w.copy) chosen w.edits w.is_copy, refl);
+      taken = w.taken;
+    }))
+
+pub returns-else-write_packet-clause-none : goal.returns-else-write_packet-clause-none
+returns-else-write_packet-clause-none g c =
+    let self = c.args.self.now in
+    let task = c.args.task.now in
+    let unit = c.args.unit.now in
+    let w = c.write_packet.ensures.not_written c.if-write_packet.false in
+    let p = captured_packet_view c.in-Some.packet in
+    let chosen = c.chooses.ensures.0 c.if-not-chooses.false in
+    subst
+    (λ (o : Option CapturedPacket).
+    Makes task.filter (form_view task.form) self.reader (counted (self.count + 1)) unit
+    (option_map captured_packet_view o) true None)
+    (sym c.in-Some.is)
+    (subst
+    (λ (f : Form). Makes task.filter (form_view f) self.reader (counted (self.count + 1)) unit (Some p) true None)
+    (sym c.in-Copy.is) (writes_packet p w.0 None chosen w.1 w.2, refl))

@@ -1,0 +1,86 @@
+-- The lines of a captured packet: one for the packet itself, and those of the walk through its headers.
+use Rattle.std.specs.Prelude.{◌≡◌, ℕ, ◌+◌, ◌/◌, ◌%◌, ◌^◌, ◌⊎◌, List, [], ◌∷◌, ◌++◌, length, codes, Bool, true, false, Option, Some, None, if◌then◌else◌}
+use Rattle.std.specs.Fmt.{decimal}
+use Rattle.ether_base.specs.Formats.LinuxSll.{LinuxSllValue}
+use Rattle.ether_peel.specs.Grammar.Expectation.{EtherType}
+use Rattle.ether_content.specs.Content.{ContentValue, Frame, LinuxSll, LinuxSll2, Unknown, content_of, is_cut, is_unknown}
+use Rattle.ether_filter.specs.Expressions.{Expression}
+use Rattle.ether_text.specs.Lines.{spaced, linux_sll_text}
+use Rattle.ether_text.specs.WalkText.{AnswersWalk, AnswersWalkAfter}
+use Rattle.ether_pcap.specs.Capture.{PacketValue, TimeValue}
+use Rattle.ether_stream.specs.LinuxSll2Lines.{AnswersLinuxSll2}
+use Rattle.ether_stream.specs.Task.{IsChosen}
+use Rattle.ether_stream.specs.declared.task.LineOptions.{LineOptions}
+
+-- the packet has no lines of a walk
+abbrev pub is_skipped : PacketValue → Bool
+is_skipped p = is_unknown (content_of p)
+
+-- ---- the line of the packet
+
+-- a number below a thousand million as nine decimal digits
+unfoldable pub nine_digits : ℕ → List ℕ
+nine_digits n =
+    (48 + n / 10 ^ 8 % 10) ∷ (48 + n / 10 ^ 7 % 10) ∷ (48 + n / 10 ^ 6 % 10) ∷ (48 + n / 10 ^ 5 % 10) ∷ (48 + n / 10 ^ 4 % 10) ∷ (48 + n / 10 ^ 3 % 10) ∷ (48 + n / 10 ^ 2 % 10) ∷ (48 + n / 10 % 10) ∷ (48 + n % 10) ∷ []
+
+-- seconds since the beginning of 1970, UTC, with nine decimals
+unfoldable pub time_text : Option TimeValue → List ℕ
+time_text None = codes "-"
+time_text (Some t) = decimal t.seconds ++ (codes "." ++ nine_digits t.nanoseconds)
+
+-- a word that is there or not
+abbrev pub mark : Bool → List ℕ → List ℕ
+mark true word = word
+mark false word = []
+
+unfoldable pub packet_line : ℕ → PacketValue → List ℕ
+packet_line number p =
+    spaced (codes "frame" ∷ decimal number ∷ codes "time" ∷ time_text p.time ∷ codes "link" ∷ decimal p.link_type ∷ codes "captured" ∷ decimal (length p.packet) ∷ codes "original" ∷ decimal p.original_len ∷ [])
+    ++ (mark (is_cut p) (codes " cut") ++ (mark (is_skipped p) (codes " skipped") ++ codes "\n"))
+
+-- 1 for a packet that is skipped
+abbrev pub skip_count : PacketValue → ℕ
+skip_count p = if is_skipped p then 1 else 0
+
+-- .. which is left out if only the lines of walks are asked for
+abbrev pub packet_line_if : (plain : Bool) → ℕ → PacketValue → List ℕ
+packet_line_if true number p = []
+packet_line_if false number p = packet_line number p
+
+-- ---- all lines of a packet
+
+-- of cooked capture v1 that is no frame: the line of the header, and those of the walk of the payload
+pub record AnswersLinuxSll (limit : Option ℕ) (s : LinuxSllValue) (payload text : List ℕ) (accepted : Bool) : Type 0 where
+  pub lines : List ℕ
+  pub walk : AnswersWalkAfter 16 (record { next = EtherType s.protocol; limit = limit }) payload lines accepted
+  pub whole : text ≡ (linux_sll_text 0 s ++ codes "\n") ++ lines
+
+-- the lines of the walk, with a limit or without; a packet that is skipped has none
+abbrev pub AnswersContent : (limit : Option ℕ) → ContentValue → (text : List ℕ) → (accepted : Bool) → Type 0
+AnswersContent limit (Frame next bytes) text accepted = AnswersWalk (record { next = next; limit = limit }) bytes text accepted
+AnswersContent limit (LinuxSll s payload) text accepted = AnswersLinuxSll limit s payload text accepted
+AnswersContent limit (LinuxSll2 bytes) text accepted = AnswersLinuxSll2 limit bytes text accepted
+AnswersContent limit Unknown text accepted = (text ≡ []) × (accepted ≡ true)
+
+-- the text for a packet of this number
+pub record HasLines (options : LineOptions) (number : ℕ) (p : PacketValue) (text : List ℕ) (accepted : Bool) : Type 0 where
+  pub lines : List ℕ
+  pub content : AnswersContent options.limit (content_of p) lines accepted
+  pub whole : text ≡ packet_line_if options.is_plain number p ++ lines
+
+-- .. if it is chosen
+abbrev pub AnswersPacket : (select : Option Expression) → (options : LineOptions) → ℕ → PacketValue → (text : List ℕ) → (accepted : Bool) → Type 0
+AnswersPacket select options number p text accepted =
+    (IsChosen select p × HasLines options number p text accepted) ⊎ (¬ (IsChosen select p) × (text ≡ []) × (accepted ≡ true))
+
+-- ---- the line after those of all packets
+
+-- how many packets there are and how many of them were skipped, unless only the lines of walks are asked for
+abbrev pub totals_line_if : (plain : Bool) → (frames skipped : ℕ) → List ℕ
+totals_line_if true frames skipped = []
+totals_line_if false frames skipped = codes "total frames " ++ (decimal frames ++ (codes " skipped " ++ (decimal skipped ++ codes "\n")))
+
+-- .. and unless the capture is one of several
+abbrev pub totals_line_after : (before : Option ℕ) → (plain : Bool) → (frames skipped : ℕ) → List ℕ
+totals_line_after None plain frames skipped = totals_line_if plain frames skipped
+totals_line_after (Some packets) plain frames skipped = []

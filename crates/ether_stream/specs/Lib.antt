@@ -1,0 +1,13 @@
+pub mod InputBuffer
+pub mod Packets
+pub mod Task
+pub mod LinuxSll2Lines
+pub mod FrameLines
+pub mod Answering
+pub mod Copying
+pub mod Run
+pub mod Outcome
+pub mod Progress
+pub mod Tags
+pub mod Words
+pub mod Counting

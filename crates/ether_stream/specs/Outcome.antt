@@ -1,0 +1,180 @@
+-- How the program ends: what it prints last, and its exit status.
+use Rattle.std.specs.Prelude.{ℕ, ◌/◌, ◌^◌, List, [], ◌++◌, codes, nat_eq, Option, Some, None, Result, Ok, Err, Bool, true, false, ◌||◌, if◌then◌else◌}
+use Rattle.std.specs.Fmt.{decimal}
+use Rattle.ether_pcap.specs.CaptureTexts.{capture_error_text}
+use Rattle.ether_pcap.specs.declared.capture.capture_error.CaptureError.{CaptureError}
+use Rattle.ether_pcap.specs.declared.capture.capture_error.CaptureError.TheVariants as errors
+use Rattle.ether_pcap.specs.declared.classic.file_header_error.FileHeaderError.TheVariants as file_errors
+use Rattle.ether_filter.specs.ErrorTexts.{filter_error_text}
+use Rattle.ether_filter.specs.declared.filter_error.FilterError.{FilterError}
+use Rattle.ether_text.specs.declared.verdict.Verdict.{Verdict}
+use Rattle.ether_text.specs.declared.verdict.Verdict.TheVariants.{AllAccepted, SomeRefused}
+use Rattle.ether_stream.specs.declared.open_fault.OpenFault.{OpenFault}
+use Rattle.ether_stream.specs.declared.open_fault.OpenFault.TheVariants as open_faults
+use Rattle.ether_stream.specs.declared.outcome.Outcome.{Outcome}
+use Rattle.ether_stream.specs.declared.outcome.Outcome.TheVariants as outcomes
+use Rattle.ether_pcap.specs.declared.capture.capture_fault.CaptureFault.{CaptureFault}
+use Rattle.ether_stream.specs.declared.outcome.LastLine.{LastLine}
+use Rattle.ether_stream.specs.declared.outcome.LastLine.TheVariants as last_lines
+use Rattle.ether_stream.specs.declared.outcome.FileEnd.{FileEnd}
+use Rattle.ether_stream.specs.declared.outcome.FileEnd.TheVariants as ends
+use Rattle.ether_stream.specs.declared.outcome.Reason.{Reason}
+use Rattle.ether_stream.specs.declared.outcome.Reason.TheVariants as why
+use Rattle.ether_stream.specs.declared.outcome.RunFault.{RunFault}
+use Rattle.ether_stream.specs.declared.outcome.RunFault.TheVariants.{Capture, NotEdited, Input, Output, Memory}
+
+-- the exit status of a run
+abbrev pub exit_status : Result Verdict RunFault → ℕ
+exit_status (Ok AllAccepted) = 0
+exit_status (Ok SomeRefused) = 1
+exit_status (Err (Capture fault)) = 3
+exit_status (Err (NotEdited offset)) = 3
+exit_status (Err Input) = 4
+exit_status (Err Output) = 4
+exit_status (Err Memory) = 5
+
+abbrev pub usage_text : List ℕ
+usage_text = codes "usage: ether_capture [[--plain] [--limit N] | --write [--cut-to-headers | --pop-vlan | --push-vlan TPID:ID | --set-vlan A:B]] [--select EXPR] [-c N] [FILE].."
+
+-- what is said if memory was refused
+abbrev pub memory_text : List ℕ
+memory_text = codes "out of memory"
+
+-- what reads a file with these first four bytes: gzip (RFC 1952), zstd (RFC 8878), xz, bzip2, lz4, and the variant of pcap with longer records
+abbrev pub magic_hint_text : ℕ → List ℕ
+magic_hint_text n =
+    if nat_eq (n / 2 ^ 16) 8075 then codes " This looks like gzip: zcat unpacks it."
+    else (if nat_eq n 682962941 then codes " This looks like zstd: zstdcat unpacks it."
+    else (if nat_eq n 4248271448 then codes " This looks like xz: xzcat unpacks it."
+    else (if nat_eq (n / 2 ^ 8) 4348520 then codes " This looks like bzip2: bzcat unpacks it."
+    else (if nat_eq n 69356824 then codes " This looks like lz4: lz4cat unpacks it."
+    else (if nat_eq n 2712849716 then codes " This is a variant of pcap: editcap converts it."
+    else (if nat_eq n 885895841 then codes " This is a variant of pcap: editcap converts it." else []))))))
+
+abbrev pub hint_text : CaptureError → List ℕ
+hint_text (errors.File (file_errors.Magic n)) = magic_hint_text n
+hint_text (errors.File (file_errors.Version major minor)) = codes " editcap converts it."
+hint_text _ = []
+
+abbrev pub fault_line_text : CaptureFault → List ℕ
+fault_line_text fault = codes "byte " ++ (decimal fault.offset ++ (codes ": " ++ (capture_error_text fault.error ++ hint_text fault.error)))
+
+abbrev pub not_edited_text : (offset : ℕ) → List ℕ
+not_edited_text offset =
+    codes "byte " ++ (decimal offset ++ (codes ": " ++ codes "This packet can't be written: its block has no number of captured bytes, or it would be too long."))
+
+abbrev pub help_text : List ℕ
+help_text = codes "usage: ether_capture [[--plain] [--limit N] | --write [--cut-to-headers | --pop-vlan | --push-vlan TPID:ID | --set-vlan A:B]] [--select EXPR] [-c N] [FILE]..\n\nPrints the link-layer headers of each packet of captures, pcap or pcapng: of each FILE, or of standard input.\n\n  --plain           leave out the lines of packets and the totals\n  --limit N         read N VLAN tags and SecTags of each packet at most\n  --select EXPR     only packets that match EXPR, as 'vlan 5 or arp'\n  -c N              end with the N-th of these packets, of all files together\n  --write           write the capture itself, of one FILE at most, without the other packets; faults go to standard error\n  --cut-to-headers  with --write, cut each packet where its link-layer headers end\n  --pop-vlan        with --write, take the VLAN tag after the link's header off each frame\n  --push-vlan TPID:ID\n                    with --write, put a VLAN tag after the link's header, as 0x8100:5\n  --set-vlan A:B    with --write, give the outermost VLAN tag with identifier A identifier B\n  -h, --help        print this text\n  -V, --version     print the version\n\nEXPR has these primitives, with not, and, or and parentheses:\n\n  vlan [ID], outer vlan ID, inner vlan ID, macsec, arp, ip, ip6\n  ether proto TYPE, ether src ADDR, ether dst ADDR, ether host ADDR\n  ether broadcast, ether multicast, less N, greater N, cut, refused\n\nEach says something of all headers of a packet: arp is true after any tags, too."
+
+abbrev pub version_text : List ℕ
+version_text = codes "ether_capture 1.0"
+
+-- why a capture can't be opened
+abbrev pub open_fault_text : OpenFault → List ℕ
+open_fault_text open_faults.NotFound = codes ": there is no such file"
+open_fault_text open_faults.PermissionDenied = codes ": permission denied"
+open_fault_text open_faults.IsADirectory = codes ": it is a folder"
+open_fault_text open_faults.Other = []
+
+abbrev pub not_opened_text : (name : List ℕ) → OpenFault → List ℕ
+not_opened_text name fault = name ++ (codes ": can't be opened" ++ open_fault_text fault)
+
+-- why the text of a filter is no expression
+abbrev pub no_filter_text : FilterError → List ℕ
+no_filter_text error = codes "--select: " ++ filter_error_text error
+
+-- why a capture was not read to its end
+abbrev pub reason_text : Reason → List ℕ
+reason_text (why.Fault fault) = fault_line_text fault.now
+reason_text (why.NotEdited offset) = not_edited_text offset
+reason_text why.Input = codes "can't be read"
+reason_text why.Memory = memory_text
+
+-- .. with the name of its file
+abbrev pub named_text : (name reason : List ℕ) → List ℕ
+named_text name reason = name ++ (codes ": " ++ reason)
+
+-- what is printed after a capture, one of several, without its line feed
+abbrev pub text_of_file : (name : List ℕ) → FileEnd → Option (List ℕ)
+text_of_file name (ends.NotOpened fault) = Some (not_opened_text name fault)
+text_of_file name (ends.Read (Ok verdict)) = None
+text_of_file name (ends.Read (Err (Capture fault))) = Some (named_text name (fault_line_text fault))
+text_of_file name (ends.Read (Err (NotEdited offset))) = Some (named_text name (not_edited_text offset))
+text_of_file name (ends.Read (Err Input)) = Some (named_text name (codes "can't be read"))
+text_of_file name (ends.Read (Err Output)) = None
+text_of_file name (ends.Read (Err Memory)) = Some (named_text name memory_text)
+
+-- its exit status
+abbrev pub status_of_file : FileEnd → ℕ
+status_of_file (ends.NotOpened fault) = exit_status (Err Input)
+status_of_file (ends.Read end) = exit_status end
+
+-- what is printed after a run
+abbrev pub last_text_of_run : Result Verdict RunFault → Option (List ℕ)
+last_text_of_run (Ok verdict) = None
+last_text_of_run (Err (Capture fault)) = Some (fault_line_text fault)
+last_text_of_run (Err (NotEdited offset)) = Some (not_edited_text offset)
+last_text_of_run (Err Input) = None
+last_text_of_run (Err Output) = None
+last_text_of_run (Err Memory) = Some memory_text
+
+-- .. of the only file, which is named where it can't be read
+abbrev pub last_text_of_named : (name : List ℕ) → Result Verdict RunFault → Option (List ℕ)
+last_text_of_named name (Ok verdict) = None
+last_text_of_named name (Err Input) = Some (named_text name (codes "can't be read"))
+last_text_of_named name end = last_text_of_run end
+
+-- a line with its line feed, if there is one
+abbrev pub last_bytes : Option (List ℕ) → List ℕ
+last_bytes None = []
+last_bytes (Some text) = text ++ codes "\n"
+
+-- what the program prints last, without its line feed
+abbrev pub last_text : Outcome → Option (List ℕ)
+last_text (outcomes.Run copy end) = last_text_of_run end
+last_text (outcomes.Files end) = None
+last_text (outcomes.File copy name end) = last_text_of_named name.now end
+last_text (outcomes.NotOpened copy name fault) = Some (not_opened_text name.now fault)
+last_text (outcomes.NoFilter copy error) = Some (no_filter_text error)
+last_text outcomes.Help = Some help_text
+last_text outcomes.Version = Some version_text
+last_text outcomes.Usage = Some usage_text
+last_text outcomes.NoMemory = Some memory_text
+
+-- what is printed last is a message: nothing was asked for, or a copy
+abbrev pub is_message : Outcome → Bool
+is_message (outcomes.Run copy end) = copy
+is_message (outcomes.Files end) = false
+is_message (outcomes.File copy name end) = copy
+is_message (outcomes.NotOpened copy name fault) = copy
+is_message (outcomes.NoFilter copy error) = copy
+is_message outcomes.Help = false
+is_message outcomes.Version = false
+is_message outcomes.Usage = true
+is_message outcomes.NoMemory = true
+
+-- the exit status of an outcome
+abbrev pub status_of_outcome : Outcome → ℕ
+status_of_outcome (outcomes.Run copy end) = exit_status end
+status_of_outcome (outcomes.Files (Ok status)) = status
+status_of_outcome (outcomes.Files (Err fault)) = exit_status (Err Output)
+status_of_outcome (outcomes.File copy name end) = exit_status end
+status_of_outcome (outcomes.NotOpened copy name fault) = exit_status (Err Input)
+status_of_outcome (outcomes.NoFilter copy error) = 2
+status_of_outcome outcomes.Help = 0
+status_of_outcome outcomes.Version = 0
+status_of_outcome outcomes.Usage = 2
+status_of_outcome outcomes.NoMemory = exit_status (Err Memory)
+
+-- that of the program, by whether its last line was printed: if not, output failed, unless the line is a message
+abbrev pub status_of_program : Outcome → (printed : Bool) → ℕ
+status_of_program outcome printed = if printed || is_message outcome then status_of_outcome outcome else exit_status (Err Output)
+
+abbrev pub last_line_text : LastLine → List ℕ
+last_line_text (last_lines.Stopped reason) = reason_text reason
+last_line_text (last_lines.Named name reason) = named_text name.now (reason_text reason)
+last_line_text (last_lines.NotOpened name fault) = not_opened_text name.now fault
+last_line_text last_lines.Help = help_text
+last_line_text last_lines.Version = version_text
+last_line_text last_lines.Usage = usage_text
+last_line_text (last_lines.NoFilter error) = no_filter_text error.now

@@ -1,0 +1,49 @@
+-- The packets of a capture as far as it was read.
+use Rattle.std.specs.Prelude.{◌≡◌, ℕ, suc, ◌+◌, ◌-◌, ◌^◌, min, List, ◌++◌, length, Option, Some, None}
+use Rattle.ether_filter.specs.Expressions.{Expression}
+use Rattle.ether_pcap.specs.Capture.{PacketValue, Expectation, Beginning, CaptureRefusal, Begins, HasPackets}
+use Rattle.ether_pcap.specs.Copies.{Selected}
+use Rattle.ether_stream.specs.Task.{IsChosen, IsBelow}
+
+-- a count stays at its greatest value
+abbrev pub counted : ℕ → ℕ
+counted n = min n (2 ^ 64 - 1)
+
+-- what is expected at the beginning of a capture, where a section may describe so many interfaces
+abbrev pub capture_start : Expectation
+capture_start = Beginning 65536
+
+-- A capture that begins with these bytes, whole units, has these packets first, and then those that follow where this is expected.
+abbrev pub GoesOn : (front : List ℕ) → List PacketValue → Expectation → Type 0
+GoesOn front packets x =
+    (later : List ℕ) (others : List PacketValue) (rest : List ℕ) (fault : Option CaptureRefusal)
+    → HasPackets x later others rest fault → HasPackets capture_start (front ++ later) (packets ++ others) rest fault
+
+-- so many of the packets that are asked for at most are left, after so many
+abbrev pub IsLeftOf : (count : Option ℕ) → ℕ → (left : Option ℕ) → Type 0
+IsLeftOf None k left = left ≡ None
+IsLeftOf (Some n) k left = (m : ℕ) × (left ≡ Some m) × (m + k ≡ n)
+
+-- Of the packets of these units fewer are chosen than are asked for at most.
+pub record HasFewer (select : Option Expression) (count : Option ℕ) (front : List ℕ) : Type 0 where
+  pub packets : List PacketValue
+  pub kept : List PacketValue
+  pub expected : Expectation
+  pub parts : GoesOn front packets expected
+  pub selected : Selected (IsChosen select) packets kept
+  pub below : IsBelow count (length kept)
+
+-- The last of these units is the packet with which so many are chosen as are asked for.
+pub record EndsAtCount (select : Option Expression) (count : Option ℕ) (front : List ℕ) : Type 0 where
+  pub before : List ℕ
+  pub unit : List ℕ
+  pub packets : List PacketValue
+  pub kept : List PacketValue
+  pub expected : Expectation
+  pub last : PacketValue
+  pub place : front ≡ before ++ unit
+  pub parts : GoesOn before packets expected
+  pub begins : Begins unit expected (length unit) (Some last) expected
+  pub chosen : IsChosen select last
+  pub selected : Selected (IsChosen select) packets kept
+  pub is_count : count ≡ Some (suc (length kept))

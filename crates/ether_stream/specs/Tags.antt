@@ -1,0 +1,38 @@
+-- The options that edit VLAN tags.
+use Rattle.std.specs.Prelude.{◌≡◌, ◌<◌, ◌==◌, ℕ, List, ◌∷◌, ◌++◌, codes, Some, true, false}
+use Rattle.std.specs.List.{All}
+use Rattle.ether_base.specs.Formats.Vlan.{is_vlan_ether_type}
+use Rattle.ether_filter.specs.Numerals.{number_in}
+use Rattle.ether_content.specs.Editing.{EditValue, PushVlan, SetVlan}
+use Rattle.ether_stream.specs.declared.tags.TagEdit.{TagEdit}
+use Rattle.ether_stream.specs.declared.tags.TagEdit.TheVariants as tag_edits
+
+-- a text has no colon (58)
+abbrev pub HasNoColon : List ℕ → Type 0
+HasNoColon text = All (λ byte. (byte == 58) ≡ false) text
+
+-- its first colon is between these
+pub record SplitsAtColon (text before after : List ℕ) : Type 0 where
+  pub no_colon : HasNoColon before
+  pub parts : text ≡ before ++ 58 ∷ after
+
+-- two numbers, each written as in a filter, and a colon between them
+pub record IsPair (text : List ℕ) (m n : ℕ) : Type 0 where
+  pub before : List ℕ
+  pub after : List ℕ
+  pub split : SplitsAtColon text before after
+  pub first : number_in before ≡ Some (Some m)
+  pub second : number_in after ≡ Some (Some n)
+
+-- What an option asks for, with two numbers as its value: a VLAN tag is put in, with a TPID that announces one, or one gets
+-- another identifier. Identifiers have 12 bits.
+pub data IsTagEdit : (word text : List ℕ) → EditValue → Type 0 where
+  push : (text : List ℕ) (tpid id : ℕ) → IsPair text tpid id → is_vlan_ether_type tpid ≡ true → id < 4096
+      → IsTagEdit (codes "--push-vlan") text (PushVlan tpid id)
+  set : (text : List ℕ) (old new : ℕ) → IsPair text old new → old < 4096 → new < 4096
+      → IsTagEdit (codes "--set-vlan") text (SetVlan old new)
+
+-- the option of each
+abbrev pub tag_word : TagEdit → List ℕ
+tag_word tag_edits.Push = codes "--push-vlan"
+tag_word tag_edits.Set = codes "--set-vlan"

@@ -1,0 +1,51 @@
+-- What is made of a capture.
+use Rattle.std.specs.Prelude.{◌<◌, ℕ, Bool, true, false, Option, None, Some, unwrap_or, ⊤}
+use Rattle.std.specs.Int.NonZero.{non_zero_usize_get}
+use Rattle.std.specs.Option.{option_map}
+use Rattle.ether_filter.specs.Expressions.{Expression}
+use Rattle.ether_pcap.specs.Capture.{PacketValue}
+use Rattle.ether_pcap.specs.CopiedUnits.{ModeValue, copy_mode_view}
+use Rattle.ether_content.specs.Editing.{EditValue}
+use Rattle.ether_content.specs.EditingViews.{edit_view}
+use Rattle.ether_content.specs.Selecting.{Selects}
+use Rattle.ether_stream.specs.declared.task.Form.{Form}
+use Rattle.ether_stream.specs.declared.task.Form.TheVariants as forms
+use Rattle.ether_stream.specs.declared.task.LineOptions.{LineOptions}
+use Rattle.ether_stream.specs.declared.task.Task.{Task}
+
+-- the lines of its packets; or a copy of it, byte for byte or as another capture, each packet as it is, or edited
+pub data FormValue : Type 0 where
+  Lines : (options : LineOptions) → FormValue
+  Copy : (mode : ModeValue) → (edit : Option EditValue) → FormValue
+
+-- .. of the packets that an expression selects, or of all, and of so many of them at most
+pub record TaskValue : Type 0 where
+  pub select : Option Expression
+  pub count : Option ℕ
+  pub form : FormValue
+
+abbrev pub form_view : Form → FormValue
+form_view (forms.Lines options) = Lines options
+form_view (forms.Copy mode edit) = Copy (copy_mode_view mode) (option_map edit_view edit)
+
+abbrev pub task_view : Task → TaskValue
+task_view task = record { select = task.filter; count = option_map non_zero_usize_get task.count; form = form_view task.form }
+
+-- how many packets were in captures before this one
+abbrev pub packets_before : FormValue → ℕ
+packets_before (Lines options) = unwrap_or options.before 0
+packets_before (Copy mode edit) = 0
+
+abbrev pub is_copy : FormValue → Bool
+is_copy (Lines options) = false
+is_copy (Copy mode edit) = true
+
+-- the packets that are chosen: those that an expression selects, or all
+abbrev pub IsChosen : (select : Option Expression) → PacketValue → Type 0
+IsChosen None p = ⊤
+IsChosen (Some x) p = Selects x p
+
+-- this is less than the number of packets that is asked for at most
+abbrev pub IsBelow : (count : Option ℕ) → ℕ → Type 0
+IsBelow None k = ⊤
+IsBelow (Some n) k = k < n

@@ -1,0 +1,41 @@
+-- What words of a request mean.
+use Rattle.std.specs.Prelude.{◌≡◌, ◌<◌, ℕ, List, codes, Bool, true, false, Option, Some, None, ⊤}
+use Rattle.ether_filter.specs.Expressions.{Expression}
+use Rattle.ether_filter.specs.Texts.{IsExpressionOf}
+use Rattle.ether_filter.specs.Numerals.{number_in}
+use Rattle.ether_filter.specs.Refusals.{RefusesText}
+use Rattle.ether_filter.specs.declared.filter_error.FilterError.{FilterError}
+use Rattle.ether_content.specs.Editing.{EditValue, CutToHeaders, PopVlan}
+use Rattle.ether_stream.specs.Tags.{IsTagEdit}
+
+-- a text that may be missing means this
+abbrev pub IsIfAny : {A : Type 0} → (List ℕ → A → Type 0) → Option (List ℕ) → Option A → Type 0
+IsIfAny Means None None = ⊤
+IsIfAny Means (Some text) (Some it) = Means text it
+IsIfAny Means text it = ⊥
+
+-- a number of packets, written as in a filter, and not 0
+abbrev pub IsCount : List ℕ → ℕ → Type 0
+IsCount text n = (number_in text ≡ Some (Some n)) × (0 < n)
+
+-- a number of headers, written alike, which may be 0
+abbrev pub IsLimit : List ℕ → ℕ → Type 0
+IsLimit text n = number_in text ≡ Some (Some n)
+
+-- one edit at most
+abbrev pub IsOneEdit : (cuts pops : Bool) → (push set : Option (List ℕ)) → Option EditValue → Type 0
+IsOneEdit false false None None edit = edit ≡ None
+IsOneEdit true false None None edit = edit ≡ Some CutToHeaders
+IsOneEdit false true None None edit = edit ≡ Some PopVlan
+IsOneEdit false false (Some text) None edit = IsIfAny (IsTagEdit (codes "--push-vlan")) (Some text) edit
+IsOneEdit false false None (Some text) edit = IsIfAny (IsTagEdit (codes "--set-vlan")) (Some text) edit
+IsOneEdit cuts pops push set edit = ⊥
+
+-- the expression that a text means, if there is one
+abbrev pub IsSelection : (text : Option (List ℕ)) → Option Expression → Type 0
+IsSelection = IsIfAny IsExpressionOf
+
+-- an expression means a text, if there is one, or the text is refused
+abbrev pub RefusesSelection : (text : Option (List ℕ)) → FilterError → Type 0
+RefusesSelection None e = ⊥
+RefusesSelection (Some text) e = RefusesText text e

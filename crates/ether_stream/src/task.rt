@@ -1,0 +1,98 @@
+//! What is made of a capture.
+ghost use Rattle.std.specs.Prelude.{◌≡◌, ◌↔◌, IsTrue, Some};
+ghost use Rattle.ether_pcap.specs.CaptureViews.{captured_packet_view};
+ghost use Rattle.ether_stream.specs.Task.{is_copy, packets_before, task_view, IsChosen};
+
+use ether_content::{PacketEdit, selects};
+use ether_filter::Filter;
+use ether_pcap::{CapturedPacket, CopyMode};
+use std::num::NonZeroUsize;
+
+/// What is made of a capture, and for which packets.
+#[derive(Debug, Drop)]
+pub struct Task {
+    /// Which packets are chosen; all of them without a filter.
+    pub filter: Option<Filter>,
+    /// After how many of these the run ends; at the end of the capture without a number.
+    pub count: Option<NonZeroUsize>,
+    /// What is made of them.
+    pub form: Form,
+}
+
+/// What is made of the packets of a capture.
+#[derive(Clone, Copy, PartialEq, Eq, Debug)]
+pub enum Form {
+    /// Lines of text.
+    Lines(LineOptions),
+    /// A copy of the capture with these packets alone.
+    Copy {
+        /// Whether it is exact, or another capture.
+        mode: CopyMode,
+        /// How each packet is edited, if it is.
+        edit: Option<PacketEdit>,
+    },
+}
+
+/// Which lines a packet has.
+#[derive(Clone, Copy, PartialEq, Eq, Debug)]
+pub struct LineOptions {
+    /// Whether those of packets and of totals are left out.
+    pub is_plain: bool,
+    /// How many VLAN tags and SecTags are read of a packet at most; `None` for all.
+    pub limit: Option<usize>,
+    /// How many packets were before, if the capture is one of several: then it has no line of totals.
+    pub before: Option<usize>,
+}
+
+impl LineOptions {
+    /// The same for a capture after others with so many packets.
+    pub fn after(self, packets: usize) -> LineOptions
+        ensures { result ≡ record self { before = Some packets } }
+    {
+        LineOptions {
+            is_plain: self.is_plain,
+            limit: self.limit,
+            before: Some(packets),
+        }
+    }
+}
+
+impl Task {
+    /// Tests that a packet is chosen.
+    #[inline(always)]
+    pub fn chooses(&self, packet: &CapturedPacket<'_>) -> bool
+        ensures { IsTrue result ↔ IsChosen (task_view self.now).select (captured_packet_view packet.now) }
+    {
+        match &self.filter {
+            Some(filter) => selects(filter, packet),
+            None => true,
+        }
+    }
+
+    /// How many packets were before.
+    pub fn packets_before(&self) -> usize
+        ensures { result ≡ packets_before (task_view self.now).form }
+    {
+        match self.form {
+            Form::Lines(options) => options.before.unwrap_or(0),
+            Form::Copy { .. } => 0,
+        }
+    }
+
+    /// How many packets are asked for, if their number is limited.
+    pub fn asked_for(&self) -> Option<usize>
+        ensures { result ≡ (task_view self.now).count }
+    {
+        match self.count {
+            Some(count) => Some(count.get()),
+            None => None,
+        }
+    }
+
+    /// Tests that a copy is made.
+    pub fn is_copy(&self) -> bool
+        ensures { result ≡ is_copy (task_view self.now).form }
+    {
+        matches!(self.form, Form::Copy { .. })
+    }
+}
