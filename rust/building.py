@@ -11,7 +11,7 @@ import subprocess
 import sys
 
 HERE = os.path.dirname(os.path.abspath(__file__))
-CRATE, CALLS = os.path.join(HERE, "etherpeel"), os.path.join(HERE, "etherpeel_c")
+CRATE, CALLS, PROGRAMS = (os.path.join(HERE, name) for name in ("etherpeel", "etherpeel_c", "ether_tools"))
 REGISTRY = "/usr/share/cargo/registry"  # of Debian's packages librust-..-dev
 OLDEST = (1, 85)
 
@@ -34,15 +34,15 @@ def cargo(*words, folder=CRATE, **environment):
     return ran.stdout + ran.stderr, ran.returncode
 
 
-def missing():
-    """Why the crate can't be built here, or None."""
+def missing(folder=CRATE):
+    """Why a crate can't be built here, or None."""
     if shutil.which("cargo") is None:
         return "cargo was not found"
     told, _ = cargo_version()
     if told < OLDEST:
         return f"cargo {told[0]}.{told[1]} is older than {OLDEST[0]}.{OLDEST[1]}"
-    text, status = cargo("fetch")
-    return f"cargo finds no arrayvec: {text.strip().splitlines()[-1]}" if status else None
+    text, status = cargo("fetch", folder=folder)
+    return f"cargo does not find what it needs: {text.strip().splitlines()[-1]}" if status else None
 
 
 def cargo_version():

@@ -11,13 +11,18 @@ import os
 import sys
 
 sys.dont_write_bytecode = True
-from erasing import calls, check, docs, rules, testing  # noqa: E402
+from erasing import calls, check, docs, programs, rules, testing  # noqa: E402
 from erasing.tokens import Refused, joined, lex  # noqa: E402
 
 HERE = os.path.dirname(os.path.abspath(__file__))
 CRATES = os.path.join(os.path.dirname(HERE), "crates")
 NAME = "etherpeel"
 CALLS, CALLS_NAME = "ether_c", "etherpeel_c"
+PROGRAMS, PROGRAMS_NAME = ["ether_text", "ether_stream", "ether_capture"], "ether_tools"  # what the programs are made of
+# What stands in the place of sources that take the runtime or an allocator.
+BY_HAND = [f"{PROGRAMS_NAME}/src/{path}.rs" for path in (
+    "ether_text/noted", *(f"ether_capture/{it}" for it in ("heap_memory", "interface_buffer", "memory", "opening", "options")),
+)]
 FACADE = "etherparse"  # the root of the result
 # A module without documentation: the facade has its names, but for numbers that tests and programs use.
 HIDDEN = ["ether_base"]
@@ -30,6 +35,7 @@ TESTS = {"etherparse_tests": [], "ether_content_tests": ["example_frames", "exam
 EXAMPLES = [example for examples in TESTS.values() for example in examples]
 # Modules that are left out: laws, what is proved and never run, and the tests of a crate that is not in the result.
 LEFT_OUT, LEFT_OUT_OF_TESTS = {"laws"}, {"laws", "derived_traits", "text"}
+LEFT_OUT_OF_PROGRAMS = {"laws", "noted", "main", "options", "opening", "heap_memory", "interface_buffer"}
 
 ROOT = """#![doc = include_str!("../README.md")]
 #![no_std]
@@ -54,12 +60,13 @@ mod kit;
 """
 
 
-def sources(crate):
-    """Each source of a crate that is not left out: its path below `src`, and its text."""
-    top, left_out = os.path.join(CRATES, crate, "src"), LEFT_OUT_OF_TESTS if crate in TESTS else LEFT_OUT
+def sources(crate, whole=False):
+    """Each source of a crate, but for those that are left out: its path below `src`, and its text."""
+    top = os.path.join(CRATES, crate, "src")
+    left_out = LEFT_OUT_OF_TESTS if crate in TESTS else LEFT_OUT_OF_PROGRAMS if crate in PROGRAMS else LEFT_OUT
     for folder, _, names in sorted(os.walk(top)):
         for path in (os.path.relpath(os.path.join(folder, name), top) for name in sorted(names)):
-            if not left_out & set(path[:-3].split("/")):
+            if whole or not left_out & set(path[:-3].split("/")):
                 with open(os.path.join(top, path), encoding="utf-8") as file:
                     yield path, file.read()
 
@@ -78,6 +85,15 @@ def calls_path(crate, word):
     return {"std": "core", FACADE: NAME}.get(word) or (f"{NAME}::{word}" if word in LIBRARIES else None)
 
 
+def programs_path(crate, word):
+    """The same in the libraries of the programs."""
+    if word == "crate":
+        return f"crate::{crate}"
+    if word in PROGRAMS:
+        return f"crate::{word}"
+    return {FACADE: NAME}.get(word) or (f"{NAME}::{word}" if word in LIBRARIES else None)
+
+
 def test_path(crate, word):
     """The same in a test, where an example is a module."""
     if word == "crate":
@@ -92,16 +108,19 @@ def public_modules(texts, path):
     parts = path[:-3].split("/") if path != "lib.rt" else []
     for i, part in enumerate(parts):
         above = "/".join(parts[:i]) + ".rt" if i else "lib.rt"
-        if f"pub mod {part};" not in texts[above]:
+        if f"pub mod {part};" not in texts.get(above, ""):
             return
         yield "::".join(parts[:i + 1])
 
 
 def imports_of(crate, path, texts):
     """What the examples of a file import: the root, the modules up to its crate's, and the public ones around it."""
-    below = [name for name in OUTER if crate in LIBRARIES and LIBRARIES.index(name) <= LIBRARIES.index(crate)]
-    around = [f"{NAME}::{crate}::{module}" for module in public_modules(texts, path)]
-    return [NAME, *(f"{NAME}::{name}" for name in below), *around]
+    at = LIBRARIES.index(crate) if crate in LIBRARIES else len(LIBRARIES)
+    below = [f"{NAME}::{name}" for name in OUTER if LIBRARIES.index(name) <= at]
+    if crate in PROGRAMS:
+        below += [f"{PROGRAMS_NAME}::{crate}"]
+    home = PROGRAMS_NAME if crate in PROGRAMS else NAME
+    return [NAME, *below, *(f"{home}::{crate}::{module}" for module in public_modules(texts, path))]
 
 
 def erase(text, crate, own, imports=()):
@@ -128,6 +147,8 @@ def kind_of(crate):
         return "library", rules.RULES, [], library_path
     if crate == CALLS:
         return "calls", calls.RULES, calls.LAST, calls_path
+    if crate in PROGRAMS:
+        return "program", programs.RULES, [], programs_path
     return "test", testing.RULES, [], test_path
 
 
@@ -136,6 +157,8 @@ def place(crate, path):
     stem = path[:-3] if path != "lib.rt" else ""
     if crate == CALLS:
         return f"{CALLS_NAME}/src/{stem or 'lib'}.rs"
+    if crate in PROGRAMS:
+        return f"{PROGRAMS_NAME}/src/{crate}/{stem}.rs" if stem else f"{PROGRAMS_NAME}/src/{crate}.rs"
     if crate == FACADE:
         return f"{NAME}/src/lib.rs"
     if crate in TESTS:
@@ -161,7 +184,7 @@ def made(crates, known_too):
     """The files that are made of crates, each with its path in the result; what is refused has None for its path."""
     texts = {crate: dict(sources(crate)) for crate in crates}
     own = check.names_in(text for files in texts.values() for text in files.values())
-    own |= known_too | {*LIBRARIES, *EXAMPLES, NAME}
+    own |= known_too | {*LIBRARIES, *EXAMPLES, *PROGRAMS, NAME, PROGRAMS_NAME}
     for crate, files in texts.items():
         for path, text in files.items():
             try:
@@ -177,21 +200,23 @@ def result():
     found = list(made(LIBRARIES, set()))
     known = check.names_in(text for crate in LIBRARIES for _, text in sources(crate))
     found += made([CALLS], known)
+    found += made(PROGRAMS, known | check.names_in(text for crate in PROGRAMS for _, text in sources(crate, True)))
     for test, examples in TESTS.items():
         found += made([test, *examples], known)
     if refused := [text for path, text in found if path is None]:
         sys.exit("\n".join([*refused, "rust/erasing/known.py has what is known"]))
     with open(os.path.join(os.path.dirname(HERE), "NOTICE"), encoding="utf-8") as file:
         notice = file.read()
-    return {**dict(found), **{f"{name}/NOTICE": notice for name in (NAME, CALLS_NAME)}}
+    return {**dict(found), **{f"{name}/NOTICE": notice for name in (NAME, CALLS_NAME, PROGRAMS_NAME)}}
 
 
 def stale(folder, files):
     """The Rust files in the folders of the result that are not made, but for those by hand."""
-    for top in (f"{NAME}/src", f"{CALLS_NAME}/src", *(f"{NAME}/tests/{test}" for test in TESTS)):
+    made_too = [f"{PROGRAMS_NAME}/src/{crate}" for crate in PROGRAMS]
+    for top in (f"{NAME}/src", f"{CALLS_NAME}/src", *made_too, *(f"{NAME}/tests/{test}" for test in TESTS)):
         for at, _, names in os.walk(os.path.join(folder, top)):
             for name in names:
-                if (path := os.path.relpath(os.path.join(at, name), folder)) not in files:
+                if (path := os.path.relpath(os.path.join(at, name), folder)) not in [*files, *BY_HAND]:
                     yield path
 
 

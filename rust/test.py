@@ -72,7 +72,11 @@ def steps():
     """The calls of cargo: the folder, the words and the environment of each. `c/test.sh` tests the calls for C."""
     yield building.CRATE, ["build"], {}
     yield building.CRATE, ["test"], {}
-    for folder, targets in (building.CRATE, ["--all-targets"]), (building.CALLS, []):
+    folders = {building.CRATE: ["--all-targets"], building.CALLS: [], building.PROGRAMS: []}
+    if why := building.missing(building.PROGRAMS):
+        print(f"left out: the lints and the documentation of the programs, since {why}")
+        del folders[building.PROGRAMS]
+    for folder, targets in folders.items():
         if building.has_clippy():
             yield folder, ["clippy", *targets, "--", "-D", "warnings"], {}
         else:

@@ -28,6 +28,7 @@ COMMANDS = {
     "examples": [sys.executable, "tests/examples.py", *(f"crates/{name}/out/{name}" for name in ("example_switch", "example_vlan_rewriter"))],
     "C": ["sh", "c/test.sh", "proved"],
     "C by cargo": ["sh", "c/test.sh", "cargo"],
+    "programs by cargo": [sys.executable, "rust/programs.py"],
     "page": [sys.executable, "page/test.py", "--proved"],
 }
 PARTS = ["proof", "with tests", "wrong bodies"]

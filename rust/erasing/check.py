@@ -57,16 +57,19 @@ class Names:
     known."""
 
     def __init__(self, own, where):
-        tests, calls = where == "test", where == "calls"
+        tests, calls, programs = (where == it for it in ("test", "calls", "program"))
         self.words = {"rt", "macro_rules"} if tests else {"extern"} if calls else set()
-        self.attributes = known.ATTRIBUTES + (known.CALL_ATTRIBUTES if calls else [])
-        self.marks = known.MARKS | ({"$"} if tests else set())
-        self.own = own | known.NAMES | (known.TEST_NAMES if tests else known.CALL_NAMES if calls else set())
-        self.paths = known.PATHS | (known.TEST_PATHS if tests else known.CALL_PATHS if calls else set())
+        self.texts = (known.PROGRAM_TEXTS,) if programs else ()
+        self.attributes = known.ATTRIBUTES + (known.CALL_ATTRIBUTES if calls else known.PROGRAM_ATTRIBUTES if programs else [])
+        self.marks = known.MARKS | ({"$"} if tests else {"@"} if programs else set())
+        besides = {"test": "TEST", "calls": "CALL", "program": "PROGRAM"}.get(where)
+        names, paths, methods = (getattr(known, f"{besides}_{it}", set()) for it in ("NAMES", "PATHS", "METHODS"))
+        self.own = own | known.NAMES | names
+        self.paths = known.PATHS | paths
         self.heads = {path.split("::")[0] for path in self.paths} | known.TYPES
-        self.methods = known.METHODS | own | (known.TEST_METHODS if tests else known.CALL_METHODS if calls else set())
+        self.methods = known.METHODS | own | methods
         self.macros = {**known.MACROS, **(known.EXAMPLE_MACROS if tests or where == "example" else {})}
-        self.macros |= known.CALL_MACROS if calls else {}
+        self.macros |= known.CALL_MACROS if calls else known.PROGRAM_MACROS if programs else {}
         self.macros |= dict.fromkeys(own, "") if tests else {}
 
     def check_path(self, segments, line):
@@ -195,7 +198,7 @@ def check_attribute(tokens, i, names):
     """Refuses an attribute that is not known, and returns the place after it."""
     end = closing(tokens, i + 1) if tokens[i + 1].text == "[" else i + 1
     text = "".join(t.text for t in tokens[i:end + 1])
-    if not text.startswith("#[derive(") and text not in names.attributes:
+    if not text.startswith("#[derive(") and text not in names.attributes and not text.startswith(names.texts):
         raise Refused(tokens[i].line, f"the attribute {text}")
     return end + 1
 

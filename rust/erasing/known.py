@@ -21,7 +21,7 @@ NUMBER = r"(?:0x[0-9A-Fa-f_]+|0b[01_]+|[0-9][0-9_]*)(?:u8|u16|u32|u64|u128|usize
 MACROS = {"matches": "(", "unreachable": "()", "write": "(f,"}
 EXAMPLE_MACROS = {"assert": "(", "assert_eq": "(", "panic": "(", "format": "("}
 ATTRIBUTES = ["#[inline]", "#[inline(always)]", "#[inline(never)]", "#[rustfmt::skip]", "#[test]"]
-DERIVES = set("Clone Copy PartialEq Eq PartialOrd Ord Hash Debug Default".split())
+DERIVES = set("Clone Copy PartialEq Eq PartialOrd Ord Hash Debug Default Error".split())
 
 # Names of Rust that need no path.
 NAMES = set(
@@ -65,3 +65,17 @@ CALL_MACROS = {"assert": "(size_of", "write": "(text,"}
 CALL_NAMES = set("ArrayString size_of".split())
 CALL_PATHS = set("arrayvec::ArrayString ArrayString::new u8::from".split())
 CALL_METHODS = set("as_bytes enumerate split_at wrapping_add wrapping_mul".split())
+
+# What the libraries of the programs use besides.
+PROGRAM_ATTRIBUTES = ["#[cold]"]
+PROGRAM_TEXTS = "#[error("  # the text of an error, by thiserror
+PROGRAM_MACROS = {"write": "(", "writeln": "(", "format": "("}
+PROGRAM_NAMES = {"ErrorKind", "Global", "NonZeroUsize", "Noted", "String", "Vec", "Read", "Write", "tell_failure"}
+PROGRAM_PATHS = set(
+    """std::env std::error::Error std::fmt std::io std::io::ErrorKind std::io::Read std::io::Write std::num::NonZeroUsize
+    NonZeroUsize::new env::Args io::Error
+    io::Result io::Write hex::decode_to_slice hex::encode_to_slice thiserror::Error u64::MAX""".split()
+)
+PROGRAM_METHODS = set(
+    """as_bytes collect into_iter wrapping_add wrapping_mul enumerate flush iter_mut kind parse position read split_at starts_with write write_all""".split()
+)

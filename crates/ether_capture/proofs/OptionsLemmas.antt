@@ -5,9 +5,9 @@ use Rattle.clap.specs.declared.error.Error.{Error}
 use Rattle.clap.specs.declared.error.kind.ErrorKind.{ErrorKind}
 use Rattle.clap.specs.declared.parser.matches.ArgMatches.{ArgMatches}
 use Rattle.ether_capture.specs.Options.{AskedValue, Asks, IsRequestOf, KindNames, NamesRequest, RefusesAsked, RefusesKind, RefusesRows, RefusesWords, capture_app, help, options, request_view, version}
-use Rattle.ether_capture.specs.declared.options.Request.{Request}
-use Rattle.ether_capture.specs.declared.options.RequestError.{RequestError}
-use Rattle.ether_capture.specs.declared.options.RequestError.TheVariants as reasons
+use Rattle.ether_capture.specs.declared.asked.Request.{Request}
+use Rattle.ether_capture.specs.declared.asked.RequestError.{RequestError}
+use Rattle.ether_capture.specs.declared.asked.RequestError.TheVariants as reasons
 
 -- the command is simple: `clap` says exactly what it finds, or how it fails
 free_app : is_simple_and_free capture_app ≡ true

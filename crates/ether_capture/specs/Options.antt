@@ -16,13 +16,13 @@ use Rattle.ether_stream.specs.Words.{IsCount, IsIfAny, IsLimit, IsOneEdit, IsSel
 use Rattle.ether_pcap.specs.CopiedUnits.{ModeValue, Exact, Changed}
 use Rattle.ether_stream.specs.Copying.{growth_if}
 use Rattle.ether_stream.specs.Task.{TaskValue, FormValue, Lines, Copy, task_view}
-use Rattle.ether_capture.specs.declared.options.Asked.{Asked}
-use Rattle.ether_capture.specs.declared.options.Listing.{Listing}
+use Rattle.ether_capture.specs.declared.asked.Asked.{Asked}
+use Rattle.ether_capture.specs.declared.asked.Listing.{Listing}
 use Rattle.ether_stream.specs.declared.task.LineOptions.{LineOptions}
-use Rattle.ether_capture.specs.declared.options.RequestError.{RequestError}
-use Rattle.ether_capture.specs.declared.options.RequestError.TheVariants as reasons
-use Rattle.ether_capture.specs.declared.options.Request.{Request}
-use Rattle.ether_capture.specs.declared.options.Request.TheVariants as requests
+use Rattle.ether_capture.specs.declared.asked.RequestError.{RequestError}
+use Rattle.ether_capture.specs.declared.asked.RequestError.TheVariants as reasons
+use Rattle.ether_capture.specs.declared.asked.Request.{Request}
+use Rattle.ether_capture.specs.declared.asked.Request.TheVariants as requests
 
 -- the lines of the captures in the files of these names
 pub record ListingValue : Type 0 where

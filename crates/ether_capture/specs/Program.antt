@@ -6,7 +6,7 @@ use Rattle.std.specs.Io.KnownBytes.{Appends}
 use Rattle.ether_text.specs.Run.{IsEndless}
 use Rattle.ether_text.specs.declared.verdict.Verdict.{Verdict}
 use Rattle.ether_capture.specs.Options.{RequestValue, Run, Lists, Help, Version, NamesRequest, RefusesWords}
-use Rattle.ether_capture.specs.declared.options.RequestError.TheVariants as reasons
+use Rattle.ether_capture.specs.declared.asked.RequestError.TheVariants as reasons
 use Rattle.ether_capture.specs.Files.{HasListed}
 use Rattle.ether_stream.specs.Run.{HasRun, HasNoMemory, OnStreamFault}
 use Rattle.ether_stream.specs.Task.{TaskValue, is_copy}

@@ -1,16 +1,10 @@
 //! What opens captures by their names.
-ghost use Rattle.std.specs.Prelude.{◌≡◌, ℕ, List, Option, IfErr, IfOk, ⊤};
-ghost use Rattle.std.specs.IoError.{error_kind};
-ghost use Rattle.ether_capture.specs.Captures.{open_fault_of};
+ghost use Rattle.std.specs.Prelude.{ℕ, List, Option, IfErr, IfOk};
 
 use ether_stream::OpenFault;
 use ether_text::Source;
-use std::fs::OpenFile;
-use std::io::ErrorKind;
-use std::rt::Files;
-use std::{fs, io};
 
-/// What opens captures by their names: any [`Files`].
+/// What opens captures by their names: any `Files` of the runtime.
 ///
 /// What is proved for all of them is proved for one that can't fail, too. So whoever reports that a capture can't be opened has
 /// tried it.
@@ -30,35 +24,4 @@ pub trait Captures {
     fn open_named(&self, name: &str) -> Result<Self::Input, OpenFault>
         ensures ok { IfOk result (λ input. has self.now name.now (Self.Input.Source.remaining input)) }
         ensures refused { IfErr result (λ fault. can_refuse fault) };
-}
-
-impl<F: Files> Captures for F {
-    type Input = F::File;
-
-    ghost has = { λ _ _ _. ⊤ };
-
-    ghost can_refuse = { λ _. ⊤ };
-
-    fn open_named(&self, name: &str) -> Result<F::File, OpenFault> {
-        let file = match fs::open(self, name) {
-            Ok(file) => file,
-            Err(error) => return Err(open_fault(&error)),
-        };
-        match file.metadata() {
-            Ok(metadata) if metadata.is_dir() => Err(OpenFault::IsADirectory),
-            _ => Ok(file),
-        }
-    }
-}
-
-/// Why a capture can't be opened, by the system's error.
-fn open_fault(error: &io::Error) -> OpenFault
-    ensures { result ≡ open_fault_of (error_kind error.now) }
-{
-    match error.kind() {
-        ErrorKind::NotFound => OpenFault::NotFound,
-        ErrorKind::PermissionDenied => OpenFault::PermissionDenied,
-        ErrorKind::IsADirectory => OpenFault::IsADirectory,
-        _ => OpenFault::Other,
-    }
 }

@@ -14,8 +14,8 @@ ghost use Rattle.ether_stream.specs.Task.{task_view};
 ghost use Rattle.ether_stream.specs.declared.outcome.FileEnd.TheVariants as ends;
 ghost use Rattle.ether_stream.specs.declared.outcome.RunFault.TheVariants.{Output};
 
+use crate::asked::Listing;
 use crate::captures::Captures;
-use crate::options::Listing;
 use crate::run_input::run_input;
 use ether_stream::{
     FileEnd, Form, LineSink, PacketCounts, RunFault, Task, line_of_file, status_of_file,

@@ -5,10 +5,12 @@
 //! the usage, the last line of a copy, and that a stream failed, to standard error.
 #![tactic(auto)]
 
+pub mod asked;
 pub mod captures;
 pub mod files;
 pub mod heap_memory;
 pub mod interface_buffer;
+pub mod opening;
 pub mod options;
 pub mod program;
 pub mod run_input;

@@ -1,83 +1,27 @@
-//! What the arguments ask for.
+//! What the arguments ask for, by their words.
 ghost use Rattle.std.specs.Prelude.{◌≡◌, ℕ, Some, None, IfOk, IfErr, OnErr, Option, List, [], codes, false, map, string_bytes, unwrap_or};
 ghost use Rattle.std.specs.Option.{option_map};
 ghost use Rattle.clap.specs.Words.{all_of, app_of, first_of, found_of, rows_of, rule_of};
 ghost use Rattle.ether_content.specs.Editing.{EditValue};
-ghost use Rattle.ether_pcap.specs.CopiedUnits.{copy_mode_view};
 ghost use Rattle.ether_content.specs.EditingViews.{edit_view};
-ghost use Rattle.ether_stream.specs.Copying.{growth_if};
-ghost use Rattle.ether_capture.specs.Options.{Asks, IsEdit, IsRequestOf, KindNames, NamesRequest, RefusesAsked, RefusesKind, RefusesRows, RefusesWords, are_several, asked_view, capture_app, clashes, count_rule, file_rule, flag_rule, form_of, is_set, mode_of, option_rule, options_of, request_view};
-ghost use Rattle.ether_stream.specs.Task.{form_view};
+ghost use Rattle.ether_capture.specs.Options.{Asks, IsEdit, KindNames, NamesRequest, RefusesKind, RefusesRows, RefusesWords, asked_view, capture_app, count_rule, file_rule, flag_rule, is_set, option_rule, request_view};
 
+use crate::asked::{Asked, Request, RequestError};
 use clap::error::ErrorKind;
 use clap::{Arg, ArgAction, ArgMatches, Command};
 use ether_content::PacketEdit;
-use ether_filter::{Filter, FilterError};
-use ether_pcap::CopyMode;
-use ether_stream::{Form, LineOptions, Task, Usage, count_of, edit_of_words, filter_of, limit_of};
+use ether_stream::{count_of, edit_of_words, limit_of};
 use std::alloc::{AllocError, Global};
-use std::num::NonZeroUsize;
-
-/// Why the arguments ask for nothing.
-#[derive(Clone, Copy, Debug)]
-pub enum RequestError {
-    /// One of them is unknown, has a value that can't be read, or does not go with the others.
-    Usage,
-    /// Memory for them was refused.
-    Memory,
-    /// The filter is no expression.
-    Filter {
-        /// Whether a copy was asked for.
-        is_copy: bool,
-        /// Why it is none.
-        error: FilterError,
-    },
-}
+use std::env;
 
 impl From<AllocError> for RequestError {
-    ghost use Rattle.ether_capture.specs.declared.options.RequestError.TheVariants.{Memory};
+    ghost use Rattle.ether_capture.specs.declared.asked.RequestError.TheVariants.{Memory};
 
     ghost from_gives = { λ _ error. error ≡ Memory };
 
     fn from(_error: AllocError) -> RequestError {
         RequestError::Memory
     }
-}
-
-impl From<Usage> for RequestError {
-    ghost use Rattle.ether_capture.specs.declared.options.RequestError.TheVariants as reasons;
-
-    ghost from_gives = { λ _ error. error ≡ reasons.Usage };
-
-    fn from(_error: Usage) -> RequestError {
-        RequestError::Usage
-    }
-}
-
-/// What the arguments ask for.
-#[derive(Debug, Drop)]
-pub enum Request<'a> {
-    /// What is made of the capture in the file of this name, or of standard input.
-    Run(Task, Option<&'a str>),
-    /// The lines of several captures.
-    List(Listing<'a>),
-    /// How the program is used.
-    Help,
-    /// The program's name and version.
-    Version,
-}
-
-/// Which lines of several captures.
-#[derive(Debug, Drop)]
-pub struct Listing<'a> {
-    /// Which packets are chosen; all of them without a filter.
-    pub filter: Option<Filter>,
-    /// After how many of these the run ends; at the end of the last capture without a number.
-    pub count: Option<NonZeroUsize>,
-    /// Which lines a packet has.
-    pub options: LineOptions,
-    /// The names of their files, two at least.
-    pub files: Vec<&'a str>,
 }
 
 /// An option without a value.
@@ -156,18 +100,6 @@ fn request_of_kind<'a>(kind: ErrorKind) -> Result<Request<'a>, RequestError>
     }
 }
 
-/// What options ask for.
-#[derive(Drop)]
-struct Asked<'a> {
-    is_plain: bool,
-    is_copy: bool,
-    edit: Option<PacketEdit>,
-    text: Option<&'a str>,
-    count: Option<NonZeroUsize>,
-    limit: Option<usize>,
-    files: Vec<&'a str>,
-}
-
 impl<'a> Asked<'a> {
     /// What options ask for.
     fn of(matches: &ArgMatches<'a>, alloc: Global) -> Result<Asked<'a>, RequestError>
@@ -187,103 +119,6 @@ impl<'a> Asked<'a> {
             limit,
             files,
         })
-    }
-
-    /// Tests that there are several names.
-    fn has_several(&self) -> bool
-        ensures { result ≡ are_several (map (λ s. s.now) self.now.files.items) }
-    {
-        matches!(self.files.as_slice(), [_, _, ..])
-    }
-
-    /// Tests that there is an option that does not go with the others.
-    fn clashes(&self) -> bool
-        ensures { result ≡ clashes (asked_view self.now) }
-    {
-        if self.is_copy {
-            self.is_plain || self.limit.is_some() || self.has_several()
-        } else {
-            self.edit.is_some()
-        }
-    }
-
-    /// What all options together ask for.
-    fn request(self) -> Result<Request<'a>, RequestError>
-        ensures ok { IfOk result (λ request. IsRequestOf (asked_view self.entry) (request_view request)) }
-        ensures err { IfErr result (RefusesAsked (asked_view self.entry)) }
-    {
-        if self.clashes() {
-            return Err(RequestError::Usage);
-        }
-        match filter_of(self.text) {
-            Ok(filter) if self.has_several() => Ok(Request::List(Listing {
-                filter,
-                count: self.count,
-                options: self.options(),
-                files: self.files,
-            })),
-            Ok(filter) => {
-                let form = self.form();
-                let task = Task {
-                    filter,
-                    count: self.count,
-                    form,
-                };
-                Ok(Request::Run(task, self.files.first().copied()))
-            }
-            Err(error) => Err(RequestError::Filter {
-                is_copy: self.is_copy,
-                error,
-            }),
-        }
-    }
-
-    /// Lines are asked for, or a copy.
-    fn form(&self) -> Form
-        ensures { form_view result ≡ form_of (asked_view self.now) }
-    {
-        if self.is_copy {
-            Form::Copy {
-                mode: self.mode(),
-                edit: self.edit,
-            }
-        } else {
-            Form::Lines(self.options())
-        }
-    }
-
-    /// A copy is exact if all packets are copied, and none is edited.
-    fn mode(&self) -> CopyMode
-        ensures { copy_mode_view result ≡ mode_of (asked_view self.now) }
-    {
-        if self.text.is_some() || self.count.is_some() || self.edit.is_some() {
-            CopyMode::Changed {
-                raise: self.growth(),
-            }
-        } else {
-            CopyMode::Exact
-        }
-    }
-
-    /// By how many bytes the edit lets a packet grow, if there is one.
-    fn growth(&self) -> u32
-        ensures { result ≡ growth_if (asked_view self.now).edit }
-    {
-        match self.edit {
-            Some(edit) => edit.growth(),
-            None => 0,
-        }
-    }
-
-    /// Which lines are asked for.
-    fn options(&self) -> LineOptions
-        ensures { result ≡ options_of (asked_view self.now) }
-    {
-        LineOptions {
-            is_plain: self.is_plain,
-            limit: self.limit,
-            before: None,
-        }
     }
 }
 

@@ -4,9 +4,10 @@ ghost use Rattle.ether_stream.specs.Outcome.{is_message, status_of_program};
 ghost use Rattle.ether_capture.specs.Program.{HasObeyed, HasRunFile, HasServed, PrintsApart, PrintsLast, arguments_of};
 ghost use Rattle.ether_stream.specs.Task.{task_view};
 
+use crate::asked::{Request, RequestError};
 use crate::captures::Captures;
 use crate::files::run_files;
-use crate::options::{Request, RequestError, request_of_words};
+use crate::options::request_of_words;
 use crate::run_input::run_input;
 use ether_stream::{LineSink, Outcome, RunFault, Task, is_message, last_line, program_status};
 use ether_text::{Sink, Source};

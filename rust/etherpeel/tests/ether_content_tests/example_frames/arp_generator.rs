@@ -23,6 +23,12 @@ pub const REQUEST_LEN: usize = 46;
 ///
 /// ```
 /// # use etherpeel::*;
+/// # use etherpeel::ether_peel::*;
+/// # use etherpeel::ether_sll2::*;
+/// # use etherpeel::ether_packet::*;
+/// # use etherpeel::ether_filter::*;
+/// # use etherpeel::ether_pcap::*;
+/// # use etherpeel::ether_content::*;
 /// # use etherpeel::example_frames::arp_generator::*;
 /// # fn main() -> Result<(), Box<dyn std::error::Error>> {
 /// let mut frame = [0; REQUEST_LEN];

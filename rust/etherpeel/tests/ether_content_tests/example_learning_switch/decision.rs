@@ -29,6 +29,12 @@ impl Decision {
     ///
     /// ```
     /// # use etherpeel::*;
+    /// # use etherpeel::ether_peel::*;
+    /// # use etherpeel::ether_sll2::*;
+    /// # use etherpeel::ether_packet::*;
+    /// # use etherpeel::ether_filter::*;
+    /// # use etherpeel::ether_pcap::*;
+    /// # use etherpeel::ether_content::*;
     /// # fn main() -> Result<(), Box<dyn std::error::Error>> {
     /// let mut buffer = [
     ///     0x00, 0x00, 0x00, 0x00, // free

@@ -1,0 +1,23 @@
+//! `ether_capture` on the standard streams and the file system.
+//!
+//! Written by hand, not proved: `crates/ether_capture/src/main.rt` takes them from the runtime of Rattle.
+use ether_tools::ether_capture::opening::FileSystem;
+use ether_tools::ether_capture::program::program;
+use ether_tools::ether_text::{Noted, tell_failure};
+use ether_tools::ether_capture::memory::Global;
+use ether_tools::streams::{arguments, input, output};
+use std::io;
+use std::process::ExitCode;
+
+fn main() -> io::Result<ExitCode> {
+    let args = arguments();
+    let unread = args.as_ref().err().map(|error| error.kind().into());
+    let mut input = Noted::new(input()?);
+    let mut output = Noted::new(output()?);
+    let status = program(args, Global, &FileSystem, &mut input, &mut output, &mut io::stderr());
+    if status == 4 {
+        let (input, output) = (input.error(), output.error());
+        tell_failure("ether_capture", unread.as_ref(), input, output, &mut io::stderr());
+    }
+    Ok(ExitCode::from(status))
+}

@@ -1,0 +1,14 @@
+//! Reads a capture of the classic pcap format or of pcapng, a file or standard input, and prints the lines of the walk of
+//! each packet, or copies the capture without some of its packets.
+//!
+//! This list of modules is written by hand, in the place of `crates/ether_capture/src/main.rt`.
+pub mod asked;
+pub mod captures;
+pub mod files;
+pub mod heap_memory;
+pub mod interface_buffer;
+pub mod memory;
+pub mod opening;
+pub mod options;
+pub mod program;
+pub mod run_input;

@@ -1,0 +1,150 @@
+//! What the options together ask for.
+
+use etherpeel::ether_content::PacketEdit;
+use etherpeel::ether_filter::{Filter, FilterError};
+use etherpeel::ether_pcap::CopyMode;
+use crate::ether_stream::{Form, LineOptions, Task, Usage, filter_of};
+use std::num::NonZeroUsize;
+
+/// Why the arguments ask for nothing.
+#[derive(Clone, Copy, Debug)]
+pub enum RequestError {
+    /// One of them is unknown, has a value that can't be read, or does not go with the others.
+    Usage,
+    /// Memory for them was refused.
+    Memory,
+    /// The filter is no expression.
+    Filter {
+        /// Whether a copy was asked for.
+        is_copy: bool,
+        /// Why it is none.
+        error: FilterError,
+    },
+}
+
+impl From<Usage> for RequestError {
+    fn from(_error: Usage) -> RequestError {
+        RequestError::Usage
+    }
+}
+
+/// What the arguments ask for.
+#[derive(Debug)]
+pub enum Request<'a> {
+    /// What is made of the capture in the file of this name, or of standard input.
+    Run(Task, Option<&'a str>),
+    /// The lines of several captures.
+    List(Listing<'a>),
+    /// How the program is used.
+    Help,
+    /// The program's name and version.
+    Version,
+}
+
+/// Which lines of several captures.
+#[derive(Debug)]
+pub struct Listing<'a> {
+    /// Which packets are chosen; all of them without a filter.
+    pub filter: Option<Filter>,
+    /// After how many of these the run ends; at the end of the last capture without a number.
+    pub count: Option<NonZeroUsize>,
+    /// Which lines a packet has.
+    pub options: LineOptions,
+    /// The names of their files, two at least.
+    pub files: Vec<&'a str>,
+}
+
+/// What options ask for.
+pub(crate) struct Asked<'a> {
+    pub(crate) is_plain: bool,
+    pub(crate) is_copy: bool,
+    pub(crate) edit: Option<PacketEdit>,
+    pub(crate) text: Option<&'a str>,
+    pub(crate) count: Option<NonZeroUsize>,
+    pub(crate) limit: Option<usize>,
+    pub(crate) files: Vec<&'a str>,
+}
+
+impl<'a> Asked<'a> {
+    /// Tests that there are several names.
+    fn has_several(&self) -> bool {
+        matches!(self.files.as_slice(), [_, _, ..])
+    }
+
+    /// Tests that there is an option that does not go with the others.
+    fn clashes(&self) -> bool {
+        if self.is_copy {
+            self.is_plain || self.limit.is_some() || self.has_several()
+        } else {
+            self.edit.is_some()
+        }
+    }
+
+    /// What all options together ask for.
+    pub(crate) fn request(self) -> Result<Request<'a>, RequestError> {
+        if self.clashes() {
+            return Err(RequestError::Usage);
+        }
+        match filter_of(self.text) {
+            Ok(filter) if self.has_several() => Ok(Request::List(Listing {
+                filter,
+                count: self.count,
+                options: self.options(),
+                files: self.files,
+            })),
+            Ok(filter) => {
+                let form = self.form();
+                let task = Task {
+                    filter,
+                    count: self.count,
+                    form,
+                };
+                Ok(Request::Run(task, self.files.first().copied()))
+            }
+            Err(error) => Err(RequestError::Filter {
+                is_copy: self.is_copy,
+                error,
+            }),
+        }
+    }
+
+    /// Lines are asked for, or a copy.
+    fn form(&self) -> Form {
+        if self.is_copy {
+            Form::Copy {
+                mode: self.mode(),
+                edit: self.edit,
+            }
+        } else {
+            Form::Lines(self.options())
+        }
+    }
+
+    /// A copy is exact if all packets are copied, and none is edited.
+    fn mode(&self) -> CopyMode {
+        if self.text.is_some() || self.count.is_some() || self.edit.is_some() {
+            CopyMode::Changed {
+                raise: self.growth(),
+            }
+        } else {
+            CopyMode::Exact
+        }
+    }
+
+    /// By how many bytes the edit lets a packet grow, if there is one.
+    fn growth(&self) -> u32 {
+        match self.edit {
+            Some(edit) => edit.growth(),
+            None => 0,
+        }
+    }
+
+    /// Which lines are asked for.
+    fn options(&self) -> LineOptions {
+        LineOptions {
+            is_plain: self.is_plain,
+            limit: self.limit,
+            before: None,
+        }
+    }
+}

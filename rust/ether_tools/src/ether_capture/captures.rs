@@ -1,0 +1,25 @@
+//! What opens captures by their names.
+
+use crate::ether_stream::OpenFault;
+use crate::ether_text::Source;
+
+/// What opens captures by their names: any `Files` of the runtime.
+///
+/// What is proved for all of them is proved for one that can't fail, too. So whoever reports that a capture can't be opened has
+/// tried it.
+pub trait Captures {
+    /// The bytes of a capture.
+    type Input: Source;
+
+    /// Opens the capture of a name, from its first byte on.
+    ///
+    /// <details><summary>Contract</summary>
+    ///
+    /// ```text
+    /// ensures ok { IfOk result (λ input. has self.now name.now (Self.Input.Source.remaining input)) }
+    /// ensures refused { IfErr result (λ fault. can_refuse fault) }
+    /// ```
+    ///
+    /// </details>
+    fn open_named(&self, name: &str) -> Result<Self::Input, OpenFault>;
+}

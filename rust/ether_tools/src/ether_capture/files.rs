@@ -1,0 +1,163 @@
+//! Reads several captures, one after the other.
+
+use crate::ether_capture::asked::Listing;
+use crate::ether_capture::captures::Captures;
+use crate::ether_capture::run_input::run_input;
+use crate::ether_stream::{
+    FileEnd, Form, LineSink, PacketCounts, RunFault, Task, line_of_file, status_of_file,
+    write_totals,
+};
+use crate::ether_text::{OutputBuffer, OutputFault, Sink};
+use crate::ether_capture::memory::Global;
+use std::num::NonZeroUsize;
+
+/// What the captures so far had.
+#[derive(Clone, Copy, Debug)]
+pub struct Tally {
+    /// How many packets.
+    pub packets: usize,
+    /// How many of these were skipped.
+    pub skipped: usize,
+    /// How many packets more are asked for, if their number is limited.
+    pub left: Option<usize>,
+    /// The greatest exit status of a capture.
+    pub status: u8,
+}
+
+impl Tally {
+    /// Before the first capture.
+    fn new(asked_for: Option<usize>) -> Tally {
+        Tally {
+            packets: 0,
+            skipped: 0,
+            left: asked_for,
+            status: 0,
+        }
+    }
+
+    /// With a capture more.
+    fn with(&self, counts: PacketCounts, end: &FileEnd) -> Tally {
+        Tally {
+            packets: counts.number,
+            skipped: self.skipped.saturating_add(counts.skipped),
+            left: counts.left,
+            status: self.status.max(status_of_file(end)),
+        }
+    }
+
+    /// Tests that no packet more is asked for.
+    fn is_done(&self) -> bool {
+        matches!(self.left, Some(0))
+    }
+
+    /// How many packets more are asked for, if their number is limited and not 0.
+    fn count(&self) -> Option<NonZeroUsize> {
+        match self.left {
+            Some(left) => NonZeroUsize::new(left),
+            None => None,
+        }
+    }
+}
+
+/// Writes the lines of several captures, each after those before it, and where one is not read to its end, the line that says why; then
+/// that of the totals of all. Returns the greatest exit status of a capture.
+///
+/// <details><summary>Contract</summary>
+///
+/// ```text
+/// ensures { HasListed (C.has captures.now) C.can_refuse C.Input.Source.can_fail W.Sink.can_fail (listing_view listing.entry)
+///     (W.Sink.contents writer.old) (W.Sink.contents writer.new) result }
+/// ```
+///
+/// </details>
+pub fn run_files<C: Captures, W: LineSink>(
+    listing: Listing<'_>,
+    alloc: Global,
+    captures: &C,
+    writer: &mut W,
+) -> Result<u8, OutputFault> {
+    let is_plain = listing.options.is_plain;
+    let tally = read_files(listing, alloc, captures, writer)?;
+    write_last(is_plain, &tally, writer)?;
+    Ok(tally.status)
+}
+
+/// Writes what is made of each capture, until no packet more is asked for.
+fn read_files<C: Captures, W: LineSink>(
+    listing: Listing<'_>,
+    alloc: Global,
+    captures: &C,
+    writer: &mut W,
+) -> Result<Tally, OutputFault> {
+    let options = listing.options;
+    let mut files = listing.files.into_iter();
+    let mut task = Task {
+        filter: listing.filter,
+        count: listing.count,
+        form: Form::Lines(options),
+    };
+    let mut tally = Tally::new(task.asked_for());
+    while let Some(name) = files.next() {
+        if tally.is_done() {
+            return Ok(tally);
+        }
+        task.count = tally.count();
+        task.form = Form::Lines(options.after(tally.packets));
+        tally = read_file(&task, &tally, name, alloc, captures, writer)?;
+    }
+    Ok(tally)
+}
+
+/// Writes what is made of one capture, and the line that says why it was not read to its end, if there is one.
+fn read_file<C: Captures, W: LineSink>(
+    task: &Task,
+    tally: &Tally,
+    name: &str,
+    alloc: Global,
+    captures: &C,
+    writer: &mut W,
+) -> Result<Tally, OutputFault> {
+    let (end, counts) = end_of_file(task, name, alloc, captures, writer);
+    if is_output_fault(&end) {
+        return Err(OutputFault);
+    }
+    write_reason(name, &end, writer)?;
+    Ok(tally.with(counts, &end))
+}
+
+/// Tests that the writer failed.
+fn is_output_fault(end: &FileEnd) -> bool {
+    matches!(end, FileEnd::Read(Err(RunFault::Output)))
+}
+
+/// Writes the line that says why a capture was not read to its end, if there is one.
+fn write_reason<W: LineSink>(name: &str, end: &FileEnd, writer: &mut W) -> Result<(), OutputFault> {
+    match line_of_file(name, end) {
+        Some(line) => writer.put_line(&line),
+        None => Ok(()),
+    }
+}
+
+/// Writes what is made of one capture, and returns how it ended, and how many packets were read.
+fn end_of_file<C: Captures, W: Sink>(
+    task: &Task,
+    name: &str,
+    alloc: Global,
+    captures: &C,
+    writer: &mut W,
+) -> (FileEnd, PacketCounts) {
+    match captures.open_named(name) {
+        Ok(mut input) => {
+            let (end, counts) = run_input(task, alloc, &mut input, writer);
+            (FileEnd::Read(end), counts)
+        }
+        Err(fault) => (FileEnd::NotOpened(fault), PacketCounts::none(task)),
+    }
+}
+
+/// Writes the line of the totals, unless only those of walks are asked for.
+fn write_last<W: Sink>(is_plain: bool, tally: &Tally, writer: &mut W) -> Result<(), OutputFault> {
+    let mut out = OutputBuffer::new(writer);
+    write_totals(is_plain, tally.packets, tally.skipped, &mut out);
+    out.flush()
+}

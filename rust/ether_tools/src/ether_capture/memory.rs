@@ -1,0 +1,9 @@
+//! What stands for the allocator. Written by hand, not proved.
+
+/// The allocator of std, which has no name there.
+#[derive(Clone, Copy)]
+pub struct Global;
+
+/// Memory was refused.
+#[derive(Debug)]
+pub struct NoMemory;

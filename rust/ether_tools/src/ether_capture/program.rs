@@ -1,0 +1,118 @@
+//! The program, over any arguments, files, reader and writer.
+
+use crate::ether_capture::asked::{Request, RequestError};
+use crate::ether_capture::captures::Captures;
+use crate::ether_capture::files::run_files;
+use crate::ether_capture::options::request_of_words;
+use crate::ether_capture::run_input::run_input;
+use crate::ether_stream::{LineSink, Outcome, RunFault, Task, is_message, last_line, program_status};
+use crate::ether_text::{Sink, Source};
+use crate::ether_capture::memory::Global;
+use std::io::Write;
+use std::{env, io};
+
+/// Writes the lines of a capture, or a copy of it, as the arguments say, prints the last line if there is one, and returns the exit status.
+///
+/// The last line is printed to `writer`; but to `messages` if a copy is asked for, since `writer` has that, or if the arguments are wrong or there
+/// is no memory for them. If they are wrong or can't be read, nothing is read. The latter is a fault of the input.
+///
+/// <details><summary>Contract</summary>
+///
+/// ```text
+/// ensures { HasServed (C.has captures.now) R.can_fail C.can_refuse C.Input.Source.can_fail (arguments_of args)
+///     (R.remaining reader.old) (R.remaining reader.new) (W.contents writer.old) (W.contents writer.new)
+///     (M.contents messages.old) (M.contents messages.new) result }
+/// ```
+///
+/// </details>
+pub fn program<C: Captures, R: Source, W: Write, M: Write>(
+    args: io::Result<env::Args>,
+    alloc: Global,
+    captures: &C,
+    reader: &mut R,
+    writer: &mut W,
+    messages: &mut M,
+) -> u8 {
+    let Ok(args) = args else {
+        let outcome = Outcome::Run {
+            is_copy: false,
+            end: Err(RunFault::Input),
+        };
+        return end(&outcome, writer, messages);
+    };
+    let Ok(words) = Ok::<Vec<String>, crate::ether_capture::memory::NoMemory>(args.collect()) else {
+        return end(&Outcome::NoMemory, writer, messages);
+    };
+    let outcome = obey(words.as_slice(), alloc, captures, reader, writer);
+    end(&outcome, writer, messages)
+}
+
+/// Writes the lines of a capture, or a copy of it, as the arguments say.
+fn obey<'a, C: Captures, R: Source, W: LineSink>(
+    words: &'a [String],
+    alloc: Global,
+    captures: &C,
+    reader: &mut R,
+    writer: &mut W,
+) -> Outcome<'a> {
+    match request_of_words(words, alloc) {
+        Ok(Request::Run(task, file)) => match file {
+            None => Outcome::Run {
+                is_copy: task.is_copy(),
+                end: run_input(&task, alloc, reader, writer).0,
+            },
+            Some(name) => run_file(&task, name, alloc, captures, writer),
+        },
+        Ok(Request::List(listing)) => Outcome::Files(run_files(listing, alloc, captures, writer)),
+        Ok(Request::Help) => Outcome::Help,
+        Ok(Request::Version) => Outcome::Version,
+        Err(RequestError::Usage) => Outcome::Usage,
+        Err(RequestError::Memory) => Outcome::NoMemory,
+        Err(RequestError::Filter { is_copy, error }) => Outcome::NoFilter { is_copy, error },
+    }
+}
+
+/// Writes what is made of the capture of a name.
+fn run_file<'a, C: Captures, W: Sink>(
+    task: &Task,
+    name: &'a str,
+    alloc: Global,
+    captures: &C,
+    writer: &mut W,
+) -> Outcome<'a> {
+    let is_copy = task.is_copy();
+    match captures.open_named(name) {
+        Ok(mut input) => Outcome::File {
+            is_copy,
+            name,
+            end: run_input(task, alloc, &mut input, writer).0,
+        },
+        Err(fault) => Outcome::NotOpened {
+            is_copy,
+            name,
+            fault,
+        },
+    }
+}
+
+/// Prints the last line, if there is one, and returns the exit status.
+fn end<W: Write, M: Write>(outcome: &Outcome<'_>, writer: &mut W, messages: &mut M) -> u8 {
+    let is_printed = print_apart(outcome, writer, messages);
+    program_status(outcome, is_printed)
+}
+
+/// Prints the last line, if there is one, to the writer that it is for, and returns whether that took it.
+fn print_apart<W: Write, M: Write>(outcome: &Outcome<'_>, writer: &mut W, messages: &mut M) -> bool {
+    if is_message(outcome) {
+        return print_last_line(outcome, messages);
+    }
+    print_last_line(outcome, writer)
+}
+
+/// Prints the last line, if there is one, and returns whether the writer took it.
+fn print_last_line<W: Write>(outcome: &Outcome<'_>, writer: &mut W) -> bool {
+    match last_line(outcome) {
+        Some(line) => writeln!(writer, "{line}").is_ok(),
+        None => true,
+    }
+}

@@ -1,0 +1,24 @@
+//! Memory for a run.
+use crate::ether_stream::{EditBuffer, Grow, InputBuffer, NoMemory};
+use etherpeel::ether_pcap::InterfaceTable;
+
+/// Memory for a run.
+pub struct Buffers<B: Grow, T: InterfaceTable> {
+    /// For the bytes that are read.
+    pub input: InputBuffer<B>,
+    /// For a packet that is edited.
+    pub edits: EditBuffer<B>,
+    /// For the interfaces of a section.
+    pub interfaces: T,
+}
+
+impl<B: Grow, T: InterfaceTable> Buffers<B, T> {
+    /// Memory for a run, of which the first two grow at once.
+    pub fn new(input: B, edits: B, interfaces: T) -> Result<Self, NoMemory> {
+        Ok(Buffers {
+            input: InputBuffer::new(input)?,
+            edits: EditBuffer::new(edits)?,
+            interfaces,
+        })
+    }
+}

@@ -1,0 +1,33 @@
+//! How many packets were read.
+
+use crate::ether_stream::Task;
+
+/// How many packets of a capture were read.
+#[derive(Clone, Copy, PartialEq, Eq, Debug)]
+pub struct PacketCounts {
+    /// The number of the last packet, after those of captures before this one.
+    pub number: usize,
+    /// How many packets of this capture were skipped.
+    pub skipped: usize,
+    /// How many packets more are asked for, if their number is limited.
+    pub left: Option<usize>,
+}
+
+impl PacketCounts {
+    /// The counts before a packet was read.
+    ///
+    /// <details><summary>Contract</summary>
+    ///
+    /// ```text
+    /// ensures { AreCounted (task_view task.now) [] result }
+    /// ```
+    ///
+    /// </details>
+    pub fn none(task: &Task) -> PacketCounts {
+        PacketCounts {
+            number: task.packets_before(),
+            skipped: 0,
+            left: task.asked_for(),
+        }
+    }
+}

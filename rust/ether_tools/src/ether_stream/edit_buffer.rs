@@ -1,0 +1,47 @@
+//! Memory for a packet that is edited.
+
+use crate::ether_stream::{Grow, NoMemory};
+use etherpeel::ether_content::{EditedPacket, PacketEdit, edit_packet};
+use etherpeel::ether_pcap::CapturedPacket;
+
+/// How many bytes an [`EditBuffer`] has at least: four more than a captured packet at most.
+const ROOM: usize = 262_148;
+
+/// Memory for any packet of a capture that is edited.
+pub struct EditBuffer<B: Grow> {
+    memory: B,
+}
+
+impl<B: Grow> EditBuffer<B> {
+    /// Memory for a packet, which grows at once.
+    pub fn new(memory: B) -> Result<Self, NoMemory> {
+        let mut memory = memory;
+        memory.grow(ROOM)?;
+        Ok(EditBuffer { memory })
+    }
+
+    /// Edits a packet, if there is an edit. Returns `None` if it stays as it is.
+    pub(crate) fn edit(
+        &mut self,
+        edit: Option<PacketEdit>,
+        packet: &CapturedPacket<'_>,
+    ) -> Option<EditedPacket> {
+        match edit {
+            Some(edit) => edit_in(self.memory.bytes_mut(), edit, packet),
+            None => None,
+        }
+    }
+
+    /// The captured bytes of a packet that was edited here.
+    pub(crate) fn packet(&self, edited: &EditedPacket) -> &[u8] {
+        &self.memory.bytes()[edited.start..edited.end]
+    }
+}
+
+/// Edits a packet in these bytes.
+fn edit_in(bytes: &mut [u8], edit: PacketEdit, packet: &CapturedPacket<'_>) -> Option<EditedPacket> {
+    match edit_packet(edit, packet, bytes) {
+        Ok(edited) => edited,
+        Err(_) => unreachable!(),
+    }
+}

@@ -1,0 +1,182 @@
+//! Writes the lines of a captured packet.
+
+use crate::ether_stream::LineOptions;
+use crate::ether_stream::linux_sll_lines::write_linux_sll;
+use crate::ether_stream::linux_sll2_lines::write_linux_sll2;
+use etherpeel::ether_content::{Content, CookedHeader, is_cut};
+use etherpeel::ether_pcap::{CapturedPacket, Timestamp};
+use etherpeel::ether_peel::Start;
+use crate::ether_text::{OutputBuffer, Sink, eight_digits, write_decimal, write_walk_after};
+
+/// Writes the line of a packet unless only those of walks are asked for, and the lines of the walk through its headers. Returns whether the
+/// walk ends in no fault.
+///
+/// The packet has the number after `count`, which is read only if it is written. A packet of another link type than Ethernet and Linux cooked
+/// capture is skipped: it has no lines of a walk.
+///
+/// <details><summary>Contract</summary>
+///
+/// ```text
+/// ensures { TakesAnswer W.contents W.can_fail (HasLines options (counted (count.now + 1)) (captured_packet_view packet.now))
+///     out.old out.new result }
+/// ```
+///
+/// </details>
+pub fn write_lines<W: Sink>(
+    options: LineOptions,
+    count: &usize,
+    packet: &CapturedPacket<'_>,
+    out: &mut OutputBuffer<'_, W>,
+) -> bool {
+    let content = Content::of(packet);
+    write_packet_line(options.is_plain, count, packet, content, out);
+    let (header_len, start, bytes) = match content {
+        Content::Frame(start, bytes) => (0, start, bytes),
+        Content::LinuxSll(header, payload) => {
+            write_linux_sll(&header, out);
+            (
+                CookedHeader::LEN as u8,
+                Start::EtherType(header.protocol),
+                payload,
+            )
+        }
+        Content::LinuxSll2(bytes) => match write_linux_sll2(bytes, out) {
+            Ok((start, payload)) => (20, start, payload),
+            Err(accepted) => return accepted,
+        },
+        Content::Unknown => return true,
+    };
+    write_walk_after(header_len, start, options.limit, bytes, out)
+}
+
+/// Writes the line after those of all packets, unless the capture is one of several.
+///
+/// <details><summary>Contract</summary>
+///
+/// ```text
+/// ensures { Takes W.contents W.can_fail out.old (totals_line_after options.before options.is_plain frames skipped) out.new }
+/// ```
+///
+/// </details>
+pub fn write_totals_of<W: Sink>(
+    options: LineOptions,
+    frames: usize,
+    skipped: usize,
+    out: &mut OutputBuffer<'_, W>,
+) {
+    match options.before {
+        None => write_totals(options.is_plain, frames, skipped, out),
+        Some(_) => {}
+    }
+}
+
+/// Writes the line after those of all packets, unless `is_plain`: how many packets there are, and how many of them were skipped.
+///
+/// <details><summary>Contract</summary>
+///
+/// ```text
+/// ensures { Takes W.contents W.can_fail out.old (totals_line_if is_plain frames skipped) out.new }
+/// ```
+///
+/// </details>
+pub fn write_totals<W: Sink>(
+    is_plain: bool,
+    frames: usize,
+    skipped: usize,
+    out: &mut OutputBuffer<'_, W>,
+) {
+    if is_plain {
+        return;
+    }
+    out.append(b"total frames ");
+    write_decimal(out, frames);
+    out.append(b" skipped ");
+    write_decimal(out, skipped);
+    out.append(b"\n");
+}
+
+/// Whether the packet has no lines of a walk.
+///
+/// <details><summary>Contract</summary>
+///
+/// ```text
+/// ensures { result ≡ is_skipped (captured_packet_view packet.now) }
+/// ```
+///
+/// </details>
+pub fn is_skipped(packet: &CapturedPacket<'_>) -> bool {
+    Content::of(packet).is_unknown()
+}
+
+/// Writes the line of a packet, unless `is_plain`: its number, that after `count`, its time, its link type, its lengths, and whether it was cut or is skipped.
+fn write_packet_line<W: Sink>(
+    is_plain: bool,
+    count: &usize,
+    packet: &CapturedPacket<'_>,
+    content: Content<'_>,
+    out: &mut OutputBuffer<'_, W>,
+) {
+    if is_plain {
+        return;
+    }
+    out.append(b"frame ");
+    write_decimal(out, count.saturating_add(1));
+    write_time(packet.time, out);
+    write_decimal(out, usize::from(packet.link_type.0));
+    out.append(b" captured ");
+    write_decimal(out, packet.packet.len());
+    out.append(b" original ");
+    write_decimal(out, packet.original_len as usize);
+    write_mark(is_cut(packet), b" cut", out);
+    write_mark(content.is_unknown(), b" skipped", out);
+    out.append(b"\n");
+}
+
+/// Writes a word if it holds.
+fn write_mark<W: Sink>(holds: bool, word: &[u8], out: &mut OutputBuffer<'_, W>) {
+    if holds {
+        out.append(word);
+    }
+}
+
+/// Writes the seconds of a packet's time with nine decimals, or a hyphen if there is none, between the words around it.
+#[inline(always)]
+fn write_time<W: Sink>(time: Option<Timestamp>, out: &mut OutputBuffer<'_, W>) {
+    match time {
+        Some(time) if time.seconds >= 1_000_000_000 && time.seconds < 10_000_000_000 =>
+            out.append_array(recent_time(time)),
+        Some(time) => write_other_time(time, out),
+        None => out.append(b" time - link "),
+    }
+}
+
+/// The text of a time whose seconds have ten digits: from the year 2001 to 2286.
+#[inline(always)]
+fn recent_time(time: Timestamp) -> [u8; 32] {
+    let h = eight_digits(time.seconds / 100_000_000);
+    let s = eight_digits(time.seconds);
+    let n = nine_digits(time.nanoseconds);
+    [
+        b' ', b't', b'i', b'm', b'e', b' ', h[6], h[7], s[0], s[1], s[2], s[3], s[4], s[5], s[6],
+        s[7], b'.', n[0], n[1], n[2], n[3], n[4], n[5], n[6], n[7], n[8], b' ', b'l', b'i', b'n',
+        b'k', b' ',
+    ]
+}
+
+/// Writes the text of a time whose seconds have any number of digits.
+#[inline(never)]
+fn write_other_time<W: Sink>(time: Timestamp, out: &mut OutputBuffer<'_, W>) {
+    out.append(b" time ");
+    write_decimal(out, time.seconds as usize);
+    out.append(b".");
+    out.append(&nine_digits(time.nanoseconds));
+    out.append(b" link ");
+}
+
+/// The nine lowest decimal digits of a number.
+#[inline(always)]
+fn nine_digits(number: u32) -> [u8; 9] {
+    let first = b'0' + (number / 100_000_000 % 10) as u8;
+    let d = eight_digits(u64::from(number));
+    [first, d[0], d[1], d[2], d[3], d[4], d[5], d[6], d[7]]
+}

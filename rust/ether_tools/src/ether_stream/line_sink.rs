@@ -1,0 +1,32 @@
+//! What lines between captures are written to.
+
+use crate::ether_stream::LastLine;
+use crate::ether_text::{OutputFault, Sink};
+use std::io::Write;
+
+/// What lines are written to between runs: any [`Write`].
+///
+/// What is proved for all of them is proved for one that can't fail, too. So whoever reports a fault has seen one.
+pub trait LineSink: Sink {
+    /// Writes a line.
+    ///
+    /// <details><summary>Contract</summary>
+    ///
+    /// ```text
+    /// ensures ok { OnOk result (Appends (Self.Sink.contents self.old) (Self.Sink.contents self.new)
+    ///     (last_line_text line.now ++ codes "\n")) }
+    /// ensures failed { OnErr result Self.Sink.can_fail }
+    /// ```
+    ///
+    /// </details>
+    fn put_line(&mut self, line: &LastLine<'_>) -> Result<(), OutputFault>;
+}
+
+impl<W: Write> LineSink for W {
+    fn put_line(&mut self, line: &LastLine<'_>) -> Result<(), OutputFault> {
+        match writeln!(self, "{line}") {
+            Ok(()) => Ok(()),
+            Err(_) => Err(OutputFault),
+        }
+    }
+}

@@ -1,0 +1,89 @@
+//! Writes the lines of a packet of Linux cooked capture v2.
+
+use etherpeel::ether_peel::{RestKind, Start};
+use etherpeel::ether_sll2::{LinuxSll2Error, LinuxSll2Header, LinuxSll2Slice};
+use crate::ether_text::{OutputBuffer, Sink, hex_long, hex_type, write_number, write_rest};
+use etherpeel::EtherType;
+
+/// Writes the line of the header, and returns what its payload begins with, and the payload. If there is no walk of the payload, writes
+/// the line of what is left, or in place of the header's that of the fault, and returns whether there is no fault.
+///
+/// <details><summary>Contract</summary>
+///
+/// ```text
+/// ensures walked { IfOk result (λ payload. BeginsWalk bytes.now payload.0 payload.1.now
+///     × Takes W.contents W.can_fail out.old (linux_sll2_text (linux_sll2_of bytes.now) ++ codes "\n") out.new) }
+/// ensures ended { IfErr result (λ accepted. (limit : Option ℕ)
+///     → TakesAnswer W.contents W.can_fail (AnswersLinuxSll2 limit bytes.now) out.old out.new accepted) }
+/// ```
+///
+/// </details>
+#[inline(never)]
+pub fn write_linux_sll2<'a, W: Sink>(
+    bytes: &'a [u8],
+    out: &mut OutputBuffer<'_, W>,
+) -> Result<(Start, &'a [u8]), bool> {
+    let packet = match LinuxSll2Slice::from_slice(bytes) {
+        Ok(packet) => packet,
+        Err(error) => {
+            write_refusal(&error, out);
+            out.append(b"\n");
+            return Err(false);
+        }
+    };
+    write_header(&packet, out);
+    match packet.start() {
+        Some(start) => Ok((start, packet.payload_slice())),
+        None => {
+            let kind = RestKind::Sll(packet.protocol_type());
+            write_rest(out, LinuxSll2Header::LEN, bytes.len(), kind);
+            Err(true)
+        }
+    }
+}
+
+/// Writes the line of the header.
+fn write_header<W: Sink>(packet: &LinuxSll2Slice<'_>, out: &mut OutputBuffer<'_, W>) {
+    let header = packet.header_slice();
+    write_number(out, b"linux_sll2 ", 0);
+    write_number(out, b" packet ", packet_type_of(header));
+    write_number(out, b" hw ", usize::from(packet.arp_hardware_type().0));
+    write_number(out, b" if ", packet.interface_index() as usize);
+    write_number(
+        out,
+        b" alen ",
+        usize::from(packet.sender_address_valid_length()),
+    );
+    out.append(b" addr ");
+    out.append(&hex_long(packet.sender_address_full()));
+    out.append(b" ");
+    out.append(&hex_type(EtherType(protocol_of(header))));
+    out.append(b"\n");
+}
+
+/// The number of the packet type.
+fn packet_type_of(header: &[u8]) -> usize {
+    usize::from(header[10])
+}
+
+/// The number of the protocol type.
+fn protocol_of(header: &[u8]) -> u16 {
+    u16::from_be_bytes([header[0], header[1]])
+}
+
+/// Writes the text of the fault of a header.
+fn write_refusal<W: Sink>(error: &LinuxSll2Error, out: &mut OutputBuffer<'_, W>) {
+    write_number(out, b"fault ", 0);
+    match error {
+        LinuxSll2Error::Len { required_len, len } => {
+            write_number(out, b" open length ", *required_len);
+            write_number(out, b" ", *len);
+            out.append(b" slice");
+        }
+        LinuxSll2Error::PacketType(number) => write_number(
+            out,
+            b" open content sll_packet_type ",
+            usize::from(*number),
+        ),
+    }
+}

@@ -1,0 +1,362 @@
+//! How the program ends: what a run found or why it stopped, the exit status of each, and the last line.
+
+use crate::ether_stream::{NoMemory, OpenFault};
+use etherpeel::ether_filter::FilterError;
+use etherpeel::ether_pcap::{CaptureError, CaptureFault, FileHeaderError};
+use crate::ether_text::{InputFault, OutputFault, Verdict};
+use std::fmt;
+
+/// What reads a file that this crate can't read, by its first four bytes or its version.
+fn hint(error: &CaptureError) -> &'static str {
+    let CaptureError::File(error) = error else {
+        return "";
+    };
+    match error {
+        FileHeaderError::Len { .. } => "",
+        FileHeaderError::Magic(number) => magic_hint(*number),
+        FileHeaderError::Version { .. } => " editcap converts it.",
+    }
+}
+
+/// What reads a file with these first four bytes.
+fn magic_hint(number: u32) -> &'static str {
+    match number {
+        0x1F8B_0000..=0x1F8B_FFFF => " This looks like gzip: zcat unpacks it.",
+        0x28B5_2FFD => " This looks like zstd: zstdcat unpacks it.",
+        0xFD37_7A58 => " This looks like xz: xzcat unpacks it.",
+        0x425A_6800..=0x425A_68FF => " This looks like bzip2: bzcat unpacks it.",
+        0x0422_4D18 => " This looks like lz4: lz4cat unpacks it.",
+        0xA1B2_CD34 | 0x34CD_B2A1 => " This is a variant of pcap: editcap converts it.",
+        _ => "",
+    }
+}
+
+/// Why a run stopped before the end of its input.
+#[derive(Debug)]
+pub enum RunFault {
+    /// The capture can't be read further. A place above `usize::MAX` is given as that.
+    Capture(CaptureFault),
+    /// The packet at this place is to be edited, and can't be.
+    NotEdited(usize),
+    /// The reader failed, or never came to an end.
+    Input,
+    /// The writer failed.
+    Output,
+    /// Memory for a record or block was refused.
+    Memory,
+}
+
+impl From<InputFault> for RunFault {
+    fn from(_fault: InputFault) -> RunFault {
+        RunFault::Input
+    }
+}
+
+impl From<OutputFault> for RunFault {
+    fn from(_fault: OutputFault) -> RunFault {
+        RunFault::Output
+    }
+}
+
+impl From<NoMemory> for RunFault {
+    fn from(_fault: NoMemory) -> RunFault {
+        RunFault::Memory
+    }
+}
+
+/// The exit status of a run.
+///
+/// <details><summary>Contract</summary>
+///
+/// ```text
+/// ensures { result ≡ exit_status outcome.now }
+/// ```
+///
+/// </details>
+pub fn status_of(outcome: &Result<Verdict, RunFault>) -> u8 {
+    match outcome {
+        Ok(Verdict::AllAccepted) => 0,
+        Ok(Verdict::SomeRefused) => 1,
+        Err(RunFault::Capture(_) | RunFault::NotEdited(_)) => 3,
+        Err(RunFault::Input | RunFault::Output) => 4,
+        Err(RunFault::Memory) => 5,
+    }
+}
+
+/// How the program has answered its arguments.
+#[derive(Debug)]
+pub enum Outcome<'a> {
+    /// Standard input was read, or the arguments can't be.
+    Run {
+        /// Whether a copy was asked for.
+        is_copy: bool,
+        /// How it ended.
+        end: Result<Verdict, RunFault>,
+    },
+    /// The only file was read.
+    File {
+        /// Whether a copy was asked for.
+        is_copy: bool,
+        /// Its name.
+        name: &'a str,
+        /// How the run ended.
+        end: Result<Verdict, RunFault>,
+    },
+    /// Several captures were read: the greatest exit status of these, unless the output failed.
+    Files(Result<u8, OutputFault>),
+    /// The file can't be opened.
+    NotOpened {
+        /// Whether a copy of it was asked for.
+        is_copy: bool,
+        /// Its name.
+        name: &'a str,
+        /// Why it can't.
+        fault: OpenFault,
+    },
+    /// The text of the filter is no expression.
+    NoFilter {
+        /// Whether a copy was asked for.
+        is_copy: bool,
+        /// Why it is none.
+        error: FilterError,
+    },
+    /// The arguments ask how the program is used.
+    Help,
+    /// The arguments ask for the version.
+    Version,
+    /// The arguments are wrong.
+    Usage,
+    /// Memory for the arguments was refused.
+    NoMemory,
+}
+
+/// The line that is printed if the arguments are wrong, without its LF.
+pub const USAGE: &str =
+    "usage: ether_capture [[--plain] [--limit N] | --write [--cut-to-headers | --pop-vlan | --push-vlan TPID:ID | --set-vlan A:B]] [--select EXPR] [-c N] [FILE]..";
+
+/// What `--help` prints, without its last LF.
+pub const HELP: &str =
+    "usage: ether_capture [[--plain] [--limit N] | --write [--cut-to-headers | --pop-vlan | --push-vlan TPID:ID | --set-vlan A:B]] [--select EXPR] [-c N] [FILE]..\n\nPrints the link-layer headers of each packet of captures, pcap or pcapng: of each FILE, or of standard input.\n\n  --plain           leave out the lines of packets and the totals\n  --limit N         read N VLAN tags and SecTags of each packet at most\n  --select EXPR     only packets that match EXPR, as 'vlan 5 or arp'\n  -c N              end with the N-th of these packets, of all files together\n  --write           write the capture itself, of one FILE at most, without the other packets; faults go to standard error\n  --cut-to-headers  with --write, cut each packet where its link-layer headers end\n  --pop-vlan        with --write, take the VLAN tag after the link's header off each frame\n  --push-vlan TPID:ID\n                    with --write, put a VLAN tag after the link's header, as 0x8100:5\n  --set-vlan A:B    with --write, give the outermost VLAN tag with identifier A identifier B\n  -h, --help        print this text\n  -V, --version     print the version\n\nEXPR has these primitives, with not, and, or and parentheses:\n\n  vlan [ID], outer vlan ID, inner vlan ID, macsec, arp, ip, ip6\n  ether proto TYPE, ether src ADDR, ether dst ADDR, ether host ADDR\n  ether broadcast, ether multicast, less N, greater N, cut, refused\n\nEach says something of all headers of a packet: arp is true after any tags, too.";
+
+/// Why a packet can't be edited.
+const NOT_EDITED: &str =
+    "This packet can't be written: its block has no number of captured bytes, or it would be too long.";
+
+/// What `--version` prints, without its LF.
+pub const VERSION: &str = "ether_capture 1.0";
+
+/// Why a capture was not read to its end.
+#[derive(Clone, Copy, Debug)]
+pub enum Reason<'a> {
+    /// It can't be read further.
+    Fault(&'a CaptureFault),
+    /// The packet at this place can't be edited.
+    NotEdited(usize),
+    /// Its reader failed.
+    Input,
+    /// Memory was refused.
+    Memory,
+}
+
+impl fmt::Display for Reason<'_> {
+    fn fmt(&self, f: &mut fmt::Formatter<'_>) -> fmt::Result {
+        match self {
+            Reason::Fault(fault) => {
+                let offset = fault.offset;
+                let error = &fault.error;
+                let hint = hint(error);
+                write!(f, "byte {offset}: {error}{hint}")
+            }
+            Reason::NotEdited(offset) => write!(f, "byte {offset}: {NOT_EDITED}"),
+            Reason::Input => f.write_str("can't be read"),
+            Reason::Memory => f.write_str("out of memory"),
+        }
+    }
+}
+
+/// Why a capture can't be opened, as it follows the words that say so.
+fn reason_not_opened(fault: OpenFault) -> &'static str {
+    match fault {
+        OpenFault::NotFound => ": there is no such file",
+        OpenFault::PermissionDenied => ": permission denied",
+        OpenFault::IsADirectory => ": it is a folder",
+        OpenFault::Other => "",
+    }
+}
+
+/// A line that the program prints after the lines of a capture, or in their place.
+#[derive(Clone, Copy, Debug)]
+pub enum LastLine<'a> {
+    /// The only capture was not read to its end.
+    Stopped(Reason<'a>),
+    /// Nor was that of this name, one of several.
+    Named(&'a str, Reason<'a>),
+    /// The file of this name can't be opened.
+    NotOpened(&'a str, OpenFault),
+    /// How the program is used.
+    Help,
+    /// The version.
+    Version,
+    /// The arguments are wrong.
+    Usage,
+    /// The text of the filter is no expression.
+    NoFilter(&'a FilterError),
+}
+
+impl fmt::Display for LastLine<'_> {
+    fn fmt(&self, f: &mut fmt::Formatter<'_>) -> fmt::Result {
+        match self {
+            LastLine::Stopped(reason) => write!(f, "{reason}"),
+            LastLine::Named(name, reason) => write!(f, "{name}: {reason}"),
+            LastLine::NotOpened(name, fault) => {
+                let reason = reason_not_opened(*fault);
+                write!(f, "{name}: can't be opened{reason}")
+            }
+            LastLine::Help => write!(f, "{HELP}"),
+            LastLine::Version => write!(f, "{VERSION}"),
+            LastLine::Usage => write!(f, "{USAGE}"),
+            LastLine::NoFilter(error) => write!(f, "--select: {error}"),
+        }
+    }
+}
+
+/// The line that the program prints last, if there is one.
+///
+/// <details><summary>Contract</summary>
+///
+/// ```text
+/// ensures { option_map last_line_text result ≡ last_text outcome.now }
+/// ```
+///
+/// </details>
+pub fn last_line<'a>(outcome: &'a Outcome<'_>) -> Option<LastLine<'a>> {
+    match outcome {
+        Outcome::Run { end, .. } => last_line_of_run(end),
+        Outcome::Files(_) => None,
+        Outcome::File { name, end, .. } => last_line_of_named(name, end),
+        Outcome::NotOpened { name, fault, .. } => Some(LastLine::NotOpened(name, *fault)),
+        Outcome::NoFilter { error, .. } => Some(LastLine::NoFilter(error)),
+        Outcome::Help => Some(LastLine::Help),
+        Outcome::Version => Some(LastLine::Version),
+        Outcome::Usage => Some(LastLine::Usage),
+        Outcome::NoMemory => Some(LastLine::Stopped(Reason::Memory)),
+    }
+}
+
+/// The line that is printed after a run, if there is one.
+fn last_line_of_run(outcome: &Result<Verdict, RunFault>) -> Option<LastLine<'_>> {
+    match outcome {
+        Err(RunFault::Capture(fault)) => Some(LastLine::Stopped(Reason::Fault(fault))),
+        Err(RunFault::NotEdited(offset)) => Some(LastLine::Stopped(Reason::NotEdited(*offset))),
+        Err(RunFault::Memory) => Some(LastLine::Stopped(Reason::Memory)),
+        _ => None,
+    }
+}
+
+/// The line that is printed after a run over the only file, if there is one.
+fn last_line_of_named<'a>(
+    name: &'a str,
+    outcome: &'a Result<Verdict, RunFault>,
+) -> Option<LastLine<'a>> {
+    match outcome {
+        Err(RunFault::Input) => Some(LastLine::Named(name, Reason::Input)),
+        _ => last_line_of_run(outcome),
+    }
+}
+
+/// How a capture, one of several, has ended.
+#[derive(Debug)]
+pub enum FileEnd {
+    /// Its file can't be opened.
+    NotOpened(OpenFault),
+    /// It was read: how its run ended.
+    Read(Result<Verdict, RunFault>),
+}
+
+/// The line that is printed after the lines of a capture, one of several, if there is one.
+///
+/// <details><summary>Contract</summary>
+///
+/// ```text
+/// ensures { option_map last_line_text result ≡ text_of_file name.now end.now }
+/// ```
+///
+/// </details>
+pub fn line_of_file<'a>(name: &'a str, end: &'a FileEnd) -> Option<LastLine<'a>> {
+    match end {
+        FileEnd::NotOpened(fault) => Some(LastLine::NotOpened(name, *fault)),
+        FileEnd::Read(Err(RunFault::Capture(fault))) => Some(LastLine::Named(
+            name,
+            Reason::Fault(fault),
+        )),
+        FileEnd::Read(Err(RunFault::NotEdited(offset))) => Some(LastLine::Named(
+            name,
+            Reason::NotEdited(*offset),
+        )),
+        FileEnd::Read(Err(RunFault::Input)) => Some(LastLine::Named(name, Reason::Input)),
+        FileEnd::Read(Err(RunFault::Memory)) => Some(LastLine::Named(name, Reason::Memory)),
+        FileEnd::Read(_) => None,
+    }
+}
+
+/// The exit status of a capture, one of several.
+///
+/// <details><summary>Contract</summary>
+///
+/// ```text
+/// ensures { result ≡ status_of_file end.now }
+/// ```
+///
+/// </details>
+pub fn status_of_file(end: &FileEnd) -> u8 {
+    match end {
+        FileEnd::NotOpened(_) => status_of(&Err(RunFault::Input)),
+        FileEnd::Read(end) => status_of(end),
+    }
+}
+
+/// Tests that the last line is a message: nothing was asked for, or a copy. A message is not printed where
+/// the lines or the copy are.
+///
+/// <details><summary>Contract</summary>
+///
+/// ```text
+/// ensures { result ≡ is_message outcome.now }
+/// ```
+///
+/// </details>
+pub fn is_message(outcome: &Outcome<'_>) -> bool {
+    match outcome {
+        Outcome::Run { is_copy, .. }
+        | Outcome::File { is_copy, .. }
+        | Outcome::NotOpened { is_copy, .. }
+        | Outcome::NoFilter { is_copy, .. } => *is_copy,
+        Outcome::Files(_) | Outcome::Help | Outcome::Version => false,
+        Outcome::Usage | Outcome::NoMemory => true,
+    }
+}
+
+/// The exit status of the program, by its outcome and whether the last line was printed. It is that of failed output if
+/// there was a last line and it was not printed, unless that is a message.
+///
+/// <details><summary>Contract</summary>
+///
+/// ```text
+/// ensures { result ≡ status_of_program outcome.now is_printed }
+/// ```
+///
+/// </details>
+pub fn program_status(outcome: &Outcome<'_>, is_printed: bool) -> u8 {
+    if !is_printed && !is_message(outcome) {
+        return status_of(&Err(RunFault::Output));
+    }
+    match outcome {
+        Outcome::Run { end, .. } | Outcome::File { end, .. } => status_of(end),
+        Outcome::Files(Ok(status)) => *status,
+        Outcome::Files(Err(_)) => status_of(&Err(RunFault::Output)),
+        Outcome::NotOpened { .. } => status_of(&Err(RunFault::Input)),
+        Outcome::Help | Outcome::Version => 0,
+        Outcome::Usage | Outcome::NoFilter { .. } => 2,
+        Outcome::NoMemory => status_of(&Err(RunFault::Memory)),
+    }
+}

@@ -1,0 +1,145 @@
+//! A run: from a reader of a capture to a writer of the lines of its packets, or of a copy.
+
+use crate::ether_stream::progress::Progress;
+use crate::ether_stream::{Buffers, EditBuffer, Grow, InputBuffer, PacketCounts, RunFault, SectionTable, Task};
+use etherpeel::ether_pcap::InterfaceTable;
+use crate::ether_text::{InputReader, OutputBuffer, Sink, SliceSource, Source, Verdict};
+
+/// Reads a capture to its end, and writes what is asked for: the lines of its packets, or a copy.
+///
+/// A capture is a classic pcap file or a pcapng file. At the first file header, record or block that can't be read the run stops with
+/// [`RunFault::Capture`], and at a packet that is to be edited and can't be with [`RunFault::NotEdited`]; what is made of those before it has
+/// been written and flushed. Before each read all of it so far has been written. Any fault of the reader, an interruption too, is
+/// [`RunFault::Input`], as is a reader that never ends. Any fault of the writer, also at the closing flush, is [`RunFault::Output`], and
+/// nothing is said of how much was written. After a fault neither is called again.
+///
+/// In a copy each unit is as it was read: the file header, section headers, descriptions of interfaces and any other block, and the packets
+/// that are chosen, each edited if that is asked for. So it is a capture of the same format. Its verdict is [`Verdict::AllAccepted`].
+///
+/// If a number of packets is asked for, the run ends after the last of these, as if the capture ended there.
+///
+/// The memory for bytes that are read grows to what the longest record or block needs, 16 MiB at most. If that is refused, the run stops with
+/// [`RunFault::Memory`].
+///
+/// <details><summary>Contract</summary>
+///
+/// ```text
+/// ensures run { HasRun (task_view task.now) (R.remaining reader.old) (R.remaining reader.new)
+///     (W.contents writer.old) (W.contents writer.new) result }
+/// ensures failed { IfErr result (λ fault. OnStreamFault fault
+///     (R.can_fail ⊎ IsEndless (R.remaining reader.old) (R.remaining reader.new)) W.can_fail) }
+/// ensures flushed { IfSettled result (W.is_flushed writer.new) }
+/// ```
+///
+/// </details>
+pub fn run<B: Grow, T: SectionTable, R: Source, W: Sink>(
+    task: &Task,
+    buffers: Buffers<B, T>,
+    reader: &mut R,
+    writer: &mut W,
+) -> Result<Verdict, RunFault> {
+    let (outcome, _) = run_counted(task, buffers, reader, writer);
+    outcome
+}
+
+/// Does as [`run`], and says how many packets were read.
+///
+/// <details><summary>Contract</summary>
+///
+/// ```text
+/// ensures run { HasCounted (task_view task.now) (R.remaining reader.old) (R.remaining reader.new)
+///     (W.contents writer.old) (W.contents writer.new) result.0 result.1 }
+/// ensures failed { IfErr result.0 (λ fault. OnStreamFault fault
+///     (R.can_fail ⊎ IsEndless (R.remaining reader.old) (R.remaining reader.new)) W.can_fail) }
+/// ensures flushed { IfSettled result.0 (W.is_flushed writer.new) }
+/// ```
+///
+/// </details>
+pub fn run_counted<B: Grow, T: SectionTable, R: Source, W: Sink>(
+    task: &Task,
+    buffers: Buffers<B, T>,
+    reader: &mut R,
+    writer: &mut W,
+) -> (Result<Verdict, RunFault>, PacketCounts) {
+    let mut input = InputReader::new(reader);
+    let mut out = OutputBuffer::new(writer);
+    let Buffers {
+        input: buffer,
+        edits,
+        interfaces,
+    } = buffers;
+    let mut progress = Progress::new(task, interfaces);
+    let outcome = answer_capture(task, &mut progress, buffer, edits, &mut input, &mut out);
+    (outcome, progress.counts())
+}
+
+/// Does as [`run`] on a capture that is a slice. No read can fail, so the outcome is never [`RunFault::Input`].
+///
+/// <details><summary>Contract</summary>
+///
+/// ```text
+/// ensures run { AnswersSlice (task_view task.now) W.can_fail capture.now (W.contents writer.old) (W.contents writer.new) result }
+/// ensures flushed { IfSettled result (W.is_flushed writer.new) }
+/// ```
+///
+/// </details>
+pub fn run_slice<B: Grow, T: SectionTable, W: Sink>(
+    task: &Task,
+    buffers: Buffers<B, T>,
+    capture: &[u8],
+    writer: &mut W,
+) -> Result<Verdict, RunFault> {
+    let mut source = SliceSource::new(capture);
+    run(task, buffers, &mut source, writer)
+}
+
+/// Reads the capture to its end, and writes the text and flushes it. After a fault of the reader or the writer neither is called
+/// again.
+fn answer_capture<B: Grow, T: InterfaceTable, R: Source, W: Sink>(
+    task: &Task,
+    progress: &mut Progress<T>,
+    buffer: InputBuffer<B>,
+    edits: EditBuffer<B>,
+    input: &mut InputReader<'_, R>,
+    out: &mut OutputBuffer<'_, W>,
+) -> Result<Verdict, RunFault> {
+    let outcome = read_capture(task, progress, buffer, edits, input, out);
+    if let Ok(_) | Err(RunFault::Capture(_) | RunFault::NotEdited(_) | RunFault::Memory) = outcome {
+        out.flush()?;
+    }
+    outcome
+}
+
+/// Reads the capture to its end, and gathers what is written. What is gathered is written out before each read.
+fn read_capture<B: Grow, T: InterfaceTable, R: Source, W: Sink>(
+    task: &Task,
+    progress: &mut Progress<T>,
+    buffer: InputBuffer<B>,
+    edits: EditBuffer<B>,
+    input: &mut InputReader<'_, R>,
+    out: &mut OutputBuffer<'_, W>,
+) -> Result<Verdict, RunFault> {
+    let (mut buffer, mut edits) = (buffer, edits);
+    buffer.clear();
+    loop {
+        let Some(error) = buffer.take_units(progress, task, &mut edits, out)? else {
+            return progress.finish(task.form, out);
+        };
+        let Some(required_len) = error.required_len() else {
+            return Err(progress.fault(error));
+        };
+        out.write_out()?;
+        buffer.make_room(required_len)?;
+        if buffer.read(input, out)? == 0 {
+            if is_over(progress, &buffer) {
+                return progress.finish(task.form, out);
+            }
+            return Err(progress.fault(error));
+        }
+    }
+}
+
+/// Tests that the capture has begun, and that nothing of it is left.
+fn is_over<B: Grow, T: InterfaceTable>(progress: &Progress<T>, buffer: &InputBuffer<B>) -> bool {
+    progress.has_begun() && buffer.len() == 0
+}

@@ -1,0 +1,77 @@
+//! The options that edit VLAN tags.
+
+use etherpeel::ether_content::PacketEdit;
+use etherpeel::ether_filter::number_of;
+use etherpeel::{EtherType, VlanId};
+
+/// An edit that two numbers say, with a colon between them.
+#[derive(Clone, Copy)]
+pub(crate) enum TagEdit {
+    /// A VLAN tag is put in: its TPID and its identifier.
+    Push,
+    /// A VLAN tag gets another identifier: the one that it has, and the one that it gets.
+    Set,
+}
+
+/// The edit of a text.
+pub(crate) fn tag_edit_of(kind: TagEdit, text: &[u8]) -> Option<PacketEdit> {
+    let (first, second) = pair_of(text)?;
+    match kind {
+        TagEdit::Push => push_of(first, second),
+        TagEdit::Set => set_of(first, second),
+    }
+}
+
+/// The edit that puts in a VLAN tag, if the TPID announces one and the identifier has no more than 12 bits.
+fn push_of(tpid: u32, id: u32) -> Option<PacketEdit> {
+    if !(tpid == 0x8100 || tpid == 0x88A8 || tpid == 0x9100) {
+        return None;
+    }
+    let vlan_id = vlan_id_of(id)?;
+    Some(PacketEdit::PushVlan {
+        tpid: EtherType(tpid as u16),
+        vlan_id,
+    })
+}
+
+/// The edit that gives a VLAN tag another identifier, if both have no more than 12 bits.
+fn set_of(old: u32, new: u32) -> Option<PacketEdit> {
+    let from = vlan_id_of(old)?;
+    let to = vlan_id_of(new)?;
+    Some(PacketEdit::SetVlan { from, to })
+}
+
+/// The VLAN identifier of a number, if it has no more than 12 bits.
+fn vlan_id_of(number: u32) -> Option<VlanId> {
+    if number > 4095 {
+        return None;
+    }
+    match VlanId::try_new(number as u16) {
+        Ok(id) => Some(id),
+        Err(_) => None,
+    }
+}
+
+/// The two numbers of a text, with a colon between them.
+fn pair_of(text: &[u8]) -> Option<(u32, u32)> {
+    let (before, after) = split_at_colon(text)?;
+    let first = small_number(before)?;
+    let second = small_number(after)?;
+    Some((first, second))
+}
+
+/// The number of a text, if it has no more than 32 bits.
+pub(crate) fn small_number(text: &[u8]) -> Option<u32> {
+    match number_of(text) {
+        Some(number) => number,
+        None => None,
+    }
+}
+
+/// What is before and after the first colon.
+fn split_at_colon(text: &[u8]) -> Option<(&[u8], &[u8])> {
+    match text.iter().position(|byte| *byte == b':') {
+        Some(at) => Some((&text[..at], &text[at + 1..])),
+        None => None,
+    }
+}

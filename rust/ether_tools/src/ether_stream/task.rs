@@ -1,0 +1,125 @@
+//! What is made of a capture.
+
+use etherpeel::ether_content::{PacketEdit, selects};
+use etherpeel::ether_filter::Filter;
+use etherpeel::ether_pcap::{CapturedPacket, CopyMode};
+use std::num::NonZeroUsize;
+
+/// What is made of a capture, and for which packets.
+#[derive(Debug)]
+pub struct Task {
+    /// Which packets are chosen; all of them without a filter.
+    pub filter: Option<Filter>,
+    /// After how many of these the run ends; at the end of the capture without a number.
+    pub count: Option<NonZeroUsize>,
+    /// What is made of them.
+    pub form: Form,
+}
+
+/// What is made of the packets of a capture.
+#[derive(Clone, Copy, PartialEq, Eq, Debug)]
+pub enum Form {
+    /// Lines of text.
+    Lines(LineOptions),
+    /// A copy of the capture with these packets alone.
+    Copy {
+        /// Whether it is exact, or another capture.
+        mode: CopyMode,
+        /// How each packet is edited, if it is.
+        edit: Option<PacketEdit>,
+    },
+}
+
+/// Which lines a packet has.
+#[derive(Clone, Copy, PartialEq, Eq, Debug)]
+pub struct LineOptions {
+    /// Whether those of packets and of totals are left out.
+    pub is_plain: bool,
+    /// How many VLAN tags and SecTags are read of a packet at most; `None` for all.
+    pub limit: Option<usize>,
+    /// How many packets were before, if the capture is one of several: then it has no line of totals.
+    pub before: Option<usize>,
+}
+
+impl LineOptions {
+    /// The same for a capture after others with so many packets.
+    ///
+    /// <details><summary>Contract</summary>
+    ///
+    /// ```text
+    /// ensures { result ≡ record self { before = Some packets } }
+    /// ```
+    ///
+    /// </details>
+    pub fn after(self, packets: usize) -> LineOptions {
+        LineOptions {
+            is_plain: self.is_plain,
+            limit: self.limit,
+            before: Some(packets),
+        }
+    }
+}
+
+impl Task {
+    /// Tests that a packet is chosen.
+    ///
+    /// <details><summary>Contract</summary>
+    ///
+    /// ```text
+    /// ensures { IsTrue result ↔ IsChosen (task_view self.now).select (captured_packet_view packet.now) }
+    /// ```
+    ///
+    /// </details>
+    #[inline(always)]
+    pub fn chooses(&self, packet: &CapturedPacket<'_>) -> bool {
+        match &self.filter {
+            Some(filter) => selects(filter, packet),
+            None => true,
+        }
+    }
+
+    /// How many packets were before.
+    ///
+    /// <details><summary>Contract</summary>
+    ///
+    /// ```text
+    /// ensures { result ≡ packets_before (task_view self.now).form }
+    /// ```
+    ///
+    /// </details>
+    pub fn packets_before(&self) -> usize {
+        match self.form {
+            Form::Lines(options) => options.before.unwrap_or(0),
+            Form::Copy { .. } => 0,
+        }
+    }
+
+    /// How many packets are asked for, if their number is limited.
+    ///
+    /// <details><summary>Contract</summary>
+    ///
+    /// ```text
+    /// ensures { result ≡ (task_view self.now).count }
+    /// ```
+    ///
+    /// </details>
+    pub fn asked_for(&self) -> Option<usize> {
+        match self.count {
+            Some(count) => Some(count.get()),
+            None => None,
+        }
+    }
+
+    /// Tests that a copy is made.
+    ///
+    /// <details><summary>Contract</summary>
+    ///
+    /// ```text
+    /// ensures { result ≡ is_copy (task_view self.now).form }
+    /// ```
+    ///
+    /// </details>
+    pub fn is_copy(&self) -> bool {
+        matches!(self.form, Form::Copy { .. })
+    }
+}

@@ -1,0 +1,51 @@
+//! What a run writes to.
+
+use crate::ether_text::OutputFault;
+use std::io::Write;
+
+/// What a run writes to: any [`Write`].
+///
+/// What is proved for every sink is proved for one that can't fail, too. So whoever reports a fault has seen one, and
+/// whoever reports a flush has called it.
+pub trait Sink {
+    /// Writes all of `bytes`.
+    ///
+    /// <details><summary>Contract</summary>
+    ///
+    /// ```text
+    /// ensures ok { OnOk result (Appends (contents self.old) (contents self.new) bytes.now) }
+    /// ensures failed { OnErr result can_fail }
+    /// ```
+    ///
+    /// </details>
+    fn put(&mut self, bytes: &[u8]) -> Result<(), OutputFault>;
+
+    /// Flushes the sink.
+    ///
+    /// <details><summary>Contract</summary>
+    ///
+    /// ```text
+    /// ensures kept { Keeps (contents self.old) (contents self.new) }
+    /// ensures flushed { OnOk result (is_flushed self.new) }
+    /// ensures failed { OnErr result can_fail }
+    /// ```
+    ///
+    /// </details>
+    fn flush_all(&mut self) -> Result<(), OutputFault>;
+}
+
+impl<W: Write> Sink for W {
+    fn put(&mut self, bytes: &[u8]) -> Result<(), OutputFault> {
+        match self.write_all(bytes) {
+            Ok(()) => Ok(()),
+            Err(_) => Err(OutputFault),
+        }
+    }
+
+    fn flush_all(&mut self) -> Result<(), OutputFault> {
+        match self.flush() {
+            Ok(()) => Ok(()),
+            Err(_) => Err(OutputFault),
+        }
+    }
+}

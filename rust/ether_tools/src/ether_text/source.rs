@@ -1,0 +1,81 @@
+//! What a run reads from.
+
+use crate::ether_text::InputFault;
+use std::io::Read;
+
+/// What a run reads from: any [`Read`], or a [`SliceSource`].
+///
+/// What is proved for every source is proved for one that can't fail, too. So whoever reports a fault has seen one.
+pub trait Source {
+    /// Reads some bytes to the front of `chunk`, and returns their number: 0 at the end of the input.
+    ///
+    /// <details><summary>Contract</summary>
+    ///
+    /// ```text
+    /// ensures bound { IfOk result (λ count. count ≤ length chunk.new) }
+    /// ensures read { IfOk result
+    ///     (λ count. Consumes (remaining self.old) (remaining self.new) (take count chunk.new)) }
+    /// ensures end { IfOk result
+    ///     (λ count. count ≡ 0 → 0 < length chunk.new → IsAtEnd (remaining self.new)) }
+    /// ensures kept { OnErr result (Keeps (remaining self.old) (remaining self.new)) }
+    /// ensures failed { OnErr result can_fail }
+    /// ```
+    ///
+    /// </details>
+    fn read_some(&mut self, chunk: &mut [u8]) -> Result<usize, InputFault>;
+}
+
+impl<R: Read> Source for R {
+    fn read_some(&mut self, chunk: &mut [u8]) -> Result<usize, InputFault> {
+        match self.read(chunk) {
+            Ok(count) => Ok(count),
+            Err(_) => Err(InputFault),
+        }
+    }
+}
+
+/// The bytes of a slice, which can be read without a fault.
+///
+/// ```
+/// # use etherpeel::*;
+/// # use etherpeel::ether_peel::*;
+/// # use etherpeel::ether_sll2::*;
+/// # use etherpeel::ether_packet::*;
+/// # use etherpeel::ether_filter::*;
+/// # use etherpeel::ether_pcap::*;
+/// # use etherpeel::ether_content::*;
+/// # use ether_tools::ether_text::*;
+/// let mut source = SliceSource::new(&[1, 2, 3]);
+/// let mut chunk = [0; 2];
+/// assert_eq!(source.read_some(&mut chunk), Ok(2));
+/// assert_eq!(source.read_some(&mut chunk), Ok(1));
+/// assert_eq!(source.read_some(&mut chunk), Ok(0));
+/// ```
+pub struct SliceSource<'a> {
+    left: &'a [u8],
+}
+
+impl<'a> SliceSource<'a> {
+    /// All of `bytes`.
+    ///
+    /// <details><summary>Contract</summary>
+    ///
+    /// ```text
+    /// ensures { result.left.now ≡ bytes.now }
+    /// ```
+    ///
+    /// </details>
+    pub fn new(bytes: &'a [u8]) -> Self {
+        SliceSource { left: bytes }
+    }
+}
+
+impl Source for SliceSource<'_> {
+    fn read_some(&mut self, chunk: &mut [u8]) -> Result<usize, InputFault> {
+        let count = self.left.len().min(chunk.len());
+        let (front, rest) = self.left.split_at(count);
+        chunk[..count].copy_from_slice(front);
+        self.left = rest;
+        Ok(count)
+    }
+}

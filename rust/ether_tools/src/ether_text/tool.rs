@@ -1,0 +1,15 @@
+//! The tool as functions: lines of hexadecimal digits, each a frame, are read and answered.
+//!
+//! [`program::program`] is the whole of `ether_tool` over any arguments, [`run::run`] is a run over any reader and writer, and
+//! [`run::run_slice`] one over lines in memory.
+
+pub mod command;
+mod digit_table;
+mod line_buffer;
+mod line_loop;
+pub mod mode;
+pub mod outcome;
+pub mod parse_frame;
+pub mod program;
+pub mod run;
+mod write_answer;

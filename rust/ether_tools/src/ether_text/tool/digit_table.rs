@@ -1,0 +1,69 @@
+//! Hexadecimal digits by a table that the crate `hex` fills once.
+
+use crate::ether_text::tool::parse_frame::{MAX_FRAME_LEN, MAX_LINE_DIGITS};
+
+/// The entry of a character that is no digit.
+const NO_DIGIT: u8 = 0x80;
+
+/// The value of each character as a hexadecimal digit.
+///
+/// A line is decoded without a branch for each digit: the entries of its characters are joined, and the mark of one that is no
+/// digit remains.
+pub struct DigitTable {
+    entries: [u8; 256],
+}
+
+impl DigitTable {
+    /// The table that the crate `hex` fills.
+    pub fn new() -> Self {
+        let mut entries = [NO_DIGIT; 256];
+        for (character, value) in entries.iter_mut().enumerate() {
+            *value = entry(character as u8);
+        }
+        DigitTable { entries }
+    }
+
+    /// Does as [`frame_of`](crate::ether_text::tool::parse_frame::frame_of).
+    ///
+    /// <details><summary>Contract</summary>
+    ///
+    /// ```text
+    /// ensures within { IfSome result (λ count. count ≤ max_frame_len) }
+    /// ensures frame { IfSome result (λ count. IsFrame line.now (take count out.new)) }
+    /// ensures bad { IsNone result ↔ IsBadLine line.now }
+    /// ```
+    ///
+    /// </details>
+    pub fn frame_of(&self, line: &[u8], out: &mut [u8; MAX_FRAME_LEN]) -> Option<usize> {
+        if line.len() > MAX_LINE_DIGITS || line.len() % 2 != 0 {
+            return None;
+        }
+        let count = line.len() / 2;
+        if !self.decode(line, &mut out[..count]) {
+            return None;
+        }
+        Some(count)
+    }
+
+    /// Reads a pair of digits for each byte of `out`. Returns whether all characters are digits.
+    #[inline(always)]
+    fn decode(&self, line: &[u8], out: &mut [u8]) -> bool {
+        let mut marks = 0;
+        for (i, byte) in out.iter_mut().enumerate() {
+            let high = self.entries[usize::from(line[2 * i])];
+            let low = self.entries[usize::from(line[2 * i + 1])];
+            marks |= high | low;
+            *byte = high.wrapping_mul(16).wrapping_add(low);
+        }
+        marks < NO_DIGIT
+    }
+}
+
+/// The entry of a character: its value after a zero, if it is a digit.
+fn entry(character: u8) -> u8 {
+    let mut value = [0];
+    match hex::decode_to_slice([b'0', character].as_slice(), &mut value) {
+        Ok(()) => value[0],
+        Err(_) => NO_DIGIT,
+    }
+}

@@ -1,0 +1,113 @@
+//! How a run ends, and the exit status of each ending.
+
+pub use crate::ether_text::Verdict;
+use crate::ether_text::tool::mode::Usage;
+use crate::ether_text::{InputFault, OutputFault};
+use std::fmt;
+use thiserror::Error;
+
+/// Why a run stopped before the end of its input.
+#[derive(PartialEq, Eq, Debug, Error)]
+pub enum ToolFault {
+    /// The line of this number names no frame. Lines are counted from 1, and the count stays at
+    /// `u64::MAX`.
+    #[error("line {0}: bad line")]
+    BadLine(u64),
+    /// The reader failed, or never came to an end.
+    #[error("input failed")]
+    Input,
+    /// The writer failed.
+    #[error("output failed")]
+    Output,
+}
+
+impl From<InputFault> for ToolFault {
+    fn from(_fault: InputFault) -> ToolFault {
+        ToolFault::Input
+    }
+}
+
+impl From<OutputFault> for ToolFault {
+    fn from(_fault: OutputFault) -> ToolFault {
+        ToolFault::Output
+    }
+}
+
+/// The exit status of a run.
+///
+/// <details><summary>Contract</summary>
+///
+/// ```text
+/// ensures { result ≡ exit_status outcome.now }
+/// ```
+///
+/// </details>
+pub fn status_of(outcome: &Result<Verdict, ToolFault>) -> u8 {
+    match outcome {
+        Ok(Verdict::AllAccepted) => 0,
+        Ok(Verdict::SomeRefused) => 1,
+        Err(ToolFault::BadLine(_)) => 3,
+        Err(ToolFault::Input | ToolFault::Output) => 4,
+    }
+}
+
+/// The line that is printed if the arguments are wrong, without its LF.
+pub const USAGE: &str = "usage: ether_tool eth | fcs | sll | type XXXX | feed [limit N]";
+
+/// A line that the program prints after the lines of all frames.
+#[derive(Clone, Copy, PartialEq, Eq, Debug)]
+pub enum LastLine {
+    /// The arguments are wrong.
+    Usage,
+    /// The line of this number is no frame.
+    BadLine(u64),
+}
+
+impl fmt::Display for LastLine {
+    fn fmt(&self, f: &mut fmt::Formatter<'_>) -> fmt::Result {
+        match *self {
+            LastLine::Usage => write!(f, "{USAGE}"),
+            LastLine::BadLine(number) => write!(f, "line {number}: bad line"),
+        }
+    }
+}
+
+/// The outcome of a run, or that the arguments are wrong.
+pub type Outcome = Result<Result<Verdict, ToolFault>, Usage>;
+
+/// The line that the program prints last, if there is one.
+///
+/// <details><summary>Contract</summary>
+///
+/// ```text
+/// ensures { option_map last_line_text result ≡ last_text outcome.now }
+/// ```
+///
+/// </details>
+pub fn last_line(outcome: &Outcome) -> Option<LastLine> {
+    match outcome {
+        Ok(Err(ToolFault::BadLine(number))) => Some(LastLine::BadLine(*number)),
+        Ok(_) => None,
+        Err(Usage) => Some(LastLine::Usage),
+    }
+}
+
+/// The exit status of the program, by its outcome and whether the last line was printed. It is that of failed output if
+/// there was a last line and it was not printed.
+///
+/// <details><summary>Contract</summary>
+///
+/// ```text
+/// ensures { result ≡ status_of_program outcome.now is_printed }
+/// ```
+///
+/// </details>
+pub fn program_status(outcome: &Outcome, is_printed: bool) -> u8 {
+    if !is_printed {
+        return status_of(&Err(ToolFault::Output));
+    }
+    match outcome {
+        Ok(outcome) => status_of(outcome),
+        Err(Usage) => 2,
+    }
+}

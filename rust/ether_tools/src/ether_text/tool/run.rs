@@ -1,0 +1,145 @@
+//! A run: from a reader of lines to a writer of the text for each.
+
+use crate::ether_text::tool::command::Command;
+use crate::ether_text::tool::line_loop::LineLoop;
+use crate::ether_text::tool::mode::Mode;
+use crate::ether_text::tool::outcome::{ToolFault, Verdict};
+use crate::ether_text::{InputReader, OutputBuffer, Sink, SliceSource, Source};
+use std::io::{Read, Write};
+
+/// The room for one read.
+const CHUNK_LEN: usize = 65536;
+
+/// Reads the input to its end, and writes the text for each line as soon as the line has ended.
+///
+/// A line is a frame of up to 2,048 bytes as digits of either case. At the first line that is no
+/// frame the run stops with [`ToolFault::BadLine`]. The text for the lines before it has been
+/// written and flushed, and nothing is written for the line itself. Any fault of the reader,
+/// an interruption too, is [`ToolFault::Input`], as is a reader that never ends: the text
+/// for the lines that had ended has been written, and is not flushed. Any fault of the writer,
+/// also at the closing flush, is [`ToolFault::Output`], and nothing is said of how much was
+/// written. After a fault neither is called again. No memory is taken.
+///
+/// <details><summary>Contract</summary>
+///
+/// ```text
+/// ensures { HasRun (unlimited mode) (R.remaining reader.old) (R.remaining reader.new)
+///     (W.contents writer.old) (W.contents writer.new) result }
+/// ```
+///
+/// </details>
+pub fn run<R: Read, W: Write>(
+    mode: Mode,
+    reader: &mut R,
+    writer: &mut W,
+) -> Result<Verdict, ToolFault> {
+    run_command(Command { mode, limit: None }, reader, writer)
+}
+
+/// Does as [`run`], but of each frame reads at most `limit` VLAN tags and SecTags.
+///
+/// <details><summary>Contract</summary>
+///
+/// ```text
+/// ensures { HasRun (limited_to mode limit) (R.remaining reader.old) (R.remaining reader.new)
+///     (W.contents writer.old) (W.contents writer.new) result }
+/// ```
+///
+/// </details>
+pub fn run_limited<R: Read, W: Write>(
+    mode: Mode,
+    limit: usize,
+    reader: &mut R,
+    writer: &mut W,
+) -> Result<Verdict, ToolFault> {
+    let limit = Some(limit);
+    run_command(Command { mode, limit }, reader, writer)
+}
+
+/// Does as [`run`] on the lines of a slice, or as [`run_limited`] if there is a limit.
+///
+/// No read can fail, so the outcome is never [`ToolFault::Input`].
+///
+/// # Examples
+///
+/// ```
+/// # use etherpeel::*;
+/// # use etherpeel::ether_peel::*;
+/// # use etherpeel::ether_sll2::*;
+/// # use etherpeel::ether_packet::*;
+/// # use etherpeel::ether_filter::*;
+/// # use etherpeel::ether_pcap::*;
+/// # use etherpeel::ether_content::*;
+/// # use ether_tools::ether_text::*;
+/// # use ether_tools::ether_text::tool::*;
+/// # use ether_tools::ether_text::tool::run::*;
+/// # use arrayvec::ArrayVec;
+/// let lines = b"ffffffffffff0200000000010800\n";
+/// let mut text = ArrayVec::<u8, 128>::new();
+/// let verdict = run_slice(Mode::Eth, None, lines, &mut text);
+/// assert_eq!(verdict, Ok(Verdict::AllAccepted));
+/// assert_eq!(text.as_slice(), b"ethernet2 0 ffffffffffff 020000000001 0x0800\nrest 14 14 type 0x0800\n");
+/// ```
+///
+/// <details><summary>Contract</summary>
+///
+/// ```text
+/// ensures run { AnswersSlice (record { mode = mode; limit = limit }) W.can_fail lines.now
+///     (W.contents writer.old) (W.contents writer.new) result }
+/// ensures flushed { IfSettled result (W.is_flushed writer.new) }
+/// ```
+///
+/// </details>
+pub fn run_slice<W: Sink>(
+    mode: Mode,
+    limit: Option<usize>,
+    lines: &[u8],
+    writer: &mut W,
+) -> Result<Verdict, ToolFault> {
+    let mut source = SliceSource::new(lines);
+    run_command(Command { mode, limit }, &mut source, writer)
+}
+
+/// What [`run`], [`run_limited`] and [`run_slice`] do.
+pub(crate) fn run_command<R: Source, W: Sink>(
+    command: Command,
+    reader: &mut R,
+    writer: &mut W,
+) -> Result<Verdict, ToolFault> {
+    let mut input = InputReader::new(reader);
+    let mut out = OutputBuffer::new(writer);
+    answer_input(command, &mut input, &mut out)
+}
+
+/// Reads the input to its end, and writes the text and flushes it. After a fault of the
+/// reader or the writer neither is called again.
+fn answer_input<R: Source, W: Sink>(
+    command: Command,
+    input: &mut InputReader<'_, R>,
+    out: &mut OutputBuffer<'_, W>,
+) -> Result<Verdict, ToolFault> {
+    let outcome = read_lines(command, input, out);
+    if let Ok(_) | Err(ToolFault::BadLine(_)) = outcome {
+        out.flush()?;
+    }
+    outcome
+}
+
+/// Reads the input to its end, and gathers the text. What is gathered is written out before
+/// each read.
+fn read_lines<R: Source, W: Sink>(
+    command: Command,
+    input: &mut InputReader<'_, R>,
+    out: &mut OutputBuffer<'_, W>,
+) -> Result<Verdict, ToolFault> {
+    let mut lines = LineLoop::new();
+    let mut chunk = [0; CHUNK_LEN];
+    loop {
+        out.write_out()?;
+        let count = input.read(&mut chunk, out)?;
+        if count == 0 {
+            return lines.finish(command, out);
+        }
+        lines.take_chunk(command, &chunk[..count], out)?;
+    }
+}

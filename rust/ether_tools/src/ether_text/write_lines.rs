@@ -1,0 +1,349 @@
+//! Writes the lines of a walk: one for each unit and one for the ending, or one for the two counts of feeding it.
+//!
+//! Each is appended to the output piece by piece: through the formatter it would take twice as long.
+
+use crate::ether_text::decimals::write_decimal;
+use crate::ether_text::write_hex::{hex_address, hex_fcs, hex_long, hex_type};
+use crate::ether_text::{OutputBuffer, Sink};
+use etherpeel::ether_peel::{PeelError, PeelFault, PeelUnit, RestKind};
+use etherpeel::err::{self, LenError};
+use etherpeel::{
+    ArpPacketSlice, EtherType, Ethernet2Slice, LenSource, LinuxSllProtocolType, LinuxSllSlice,
+    MacsecHeaderSlice, MacsecPType, SingleVlanSlice,
+};
+
+/// Writes the line of a unit that starts at a place of the frame. After the unit there is left a
+/// window of `len` bytes, which is closed or open.
+///
+/// <details><summary>Contract</summary>
+///
+/// ```text
+/// ensures { Takes W.contents W.can_fail out.old (view_text start len closed unit.now ++ codes "\n") out.new }
+/// ```
+///
+/// </details>
+pub fn write_unit<W: Sink>(
+    out: &mut OutputBuffer<'_, W>,
+    start: usize,
+    len: usize,
+    closed: bool,
+    unit: &PeelUnit<'_>,
+) {
+    write_view(out, start, len, closed, unit);
+    out.append(b"\n");
+}
+
+/// Writes the text of a unit.
+#[inline(always)]
+fn write_view<W: Sink>(
+    out: &mut OutputBuffer<'_, W>,
+    start: usize,
+    len: usize,
+    closed: bool,
+    unit: &PeelUnit<'_>,
+) {
+    match unit {
+        PeelUnit::Ethernet2(slice) => write_ethernet2(out, start, slice),
+        PeelUnit::LinuxSll(slice) => write_linux_sll(out, start, slice),
+        PeelUnit::Vlan(slice) => write_vlan(out, start, slice),
+        PeelUnit::Macsec(slice) => write_macsec(out, start, &slice.header, len, closed),
+        PeelUnit::Arp(slice) => write_arp(out, start, slice),
+    }
+}
+
+/// Writes the text of an Ethernet II header.
+#[inline(always)]
+fn write_ethernet2<W: Sink>(out: &mut OutputBuffer<'_, W>, start: usize, slice: &Ethernet2Slice<'_>) {
+    out.append(b"ethernet2 ");
+    write_decimal(out, start);
+    out.append_array(ethernet2_fields(slice));
+    write_fcs(out, slice.fcs());
+}
+
+/// The digits of both addresses and of the ether type, each after a space.
+#[inline(always)]
+fn ethernet2_fields(slice: &Ethernet2Slice<'_>) -> [u8; 33] {
+    let d = hex_address(slice.destination());
+    let s = hex_address(slice.source());
+    let t = hex_type(slice.ether_type());
+    [
+        b' ', d[0], d[1], d[2], d[3], d[4], d[5], d[6], d[7], d[8], d[9], d[10], d[11], b' ', s[0],
+        s[1], s[2], s[3], s[4], s[5], s[6], s[7], s[8], s[9], s[10], s[11], b' ', t[0], t[1], t[2],
+        t[3], t[4], t[5],
+    ]
+}
+
+/// Writes what a frame check sequence adds to the text of an Ethernet II header.
+#[inline(always)]
+fn write_fcs<W: Sink>(out: &mut OutputBuffer<'_, W>, fcs: Option<[u8; 4]>) {
+    if let Some(fcs) = fcs {
+        out.append(b" fcs ");
+        out.append_array(hex_fcs(fcs));
+    }
+}
+
+/// Writes the text of a header of Linux cooked capture.
+fn write_linux_sll<W: Sink>(out: &mut OutputBuffer<'_, W>, start: usize, slice: &LinuxSllSlice<'_>) {
+    let header = slice.header_slice();
+    write_number(out, b"linux_sll ", start);
+    write_number(out, b" packet ", usize::from(packet_type_of(header)));
+    write_number(out, b" hw ", usize::from(slice.arp_hardware_type().0));
+    write_number(
+        out,
+        b" alen ",
+        usize::from(slice.sender_address_valid_length()),
+    );
+    out.append(b" addr ");
+    out.append(&hex_long(slice.sender_address_full()));
+    out.append(b" ");
+    out.append(&hex_type(EtherType(protocol_of(header))));
+}
+
+/// The number of the packet type in the bytes of a header of Linux cooked capture.
+fn packet_type_of(header: &[u8]) -> u16 {
+    u16::from_be_bytes([header[0], header[1]])
+}
+
+/// The number of the protocol type in the bytes of a header of Linux cooked capture.
+fn protocol_of(header: &[u8]) -> u16 {
+    u16::from_be_bytes([header[14], header[15]])
+}
+
+/// Writes the text of a VLAN tag.
+#[inline(always)]
+fn write_vlan<W: Sink>(out: &mut OutputBuffer<'_, W>, start: usize, slice: &SingleVlanSlice<'_>) {
+    out.append(b"vlan ");
+    write_decimal(out, start);
+    out.append(b" pcp ");
+    write_decimal(out, usize::from(slice.priority_code_point().value()));
+    out.append(b" dei ");
+    write_decimal(out, usize::from(slice.drop_eligible_indicator()));
+    out.append(b" vid ");
+    write_decimal(out, usize::from(slice.vlan_identifier().value()));
+    out.append(b" ");
+    out.append_array(hex_type(slice.ether_type()));
+}
+
+/// Writes the text of a MACsec SecTag, and of the window after it.
+fn write_macsec<W: Sink>(
+    out: &mut OutputBuffer<'_, W>,
+    start: usize,
+    tag: &MacsecHeaderSlice<'_>,
+    len: usize,
+    closed: bool,
+) {
+    write_number(out, b"macsec ", start);
+    out.append(b" ");
+    write_payload_type(out, tag.ptype());
+    write_number(out, b" es ", usize::from(tag.endstation_id()));
+    write_number(out, b" scb ", usize::from(tag.tci_scb()));
+    write_number(out, b" an ", usize::from(tag.an().value()));
+    write_number(out, b" sl ", usize::from(tag.short_len().value()));
+    write_number(out, b" pn ", tag.packet_nr() as usize);
+    out.append(b" sci ");
+    write_sci(out, tag.sci());
+    write_number(out, b" window ", len);
+    out.append(b" ");
+    out.append(mark_of(closed).as_bytes());
+}
+
+/// Writes the text of the payload type of a SecTag.
+fn write_payload_type<W: Sink>(out: &mut OutputBuffer<'_, W>, ptype: MacsecPType) {
+    match ptype {
+        MacsecPType::Unmodified(ether_type) => {
+            out.append(b"unmodified ");
+            out.append(&hex_type(ether_type));
+        }
+        MacsecPType::Modified => out.append(b"modified"),
+        MacsecPType::Encrypted => out.append(b"encrypted"),
+        MacsecPType::EncryptedUnmodified => out.append(b"encrypted_unmodified"),
+    }
+}
+
+/// Writes the digits of a secure channel identifier, or a hyphen if there is none.
+fn write_sci<W: Sink>(out: &mut OutputBuffer<'_, W>, sci: Option<u64>) {
+    match sci {
+        Some(sci) => out.append(&hex_long(sci.to_be_bytes())),
+        None => out.append(b"-"),
+    }
+}
+
+/// Writes the text of an ARP packet.
+fn write_arp<W: Sink>(out: &mut OutputBuffer<'_, W>, start: usize, slice: &ArpPacketSlice<'_>) {
+    write_number(out, b"arp ", start);
+    write_number(out, b" hw ", usize::from(slice.hw_addr_type().0));
+    out.append(b" proto ");
+    out.append_array(hex_type(slice.proto_addr_type()));
+    write_number(out, b" hlen ", usize::from(slice.hw_addr_size()));
+    write_number(out, b" plen ", usize::from(slice.proto_addr_size()));
+    write_number(out, b" op ", usize::from(slice.operation().0));
+}
+
+/// Writes the line of what is left of a frame that was accepted: from a start to an end, and what it
+/// is announced as.
+///
+/// <details><summary>Contract</summary>
+///
+/// ```text
+/// ensures { Takes W.contents W.can_fail out.old (rest_view_text start end kind ++ codes "\n") out.new }
+/// ```
+///
+/// </details>
+#[inline(always)]
+pub fn write_rest<W: Sink>(out: &mut OutputBuffer<'_, W>, start: usize, end: usize, kind: RestKind) {
+    out.append(b"rest ");
+    write_decimal(out, start);
+    out.append(b" ");
+    write_decimal(out, end);
+    write_kind(out, kind);
+    out.append(b"\n");
+}
+
+/// Writes a space, and what a window is announced as.
+#[inline(always)]
+fn write_kind<W: Sink>(out: &mut OutputBuffer<'_, W>, kind: RestKind) {
+    match kind {
+        RestKind::Start => out.append(b" "),
+        RestKind::EtherType(ether_type) => {
+            out.append(b" type ");
+            out.append_array(hex_type(ether_type));
+        }
+        RestKind::Sll(protocol) => write_protocol(out, protocol),
+        RestKind::Sealed => out.append(b" sealed"),
+        RestKind::AfterArp => out.append(b" after_arp"),
+    }
+}
+
+/// Writes a space, and the protocol of a cooked capture that has no ether type.
+fn write_protocol<W: Sink>(out: &mut OutputBuffer<'_, W>, protocol: LinuxSllProtocolType) {
+    match protocol {
+        LinuxSllProtocolType::Ignored(number) => {
+            out.append(b" sll ignored ");
+            out.append(&hex_type(EtherType(number)));
+        }
+        LinuxSllProtocolType::NetlinkProtocolType(number) => {
+            out.append(b" sll netlink ");
+            out.append(&hex_type(EtherType(number)));
+        }
+        LinuxSllProtocolType::GenericRoutingEncapsulationProtocolType(number) => {
+            out.append(b" sll gre ");
+            out.append(&hex_type(EtherType(number)));
+        }
+        LinuxSllProtocolType::EtherType(_) | LinuxSllProtocolType::LinuxNonstandardEtherType(_) =>
+            out.append(b" "),
+    }
+}
+
+/// Writes the line of a walk that is fed: how often it asks for more bytes, and how many it takes.
+///
+/// <details><summary>Contract</summary>
+///
+/// ```text
+/// ensures { Takes W.contents W.can_fail out.old (feed_text refusals taken ++ codes "\n") out.new }
+/// ```
+///
+/// </details>
+pub fn write_counts<W: Sink>(out: &mut OutputBuffer<'_, W>, refusals: usize, taken: usize) {
+    write_number(out, b"feed refusals ", refusals);
+    write_number(out, b" taken ", taken);
+    out.append(b"\n");
+}
+
+/// Writes the line of a frame's fault.
+///
+/// <details><summary>Contract</summary>
+///
+/// ```text
+/// ensures { Takes W.contents W.can_fail out.old (fault_view_text fault.now ++ codes "\n") out.new }
+/// ```
+///
+/// </details>
+pub fn write_fault<W: Sink>(out: &mut OutputBuffer<'_, W>, fault: &PeelFault) {
+    out.append(b"fault ");
+    write_decimal(out, fault.offset);
+    out.append(b" ");
+    out.append(mark_of(fault.closed).as_bytes());
+    out.append(b" ");
+    write_error(out, &fault.error);
+    out.append(b"\n");
+}
+
+/// Writes the text of what is wrong with a unit.
+fn write_error<W: Sink>(out: &mut OutputBuffer<'_, W>, error: &PeelError) {
+    match error {
+        PeelError::Len(error) => write_len_error(out, error),
+        PeelError::LinuxSll(error) => write_linux_sll_error(out, error),
+        PeelError::Macsec(error) => write_macsec_error(out, error),
+    }
+}
+
+/// Writes the text of a length error.
+fn write_len_error<W: Sink>(out: &mut OutputBuffer<'_, W>, error: &LenError) {
+    out.append(b"length ");
+    write_decimal(out, error.required_len);
+    out.append(b" ");
+    write_decimal(out, error.len);
+    out.append(b" ");
+    out.append(source_of(error.len_source).as_bytes());
+}
+
+/// Writes the text of what is wrong in a header of Linux cooked capture.
+fn write_linux_sll_error<W: Sink>(
+    out: &mut OutputBuffer<'_, W>,
+    error: &err::linux_sll::HeaderError,
+) {
+    match error {
+        err::linux_sll::HeaderError::UnsupportedPacketTypeField { packet_type } => {
+            write_number(out, b"content sll_packet_type ", usize::from(*packet_type));
+        }
+        err::linux_sll::HeaderError::UnsupportedArpHardwareId { arp_hardware_type } => {
+            write_number(
+                out,
+                b"content sll_hardware_type ",
+                usize::from(arp_hardware_type.0),
+            );
+        }
+    }
+}
+
+/// Writes the text of what is wrong in a MACsec SecTag.
+fn write_macsec_error<W: Sink>(out: &mut OutputBuffer<'_, W>, error: &err::macsec::HeaderError) {
+    match error {
+        err::macsec::HeaderError::UnexpectedVersion => out.append(b"content macsec_version"),
+        err::macsec::HeaderError::InvalidUnmodifiedShortLen => {
+            out.append(b"content macsec_short_len");
+        }
+    }
+}
+
+/// Writes a word with the spaces around it, and a number in decimal digits.
+///
+/// <details><summary>Contract</summary>
+///
+/// ```text
+/// ensures { Takes W.contents W.can_fail out.old (word.now ++ decimal number) out.new }
+/// ```
+///
+/// </details>
+pub fn write_number<W: Sink>(out: &mut OutputBuffer<'_, W>, word: &[u8], number: usize) {
+    out.append(word);
+    write_decimal(out, number);
+}
+
+/// The word for a window's mark.
+fn mark_of(closed: bool) -> &'static str {
+    if closed { "closed" } else { "open" }
+}
+
+/// The word for the source of a length.
+fn source_of(source: LenSource) -> &'static str {
+    match source {
+        LenSource::Slice => "slice",
+        LenSource::MacsecShortLength => "macsec_short_length",
+        LenSource::Ipv4HeaderTotalLen => "ipv4_total_len",
+        LenSource::Ipv6HeaderPayloadLen => "ipv6_payload_len",
+        LenSource::UdpHeaderLen => "udp_len",
+        LenSource::TcpHeaderLen => "tcp_len",
+        LenSource::ArpAddrLengths => "arp_addr_lengths",
+    }
+}

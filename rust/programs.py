@@ -1,0 +1,46 @@
+"""Builds the programs by cargo, and runs over them the tests that run over the proved ones.
+
+    python3 rust/programs.py
+
+What is left out is said, and why. The last line is 'N passed, M failed'.
+"""
+import os
+import re
+import subprocess
+import sys
+
+sys.dont_write_bytecode = True
+import building  # noqa: E402
+
+TOP = os.path.dirname(building.HERE)
+TESTS = {"ether_tool": ["ether_tool.py"], "ether_capture": ["ether_capture.py", "other_programs.py"]}
+
+
+def counts(name, test):
+    """How many tests of a program passed and failed; what they print besides is passed on."""
+    path = os.path.join(building.PROGRAMS, "target", "release", name)
+    ran = subprocess.run([sys.executable, f"{TOP}/tests/{test}", path], stdout=subprocess.PIPE, text=True)
+    *others, last = ran.stdout.splitlines() or [""]
+    told = re.fullmatch(r"(\d+) passed, (\d+) failed", last)
+    passed, failed = (int(told[1]), int(told[2])) if told else (0, 1)
+    print(*others, f"{name}, tests/{test}: {passed} passed, {failed} failed", sep="\n", flush=True)
+    return passed, failed + (bool(ran.returncode) and not failed)
+
+
+def main():
+    if why := building.missing(building.PROGRAMS):
+        print(f"left out: the programs that cargo builds, since {why}")
+        print("0 passed, 0 failed")
+        return 0
+    text, status = building.cargo("build", "--release", folder=building.PROGRAMS)
+    if status or re.search(r"^warning", text, re.M):
+        print(text[-4000:], "0 passed, 1 failed", sep="\n")
+        return 1
+    found = [counts(name, test) for name, tests in TESTS.items() for test in tests]
+    passed, failed = (sum(it) for it in zip(*found))
+    print(f"{passed} passed, {failed} failed")
+    return 1 if failed else 0
+
+
+if __name__ == "__main__":
+    sys.exit(main())
