@@ -50,7 +50,7 @@ CASES = [
     Case("a file that is not there", ["no/such.pcap"], CLASSIC, "no/such.pcap" + NO_FILE, 4),
     Case("no name", [""], CLASSIC, NO_FILE, 4),
     Case("a folder", [os.curdir], CLASSIC, "." + IS_FOLDER, 4),
-    Case("the version", ["--version"], CLASSIC, "ether_capture 1.0\n", 0),
+    Case("the version", ["--version"], CLASSIC, "ether_capture 3.0.0\n", 0),
     Case("a word that is no text", [b"\xff"], CLASSIC, "", 4),
     Case("a record that is cut", [], CLASSIC[:120], FIRST_LINES + record_is_cut(59, 62, 61), 3),
     Case("a record's header that is cut", [], CLASSIC[:60], FIRST_LINES + record_is_cut(59, 16, 1), 3),
@@ -390,7 +390,7 @@ def main():
     help_text, status = run(program, ["--help"], CLASSIC)
     tried.append(("the usage", (help_text[: len(USAGE)], status), (USAGE, 0)))
     tried += [(f"help by {words}", run(program, words, CLASSIC), (help_text, 0)) for words in (["-h"], ["--plain", "--help"], ["one", "-h", "two"])]
-    tried += [(f"the version by {words}", run(program, words, CLASSIC), ("ether_capture 1.0\n", 0)) for words in (["-V"], ["one", "--version"])]
+    tried += [(f"the version by {words}", run(program, words, CLASSIC), ("ether_capture 3.0.0\n", 0)) for words in (["-V"], ["one", "--version"])]
     tried += [(f"one packet by {words}", run(program, words, CLASSIC), one) for words in (["-c1"], ["-c=1"])]
     tried.append(("no memory for a block", without_memory(program, secrets(16_777_216, 16_777_216)), (ONE_LINES + "out of memory\n", 5)))
     for words in ([], ["--plain"], ["--help"], ["no/such.pcap"]):

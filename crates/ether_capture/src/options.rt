@@ -57,7 +57,7 @@ fn command<'a>(alloc: Global) -> Result<Command<'a>, AllocError>
     ensures { IfOk result (λ it. app_of it ≡ capture_app) }
 {
     let command = Command::new(alloc, "ether_capture")
-        .version("1.0")
+        .version("3.0.0")
         .arg(flag(alloc, "plain"))?
         .arg(flag(alloc, "write"))?
         .arg(flag(alloc, "cut-to-headers"))?

@@ -10,7 +10,7 @@ fn command() -> Command {
     let flag = |name: &'static str| Arg::new(name).long(name).action(ArgAction::SetTrue);
     let option = |name: &'static str| Arg::new(name).long(name).action(ArgAction::Set);
     Command::new("ether_capture")
-        .version("1.0")
+        .version("3.0.0")
         .args(["plain", "write", "cut-to-headers", "pop-vlan"].map(flag))
         .args(["push-vlan", "set-vlan", "select", "limit"].map(option))
         .arg(Arg::new("count").short('c').action(ArgAction::Set))

@@ -143,7 +143,7 @@ const NOT_EDITED: &str =
     "This packet can't be written: its block has no number of captured bytes, or it would be too long.";
 
 /// What `--version` prints, without its LF.
-pub const VERSION: &str = "ether_capture 1.0";
+pub const VERSION: &str = "ether_capture 3.0.0";
 
 /// Why a capture was not read to its end.
 #[derive(Clone, Copy, Debug)]
