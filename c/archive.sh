@@ -6,10 +6,10 @@ here=$(cd "$(dirname "$0")" && pwd)
 proved=$here/../crates/ether_c/out/libether_c.a
 if [ -n "${ETHERPEEL_LIBRARY:-}" ]; then
     made=$ETHERPEEL_LIBRARY
-elif [ -f "$proved" ] || command -v rt > /dev/null; then
+elif [ -f "$proved" ] || { [ -d "$here/../crates" ] && command -v rt > /dev/null; }; then
     made=$proved
 else
-    made=$(sh "$here/../rust/etherpeel_c/build.sh")
+    made=$(sh "$here/../rust/build.sh" etherpeel_c)/libetherpeel_c.a
 fi
 if [ ! -f "$made" ]; then
     echo "$made is missing: run 'rt lib' in crates/ether_c first" >&2
