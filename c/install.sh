@@ -1,6 +1,7 @@
 #!/bin/sh
 # install.sh PREFIX: the header, the static and the shared library, the file for pkg-config and the manual page, for all programs that
-# look below PREFIX. archive.sh says which library it is. CC names another C compiler than cc, DESTDIR a folder to put it all into.
+# look below PREFIX. archive.sh says which library it is. CC names another C compiler than cc, DESTDIR a folder to put it all into, LIBDIR
+# another folder for the libraries than PREFIX/lib.
 set -eu
 if [ $# -ne 1 ]; then
     echo "usage: install.sh PREFIX" >&2
@@ -12,12 +13,14 @@ case $1 in
 esac
 here=$(cd "$(dirname "$0")" && pwd)
 archive=$(sh "$here/archive.sh")
+libdir=${LIBDIR:-$prefix/lib}
 to=${DESTDIR:-}$prefix
+lib=${DESTDIR:-}$libdir
 install -D -m 644 "$here/etherpeel.h" "$to/include/etherpeel.h"
-install -D -m 644 "$archive" "$to/lib/libetherpeel.a"
-sh "$here/link.sh" "${CC:-cc}" "$archive" "$to/lib/libetherpeel.so.3.0.0"
-ln -sf libetherpeel.so.3.0.0 "$to/lib/libetherpeel.so.3"
-ln -sf libetherpeel.so.3 "$to/lib/libetherpeel.so"
-mkdir -p "$to/lib/pkgconfig"
-sed "s|@PREFIX@|$prefix|" "$here/etherpeel.pc.in" > "$to/lib/pkgconfig/etherpeel.pc"
+install -D -m 644 "$archive" "$lib/libetherpeel.a"
+sh "$here/link.sh" "${CC:-cc}" "$archive" "$lib/libetherpeel.so.3.0.0"
+ln -sf libetherpeel.so.3.0.0 "$lib/libetherpeel.so.3"
+ln -sf libetherpeel.so.3 "$lib/libetherpeel.so"
+mkdir -p "$lib/pkgconfig"
+sed "s|@PREFIX@|$prefix|; s|@LIBDIR@|$libdir|" "$here/etherpeel.pc.in" > "$lib/pkgconfig/etherpeel.pc"
 install -D -m 644 "$here/etherpeel.3" "$to/share/man/man3/etherpeel.3"

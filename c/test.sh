@@ -65,7 +65,7 @@ if [ -z "$cc$python" ]; then
 fi
 
 if [ "$with" = cargo ]; then
-    build="sh ../rust/etherpeel_c/build.sh"
+    build="sh ../rust/build.sh etherpeel_c"
 elif [ "$with" = proved ]; then
     build="${python:-python3} library.py"
 else

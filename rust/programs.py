@@ -4,10 +4,12 @@
 
 What is left out is said, and why. The last line is 'N passed, M failed'.
 """
+import filecmp
 import os
 import re
 import subprocess
 import sys
+import tempfile
 
 sys.dont_write_bytecode = True
 import building  # noqa: E402
@@ -27,6 +29,19 @@ def counts(name, test):
     return passed, failed + (bool(ran.returncode) and not failed)
 
 
+def completions():
+    """How many of the files of completions are as the program's options are, and how many are not."""
+    passed = failed = 0
+    with tempfile.TemporaryDirectory() as folder:
+        text, status = building.cargo("run", "--release", "--example", "completions", "--", folder, folder=building.PROGRAMS)
+        for name in sorted(os.listdir(f"{TOP}/completions")):
+            same = not status and filecmp.cmp(f"{TOP}/completions/{name}", f"{folder}/{name}", shallow=False)
+            passed, failed = passed + same, failed + (not same)
+            if not same:
+                print(f"completions/{name} is not what the example completions of rust/ether_tools writes", text[-1000:])
+    return passed, failed
+
+
 def main():
     if why := building.missing(building.PROGRAMS):
         print(f"left out: the programs that cargo builds, since {why}")
@@ -36,7 +51,7 @@ def main():
     if status or re.search(r"^warning", text, re.M):
         print(text[-4000:], "0 passed, 1 failed", sep="\n")
         return 1
-    found = [counts(name, test) for name, tests in TESTS.items() for test in tests]
+    found = [counts(name, test) for name, tests in TESTS.items() for test in tests] + [completions()]
     passed, failed = (sum(it) for it in zip(*found))
     print(f"{passed} passed, {failed} failed")
     return 1 if failed else 0

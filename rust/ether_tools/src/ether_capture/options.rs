@@ -3,18 +3,34 @@ use crate::ether_capture::asked::{Asked, Request, RequestError};
 use crate::ether_stream::{Usage, count_of, edit_of_words, limit_of};
 use crate::ether_capture::memory::Global;
 use clap::error::ErrorKind;
-use clap::{Arg, ArgAction, ArgMatches, Command};
+use clap::{Arg, ArgAction, ArgMatches, Command, ValueHint};
+
+/// Options without a value, and what the completions of shells say of them.
+const FLAGS: [(&str, &str); 4] = [
+    ("plain", "leave out the lines of packets and the totals"),
+    ("write", "write the capture itself"),
+    ("cut-to-headers", "cut each packet where its link-layer headers end"),
+    ("pop-vlan", "take the VLAN tag after the link's header off each frame"),
+];
+
+/// Options with a value.
+const OPTIONS: [(&str, &str); 4] = [
+    ("push-vlan", "put a VLAN tag after the link's header, as 0x8100:5"),
+    ("set-vlan", "give the outermost VLAN tag with identifier A identifier B, as A:B"),
+    ("select", "only packets that match an expression"),
+    ("limit", "read so many VLAN tags and SecTags of each packet at most"),
+];
 
 /// The program's arguments.
-fn command() -> Command {
-    let flag = |name: &'static str| Arg::new(name).long(name).action(ArgAction::SetTrue);
-    let option = |name: &'static str| Arg::new(name).long(name).action(ArgAction::Set);
+pub fn command() -> Command {
+    let option = |(name, help)| Arg::new(name).long(name).help(help);
+    let count = Arg::new("count").short('c').help("end with so many of these packets").action(ArgAction::Set);
+    let file = Arg::new("file").value_hint(ValueHint::FilePath).action(ArgAction::Append);
     Command::new("ether_capture")
         .version("3.0.0")
-        .args(["plain", "write", "cut-to-headers", "pop-vlan"].map(flag))
-        .args(["push-vlan", "set-vlan", "select", "limit"].map(option))
-        .arg(Arg::new("count").short('c').action(ArgAction::Set))
-        .arg(Arg::new("file").action(ArgAction::Append))
+        .args(FLAGS.map(|it| option(it).action(ArgAction::SetTrue)))
+        .args(OPTIONS.map(|it| option(it).action(ArgAction::Set)))
+        .args([count, file])
 }
 
 /// What the program's arguments ask for. The first of them is its own name.

@@ -1,0 +1,52 @@
+"""Tests the manual pages: groff, if it is there, has no warning; that of ether_capture has each option of its usage, that of ether_tool each
+word of its own, and ether-filter(7) each primitive of docs/FORMAT.md. The last line is 'N passed, M failed'."""
+import glob
+import os
+import re
+import shutil
+import subprocess
+import sys
+
+TOP = os.path.dirname(os.path.dirname(os.path.abspath(__file__)))
+counts = {True: 0, False: 0}
+
+
+def check(what, holds, said=""):
+    counts[bool(holds)] += 1
+    if not holds:
+        print(f"{what}: {said}")
+
+
+def text(path):
+    with open(os.path.join(TOP, path), encoding="utf-8") as file:
+        return file.read()
+
+
+def page(path):
+    """The words of a page, without its macros and fonts."""
+    plain = re.sub(r"\\f.", "", text(path)).replace("\\-", "-").replace('"', "")
+    return " ".join(re.sub(r"^\.[A-Z]+ ?", "", plain, flags=re.M).split())
+
+
+def main():
+    pages = [*sorted(glob.glob("man/*.[1-8]", root_dir=TOP)), "c/etherpeel.3"]
+    if shutil.which("groff"):
+        for path in pages:
+            ran = subprocess.run(["groff", "-man", "-ww", "-Tutf8", "-z", path], cwd=TOP, capture_output=True, text=True)
+            check(path, ran.returncode == 0 and not ran.stderr, ran.stderr)
+    else:
+        print("left out: the form of the manual pages, since groff was not found")
+    usage = re.search(r'"(usage: ether_capture .*?)";', text("crates/ether_stream/src/outcome.rt"))[1]
+    for option in sorted(set(re.findall(r"-[a-zA-Z-]+(?=[ ,|\]])", usage))):
+        check("ether_capture(1)", re.search(rf"(?<![\w-]){option}(?![\w-])", page("man/ether_capture.1")), f"{option} is missing")
+    for word in ("eth", "fcs", "sll", "type XXXX", "feed", "limit N"):
+        check("ether_tool(1)", word in page("man/ether_tool.1"), f"{word} is missing")
+    table = text("docs/FORMAT.md").partition("Primitive | True of a packet\n---|---\n")[2].partition("\n\n")[0]
+    for primitive in re.findall(r"`([^`]*)`", " ".join(row.partition(" | ")[0] for row in table.split("\n"))):
+        check("ether-filter(7)", primitive in page("man/ether-filter.7"), f"{primitive} is missing")
+    print(f"{counts[True]} passed, {counts[False]} failed")
+    return 1 if counts[False] else 0
+
+
+if __name__ == "__main__":
+    sys.exit(main())
