@@ -12,6 +12,11 @@ PLACES = {
     "rust/ether_tools/Cargo.toml": MANIFEST,
     "c/python/pyproject.toml": MANIFEST,
     "c/python/backend.py": r'VERSION, TAG = "etherpeel", "(.*?)"',
+    "c/python/etherpeel/__init__.py": r'^__version__ = "(.*)"',
+    "c/etherpeel.3": r'"etherpeel (\d+)\.(\d+)"',
+    "man/ether_tool.1": r'"etherpeel (\d+)\.(\d+)"',
+    "man/ether_capture.1": r'"etherpeel (\d+)\.(\d+)"',
+    "man/ether-filter.7": r'"etherpeel (\d+)\.(\d+)"',
     "c/etherpeel.pc.in": r"^Version: (.*)",
     "c/install.sh": r"libetherpeel\.so\.(\d+\.\d+\.\d+)",
     "c/etherpeel.h": r"VERSION_MAJOR (\d+)\n#define ETHERPEEL_VERSION_MINOR (\d+)\n",
@@ -20,6 +25,7 @@ PLACES = {
     "crates/ether_capture/src/options.rt": r'\.version\("(.*)"\)',
     "crates/ether_stream/src/outcome.rt": r'VERSION: &str = "ether_capture (.*)"',
     "rust/ether_tools/src/ether_capture/options.rs": r'\.version\("(.*)"\)',
+    "CITATION.cff": r"^version: (.*)",
     "CHANGELOG.md": r"^## (\d.*?)(?:$| )",
 }
 

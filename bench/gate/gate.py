@@ -1,5 +1,5 @@
 """Runs the gate: the checks of the documents and versions, the tests of the crate for cargo, `rt ci`, the tests of the programs, those of
-the calls from C, both also over what cargo builds, and those of the page. Stops at the first that fails.
+the calls from C, both also over what cargo builds, those of the page, and those of the release. Stops at the first that fails.
 
 Each line of these is passed on. After each proof a line says how many minutes have passed and how many minutes of processor time
 it took; where the wrong bodies of a crate begin, how many have passed. The last line adds up what passed. With --table FILE the
@@ -21,6 +21,7 @@ TOP = os.path.dirname(os.path.dirname(os.path.dirname(os.path.abspath(__file__))
 COMMANDS = {
     "documents": [sys.executable, "docs/reading.py"],
     "versions": [sys.executable, "tests/versions.py"],
+    "manual pages": [sys.executable, "tests/manual_pages.py"],
     "rust": [sys.executable, "rust/test.py"],
     "crates": ["rt", "ci"],
     "tool": [sys.executable, "tests/ether_tool.py", "crates/ether_tool/out/ether_tool"],
@@ -31,6 +32,7 @@ COMMANDS = {
     "C by cargo": ["sh", "c/test.sh", "cargo"],
     "programs by cargo": [sys.executable, "rust/programs.py"],
     "page": [sys.executable, "page/test.py", "--proved"],
+    "release": [sys.executable, "tests/release.py"],
 }
 PARTS = ["proof", "with tests", "wrong bodies"]
 
