@@ -1,5 +1,5 @@
 #!/bin/sh
-# install.sh PREFIX: the header, the static and the shared library, the file for pkg-config and the manual page, for all programs that
+# install.sh PREFIX: the header, the static and the shared library, the file for pkg-config and the manual pages, for all programs that
 # look below PREFIX. archive.sh says which library it is. CC names another C compiler than cc, DESTDIR a folder to put it all into, LIBDIR
 # another folder for the libraries than PREFIX/lib.
 set -eu
@@ -24,3 +24,8 @@ ln -sf libetherpeel.so.3 "$lib/libetherpeel.so"
 mkdir -p "$lib/pkgconfig"
 sed "s|@PREFIX@|$prefix|; s|@LIBDIR@|$libdir|" "$here/etherpeel.pc.in" > "$lib/pkgconfig/etherpeel.pc"
 install -D -m 644 "$here/etherpeel.3" "$to/share/man/man3/etherpeel.3"
+if command -v python3 > /dev/null; then
+    python3 -B "$here/manual.py" "$to/share/man/man3"
+else
+    echo "left out: the manual pages of the calls, since python3 was not found" >&2
+fi

@@ -6,6 +6,7 @@ import re
 import shutil
 import subprocess
 import sys
+import tempfile
 
 TOP = os.path.dirname(os.path.dirname(os.path.abspath(__file__)))
 counts = {True: 0, False: 0}
@@ -28,14 +29,23 @@ def page(path):
     return " ".join(re.sub(r"^\.[A-Z]+ ?", "", plain, flags=re.M).split())
 
 
-def main():
-    pages = [*sorted(glob.glob("man/*.[1-8]", root_dir=TOP)), "c/etherpeel.3"]
-    if shutil.which("groff"):
-        for path in pages:
-            ran = subprocess.run(["groff", "-man", "-ww", "-Tutf8", "-z", path], cwd=TOP, capture_output=True, text=True)
-            check(path, ran.returncode == 0 and not ran.stderr, ran.stderr)
-    else:
+def check_form():
+    """Runs groff over the pages, those that c/manual.py writes among them."""
+    if not shutil.which("groff"):
         print("left out: the form of the manual pages, since groff was not found")
+        return
+    with tempfile.TemporaryDirectory() as folder:
+        subprocess.run([sys.executable, "-B", f"{TOP}/c/manual.py", folder], check=True)
+        declared = set(re.findall(r"^(?:static inline )?\w+ (etherpeel_\w+)\(", text("c/etherpeel.h"), re.M))
+        check("a page for each call", declared <= {name[:-2] for name in os.listdir(folder)}, declared)
+        made = [it for it in sorted(glob.glob(f"{folder}/*.3")) if not text(it).startswith(".so ")]
+        for path in [*sorted(glob.glob(f"{TOP}/man/*.[1-8]")), f"{TOP}/c/etherpeel.3", *made]:
+            ran = subprocess.run(["groff", "-man", "-ww", "-Tutf8", "-z", path], capture_output=True, text=True)
+            check(path, ran.returncode == 0 and not ran.stderr, ran.stderr)
+
+
+def main():
+    check_form()
     usage = re.search(r'"(usage: ether_capture .*?)";', text("crates/ether_stream/src/outcome.rt"))[1]
     for option in sorted(set(re.findall(r"-[a-zA-Z-]+(?=[ ,|\]])", usage))):
         check("ether_capture(1)", re.search(rf"(?<![\w-]){option}(?![\w-])", page("man/ether_capture.1")), f"{option} is missing")
