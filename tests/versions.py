@@ -25,6 +25,7 @@ PLACES = {
     "crates/ether_capture/src/options.rt": r'\.version\("(.*)"\)',
     "crates/ether_stream/src/outcome.rt": r'VERSION: &str = "ether_capture (.*)"',
     "rust/ether_tools/src/ether_capture/options.rs": r'\.version\("(.*)"\)',
+    "page/page.html": r'content="etherpeel (.*)">',
     "CITATION.cff": r"^version: (.*)",
     "CHANGELOG.md": r"^## (\d.*?)(?:$| )",
 }

@@ -18,6 +18,11 @@ if command -v nm > "$work/shared.log" && command -v readelf > "$work/shared.log"
     needed=$(nm -D -u "$shared" | awk '$1 == "U" { sub(/@.*/, "", $2); printf "%s ", $2 }')
     if [ "$with" = cargo ]; then
         check "names that the shared one needs" "$needed" 'abort memcpy memset '
+        if command -v objdump > "$work/shared.log"; then
+            later=$(objdump -d --no-show-raw-insn "$shared" | awk '{ print $2 }' |
+                grep -E '^(popcnt|lzcnt|tzcnt|crc32|pshufb|palignr|ptest|pmulld|pblend|pextr[bdq]|pinsr[bdq]|pcmp.str.|round[sp][sd]|v[a-z])' | sort -u)
+            check "instructions beyond x86-64" "$later" ""
+        fi
     else
         check "names that the shared one needs" "$needed" 'memcpy memmove memset '
         check "names that the static one needs" "$(nm -u "$library" | awk '$1 == "U" { printf "%s ", $2 }')" '__udivti3 memcpy memmove memset '
