@@ -37,7 +37,7 @@ def prototypes(declared):
 
 
 def page(name, brief, version, head, calls):
-    """The page of a group: what stands above its calls, and each call."""
+    """The page of a group: the comment above its calls, and each call."""
     lines = [f'.TH {name.upper()} 3 "" "etherpeel {version}" "Library Functions Manual"', ".SH NAME"]
     lines += [", ".join(it[0] for it in calls) + f" \\- {brief}", ".SH SYNOPSIS", ".nf", ".B #include <etherpeel.h>", ".PP"]
     for call, _, _, declared in calls:

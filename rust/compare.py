@@ -1,4 +1,4 @@
-"""Counts instructions of the proved programs beside those of the same programs by cargo, by callgrind.
+"""Compares the instructions of the proved programs with those of the same programs by cargo, by callgrind.
 
     python3 rust/compare.py
 

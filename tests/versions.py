@@ -5,7 +5,7 @@ import sys
 
 TOP = os.path.dirname(os.path.dirname(os.path.abspath(__file__)))
 MANIFEST = r'^version = "(.*)"'
-# Where a version stands. A group is the whole version, or else there is a group for each of its numbers.
+# Where a version is stated. A group is the whole version, or else there is a group for each of its numbers.
 PLACES = {
     "rust/etherpeel/Cargo.toml": MANIFEST,
     "rust/etherpeel_c/Cargo.toml": MANIFEST,

@@ -10,7 +10,7 @@ pub struct Noted<T> {
 }
 
 impl<T> Noted<T> {
-    /// The stream, of which no call has failed.
+    /// A stream. No call on it has failed yet.
     pub fn new(stream: T) -> Self {
         Noted { stream, error: None }
     }
