@@ -77,13 +77,8 @@ fn address_at(bytes: &[u8], field: Range<usize>) -> [u8; 6]
     ensures value { result ≡ slice_range bytes.now field.start field.end }
     ensures bytes { IsBytes result }
 {
-    let at = field.start;
+    let address = &bytes[field];
     [
-        bytes[at],
-        bytes[at + 1],
-        bytes[at + 2],
-        bytes[at + 3],
-        bytes[at + 4],
-        bytes[at + 5],
+        address[0], address[1], address[2], address[3], address[4], address[5],
     ]
 }
