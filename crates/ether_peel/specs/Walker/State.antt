@@ -20,7 +20,8 @@ pub record State : Type 0 where
 
 -- ---- the representation
 
--- what is expected where a kind is shown; no start is shown once the first header was read
+-- What is expected where a kind is shown, once the first header was read. `Start` is never shown then (`IsShown`), so what stands for it
+-- means nothing.
 abbrev pub shown_of : RestKind → Next
 shown_of rests.Start = AfterArp
 shown_of (rests.EtherType t) = EtherType t.0

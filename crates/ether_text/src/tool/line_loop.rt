@@ -109,6 +109,8 @@ impl LineLoop {
 
 ghost use Rattle.std.specs.Prelude.{◌≤◌, length, take, IfSome, IfNone};
 ghost use Rattle.ether_text.specs.Tool.LineLoop.{SplitsAtLineFeed};
+ghost use Rattle.std.specs.Prelude.{◌≡◌, ◌==◌};
+ghost use Rattle.std.specs.List.{list_any};
 ghost use Rattle.ether_text.specs.Tool.Run.{HasNoLineFeed};
 
 /// The bytes before the first LF, and those after it. `None` if there is no LF.
@@ -133,12 +135,23 @@ fn blocks_len(bytes: &[u8]) -> usize
 {
     let mut len = 0;
     while bytes.len() - len >= BLOCK_LEN {
-        if bytes[len..len + BLOCK_LEN].contains(&b'\n') {
+        if has_line_feed(&bytes[len..len + BLOCK_LEN]) {
             return len;
         }
         len += BLOCK_LEN;
     }
     len
+}
+
+/// Whether a byte is an LF. All bytes are tested, which a processor does for many at once.
+fn has_line_feed(bytes: &[u8]) -> bool
+    ensures { result ≡ list_any (λ byte. byte == 10) bytes.now }
+{
+    let mut found = false;
+    for byte in bytes {
+        found |= *byte == b'\n';
+    }
+    found
 }
 
 /// Does as [`split_line`], byte by byte.

@@ -1,9 +1,10 @@
 //! The program, over any arguments, source and sink.
-ghost use Rattle.std.specs.Prelude.{◌≡◌, ◌++◌, ◌⊎◌, codes, false, None};
+ghost use Rattle.std.specs.Prelude.{◌≡◌, ◌≢◌, ◌++◌, ◌⊎◌, codes, true, false, None, IfOk, IfSome, IfNone};
 ghost use Rattle.ether_text.specs.Arguments.{words_of};
 ghost use Rattle.ether_text.specs.OutputBuffer.{Takes};
 ghost use Rattle.ether_text.specs.Run.{IsEndless};
-ghost use Rattle.ether_text.specs.Tool.Outcome.{last_line_text};
+ghost use Rattle.ether_text.specs.Tool.Outcome.{last_line_text, last_text};
+ghost use Rattle.ether_text.specs.Tool.Run.{IfSettled};
 ghost use Rattle.ether_text.specs.Tool.Program.{HasObeyed, HasServed, OnFailure, PrintsLast};
 
 use crate::tool::command::{Command, command_of_args};
@@ -24,6 +25,7 @@ pub fn program<R: Source, W: Sink>(
         (W.contents writer.old) (W.contents writer.new) result }
     ensures failed { result ≡ 4 → ((words_of args ≡ None)
         ⊎ (R.can_fail ⊎ IsEndless (R.remaining reader.old) (R.remaining reader.new))) ⊎ W.can_fail }
+    ensures flushed { result ≢ 4 → W.is_flushed writer.new }
 {
     let outcome = obey(args, reader, writer);
     let is_printed = print_last_line(&outcome, writer);
@@ -36,6 +38,7 @@ fn obey<R: Source, W: Sink>(args: io::Result<env::Args>, reader: &mut R, writer:
         (W.contents writer.old) (W.contents writer.new) result }
     ensures failed { OnFailure result ((words_of args ≡ None)
         ⊎ (R.can_fail ⊎ IsEndless (R.remaining reader.old) (R.remaining reader.new))) W.can_fail }
+    ensures flushed { IfOk result (λ run. IfSettled run (W.is_flushed writer.new)) }
 {
     let Ok(args) = args else {
         return Ok(Err(ToolFault::Input));
@@ -50,6 +53,8 @@ fn obey<R: Source, W: Sink>(args: io::Result<env::Args>, reader: &mut R, writer:
 fn print_last_line<W: Sink>(outcome: &Outcome, writer: &mut W) -> bool
     ensures printed { PrintsLast outcome.now (W.contents writer.old) (W.contents writer.new) result }
     ensures failed { result ≡ false → W.can_fail }
+    ensures flushed { IfSome (last_text outcome.now) (λ _. result ≡ true → W.is_flushed writer.new) }
+    ensures kept { IfNone (last_text outcome.now) (writer.new ≡ writer.old) }
 {
     let Some(line) = last_line(outcome) else {
         return true;

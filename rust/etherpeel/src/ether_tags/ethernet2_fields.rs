@@ -113,13 +113,8 @@ pub fn are_same(a: &[u8], b: &[u8]) -> bool {
 /// Six bytes in their order on the wire.
 #[inline]
 fn address_at(bytes: &[u8], field: Range<usize>) -> [u8; 6] {
-    let at = field.start;
+    let address = &bytes[field];
     [
-        bytes[at],
-        bytes[at + 1],
-        bytes[at + 2],
-        bytes[at + 3],
-        bytes[at + 4],
-        bytes[at + 5],
+        address[0], address[1], address[2], address[3], address[4], address[5],
     ]
 }

@@ -13,5 +13,5 @@ loop-len-preserved c =
     let size : at + 32 - at ≡ 32 = omega arith in
     let none : list_any (λ (byte : ℕ). byte == 10) (take 32 (drop at xs)) ≡ false =
     ap (λ (n : ℕ). list_any (λ (byte : ℕ). byte == 10) (take n (drop at xs))) (sym size)
-    ∙ sym c.contains.ensures.value ∙ c.if-contains.false in
+    ∙ sym c.has_line_feed.ensures ∙ c.if-has_line_feed.false in
     (omega (arith, c.loop-len-test.true), block_skipped xs at 32 c.loop-len.invariant.0 c.loop-len.invariant.1 none)
