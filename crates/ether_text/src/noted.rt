@@ -21,7 +21,7 @@ pub struct Noted<T> {
 }
 
 impl<T> Noted<T> {
-    /// The stream, of which no call has failed.
+    /// The stream. None of its calls has failed.
     pub fn new(stream: T) -> Self
         ensures stream { result.stream ≡ stream }
         ensures error { result.error ≡ None }
