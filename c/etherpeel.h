@@ -758,8 +758,8 @@ uint32_t etherpeel_push_vlan(uint32_t start, uint16_t ether_type, uint8_t *buffe
 
 /* etherpeel_set_vlan_id - sets the identifier of a VLAN tag, in place
  *
- * `index` counts the first three VLAN tags and SecTags of the frame, the outermost from 0. Only the
- * 12 bits of the identifier change.
+ * `index` counts the VLAN tags and SecTags of the frame, the outermost from 0. Only the 12 bits of
+ * the identifier change.
  * Returns ETHERPEEL_DONE, or the first of these that applies: ETHERPEEL_UNKNOWN_START;
  * ETHERPEEL_BAD_FIELD if `vid` is above 4095; ETHERPEEL_NO_TAG; ETHERPEEL_NO_VLAN.
  * In place in `frame`. Every number is in host byte order. Thread-safe; takes no memory.
@@ -820,10 +820,10 @@ uint32_t etherpeel_replace_link(uint32_t start, uint16_t ether_type, uint8_t *fr
 
 /* etherpeel_replace_link_ext - replaces a VLAN tag or SecTag, in place
  *
- * `index` counts the first three VLAN tags and SecTags of the frame, the outermost from 0. `header`
- * is of ETHERPEEL_UNIT_VLAN or ETHERPEEL_UNIT_MACSEC. It must have the ether type of the VLAN tag
- * in the frame; or the bits E, C and SC, the short length and, if there is one, the ether type of
- * the SecTag there. The two reserved bits of a SecTag become 0.
+ * `index` counts the VLAN tags and SecTags of the frame, the outermost from 0. `header` is of
+ * ETHERPEEL_UNIT_VLAN or ETHERPEEL_UNIT_MACSEC. It must have the ether type of the VLAN tag in the
+ * frame; or the bits E, C and SC, the short length and, if there is one, the ether type of the
+ * SecTag there. The two reserved bits of a SecTag become 0.
  * Returns ETHERPEEL_DONE, or the first of these that applies: ETHERPEEL_UNKNOWN_START;
  * ETHERPEEL_BAD_KIND; ETHERPEEL_BAD_FIELD if a number does not fit its field, or a flag is above 1;
  * ETHERPEEL_NO_TAG; ETHERPEEL_DIFFERS.

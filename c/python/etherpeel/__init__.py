@@ -261,8 +261,8 @@ def push_vlan(buffer: WritableBuffer, tag: Vlan, tpid: int = 0x8100, start: Star
 
 def set_vlan_id(frame: WritableBuffer, index: int, vid: int, start: Start = Start.ETHERNET2, *,
                 ether_type: Optional[int] = None) -> None:
-    """Sets the identifier of a VLAN tag, in place. The index counts the first three VLAN tags and SecTags of the frame, the
-    outermost from 0.
+    """Sets the identifier of a VLAN tag, in place. The index counts the VLAN tags and SecTags of the frame, the outermost
+    from 0.
 
     Raises `TagError` if there is none at the index, or the identifier is above 4095, and `BufferError` if the frame can't be
     written to.

@@ -69,8 +69,8 @@ def replace_link(frame: WritableBuffer, header: Union[Ethernet2, LinuxSll], star
 
 def replace_link_ext(frame: WritableBuffer, index: int, header: Union[Vlan, Macsec], start: Start = Start.ETHERNET2, *,
                      ether_type: Optional[int] = None) -> None:
-    """Replaces a VLAN tag or SecTag, in place. The index counts the first three of them, the outermost from 0. The new VLAN tag
-    must have the same ether type; the new SecTag must be encrypted and changed as the old one, have an SCI if that has one, and
+    """Replaces a VLAN tag or SecTag, in place. The index counts all of them, the outermost from 0. The new VLAN tag must
+    have the same ether type; the new SecTag must be encrypted and changed as the old one, have an SCI if that has one, and
     the same short length and ether type.
 
     Raises as `replace_link`.

@@ -1,5 +1,6 @@
 //! Headers that are replaced in place.
 ghost use Rattle.std.specs.Prelude.{◌≡◌, IfOk, IfErr};
+ghost use Rattle.ether_peel.specs.Walker.Start.{start_of};
 ghost use Rattle.ether_packet.specs.Packet.{packet_start};
 ghost use Rattle.ether_c.specs.Numbers.{done};
 ghost use Rattle.ether_c.specs.Starts.{IsUnknown, IsRefused, OfStart};
@@ -47,7 +48,7 @@ pub extern "C" fn etherpeel_replace_link_ext(
     ensures unknown { IsUnknown start ether_type
         → IsRefused result ((frame.new ≡ frame.old) × (error.new ≡ error.old)) }
     ensures given { OfStart start ether_type
-        (λ s. GivesReplaceExt (packet_start s) index header.now frame.old frame.new
+        (λ s. GivesReplaceExt (start_of s) index header.now frame.old frame.new
         error.old error.new result) }
 {
     let Some(start) = start_of(start, ether_type) else {

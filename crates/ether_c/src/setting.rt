@@ -1,7 +1,7 @@
 //! VLAN tags that are changed in place.
 ghost use Rattle.std.specs.Prelude.{◌≡◌, ◌<◌, ◌≤◌};
 ghost use Rattle.etherparse.specs.Vlan.{FitsVlan};
-ghost use Rattle.ether_packet.specs.Packet.{packet_start};
+ghost use Rattle.ether_peel.specs.Walker.Start.{start_of};
 ghost use Rattle.ether_c.specs.Starts.{IsUnknown, IsRefused, OfStart};
 ghost use Rattle.ether_c.specs.Tags.{GivesSet, GivesSetTpid, vlan_value, with_vid, with_control, bad_field};
 
@@ -24,7 +24,7 @@ pub extern "C" fn etherpeel_set_vlan_id(
         (λ _. 4096 ≤ vid → (result ≡ bad_field) × (frame.new ≡ frame.old)) }
     ensures given { OfStart start ether_type
         (λ s. vid < 4096
-        → GivesSet (packet_start s) index (with_vid vid) frame.old frame.new result) }
+        → GivesSet (start_of s) index (with_vid vid) frame.old frame.new result) }
 {
     let Some(start) = start_of(start, ether_type) else {
         return UNKNOWN_START;
@@ -54,7 +54,7 @@ pub extern "C" fn etherpeel_set_vlan_tag(
         → (result ≡ bad_field) × (frame.new ≡ frame.old)) }
     ensures given { OfStart start ether_type
         (λ s. FitsVlan (vlan_value tag.now)
-        → GivesSet (packet_start s) index (with_control (vlan_value tag.now)) frame.old frame.new result) }
+        → GivesSet (start_of s) index (with_control (vlan_value tag.now)) frame.old frame.new result) }
 {
     let Some(start) = start_of(start, ether_type) else {
         return UNKNOWN_START;
@@ -86,7 +86,7 @@ pub extern "C" fn etherpeel_set_tpid(
 ) -> u32
     ensures unknown { IsUnknown start ether_type → IsRefused result (frame.new ≡ frame.old) }
     ensures given { OfStart start ether_type
-        (λ s. GivesSetTpid (packet_start s) index tpid frame.old frame.new result) }
+        (λ s. GivesSetTpid (start_of s) index tpid frame.old frame.new result) }
 {
     let Some(start) = start_of(start, ether_type) else {
         return UNKNOWN_START;

@@ -23,6 +23,7 @@ pub mod PushedPopped
 pub mod Retyped
 pub mod SetTags
 pub mod ReachLemmas
+pub mod Reached
 pub mod FindVlan
 pub mod TagChanges
 pub mod Fronts

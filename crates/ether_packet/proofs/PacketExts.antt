@@ -1,11 +1,11 @@
 -- The extensions of a packet among its headers, and the header that replaces one of them.
 use Rattle.std.proofs.Common.{◌≡◌, ℕ, zero, suc, ◌+◌, ◌≤◌, List, [], ◌∷◌, ◌++◌, length, take, refl, sym, ap, subst, ◌∙◌, arith, Bool, true, false}
-use Rattle.std.specs.Prelude.{map, slice_get, Some, None, if◌then◌else◌}
+use Rattle.std.specs.Prelude.{map, slice_get, Some, if◌then◌else◌}
 use Rattle.std.proofs.lemmas.List.{length-take-le, map-append}
 use Rattle.std.proofs.lemmas.Option.{slice_get_within}
 use Rattle.etherparse.specs.Types.LinkExtHeader.{LinkExtHeader}
 use Rattle.etherparse.specs.Types.LinkExtHeader.TheVariants as values
-use Rattle.etherparse.specs.LinkExt.{ext_header_view, ext_slice_header}
+use Rattle.etherparse.specs.LinkExt.{ext_header_view}
 use Rattle.etherparse.specs.Bytes.{overwritten}
 use Rattle.etherparse.specs.Kind.{Kind}
 use Rattle.etherparse.specs.Kind as kinds
@@ -15,16 +15,16 @@ use Rattle.ether_peel.specs.Grammar.Window.{Window, payload}
 use Rattle.ether_peel.specs.Grammar.Expectation.{Expectation, is_extension}
 use Rattle.ether_peel.specs.Grammar.Places.{place}
 use Rattle.ether_peel.specs.Grammar.Stack.{Ending, whole, Walk}
-use Rattle.ether_packet.specs.declared.packet_ext.PacketExt.{PacketExt}
+use Rattle.ether_packet.specs.declared.finding.PlacedExt.{PlacedExt}
 use Rattle.ether_packet.specs.declared.packet_slice.PacketSlice.{PacketSlice}
 use Rattle.ether_packet.specs.declared.difference.Difference.{Difference}
 use Rattle.ether_packet.specs.declared.replace_error.ReplaceError.TheVariants as errors
 use Rattle.ether_packet.specs.PacketUnit.{PacketUnit}
-use Rattle.ether_packet.specs.Views.{header_in, header_of, exts_of, ViewsExtIf}
-use Rattle.ether_packet.specs.Packet.{packet_headers, AreUnitsAt, IsPacket}
-use Rattle.ether_packet.specs.Replacing.{Agree, Differs, ext_count, IsExtAt, TakesExt, ReplacesExt, RefusesExt, none, other}
-use Rattle.ether_packet.proofs.Places.{is_ext, missing_past}
-use Rattle.ether_packet.proofs.Getting.{ext_kept, other_dropped, viewed, unviewed}
+use Rattle.ether_packet.specs.Views.{header_in, header_of, exts_of}
+use Rattle.ether_packet.specs.Packet.{AreUnitsAt, IsPacket}
+use Rattle.ether_packet.specs.Replacing.{Agree, Differs, ext_count, IsExtAt, IsPlacedExt, TakesExt, ReplacesExt, RefusesExt, none, other}
+use Rattle.ether_packet.proofs.Places.{is_ext}
+use Rattle.ether_packet.proofs.Getting.{ext_kept, other_dropped}
 use Rattle.ether_packet.proofs.Replaced.{IsSendable, same_len, length-overwritten, header_inside, replaced_walk}
 
 -- ---- counting
@@ -140,74 +140,32 @@ begins_at start list p i x is s =
 
 -- ---- a header that replaces it
 
--- the extension that is viewed at an index
-pub record FoundExt (hs : List Header) (i : ℕ) (h : Header) (at : ℕ) : Type 0 where
-  pub front : List Header
-  pub later : List Header
-  pub found : IsExtAt hs i front h later
-  pub begins : at ≡ place 0 front
-
-pub found_ext : (start : Expectation) (list : List ℕ) (p : PacketSlice) (i : ℕ) (ext : PacketExt) (old : Header)
-    (hs : List Header) (e : Ending)
-    → IsPacket start list p → ViewsExtIf (slice_get (exts_of p.read.units) i) (Some ext)
-    → old ≡ ext_slice_header ext.slice → Walk start list hs e → FoundExt hs i old ext.offset
-found_ext start list p i ext old hs e is view value walk =
-    let w = viewed (slice_get (exts_of p.read.units) i) ext view in
-    let s = split_at p.read.units i w.0 w.1 in
-    let all = sym (is.one hs e walk).0 in
-    let here = ext_at p.read.units i w.0 w.1 s in
+-- the extension that is found at an index
+pub found_takes : (hs : List Header) (i : ℕ) (f : PlacedExt) (g : Header) → IsPlacedExt hs i f
+    → Agree g (ext_header_view f.header) → TakesExt hs i g f.at
+found_takes hs i f g p same =
     record {
-      front = map header_of s.front;
-      later = map header_of s.later;
-      found = subst (λ (l : List Header). IsExtAt l i (map header_of s.front) old (map header_of s.later)) all
-          (subst (λ (h : Header). IsExtAt (packet_headers p) i (map header_of s.front) h (map header_of s.later))
-          (sym (value ∙ w.2.header)) here);
-      begins = w.2.offset ∙ begins_at start list p i w.0 is s;
+      front = p.front;
+      replaced = ext_header_view f.header;
+      later = p.later;
+      found = p.found;
+      same = same;
+      begins = p.begins;
     }
 
-pub found_takes : (start : Expectation) (list : List ℕ) (p : PacketSlice) (i : ℕ) (ext : PacketExt) (g old : Header)
-    (hs : List Header) (e : Ending)
-    → IsPacket start list p → ViewsExtIf (slice_get (exts_of p.read.units) i) (Some ext)
-    → old ≡ ext_slice_header ext.slice → Agree g old → Walk start list hs e → TakesExt hs i g ext.offset
-found_takes start list p i ext g old hs e is view value same walk =
-    let f = found_ext start list p i ext old hs e is view value walk in
-    record { front = f.front; replaced = old; later = f.later; found = f.found; same = same; begins = f.begins }
+pub found_room : (g h : Header) (at n : ℕ) → Agree g h → at + header_len h ≤ n → at + header_len g ≤ n
+found_room g h at n same room = let len = same_len g h same in omega (arith, len, room)
 
-pub found_room : (start : Expectation) (list : List ℕ) (p : PacketSlice) (i : ℕ) (ext : PacketExt) (g old : Header)
-    → IsPacket start list p → ViewsExtIf (slice_get (exts_of p.read.units) i) (Some ext)
-    → old ≡ ext_slice_header ext.slice → Agree g old → ext.offset + header_len g ≤ length list
-found_room start list p i ext g old is view value same =
-    let t = found_takes start list p i ext g old (packet_headers p) is.ending is view value same is.walk in
-    let walk = subst (λ (l : List Header). Walk start list l is.ending) t.found.parts is.walk in
-    let inside = header_inside start list t.front t.replaced t.later is.ending walk in
-    let len = same_len g t.replaced t.same in
-    let begins = t.begins in
-    omega arith
-
-pub found_other : (start : Expectation) (list : List ℕ) (p : PacketSlice) (i : ℕ) (ext : PacketExt) (g old : Header)
-    (hs : List Header) (e : Ending)
-    → IsPacket start list p → ViewsExtIf (slice_get (exts_of p.read.units) i) (Some ext)
-    → old ≡ ext_slice_header ext.slice → (d : Difference) → Differs g old d → Walk start list hs e
-    → RefusesExt hs i g (errors.SaysOther d)
-found_other start list p i ext g old hs e is view value d differs walk =
-    let f = found_ext start list p i ext old hs e is view value walk in other f.front old f.later d f.found differs
+pub found_other : (hs : List Header) (i : ℕ) (f : PlacedExt) (g : Header) (d : Difference) → IsPlacedExt hs i f
+    → Differs g (ext_header_view f.header) d → RefusesExt hs i g (errors.SaysOther d)
+found_other hs i f g d p differs = other p.front (ext_header_view f.header) p.later d p.found differs
 
 -- none is there
-pub none_past : (start : Expectation) (list : List ℕ) (p : PacketSlice) (i n : ℕ) (hs : List Header) (e : Ending)
-    → IsPacket start list p → ViewsExtIf (slice_get (exts_of p.read.units) i) None → n ≡ length (exts_of p.read.units)
-    → Walk start list hs e → (ext_count hs ≡ n) × (ext_count hs ≤ i)
-none_past start list p i n hs e is view len walk =
-    let count : ext_count hs ≡ n = ap ext_count (is.one hs e walk).0 ∙ exts_count p.read.units ∙ sym len in
-    let past = missing_past (exts_of p.read.units) i (unviewed (slice_get (exts_of p.read.units) i) view) in
-    (count, omega arith)
-
-pub found_none : (start : Expectation) (list : List ℕ) (p : PacketSlice) (i n : ℕ) (g : Header) (hs : List Header)
-    (e : Ending)
-    → IsPacket start list p → ViewsExtIf (slice_get (exts_of p.read.units) i) None → n ≡ length (exts_of p.read.units)
-    → Walk start list hs e → RefusesExt hs i g (errors.NoLinkExt n)
-found_none start list p i n g hs e is view len walk =
-    let past = none_past start list p i n hs e is view len walk in
-    subst (λ (k : ℕ). RefusesExt hs i g (errors.NoLinkExt k)) past.0 (none past.1)
+pub found_none : (hs : List Header) (i n : ℕ) (g : Header) → (n ≡ ext_count hs) × (n ≤ i)
+    → RefusesExt hs i g (errors.NoLinkExt n)
+found_none hs i n g past =
+    subst (λ (k : ℕ). RefusesExt hs i g (errors.NoLinkExt k)) (sym past.0)
+    (none (subst (λ (k : ℕ). k ≤ i) past.0 past.1))
 
 pub sendable_ext : (ext : LinkExtHeader) → IsSendable (ext_header_view ext)
 sendable_ext (values.Vlan h) = tt

@@ -1,7 +1,6 @@
 -- A VLAN tag that is changed in place.
-use Rattle.std.proofs.Common.{◌≡◌, ℕ, ◌-◌, ◌<◌, ◌≤◌, List, [], ◌∷◌, ◌++◌, length, sym, ap, subst, ◌∙◌, arith, append_assoc, true}
-use Rattle.std.specs.Prelude.{slice_get, Some, None}
-use Rattle.etherparse.specs.LinkExt.{ext_slice_header}
+use Rattle.std.proofs.Common.{◌≡◌, ℕ, ◌-◌, ◌<◌, ◌≤◌, List, [], ◌∷◌, ◌++◌, sym, ap, subst, ◌∙◌, arith, append_assoc, true}
+use Rattle.etherparse.specs.LinkExt.{ext_header_view}
 use Rattle.etherparse.specs.Bytes.{IsBytes, spelled, overwritten}
 use Rattle.etherparse.specs.Macsec.{SecTagValue}
 use Rattle.etherparse.specs.Vlan.{VlanValue, FitsVlan, is_vlan_ether_type, vlan_bytes, vlan_view}
@@ -12,44 +11,39 @@ use Rattle.ether_peel.specs.Grammar.Places.{place}
 use Rattle.ether_peel.specs.Grammar.Stack.{Ending, Walk}
 use Rattle.ether_peel.proofs.Grammar.Places.{place-append}
 use Rattle.ether_peel.proofs.Grammar.Windows.{header_least}
-use Rattle.ether_packet.specs.declared.packet_ext.PacketExt.{PacketExt}
-use Rattle.ether_packet.specs.declared.packet_slice.PacketSlice.{PacketSlice}
+use Rattle.ether_packet.specs.declared.finding.PlacedExt.{PlacedExt}
 use Rattle.ether_packet.specs.declared.setting.PlacedVlan.{PlacedVlan}
 use Rattle.ether_packet.specs.declared.tag_error.TagError.TheVariants as errors
-use Rattle.ether_packet.specs.Views.{exts_of, ViewsExtIf}
-use Rattle.ether_packet.specs.Packet.{IsPacket}
-use Rattle.ether_packet.specs.Replacing.{IsExtAt}
+use Rattle.ether_packet.specs.Replacing.{ext_count, IsExtAt, IsPlacedExt}
 use Rattle.ether_packet.specs.Setting.{IsPlacedVlan, SetsTag, RefusesTag, none, sec_tag, SetsTpid, RefusesTpid, unannounced}
 use Rattle.ether_packet.specs.TypedLink.{with_type}
 use Rattle.ether_packet.proofs.Retyped.{retyped_walk}
 use Rattle.ether_packet.proofs.Replaced.{replaced_walk}
-use Rattle.ether_packet.proofs.PacketExts.{found_ext, none_past}
 
 -- ---- how it is found
 
-pub placed_vlan : (start : Expectation) (list : List ℕ) (p : PacketSlice) (i : ℕ) (ext : PacketExt) (f : PlacedVlan)
-    (hs : List Header) (e : Ending)
-    → IsPacket start list p → ViewsExtIf (slice_get (exts_of p.read.units) i) (Some ext)
-    → f.at ≡ ext.offset → headers.Vlan (vlan_view f.tag) ≡ ext_slice_header ext.slice → Walk start list hs e
+-- an extension that is a VLAN tag
+pub placed_vlan : (hs : List Header) (i : ℕ) (found : PlacedExt) (f : PlacedVlan)
+    → IsPlacedExt hs i found → f.at ≡ found.at → headers.Vlan (vlan_view f.tag) ≡ ext_header_view found.header
     → IsPlacedVlan hs i f
-placed_vlan start list p i ext f hs e is view at value walk =
-    let found = found_ext start list p i ext (headers.Vlan (vlan_view f.tag)) hs e is view value walk in
-    record { front = found.front; later = found.later; found = found.found; begins = at ∙ found.begins }
+placed_vlan hs i found f p at value =
+    record {
+      front = p.front;
+      later = p.later;
+      found = subst (λ (h : Header). IsExtAt hs i p.front h p.later) (sym value) p.found;
+      begins = at ∙ p.begins;
+    }
 
-pub is_sec_tag : (start : Expectation) (list : List ℕ) (p : PacketSlice) (i : ℕ) (ext : PacketExt) (m : SecTagValue)
-    (hs : List Header) (e : Ending)
-    → IsPacket start list p → ViewsExtIf (slice_get (exts_of p.read.units) i) (Some ext)
-    → headers.Macsec m ≡ ext_slice_header ext.slice → Walk start list hs e → RefusesTag hs i errors.NoVlan
-is_sec_tag start list p i ext m hs e is view value walk =
-    let f = found_ext start list p i ext (headers.Macsec m) hs e is view value walk in
-    sec_tag f.front m f.later f.found
+-- .. a SecTag
+pub is_sec_tag : (hs : List Header) (i : ℕ) (found : PlacedExt) (m : SecTagValue)
+    → IsPlacedExt hs i found → headers.Macsec m ≡ ext_header_view found.header → RefusesTag hs i errors.NoVlan
+is_sec_tag hs i found m p value =
+    sec_tag p.front m p.later (subst (λ (h : Header). IsExtAt hs i p.front h p.later) (sym value) p.found)
 
-pub no_ext : (start : Expectation) (list : List ℕ) (p : PacketSlice) (i n : ℕ) (hs : List Header) (e : Ending)
-    → IsPacket start list p → ViewsExtIf (slice_get (exts_of p.read.units) i) None → n ≡ length (exts_of p.read.units)
-    → Walk start list hs e → RefusesTag hs i (errors.NoLinkExt n)
-no_ext start list p i n hs e is view len walk =
-    let past = none_past start list p i n hs e is view len walk in
-    subst (λ (k : ℕ). RefusesTag hs i (errors.NoLinkExt k)) past.0 (none past.1)
+pub no_ext : (hs : List Header) (i n : ℕ) → (n ≡ ext_count hs) × (n ≤ i) → RefusesTag hs i (errors.NoLinkExt n)
+no_ext hs i n past =
+    subst (λ (k : ℕ). RefusesTag hs i (errors.NoLinkExt k)) (sym past.0)
+    (none (subst (λ (k : ℕ). k ≤ i) past.0 past.1))
 
 -- ---- the tag
 

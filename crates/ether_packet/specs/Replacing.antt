@@ -1,6 +1,7 @@
 -- A header of a frame that is replaced in place.
 use Rattle.std.specs.Prelude.{◌≡◌, ◌≢◌, ℕ, ◌+◌, ◌≤◌, List, [], ◌∷◌, ◌++◌, length, true, if◌then◌else◌}
 use Rattle.etherparse.specs.Bytes.{overwritten}
+use Rattle.etherparse.specs.LinkExt.{ext_header_view}
 use Rattle.etherparse.specs.Macsec.{sci_present_of}
 use Rattle.etherparse.specs.Header.{Header, kind_of, header_bytes, FitsHeader}
 use Rattle.etherparse.specs.Header as headers
@@ -8,6 +9,7 @@ use Rattle.ether_peel.specs.Grammar.Expectation.{Expectation, is_extension}
 use Rattle.ether_peel.specs.Grammar.Places.{place}
 use Rattle.ether_peel.specs.Grammar.Stack.{Ending, Walk}
 use Rattle.ether_packet.specs.declared.difference.Difference.{Difference}
+use Rattle.ether_packet.specs.declared.finding.PlacedExt.{PlacedExt}
 use Rattle.ether_packet.specs.declared.difference.Difference.TheVariants as differences
 use Rattle.ether_packet.specs.declared.replace_error.ReplaceError.{ReplaceError}
 use Rattle.ether_packet.specs.declared.replace_error.ReplaceError.TheVariants as errors
@@ -49,6 +51,13 @@ pub record IsExtAt (hs : List Header) (i : ℕ) (front : List Header) (h : Heade
   pub parts : hs ≡ front ++ h ∷ later
   pub extension : is_extension (kind_of h) ≡ true
   pub before : ext_count front ≡ i
+
+-- the extension at an index is this one, and begins at this place
+pub record IsPlacedExt (hs : List Header) (i : ℕ) (f : PlacedExt) : Type 0 where
+  pub front : List Header
+  pub later : List Header
+  pub found : IsExtAt hs i front (ext_header_view f.header) later
+  pub begins : f.at ≡ place 0 front
 
 -- The extension at an index begins at a place, and g can replace it.
 pub record TakesExt (hs : List Header) (i : ℕ) (g : Header) (at : ℕ) : Type 0 where

@@ -5,6 +5,7 @@
 mod build_error;
 mod difference;
 mod ext_places;
+mod finding;
 mod front;
 pub mod laws;
 mod packet_builder;

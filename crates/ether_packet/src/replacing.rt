@@ -3,21 +3,21 @@ ghost use Rattle.std.specs.Prelude.{ℕ, ◌≡◌, ◌+◌, ◌≤◌, List, le
 ghost use Rattle.etherparse.specs.LinkExt.{ext_header_view};
 ghost use Rattle.etherparse.specs.Header.{Header, header_len};
 ghost use Rattle.ether_peel.specs.Grammar.Stack.{Ending, Walk};
-ghost use Rattle.ether_peel.specs.Walker.Start.{start_with};
+ghost use Rattle.ether_peel.specs.Walker.Start.{start_of, start_with};
 ghost use Rattle.ether_packet.specs.Builder.{link_header};
-ghost use Rattle.ether_packet.specs.Packet.{packet_start};
 ghost use Rattle.ether_packet.specs.Replacing.{Agree, Differs, TakesExt, ReplacesExt, RefusesExt};
 ghost use Rattle.ether_packet.specs.ReplacingLink.{has_link, BeginsWithLink, LinksAgree, LinksDiffer, TakesLink, ReplacesLink, RefusesLink};
 
+use crate::finding::ext_at;
 use crate::packet_builder::{write_ext, write_link_header};
-use crate::{Difference, PacketSlice, ReplaceError};
+use crate::{Difference, ReplaceError};
 use ether_peel::Start;
 use etherparse::{Ethernet2Slice, LinkExtHeader, LinkHeader, LinuxSllSlice};
 
 /// Replaces a VLAN tag or SecTag of a frame in place by another one of the same length, which says the same about what
 /// follows it.
 ///
-/// The index counts the tags as [`PacketSlice::link_exts`] returns them, the outermost first. No other byte changes, so
+/// The index counts VLAN tags and SecTags, the outermost first. There may be any number of them. No other byte changes, so
 /// the headers of the frame are those from before with this one replaced, also if a later header is refused. A frame
 /// check sequence and an integrity check value stay as they were, and don't fit the new bytes.
 ///
@@ -51,11 +51,11 @@ pub fn replace_link_ext(
     header: &LinkExtHeader,
 ) -> Result<(), ReplaceError>
     ensures ok { IfOk result (λ _. (hs : List Header) (e : Ending)
-        → Walk (packet_start start) frame.old hs e
-        → ReplacesExt (packet_start start) frame.old hs e index
+        → Walk (start_of start) frame.old hs e
+        → ReplacesExt (start_of start) frame.old hs e index
         (ext_header_view header.now) frame.new) }
     ensures refused { IfErr result (λ error. (hs : List Header) (e : Ending)
-        → Walk (packet_start start) frame.old hs e
+        → Walk (start_of start) frame.old hs e
         → RefusesExt hs index (ext_header_view header.now) error) }
     ensures kept { OnErr result (frame.new ≡ frame.old) }
 {
@@ -72,21 +72,20 @@ fn find_ext(
     header: &LinkExtHeader,
 ) -> Result<usize, ReplaceError>
     ensures ok { IfOk result (λ at. (hs : List Header) (e : Ending)
-        → Walk (packet_start start) frame.now hs e
+        → Walk (start_of start) frame.now hs e
         → TakesExt hs index (ext_header_view header.now) at) }
     ensures room { IfOk result
         (λ at. at + header_len (ext_header_view header.now) ≤ length frame.now) }
     ensures refused { IfErr result (λ error. (hs : List Header) (e : Ending)
-        → Walk (packet_start start) frame.now hs e
+        → Walk (start_of start) frame.now hs e
         → RefusesExt hs index (ext_header_view header.now) error) }
 {
-    let packet = PacketSlice::from_slice(start, frame);
-    let Some(ext) = packet.link_ext(index) else {
-        return Err(ReplaceError::NoLinkExt(packet.link_ext_count() as u8));
-    };
-    match ext_difference(header, &ext.slice.to_header()) {
-        None => Ok(ext.offset),
-        Some(difference) => Err(ReplaceError::SaysOther(difference)),
+    match ext_at(start, frame, index) {
+        Ok(found) => match ext_difference(header, &found.header) {
+            None => Ok(found.at),
+            Some(difference) => Err(ReplaceError::SaysOther(difference)),
+        },
+        Err(count) => Err(ReplaceError::NoLinkExt(count)),
     }
 }
 

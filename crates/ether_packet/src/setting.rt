@@ -7,13 +7,13 @@ ghost use Rattle.etherparse.specs.Vlan.{vlan_view};
 ghost use Rattle.ether_peel.specs.Grammar.Stack.{Ending, Walk};
 ghost use Rattle.ether_peel.specs.Walker.Start.{start_of};
 ghost use Rattle.ether_peel.specs.Walker.UnitHeader.{unit_header};
-ghost use Rattle.ether_packet.specs.Packet.{packet_start};
 ghost use Rattle.ether_packet.specs.Replacing.{ext_count as ext_count_of};
 ghost use Rattle.ether_packet.specs.Setting.{IsPlacedVlan, LacksVlan, FindsVlan, SetsTag, RefusesTag, SetsTpid, RefusesTpid};
 
+use crate::finding::{PlacedExt, ext_at};
 use crate::packet_builder::put_at;
 use crate::typed_link::announces_vlan;
-use crate::{PacketSlice, TagError};
+use crate::TagError;
 use ether_peel::{Peel, PeelUnit, Start};
 use etherparse::{EtherType, LinkExtHeader, SingleVlanHeader, VlanId, VlanPcp};
 
@@ -33,8 +33,8 @@ struct IndexedVlan {
 
 /// The index of the outermost VLAN tag with an identifier; `None` if no VLAN tag of the frame has it.
 ///
-/// The index counts VLAN tags and SecTags, the outermost first. There may be any number of them; [`PacketSlice::link_exts`] and
-/// [`set_vlan_id`] know the first three.
+/// The index counts VLAN tags and SecTags, the outermost first. There may be any number of them;
+/// [`PacketSlice::link_exts`](crate::PacketSlice::link_exts) has the first three.
 ///
 /// # Examples
 ///
@@ -98,8 +98,8 @@ pub fn replace_vlan_id(start: Start, frame: &mut [u8], from: VlanId, to: VlanId)
 
 /// Sets the identifier of a VLAN tag of a frame in place.
 ///
-/// The index counts VLAN tags and SecTags as [`PacketSlice::link_exts`] returns them, the outermost first. All other headers
-/// and the payload stay as they were. A frame check sequence and an integrity check value stay as they were, and don't fit the
+/// The index counts VLAN tags and SecTags, the outermost first, as that of [`find_vlan`]. All other headers and the payload stay
+/// as they were. A frame check sequence and an integrity check value stay as they were, and don't fit the
 /// new bytes.
 ///
 /// # Errors
@@ -127,11 +127,11 @@ pub fn set_vlan_id(
     vlan_id: VlanId,
 ) -> Result<(), TagError>
     ensures ok { IfOk result (λ _. (hs : List Header) (e : Ending)
-        → Walk (packet_start start) frame.old hs e
-        → SetsTag (packet_start start) frame.old hs e index
+        → Walk (start_of start) frame.old hs e
+        → SetsTag (start_of start) frame.old hs e index
         (λ tag. record tag { vid = vlan_id }) frame.new) }
     ensures refused { IfErr result (λ error. (hs : List Header) (e : Ending)
-        → Walk (packet_start start) frame.old hs e → RefusesTag hs index error) }
+        → Walk (start_of start) frame.old hs e → RefusesTag hs index error) }
     ensures kept { OnErr result (frame.new ≡ frame.old) }
 {
     let found = vlan_at(start, frame, index)?;
@@ -173,12 +173,12 @@ pub fn set_vlan_tag(
     vlan_id: VlanId,
 ) -> Result<(), TagError>
     ensures ok { IfOk result (λ _. (hs : List Header) (e : Ending)
-        → Walk (packet_start start) frame.old hs e
-        → SetsTag (packet_start start) frame.old hs e index
+        → Walk (start_of start) frame.old hs e
+        → SetsTag (start_of start) frame.old hs e index
         (λ tag. record tag { pcp = pcp; dei = bit drop_eligible_indicator; vid = vlan_id })
         frame.new) }
     ensures refused { IfErr result (λ error. (hs : List Header) (e : Ending)
-        → Walk (packet_start start) frame.old hs e → RefusesTag hs index error) }
+        → Walk (start_of start) frame.old hs e → RefusesTag hs index error) }
     ensures kept { OnErr result (frame.new ≡ frame.old) }
 {
     let found = vlan_at(start, frame, index)?;
@@ -195,8 +195,7 @@ pub fn set_vlan_tag(
 /// Sets the ether type that announces a VLAN tag of a frame (TPID), in place, to 0x8100, 0x88A8 or 0x9100.
 ///
 /// It is the ether type of the header before the tag: of the link, or of another VLAN tag or SecTag. The index counts VLAN
-/// tags and SecTags as [`PacketSlice::link_exts`] returns them, the outermost first. All other headers and the payload stay as
-/// they were. A frame check sequence and an integrity check value stay as they were, and don't fit the new bytes.
+/// tags and SecTags, the outermost first, as that of [`find_vlan`]. All other headers and the payload stay as they were. A frame check sequence and an integrity check value stay as they were, and don't fit the new bytes.
 ///
 /// # Errors
 ///
@@ -225,10 +224,10 @@ pub fn set_tpid(
     tpid: EtherType,
 ) -> Result<(), TagError>
     ensures ok { IfOk result (λ _. (hs : List Header) (e : Ending)
-        → Walk (packet_start start) frame.old hs e
-        → SetsTpid (packet_start start) frame.old hs e index tpid.0 frame.new) }
+        → Walk (start_of start) frame.old hs e
+        → SetsTpid (start_of start) frame.old hs e index tpid.0 frame.new) }
     ensures refused { IfErr result (λ error. (hs : List Header) (e : Ending)
-        → Walk (packet_start start) frame.old hs e → RefusesTpid hs index tpid.0 error) }
+        → Walk (start_of start) frame.old hs e → RefusesTpid hs index tpid.0 error) }
     ensures kept { OnErr result (frame.new ≡ frame.old) }
 {
     if !announces_vlan(tpid) {
@@ -245,22 +244,18 @@ pub fn set_tpid(
 /// The VLAN tag at an index of the tags.
 fn vlan_at(start: Start, frame: &[u8], index: usize) -> Result<PlacedVlan, TagError>
     ensures ok { IfOk result (λ found. (hs : List Header) (e : Ending)
-        → Walk (packet_start start) frame.now hs e → IsPlacedVlan hs index found) }
+        → Walk (start_of start) frame.now hs e → IsPlacedVlan hs index found) }
     ensures room { IfOk result (λ found. found.at + 4 ≤ length frame.now) }
     ensures bytes { IfOk result (λ _. IsBytes frame.now) }
     ensures refused { IfErr result (λ error. (hs : List Header) (e : Ending)
-        → Walk (packet_start start) frame.now hs e → RefusesTag hs index error) }
+        → Walk (start_of start) frame.now hs e → RefusesTag hs index error) }
 {
-    let packet = PacketSlice::from_slice(start, frame);
-    match packet.link_ext(index) {
-        None => Err(TagError::NoLinkExt(packet.link_ext_count() as u8)),
-        Some(ext) => match ext.slice.to_header() {
-            LinkExtHeader::Vlan(tag) => Ok(PlacedVlan {
-                at: ext.offset,
-                tag,
-            }),
+    match ext_at(start, frame, index) {
+        Ok(PlacedExt { at, header }) => match header {
+            LinkExtHeader::Vlan(tag) => Ok(PlacedVlan { at, tag }),
             LinkExtHeader::Macsec(_) => Err(TagError::NoVlan),
         },
+        Err(count) => Err(TagError::NoLinkExt(count)),
     }
 }
 

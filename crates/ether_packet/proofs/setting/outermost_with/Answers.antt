@@ -1,7 +1,8 @@
 use Rattle.std.proofs.Common.{ap, arith}
 use Rattle.ether_peel.specs.Walker.Start.{start_of}
 use Rattle.ether_peel.specs.Walker.State.{State}
-use Rattle.ether_packet.proofs.FindVlan.{passed_first, passed_unit, passed_tag, index_inside}
+use Rattle.ether_packet.proofs.FindVlan.{passed_first, passed_unit, passed_tag}
+use Rattle.ether_packet.proofs.Reached.{index_inside}
 use Rattle.ether_packet.proofs.setting.outermost_with.Goals as goal
 
 pub loop-unit-init : goal.loop-unit-init
@@ -21,8 +22,8 @@ overflow_add-index c =
     let gives = rw c.in-Some-Ok.field-0-is at c.in-Some-Ok.ensures.steps in
     let inside =
     index_inside (start_of c.args.start) c.args.frame.now c.loop-unit.peel c.next.new.self c.new-peel.result
-    c.args.vlan_id c.loop-unit.index c.in-Some-Ok.unit (λ i. omega (arith, c.type_inv.frame i)) c.new-peel.ensures.walk
-    c.loop-unit.invariant gives in
+    c.loop-unit.index c.in-Some-Ok.unit (λ i. omega (arith, c.type_inv.frame i)) c.new-peel.ensures.walk
+    (λ hs e walk. (c.loop-unit.invariant hs e walk).reached) gives in
     omega (arith, inside, c.ext_count-index.ensures, c.offset-at.ensures.fits)
 
 pub loop-unit-preserved : goal.loop-unit-preserved

@@ -4,7 +4,7 @@ use Rattle.etherparse.specs.Bytes.{overwritten}
 use Rattle.etherparse.specs.Header.{Header}
 use Rattle.etherparse.proofs.Numbers.{spelled-high}
 use Rattle.ether_peel.specs.Grammar.Stack.{Ending, Walk}
-use Rattle.ether_packet.specs.Packet.{packet_start}
+use Rattle.ether_peel.specs.Walker.Start.{start_of}
 use Rattle.ether_packet.specs.Setting.{RefusesTpid, other_tpid, tag}
 use Rattle.ether_packet.proofs.SetTags.{begins_frame, is_retyped}
 use Rattle.ether_packet.proofs.setting.set_tpid.Goals as goal
@@ -16,7 +16,7 @@ returns-then-not-announces_vlan-clause-refused c hs e walk =
 
 pub returns-in_err-found-clause-refused : goal.returns-in_err-found-clause-refused
 returns-in_err-found-clause-refused c =
-    let h : (hs : List Header) (e : Ending) → Walk (packet_start c.args.start) c.args.frame.now hs e
+    let h : (hs : List Header) (e : Ending) → Walk (start_of c.args.start) c.args.frame.now hs e
     → RefusesTpid hs c.args.index c.args.tpid.0 c.in_err-found.field-0.0 =
     λ hs e walk.
     tag c.in_err-found.field-0.0 (sym c.announces_vlan.ensures ∙ c.if-not-announces_vlan.false)
@@ -32,7 +32,7 @@ returns-then-found-lt2-clause-refused c hs e walk =
 
 pub returns-clause-ok : goal.returns-clause-ok
 returns-clause-ok c hs e walk =
-    is_retyped (packet_start c.args.start) c.args.frame.now c.put_at.new.target hs e c.args.index c.args.tpid.0
+    is_retyped (start_of c.args.start) c.args.frame.now c.put_at.new.target hs e c.args.index c.args.tpid.0
     c.in_ok-found.found c.in_ok-found.ensures.bytes (sym c.announces_vlan.ensures ∙ c.if-not-announces_vlan.false)
     c.if-found-lt2.false (c.in_ok-found.ensures.ok hs e walk)
     (c.put_at.ensures
