@@ -993,6 +993,12 @@ static void setting(void) {
     CHECK(etherpeel_set_vlan_id(ETHERPEEL_START_ETHER_TYPE, 0x88E5, tag, sizeof tag, 1, 0xFFF) ==
           ETHERPEEL_DONE);
     CHECK(tag[8] == 0xAF && tag[9] == 0xFF && memcmp(tag, NAMED, 8) == 0 && tag[10] == NAMED[10]);
+    uint8_t four[] = {0, 1, 0x81, 0x00, 0, 2, 0x81, 0x00, 0, 3, 0x81, 0x00, 0, 4, 0x08, 0x00};
+    CHECK(etherpeel_set_vlan_id(ETHERPEEL_START_ETHER_TYPE, 0x8100, four, sizeof four, 3, 9) ==
+          ETHERPEEL_DONE);
+    CHECK(four[12] == 0 && four[13] == 9 && four[9] == 3);
+    CHECK(etherpeel_set_vlan_id(ETHERPEEL_START_ETHER_TYPE, 0x8100, four, sizeof four, 4, 9) ==
+          ETHERPEEL_NO_TAG);
 }
 
 static void setting_more(void) {

@@ -252,6 +252,9 @@ def tags_in_place():
     inner = bytearray.fromhex("88e5 0006 00000001 8100 aabbccdd eeee")
     etherpeel.set_vlan_id(memoryview(inner)[2:], 1, 0xFFF, Start.ETHER_TYPE, ether_type=0x88E5)
     check("set in a SecTag", inner.hex(), "88e5000600000001" + "8100" + "afffccddeeee")
+    four = bytearray.fromhex("0001 8100 0002 8100 0003 8100 0004 0800")
+    etherpeel.set_vlan_id(four, 3, 9, Start.ETHER_TYPE, ether_type=0x8100)
+    check("set the fourth tag", four.hex(), "0001810000028100000381000009" + "0800")
     for call, words, status in ((etherpeel.pop_vlan, (bytearray(plain),), "NO_VLAN"), (etherpeel.pop_vlan, (bytearray(3),), "NO_LINK"),
                                 (etherpeel.pop_vlan, (frame[:17],), "CUT_VLAN"), (etherpeel.push_vlan, (frame, tag, 0x0800), "BAD_TPID"),
                                 (etherpeel.push_vlan, (bytearray(3), tag), "NO_ROOM"), (etherpeel.set_vlan_id, (frame, 1, 1), "NO_TAG"),

@@ -4,6 +4,7 @@
 mod build_error;
 mod difference;
 mod ext_places;
+mod finding;
 mod front;
 mod packet_builder;
 mod packet_ext;

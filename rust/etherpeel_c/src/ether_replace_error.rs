@@ -23,7 +23,7 @@ impl EtherReplaceError {
     pub(crate) fn of(error: &ReplaceError) -> EtherReplaceError {
         let (tags, difference) = match error {
             ReplaceError::NoLink | ReplaceError::NoArp => (0, 0),
-            ReplaceError::NoLinkExt(count) => (usize::from(*count), 0),
+            ReplaceError::NoLinkExt(count) => (*count, 0),
             ReplaceError::SaysOther(difference) => (0, difference_number(*difference)),
         };
         EtherReplaceError { tags, difference }

@@ -45,7 +45,7 @@ pub unsafe extern "C" fn etherpeel_replace_link(
 /// ensures unknown { IsUnknown start ether_type
 ///     → IsRefused result ((frame.new ≡ frame.old) × (error.new ≡ error.old)) }
 /// ensures given { OfStart start ether_type
-///     (λ s. GivesReplaceExt (packet_start s) index header.now frame.old frame.new
+///     (λ s. GivesReplaceExt (start_of s) index header.now frame.old frame.new
 ///     error.old error.new result) }
 /// ```
 ///

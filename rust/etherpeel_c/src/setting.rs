@@ -15,7 +15,7 @@ use etherpeel::{EtherType, VlanId};
 ///     (λ _. 4096 ≤ vid → (result ≡ bad_field) × (frame.new ≡ frame.old)) }
 /// ensures given { OfStart start ether_type
 ///     (λ s. vid < 4096
-///     → GivesSet (packet_start s) index (with_vid vid) frame.old frame.new result) }
+///     → GivesSet (start_of s) index (with_vid vid) frame.old frame.new result) }
 /// ```
 ///
 /// </details>
@@ -53,7 +53,7 @@ pub unsafe extern "C" fn etherpeel_set_vlan_id(
 ///     → (result ≡ bad_field) × (frame.new ≡ frame.old)) }
 /// ensures given { OfStart start ether_type
 ///     (λ s. FitsVlan (vlan_value tag.now)
-///     → GivesSet (packet_start s) index (with_control (vlan_value tag.now)) frame.old frame.new result) }
+///     → GivesSet (start_of s) index (with_control (vlan_value tag.now)) frame.old frame.new result) }
 /// ```
 ///
 /// </details>
@@ -93,7 +93,7 @@ pub unsafe extern "C" fn etherpeel_set_vlan_tag(
 /// ```text
 /// ensures unknown { IsUnknown start ether_type → IsRefused result (frame.new ≡ frame.old) }
 /// ensures given { OfStart start ether_type
-///     (λ s. GivesSetTpid (packet_start s) index tpid frame.old frame.new result) }
+///     (λ s. GivesSetTpid (start_of s) index tpid frame.old frame.new result) }
 /// ```
 ///
 /// </details>

@@ -21,7 +21,7 @@ pub enum ReplaceError {
     /// The frame does not begin with the header of a link.
     NoLink,
     /// There is no VLAN tag or SecTag at the index. The frame has this many.
-    NoLinkExt(u8),
+    NoLinkExt(usize),
     /// The frame has no ARP packet.
     NoArp,
     /// The header differs from the one in the frame in this: it is of another kind, says something else about what follows

@@ -1,14 +1,15 @@
 //! Headers of a frame that are replaced in place.
 
+use crate::ether_packet::finding::ext_at;
 use crate::ether_packet::packet_builder::{write_ext, write_link_header};
-use crate::ether_packet::{Difference, PacketSlice, ReplaceError};
+use crate::ether_packet::{Difference, ReplaceError};
 use crate::ether_peel::Start;
 use crate::{Ethernet2Slice, LinkExtHeader, LinkHeader, LinuxSllSlice};
 
 /// Replaces a VLAN tag or SecTag of a frame in place by another one of the same length, which says the same about what
 /// follows it.
 ///
-/// The index counts the tags as [`PacketSlice::link_exts`] returns them, the outermost first. No other byte changes, so
+/// The index counts VLAN tags and SecTags, the outermost first. There may be any number of them. No other byte changes, so
 /// the headers of the frame are those from before with this one replaced, also if a later header is refused. A frame
 /// check sequence and an integrity check value stay as they were, and don't fit the new bytes.
 ///
@@ -44,11 +45,11 @@ use crate::{Ethernet2Slice, LinkExtHeader, LinkHeader, LinuxSllSlice};
 ///
 /// ```text
 /// ensures ok { IfOk result (λ _. (hs : List Header) (e : Ending)
-///     → Walk (packet_start start) frame.old hs e
-///     → ReplacesExt (packet_start start) frame.old hs e index
+///     → Walk (start_of start) frame.old hs e
+///     → ReplacesExt (start_of start) frame.old hs e index
 ///     (ext_header_view header.now) frame.new) }
 /// ensures refused { IfErr result (λ error. (hs : List Header) (e : Ending)
-///     → Walk (packet_start start) frame.old hs e
+///     → Walk (start_of start) frame.old hs e
 ///     → RefusesExt hs index (ext_header_view header.now) error) }
 /// ensures kept { OnErr result (frame.new ≡ frame.old) }
 /// ```
@@ -74,13 +75,12 @@ fn find_ext(
     index: usize,
     header: &LinkExtHeader,
 ) -> Result<usize, ReplaceError> {
-    let packet = PacketSlice::from_slice(start, frame);
-    let Some(ext) = packet.link_ext(index) else {
-        return Err(ReplaceError::NoLinkExt(packet.link_ext_count() as u8));
-    };
-    match ext_difference(header, &ext.slice.to_header()) {
-        None => Ok(ext.offset),
-        Some(difference) => Err(ReplaceError::SaysOther(difference)),
+    match ext_at(start, frame, index) {
+        Ok(found) => match ext_difference(header, &found.header) {
+            None => Ok(found.at),
+            Some(difference) => Err(ReplaceError::SaysOther(difference)),
+        },
+        Err(count) => Err(ReplaceError::NoLinkExt(count)),
     }
 }
 

@@ -1,8 +1,9 @@
 //! VLAN tags that are changed in place.
 
+use crate::ether_packet::finding::{PlacedExt, ext_at};
 use crate::ether_packet::packet_builder::put_at;
 use crate::ether_packet::typed_link::announces_vlan;
-use crate::ether_packet::{PacketSlice, TagError};
+use crate::ether_packet::TagError;
 use crate::ether_peel::{Peel, PeelUnit, Start};
 use crate::{EtherType, LinkExtHeader, SingleVlanHeader, VlanId, VlanPcp};
 
@@ -22,8 +23,8 @@ struct IndexedVlan {
 
 /// The index of the outermost VLAN tag with an identifier; `None` if no VLAN tag of the frame has it.
 ///
-/// The index counts VLAN tags and SecTags, the outermost first. There may be any number of them; [`PacketSlice::link_exts`] and
-/// [`set_vlan_id`] know the first three.
+/// The index counts VLAN tags and SecTags, the outermost first. There may be any number of them;
+/// [`PacketSlice::link_exts`](crate::ether_packet::PacketSlice::link_exts) has the first three.
 ///
 /// # Examples
 ///
@@ -115,8 +116,8 @@ pub fn replace_vlan_id(start: Start, frame: &mut [u8], from: VlanId, to: VlanId)
 
 /// Sets the identifier of a VLAN tag of a frame in place.
 ///
-/// The index counts VLAN tags and SecTags as [`PacketSlice::link_exts`] returns them, the outermost first. All other headers
-/// and the payload stay as they were. A frame check sequence and an integrity check value stay as they were, and don't fit the
+/// The index counts VLAN tags and SecTags, the outermost first, as that of [`find_vlan`]. All other headers and the payload stay
+/// as they were. A frame check sequence and an integrity check value stay as they were, and don't fit the
 /// new bytes.
 ///
 /// # Errors
@@ -149,11 +150,11 @@ pub fn replace_vlan_id(start: Start, frame: &mut [u8], from: VlanId, to: VlanId)
 ///
 /// ```text
 /// ensures ok { IfOk result (λ _. (hs : List Header) (e : Ending)
-///     → Walk (packet_start start) frame.old hs e
-///     → SetsTag (packet_start start) frame.old hs e index
+///     → Walk (start_of start) frame.old hs e
+///     → SetsTag (start_of start) frame.old hs e index
 ///     (λ tag. record tag { vid = vlan_id }) frame.new) }
 /// ensures refused { IfErr result (λ error. (hs : List Header) (e : Ending)
-///     → Walk (packet_start start) frame.old hs e → RefusesTag hs index error) }
+///     → Walk (start_of start) frame.old hs e → RefusesTag hs index error) }
 /// ensures kept { OnErr result (frame.new ≡ frame.old) }
 /// ```
 ///
@@ -207,12 +208,12 @@ pub fn set_vlan_id(
 ///
 /// ```text
 /// ensures ok { IfOk result (λ _. (hs : List Header) (e : Ending)
-///     → Walk (packet_start start) frame.old hs e
-///     → SetsTag (packet_start start) frame.old hs e index
+///     → Walk (start_of start) frame.old hs e
+///     → SetsTag (start_of start) frame.old hs e index
 ///     (λ tag. record tag { pcp = pcp; dei = bit drop_eligible_indicator; vid = vlan_id })
 ///     frame.new) }
 /// ensures refused { IfErr result (λ error. (hs : List Header) (e : Ending)
-///     → Walk (packet_start start) frame.old hs e → RefusesTag hs index error) }
+///     → Walk (start_of start) frame.old hs e → RefusesTag hs index error) }
 /// ensures kept { OnErr result (frame.new ≡ frame.old) }
 /// ```
 ///
@@ -240,8 +241,7 @@ pub fn set_vlan_tag(
 /// Sets the ether type that announces a VLAN tag of a frame (TPID), in place, to 0x8100, 0x88A8 or 0x9100.
 ///
 /// It is the ether type of the header before the tag: of the link, or of another VLAN tag or SecTag. The index counts VLAN
-/// tags and SecTags as [`PacketSlice::link_exts`] returns them, the outermost first. All other headers and the payload stay as
-/// they were. A frame check sequence and an integrity check value stay as they were, and don't fit the new bytes.
+/// tags and SecTags, the outermost first, as that of [`find_vlan`]. All other headers and the payload stay as they were. A frame check sequence and an integrity check value stay as they were, and don't fit the new bytes.
 ///
 /// # Errors
 ///
@@ -275,10 +275,10 @@ pub fn set_vlan_tag(
 ///
 /// ```text
 /// ensures ok { IfOk result (λ _. (hs : List Header) (e : Ending)
-///     → Walk (packet_start start) frame.old hs e
-///     → SetsTpid (packet_start start) frame.old hs e index tpid.0 frame.new) }
+///     → Walk (start_of start) frame.old hs e
+///     → SetsTpid (start_of start) frame.old hs e index tpid.0 frame.new) }
 /// ensures refused { IfErr result (λ error. (hs : List Header) (e : Ending)
-///     → Walk (packet_start start) frame.old hs e → RefusesTpid hs index tpid.0 error) }
+///     → Walk (start_of start) frame.old hs e → RefusesTpid hs index tpid.0 error) }
 /// ensures kept { OnErr result (frame.new ≡ frame.old) }
 /// ```
 ///
@@ -304,16 +304,12 @@ pub fn set_tpid(
 /// The VLAN tag at an index of the tags.
 #[inline]
 fn vlan_at(start: Start, frame: &[u8], index: usize) -> Result<PlacedVlan, TagError> {
-    let packet = PacketSlice::from_slice(start, frame);
-    match packet.link_ext(index) {
-        None => Err(TagError::NoLinkExt(packet.link_ext_count() as u8)),
-        Some(ext) => match ext.slice.to_header() {
-            LinkExtHeader::Vlan(tag) => Ok(PlacedVlan {
-                at: ext.offset,
-                tag,
-            }),
+    match ext_at(start, frame, index) {
+        Ok(PlacedExt { at, header }) => match header {
+            LinkExtHeader::Vlan(tag) => Ok(PlacedVlan { at, tag }),
             LinkExtHeader::Macsec(_) => Err(TagError::NoVlan),
         },
+        Err(count) => Err(TagError::NoLinkExt(count)),
     }
 }
 

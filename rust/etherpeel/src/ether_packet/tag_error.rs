@@ -27,7 +27,7 @@ pub enum TagError {
     /// The header of cooked capture is of another link than Ethernet, so its protocol type is not an ether type.
     HardwareType(ArpHardwareId),
     /// There is no VLAN tag or SecTag at the index. The frame has this many.
-    NoLinkExt(u8),
+    NoLinkExt(usize),
     /// There is no VLAN tag: the ether type of the link announces something else, or there is a SecTag at the index.
     NoVlan,
     /// A VLAN tag is announced after the header of the link, but it is cut short.

@@ -56,7 +56,7 @@ const UNNAMED: &[u8] = &[
 
 const NO_SCI: &[u8] = &[0x02, 0x2A, 0, 0, 0, 1, 0x08, 0x00];
 
-static ROWS: [Row; 14] = [
+static ROWS: [Row; 15] = [
     (
         "the example",
         ETH,
@@ -111,7 +111,15 @@ static ROWS: [Row; 14] = [
         &FOUR_TAGS,
         3,
         &[0, 5, 0x08, 0x00],
-        Err(ReplaceError::NoLinkExt(3)),
+        Ok((13, &[5])),
+    ),
+    (
+        "a fifth tag",
+        Start::EtherType(EtherType::VLAN_TAGGED_FRAME),
+        &FOUR_TAGS,
+        4,
+        &[0, 5, 0x08, 0x00],
+        Err(ReplaceError::NoLinkExt(4)),
     ),
     (
         "another ether type",

@@ -213,7 +213,7 @@ type Set = (
     Result<(usize, &'static [u8]), TagError>,
 );
 
-static SETS: [Set; 13] = [
+static SETS: [Set; 15] = [
     (
         "before a cut",
         ETH,
@@ -229,6 +229,22 @@ static SETS: [Set; 13] = [
         2,
         Change::VlanId,
         Ok((8, &[0x0A, 0xBC])),
+    ),
+    (
+        "the fourth",
+        TAG,
+        &FOUR_TAGS,
+        3,
+        Change::Tag(false),
+        Ok((12, &[0xEA, 0xBC])),
+    ),
+    (
+        "past the fourth",
+        TAG,
+        &FOUR_TAGS,
+        4,
+        Change::VlanId,
+        Err(TagError::NoLinkExt(4)),
     ),
     (
         "in a SecTag",

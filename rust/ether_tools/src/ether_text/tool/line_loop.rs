@@ -126,12 +126,21 @@ const BLOCK_LEN: usize = 32;
 fn blocks_len(bytes: &[u8]) -> usize {
     let mut len = 0;
     while bytes.len() - len >= BLOCK_LEN {
-        if bytes[len..len + BLOCK_LEN].contains(&b'\n') {
+        if has_line_feed(&bytes[len..len + BLOCK_LEN]) {
             return len;
         }
         len += BLOCK_LEN;
     }
     len
+}
+
+/// Whether a byte is an LF. All bytes are tested, which a processor does for many at once.
+fn has_line_feed(bytes: &[u8]) -> bool {
+    let mut found = false;
+    for byte in bytes {
+        found |= *byte == b'\n';
+    }
+    found
 }
 
 /// Does as [`split_line`], byte by byte.

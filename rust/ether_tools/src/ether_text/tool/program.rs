@@ -17,6 +17,7 @@ use std::{env, io};
 ///     (W.contents writer.old) (W.contents writer.new) result }
 /// ensures failed { result ≡ 4 → ((words_of args ≡ None)
 ///     ⊎ (R.can_fail ⊎ IsEndless (R.remaining reader.old) (R.remaining reader.new))) ⊎ W.can_fail }
+/// ensures flushed { result ≢ 4 → W.is_flushed writer.new }
 /// ```
 ///
 /// </details>

@@ -146,7 +146,7 @@ fn link(bytes: &[u8]) -> Result<LinkHeader, Fail> {
     }
 }
 
-/// Up to three VLAN tags or SecTags, and others behind them.
+/// Up to three VLAN tags or SecTags; default tags fill the places after them.
 fn exts(list: &[&[u8]]) -> Result<[LinkExtHeader; 3], Fail> {
     let mut headers = [LinkExtHeader::Vlan(SingleVlanHeader::default()); 3];
     for (header, bytes) in headers.iter_mut().zip(list) {
