@@ -22,7 +22,9 @@ PROGRAMS, PROGRAMS_NAME = ["ether_text", "ether_stream", "ether_capture"], "ethe
 # What stands in the place of sources that take the runtime or an allocator.
 BY_HAND = [f"{PROGRAMS_NAME}/src/{path}.rs" for path in (
     "ether_text/noted", *(f"ether_capture/{it}" for it in ("heap_memory", "interface_buffer", "memory", "opening", "options")),
-)]
+)] + [f"{PROGRAMS_NAME}/examples/{program}/main.rs" for program in ("example_switch", "example_vlan_rewriter")]
+# The programs among the examples, each with the libraries that are its modules; their `main`s are by hand.
+EXAMPLE_PROGRAMS = {"example_switch": ["example_learning_switch"], "example_vlan_rewriter": []}
 FACADE = "etherparse"  # the root of the result
 # A module without documentation: the facade has its names, but for numbers that tests and programs use.
 HIDDEN = ["ether_base"]
@@ -63,7 +65,8 @@ mod kit;
 def sources(crate, whole=False):
     """Each source of a crate, but for those that are left out: its path below `src`, and its text."""
     top = os.path.join(CRATES, crate, "src")
-    left_out = LEFT_OUT_OF_TESTS if crate in TESTS else LEFT_OUT_OF_PROGRAMS if crate in PROGRAMS else LEFT_OUT
+    is_program = crate in PROGRAMS or crate in EXAMPLE_PROGRAMS
+    left_out = LEFT_OUT_OF_TESTS if crate in TESTS else LEFT_OUT_OF_PROGRAMS if is_program else LEFT_OUT
     for folder, _, names in sorted(os.walk(top)):
         for path in (os.path.relpath(os.path.join(folder, name), top) for name in sorted(names)):
             if whole or not left_out & set(path[:-3].split("/")):
@@ -103,6 +106,15 @@ def test_path(crate, word):
     return f"crate::{word}" if word in EXAMPLES else None
 
 
+def example_path(crate, word):
+    """The same in a program among the examples, where a library of the examples is a module."""
+    if word == "crate":
+        return None if crate in EXAMPLE_PROGRAMS else f"crate::{crate}"
+    if word in LIBRARIES:
+        return NAME if word == FACADE else f"{NAME}::{word}"
+    return f"crate::{word}" if word in EXAMPLES else None
+
+
 def public_modules(texts, path):
     """The public modules on the way to a file of a crate."""
     parts = path[:-3].split("/") if path != "lib.rt" else []
@@ -123,15 +135,15 @@ def imports_of(crate, path, texts):
     return [NAME, *below, *(f"{home}::{crate}::{module}" for module in public_modules(texts, path))]
 
 
-def erase(text, crate, own, imports=()):
-    """The text of a source without its proofs; `own` are the names of all sources."""
+def erase(text, crate, own, imports=(), home=None):
+    """The text of a source without its proofs; `own` are the names of all sources, `home` the program that it is a module of."""
     tokens = lex(text)
     in_example = check.Names(own, "example")
     for token in tokens:
         begin = token.line - token.before.count("\n")
         module = "" if crate == FACADE else crate
         token.before = docs.documentation(token.before, begin, module, imports, in_example)
-    kind, own_rules, last_rules, spelled = kind_of(crate)
+    kind, own_rules, last_rules, spelled = kind_of(home or crate)
     for rule in own_rules:
         rule(tokens)
     rules.paths(tokens, crate, spelled)
@@ -149,12 +161,17 @@ def kind_of(crate):
         return "calls", calls.RULES, calls.LAST, calls_path
     if crate in PROGRAMS:
         return "program", programs.RULES, [], programs_path
+    if crate in EXAMPLE_PROGRAMS:
+        return "example program", programs.EXAMPLE_RULES, [], example_path
     return "test", testing.RULES, [], test_path
 
 
-def place(crate, path):
+def place(crate, path, home=None):
     """The path of a source in the result."""
     stem = path[:-3] if path != "lib.rt" else ""
+    if home:
+        below = "/".join(it for it in (crate if crate != home else "", stem) if it)
+        return f"{PROGRAMS_NAME}/examples/{home}/{below}.rs"
     if crate == CALLS:
         return f"{CALLS_NAME}/src/{stem or 'lib'}.rs"
     if crate in PROGRAMS:
@@ -180,7 +197,7 @@ def rooted(crate, text):
     return "\n".join([*lines[:end], TEST_ROOT + modules, *lines[end + 1:]])
 
 
-def made(crates, known_too):
+def made(crates, known_too, home=None):
     """The files that are made of crates, each with its path in the result; what is refused has None for its path."""
     texts = {crate: dict(sources(crate)) for crate in crates}
     own = check.names_in(text for files in texts.values() for text in files.values())
@@ -188,9 +205,9 @@ def made(crates, known_too):
     for crate, files in texts.items():
         for path, text in files.items():
             try:
-                erased = erase(text, crate, own, imports_of(crate, path, files))
+                erased = erase(text, crate, own, imports_of(crate, path, files), home)
                 is_root = path == "lib.rt" and crate in [FACADE, CALLS, *TESTS]
-                yield place(crate, path), rooted(crate, erased) if is_root else erased
+                yield place(crate, path, home), rooted(crate, erased) if is_root else erased
             except Refused as refused:
                 yield None, f"crates/{crate}/src/{path}:{refused.line}: {refused.what}"
 
@@ -203,6 +220,8 @@ def result():
     found += made(PROGRAMS, known | check.names_in(text for crate in PROGRAMS for _, text in sources(crate, True)))
     for test, examples in TESTS.items():
         found += made([test, *examples], known)
+    for program, libraries in EXAMPLE_PROGRAMS.items():
+        found += made([program, *libraries], known, program)
     if refused := [text for path, text in found if path is None]:
         sys.exit("\n".join([*refused, "rust/erasing/known.py has what is known"]))
     with open(os.path.join(os.path.dirname(HERE), "NOTICE"), encoding="utf-8") as file:
@@ -213,6 +232,7 @@ def result():
 def stale(folder, files):
     """The Rust files in the folders of the result that are not made, but for those by hand."""
     made_too = [f"{PROGRAMS_NAME}/src/{crate}" for crate in PROGRAMS]
+    made_too += [f"{PROGRAMS_NAME}/examples/{program}" for program in EXAMPLE_PROGRAMS]
     for top in (f"{NAME}/src", f"{CALLS_NAME}/src", *made_too, *(f"{NAME}/tests/{test}" for test in TESTS)):
         for at, _, names in os.walk(os.path.join(folder, top)):
             for name in names:

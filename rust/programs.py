@@ -16,16 +16,19 @@ import building  # noqa: E402
 
 TOP = os.path.dirname(building.HERE)
 TESTS = {"ether_tool": ["ether_tool.py"], "ether_capture": ["ether_capture.py", "other_programs.py"]}
+EXAMPLES = ["example_switch", "example_vlan_rewriter"]
+RELEASE = os.path.join(building.PROGRAMS, "target", "release")
 
 
-def counts(name, test):
-    """How many tests of a program passed and failed; what they print besides is passed on."""
-    path = os.path.join(building.PROGRAMS, "target", "release", name)
-    ran = subprocess.run([sys.executable, f"{TOP}/tests/{test}", path], stdout=subprocess.PIPE, text=True)
+def counts(names, test):
+    """How many tests of programs passed and failed; what they print besides is passed on."""
+    paths = [os.path.join(RELEASE, name) for name in names]
+    ran = subprocess.run([sys.executable, f"{TOP}/tests/{test}", *paths], stdout=subprocess.PIPE, text=True)
     *others, last = ran.stdout.splitlines() or [""]
     told = re.fullmatch(r"(\d+) passed, (\d+) failed", last)
     passed, failed = (int(told[1]), int(told[2])) if told else (0, 1)
-    print(*others, f"{name}, tests/{test}: {passed} passed, {failed} failed", sep="\n", flush=True)
+    told = ", ".join(os.path.basename(name) for name in names)
+    print(*others, f"{told}, tests/{test}: {passed} passed, {failed} failed", sep="\n", flush=True)
     return passed, failed + (bool(ran.returncode) and not failed)
 
 
@@ -47,11 +50,12 @@ def main():
         print(f"left out: the programs that cargo builds, since {why}")
         print("0 passed, 0 failed")
         return 0
-    text, status = building.cargo("build", "--release", folder=building.PROGRAMS)
+    text, status = building.cargo("build", "--release", "--bins", "--examples", folder=building.PROGRAMS)
     if status or re.search(r"^warning", text, re.M):
         print(text[-4000:], "0 passed, 1 failed", sep="\n")
         return 1
-    found = [counts(name, test) for name, tests in TESTS.items() for test in tests] + [completions()]
+    found = [counts([name], test) for name, tests in TESTS.items() for test in tests]
+    found += [counts([f"examples/{name}" for name in EXAMPLES], "examples.py"), completions()]
     passed, failed = (sum(it) for it in zip(*found))
     print(f"{passed} passed, {failed} failed")
     return 1 if failed else 0

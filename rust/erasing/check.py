@@ -57,20 +57,21 @@ class Names:
     known."""
 
     def __init__(self, own, where):
-        tests, calls, programs = (where == it for it in ("test", "calls", "program"))
+        tests, calls = (where == it for it in ("test", "calls"))
+        programs = where in ("program", "example program")
         self.words = {"rt", "macro_rules"} if tests else {"extern"} if calls else set()
         self.texts = (known.PROGRAM_TEXTS,) if programs else ()
         self.attributes = known.ATTRIBUTES + (known.CALL_ATTRIBUTES if calls else known.PROGRAM_ATTRIBUTES if programs else [])
         self.marks = known.MARKS | ({"$"} if tests else {"@"} if programs else set())
-        besides = {"test": "TEST", "calls": "CALL", "program": "PROGRAM"}.get(where)
-        names, paths, methods = (getattr(known, f"{besides}_{it}", set()) for it in ("NAMES", "PATHS", "METHODS"))
+        besides = {"test": ["TEST"], "calls": ["CALL"], "program": ["PROGRAM"], "example program": ["PROGRAM", "EXAMPLE"]}.get(where, [])
+        names, paths, methods = ({one for it in besides for one in getattr(known, f"{it}_{what}")} for what in ("NAMES", "PATHS", "METHODS"))
         self.own = own | known.NAMES | names
         self.paths = known.PATHS | paths
         self.heads = {path.split("::")[0] for path in self.paths} | known.TYPES
         self.methods = known.METHODS | own | methods
         self.macros = {**known.MACROS, **(known.EXAMPLE_MACROS if tests or where == "example" else {})}
         self.macros |= known.CALL_MACROS if calls else known.PROGRAM_MACROS if programs else {}
-        self.macros |= dict.fromkeys(own, "") if tests else {}
+        self.macros |= dict.fromkeys(own, "") if tests else known.EXAMPLE_PROGRAM_MACROS if where == "example program" else {}
 
     def check_path(self, segments, line):
         path = "::".join(segments)

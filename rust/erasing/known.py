@@ -79,3 +79,9 @@ PROGRAM_PATHS = set(
 PROGRAM_METHODS = set(
     """as_bytes collect into_iter wrapping_add wrapping_mul enumerate flush iter_mut kind parse position read split_at starts_with write write_all""".split()
 )
+
+# What the programs among the examples use besides.
+EXAMPLE_PROGRAM_MACROS = {"vec": "["}
+EXAMPLE_NAMES = {"AllocError", "NoMemory", "ether_tools", "ether_capture", "memory"}
+EXAMPLE_PATHS = {"hex::encode", "String::new"}
+EXAMPLE_METHODS = set("any as_str extend_from_slice find map map_err push_str split_at_mut".split())

@@ -1,6 +1,6 @@
 """The rules for the libraries of the programs, which use readers and writers of std, and for what calls them."""
 from .rules import RULES as LIBRARY_RULES, inline_hints
-from .tokens import places, respell
+from .tokens import Refused, closing, places, respell
 
 
 def allocators(tokens):
@@ -15,5 +15,36 @@ def collected(tokens):
         respell(tokens, i, end, "Ok::<Vec<String>, crate::memory::NoMemory>(args.collect())")
 
 
+def unquestioned(tokens, last):
+    """Deletes the `?` after the bracket at `last`."""
+    if tokens[last + 1].text != "?":
+        raise Refused(tokens[last].line, "memory that is taken without ?")
+    del tokens[last + 1]
+
+
+def memory(tokens):
+    """What takes memory is passed the allocator, and may be refused it. In Rust it takes that of std, and ends the program then."""
+    for i, end in places(tokens, "use std::alloc::{AllocError, Global};"):
+        respell(tokens, i, end, "use ether_tools::ether_capture::memory::{Global, NoMemory as AllocError};")
+    for i, end in places(tokens, "String::new(alloc)"):
+        respell(tokens, i, end, "String::new()")
+    for i, end in places(tokens, "hex::encode(alloc, frame)"):
+        unquestioned(tokens, end - 1)
+        respell(tokens, i, end, "hex::encode(frame)")
+    for call in ("buffer.extend_from_slice(", "text.push_str("):
+        for i, end in places(tokens, call):
+            unquestioned(tokens, closing(tokens, end - 1))
+    for i, end in places(tokens, "vec![in alloc;"):
+        unquestioned(tokens, closing(tokens, i + 2))
+        tokens[end].before = ""
+        respell(tokens, i, end, "vec![")
+    for i, end in places(tokens, "format!(in alloc;"):
+        last = closing(tokens, i + 2)
+        respell(tokens, last, last + 1, "))")
+        tokens[end].before = ""
+        respell(tokens, i, end, "Ok(format!(")
+
+
 # A program is compiled as one module with what is made here.
 RULES = [*(rule for rule in LIBRARY_RULES if rule != inline_hints), allocators, collected]
+EXAMPLE_RULES = [*RULES, memory]

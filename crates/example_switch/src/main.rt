@@ -5,44 +5,17 @@
 //! frame goes to a line is written: the number of the port, a space, and the frame as it leaves, in hexadecimal digits.
 #![tactic(auto)]
 
+mod arguments;
 mod lines;
 mod reading;
 
+use arguments::{SwitchError, kind_of};
 use ether_pcap::CapturePackets;
-use etherparse::VlanId;
-use example_learning_switch::{PortKind, Switch};
+use example_learning_switch::Switch;
 use lines::frame_lines;
 use reading::read_packet;
 use std::env;
 use std::io::Read;
-
-/// Why the program ends before its input does.
-#[derive(Debug, Drop, thiserror::Error)]
-enum SwitchError {
-    /// An argument is no port.
-    #[error("a port is `trunk` or a VLAN identifier")]
-    Argument,
-    /// There are more than 65,535.
-    #[error("there are at most 65,535 ports")]
-    Count,
-    /// A packet is not switched.
-    #[error("a packet is an Ethernet frame of an interface that is a port")]
-    Packet,
-}
-
-/// The port that an argument names.
-fn kind_of(argument: &str) -> Result<PortKind, SwitchError> {
-    if argument == "trunk" {
-        return Ok(PortKind::Trunk);
-    }
-    match argument.parse::<u16>() {
-        Ok(number) => match VlanId::try_new(number) {
-            Ok(vlan_id) => Ok(PortKind::Access(vlan_id)),
-            Err(_) => Err(SwitchError::Argument),
-        },
-        Err(_) => Err(SwitchError::Argument),
-    }
-}
 
 fn main(rt: HostRuntime) -> anyhow::Result<()> {
     let alloc = rt.alloc();

@@ -1,6 +1,8 @@
 //! The arguments and the standard streams of a program. Written by hand, not proved.
+use std::error::Error;
 use std::fs::File;
 use std::os::fd::AsFd;
+use std::process::ExitCode;
 use std::{env, io};
 
 /// The arguments, if all of them are UTF-8.
@@ -20,4 +22,15 @@ pub fn input() -> io::Result<File> {
 /// Standard output, without a buffer: what was written is there, whether or not a line has ended.
 pub fn output() -> io::Result<File> {
     io::stdout().as_fd().try_clone_to_owned().map(File::from)
+}
+
+/// The end of a program that says why it fails.
+pub fn ended(result: Result<(), Box<dyn Error>>) -> ExitCode {
+    match result {
+        Ok(()) => ExitCode::SUCCESS,
+        Err(error) => {
+            eprintln!("Error: {error}");
+            ExitCode::FAILURE
+        }
+    }
 }

@@ -5,5 +5,6 @@
 pub struct Global;
 
 /// Memory was refused.
-#[derive(Debug)]
+#[derive(Debug, thiserror::Error)]
+#[error("out of memory")]
 pub struct NoMemory;

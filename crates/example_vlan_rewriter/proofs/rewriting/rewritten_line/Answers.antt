@@ -7,7 +7,7 @@ use Rattle.ether_peel.specs.Walker.Start.{start_of}
 use Rattle.ether_peel.specs.declared.start.Start.{Start}
 use Rattle.ether_packet.specs.Setting.{FindsVlan, LacksVlan, SetsTag}
 use Rattle.example_vlan_rewriter.specs.Lines.{line_of, Rewrites, sets, stays, HasLine}
-use Rattle.example_vlan_rewriter.proofs.rewritten_line.Goals as goal
+use Rattle.example_vlan_rewriter.proofs.rewriting.rewritten_line.Goals as goal
 
 rewrites : (start : Start) (found : Option ℕ) (old new : List ℕ) (from to : ℕ)
     → IfSome found (λ i. (hs : List Header) (e : Ending) → Walk (start_of start) old hs e

@@ -1,0 +1,47 @@
+//! The identifiers that the arguments name, and the line for a frame.
+ghost use Rattle.std.specs.Prelude.{◌≡◌, IfOk, string_bytes};
+ghost use Rattle.example_vlan_rewriter.specs.Lines.{line_of, HasLine};
+
+use ether_packet::replace_vlan_id;
+use ether_peel::Start;
+use etherparse::VlanId;
+use std::alloc::{AllocError, Global};
+use thiserror::Error;
+
+/// Why the program does not begin: the arguments are others.
+#[derive(Debug, Drop, Error)]
+#[error("the arguments are two VLAN identifiers")]
+pub(crate) struct ArgumentsError;
+
+/// The VLAN identifier that an argument names.
+pub(crate) fn vlan_id_of(argument: Option<String>) -> Result<VlanId, ArgumentsError> {
+    let Some(argument) = argument else {
+        return Err(ArgumentsError);
+    };
+    match argument.parse::<u16>() {
+        Ok(number) => VlanId::try_new(number).map_err(|_| ArgumentsError),
+        Err(_) => Err(ArgumentsError),
+    }
+}
+
+/// The line for a frame, in which the outermost VLAN tag with an identifier gets another one.
+pub(crate) fn rewritten_line(
+    alloc: Global,
+    start: Start,
+    frame: &mut [u8],
+    from: VlanId,
+    to: VlanId,
+) -> Result<String, AllocError>
+    ensures { IfOk result (λ text. HasLine start frame.old from to (string_bytes text)) }
+{
+    let _index = replace_vlan_id(start, frame, from, to);
+    line(alloc, frame)
+}
+
+/// A frame in hexadecimal digits, as a line.
+fn line(alloc: Global, frame: &[u8]) -> Result<String, AllocError>
+    ensures { IfOk result (λ text. string_bytes text ≡ line_of frame.now) }
+{
+    let digits = hex::encode(alloc, frame)?;
+    format!(in alloc; "{digits}\n")
+}

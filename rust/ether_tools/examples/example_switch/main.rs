@@ -1,0 +1,49 @@
+//! A learning switch over a capture. Each argument is a port: `trunk`, or the VLAN identifier of an access port.
+//!
+//!     cargo run --example example_switch -- 10 10 trunk < capture.pcap
+//!
+//! Written by hand, not proved: `crates/example_switch/src/main.rt` takes arguments and streams from the runtime of Rattle.
+// The allocator has nothing in it here, the forms are those of the sources, and contracts used what nothing uses now.
+#![allow(clippy::all, dead_code, unused_imports, unused_variables)]
+
+mod arguments;
+mod example_learning_switch;
+mod lines;
+mod reading;
+
+use arguments::{SwitchError, kind_of};
+use ether_tools::ether_capture::memory::Global;
+use ether_tools::streams;
+use etherpeel::ether_pcap::CapturePackets;
+use example_learning_switch::Switch;
+use lines::frame_lines;
+use reading::read_packet;
+use std::error::Error;
+use std::io::{Read, Write};
+use std::process::ExitCode;
+
+fn run() -> Result<(), Box<dyn Error>> {
+    let mut ports = Vec::new();
+    for argument in streams::arguments()?.skip(1) {
+        ports.push(kind_of(&argument)?);
+    }
+    if ports.len() >= 1 << 16 {
+        return Err(SwitchError::Count.into());
+    }
+    let mut capture = Vec::new();
+    streams::input()?.read_to_end(&mut capture)?;
+    let mut output = streams::output()?;
+    let mut switch = Switch::new();
+    for packet in CapturePackets::from_slice(&capture) {
+        let Some(received) = read_packet(&ports, &packet?) else {
+            return Err(SwitchError::Packet.into());
+        };
+        let text = frame_lines(Global, &mut switch, &ports, &received.port, received.frame)?;
+        output.write_all(text.as_bytes())?;
+    }
+    Ok(())
+}
+
+fn main() -> ExitCode {
+    streams::ended(run())
+}
