@@ -20,6 +20,7 @@ from captures import (
 )
 from capture_copies import copied, copies, copies_that_fail, long_copy_in_pieces
 from capture_files import several
+from capture_limits import limits
 from programs import count, on_a_full_disk, run, run_in_pieces, run_until_a_fault, without_memory
 
 USAGE = "usage: ether_capture [[--plain] [--limit N] | --write [--cut-to-headers | --pop-vlan | --push-vlan TPID:ID | --set-vlan A:B]] [--select EXPR] [-c N] [FILE]..\n"
@@ -382,6 +383,7 @@ def main():
     tried += [(name, copied(program, words, CLASSIC), (b"", USAGE, 2)) for name, words in WRONG]
     tried += selections(program)
     tried += several(program)
+    tried += limits(program)
     tried += reasons(program)
     tried += copies(program)
     tried += copies_that_fail(program)

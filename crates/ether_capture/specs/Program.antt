@@ -1,5 +1,5 @@
 -- What the program has read and written, and how it ends.
-use Rattle.std.specs.Prelude.{◌≡◌, ◌⊎◌, ℕ, List, Option, Some, None, Result, Ok, Err, IfNone, Bool, true, false, IfErr, map, String, string_bytes, ⊤}
+use Rattle.std.specs.Prelude.{◌≡◌, ◌⊎◌, ℕ, List, Option, Some, None, Result, Ok, Err, IfNone, Bool, true, false, IfErr, map, String, string_bytes}
 use Rattle.std.specs.Vec.Iter.{into_iter_items}
 use Rattle.std.specs.declared.vec.IntoIter.{IntoIter}
 use Rattle.std.specs.Io.KnownBytes.{Appends}
@@ -69,24 +69,26 @@ HasObeyed has can_fail can_refuse can_read can_write (Some words) before after h
     (request : RequestValue) × NamesRequest words request
     × HasAnswered has can_fail can_refuse can_read can_write request before after held holds outcome
 
--- the last line of the outcome, if there is one, is written, or the writer has failed
-pub record PrintsLast (outcome : Outcome) (held holds : Option (List ℕ)) (printed : Bool) : Type 0 where
+-- the last line of the outcome, if there is one, is written, or the writer, which can fail, has failed
+pub record PrintsLast (can_write : Type 0) (outcome : Outcome) (held holds : Option (List ℕ)) (printed : Bool) : Type 0 where
   pub written : printed ≡ true → Appends held holds (last_bytes (last_text outcome))
   pub silent : IfNone (last_text outcome) (printed ≡ true)
+  pub failed : printed ≡ false → can_write
 
 -- .. where the lines are, or if it is a message, where messages are. Nothing is written to the other.
-abbrev pub PrintsApart : (message : Bool) → (outcome : Outcome) → (held holds told tells : Option (List ℕ)) → (printed : Bool) → Type 0
-PrintsApart false outcome held holds told tells printed = PrintsLast outcome held holds printed × (tells ≡ told)
-PrintsApart true outcome held holds told tells printed = PrintsLast outcome told tells printed × (holds ≡ held)
+abbrev pub PrintsApart : (can_write can_tell : Type 0) → (message : Bool) → (outcome : Outcome) → (held holds told tells : Option (List ℕ)) → (printed : Bool) → Type 0
+PrintsApart can_write can_tell false outcome held holds told tells printed = PrintsLast can_write outcome held holds printed × (tells ≡ told)
+PrintsApart can_write can_tell true outcome held holds told tells printed = PrintsLast can_tell outcome told tells printed × (holds ≡ held)
 
 -- The program has done what the words ask for, has printed the last line, and ends with the status of its outcome. has relates names to the
--- bytes of their captures; the others hold if reading standard input, opening a capture, or reading it fails. The writer of messages told this,
--- and tells that.
-pub record HasServed (has : List ℕ → Option (List ℕ) → Type 0) (can_fail : Type 0) (can_refuse : OpenFault → Type 0) (can_read : Type 0) (words : Option (List (List ℕ)))
+-- bytes of their captures; the others hold if reading standard input, opening a capture, reading it, writing, or telling a message fails. The
+-- writer of messages told this, and tells that.
+pub record HasServed (has : List ℕ → Option (List ℕ) → Type 0) (can_fail : Type 0) (can_refuse : OpenFault → Type 0) (can_read can_write can_tell : Type 0)
+    (words : Option (List (List ℕ)))
     (before after held holds told tells : Option (List ℕ)) (status : ℕ) : Type 0 where
   pub outcome : Outcome
   pub printed : Bool
   pub between : Option (List ℕ)
-  pub obeyed : HasObeyed has can_fail can_refuse can_read ⊤ words before after held between outcome
-  pub ended : PrintsApart (is_message outcome) outcome between holds told tells printed
+  pub obeyed : HasObeyed has can_fail can_refuse can_read can_write words before after held between outcome
+  pub ended : PrintsApart can_write can_tell (is_message outcome) outcome between holds told tells printed
   pub is_status : status ≡ status_of_program outcome printed

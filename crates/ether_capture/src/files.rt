@@ -92,8 +92,9 @@ pub fn run_files<C: Captures, W: LineSink>(
     captures: &C,
     writer: &mut W,
 ) -> Result<u8, OutputFault>
-    ensures { HasListed (C.has captures.now) C.can_refuse C.Input.Source.can_fail W.Sink.can_fail (listing_view listing.entry)
+    ensures listed { HasListed (C.has captures.now) C.can_refuse C.Input.Source.can_fail W.Sink.can_fail (listing_view listing.entry)
         (W.Sink.contents writer.old) (W.Sink.contents writer.new) result }
+    ensures flushed { OnOk result (W.Sink.is_flushed writer.new) }
 {
     let is_plain = listing.options.is_plain;
     let tally = read_files(listing, alloc, captures, writer)?;
@@ -198,6 +199,7 @@ fn end_of_file<C: Captures, W: Sink>(
 fn write_last<W: Sink>(is_plain: bool, tally: &Tally, writer: &mut W) -> Result<(), OutputFault>
     ensures written { OnOk result (Appends (W.contents writer.old) (W.contents writer.new)
         (totals_line_if is_plain tally.now.packets tally.now.skipped)) }
+    ensures flushed { OnOk result (W.is_flushed writer.new) }
     ensures failed { OnErr result W.can_fail }
 {
     let mut out = OutputBuffer::new(writer);

@@ -12,14 +12,13 @@ use crate::run_input::run_input;
 use ether_stream::{LineSink, Outcome, RunFault, Task, is_message, last_line, program_status};
 use ether_text::{Sink, Source};
 use std::alloc::Global;
-use std::io::Write;
 use std::{env, io};
 
 /// Writes the lines of a capture, or a copy of it, as the arguments say, prints the last line if there is one, and returns the exit status.
 ///
 /// The last line is printed to `writer`; but to `messages` if a copy is asked for, since `writer` has that, or if the arguments are wrong or there
 /// is no memory for them. If they are wrong or can't be read, nothing is read. The latter is a fault of the input.
-pub fn program<C: Captures, R: Source, W: Write, M: Write>(
+pub fn program<C: Captures, R: Source, W: LineSink, M: LineSink>(
     args: io::Result<env::Args>,
     alloc: Global,
     captures: &C,
@@ -27,9 +26,9 @@ pub fn program<C: Captures, R: Source, W: Write, M: Write>(
     writer: &mut W,
     messages: &mut M,
 ) -> u8
-    ensures { HasServed (C.has captures.now) R.can_fail C.can_refuse C.Input.Source.can_fail (arguments_of args)
-        (R.remaining reader.old) (R.remaining reader.new) (W.contents writer.old) (W.contents writer.new)
-        (M.contents messages.old) (M.contents messages.new) result }
+    ensures { HasServed (C.has captures.now) R.can_fail C.can_refuse C.Input.Source.can_fail W.Sink.can_fail M.Sink.can_fail
+        (arguments_of args) (R.remaining reader.old) (R.remaining reader.new) (W.Sink.contents writer.old)
+        (W.Sink.contents writer.new) (M.Sink.contents messages.old) (M.Sink.contents messages.new) result }
 {
     let Ok(args) = args else {
         let outcome = Outcome::Run {
@@ -100,18 +99,19 @@ fn run_file<'a, C: Captures, W: Sink>(
 }
 
 /// Prints the last line, if there is one, and returns the exit status.
-fn end<W: Write, M: Write>(outcome: &Outcome<'_>, writer: &mut W, messages: &mut M) -> u8
-    ensures { (printed : Bool) × PrintsApart (is_message outcome.now) outcome.now (W.contents writer.old) (W.contents writer.new)
-        (M.contents messages.old) (M.contents messages.new) printed × (result ≡ status_of_program outcome.now printed) }
+fn end<W: LineSink, M: LineSink>(outcome: &Outcome<'_>, writer: &mut W, messages: &mut M) -> u8
+    ensures { (printed : Bool) × PrintsApart W.Sink.can_fail M.Sink.can_fail (is_message outcome.now) outcome.now
+        (W.Sink.contents writer.old) (W.Sink.contents writer.new) (M.Sink.contents messages.old) (M.Sink.contents messages.new) printed
+        × (result ≡ status_of_program outcome.now printed) }
 {
     let is_printed = print_apart(outcome, writer, messages);
     program_status(outcome, is_printed)
 }
 
 /// Prints the last line, if there is one, to the writer that it is for, and returns whether that took it.
-fn print_apart<W: Write, M: Write>(outcome: &Outcome<'_>, writer: &mut W, messages: &mut M) -> bool
-    ensures { PrintsApart (is_message outcome.now) outcome.now (W.contents writer.old) (W.contents writer.new)
-        (M.contents messages.old) (M.contents messages.new) result }
+fn print_apart<W: LineSink, M: LineSink>(outcome: &Outcome<'_>, writer: &mut W, messages: &mut M) -> bool
+    ensures { PrintsApart W.Sink.can_fail M.Sink.can_fail (is_message outcome.now) outcome.now (W.Sink.contents writer.old)
+        (W.Sink.contents writer.new) (M.Sink.contents messages.old) (M.Sink.contents messages.new) result }
 {
     if is_message(outcome) {
         return print_last_line(outcome, messages);
@@ -120,11 +120,11 @@ fn print_apart<W: Write, M: Write>(outcome: &Outcome<'_>, writer: &mut W, messag
 }
 
 /// Prints the last line, if there is one, and returns whether the writer took it.
-fn print_last_line<W: Write>(outcome: &Outcome<'_>, writer: &mut W) -> bool
-    ensures { PrintsLast outcome.now (W.contents writer.old) (W.contents writer.new) result }
+fn print_last_line<W: LineSink>(outcome: &Outcome<'_>, writer: &mut W) -> bool
+    ensures { PrintsLast W.Sink.can_fail outcome.now (W.Sink.contents writer.old) (W.Sink.contents writer.new) result }
 {
     match last_line(outcome) {
-        Some(line) => writeln!(writer, "{line}").is_ok(),
+        Some(line) => writer.put_line(&line).is_ok(),
         None => true,
     }
 }

@@ -2,7 +2,7 @@
 ghost use Rattle.std.specs.Prelude.{◌⊎◌, [], IfErr};
 ghost use Rattle.ether_text.specs.Run.{IsEndless};
 ghost use Rattle.ether_stream.specs.Counting.{AreCounted, HasCounted};
-ghost use Rattle.ether_stream.specs.Run.{HasNoMemory, HasRun, OnStreamFault};
+ghost use Rattle.ether_stream.specs.Run.{HasNoMemory, HasRun, IfSettled, OnStreamFault};
 ghost use Rattle.ether_stream.specs.Task.{task_view};
 
 use crate::heap_memory::HeapMemory;
@@ -28,6 +28,7 @@ pub fn run_input<R: Source, W: Sink>(
         × AreCounted (task_view task.now) [] result.1) }
     ensures failed { IfErr result.0 (λ fault. OnStreamFault fault
         (R.can_fail ⊎ IsEndless (R.remaining reader.old) (R.remaining reader.new)) W.can_fail) }
+    ensures flushed { IfSettled result.0 (W.is_flushed writer.new) }
 {
     match allocated(alloc) {
         Ok(buffers) => run_counted(task, buffers, reader, writer),

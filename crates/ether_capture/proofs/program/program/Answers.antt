@@ -1,5 +1,4 @@
 use Rattle.std.proofs.Common.{◌≡◌, ◌∙◌, List, ℕ, Some, map, string_bytes, ap, refl, subst, Err, IfOk, false}
-use Rattle.std.specs.Prelude.{⊤}
 use Rattle.std.specs.Vec.{vec_items}
 use Rattle.std.specs.Vec.Iter.{into_iter_items}
 use Rattle.std.proofs.lemmas.Iterator.{items_from_collect}
@@ -15,7 +14,7 @@ returns-in_default g c =
     (record {
       outcome = outcomes.Run false (Err Input);
       printed = c.end.ensures.0;
-      between = g.W.Write.contents c.args.writer.now;
+      between = g.W.LineSink.Sink.contents c.args.writer.now;
       obeyed = (refl, refl, refl);
       ended = c.end.ensures.1;
       is_status = c.end.ensures.2;
@@ -27,7 +26,7 @@ returns-in_default-collect g c =
     (record {
       outcome = outcomes.NoMemory;
       printed = c.end-in_default-collect.ensures.0;
-      between = g.W.Write.contents c.args.writer.now;
+      between = g.W.LineSink.Sink.contents c.args.writer.now;
       obeyed = (refl, refl);
       ended = c.end-in_default-collect.ensures.1;
       is_status = c.end-in_default-collect.ensures.2;
@@ -44,13 +43,13 @@ returns g c =
     (record {
       outcome = c.obey-outcome.result;
       printed = c.end-2.ensures.0;
-      between = g.W.Write.contents c.obey-outcome.new.writer;
+      between = g.W.LineSink.Sink.contents c.obey-outcome.new.writer;
       obeyed = subst
           (λ (it : List (List ℕ)).
           HasObeyed (g.C.Captures.has c.args.captures.now) g.R.Source.can_fail g.C.Captures.can_refuse
-          g.C.Input.Source.can_fail ⊤ (Some it) (g.R.Source.remaining c.args.reader.now)
-          (g.R.Source.remaining c.obey-outcome.new.reader) (g.W.Write.contents c.args.writer.now)
-          (g.W.Write.contents c.obey-outcome.new.writer) c.obey-outcome.result)
+          g.C.Input.Source.can_fail g.W.LineSink.Sink.can_fail (Some it) (g.R.Source.remaining c.args.reader.now)
+          (g.R.Source.remaining c.obey-outcome.new.reader) (g.W.LineSink.Sink.contents c.args.writer.now)
+          (g.W.LineSink.Sink.contents c.obey-outcome.new.writer) c.obey-outcome.result)
           words c.obey-outcome.ensures;
       ended = c.end-2.ensures.1;
       is_status = c.end-2.ensures.2;
