@@ -65,8 +65,9 @@ impl Tally {
 /// <details><summary>Contract</summary>
 ///
 /// ```text
-/// ensures { HasListed (C.has captures.now) C.can_refuse C.Input.Source.can_fail W.Sink.can_fail (listing_view listing.entry)
+/// ensures listed { HasListed (C.has captures.now) C.can_refuse C.Input.Source.can_fail W.Sink.can_fail (listing_view listing.entry)
 ///     (W.Sink.contents writer.old) (W.Sink.contents writer.new) result }
+/// ensures flushed { OnOk result (W.Sink.is_flushed writer.new) }
 /// ```
 ///
 /// </details>

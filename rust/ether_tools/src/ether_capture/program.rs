@@ -8,7 +8,6 @@ use crate::ether_capture::run_input::run_input;
 use crate::ether_stream::{LineSink, Outcome, RunFault, Task, is_message, last_line, program_status};
 use crate::ether_text::{Sink, Source};
 use crate::ether_capture::memory::Global;
-use std::io::Write;
 use std::{env, io};
 
 /// Writes the lines of a capture, or a copy of it, as the arguments say, prints the last line if there is one, and returns the exit status.
@@ -19,13 +18,13 @@ use std::{env, io};
 /// <details><summary>Contract</summary>
 ///
 /// ```text
-/// ensures { HasServed (C.has captures.now) R.can_fail C.can_refuse C.Input.Source.can_fail (arguments_of args)
-///     (R.remaining reader.old) (R.remaining reader.new) (W.contents writer.old) (W.contents writer.new)
-///     (M.contents messages.old) (M.contents messages.new) result }
+/// ensures { HasServed (C.has captures.now) R.can_fail C.can_refuse C.Input.Source.can_fail W.Sink.can_fail M.Sink.can_fail
+///     (arguments_of args) (R.remaining reader.old) (R.remaining reader.new) (W.Sink.contents writer.old)
+///     (W.Sink.contents writer.new) (M.Sink.contents messages.old) (M.Sink.contents messages.new) result }
 /// ```
 ///
 /// </details>
-pub fn program<C: Captures, R: Source, W: Write, M: Write>(
+pub fn program<C: Captures, R: Source, W: LineSink, M: LineSink>(
     args: io::Result<env::Args>,
     alloc: Global,
     captures: &C,
@@ -96,13 +95,13 @@ fn run_file<'a, C: Captures, W: Sink>(
 }
 
 /// Prints the last line, if there is one, and returns the exit status.
-fn end<W: Write, M: Write>(outcome: &Outcome<'_>, writer: &mut W, messages: &mut M) -> u8 {
+fn end<W: LineSink, M: LineSink>(outcome: &Outcome<'_>, writer: &mut W, messages: &mut M) -> u8 {
     let is_printed = print_apart(outcome, writer, messages);
     program_status(outcome, is_printed)
 }
 
 /// Prints the last line, if there is one, to the writer that it is for, and returns whether that took it.
-fn print_apart<W: Write, M: Write>(outcome: &Outcome<'_>, writer: &mut W, messages: &mut M) -> bool {
+fn print_apart<W: LineSink, M: LineSink>(outcome: &Outcome<'_>, writer: &mut W, messages: &mut M) -> bool {
     if is_message(outcome) {
         return print_last_line(outcome, messages);
     }
@@ -110,9 +109,9 @@ fn print_apart<W: Write, M: Write>(outcome: &Outcome<'_>, writer: &mut W, messag
 }
 
 /// Prints the last line, if there is one, and returns whether the writer took it.
-fn print_last_line<W: Write>(outcome: &Outcome<'_>, writer: &mut W) -> bool {
+fn print_last_line<W: LineSink>(outcome: &Outcome<'_>, writer: &mut W) -> bool {
     match last_line(outcome) {
-        Some(line) => writeln!(writer, "{line}").is_ok(),
+        Some(line) => writer.put_line(&line).is_ok(),
         None => true,
     }
 }

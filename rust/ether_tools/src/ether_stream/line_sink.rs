@@ -8,13 +8,14 @@ use std::io::Write;
 ///
 /// What is proved for all of them is proved for one that can't fail, too. So whoever reports a fault has seen one.
 pub trait LineSink: Sink {
-    /// Writes a line.
+    /// Writes a line, and flushes the sink.
     ///
     /// <details><summary>Contract</summary>
     ///
     /// ```text
     /// ensures ok { OnOk result (Appends (Self.Sink.contents self.old) (Self.Sink.contents self.new)
     ///     (last_line_text line.now ++ codes "\n")) }
+    /// ensures flushed { OnOk result (Self.Sink.is_flushed self.new) }
     /// ensures failed { OnErr result Self.Sink.can_fail }
     /// ```
     ///
@@ -25,7 +26,7 @@ pub trait LineSink: Sink {
 impl<W: Write> LineSink for W {
     fn put_line(&mut self, line: &LastLine<'_>) -> Result<(), OutputFault> {
         match writeln!(self, "{line}") {
-            Ok(()) => Ok(()),
+            Ok(()) => self.flush_all(),
             Err(_) => Err(OutputFault),
         }
     }
