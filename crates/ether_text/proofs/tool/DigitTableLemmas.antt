@@ -1,5 +1,5 @@
 -- Digits by a table: an entry is what the crate `hex` decodes after a zero.
-use Rattle.std.proofs.Common.{inl, inr, ◌≡◌, ℕ, ◌+◌, ◌*◌, ◌%◌, ◌<◌, List, [], ◌∷◌, slice_index, Option, Some, None, is_some, true, Result, Ok, Err, refl, ap, sym, arith}
+use Rattle.std.proofs.Common.{inl, inr, ◌≡◌, ℕ, ◌+◌, ◌*◌, ◌%◌, ◌<◌, List, [], ◌∷◌, slice_index, Option, Some, None, is_some, true, Result, Ok, Err, refl, ap, sym, ◌∙◌, arith, take, drop, get_or-take, get_or-drop}
 use Rattle.std.specs.Prelude.{MatchResult, unwrap_or}
 use Rattle.hex.specs.Hex.{hex_digit_value, decode_sized, decode_pairs, digit_or_error, ◌>>=◌}
 use Rattle.hex.specs.declared.error.FromHexError.{FromHexError}
@@ -113,3 +113,10 @@ two_more P i before first second k lt =
             | inr after ↦ let at : k ≡ 2 * i + 1 = omega arith in rw at second
           ]
     ]
+
+-- a byte of the next pair
+pub pair_at : (n k at : ℕ) (line rest : List ℕ) → rest ≡ drop n line → k < 2 → n + k ≡ at
+    → slice_index (take 2 rest) k ≡ slice_index line at
+pair_at n k at line rest is lt place =
+    get_or-take 2 rest k 0 lt ∙ ap (λ (l : List ℕ). slice_index l k) is ∙ get_or-drop n line k 0
+    ∙ ap (λ (i : ℕ). slice_index line i) place

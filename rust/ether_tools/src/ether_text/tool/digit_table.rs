@@ -49,11 +49,14 @@ impl DigitTable {
     #[inline(always)]
     fn decode(&self, line: &[u8], out: &mut [u8]) -> bool {
         let mut marks = 0;
-        for (i, byte) in out.iter_mut().enumerate() {
-            let high = self.entries[usize::from(line[2 * i])];
-            let low = self.entries[usize::from(line[2 * i + 1])];
+        let mut rest = line;
+        for byte in out.iter_mut() {
+            let (pair, after) = rest.split_at(2);
+            let high = self.entries[usize::from(pair[0])];
+            let low = self.entries[usize::from(pair[1])];
             marks |= high | low;
             *byte = high.wrapping_mul(16).wrapping_add(low);
+            rest = after;
         }
         marks < NO_DIGIT
     }
