@@ -1,5 +1,5 @@
 -- The headers of a packet as values that can be changed and written.
-use Rattle.std.specs.Prelude.{◌≡◌, ℕ, ◌+◌, List, [], ◌∷◌, ◌++◌, length, take, map, Option, Some, None}
+use Rattle.std.specs.Prelude.{◌≡◌, ℕ, ◌+◌, List, [], ◌∷◌, ◌++◌, length, take, drop, map, Option, Some, None}
 use Rattle.etherparse.specs.Bytes.{IsBytes}
 use Rattle.etherparse.specs.Types.EtherType.{EtherType}
 use Rattle.etherparse.specs.Types.LinkExtHeader.{LinkExtHeader}
@@ -30,10 +30,14 @@ arp_headers (Some packet) = headers.Arp packet ∷ []
 abbrev pub parts_exts : PacketParts → List LinkExtHeader
 parts_exts p = take p.tag_count p.tags
 
+-- the headers after that of the link
+abbrev pub parts_inner : PacketParts → List Header
+parts_inner p = map ext_header_view (parts_exts p) ++ arp_headers p.arp
+
 -- these are the headers: that of the link, the extensions, and the ARP packet if there is one
 pub record HaveHeaders (p : PacketParts) (hs : List Header) : Type 0 where
   pub link : Header
-  pub parts : hs ≡ link ∷ map ext_header_view (parts_exts p) ++ arp_headers p.arp
+  pub parts : hs ≡ link ∷ parts_inner p
   pub is_link : IsLinkOf p.link link
 
 -- the ether type that announces what is left, or 0
@@ -41,11 +45,16 @@ abbrev pub type_shown : RestKind → ℕ
 type_shown (rests.EtherType t) = t.0
 type_shown _ = 0
 
+-- what is in the frame after the end of the rest
+abbrev pub trailer_of : PacketSlice → List ℕ
+trailer_of packet = drop (packet.rest_offset + length packet.rest.now) packet.read.frame
+
 -- the parts of a packet
 pub record ArePartsOf (p : PacketParts) (packet : PacketSlice) : Type 0 where
   pub have : HaveHeaders p (packet_headers packet)
   pub ether_type : p.ether_type.0 ≡ type_shown packet.rest_kind
   pub rest : p.rest.now ≡ packet.rest.now
+  pub trailer : p.trailer.now ≡ trailer_of packet
 
 -- an ARP packet if there is one, and else the bytes as a payload
 abbrev pub HasContent : Option ArpValue → (ether_type : EtherType) (bytes : List ℕ) → PacketContent → Type 0

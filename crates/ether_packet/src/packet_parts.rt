@@ -31,14 +31,19 @@ use etherparse::{ArpPacket, EtherType, LinkExtHeader, LinkHeader};
 pub struct PacketParts<'a> {
     /// The header that the packet begins with.
     pub link: LinkHeader,
+    // The first `tag_count` of these; the others are unused.
     pub(crate) tags: [LinkExtHeader; PacketSlice::LINK_EXTS_CAP],
     pub(crate) tag_count: usize,
-    /// The ARP packet, if there is one. What follows it is not kept.
+    /// The ARP packet, if there is one.
     pub arp: Option<ArpPacket>,
     /// The ether type that announces the rest; 0 if none does, as after a SecTag whose payload is encrypted.
     pub ether_type: EtherType,
-    /// The bytes of the window after the headers, without a frame check sequence.
+    /// The bytes of the last window after the headers, without a frame check sequence. What follows an ARP packet in its
+    /// window, such as padding, is here, too.
     pub rest: &'a [u8],
+    /// The bytes of the frame after the rest: what follows the payload of a SecTag with a short length, such as its
+    /// integrity check value, and a frame check sequence.
+    pub trailer: &'a [u8],
 }
 
 impl<'a> PacketParts<'a> {

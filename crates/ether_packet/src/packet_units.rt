@@ -1,5 +1,5 @@
 //! The headers of a packet, kept as windows of the frame: a view is made when it is asked for.
-ghost use Rattle.std.specs.Prelude.{◌≡◌, ◌≤◌, ◌<◌, ℕ, List, [], ◌∷◌, map, unwrap_or, IfSome, MatchOption, Some, true, false, length, slice_get, slice_range, None as NoPlace};
+ghost use Rattle.std.specs.Prelude.{◌≡◌, ◌+◌, ◌≤◌, ◌<◌, ℕ, List, [], ◌∷◌, map, unwrap_or, IfSome, MatchOption, Some, true, false, length, drop, slice_get, slice_range, None as NoPlace};
 ghost use Rattle.std.specs.List.{All};
 ghost use Rattle.std.specs.Option.{option_and_then};
 ghost use Rattle.etherparse.specs.Kind as kinds;
@@ -195,10 +195,25 @@ impl<'a> PacketUnits<'a> {
         }
     }
 
-    /// The headers as values, before a rest that an ether type announces; `None` without a link's header.
-    pub fn to_parts(&self, ether_type: EtherType, rest: &'a [u8]) -> Option<PacketParts<'a>>
+    /// The bytes of the frame after so many bytes from a place on.
+    pub fn frame_after(&self, at: usize, len: usize) -> &'a [u8]
+        ensures { result.now ≡ drop (at + len) self.now.frame }
+    {
+        let frame = self.frame;
+        let end = at.saturating_add(len).min(frame.len());
+        &frame[end..]
+    }
+
+    /// The headers as values, before a rest that an ether type announces and what follows it; `None` without a link's header.
+    pub fn to_parts(
+        &self,
+        ether_type: EtherType,
+        rest: &'a [u8],
+        trailer: &'a [u8],
+    ) -> Option<PacketParts<'a>>
         ensures { MatchOption result (has_link (map header_of self.now.units) ≡ false)
-            (λ p. HaveHeaders p (map header_of self.now.units) × (p.ether_type ≡ ether_type) × (p.rest.now ≡ rest.now)) }
+            (λ p. HaveHeaders p (map header_of self.now.units) × (p.ether_type ≡ ether_type)
+            × (p.rest.now ≡ rest.now) × (p.trailer.now ≡ trailer.now)) }
     {
         let link = link_header(self.link, self.frame)?;
         Some(PacketParts {
@@ -208,6 +223,7 @@ impl<'a> PacketUnits<'a> {
             arp: arp_packet(self.arp),
             ether_type,
             rest,
+            trailer,
         })
     }
 

@@ -40,4 +40,5 @@ returns c =
       },
       refl,
       refl,
+      refl,
     )
