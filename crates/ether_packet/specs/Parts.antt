@@ -1,5 +1,5 @@
 -- The headers of a packet as values that can be changed and written.
-use Rattle.std.specs.Prelude.{◌≡◌, ℕ, ◌+◌, List, [], ◌∷◌, ◌++◌, length, take, drop, map, Option, Some, None}
+use Rattle.std.specs.Prelude.{◌≡◌, ℕ, ◌+◌, ◌≤◌, List, [], ◌∷◌, ◌++◌, length, take, drop, map, Option, Some, None}
 use Rattle.etherparse.specs.Bytes.{IsBytes}
 use Rattle.etherparse.specs.Types.EtherType.{EtherType}
 use Rattle.etherparse.specs.Types.LinkExtHeader.{LinkExtHeader}
@@ -17,6 +17,8 @@ use Rattle.ether_packet.specs.declared.packet_builder.PacketContent.{PacketConte
 use Rattle.ether_packet.specs.declared.packet_builder.PacketContent.TheVariants as contents
 use Rattle.ether_packet.specs.declared.packet_parts.PacketParts.{PacketParts}
 use Rattle.ether_packet.specs.declared.packet_slice.PacketSlice.{PacketSlice}
+use Rattle.ether_packet.specs.declared.replace_error.ReplaceError.{ReplaceError}
+use Rattle.ether_packet.specs.declared.replace_error.ReplaceError.TheVariants as errors
 use Rattle.ether_packet.specs.Builder.{content_payload}
 use Rattle.ether_packet.specs.Packet.{packet_headers, IsPacket}
 use Rattle.ether_packet.specs.ReplacingLink.{IsLinkOf}
@@ -55,6 +57,10 @@ pub record ArePartsOf (p : PacketParts) (packet : PacketSlice) : Type 0 where
   pub ether_type : p.ether_type.0 ≡ type_shown packet.rest_kind
   pub rest : p.rest.now ≡ packet.rest.now
   pub trailer : p.trailer.now ≡ trailer_of packet
+
+-- there is no extension at an index, and the error names how many there are
+abbrev pub IsNoExt : PacketParts → (index : ℕ) → ReplaceError → Type 0
+IsNoExt p index error = (length (parts_exts p) ≤ index) × (error ≡ errors.NoLinkExt (length (parts_exts p)))
 
 -- an ARP packet if there is one, and else the bytes as a payload
 abbrev pub HasContent : Option ArpValue → (ether_type : EtherType) (bytes : List ℕ) → PacketContent → Type 0

@@ -1,5 +1,5 @@
 //! The headers of a packet as values, which can be changed and written.
-use crate::{PacketBuilder, PacketContent, PacketSlice};
+use crate::{PacketBuilder, PacketContent, PacketSlice, ReplaceError};
 use etherparse::{ArpPacket, EtherType, LinkExtHeader, LinkHeader};
 
 /// The headers of a packet that was read, as values that can be changed and written, and what follows them.
@@ -47,8 +47,8 @@ pub struct PacketParts<'a> {
 }
 
 impl<'a> PacketParts<'a> {
-    ghost use Rattle.std.specs.Prelude.{◌≡◌};
-    ghost use Rattle.ether_packet.specs.Parts.{HasContent, IsBuilderOf, parts_exts};
+    ghost use Rattle.std.specs.Prelude.{◌≡◌, ◌<◌, length, slice_set, IfErr, OnOk};
+    ghost use Rattle.ether_packet.specs.Parts.{HasContent, IsBuilderOf, IsNoExt, parts_exts};
 
     /// The VLAN tags and SecTags, the outermost first.
     pub fn link_exts(&self) -> &[LinkExtHeader]
@@ -56,6 +56,41 @@ impl<'a> PacketParts<'a> {
     {
         let tags = self.tags.as_slice();
         &tags[..self.tag_count.min(tags.len())]
+    }
+
+    /// Sets the VLAN tag or SecTag at an index, counted from the outermost one. Their number stays.
+    ///
+    /// # Errors
+    ///
+    /// [`ReplaceError::NoLinkExt`]: there is no tag at the index. It names how many there are; nothing is changed.
+    ///
+    /// ```
+    /// let frame = [
+    ///     0xFF, 0xFF, 0xFF, 0xFF, 0xFF, 0xFF, 0x02, 0x00, 0x00, 0x00, 0x00, 0x01, 0x81, 0x00, // Ethernet II
+    ///     0x00, 0x64, 0x08, 0x00, // VLAN
+    ///     0x45,
+    /// ];
+    /// let Some(mut parts) = PacketSlice::from_slice(Start::Ethernet2, &frame).to_parts() else {
+    ///     panic!(rt; "no link");
+    /// };
+    /// let tag = LinkExtHeader::Vlan(SingleVlanHeader::from_bytes([0x01, 0x23, 0x08, 0x00]));
+    /// assert_eq!(rt; parts.set_link_ext(0, tag), Ok(()));
+    /// assert_eq!(rt; parts.link_exts(), [tag].as_slice());
+    /// assert_eq!(rt; parts.set_link_ext(1, tag), Err(ReplaceError::NoLinkExt(1)));
+    /// ```
+    pub fn set_link_ext(&mut self, index: usize, ext: LinkExtHeader) -> Result<(), ReplaceError>
+        ensures ok { OnOk result (index < length (parts_exts self.old)) }
+        ensures err { IfErr result (IsNoExt self.old index) }
+        ensures exts { parts_exts self.new ≡ slice_set (parts_exts self.old) index ext }
+        ensures others { self.new ≡ record self.old { tags = self.new.tags } }
+    {
+        let count = self.link_exts().len();
+        if index >= count {
+            return Err(ReplaceError::NoLinkExt(count as u8));
+        }
+        let tags = self.tags.as_mut_slice();
+        tags[index] = ext;
+        Ok(())
     }
 
     /// A builder of the packet: of its ARP packet, or of the rest as a payload.
