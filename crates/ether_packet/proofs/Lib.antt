@@ -6,7 +6,8 @@ pub mod Getting
 pub mod Unchanged
 pub mod Written
 mod Parts
-mod PartsBack
+pub mod PartsBack
+mod Frames
 pub mod Building
 pub mod Chains
 pub mod Filling

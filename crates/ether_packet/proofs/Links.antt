@@ -166,16 +166,16 @@ in_place_same (links.LinuxSll g) (headers.LinuxSll h) same =
     (same.0, ap protocol_number same.1 ∙ number_back h.hardware_type h.protocol)
 in_place_same _ _ same = absurd same
 
-in_place_fits : (g : LinkHeader) (h : Header) → FitsHeader (link_header g) → FitsHeader (in_place_of g h)
+pub in_place_fits : (g : LinkHeader) (h : Header) → FitsHeader (link_header g) → FitsHeader (in_place_of g h)
 in_place_fits (links.Ethernet2 g) (headers.Ethernet2Fcs h) fits = fits
 in_place_fits _ _ fits = fits
 
-in_place_sendable : (g : LinkHeader) (h : Header) → HasPacketType g → IsSendable (in_place_of g h)
+pub in_place_sendable : (g : LinkHeader) (h : Header) → HasPacketType g → IsSendable (in_place_of g h)
 in_place_sendable (links.Ethernet2 g) (headers.Ethernet2Fcs h) packet_type = tt
 in_place_sendable (links.Ethernet2 g) _ packet_type = tt
 in_place_sendable (links.LinuxSll g) _ packet_type = packet_type
 
-in_place_bytes : (g : LinkHeader) (h : Header) → header_bytes (link_header g) ≡ header_bytes (in_place_of g h)
+pub in_place_bytes : (g : LinkHeader) (h : Header) → header_bytes (link_header g) ≡ header_bytes (in_place_of g h)
 in_place_bytes (links.Ethernet2 g) (headers.Ethernet2Fcs h) = refl
 in_place_bytes _ _ = refl
 

@@ -27,7 +27,7 @@ use Rattle.ether_packet.proofs.Unchanged.{length-fit}
 
 -- ---- the link
 
-link_bytes : (g : LinkHeader) (h : Header) → IsLinkOf g h → header_bytes (link_header g) ≡ header_bytes h
+pub link_bytes : (g : LinkHeader) (h : Header) → IsLinkOf g h → header_bytes (link_header g) ≡ header_bytes h
 link_bytes (links.Ethernet2 g) (headers.Ethernet2 h) is = ap ethernet2_bytes is
 link_bytes (links.Ethernet2 g) (headers.Ethernet2Fcs h) is = ap ethernet2_bytes is
 link_bytes (links.LinuxSll g) (headers.LinuxSll h) is = ap linux_sll_bytes is.0

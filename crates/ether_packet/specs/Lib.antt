@@ -13,6 +13,7 @@ pub mod VlanIds
 pub mod TypedLink
 pub mod Unchanged
 pub mod Parts
+pub mod Frames
 pub mod Front
 pub mod Popping
 pub mod Texts

@@ -4,9 +4,12 @@ use etherparse::{ArpPacket, EtherType, LinkExtHeader, LinkHeader};
 
 /// The headers of a packet that was read, as values that can be changed and written, and what follows them.
 ///
-/// [`PacketSlice::to_parts`] makes them, and [`builder`](Self::builder) takes them on. Written by
-/// [`PacketBuilder::write_unchanged`], they give the front of the frame again, but for the two reserved bits of each SecTag, up
-/// to the end of the last window; by [`PacketBuilder::write`], each header announces what follows it.
+/// [`PacketSlice::to_parts`] makes them. [`write_frame`](Self::write_frame) writes the whole frame again: the headers, the rest
+/// and the trailer. Unchanged parts give the frame that was read, but for the two reserved bits of each SecTag.
+///
+/// [`builder`](Self::builder) is for packets with other tags or another payload. Written by [`PacketBuilder::write`], each
+/// header announces what follows it; by [`PacketBuilder::write_unchanged`], the headers stay as they are. Neither writes the
+/// trailer, nor what follows an ARP packet.
 ///
 /// ```
 /// let frame = [

@@ -2,7 +2,7 @@
 ghost use Rattle.std.specs.Prelude.{◌≡◌, ◌+◌, ◌≤◌, length, IfOk, IfErr, OnErr};
 ghost use Rattle.etherparse.specs.Bytes.{overwritten};
 ghost use Rattle.ether_packet.specs.Building.{AllFit};
-ghost use Rattle.ether_packet.specs.Builder.{content_bytes, content_headers, content_len, packet_len};
+ghost use Rattle.ether_packet.specs.Builder.{content_bytes, content_headers, content_len, packet_len, HasPacketType};
 ghost use Rattle.ether_packet.specs.Unchanged.{IsWrittenUnchanged, RefusesUnchanged};
 
 use crate::packet_builder::{write_arp, write_at, write_ext, write_link_header};
@@ -14,10 +14,11 @@ impl<'a, 'b> PacketBuilder<'a, 'b> {
     /// stay as they were.
     ///
     /// Where [`write`](Self::write) sets ether types and short lengths by what follows, this sets nothing. So the parts of a
-    /// packet that was read give the front of its frame again, also of a cooked capture of any link. What follows the last
-    /// window is no part of them, and is not written: the integrity check value after the payload of a SecTag with a short
-    /// length, the padding after an ARP packet, and a frame check sequence. What the headers announce, and whether a walk
-    /// finds it, is up to the caller.
+    /// packet that was read give the front of its frame again, also of a cooked capture of any link. A builder has nothing
+    /// that follows its content, so this is not written: the integrity check value after the payload of a SecTag with a
+    /// short length, the padding after an ARP packet, and a frame check sequence.
+    /// [`PacketParts::write_frame`](crate::PacketParts::write_frame) keeps all of these. What the headers announce, and
+    /// whether a walk finds it, is up to the caller.
     ///
     /// # Errors
     ///
@@ -65,9 +66,10 @@ impl<'a, 'b> PacketBuilder<'a, 'b> {
     }
 
     /// Writes the headers one after the other, and what follows them.
-    fn write_parts(&self, target: &mut [u8])
+    pub(crate) fn write_parts(&self, target: &mut [u8])
         requires { packet_len self.now ≤ length target.old }
-        ensures { IsWrittenUnchanged self.now target.old (packet_len self.now) target.new }
+        ensures written { IsWrittenUnchanged self.now target.old (packet_len self.now) target.new }
+        ensures packet_type { HasPacketType self.now.link }
     {
         write_link_header(target, &self.link);
         let mut at = self.link.header_len();

@@ -56,8 +56,8 @@ write_content_at-requires c =
     room_content c.args.self.now c.args.target.now l.target l.ext-index l.at (omega (arith, over)) l.invariant in
     omega (arith, end, room, same, first)
 
-pub returns : goal.returns
-returns c =
+pub returns-clause-written : goal.returns-clause-written
+returns-clause-written c =
     let l = c.loop-ext in
     let over = c.loop-ext-test.false in
     let content = c.write_content_at in
