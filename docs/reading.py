@@ -42,7 +42,8 @@ ARTEFACTS = {
         "ether_packet/src/packet_slice.rt": ["from_slice", "link", "link_ext_count", "link_ext", "link_exts", "arp", "vlan", "vlan_ids",
                                              "outermost_vlan", "macsec", "ether_payload", "is_complete", "min_snap_len", "arp_offset",
                                              "to_parts"],
-        "ether_packet/src/packet_parts.rt": ["link_exts", "builder"],
+        "ether_packet/src/packet_parts.rt": ["link_exts", "set_link_ext", "builder"],
+        "ether_packet/src/writing_frame.rt": ["frame_len", "write_frame"],
         "ether_packet/src/snap_len.rt": ["min_snap_len"],
         "ether_packet/src/packet_builder.rt": ["size", "write"],
         "ether_packet/src/writing_unchanged.rt": ["write_unchanged"],
@@ -52,7 +53,8 @@ ARTEFACTS = {
         "ether_packet/src/pushing.rt": ["push_vlan"],
         "ether_packet/src/front.rt": ["ethernet_front", "outer_vlan"],
         "ether_packet/src/setting.rt": ["find_vlan", "replace_vlan_id", "set_vlan_id", "set_vlan_tag", "set_tpid"],
-        "ether_packet/src/laws.rt": ["parts_go_back", "popped_after_pushed", "pushed_after_popped"],
+        "ether_packet/src/laws.rt": ["parts_go_back", "frames_go_back", "changed_frames_are_read", "popped_after_pushed",
+                                     "pushed_after_popped"],
     },
     "Capture files": {
         "ether_pcap/src/capture/capture_packets.rt": ["from_slice", "rest", "offset", "ghost"],
@@ -137,7 +139,7 @@ ORDER = {
         ether_sll: LinuxSll Link
         ether_packet: PacketUnit Views Packet Getters VlanIds Building Builder Replacing ReplacingLink ReplacingArp
         ether_peel: Grammar/Places
-        ether_packet: Unchanged Parts TypedLink Popping Pushing Setting Front Laws
+        ether_packet: Unchanged Parts Frames TypedLink Popping Pushing Setting Front Laws
         ether_base: Enumerations/LinuxNonstandardEtherType Texts/NumberText
     """,
     "Capture files": """
