@@ -89,7 +89,7 @@ impl<'a> PacketParts<'a> {
     {
         let count = self.link_exts().len();
         if index >= count {
-            return Err(ReplaceError::NoLinkExt(count as u8));
+            return Err(ReplaceError::NoLinkExt(count));
         }
         let tags = self.tags.as_mut_slice();
         tags[index] = ext;

@@ -20,6 +20,7 @@ mod setting;
 mod snap_len;
 mod tag_error;
 mod typed_link;
+mod writing_frame;
 mod writing_unchanged;
 
 pub use build_error::BuildError;

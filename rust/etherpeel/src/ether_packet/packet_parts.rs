@@ -1,12 +1,15 @@
 //! The headers of a packet as values, which can be changed and written.
-use crate::ether_packet::{PacketBuilder, PacketContent, PacketSlice};
+use crate::ether_packet::{PacketBuilder, PacketContent, PacketSlice, ReplaceError};
 use crate::{ArpPacket, EtherType, LinkExtHeader, LinkHeader};
 
 /// The headers of a packet that was read, as values that can be changed and written, and what follows them.
 ///
-/// [`PacketSlice::to_parts`] makes them, and [`builder`](Self::builder) takes them on. Written by
-/// [`PacketBuilder::write_unchanged`], they give the front of the frame again, but for the two reserved bits of each SecTag, up
-/// to the end of the last window; by [`PacketBuilder::write`], each header announces what follows it.
+/// [`PacketSlice::to_parts`] makes them. [`write_frame`](Self::write_frame) writes the whole frame again: the headers, the rest
+/// and the trailer. Unchanged parts give the frame that was read, but for the two reserved bits of each SecTag.
+///
+/// [`builder`](Self::builder) is for packets with other tags or another payload. Written by [`PacketBuilder::write`], each
+/// header announces what follows it; by [`PacketBuilder::write_unchanged`], the headers stay as they are. Neither writes the
+/// trailer, nor what follows an ARP packet.
 ///
 /// ```
 /// # use etherpeel::*;
@@ -35,14 +38,19 @@ use crate::{ArpPacket, EtherType, LinkExtHeader, LinkHeader};
 pub struct PacketParts<'a> {
     /// The header that the packet begins with.
     pub link: LinkHeader,
+    // The first `tag_count` of these; the others are unused.
     pub(crate) tags: [LinkExtHeader; PacketSlice::LINK_EXTS_CAP],
     pub(crate) tag_count: usize,
-    /// The ARP packet, if there is one. What follows it is not kept.
+    /// The ARP packet, if there is one.
     pub arp: Option<ArpPacket>,
     /// The ether type that announces the rest; 0 if none does, as after a SecTag whose payload is encrypted.
     pub ether_type: EtherType,
-    /// The bytes of the window after the headers, without a frame check sequence.
+    /// The bytes of the last window after the headers, without a frame check sequence. What follows an ARP packet in its
+    /// window, such as padding, is here, too.
     pub rest: &'a [u8],
+    /// The bytes of the frame after the rest: what follows the payload of a SecTag with a short length, such as its
+    /// integrity check value, and a frame check sequence.
+    pub trailer: &'a [u8],
 }
 
 impl<'a> PacketParts<'a> {
@@ -59,6 +67,52 @@ impl<'a> PacketParts<'a> {
     pub fn link_exts(&self) -> &[LinkExtHeader] {
         let tags = self.tags.as_slice();
         &tags[..self.tag_count.min(tags.len())]
+    }
+
+    /// Sets the VLAN tag or SecTag at an index, counted from the outermost one. Their number stays.
+    ///
+    /// # Errors
+    ///
+    /// [`ReplaceError::NoLinkExt`]: there is no tag at the index. It names how many there are; nothing is changed.
+    ///
+    /// ```
+    /// # use etherpeel::*;
+    /// # use etherpeel::ether_peel::*;
+    /// # use etherpeel::ether_sll2::*;
+    /// # use etherpeel::ether_packet::*;
+    /// let frame = [
+    ///     0xFF, 0xFF, 0xFF, 0xFF, 0xFF, 0xFF, 0x02, 0x00, 0x00, 0x00, 0x00, 0x01, 0x81, 0x00, // Ethernet II
+    ///     0x00, 0x64, 0x08, 0x00, // VLAN
+    ///     0x45,
+    /// ];
+    /// let Some(mut parts) = PacketSlice::from_slice(Start::Ethernet2, &frame).to_parts() else {
+    ///     panic!("no link");
+    /// };
+    /// let tag = LinkExtHeader::Vlan(SingleVlanHeader::from_bytes([0x01, 0x23, 0x08, 0x00]));
+    /// assert_eq!(parts.set_link_ext(0, tag), Ok(()));
+    /// assert_eq!(parts.link_exts(), [tag].as_slice());
+    /// assert_eq!(parts.set_link_ext(1, tag), Err(ReplaceError::NoLinkExt(1)));
+    /// ```
+    ///
+    /// <details><summary>Contract</summary>
+    ///
+    /// ```text
+    /// ensures ok { OnOk result (index < length (parts_exts self.old)) }
+    /// ensures err { IfErr result (IsNoExt self.old index) }
+    /// ensures exts { parts_exts self.new ≡ slice_set (parts_exts self.old) index ext }
+    /// ensures others { self.new ≡ record self.old { tags = self.new.tags } }
+    /// ```
+    ///
+    /// </details>
+    #[inline]
+    pub fn set_link_ext(&mut self, index: usize, ext: LinkExtHeader) -> Result<(), ReplaceError> {
+        let count = self.link_exts().len();
+        if index >= count {
+            return Err(ReplaceError::NoLinkExt(count));
+        }
+        let tags = self.tags.as_mut_slice();
+        tags[index] = ext;
+        Ok(())
     }
 
     /// A builder of the packet: of its ARP packet, or of the rest as a payload.

@@ -362,7 +362,8 @@ impl<'a> PacketSlice<'a> {
             RestKind::EtherType(ether_type) => ether_type,
             _ => EtherType(0),
         };
-        self.read.to_parts(ether_type, self.rest)
+        let trailer = self.read.frame_after(self.rest_offset, self.rest.len());
+        self.read.to_parts(ether_type, self.rest, trailer)
     }
 
     /// Whether no header is refused. What follows the headers may still be cut short.

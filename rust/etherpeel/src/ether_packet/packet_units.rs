@@ -218,18 +218,40 @@ impl<'a> PacketUnits<'a> {
         }
     }
 
-    /// The headers as values, before a rest that an ether type announces; `None` without a link's header.
+    /// The bytes of the frame after so many bytes from a place on.
+    ///
+    /// <details><summary>Contract</summary>
+    ///
+    /// ```text
+    /// ensures { result.now ≡ drop (at + len) self.now.frame }
+    /// ```
+    ///
+    /// </details>
+    #[inline]
+    pub fn frame_after(&self, at: usize, len: usize) -> &'a [u8] {
+        let frame = self.frame;
+        let end = at.saturating_add(len).min(frame.len());
+        &frame[end..]
+    }
+
+    /// The headers as values, before a rest that an ether type announces and what follows it; `None` without a link's header.
     ///
     /// <details><summary>Contract</summary>
     ///
     /// ```text
     /// ensures { MatchOption result (has_link (map header_of self.now.units) ≡ false)
-    ///     (λ p. HaveHeaders p (map header_of self.now.units) × (p.ether_type ≡ ether_type) × (p.rest.now ≡ rest.now)) }
+    ///     (λ p. HaveHeaders p (map header_of self.now.units) × (p.ether_type ≡ ether_type)
+    ///     × (p.rest.now ≡ rest.now) × (p.trailer.now ≡ trailer.now)) }
     /// ```
     ///
     /// </details>
     #[inline]
-    pub fn to_parts(&self, ether_type: EtherType, rest: &'a [u8]) -> Option<PacketParts<'a>> {
+    pub fn to_parts(
+        &self,
+        ether_type: EtherType,
+        rest: &'a [u8],
+        trailer: &'a [u8],
+    ) -> Option<PacketParts<'a>> {
         let link = link_header(self.link, self.frame)?;
         Some(PacketParts {
             link,
@@ -238,6 +260,7 @@ impl<'a> PacketUnits<'a> {
             arp: arp_packet(self.arp),
             ether_type,
             rest,
+            trailer,
         })
     }
 

@@ -9,10 +9,11 @@ impl<'a, 'b> PacketBuilder<'a, 'b> {
     /// stay as they were.
     ///
     /// Where [`write`](Self::write) sets ether types and short lengths by what follows, this sets nothing. So the parts of a
-    /// packet that was read give the front of its frame again, also of a cooked capture of any link. What follows the last
-    /// window is no part of them, and is not written: the integrity check value after the payload of a SecTag with a short
-    /// length, the padding after an ARP packet, and a frame check sequence. What the headers announce, and whether a walk
-    /// finds it, is up to the caller.
+    /// packet that was read give the front of its frame again, also of a cooked capture of any link. A builder has nothing
+    /// that follows its content, so this is not written: the integrity check value after the payload of a SecTag with a
+    /// short length, the padding after an ARP packet, and a frame check sequence.
+    /// [`PacketParts::write_frame`](crate::ether_packet::PacketParts::write_frame) keeps all of these. What the headers announce, and
+    /// whether a walk finds it, is up to the caller.
     ///
     /// # Errors
     ///
@@ -75,7 +76,7 @@ impl<'a, 'b> PacketBuilder<'a, 'b> {
 
     /// Writes the headers one after the other, and what follows them.
     #[inline]
-    fn write_parts(&self, target: &mut [u8]) {
+    pub(crate) fn write_parts(&self, target: &mut [u8]) {
         write_link_header(target, &self.link);
         let mut at = self.link.header_len();
         for ext in self.link_exts {

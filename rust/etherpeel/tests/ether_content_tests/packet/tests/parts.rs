@@ -1,10 +1,10 @@
 //! Packets that are read, and written with their headers as they are, or as another list.
-use super::frames::{INTEGRITY, TWICE_TAGGED_ARP_REQUEST};
+use super::frames::{CHECKED, INTEGRITY, SECOND_TAG_CUT, TWICE_TAGGED_ARP_REQUEST};
 use super::{equal, put};
-use etherpeel::ether_packet::{PacketBuilder, PacketContent, PacketSlice};
+use etherpeel::ether_packet::{PacketBuilder, PacketContent, PacketSlice, ReplaceError};
 use etherpeel::ether_peel::Start;
-use etherpeel::EtherType;
 use etherpeel::err::{Layer, SliceWriteSpaceError};
+use etherpeel::{EtherType, LinkExtHeader, MacsecHeader};
 use crate::kit::Abort;
 
 /// Two bytes of a packet on the loopback device, whose protocol number is kept: netlink, of hardware type 824.
@@ -25,6 +25,21 @@ const NAMED_AGAIN: &[u8] = &[
     0xFF, 0xFF, 0xFF, 0xFF, 0xFF, 0xFF, 2, 0, 0, 0, 0, 1, 0x88, 0xE5, // Ethernet II
     0x00, 0x06, 0, 0, 0, 1, 0x08, 0x00, // SecTag
     0x45, 0x11, 0x22, 0x33,
+];
+
+/// [`NAMED`] without the reserved bits.
+const NAMED_WHOLE: [u8; 28] = [
+    0xFF, 0xFF, 0xFF, 0xFF, 0xFF, 0xFF, 2, 0, 0, 0, 0, 1, 0x88, 0xE5, // Ethernet II
+    0x00, 0x06, 0, 0, 0, 1, 0x08, 0x00, // SecTag
+    0x45, 0x11, 0x22, 0x33, 0xEE, 0xEE,
+];
+
+/// An Ethernet II header, a SecTag that names 4 bytes of secured data, these its ether type and half a VLAN tag, and 2 bytes of an
+/// integrity check value.
+const CUT_IN_SEC_TAG: [u8; 26] = [
+    0xFF, 0xFF, 0xFF, 0xFF, 0xFF, 0xFF, 2, 0, 0, 0, 0, 1, 0x88, 0xE5, // Ethernet II
+    0x00, 0x04, 0, 0, 0, 1, 0x81, 0x00, // SecTag
+    0x00, 0x64, 0xEE, 0xEE,
 ];
 
 /// An ARP request, padded to the least length of a frame without its check sequence (IEEE 802.3, 4.4.2).
@@ -75,6 +90,107 @@ fn written_as_they_were_read() {
         let wanted = wanted.get(..written_len).unwrap_or(&[]);
         goes_back(&rt, name, start, frame.get(..len).unwrap_or(&[]), wanted);
     }
+}
+
+/// A start, a frame, the frame that is written whole, and how many bytes the rest and the trailer have.
+type WholeRow = (
+    &'static str,
+    Start,
+    &'static [u8],
+    &'static [u8],
+    usize,
+    usize,
+);
+
+#[rustfmt::skip]
+static WHOLE_ROWS: [WholeRow; 8] = [
+    ("padding", Start::Ethernet2, &PADDED_ARP_REQUEST, &PADDED_ARP_REQUEST, 18, 0),
+    ("padding and a check sequence", Start::Ethernet2Fcs, &PADDED_ARP_REQUEST, &PADDED_ARP_REQUEST, 14, 4),
+    ("an integrity check value", Start::Ethernet2, &NAMED, &NAMED_WHOLE, 4, 2),
+    ("an integrity check value and a check sequence", Start::Ethernet2Fcs, &INTEGRITY, &INTEGRITY, 40, 16),
+    ("the example of IEEE 802.1AE", Start::Ethernet2, &INTEGRITY, &INTEGRITY, 40, 16),
+    ("a check sequence", Start::Ethernet2Fcs, &CHECKED, &CHECKED, 1, 4),
+    ("a tag that is cut off", Start::Ethernet2, &SECOND_TAG_CUT, &SECOND_TAG_CUT, 2, 0),
+    ("a tag that is cut off in a SecTag", Start::Ethernet2, &CUT_IN_SEC_TAG, &CUT_IN_SEC_TAG, 2, 2),
+];
+
+/// Writes the frame of a packet whole to a target that holds 0xAA.
+fn goes_back_whole(rt: &impl Abort, row: WholeRow) {
+    let (name, start, frame, wanted, rest_len, trailer_len) = row;
+    let (mut target, mut after) = ([0xAA; 96], [0xAA; 96]);
+    put(&mut after, 0, wanted);
+    let Some(parts) = PacketSlice::from_slice(start, frame).to_parts() else {
+        panic!("{name}: no link");
+    };
+    let lens = (parts.rest.len(), parts.trailer.len(), parts.frame_len());
+    let written = parts.write_frame(&mut target);
+    equal(
+        rt,
+        name,
+        &(lens, written, target),
+        &(
+            (rest_len, trailer_len, wanted.len()),
+            Ok(wanted.len()),
+            after,
+        ),
+    );
+}
+
+#[test]
+fn written_whole() {
+    let rt = crate::kit::HostRuntime;
+    for &row in &WHOLE_ROWS {
+        goes_back_whole(&rt, row);
+    }
+}
+
+#[test]
+fn written_whole_with_another_packet_number() {
+    let rt = crate::kit::HostRuntime;
+    let packet = PacketSlice::from_slice(Start::Ethernet2, &INTEGRITY);
+    let Some(mut parts) = packet.to_parts() else {
+        panic!("no link");
+    };
+    let Some(LinkExtHeader::Macsec(tag)) = parts.link_exts().first() else {
+        panic!("no SecTag");
+    };
+    let tag = LinkExtHeader::Macsec(MacsecHeader {
+        packet_nr: 0x0102_0304,
+        ..*tag
+    });
+    let set = [parts.set_link_ext(0, tag), parts.set_link_ext(1, tag)];
+    let (mut target, mut wanted) = ([0; 86], INTEGRITY);
+    put(&mut wanted, 16, &[1, 2, 3, 4]);
+    let written = parts.write_frame(&mut target);
+    equal(
+        &rt,
+        "another packet number",
+        &(set, written, target),
+        &([Ok(()), Err(ReplaceError::NoLinkExt(1))], Ok(86), wanted),
+    );
+}
+
+#[test]
+fn without_room_for_the_padding() {
+    let rt = crate::kit::HostRuntime;
+    let packet = PacketSlice::from_slice(Start::Ethernet2, &PADDED_ARP_REQUEST);
+    let Some(parts) = packet.to_parts() else {
+        panic!("no link");
+    };
+    let mut target = [0xAA; 59];
+    let error = SliceWriteSpaceError {
+        required_len: 60,
+        len: 59,
+        layer: Layer::EtherPayload,
+        layer_start_offset: 0,
+    };
+    let refused = parts.write_frame(&mut target);
+    equal(
+        &rt,
+        "a byte less",
+        &(refused, target),
+        &(Err(error), [0xAA; 59]),
+    );
 }
 
 #[test]
