@@ -5,6 +5,8 @@
 #[cfg(test)]
 mod checks;
 #[cfg(test)]
+mod content;
+#[cfg(test)]
 mod examples;
 #[cfg(test)]
 mod filter;

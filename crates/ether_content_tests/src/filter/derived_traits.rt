@@ -1,7 +1,7 @@
-//! What callers learn of the derived traits. These functions are proved and never run.
+//! What callers learn of the derived traits and of a constant. These functions are proved and never run.
 ghost use Rattle.std.specs.Prelude.{◌≡◌, ◌↔◌, IsTrue};
 
-use ether_filter::{FilterError, FilterErrorKind, Packet};
+use ether_filter::{Decision, Filter, FilterError, FilterErrorKind, Packet};
 
 pub(crate) fn same_filter_error(a: &FilterError, b: &FilterError) -> bool
     ensures { IsTrue result ↔ (a.now ≡ b.now) }
@@ -20,4 +20,16 @@ pub(crate) fn same_packet(a: &Packet<'_>, b: &Packet<'_>) -> bool
         × (a.now.captured_len ≡ b.now.captured_len) × (a.now.original_len ≡ b.now.original_len)) }
 {
     *a == *b
+}
+
+pub(crate) fn same_decision(a: &Decision, b: &Decision) -> bool
+    ensures { IsTrue result ↔ (a.now ≡ b.now) }
+{
+    *a == *b
+}
+
+pub(crate) fn greatest_number_of_words() -> usize
+    ensures { result ≡ 192 }
+{
+    Filter::MAX_WORDS
 }

@@ -3,7 +3,7 @@ ghost use Rattle.std.specs.Prelude.{◌≡◌, ◌↔◌, IsTrue, Ok};
 ghost use Rattle.etherparse.specs.LinkExt.{SameExt};
 ghost use Rattle.ether_packet.specs.Packet.{link_exts_cap};
 
-use ether_packet::{BuildError, PacketExt, PacketSlice, ReplaceError, TagError};
+use ether_packet::{BuildError, Difference, PacketExt, PacketSlice, ReplaceError, TagError};
 use std::alloc::AllocError;
 
 pub(crate) fn clone_of_packet_ext<'a>(value: &PacketExt<'a>) -> Result<PacketExt<'a>, AllocError>
@@ -43,6 +43,12 @@ pub(crate) fn clone_of_tag_error(value: &TagError) -> Result<TagError, AllocErro
 }
 
 pub(crate) fn same_tag_error(a: &TagError, b: &TagError) -> bool
+    ensures { IsTrue result ↔ (a.now ≡ b.now) }
+{
+    *a == *b
+}
+
+pub(crate) fn same_difference(a: &Difference, b: &Difference) -> bool
     ensures { IsTrue result ↔ (a.now ≡ b.now) }
 {
     *a == *b

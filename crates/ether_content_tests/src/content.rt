@@ -1,0 +1,2 @@
+//! What callers learn of the derived traits of the types of `ether_content`.
+mod derived_traits;
