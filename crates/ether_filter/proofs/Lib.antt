@@ -1,6 +1,11 @@
 pub mod FollowingLemmas
 pub mod Found
 pub mod Evaluated
+pub mod Kleene
+pub mod Longer
+pub mod Completions
+pub mod Known
+pub mod Opened
 pub mod WordsLemmas
 pub mod NumeralLemmas
 pub mod ReadingLemmas

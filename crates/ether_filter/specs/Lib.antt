@@ -3,6 +3,7 @@ pub mod Primitives
 pub mod Postfix
 pub mod Following
 pub mod Evaluation
+pub mod Deciding
 pub mod Words
 pub mod Numerals
 pub mod Tokens

@@ -1,7 +1,8 @@
 //! A filter.
-ghost use Rattle.std.specs.Prelude.{◌≡◌, ◌↔◌, ◌+◌, ◌<◌, ◌≤◌, List, IsTrue, Ok, Err, IfOk, IfErr, MatchResult, length, reverse};
+ghost use Rattle.std.specs.Prelude.{◌≡◌, ◌↔◌, ◌++◌, ◌+◌, ◌<◌, ◌≤◌, ℕ, List, Bool, false, IsTrue, Ok, Err, IfOk, IfErr, MatchResult, length, reverse};
 ghost use Rattle.arrayvec.specs.ArrayVec.{array_vec_len};
 ghost use Rattle.etherparse.specs.Header.{Header};
+ghost use Rattle.ether_peel.specs.Grammar.Expectation.{has_fcs};
 ghost use Rattle.ether_peel.specs.Grammar.Stack.{Ending, Walk};
 ghost use Rattle.ether_peel.specs.Walker.Start.{start_of};
 ghost use Rattle.ether_filter.specs.Primitives.{walked};
@@ -10,8 +11,11 @@ ghost use Rattle.ether_filter.specs.Postfix.{pushed, expression_of};
 ghost use Rattle.ether_filter.specs.Reading.{read_text};
 ghost use Rattle.ether_filter.specs.Texts.{IsExpressionOf};
 ghost use Rattle.ether_filter.specs.Refusals.{RefusesText};
-ghost use Rattle.ether_filter.specs.Evaluation.{AreTruths, joined_truth};
+ghost use Rattle.ether_filter.specs.Evaluation.{AreValues, AreTruths, joined_truth};
+ghost use Rattle.ether_filter.specs.Deciding.{IsCompletion, AtCompletions, Says, Waits, IsOpening, IsValue};
 
+use crate::deciding::{Opening, find_opening, joined_value, known};
+use crate::decision::Decision;
 use crate::filter_error::{FilterError, FilterErrorKind};
 use crate::matching::matches_primitive;
 use crate::node::{Node, Operator};
@@ -110,7 +114,8 @@ impl Filter {
         }
     }
 
-    /// Returns `true` if a packet matches.
+    /// Returns `true` if a packet matches, as far as its frame was captured: [`decide`](Self::decide) tells more of one that was
+    /// cut.
     ///
     /// Each primitive that asks for headers takes a walk of its own through the frame.
     pub fn matches(&self, packet: &Packet<'_>) -> bool
@@ -122,6 +127,97 @@ impl Filter {
             take_node(&mut truths, *node, packet);
         }
         truths.pop().unwrap_or(false)
+    }
+
+    /// What is known of whether a packet matches, if not all of its bytes were captured.
+    ///
+    /// The packet has `original_len - captured_len` more bytes. Where its frame ends within a header, these may bring more
+    /// headers: a primitive that those could show is unknown then, and an expression is, if what is known of its primitives
+    /// doesn't settle it.
+    ///
+    /// `Needs(n)` means that it is unknown, and that a frame of fewer than `n` bytes has no more headers. A frame with a frame
+    /// check sequence needs all of its bytes, since the sequence is found only at their end.
+    ///
+    /// ```
+    /// let cut_in_tag = [
+    ///     0xFF, 0xFF, 0xFF, 0xFF, 0xFF, 0xFF, 0x02, 0x00, 0x00, 0x00, 0x00, 0x01, 0x81, 0x00, // Ethernet II
+    ///     0x00, 0x05, // the first bytes of a VLAN tag
+    /// ];
+    /// let packet = Packet {
+    ///     start: Start::Ethernet2,
+    ///     frame: &cut_in_tag,
+    ///     captured_len: 16,
+    ///     original_len: 64,
+    /// };
+    /// for (text, wanted) in [
+    ///     (b"vlan 5".as_slice(), Decision::Needs(18)),
+    ///     (b"not vlan".as_slice(), Decision::Needs(18)),
+    ///     (b"vlan 5 and greater 100".as_slice(), Decision::Fails),
+    ///     (b"ether broadcast".as_slice(), Decision::Matches),
+    /// ] {
+    ///     let decision = Filter::parse(text).map(|filter| filter.decide(&packet));
+    ///     assert_eq!(rt; decision, Ok(wanted));
+    /// }
+    /// ```
+    pub fn decide(&self, packet: &Packet<'_>) -> Decision
+        ensures says { (hs : List Header) (e : Ending) → Walk (start_of packet.now.start) packet.now.frame.now hs e
+            → (d : Decision) → (result ≡ d) ↔ Says packet.now hs e self.now d }
+        ensures matches { result ≡ Decision.Matches → AtCompletions packet.now (Holds self.now) }
+        ensures fails { result ≡ Decision.Fails → AtCompletions packet.now (λ w. ¬ (Holds self.now w)) }
+        ensures waits { (n : ℕ) → result ≡ Decision.Needs n → has_fcs (start_of packet.now.start) ≡ false
+            → (hs ks : List Header) (e f : Ending) (more : List ℕ) → Walk (start_of packet.now.start) packet.now.frame.now hs e
+            → Walk (start_of packet.now.start) (packet.now.frame.now ++ more) ks f
+            → length (packet.now.frame.now ++ more) < n → Waits hs e n ks f }
+    {
+        let opening = find_opening(packet);
+        let mut values = ArrayVec::new();
+        for node in self.nodes.as_slice() {
+            decide_node(&mut values, *node, packet, opening);
+        }
+        decision(values.pop().unwrap_or(None), opening)
+    }
+}
+
+/// The decision on an expression of this value.
+fn decision(value: Option<bool>, opening: Option<Opening>) -> Decision
+    ensures { (packet : Packet) (hs : List Header) (e : Ending) (x : Expression) → IsOpening packet e opening → IsValue packet hs e value x
+        → Says packet hs e x result }
+{
+    match (value, opening) {
+        (Some(true), _) => Decision::Matches,
+        (None, Some(opening)) => Decision::Needs(opening.needed),
+        _ => Decision::Fails,
+    }
+}
+
+/// Puts the value of an expression in the place of those of its operands.
+fn decide_node(
+    values: &mut ArrayVec<Option<bool>, MAX_WORDS>,
+    node: Node,
+    packet: &Packet<'_>,
+    opening: Option<Opening>,
+)
+    requires { array_vec_len values.old < MAX_WORDS }
+    ensures len { array_vec_len values.new ≤ array_vec_len values.old + 1 }
+    ensures values { (hs : List Header) (e : Ending) → Walk (start_of packet.now.start) packet.now.frame.now hs e
+        → IsOpening packet.now e opening
+        → (xs : List Expression) → AreValues (IsValue packet.now hs e) (reverse values.old.items) xs
+        → AreValues (IsValue packet.now hs e) (reverse values.new.items) (pushed xs node) }
+{
+    match node {
+        Node::Test(primitive) => values.push(known(primitive, packet, opening)),
+        Node::Not => {
+            if let Some(value) = values.pop() {
+                values.push(value.map(|truth| !truth));
+            }
+        }
+        Node::Join(operator) => {
+            let right = values.pop();
+            let left = values.pop();
+            if let (Some(left), Some(right)) = (left, right) {
+                values.push(joined_value(operator, left, right));
+            }
+        }
     }
 }
 

@@ -2,6 +2,8 @@
 #![tactic(auto)]
 
 mod awaited;
+mod deciding;
+mod decision;
 mod fields;
 mod filter;
 mod filter_error;
@@ -15,6 +17,7 @@ mod reading;
 mod token;
 mod words;
 
+pub use decision::Decision;
 pub use filter::Filter;
 pub use filter_error::{FilterError, FilterErrorKind};
 pub use numeral::number_of;

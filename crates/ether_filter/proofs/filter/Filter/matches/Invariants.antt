@@ -4,6 +4,7 @@ use Rattle.etherparse.specs.Header.{Header}
 use Rattle.ether_peel.specs.Grammar.Stack.{Ending, Walk}
 use Rattle.ether_peel.specs.Walker.Start.{start_of}
 use Rattle.ether_filter.specs.Primitives.{walked}
+use Rattle.ether_filter.specs.Evaluation.{IsTruth}
 use Rattle.ether_filter.proofs.Evaluated.{Evaluates}
 use Rattle.ether_filter.proofs.filter.Filter.matches.Given as goal
 
@@ -11,4 +12,4 @@ abbrev pub invariant-loop-node : goal.invariant-loop-node
 invariant-loop-node l =
     (array_vec_len l.truths ≤ l.node-index)
     × ((hs : List Header) (e : Ending) → Walk (start_of l.packet.start) l.packet.frame.now hs e
-    → Evaluates (walked l.packet hs e) l.truths.items l.node-items l.node-index)
+    → Evaluates (IsTruth (walked l.packet hs e)) l.truths.items l.node-items l.node-index)

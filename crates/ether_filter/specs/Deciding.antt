@@ -1,0 +1,154 @@
+-- What is known of whether a packet matches, if not all of its bytes were captured.
+use Rattle.std.specs.Prelude.{◌≡◌, ℕ, ◌+◌, ◌-◌, ◌<◌, ◌≤◌, List, ◌++◌, length, Option, Some, None, Bool, true, false, not, IsTrue, ◌⊎◌}
+use Rattle.std.specs.List.{list_any}
+use Rattle.etherparse.specs.Types.Layer.{Layer}
+use Rattle.etherparse.specs.Types.Layer.TheVariants as layers
+use Rattle.etherparse.specs.Bytes.{IsBytes}
+use Rattle.etherparse.specs.Header.{Header}
+use Rattle.ether_peel.specs.Grammar.Expectation.{has_fcs}
+use Rattle.ether_peel.specs.Grammar.Stack.{Ending, Walk}
+use Rattle.ether_peel.specs.Grammar.Endings.{OpenRefusal, named_len, EndsAlike}
+use Rattle.ether_peel.specs.Walker.Start.{start_of}
+use Rattle.ether_filter.specs.declared.decision.Decision.{Decision}
+use Rattle.ether_filter.specs.declared.decision.Decision.TheVariants as decisions
+use Rattle.ether_filter.specs.declared.deciding.Opening.{Opening}
+use Rattle.ether_filter.specs.declared.node.Operator.{Operator}
+use Rattle.ether_filter.specs.declared.node.Operator.TheVariants as operators
+use Rattle.ether_filter.specs.declared.packet.Packet.{Packet}
+use Rattle.ether_filter.specs.declared.primitive.Primitive.{Primitive}
+use Rattle.ether_filter.specs.declared.primitive.Primitive.TheVariants as primitives
+use Rattle.ether_filter.specs.Primitives.{is_tag, Walked, walked, Matches}
+use Rattle.ether_filter.specs.Expressions.{Expression, Test, Not, Join}
+
+-- ---- the bytes that are missing
+
+-- their number
+abbrev pub lost : Packet → ℕ
+lost packet = packet.original_len - packet.captured_len
+
+-- bytes that the frame may go on with
+pub record IsCompletion (packet : Packet) (more : List ℕ) : Type 0 where
+  pub bytes : IsBytes more
+  pub few : length more ≤ lost packet
+
+-- it is so of the packet with any such bytes after its frame, and the same lengths
+abbrev pub AtCompletions : Packet → (Walked → Type 0) → Type 0
+AtCompletions packet Is =
+    (more : List ℕ) (hs : List Header) (e : Ending)
+    → IsCompletion packet more → Walk (start_of packet.start) (packet.frame.now ++ more) hs e → Is (walked packet hs e)
+
+-- The packet, whose walk so far has this ending, is open at a length of its frame: from this length on there may be more headers.
+pub data IsOpenAt (packet : Packet) (e : Ending) (n : ℕ) : Type 0 where
+  -- the walk ends in an open refusal, which names the length, and it had so many bytes
+  refused : (o : OpenRefusal e) → packet.captured_len < packet.original_len → named_len e o ≡ n → n ≤ length packet.frame.now + lost packet
+      → IsOpenAt packet e n
+  -- its frame check sequence begins nobody knows where, until all bytes are there
+  fcs : has_fcs (start_of packet.start) ≡ true → packet.captured_len < packet.original_len → n ≡ length packet.frame.now + lost packet
+      → IsOpenAt packet e n
+
+-- ---- a primitive
+
+-- it speaks of the two lengths
+abbrev pub is_of_lengths : Primitive → Bool
+is_of_lengths primitives.Cut = true
+is_of_lengths (primitives.Less n) = true
+is_of_lengths (primitives.Greater n) = true
+is_of_lengths _ = false
+
+-- it speaks of the addresses of an Ethernet II header
+abbrev pub is_of_link : Primitive → Bool
+is_of_link (primitives.Source address) = true
+is_of_link (primitives.Destination address) = true
+is_of_link (primitives.Host address) = true
+is_of_link primitives.Broadcast = true
+is_of_link primitives.Multicast = true
+is_of_link _ = false
+
+abbrev pub is_refused : Primitive → Bool
+is_refused primitives.Refused = true
+is_refused _ = false
+
+-- A unit of this layer, or one after it, may tell of it. An ARP packet is the last unit, and announces no ether type; an Ethernet II
+-- header is the first one.
+abbrev pub can_tell : Layer → Primitive → Bool
+can_tell layers.Arp primitive = is_refused primitive
+can_tell layers.Ethernet2Header primitive = true
+can_tell layer primitive = not (is_of_link primitive)
+
+-- the headers tell of it, whatever headers follow
+abbrev pub IsTold : Primitive → Walked → Type 0
+IsTold (primitives.OuterVlan id) p = IsTrue (list_any is_tag p.headers)
+IsTold (primitives.InnerVlan id) p = ⊥
+IsTold primitives.Refused p = ⊥
+IsTold primitive p = Matches primitive p
+
+-- of a packet with these headers and this ending so far it is known whether it matches
+pub data IsKnown (packet : Packet) (hs : List Header) (e : Ending) (primitive : Primitive) : Type 0 where
+  lengths : is_of_lengths primitive ≡ true → IsKnown packet hs e primitive
+  whole : ((n : ℕ) → IsOpenAt packet e n → ⊥) → IsKnown packet hs e primitive
+  told : has_fcs (start_of packet.start) ≡ false → IsTold primitive (walked packet hs e) → IsKnown packet hs e primitive
+  passed : (o : OpenRefusal e) → can_tell o.layer primitive ≡ false → IsKnown packet hs e primitive
+
+-- ---- an expression (Kleene's strong logic of three values)
+
+-- it is known to hold (true) or to fail (false)
+abbrev pub Knows : Packet → List Header → Ending → Bool → Expression → Type 0
+Knows packet hs e true (Test primitive) = IsKnown packet hs e primitive × Matches primitive (walked packet hs e)
+Knows packet hs e false (Test primitive) = IsKnown packet hs e primitive × ¬ (Matches primitive (walked packet hs e))
+Knows packet hs e true (Not x) = Knows packet hs e false x
+Knows packet hs e false (Not x) = Knows packet hs e true x
+Knows packet hs e true (Join operators.And x y) = Knows packet hs e true x × Knows packet hs e true y
+Knows packet hs e false (Join operators.And x y) = Knows packet hs e false x ⊎ Knows packet hs e false y
+Knows packet hs e true (Join operators.Or x y) = Knows packet hs e true x ⊎ Knows packet hs e true y
+Knows packet hs e false (Join operators.Or x y) = Knows packet hs e false x × Knows packet hs e false y
+
+-- neither
+pub record IsUnknown (packet : Packet) (hs : List Header) (e : Ending) (x : Expression) : Type 0 where
+  pub not_true : Knows packet hs e true x → ⊥
+  pub not_false : Knows packet hs e false x → ⊥
+
+-- what each decision says
+abbrev pub Says : Packet → List Header → Ending → Expression → Decision → Type 0
+Says packet hs e x decisions.Matches = Knows packet hs e true x
+Says packet hs e x decisions.Fails = Knows packet hs e false x
+Says packet hs e x (decisions.Needs n) = IsOpenAt packet e n × IsUnknown packet hs e x
+
+-- A frame with headers hs and ending e was given more bytes, and has headers ks and ending f: the same, refused at the same place until
+-- it has n bytes.
+pub record Waits (hs : List Header) (e : Ending) (n : ℕ) (ks : List Header) (f : Ending) : Type 0 where
+  pub alike : EndsAlike hs e ks f
+  pub refusal : OpenRefusal f
+  pub names : named_len f refusal ≡ n
+
+-- ---- the steps of the computation
+
+-- the number of bytes that are missing, and the layer, of the open refusal of a frame's walk, if it ends in one
+abbrev pub IsRefusedUnit : List ℕ → Ending → Option (ℕ × Layer) → Type 0
+IsRefusedUnit frame e None = OpenRefusal e → ⊥
+IsRefusedUnit frame e (Some unit) = (o : OpenRefusal e) × (named_len e o ≡ length frame + unit.0) × (o.layer ≡ unit.1)
+
+-- the layer of the unit that is refused; none of a frame check sequence
+abbrev pub IsLayer : Packet → Ending → Option Layer → Type 0
+IsLayer packet e None = has_fcs (start_of packet.start) ≡ true
+IsLayer packet e (Some layer) = (o : OpenRefusal e) × (o.layer ≡ layer)
+
+-- where the packet is open, if it is
+abbrev pub IsOpening : Packet → Ending → Option Opening → Type 0
+IsOpening packet e None = (n : ℕ) → IsOpenAt packet e n → ⊥
+IsOpening packet e (Some opening) = IsOpenAt packet e opening.needed × IsLayer packet e opening.layer
+
+-- a truth, or none if it is unknown
+abbrev pub IsValue : Packet → List Header → Ending → Option Bool → Expression → Type 0
+IsValue packet hs e None x = IsUnknown packet hs e x
+IsValue packet hs e (Some truth) x = Knows packet hs e truth x
+
+-- Kleene's tables
+abbrev pub joined_value : Operator → (left right : Option Bool) → Option Bool
+joined_value operators.And (Some false) right = Some false
+joined_value operators.And left (Some false) = Some false
+joined_value operators.And (Some true) right = right
+joined_value operators.And left right = None
+joined_value operators.Or (Some true) right = Some true
+joined_value operators.Or left (Some true) = Some true
+joined_value operators.Or (Some false) right = right
+joined_value operators.Or left right = None

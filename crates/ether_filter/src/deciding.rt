@@ -1,0 +1,180 @@
+//! What is known of a primitive if not all bytes of a packet were captured.
+ghost use Rattle.std.specs.Prelude.{◌≡◌, ◌↔◌, ◌≤◌, ◌-◌, List, Some, IsTrue};
+ghost use Rattle.etherparse.specs.Bytes.{IsBytes};
+ghost use Rattle.etherparse.specs.Header.{Header};
+ghost use Rattle.ether_peel.specs.Grammar.Expectation.{has_fcs as has_fcs_of};
+ghost use Rattle.ether_peel.specs.Grammar.Stack.{Ending, Walk};
+ghost use Rattle.ether_peel.specs.Walker.Start.{start_of};
+ghost use Rattle.ether_filter.specs.Primitives.{walked, Matches};
+ghost use Rattle.ether_filter.specs.Expressions.{Test};
+ghost use Rattle.ether_filter.specs.Deciding.{lost as lost_of, is_of_lengths as is_of_lengths_of, is_of_link as is_of_link_of, can_tell as can_tell_of, IsTold, IsKnown, IsRefusedUnit, IsOpening, IsValue, joined_value as joined_value_of};
+
+use crate::matching::matches_primitive;
+use crate::node::Operator;
+use crate::packet::Packet;
+use crate::primitive::Primitive;
+use ether_peel::{PeelError, Start, summary};
+use etherparse::err::Layer;
+
+/// Where more bytes of a packet may tell more.
+#[derive(Clone, Copy)]
+pub(crate) struct Opening {
+    /// The length of the frame from which on they may.
+    pub needed: usize,
+    /// The layer of the unit that is refused until then. `None` of a frame check sequence, which is only found in the whole
+    /// frame.
+    pub layer: Option<Layer>,
+}
+
+/// Where a packet is open, if it is.
+pub(crate) fn find_opening(packet: &Packet<'_>) -> Option<Opening>
+    ensures bytes { IsBytes packet.now.frame.now }
+    ensures opening { (hs : List Header) (e : Ending) → Walk (start_of packet.now.start) packet.now.frame.now hs e
+        → IsOpening packet.now e result }
+{
+    let refused = refused_unit(packet.start, packet.frame);
+    let lost = lost(packet);
+    if lost == 0 {
+        return None;
+    }
+    if has_fcs(packet.start) {
+        return Some(Opening {
+            needed: packet.frame.len() + lost,
+            layer: None,
+        });
+    }
+    let (missing, layer) = refused?;
+    if missing > lost {
+        return None;
+    }
+    Some(Opening {
+        needed: packet.frame.len() + missing,
+        layer: Some(layer),
+    })
+}
+
+/// How many bytes the unit needs at which a frame ends too early, and the unit's layer. `None` if more bytes would not help.
+fn refused_unit(start: Start, frame: &[u8]) -> Option<(usize, Layer)>
+    ensures bytes { IsBytes frame.now }
+    ensures unit { (hs : List Header) (e : Ending) → Walk (start_of start) frame.now hs e
+        → IsRefusedUnit frame.now e result }
+{
+    let fault = summary(start, frame).fault?;
+    let missing = fault.missing()?;
+    match &fault.error {
+        PeelError::Len(error) => Some((missing, error.layer)),
+        _ => None,
+    }
+}
+
+/// Whether a frame ends in a frame check sequence.
+fn has_fcs(start: Start) -> bool
+    ensures { result ≡ has_fcs_of (start_of start) }
+{
+    matches!(start, Start::Ethernet2Fcs)
+}
+
+/// The number of bytes of a packet that were not captured.
+fn lost(packet: &Packet<'_>) -> usize
+    ensures { result ≡ lost_of packet.now }
+{
+    (packet.original_len as usize).saturating_sub(packet.captured_len)
+}
+
+/// Whether a primitive matches a packet, if that is known.
+pub(crate) fn known(
+    primitive: Primitive,
+    packet: &Packet<'_>,
+    opening: Option<Opening>,
+) -> Option<bool>
+    ensures { (hs : List Header) (e : Ending) → Walk (start_of packet.now.start) packet.now.frame.now hs e
+        → IsOpening packet.now e opening → IsValue packet.now hs e result (Test primitive) }
+{
+    let is_match = matches_primitive(primitive, packet);
+    if let Some(opening) = opening {
+        if !is_known(primitive, packet, is_match, opening) {
+            return None;
+        }
+    }
+    Some(is_match)
+}
+
+/// Whether it is known if a primitive matches an open packet, by whether it matches so far.
+fn is_known(primitive: Primitive, packet: &Packet<'_>, is_match: bool, opening: Opening) -> bool
+    ensures { (hs : List Header) (e : Ending) → Walk (start_of packet.now.start) packet.now.frame.now hs e
+        → IsTrue is_match ↔ Matches primitive (walked packet.now hs e) → IsOpening packet.now e (Some opening)
+        → IsTrue result ↔ IsKnown packet.now hs e primitive }
+{
+    if is_of_lengths(primitive) {
+        return true;
+    }
+    match opening.layer {
+        Some(layer) => !can_tell(layer, primitive) || is_told(primitive, packet, is_match),
+        None => false,
+    }
+}
+
+/// Whether a primitive speaks of the two lengths of a packet.
+fn is_of_lengths(primitive: Primitive) -> bool
+    ensures { result ≡ is_of_lengths_of primitive }
+{
+    matches!(
+        primitive,
+        Primitive::Cut | Primitive::Less(_) | Primitive::Greater(_)
+    )
+}
+
+/// Whether a unit of a layer, or one after it, may tell of a primitive.
+fn can_tell(layer: Layer, primitive: Primitive) -> bool
+    ensures { result ≡ can_tell_of layer primitive }
+{
+    match layer {
+        Layer::Arp => matches!(primitive, Primitive::Refused),
+        Layer::Ethernet2Header => true,
+        _ => !is_of_link(primitive),
+    }
+}
+
+/// Whether a primitive speaks of the addresses of an Ethernet II header.
+fn is_of_link(primitive: Primitive) -> bool
+    ensures { result ≡ is_of_link_of primitive }
+{
+    matches!(
+        primitive,
+        Primitive::Source(_)
+            | Primitive::Destination(_)
+            | Primitive::Host(_)
+            | Primitive::Broadcast
+            | Primitive::Multicast
+    )
+}
+
+/// Whether the headers so far tell of a primitive, by whether it matches so far.
+fn is_told(primitive: Primitive, packet: &Packet<'_>, is_match: bool) -> bool
+    ensures { (hs : List Header) (e : Ending) → Walk (start_of packet.now.start) packet.now.frame.now hs e
+        → IsTrue is_match ↔ Matches primitive (walked packet.now hs e)
+        → IsTrue result ↔ IsTold primitive (walked packet.now hs e) }
+{
+    match primitive {
+        Primitive::OuterVlan(_) => matches_primitive(Primitive::Vlan, packet),
+        Primitive::InnerVlan(_) | Primitive::Refused => false,
+        _ => is_match,
+    }
+}
+
+/// The value of two operands that are joined, `None` if it is unknown.
+pub(crate) fn joined_value(
+    operator: Operator,
+    left: Option<bool>,
+    right: Option<bool>,
+) -> Option<bool>
+    ensures { result ≡ joined_value_of operator left right }
+{
+    match (operator, left, right) {
+        (Operator::And, Some(false), _) | (Operator::And, _, Some(false)) => Some(false),
+        (Operator::And, Some(true), right) => right,
+        (Operator::Or, Some(true), _) | (Operator::Or, _, Some(true)) => Some(true),
+        (Operator::Or, Some(false), right) => right,
+        _ => None,
+    }
+}
