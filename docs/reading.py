@@ -34,7 +34,7 @@ ARTEFACTS = {
         "ether_text/src/tool/program.rt": ["program"],
     },
     "Filters": {
-        "ether_filter/src/filter.rt": ["parse", "matches"],
+        "ether_filter/src/filter.rt": ["parse", "matches", "decide"],
         "ether_filter/src/laws.rt": ["texts_mean_one"],
     },
     "Packets": {
@@ -130,7 +130,7 @@ ORDER = {
         ether_text: HexText Lines WalkText Verdict Tool/Mode Tool/Command Tool/Answer Run Tool/Run Tool/Outcome Arguments Tool/Program
     """,
     "Filters": """
-        ether_filter: Primitives Expressions Words Numerals Tokens Grammar Texts Refusals
+        ether_filter: Primitives Expressions Deciding Words Numerals Tokens Grammar Texts Refusals
     """,
     "Packets": """
         ether_base: Bytes Formats/Ethernet2 Formats/Vlan Formats/Macsec Formats/LinuxSll Formats/LinuxSllProtocolType Formats/Arp

@@ -9,7 +9,8 @@ use Rattle.ether_filter.specs.declared.packet.Packet.{Packet}
 use Rattle.ether_filter.specs.declared.primitive.Primitive.{Primitive}
 use Rattle.ether_filter.specs.Primitives.{Walked, walked, Matches}
 use Rattle.ether_filter.specs.Expressions.{Expression, Test, Not, Join, Holds}
-use Rattle.ether_filter.specs.Deciding.{IsKnown, Knows, IsValue, joined_value}
+use Rattle.ether_filter.specs.Deciding.{IsKnown, Knows}
+use Rattle.ether_filter.specs.Evaluation.{IsValue, joined_value}
 
 -- it isn't known to hold and to fail
 pub exclusive : (packet : Packet) (hs : List Header) (e : Ending) (x : Expression) → Knows packet hs e true x
@@ -118,3 +119,28 @@ knows_so packet hs e w (Join operators.Or x y) false a k =
       | inl h ↦ knows_so packet hs e w x false a k.0 h
       | inr h ↦ knows_so packet hs e w y false a k.1 h
     ]
+
+-- ---- what is known of a packet was known of another one
+
+pub record WasKnown (packet : Packet) (hs : List Header) (e : Ending) (p : Primitive) (w : Walked) : Type 0 where
+  pub known : IsKnown packet hs e p
+  pub matches : Matches p w → Matches p (walked packet hs e)
+  pub fails : Matches p (walked packet hs e) → Matches p w
+
+pub knew : (packet longer : Packet) (hs ks : List Header) (e f : Ending) (x : Expression) (b : Bool)
+    → ((p : Primitive) → IsKnown longer ks f p → WasKnown packet hs e p (walked longer ks f)) → Knows longer ks f b x
+    → Knows packet hs e b x
+knew packet longer hs ks e f (Test p) true was k = let a = was p k.0 in (a.known, a.matches k.1)
+knew packet longer hs ks e f (Test p) false was k = let a = was p k.0 in (a.known, λ m. k.1 (a.fails m))
+knew packet longer hs ks e f (Not x) true was k = knew packet longer hs ks e f x false was k
+knew packet longer hs ks e f (Not x) false was k = knew packet longer hs ks e f x true was k
+knew packet longer hs ks e f (Join operators.And x y) true was k =
+    (knew packet longer hs ks e f x true was k.0, knew packet longer hs ks e f y true was k.1)
+knew packet longer hs ks e f (Join operators.And x y) false was (inl k) =
+    inl (knew packet longer hs ks e f x false was k)
+knew packet longer hs ks e f (Join operators.And x y) false was (inr k) =
+    inr (knew packet longer hs ks e f y false was k)
+knew packet longer hs ks e f (Join operators.Or x y) true was (inl k) = inl (knew packet longer hs ks e f x true was k)
+knew packet longer hs ks e f (Join operators.Or x y) true was (inr k) = inr (knew packet longer hs ks e f y true was k)
+knew packet longer hs ks e f (Join operators.Or x y) false was k =
+    (knew packet longer hs ks e f x false was k.0, knew packet longer hs ks e f y false was k.1)

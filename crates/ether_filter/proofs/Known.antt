@@ -12,7 +12,8 @@ use Rattle.ether_filter.specs.declared.packet.Packet.{Packet}
 use Rattle.ether_filter.specs.declared.primitive.Primitive.{Primitive}
 use Rattle.ether_filter.specs.Primitives.{walked, Matches}
 use Rattle.ether_filter.specs.Expressions.{Test}
-use Rattle.ether_filter.specs.Deciding.{is_of_lengths, can_tell, IsTold, IsKnown, IsLayer, IsOpening, Knows}
+use Rattle.ether_filter.specs.Deciding.{is_of_lengths, can_tell, IsTold, IsKnown, Knows}
+use Rattle.ether_filter.specs.Evaluation.{IsLayer, IsOpening}
 use Rattle.ether_filter.specs.Deciding as deciding
 use Rattle.ether_filter.proofs.Completions.{one_layer}
 

@@ -5,6 +5,7 @@ pub mod Kleene
 pub mod Longer
 pub mod Completions
 pub mod Known
+pub mod Waiting
 pub mod Opened
 pub mod WordsLemmas
 pub mod NumeralLemmas

@@ -20,7 +20,8 @@ use Rattle.ether_peel.specs.declared.walk_summary.Summary.{Summary}
 use Rattle.ether_peel.proofs.Grammar.Carrying.{leads}
 use Rattle.ether_peel.proofs.Grammar.Extensions.{no_fcs, walk_open_to_end}
 use Rattle.ether_filter.specs.declared.packet.Packet.{Packet}
-use Rattle.ether_filter.specs.Deciding.{lost, IsOpenAt, refused, fcs, IsRefusedUnit, IsOpening}
+use Rattle.ether_filter.specs.Deciding.{lost, IsOpenAt, refused, fcs}
+use Rattle.ether_filter.specs.Evaluation.{IsRefusedUnit, IsOpening}
 use Rattle.ether_filter.proofs.Completions.{one_required}
 
 -- ---- the fault

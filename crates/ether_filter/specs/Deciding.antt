@@ -11,7 +11,6 @@ use Rattle.ether_peel.specs.Grammar.Endings.{OpenRefusal, named_len, EndsAlike}
 use Rattle.ether_peel.specs.Walker.Start.{start_of}
 use Rattle.ether_filter.specs.declared.decision.Decision.{Decision}
 use Rattle.ether_filter.specs.declared.decision.Decision.TheVariants as decisions
-use Rattle.ether_filter.specs.declared.deciding.Opening.{Opening}
 use Rattle.ether_filter.specs.declared.node.Operator.{Operator}
 use Rattle.ether_filter.specs.declared.node.Operator.TheVariants as operators
 use Rattle.ether_filter.specs.declared.packet.Packet.{Packet}
@@ -26,23 +25,23 @@ use Rattle.ether_filter.specs.Expressions.{Expression, Test, Not, Join}
 abbrev pub lost : Packet → ℕ
 lost packet = packet.original_len - packet.captured_len
 
--- bytes that the frame may go on with
+-- bytes that may follow its frame
 pub record IsCompletion (packet : Packet) (more : List ℕ) : Type 0 where
   pub bytes : IsBytes more
   pub few : length more ≤ lost packet
 
--- it is so of the packet with any such bytes after its frame, and the same lengths
+-- it is so of the packet with any such bytes after its frame; its two lengths stay as they are
 abbrev pub AtCompletions : Packet → (Walked → Type 0) → Type 0
 AtCompletions packet Is =
     (more : List ℕ) (hs : List Header) (e : Ending)
     → IsCompletion packet more → Walk (start_of packet.start) (packet.frame.now ++ more) hs e → Is (walked packet hs e)
 
--- The packet, whose walk so far has this ending, is open at a length of its frame: from this length on there may be more headers.
+-- The packet, whose walk so far has this ending, is open at a length of its frame: with that many bytes it may have more headers.
 pub data IsOpenAt (packet : Packet) (e : Ending) (n : ℕ) : Type 0 where
-  -- the walk ends in an open refusal, which names the length, and it had so many bytes
+  -- the walk ends in an open refusal, which names the length, and the packet had so many bytes
   refused : (o : OpenRefusal e) → packet.captured_len < packet.original_len → named_len e o ≡ n → n ≤ length packet.frame.now + lost packet
       → IsOpenAt packet e n
-  -- its frame check sequence begins nobody knows where, until all bytes are there
+  -- it has a frame check sequence, whose place is known only of the whole frame
   fcs : has_fcs (start_of packet.start) ≡ true → packet.captured_len < packet.original_len → n ≡ length packet.frame.now + lost packet
       → IsOpenAt packet e n
 
@@ -75,14 +74,15 @@ can_tell layers.Arp primitive = is_refused primitive
 can_tell layers.Ethernet2Header primitive = true
 can_tell layer primitive = not (is_of_link primitive)
 
--- the headers tell of it, whatever headers follow
+-- the headers so far tell of it, whatever headers follow
 abbrev pub IsTold : Primitive → Walked → Type 0
 IsTold (primitives.OuterVlan id) p = IsTrue (list_any is_tag p.headers)
 IsTold (primitives.InnerVlan id) p = ⊥
 IsTold primitives.Refused p = ⊥
 IsTold primitive p = Matches primitive p
 
--- of a packet with these headers and this ending so far it is known whether it matches
+-- Of a packet, with these headers and this ending so far, it is known whether the primitive matches: it speaks of the lengths; no more
+-- headers can come; the headers so far tell of it; or no unit that can still come tells of it.
 pub data IsKnown (packet : Packet) (hs : List Header) (e : Ending) (primitive : Primitive) : Type 0 where
   lengths : is_of_lengths primitive ≡ true → IsKnown packet hs e primitive
   whole : ((n : ℕ) → IsOpenAt packet e n → ⊥) → IsKnown packet hs e primitive
@@ -113,42 +113,32 @@ Says packet hs e x decisions.Matches = Knows packet hs e true x
 Says packet hs e x decisions.Fails = Knows packet hs e false x
 Says packet hs e x (decisions.Needs n) = IsOpenAt packet e n × IsUnknown packet hs e x
 
--- A frame with headers hs and ending e was given more bytes, and has headers ks and ending f: the same, refused at the same place until
--- it has n bytes.
+-- ---- until the length is there
+
+-- A frame with headers hs and ending e has headers ks and ending f with more bytes: the same headers, and a refusal at the same place
+-- that names n.
 pub record Waits (hs : List Header) (e : Ending) (n : ℕ) (ks : List Header) (f : Ending) : Type 0 where
   pub alike : EndsAlike hs e ks f
   pub refusal : OpenRefusal f
   pub names : named_len f refusal ≡ n
 
--- ---- the steps of the computation
+-- it is so of each frame of fewer than n bytes that the packet's frame is a front of, without a frame check sequence
+abbrev pub WaitsUntil : Packet → ℕ → Type 0
+WaitsUntil packet n =
+    (hs ks : List Header) (e f : Ending) (more : List ℕ)
+    → has_fcs (start_of packet.start) ≡ false → length (packet.frame.now ++ more) < n
+    → Walk (start_of packet.start) packet.frame.now hs e → Walk (start_of packet.start) (packet.frame.now ++ more) ks f → Waits hs e n ks f
 
--- the number of bytes that are missing, and the layer, of the open refusal of a frame's walk, if it ends in one
-abbrev pub IsRefusedUnit : List ℕ → Ending → Option (ℕ × Layer) → Type 0
-IsRefusedUnit frame e None = OpenRefusal e → ⊥
-IsRefusedUnit frame e (Some unit) = (o : OpenRefusal e) × (named_len e o ≡ length frame + unit.0) × (o.layer ≡ unit.1)
+-- the packet, of which more bytes were captured
+pub record IsLonger (packet longer : Packet) : Type 0 where
+  pub more : List ℕ
+  pub start : longer.start ≡ packet.start
+  pub frame : longer.frame.now ≡ packet.frame.now ++ more
+  pub captured : longer.captured_len ≡ packet.captured_len + length more
+  pub original : longer.original_len ≡ packet.original_len
 
--- the layer of the unit that is refused; none of a frame check sequence
-abbrev pub IsLayer : Packet → Ending → Option Layer → Type 0
-IsLayer packet e None = has_fcs (start_of packet.start) ≡ true
-IsLayer packet e (Some layer) = (o : OpenRefusal e) × (o.layer ≡ layer)
-
--- where the packet is open, if it is
-abbrev pub IsOpening : Packet → Ending → Option Opening → Type 0
-IsOpening packet e None = (n : ℕ) → IsOpenAt packet e n → ⊥
-IsOpening packet e (Some opening) = IsOpenAt packet e opening.needed × IsLayer packet e opening.layer
-
--- a truth, or none if it is unknown
-abbrev pub IsValue : Packet → List Header → Ending → Option Bool → Expression → Type 0
-IsValue packet hs e None x = IsUnknown packet hs e x
-IsValue packet hs e (Some truth) x = Knows packet hs e truth x
-
--- Kleene's tables
-abbrev pub joined_value : Operator → (left right : Option Bool) → Option Bool
-joined_value operators.And (Some false) right = Some false
-joined_value operators.And left (Some false) = Some false
-joined_value operators.And (Some true) right = right
-joined_value operators.And left right = None
-joined_value operators.Or (Some true) right = Some true
-joined_value operators.Or left (Some true) = Some true
-joined_value operators.Or (Some false) right = right
-joined_value operators.Or left right = None
+-- with fewer than n bytes of its frame captured it needs n, too
+abbrev pub StaysUnknown : Packet → ℕ → Expression → Type 0
+StaysUnknown packet n x =
+    (longer : Packet) (hs : List Header) (e : Ending)
+    → IsLonger packet longer → length longer.frame.now < n → Walk (start_of longer.start) longer.frame.now hs e → Says longer hs e x (decisions.Needs n)

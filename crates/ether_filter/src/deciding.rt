@@ -7,7 +7,8 @@ ghost use Rattle.ether_peel.specs.Grammar.Stack.{Ending, Walk};
 ghost use Rattle.ether_peel.specs.Walker.Start.{start_of};
 ghost use Rattle.ether_filter.specs.Primitives.{walked, Matches};
 ghost use Rattle.ether_filter.specs.Expressions.{Test};
-ghost use Rattle.ether_filter.specs.Deciding.{lost as lost_of, is_of_lengths as is_of_lengths_of, is_of_link as is_of_link_of, can_tell as can_tell_of, IsTold, IsKnown, IsRefusedUnit, IsOpening, IsValue, joined_value as joined_value_of};
+ghost use Rattle.ether_filter.specs.Deciding.{lost as lost_of, is_of_lengths as is_of_lengths_of, is_of_link as is_of_link_of, can_tell as can_tell_of, IsTold, IsKnown};
+ghost use Rattle.ether_filter.specs.Evaluation.{IsRefusedUnit, IsOpening, IsValue, joined_value as joined_value_of};
 
 use crate::matching::matches_primitive;
 use crate::node::Operator;
@@ -16,17 +17,16 @@ use crate::primitive::Primitive;
 use ether_peel::{PeelError, Start, summary};
 use etherparse::err::Layer;
 
-/// Where more bytes of a packet may tell more.
+/// The length of its frame with which a packet may have more headers.
 #[derive(Clone, Copy)]
 pub(crate) struct Opening {
-    /// The length of the frame from which on they may.
     pub needed: usize,
-    /// The layer of the unit that is refused until then. `None` of a frame check sequence, which is only found in the whole
-    /// frame.
+    /// The layer of the unit that is refused until then. `None` if the frame ends in a frame check sequence, whose place is
+    /// known only of the whole frame.
     pub layer: Option<Layer>,
 }
 
-/// Where a packet is open, if it is.
+/// The length with which a packet may have more headers, if it may.
 pub(crate) fn find_opening(packet: &Packet<'_>) -> Option<Opening>
     ensures bytes { IsBytes packet.now.frame.now }
     ensures opening { (hs : List Header) (e : Ending) → Walk (start_of packet.now.start) packet.now.frame.now hs e

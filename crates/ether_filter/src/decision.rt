@@ -7,6 +7,6 @@ pub enum Decision {
     Matches,
     /// It doesn't match, whatever the missing bytes are.
     Fails,
-    /// The frame doesn't tell before it has this many bytes.
+    /// That is unknown, and stays unknown until the frame has at least this many bytes.
     Needs(usize),
 }

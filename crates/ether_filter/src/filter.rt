@@ -2,7 +2,6 @@
 ghost use Rattle.std.specs.Prelude.{◌≡◌, ◌↔◌, ◌++◌, ◌+◌, ◌<◌, ◌≤◌, ℕ, List, Bool, false, IsTrue, Ok, Err, IfOk, IfErr, MatchResult, length, reverse};
 ghost use Rattle.arrayvec.specs.ArrayVec.{array_vec_len};
 ghost use Rattle.etherparse.specs.Header.{Header};
-ghost use Rattle.ether_peel.specs.Grammar.Expectation.{has_fcs};
 ghost use Rattle.ether_peel.specs.Grammar.Stack.{Ending, Walk};
 ghost use Rattle.ether_peel.specs.Walker.Start.{start_of};
 ghost use Rattle.ether_filter.specs.Primitives.{walked};
@@ -11,8 +10,8 @@ ghost use Rattle.ether_filter.specs.Postfix.{pushed, expression_of};
 ghost use Rattle.ether_filter.specs.Reading.{read_text};
 ghost use Rattle.ether_filter.specs.Texts.{IsExpressionOf};
 ghost use Rattle.ether_filter.specs.Refusals.{RefusesText};
-ghost use Rattle.ether_filter.specs.Evaluation.{AreValues, AreTruths, joined_truth};
-ghost use Rattle.ether_filter.specs.Deciding.{IsCompletion, AtCompletions, Says, Waits, IsOpening, IsValue};
+ghost use Rattle.ether_filter.specs.Evaluation.{AreValues, AreTruths, joined_truth, IsOpening, IsValue};
+ghost use Rattle.ether_filter.specs.Deciding.{AtCompletions, Says, StaysUnknown, WaitsUntil};
 
 use crate::deciding::{Opening, find_opening, joined_value, known};
 use crate::decision::Decision;
@@ -114,8 +113,8 @@ impl Filter {
         }
     }
 
-    /// Returns `true` if a packet matches, as far as its frame was captured: [`decide`](Self::decide) tells more of one that was
-    /// cut.
+    /// Returns `true` if a packet matches, by the bytes that were captured. Of a packet that was cut, [`decide`](Self::decide)
+    /// tells more.
     ///
     /// Each primitive that asks for headers takes a walk of its own through the frame.
     pub fn matches(&self, packet: &Packet<'_>) -> bool
@@ -131,12 +130,16 @@ impl Filter {
 
     /// What is known of whether a packet matches, if not all of its bytes were captured.
     ///
-    /// The packet has `original_len - captured_len` more bytes. Where its frame ends within a header, these may bring more
-    /// headers: a primitive that those could show is unknown then, and an expression is, if what is known of its primitives
-    /// doesn't settle it.
+    /// `Matches` and `Fails` hold whatever the missing `original_len - captured_len` bytes are. `Needs(n)` means that this is
+    /// unknown, and that it stays unknown with fewer than `n` bytes of the frame.
     ///
-    /// `Needs(n)` means that it is unknown, and that a frame of fewer than `n` bytes has no more headers. A frame with a frame
-    /// check sequence needs all of its bytes, since the sequence is found only at their end.
+    /// A primitive is unknown if the header that was cut short, or one after it, can still show it. `not`, `and` and `or` are
+    /// those of Kleene's logic of three values: `vlan 5 and greater 100` fails for a packet of 64 bytes, even if its VLAN tags
+    /// are unknown. If the frame was not cut within a header, the result is `Matches` or `Fails`, as
+    /// [`matches`](Self::matches) says.
+    ///
+    /// If the frame ends in a frame check sequence, a primitive that asks for headers needs all of its bytes, since only then
+    /// the place of the sequence is known.
     ///
     /// ```
     /// let cut_in_tag = [
@@ -164,10 +167,8 @@ impl Filter {
             → (d : Decision) → (result ≡ d) ↔ Says packet.now hs e self.now d }
         ensures matches { result ≡ Decision.Matches → AtCompletions packet.now (Holds self.now) }
         ensures fails { result ≡ Decision.Fails → AtCompletions packet.now (λ w. ¬ (Holds self.now w)) }
-        ensures waits { (n : ℕ) → result ≡ Decision.Needs n → has_fcs (start_of packet.now.start) ≡ false
-            → (hs ks : List Header) (e f : Ending) (more : List ℕ) → Walk (start_of packet.now.start) packet.now.frame.now hs e
-            → Walk (start_of packet.now.start) (packet.now.frame.now ++ more) ks f
-            → length (packet.now.frame.now ++ more) < n → Waits hs e n ks f }
+        ensures needs { (n : ℕ) → result ≡ Decision.Needs n → StaysUnknown packet.now n self.now }
+        ensures waits { (n : ℕ) → result ≡ Decision.Needs n → WaitsUntil packet.now n }
     {
         let opening = find_opening(packet);
         let mut values = ArrayVec::new();

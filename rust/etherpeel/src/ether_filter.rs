@@ -1,6 +1,8 @@
 //! Filters of packets: expressions in the words of pcap-filter(7), and whether a packet matches. No call allocates memory.
 
 mod awaited;
+mod deciding;
+mod decision;
 mod fields;
 mod filter;
 mod filter_error;
@@ -13,6 +15,7 @@ mod reading;
 mod token;
 mod words;
 
+pub use decision::Decision;
 pub use filter::Filter;
 pub use filter_error::{FilterError, FilterErrorKind};
 pub use numeral::number_of;

@@ -1,5 +1,7 @@
 //! A filter.
 
+use crate::ether_filter::deciding::{Opening, find_opening, joined_value, known};
+use crate::ether_filter::decision::Decision;
 use crate::ether_filter::filter_error::{FilterError, FilterErrorKind};
 use crate::ether_filter::matching::matches_primitive;
 use crate::ether_filter::node::{Node, Operator};
@@ -96,7 +98,8 @@ impl Filter {
         }
     }
 
-    /// Returns `true` if a packet matches.
+    /// Returns `true` if a packet matches, by the bytes that were captured. Of a packet that was cut, [`decide`](Self::decide)
+    /// tells more.
     ///
     /// Each primitive that asks for headers takes a walk of its own through the frame.
     ///
@@ -115,6 +118,103 @@ impl Filter {
             take_node(&mut truths, *node, packet);
         }
         truths.pop().unwrap_or(false)
+    }
+
+    /// What is known of whether a packet matches, if not all of its bytes were captured.
+    ///
+    /// `Matches` and `Fails` hold whatever the missing `original_len - captured_len` bytes are. `Needs(n)` means that this is
+    /// unknown, and that it stays unknown with fewer than `n` bytes of the frame.
+    ///
+    /// A primitive is unknown if the header that was cut short, or one after it, can still show it. `not`, `and` and `or` are
+    /// those of Kleene's logic of three values: `vlan 5 and greater 100` fails for a packet of 64 bytes, even if its VLAN tags
+    /// are unknown. If the frame was not cut within a header, the result is `Matches` or `Fails`, as
+    /// [`matches`](Self::matches) says.
+    ///
+    /// If the frame ends in a frame check sequence, a primitive that asks for headers needs all of its bytes, since only then
+    /// the place of the sequence is known.
+    ///
+    /// ```
+    /// # use etherpeel::*;
+    /// # use etherpeel::ether_peel::*;
+    /// # use etherpeel::ether_sll2::*;
+    /// # use etherpeel::ether_packet::*;
+    /// # use etherpeel::ether_filter::*;
+    /// let cut_in_tag = [
+    ///     0xFF, 0xFF, 0xFF, 0xFF, 0xFF, 0xFF, 0x02, 0x00, 0x00, 0x00, 0x00, 0x01, 0x81, 0x00, // Ethernet II
+    ///     0x00, 0x05, // the first bytes of a VLAN tag
+    /// ];
+    /// let packet = Packet {
+    ///     start: Start::Ethernet2,
+    ///     frame: &cut_in_tag,
+    ///     captured_len: 16,
+    ///     original_len: 64,
+    /// };
+    /// for (text, wanted) in [
+    ///     (b"vlan 5".as_slice(), Decision::Needs(18)),
+    ///     (b"not vlan".as_slice(), Decision::Needs(18)),
+    ///     (b"vlan 5 and greater 100".as_slice(), Decision::Fails),
+    ///     (b"ether broadcast".as_slice(), Decision::Matches),
+    /// ] {
+    ///     let decision = Filter::parse(text).map(|filter| filter.decide(&packet));
+    ///     assert_eq!(decision, Ok(wanted));
+    /// }
+    /// ```
+    ///
+    /// <details><summary>Contract</summary>
+    ///
+    /// ```text
+    /// ensures says { (hs : List Header) (e : Ending) → Walk (start_of packet.now.start) packet.now.frame.now hs e
+    ///     → (d : Decision) → (result ≡ d) ↔ Says packet.now hs e self.now d }
+    /// ensures matches { result ≡ Decision.Matches → AtCompletions packet.now (Holds self.now) }
+    /// ensures fails { result ≡ Decision.Fails → AtCompletions packet.now (λ w. ¬ (Holds self.now w)) }
+    /// ensures needs { (n : ℕ) → result ≡ Decision.Needs n → StaysUnknown packet.now n self.now }
+    /// ensures waits { (n : ℕ) → result ≡ Decision.Needs n → WaitsUntil packet.now n }
+    /// ```
+    ///
+    /// </details>
+    #[inline]
+    pub fn decide(&self, packet: &Packet<'_>) -> Decision {
+        let opening = find_opening(packet);
+        let mut values = ArrayVec::new();
+        for node in self.nodes.as_slice() {
+            decide_node(&mut values, *node, packet, opening);
+        }
+        decision(values.pop().unwrap_or(None), opening)
+    }
+}
+
+/// The decision on an expression of this value.
+#[inline]
+fn decision(value: Option<bool>, opening: Option<Opening>) -> Decision {
+    match (value, opening) {
+        (Some(true), _) => Decision::Matches,
+        (None, Some(opening)) => Decision::Needs(opening.needed),
+        _ => Decision::Fails,
+    }
+}
+
+/// Puts the value of an expression in the place of those of its operands.
+#[inline]
+fn decide_node(
+    values: &mut ArrayVec<Option<bool>, MAX_WORDS>,
+    node: Node,
+    packet: &Packet<'_>,
+    opening: Option<Opening>,
+) {
+    match node {
+        Node::Test(primitive) => values.push(known(primitive, packet, opening)),
+        Node::Not => {
+            if let Some(value) = values.pop() {
+                values.push(value.map(|truth| !truth));
+            }
+        }
+        Node::Join(operator) => {
+            let right = values.pop();
+            let left = values.pop();
+            if let (Some(left), Some(right)) = (left, right) {
+                values.push(joined_value(operator, left, right));
+            }
+        }
     }
 }
 

@@ -11,6 +11,7 @@ mod example_frames;
 mod example_learning_switch;
 
 mod checks;
+mod content;
 mod examples;
 mod filter;
 mod packet;

@@ -1,6 +1,6 @@
 //! The examples of the documentation.
 use crate::checks::equal;
-use ether_filter::{Filter, FilterErrorKind, Packet, number_of};
+use ether_filter::{Decision, Filter, FilterErrorKind, Packet, number_of};
 use ether_peel::Start;
 use std::test::Fail;
 
@@ -24,6 +24,32 @@ fn of_filters(rt: HostRuntime) -> Result<(), Fail> {
     for &(text, wanted) in &FILTERS {
         let filter = Filter::parse(text).ok().ok_or("an expression")?;
         equal(&rt, "the example", &filter.matches(&PACKET), &wanted);
+    }
+    Ok(())
+}
+
+const CUT_IN_TAG: Packet<'static> = Packet {
+    start: Start::Ethernet2,
+    frame: &[
+        0xFF, 0xFF, 0xFF, 0xFF, 0xFF, 0xFF, 0x02, 0x00, 0x00, 0x00, 0x00, 0x01, 0x81, 0x00, 0x00,
+        0x05,
+    ],
+    captured_len: 16,
+    original_len: 64,
+};
+
+static DECISIONS: [(&[u8], Decision); 4] = [
+    (b"vlan 5", Decision::Needs(18)),
+    (b"not vlan", Decision::Needs(18)),
+    (b"vlan 5 and greater 100", Decision::Fails),
+    (b"ether broadcast", Decision::Matches),
+];
+
+#[test]
+fn of_decisions(rt: HostRuntime) -> Result<(), Fail> {
+    for &(text, wanted) in &DECISIONS {
+        let filter = Filter::parse(text).ok().ok_or("an expression")?;
+        equal(&rt, "the example", &filter.decide(&CUT_IN_TAG), &wanted);
     }
     Ok(())
 }

@@ -1,5 +1,5 @@
 use Rattle.std.proofs.Common.{subst}
-use Rattle.ether_filter.specs.Deciding.{IsOpening}
+use Rattle.ether_filter.specs.Evaluation.{IsOpening}
 use Rattle.ether_filter.proofs.Known.{test_known}
 use Rattle.ether_filter.proofs.deciding.known.Goals as goal
 

@@ -2,8 +2,7 @@ use Rattle.std.proofs.Common.{◌++◌, ap, subst, sym, ◌∙◌, reverse}
 use Rattle.std.specs.Prelude.{option_to_list}
 use Rattle.ether_filter.specs.declared.node.Node.{Node}
 use Rattle.ether_filter.specs.Postfix.{pushed}
-use Rattle.ether_filter.specs.Evaluation.{AreValues}
-use Rattle.ether_filter.specs.Deciding.{IsValue}
+use Rattle.ether_filter.specs.Evaluation.{AreValues, IsValue}
 use Rattle.ether_filter.proofs.Evaluated.{join_step}
 use Rattle.ether_filter.proofs.Kleene.{joined_is}
 use Rattle.ether_filter.proofs.filter.decide_node.Goals as goal

@@ -1,5 +1,5 @@
 use Rattle.std.proofs.Common.{subst}
-use Rattle.ether_filter.specs.Deciding.{IsOpening, IsValue}
+use Rattle.ether_filter.specs.Evaluation.{IsOpening, IsValue}
 use Rattle.ether_filter.specs.Deciding as deciding
 use Rattle.ether_filter.proofs.Kleene.{all_known}
 use Rattle.ether_filter.proofs.filter.decision.Goals as goal

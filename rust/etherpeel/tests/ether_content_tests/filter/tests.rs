@@ -1,5 +1,6 @@
 //! Which packets match, where texts are refused, and the examples of the documentation.
 mod content;
+mod deciding;
 mod examples;
 mod matching;
 mod refusals;

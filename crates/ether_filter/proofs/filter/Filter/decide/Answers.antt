@@ -7,10 +7,12 @@ use Rattle.ether_peel.proofs.Grammar.Stacks.{some_stack}
 use Rattle.ether_filter.specs.Primitives.{walked}
 use Rattle.ether_filter.specs.Expressions.{Expression}
 use Rattle.ether_filter.specs.Postfix.{expression_of}
-use Rattle.ether_filter.specs.Deciding.{IsValue, Says}
+use Rattle.ether_filter.specs.Deciding.{Says}
+use Rattle.ether_filter.specs.Evaluation.{IsValue}
 use Rattle.ether_filter.proofs.Evaluated.{evaluates_next, evaluated}
 use Rattle.ether_filter.proofs.Kleene.{knows_so}
 use Rattle.ether_filter.proofs.Completions.{agrees, waits, says_one}
+use Rattle.ether_filter.proofs.Waiting.{needs_all}
 use Rattle.ether_filter.proofs.filter.Filter.decide.Goals as goal
 
 pub loop-node-preserved : goal.loop-node-preserved
@@ -63,8 +65,17 @@ returns-clause-fails c is more ks f completes walk_on =
     (agrees packet more s.0 ks s.1 f ok completes s.2 walk_on)
     (subst (Says packet s.0 s.1 c.args.self.now) is (says c s.0 s.1 s.2))
 
+pub returns-clause-needs : goal.returns-clause-needs
+returns-clause-needs c n is longer ks f more lt walk_on =
+    let packet = c.args.packet.now in
+    let start = start_of packet.start in
+    let ok = c.find_opening-opening.ensures.bytes in
+    let s = some_stack packet.frame.now start (whole start packet.frame.now) ok in
+    let k = subst (Says packet s.0 s.1 c.args.self.now) is (says c s.0 s.1 s.2) in
+    needs_all packet longer s.0 ks s.1 f n c.args.self.now s.2 walk_on more lt k.0 k.1
+
 pub returns-clause-waits : goal.returns-clause-waits
-returns-clause-waits c n is free hs ks e f more walk walk_on lt =
+returns-clause-waits c n is hs ks e f more free lt walk walk_on =
     let packet = c.args.packet.now in
     let k = subst (Says packet hs e c.args.self.now) is (says c hs e walk) in
     waits packet more hs ks e f n free k.0 walk walk_on lt

@@ -3,7 +3,7 @@ use Rattle.arrayvec.specs.ArrayVec.{array_vec_len}
 use Rattle.etherparse.specs.Header.{Header}
 use Rattle.ether_peel.specs.Grammar.Stack.{Ending, Walk}
 use Rattle.ether_peel.specs.Walker.Start.{start_of}
-use Rattle.ether_filter.specs.Deciding.{IsOpening, IsValue}
+use Rattle.ether_filter.specs.Evaluation.{IsOpening, IsValue}
 use Rattle.ether_filter.proofs.Evaluated.{Evaluates}
 use Rattle.ether_filter.proofs.filter.Filter.decide.Given as goal
 

@@ -1,0 +1,150 @@
+//! What is known of a primitive if not all bytes of a packet were captured.
+
+use crate::ether_filter::matching::matches_primitive;
+use crate::ether_filter::node::Operator;
+use crate::ether_filter::packet::Packet;
+use crate::ether_filter::primitive::Primitive;
+use crate::ether_peel::{PeelError, Start, summary};
+use crate::err::Layer;
+
+/// The length of its frame with which a packet may have more headers.
+#[derive(Clone, Copy)]
+pub(crate) struct Opening {
+    pub needed: usize,
+    /// The layer of the unit that is refused until then. `None` if the frame ends in a frame check sequence, whose place is
+    /// known only of the whole frame.
+    pub layer: Option<Layer>,
+}
+
+/// The length with which a packet may have more headers, if it may.
+#[inline]
+pub(crate) fn find_opening(packet: &Packet<'_>) -> Option<Opening> {
+    let refused = refused_unit(packet.start, packet.frame);
+    let lost = lost(packet);
+    if lost == 0 {
+        return None;
+    }
+    if has_fcs(packet.start) {
+        return Some(Opening {
+            needed: packet.frame.len() + lost,
+            layer: None,
+        });
+    }
+    let (missing, layer) = refused?;
+    if missing > lost {
+        return None;
+    }
+    Some(Opening {
+        needed: packet.frame.len() + missing,
+        layer: Some(layer),
+    })
+}
+
+/// How many bytes the unit needs at which a frame ends too early, and the unit's layer. `None` if more bytes would not help.
+#[inline]
+fn refused_unit(start: Start, frame: &[u8]) -> Option<(usize, Layer)> {
+    let fault = summary(start, frame).fault?;
+    let missing = fault.missing()?;
+    match &fault.error {
+        PeelError::Len(error) => Some((missing, error.layer)),
+        _ => None,
+    }
+}
+
+/// Whether a frame ends in a frame check sequence.
+#[inline]
+fn has_fcs(start: Start) -> bool {
+    matches!(start, Start::Ethernet2Fcs)
+}
+
+/// The number of bytes of a packet that were not captured.
+#[inline]
+fn lost(packet: &Packet<'_>) -> usize {
+    (packet.original_len as usize).saturating_sub(packet.captured_len)
+}
+
+/// Whether a primitive matches a packet, if that is known.
+#[inline]
+pub(crate) fn known(
+    primitive: Primitive,
+    packet: &Packet<'_>,
+    opening: Option<Opening>,
+) -> Option<bool> {
+    let is_match = matches_primitive(primitive, packet);
+    if let Some(opening) = opening {
+        if !is_known(primitive, packet, is_match, opening) {
+            return None;
+        }
+    }
+    Some(is_match)
+}
+
+/// Whether it is known if a primitive matches an open packet, by whether it matches so far.
+#[inline]
+fn is_known(primitive: Primitive, packet: &Packet<'_>, is_match: bool, opening: Opening) -> bool {
+    if is_of_lengths(primitive) {
+        return true;
+    }
+    match opening.layer {
+        Some(layer) => !can_tell(layer, primitive) || is_told(primitive, packet, is_match),
+        None => false,
+    }
+}
+
+/// Whether a primitive speaks of the two lengths of a packet.
+#[inline]
+fn is_of_lengths(primitive: Primitive) -> bool {
+    matches!(
+        primitive,
+        Primitive::Cut | Primitive::Less(_) | Primitive::Greater(_)
+    )
+}
+
+/// Whether a unit of a layer, or one after it, may tell of a primitive.
+#[inline]
+fn can_tell(layer: Layer, primitive: Primitive) -> bool {
+    match layer {
+        Layer::Arp => matches!(primitive, Primitive::Refused),
+        Layer::Ethernet2Header => true,
+        _ => !is_of_link(primitive),
+    }
+}
+
+/// Whether a primitive speaks of the addresses of an Ethernet II header.
+#[inline]
+fn is_of_link(primitive: Primitive) -> bool {
+    matches!(
+        primitive,
+        Primitive::Source(_)
+            | Primitive::Destination(_)
+            | Primitive::Host(_)
+            | Primitive::Broadcast
+            | Primitive::Multicast
+    )
+}
+
+/// Whether the headers so far tell of a primitive, by whether it matches so far.
+#[inline]
+fn is_told(primitive: Primitive, packet: &Packet<'_>, is_match: bool) -> bool {
+    match primitive {
+        Primitive::OuterVlan(_) => matches_primitive(Primitive::Vlan, packet),
+        Primitive::InnerVlan(_) | Primitive::Refused => false,
+        _ => is_match,
+    }
+}
+
+/// The value of two operands that are joined, `None` if it is unknown.
+#[inline]
+pub(crate) fn joined_value(
+    operator: Operator,
+    left: Option<bool>,
+    right: Option<bool>,
+) -> Option<bool> {
+    match (operator, left, right) {
+        (Operator::And, Some(false), _) | (Operator::And, _, Some(false)) => Some(false),
+        (Operator::And, Some(true), right) => right,
+        (Operator::Or, Some(true), _) | (Operator::Or, _, Some(true)) => Some(true),
+        (Operator::Or, Some(false), right) => right,
+        _ => None,
+    }
+}

@@ -1,0 +1,1 @@
+//! What callers learn of the derived traits of the types of `ether_content`.
