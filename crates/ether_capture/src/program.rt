@@ -109,7 +109,11 @@ fn end<W: LineSink, M: LineSink>(outcome: &Outcome<'_>, writer: &mut W, messages
 }
 
 /// Prints the last line, if there is one, to the writer that it is for, and returns whether that took it.
-fn print_apart<W: LineSink, M: LineSink>(outcome: &Outcome<'_>, writer: &mut W, messages: &mut M) -> bool
+fn print_apart<W: LineSink, M: LineSink>(
+    outcome: &Outcome<'_>,
+    writer: &mut W,
+    messages: &mut M,
+) -> bool
     ensures { PrintsApart W.Sink.can_fail M.Sink.can_fail (is_message outcome.now) outcome.now (W.Sink.contents writer.old)
         (W.Sink.contents writer.new) (M.Sink.contents messages.old) (M.Sink.contents messages.new) result }
 {

@@ -10,10 +10,10 @@ ghost use Rattle.ether_peel.specs.Walker.UnitHeader.{unit_header};
 ghost use Rattle.ether_packet.specs.Replacing.{ext_count as ext_count_of};
 ghost use Rattle.ether_packet.specs.Setting.{IsPlacedVlan, LacksVlan, FindsVlan, SetsTag, RefusesTag, SetsTpid, RefusesTpid};
 
+use crate::TagError;
 use crate::finding::{PlacedExt, ext_at};
 use crate::packet_builder::put_at;
 use crate::typed_link::announces_vlan;
-use crate::TagError;
 use ether_peel::{Peel, PeelUnit, Start};
 use etherparse::{EtherType, LinkExtHeader, SingleVlanHeader, VlanId, VlanPcp};
 

@@ -8,10 +8,10 @@ use Rattle.ether_packet.proofs.finding.ext_at.Goals as goal
 
 pub loop-unit-init : goal.loop-unit-init
 loop-unit-init c = (
-    omega arith,
-    λ hs e walk. reached_first (start_of c.args.start) c.args.frame.now c.new-peel.result hs e c.new-peel.ensures.walk
-    (ap (λ (s : State). s.over) c.new-peel.ensures.state) walk,
-  )
+  omega arith,
+  λ hs e walk. reached_first (start_of c.args.start) c.args.frame.now c.new-peel.result hs e c.new-peel.ensures.walk
+      (ap (λ (s : State). s.over) c.new-peel.ensures.state) walk,
+)
 
 is_placed : goal.returns-then-count-index-clause-ok
 is_placed c hs e walk =
@@ -35,35 +35,35 @@ overflow_add-count c = omega (arith, c.loop-unit.invariant.0, c.if-count-index.f
 
 pub loop-unit-preserved-in-Some : goal.loop-unit-preserved-in-Some
 loop-unit-preserved-in-Some c = (
-    omega (arith, c.loop-unit.invariant.0, c.if-count-index.false),
-    λ hs e walk. let gives = rw c.in-Some-Ok.field-0-is at c.in-Some-Ok.ensures.steps in
-    let more = ap (λ (n : ℕ). c.loop-unit.count + n) (one_counted c.in-Some.header (unit_header c.in-Some-Ok.unit) c.in-Some.ensures) in
-    subst (Reached c.args.frame.now c.next.new.self hs e) more
-    (reached_unit c.args.frame.now c.loop-unit.peel c.next.new.self hs e c.loop-unit.count
-    c.in-Some-Ok.unit (λ i. omega (arith, c.type_inv.frame i)) (c.loop-unit.invariant.1 hs e walk) gives),
-  )
+  omega (arith, c.loop-unit.invariant.0, c.if-count-index.false),
+  λ hs e walk. let gives = rw c.in-Some-Ok.field-0-is at c.in-Some-Ok.ensures.steps in
+      let more = ap (λ (n : ℕ). c.loop-unit.count + n) (one_counted c.in-Some.header (unit_header c.in-Some-Ok.unit) c.in-Some.ensures) in
+      subst (Reached c.args.frame.now c.next.new.self hs e) more
+      (reached_unit c.args.frame.now c.loop-unit.peel c.next.new.self hs e c.loop-unit.count
+      c.in-Some-Ok.unit (λ i. omega (arith, c.type_inv.frame i)) (c.loop-unit.invariant.1 hs e walk) gives),
+)
 
 pub loop-unit-preserved : goal.loop-unit-preserved
 loop-unit-preserved c = (
-    c.loop-unit.invariant.0,
-    λ hs e walk. let gives = rw c.in-Some-Ok.field-0-is at c.in-Some-Ok.ensures.steps in
-    let same : c.loop-unit.count + ext_count (unit_header c.in-Some-Ok.unit ∷ []) ≡ c.loop-unit.count = omega (arith, c.in_default.ensures) in
-    subst (Reached c.args.frame.now c.next.new.self hs e) same
-    (reached_unit c.args.frame.now c.loop-unit.peel c.next.new.self hs e c.loop-unit.count
-    c.in-Some-Ok.unit (λ i. omega (arith, c.type_inv.frame i)) (c.loop-unit.invariant.1 hs e walk) gives),
-  )
+  c.loop-unit.invariant.0,
+  λ hs e walk. let gives = rw c.in-Some-Ok.field-0-is at c.in-Some-Ok.ensures.steps in
+      let same : c.loop-unit.count + ext_count (unit_header c.in-Some-Ok.unit ∷ []) ≡ c.loop-unit.count = omega (arith, c.in_default.ensures) in
+      subst (Reached c.args.frame.now c.next.new.self hs e) same
+      (reached_unit c.args.frame.now c.loop-unit.peel c.next.new.self hs e c.loop-unit.count
+      c.in-Some-Ok.unit (λ i. omega (arith, c.type_inv.frame i)) (c.loop-unit.invariant.1 hs e walk) gives),
+)
 
 pub returns-in-Some-Err-clause-none : goal.returns-in-Some-Err-clause-none
 returns-in-Some-Err-clause-none c hs e walk =
     let gives = rw c.in-Some-Err.field-0-is at c.in-Some-Err.ensures.steps in (
       reached_fault c.args.frame.now c.loop-unit.peel c.next.new.self hs e c.loop-unit.count c.in-Some-Err.field-0-0
-      (c.loop-unit.invariant.1 hs e walk) gives,
+          (c.loop-unit.invariant.1 hs e walk) gives,
       c.loop-unit.invariant.0,
     )
 
 pub returns-in-None-clause-none : goal.returns-in-None-clause-none
 returns-in-None-clause-none c hs e walk = (
-    reached_none c.args.frame.now c.loop-unit.peel c.next.new.self hs e c.loop-unit.count
-    (c.loop-unit.invariant.1 hs e walk) c.in-None.ensures.steps,
-    c.loop-unit.invariant.0,
-  )
+  reached_none c.args.frame.now c.loop-unit.peel c.next.new.self hs e c.loop-unit.count
+      (c.loop-unit.invariant.1 hs e walk) c.in-None.ensures.steps,
+  c.loop-unit.invariant.0,
+)
