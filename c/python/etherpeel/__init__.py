@@ -25,6 +25,7 @@ from ._replacing import build, replace_arp, replace_link, replace_link_ext
 from ._types import (Arp, Buffer, BuildError, Difference, Ethernet2, Fault, FaultKind, Fed, Field, FieldName, FilterError,
                      FilterErrorKind, Header, Layer, LenSource, LinuxSll, LinuxSll2, LinuxSll2Error, Macsec, Packet, Refused,
                      ReplaceError, RestKind, Start, Summary, TagError, Unit, Vlan, WritableBuffer, begun)
+from ._units import units_of
 
 __all__ = [
     "Arp", "BuildError", "CaptureError", "Captured", "Difference", "Error", "Ethernet2", "Fault", "FaultKind", "Fed", "Field",
@@ -124,6 +125,10 @@ def walk(frame: Buffer, start: Start = Start.ETHERNET2, *, ether_type: Optional[
 
     Raises `Refused` if a unit is refused, with the units before it.
     """
+    if limit is None and type(frame) is bytes:
+        units = units_of(frame, *begun(start, ether_type))
+        if units is not None:
+            return units
     with lent(frame) as (at, length):
         words = (at, length, start, ether_type, limit)
         units, fault = _units(*words), _fault(_found(*words).fault)

@@ -1,0 +1,89 @@
+"""The units of a frame, read from the bytes that one call of the library writes.
+
+A field of a struct of `ctypes` takes longer to read than a whole header by `struct`, so the headers are read by that. The
+memory that is written to is kept, one for each thread.
+"""
+import ctypes as C
+import struct
+import threading
+
+from . import _library
+from ._types import Arp, Ethernet2, LinuxSll, Macsec, Unit, Vlan
+
+_CODES = {C.c_uint8: "B", C.c_uint16: "H", C.c_uint32: "I", C.c_uint64: "Q", C.c_size_t: "Q", C.c_uint8 * 6: "6s", C.c_uint8 * 8: "8s"}
+_SIZE = C.sizeof(_library.Unit)
+_TAGS = 3  # the call reads no more tags
+
+
+def _reader(kind, names=None):
+    """What reads these fields of a struct, or all, from a place of the memory on."""
+    text, end = "=", 0
+    for name, what in kind._fields_:
+        if names is None or name in names:
+            at = getattr(kind, name).offset
+            text, end = f"{text}{at - end}x{_CODES[what]}", at + C.sizeof(what)
+    return struct.Struct(text).unpack_from
+
+
+class _Room(threading.local):
+    """The struct that is written to, and its bytes."""
+
+    def __init__(self):
+        headers = _library.Headers()
+        self.target, self.bytes = C.byref(headers), memoryview(headers).cast("B")
+
+
+_room = _Room()
+_call = _library.CALLS["packet"]
+_head = _reader(_library.Unit, ("offset", "header_len", "payload_start", "payload_end", "kind", "closed"))
+_ethernet2, _linux_sll, _vlan, _macsec, _arp = (
+    _reader(kind) for kind in (_library.Ethernet2, _library.LinuxSll, _library.Vlan, _library.Macsec, _library.Arp))
+_at_ethernet2, _at_linux_sll, _at_vlan, _at_macsec, _at_arp = (
+    getattr(_library.Unit, name).offset for name in ("ethernet2", "linux_sll", "vlan", "macsec", "arp"))
+_found = struct.Struct(f"={_library.Headers.found.offset}xQ").unpack_from
+_fault = struct.Struct(f"={_library.Headers.found.offset + _library.Found.fault.offset + _library.Fault.kind.offset}xI").unpack_from
+_new = tuple.__new__
+
+
+def units_of(frame, start, ether_type):
+    """The units of a frame in `bytes`; None if one is refused, or if there may be more tags than the call reads."""
+    room = _room
+    memory = room.bytes
+    if _call(start, ether_type, frame, len(frame), room.target) or _fault(memory)[0]:
+        return None
+    units, tags, at = [], 0, 0
+    for _ in range(_found(memory)[0]):
+        offset, header_len, payload_start, payload_end, kind, closed = _head(memory, at)
+        if kind == 1:
+            destination, source, ether_type, has_fcs = _ethernet2(memory, at + _at_ethernet2)
+            header = _new(Ethernet2, (destination, source, ether_type, has_fcs == 1))
+        elif kind == 3:
+            vid, ether_type, pcp, dei = _vlan(memory, at + _at_vlan)
+            header = _new(Vlan, (vid, pcp, dei == 1, ether_type))
+            tags += 1
+        elif kind == 4:
+            header = _sec_tag(memory, at + _at_macsec)
+            tags += 1
+        elif kind == 5:
+            header = _arp_packet(memory, at + _at_arp, frame)
+        else:
+            header = _new(LinuxSll, _linux_sll(memory, at + _at_linux_sll))
+        units.append(_new(Unit, (offset, header_len, payload_start, payload_end, closed == 1, header)))
+        at += _SIZE
+    return units if tags < _TAGS else None
+
+
+def _sec_tag(memory, at):
+    (sci, packet_number, ether_type, end_station, sci_present, single_copy_broadcast, encrypted, changed, association_number,
+     short_len) = _macsec(memory, at)
+    return _new(Macsec, (packet_number, association_number, short_len, encrypted == 1, changed == 1, end_station == 1,
+                         single_copy_broadcast == 1, sci if sci_present else None,
+                         None if encrypted or changed else ether_type))
+
+
+def _arp_packet(memory, at, frame):
+    (sender_hardware, sender_protocol, target_hardware, target_protocol, hardware_type, protocol_type, operation, hardware,
+     protocol) = _arp(memory, at)
+    return _new(Arp, (hardware_type, protocol_type, operation, frame[sender_hardware:sender_hardware + hardware],
+                      frame[sender_protocol:sender_protocol + protocol], frame[target_hardware:target_hardware + hardware],
+                      frame[target_protocol:target_protocol + protocol]))
