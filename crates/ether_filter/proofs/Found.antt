@@ -203,7 +203,7 @@ refused_at_end g (headers.Arp v ∷ hs) e = refused_at_end (g || false) hs e
 -- ---- any primitive of a walk
 
 -- what two truths that are one say
-same_truth : {a b : Bool} → a ≡ b → IsTrue a ↔ IsTrue b
+pub same_truth : {a b : Bool} → a ≡ b → IsTrue a ↔ IsTrue b
 same_truth is = (λ t. sym is ∙ t, λ t. is ∙ t)
 
 -- not of a length

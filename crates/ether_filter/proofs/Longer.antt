@@ -24,6 +24,7 @@ use Rattle.ether_filter.specs.declared.primitive.Primitive.{Primitive}
 use Rattle.ether_filter.specs.declared.primitive.Primitive.TheVariants as primitives
 use Rattle.ether_filter.specs.Primitives.{is_tag, is_sec_tag, is_from, is_to, is_to_group, vlan_ids, ether_type_of, listed, ether_types, walked, Matches}
 use Rattle.ether_filter.specs.Deciding.{is_refused, is_of_link, IsTold}
+use Rattle.ether_filter.proofs.Found.{same_truth}
 
 -- ---- tests of headers
 
@@ -39,9 +40,6 @@ any_same : {X : Type 0} (test : X → Bool) (xs ys : List X) → list_any test y
     → list_any test xs ≡ list_any test (xs ++ ys)
 any_same test xs ys none =
     sym (list_any-append test xs ys ∙ ap (λ b. list_any test xs || b) none ∙ or-false (list_any test xs))
-
-pub same_truth : {a b : Bool} → a ≡ b → IsTrue a ↔ IsTrue b
-same_truth is = (λ t. sym is ∙ t, λ t. is ∙ t)
 
 -- ---- identifiers and ether types
 

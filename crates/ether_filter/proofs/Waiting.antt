@@ -1,13 +1,13 @@
 -- With fewer bytes than a packet needs it is not decided.
-use Rattle.std.proofs.Common.{◌≡◌, ℕ, ◌+◌, ◌-◌, ◌<◌, ◌≤◌, List, ◌++◌, length, refl, sym, ap, subst, ◌∙◌, arith, Bool, true, false, IsSome, IsTrue}
-use Rattle.std.specs.Prelude.{Some, None}
+use Rattle.std.proofs.Common.{◌≡◌, ℕ, ◌+◌, ◌<◌, List, ◌++◌, length, refl, sym, ap, subst, ◌∙◌, arith, Bool, true, false, IsSome}
+use Rattle.std.specs.Prelude.{Some}
 use Rattle.std.proofs.lemmas.List.{length-append}
 use Rattle.etherparse.specs.Types.Layer.{Layer}
 use Rattle.etherparse.specs.Header.{Header}
 use Rattle.etherparse.specs.Refusal.{Length}
 use Rattle.ether_peel.specs.Grammar.Expectation.{has_fcs, Next}
 use Rattle.ether_peel.specs.Grammar.Stack.{Ending, Walk}
-use Rattle.ether_peel.specs.Grammar.Endings.{refusal_of, OpenRefusal, named_len, EndsAlike}
+use Rattle.ether_peel.specs.Grammar.Endings.{refusal_of, OpenRefusal, named_len}
 use Rattle.ether_peel.specs.Walker.Start.{start_of, next_of}
 use Rattle.ether_peel.proofs.Grammar.Extensions.{extensions_keep, fcs_is_closed, no_fcs}
 use Rattle.ether_peel.specs.declared.start.Start.{Start}

@@ -1,5 +1,5 @@
 -- What is known of whether a packet matches, if not all of its bytes were captured.
-use Rattle.std.specs.Prelude.{◌≡◌, ℕ, ◌+◌, ◌-◌, ◌<◌, ◌≤◌, List, ◌++◌, length, Option, Some, None, Bool, true, false, not, IsTrue, ◌⊎◌}
+use Rattle.std.specs.Prelude.{◌≡◌, ℕ, ◌+◌, ◌-◌, ◌<◌, ◌≤◌, List, ◌++◌, length, Bool, true, false, not, IsTrue, ◌⊎◌}
 use Rattle.std.specs.List.{list_any}
 use Rattle.etherparse.specs.Types.Layer.{Layer}
 use Rattle.etherparse.specs.Types.Layer.TheVariants as layers
@@ -11,7 +11,6 @@ use Rattle.ether_peel.specs.Grammar.Endings.{OpenRefusal, named_len, EndsAlike}
 use Rattle.ether_peel.specs.Walker.Start.{start_of}
 use Rattle.ether_filter.specs.declared.decision.Decision.{Decision}
 use Rattle.ether_filter.specs.declared.decision.Decision.TheVariants as decisions
-use Rattle.ether_filter.specs.declared.node.Operator.{Operator}
 use Rattle.ether_filter.specs.declared.node.Operator.TheVariants as operators
 use Rattle.ether_filter.specs.declared.packet.Packet.{Packet}
 use Rattle.ether_filter.specs.declared.primitive.Primitive.{Primitive}

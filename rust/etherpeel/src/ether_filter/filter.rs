@@ -188,8 +188,9 @@ impl Filter {
 fn decision(value: Option<bool>, opening: Option<Opening>) -> Decision {
     match (value, opening) {
         (Some(true), _) => Decision::Matches,
+        (Some(false), _) => Decision::Fails,
         (None, Some(opening)) => Decision::Needs(opening.needed),
-        _ => Decision::Fails,
+        (None, None) => Decision::Fails, // not reached: of a packet that can have no more headers all is known
     }
 }
 

@@ -10,8 +10,8 @@ returns-in-None-Some c packet hs e x at value = (
   subst (λ v. IsValue packet hs e v x) c.in-None-Some.is-0 value,
 )
 
-pub returns-in_default-2 : goal.returns-in_default-2
-returns-in_default-2 c packet hs e x at value =
-    let none = subst (IsOpening packet e) c.in_default.is-1 at in
-    let unknown = subst (λ v. IsValue packet hs e v x) c.in_default.is-0 value in
+pub returns-in-None-None : goal.returns-in-None-None
+returns-in-None-None c packet hs e x at value =
+    let none = subst (IsOpening packet e) c.in-None-None.is-1 at in
+    let unknown = subst (λ v. IsValue packet hs e v x) c.in-None-None.is-0 value in
     absurd (all_known packet hs e x (λ p. deciding.whole none) unknown.not_true unknown.not_false)
