@@ -101,7 +101,11 @@ fn end<W: LineSink, M: LineSink>(outcome: &Outcome<'_>, writer: &mut W, messages
 }
 
 /// Prints the last line, if there is one, to the writer that it is for, and returns whether that took it.
-fn print_apart<W: LineSink, M: LineSink>(outcome: &Outcome<'_>, writer: &mut W, messages: &mut M) -> bool {
+fn print_apart<W: LineSink, M: LineSink>(
+    outcome: &Outcome<'_>,
+    writer: &mut W,
+    messages: &mut M,
+) -> bool {
     if is_message(outcome) {
         return print_last_line(outcome, messages);
     }

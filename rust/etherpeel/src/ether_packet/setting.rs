@@ -1,9 +1,9 @@
 //! VLAN tags that are changed in place.
 
+use crate::ether_packet::TagError;
 use crate::ether_packet::finding::{PlacedExt, ext_at};
 use crate::ether_packet::packet_builder::put_at;
 use crate::ether_packet::typed_link::announces_vlan;
-use crate::ether_packet::TagError;
 use crate::ether_peel::{Peel, PeelUnit, Start};
 use crate::{EtherType, LinkExtHeader, SingleVlanHeader, VlanId, VlanPcp};
 
