@@ -77,14 +77,14 @@ impl<'a> PacketParts<'a> {
     ///     panic!(rt; "no link");
     /// };
     /// let tag = LinkExtHeader::Vlan(SingleVlanHeader::from_bytes([0x01, 0x23, 0x08, 0x00]));
-    /// assert_eq!(rt; parts.set_link_ext(0, tag), Ok(()));
+    /// assert_eq!(rt; parts.set_link_ext(0, &tag), Ok(()));
     /// assert_eq!(rt; parts.link_exts(), [tag].as_slice());
-    /// assert_eq!(rt; parts.set_link_ext(1, tag), Err(ReplaceError::NoLinkExt(1)));
+    /// assert_eq!(rt; parts.set_link_ext(1, &tag), Err(ReplaceError::NoLinkExt(1)));
     /// ```
-    pub fn set_link_ext(&mut self, index: usize, ext: LinkExtHeader) -> Result<(), ReplaceError>
+    pub fn set_link_ext(&mut self, index: usize, ext: &LinkExtHeader) -> Result<(), ReplaceError>
         ensures ok { OnOk result (index < length (parts_exts self.old)) }
         ensures err { IfErr result (IsNoExt self.old index) }
-        ensures exts { parts_exts self.new ≡ slice_set (parts_exts self.old) index ext }
+        ensures exts { parts_exts self.new ≡ slice_set (parts_exts self.old) index ext.now }
         ensures others { self.new ≡ record self.old { tags = self.new.tags } }
     {
         let count = self.link_exts().len();
@@ -92,7 +92,7 @@ impl<'a> PacketParts<'a> {
             return Err(ReplaceError::NoLinkExt(count));
         }
         let tags = self.tags.as_mut_slice();
-        tags[index] = ext;
+        tags[index] = *ext;
         Ok(())
     }
 

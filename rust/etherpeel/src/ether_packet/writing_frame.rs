@@ -59,8 +59,8 @@ impl<'a> PacketParts<'a> {
     /// let Some(mut parts) = PacketSlice::from_slice(Start::Ethernet2, &frame).to_parts() else {
     ///     panic!("no link");
     /// };
-    /// let tag = SingleVlanHeader::from_bytes([0x01, 0x23, 0x08, 0x06]);
-    /// assert_eq!(parts.set_link_ext(0, LinkExtHeader::Vlan(tag)), Ok(()));
+    /// let tag = LinkExtHeader::Vlan(SingleVlanHeader::from_bytes([0x01, 0x23, 0x08, 0x06]));
+    /// assert_eq!(parts.set_link_ext(0, &tag), Ok(()));
     /// assert_eq!(parts.frame_len(), 60);
     /// let mut target = [0xAA; 61];
     /// assert_eq!(parts.write_frame(&mut target), Ok(60));

@@ -1,11 +1,12 @@
 //! Packets that are read, and written with their headers as they are, or as another list.
 use super::frames::{CHECKED, INTEGRITY, SECOND_TAG_CUT, TWICE_TAGGED_ARP_REQUEST};
-use super::{equal, put};
+use super::{equal, ext, put};
 use etherpeel::ether_packet::{PacketBuilder, PacketContent, PacketSlice, ReplaceError};
 use etherpeel::ether_peel::Start;
+use etherpeel::EtherType;
 use etherpeel::err::{Layer, SliceWriteSpaceError};
-use etherpeel::{EtherType, LinkExtHeader, MacsecHeader};
 use crate::kit::Abort;
+use crate::kit::Fail;
 
 /// Two bytes of a packet on the loopback device, whose protocol number is kept: netlink, of hardware type 824.
 const NETLINK: [u8; 18] = [
@@ -40,6 +41,11 @@ const CUT_IN_SEC_TAG: [u8; 26] = [
     0xFF, 0xFF, 0xFF, 0xFF, 0xFF, 0xFF, 2, 0, 0, 0, 0, 1, 0x88, 0xE5, // Ethernet II
     0x00, 0x04, 0, 0, 0, 1, 0x81, 0x00, // SecTag
     0x00, 0x64, 0xEE, 0xEE,
+];
+
+/// The SecTag of [`INTEGRITY`] with its ether type, and another packet number.
+const RENUMBERED: [u8; 16] = [
+    0x22, 0x2A, 1, 2, 3, 4, 0x12, 0x15, 0x35, 0x24, 0xC0, 0x89, 0x5E, 0x81, 0x08, 0x00,
 ];
 
 /// An ARP request, padded to the least length of a frame without its check sequence (IEEE 802.3, 4.4.2).
@@ -145,29 +151,25 @@ fn written_whole() {
 }
 
 #[test]
-fn written_whole_with_another_packet_number() {
+fn written_whole_with_another_packet_number() -> Result<(), Fail> {
     let rt = crate::kit::HostRuntime;
     let packet = PacketSlice::from_slice(Start::Ethernet2, &INTEGRITY);
     let Some(mut parts) = packet.to_parts() else {
         panic!("no link");
     };
-    let Some(LinkExtHeader::Macsec(tag)) = parts.link_exts().first() else {
-        panic!("no SecTag");
-    };
-    let tag = LinkExtHeader::Macsec(MacsecHeader {
-        packet_nr: 0x0102_0304,
-        ..*tag
-    });
-    let set = [parts.set_link_ext(0, tag), parts.set_link_ext(1, tag)];
+    let tag = ext(&RENUMBERED)?;
+    let missing = parts.set_link_ext(1, &tag);
+    let set = parts.set_link_ext(0, &tag);
     let (mut target, mut wanted) = ([0; 86], INTEGRITY);
-    put(&mut wanted, 16, &[1, 2, 3, 4]);
+    put(&mut wanted, 14, &RENUMBERED);
     let written = parts.write_frame(&mut target);
     equal(
         &rt,
         "another packet number",
-        &(set, written, target),
-        &([Ok(()), Err(ReplaceError::NoLinkExt(1))], Ok(86), wanted),
+        &(missing, set, written, target),
+        &(Err(ReplaceError::NoLinkExt(1)), Ok(()), Ok(86), wanted),
     );
+    Ok(())
 }
 
 #[test]
