@@ -14,7 +14,7 @@ returns-in_default g c =
     (record {
       outcome = outcomes.Run false (Err Input);
       printed = c.end.ensures.0;
-      between = g.W.LineSink.Sink.contents c.args.writer.now;
+      between = g.W.Sink.contents c.args.writer.now;
       obeyed = (refl, refl, refl);
       ended = c.end.ensures.1;
       is_status = c.end.ensures.2;
@@ -26,7 +26,7 @@ returns-in_default-collect g c =
     (record {
       outcome = outcomes.NoMemory;
       printed = c.end-in_default-collect.ensures.0;
-      between = g.W.LineSink.Sink.contents c.args.writer.now;
+      between = g.W.Sink.contents c.args.writer.now;
       obeyed = (refl, refl);
       ended = c.end-in_default-collect.ensures.1;
       is_status = c.end-in_default-collect.ensures.2;
@@ -43,13 +43,13 @@ returns g c =
     (record {
       outcome = c.obey-outcome.result;
       printed = c.end-2.ensures.0;
-      between = g.W.LineSink.Sink.contents c.obey-outcome.new.writer;
+      between = g.W.Sink.contents c.obey-outcome.new.writer;
       obeyed = subst
           (λ (it : List (List ℕ)).
           HasObeyed (g.C.Captures.has c.args.captures.now) g.R.Source.can_fail g.C.Captures.can_refuse
-          g.C.Input.Source.can_fail g.W.LineSink.Sink.can_fail (Some it) (g.R.Source.remaining c.args.reader.now)
-          (g.R.Source.remaining c.obey-outcome.new.reader) (g.W.LineSink.Sink.contents c.args.writer.now)
-          (g.W.LineSink.Sink.contents c.obey-outcome.new.writer) c.obey-outcome.result)
+          g.C.Input.Source.can_fail g.W.Sink.can_fail (Some it) (g.R.Source.remaining c.args.reader.now)
+          (g.R.Source.remaining c.obey-outcome.new.reader) (g.W.Sink.contents c.args.writer.now)
+          (g.W.Sink.contents c.obey-outcome.new.writer) c.obey-outcome.result)
           words c.obey-outcome.ensures;
       ended = c.end-2.ensures.1;
       is_status = c.end-2.ensures.2;
