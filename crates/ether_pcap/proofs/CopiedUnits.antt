@@ -1,23 +1,21 @@
 -- What a copy has of a unit is a unit of the copy.
-use Rattle.std.proofs.Common.{◌≡◌, ◌⊎◌, ℕ, ◌+◌, ◌-◌, ◌^◌, ◌<◌, ◌≤◌, Bool, true, false, List, [], ◌∷◌, ◌++◌, length, map, min, refl, sym, ap, subst, ◌∙◌, arith, inl, inr, Some, None}
+use Rattle.std.proofs.Common.{◌≡◌, ◌⊎◌, ℕ, ◌+◌, ◌<◌, ◌≤◌, Bool, true, false, List, [], ◌∷◌, ◌++◌, length, map, refl, sym, ap, subst, ◌∙◌, arith, inl, inr, Some, None}
 use Rattle.std.specs.Prelude.{Option, unwrap_or, nat_eq, slice_range, if◌then◌else◌}
 use Rattle.std.proofs.lemmas.Bool.{cases_eq, eq-eqb, ne_eqb, eqb-true}
 use Rattle.std.proofs.lemmas.List.{map-append, length-map}
 use Rattle.ether_base.specs.Bytes.{number}
 use Rattle.ether_pcap.specs.Numbers.{Order, field}
-use Rattle.ether_pcap.specs.FileHeader.{FileHeaderValue}
-use Rattle.ether_pcap.specs.Record.{RecordValue, record_len}
 use Rattle.ether_pcap.specs.Block.{BlockValue, BeginsBlock}
 use Rattle.ether_pcap.specs.Section.{section_type, HasSectionType, IsSection}
-use Rattle.ether_pcap.specs.Bodies.{captured_by, SimplePacketValue, IsSimplePacket}
+use Rattle.ether_pcap.specs.Bodies.{captured_by, IsSimplePacket}
 use Rattle.ether_pcap.specs.Writing.{bytes_of}
 use Rattle.ether_pcap.specs.Capture.{PacketValue, IsWithinSnap, packet_of_record, packet_on, simple_packet_on, CaptureInterfaceValue, Describes, IsAt, Expectation, Beginning, Records, Blocks, BlockKind, InterfaceDescription, SimplePacket, EnhancedPacket, Other, kind_of_block, IsBody, HasBegun, Begins, file_header, file_record, first_section, section, block}
-use Rattle.ether_pcap.specs.Editing.{EditedValue, edited_block, edited_unit, edited_packet}
+use Rattle.ether_pcap.specs.Editing.{EditedValue, edited_block, edited_unit}
 use Rattle.ether_pcap.specs.CopiedUnits.{ModeValue, Exact, Changed, raised_len, raised_header, raised_interface, expected_in, with_bytes, no_section_len, changed_block, changed_unit, other_unit, packet_in, is_kept, packet_unit, unit_after, packet_after}
 use Rattle.ether_pcap.proofs.CaptureLengths.{unit_some}
 use Rattle.ether_pcap.proofs.EditPackets.{edited_begins, why_not_edited, fits_if}
-use Rattle.ether_pcap.proofs.PacketUnits.{record_of_unit, PacketBlock, block_of_unit, type_of, is_interface, is_obsolete, is_simple, is_enhanced, is_other, same_packet, begun, begun_before, packet_room}
-use Rattle.ether_pcap.proofs.WithBytes.{length-with_bytes, raised_none, raised_some, four, raised_room, raised_before, header_raised, with_bytes-before, block_room, section_in, interface_begins, interface_len, interface_described, interface_high}
+use Rattle.ether_pcap.proofs.PacketUnits.{record_of_unit, block_of_unit, type_of, is_interface, is_obsolete, is_simple, is_enhanced, is_other, same_packet, begun, begun_before}
+use Rattle.ether_pcap.proofs.WithBytes.{length-with_bytes, raised_none, raised_some, raised_room, header_raised, with_bytes-before, section_in, interface_begins, interface_len, interface_described}
 
 -- ---- lengths
 

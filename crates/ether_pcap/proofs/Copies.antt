@@ -1,17 +1,17 @@
 -- What a copy of a capture file has.
-use Rattle.std.proofs.Common.{◌≡◌, ◌≢◌, ◌⊎◌, ℕ, zero, suc, ◌+◌, ◌<◌, ◌≤◌, Bool, true, false, List, [], ◌∷◌, ◌++◌, length, drop, length-append, length-drop, append_assoc, refl, sym, ap, subst, ◌∙◌, arith, inl, inr, Some, None}
+use Rattle.std.proofs.Common.{◌≡◌, ◌≢◌, ◌⊎◌, ℕ, zero, suc, ◌+◌, ◌<◌, ◌≤◌, Bool, true, false, List, [], ◌∷◌, ◌++◌, length, drop, length-drop, append_assoc, refl, sym, ap, subst, ◌∙◌, arith, inl, inr, Some, None}
 use Rattle.std.specs.Prelude.{Option, IsTrue, All, take, ⊤, unwrap_or}
 use Rattle.std.proofs.lemmas.List.{length-take-le, take-append-drop, drop_at}
 use Rattle.std.proofs.lemmas.List.Elements.{All-cons, All-head, All-tail}
 use Rattle.ether_pcap.specs.Capture.{PacketValue, IsWithinSnap, Expectation, CaptureRefusal, HasBegun, Begins, Refuses, IsEnd, HasPackets}
 use Rattle.ether_pcap.specs.Capture as packets
 use Rattle.ether_pcap.specs.Editing.{EditedValue}
-use Rattle.ether_pcap.specs.CopiedUnits.{ModeValue, Exact, Changed, raised_len, expected_in, other_unit, unit_after, packet_after}
+use Rattle.ether_pcap.specs.CopiedUnits.{ModeValue, Exact, Changed, expected_in, other_unit, unit_after, packet_after}
 use Rattle.ether_pcap.specs.Copies.{CopyFault, Refused, NotEdited, Copies, ended, refused, not_edited, unit, keeps, leaves, none, one_kept, one_left, AreEdited, none_edited, one_edited, EditsNone, EditsWithin, EditsOnce, IsRead, HasPacketsTo, HasSource, IsNotEdited, Copy}
 use Rattle.ether_pcap.proofs.CaptureLengths.{unit_within, unit_some}
 use Rattle.ether_pcap.proofs.CaptureLocality.{unit_local, unit_alone}
 use Rattle.ether_pcap.proofs.CaptureSome.{at_end, some_unit, some_packets}
-use Rattle.ether_pcap.proofs.CopiedUnits.{InCopy, unit_in_copy, some_in_copy, packet_in_copy, why_not_copied, raised_within}
+use Rattle.ether_pcap.proofs.CopiedUnits.{unit_in_copy, some_in_copy, packet_in_copy, why_not_copied, raised_within}
 use Rattle.ether_base.specs.Bytes.{IsBytes}
 use Rattle.ether_base.proofs.SubLists.{IsBytes-drop}
 use Rattle.ether_pcap.proofs.PacketUnits.{same_after, begun, begun_before, packet_room, packet_bytes}
@@ -28,7 +28,7 @@ unit_taken bytes x y len p begins =
     (unit_alone front (drop len bytes) x y len p (omega (arith, long)) whole, long)
 
 -- a unit without a packet, by its own bytes
-other_taken : (bytes : List ℕ) (x y : Expectation) (len : ℕ) → Begins bytes x len None y
+pub other_taken : (bytes : List ℕ) (x y : Expectation) (len : ℕ) → Begins bytes x len None y
     → Begins (take len bytes) x (length (take len bytes)) None y
 other_taken bytes x y len begins =
     let s = unit_taken bytes x y len None begins in
@@ -43,7 +43,7 @@ packet_taken bytes x y len p begins =
     (subst (λ (z : Expectation). Begins (take len bytes) x len (Some p) z) (same_after bytes x y len p begins) s.0)
 
 -- a packet that is copied
-packet_copied : (mode : ModeValue) (bytes front copy : List ℕ) (x y : Expectation) (len : ℕ) (p : PacketValue)
+pub packet_copied : (mode : ModeValue) (bytes front copy : List ℕ) (x y : Expectation) (len : ℕ) (p : PacketValue)
     (o : Option EditedValue)
     → Begins bytes x len (Some p) y → unit_after mode x p o (take len bytes) ≡ Some front
     → Begins (front ++ copy) (expected_in mode x) (length front) (Some (packet_after mode p o)) (expected_in mode y)

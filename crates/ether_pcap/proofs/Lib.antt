@@ -17,6 +17,7 @@ pub mod CaptureSome
 pub mod CaptureReadingLemmas
 pub mod Copies
 pub mod CopiesOne
+pub mod CopiesCompose
 pub mod EditUnits
 pub mod PacketUnits
 pub mod EditPackets

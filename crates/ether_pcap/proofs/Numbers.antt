@@ -10,7 +10,7 @@ pub length-bytes_of : (order : Order) (k n : ℕ) → length (bytes_of order k n
 length-bytes_of BigEndian k n = length-spelled k n
 length-bytes_of LittleEndian k n = length-reverse (spelled k n) ∙ length-spelled k n
 
-number_reversed : (l : List ℕ) → number_from_low l ≡ number (reverse l)
+pub number_reversed : (l : List ℕ) → number_from_low l ≡ number (reverse l)
 number_reversed [] = refl
 number_reversed (b ∷ l) =
     let e = number_reversed l in
@@ -20,7 +20,7 @@ number_reversed (b ∷ l) =
     let sum : b + 256 * number_from_low l ≡ number (reverse l ++ b ∷ []) = omega (arith, e, one) in
     sum ∙ ap number (sym back)
 
-IsBytes-reversed : (l : List ℕ) → IsBytes l → IsBytes (reverse l)
+pub IsBytes-reversed : (l : List ℕ) → IsBytes l → IsBytes (reverse l)
 IsBytes-reversed [] ok = ok
 IsBytes-reversed (b ∷ l) ok =
     rw (reverse-append (b ∷ []) l)

@@ -1,6 +1,6 @@
 -- Bytes in place of as many others, and what they are in a file header, a section header and an interface description.
 use Rattle.std.proofs.Common.{◌≡◌, ℕ, ◌+◌, ◌-◌, ◌%◌, ◌^◌, ◌<◌, ◌≤◌, List, ◌++◌, length, take, drop, min, refl, sym, ap, subst, ◌∙◌, arith, inl, inr}
-use Rattle.std.specs.Prelude.{Bool, nat_eq, slice_range, if◌then◌else◌}
+use Rattle.std.specs.Prelude.{Bool, slice_range, if◌then◌else◌}
 use Rattle.std.proofs.lemmas.Bool.{cases_eq, eq-eqb, ne_eqb}
 use Rattle.std.proofs.lemmas.List.{drop-drop, length-append, length-drop}
 use Rattle.ether_base.specs.Bytes.{number}
@@ -8,7 +8,7 @@ use Rattle.ether_base.proofs.SubLists.{length-part, part-append, part_of_part, p
 use Rattle.ether_pcap.specs.Numbers.{Order, number_in, field}
 use Rattle.ether_pcap.specs.FileHeader.{FileHeaderValue, IsFileHeader, fcs_len_of}
 use Rattle.ether_pcap.specs.Block.{BlockValue, IsTotalLen, BeginsBlock}
-use Rattle.ether_pcap.specs.Section.{HasSectionType, IsSection, IsVersion}
+use Rattle.ether_pcap.specs.Section.{IsSection, IsVersion}
 use Rattle.ether_pcap.specs.Bodies.{InterfaceValue}
 use Rattle.ether_pcap.specs.Writing.{bytes_of}
 use Rattle.ether_pcap.specs.Capture.{CaptureInterfaceValue, Describes}

@@ -1,6 +1,6 @@
 -- A copy of a capture file of either format without some of its packets, in which those that are kept may be edited. Each packet that isn't
 -- edited is copied byte for byte, and so is each unit that is no packet, unless the copy is another capture.
-use Rattle.std.specs.Prelude.{◌≡◌, ◌≢◌, ◌⊎◌, ℕ, ◌+◌, ◌<◌, ◌≤◌, List, [], ◌∷◌, ◌++◌, length, take, drop, Bool, IsTrue, Option, Some, None, All, ⊤}
+use Rattle.std.specs.Prelude.{◌≡◌, ◌≢◌, ◌⊎◌, ℕ, ◌+◌, ◌<◌, ◌≤◌, List, [], ◌∷◌, ◌++◌, length, take, drop, Bool, true, false, ◌&&◌, IsTrue, Option, Some, None, All, ⊤}
 use Rattle.ether_base.specs.Bytes.{IsBytes}
 use Rattle.ether_pcap.specs.Capture.{PacketValue, IsWithinSnap, Expectation, Beginning, CaptureRefusal, Begins, Refuses, HasBegun, IsEnd, HasPackets}
 use Rattle.ether_pcap.specs.Editing.{EditedValue}
@@ -127,3 +127,25 @@ pub record CopiesAreOne : Type 0 where
       → Copy mode test edits x bytes
   pub one : (mode : ModeValue) (test : PacketValue → Bool) (edits : PacketValue → Option EditedValue → Bool) (x : Expectation) (bytes : List ℕ) (c d : Copy mode test edits x bytes) → IsBytes bytes
       → EditsOnce (λ p o. IsTrue (edits p o)) → (c.copy ≡ d.copy) × (c.kept ≡ d.kept) × (c.edited ≡ d.edited) × (c.rest ≡ d.rest) × (c.fault ≡ d.fault)
+
+-- ---- a copy of a copy
+
+-- no packet is edited
+abbrev pub edits_none : PacketValue → Option EditedValue → Bool
+edits_none p None = true
+edits_none p (Some e) = false
+
+-- If packets of a file are selected to another capture, and packets of that again, the second capture is that of the packets of the file that both
+-- tests select. The first has a packet at least, or the front of a file: an empty list is none.
+pub record CopiesCompose : Type 0 where
+  pub selected : (most : ℕ) (first second : PacketValue → Bool) (bytes between copy : List ℕ) (kept edited chosen last : List PacketValue) (rest left : List ℕ) (fault other : Option CopyFault)
+      → IsBytes bytes → IsBytes between → between ≢ []
+      → CopiesBy (Changed 0) first edits_none (Beginning most) bytes between kept edited rest fault
+      → CopiesBy (Changed 0) second edits_none (Beginning most) between copy chosen last left other
+      → CopiesBy (Changed 0) (λ p. first p && second p) edits_none (Beginning most) bytes copy chosen last rest fault × (left ≡ []) × (other ≡ None)
+  -- by one test twice it is the first copy
+  pub again : (most : ℕ) (test : PacketValue → Bool) (bytes between copy : List ℕ) (kept edited chosen last : List PacketValue) (rest left : List ℕ) (fault other : Option CopyFault)
+      → IsBytes bytes → IsBytes between → between ≢ []
+      → CopiesBy (Changed 0) test edits_none (Beginning most) bytes between kept edited rest fault
+      → CopiesBy (Changed 0) test edits_none (Beginning most) between copy chosen last left other
+      → copy ≡ between

@@ -2,7 +2,7 @@
 ghost use Rattle.ether_pcap.specs.Laws.{FileHeadersAreOne, RecordsAreOne, ContentsAreOne, BlocksAreOne, BodiesAreOne, SectionsAreOne, OptionsAreOne};
 ghost use Rattle.ether_pcap.specs.Writing.{WrittenFilesAreRead};
 ghost use Rattle.ether_pcap.specs.WritingBlocks.{WrittenSectionsAreRead};
-ghost use Rattle.ether_pcap.specs.Copies.{CopiesAreRead, CopiesAreOne};
+ghost use Rattle.ether_pcap.specs.Copies.{CopiesAreRead, CopiesAreOne, CopiesCompose};
 ghost use Rattle.ether_pcap.specs.CaptureLaws.{UnitsAreLocal, UnitLengths, UnitsAreOne, PacketsAreOne};
 
 /// Bytes begin with at most one file header, or are refused for one reason.
@@ -83,4 +83,10 @@ pub fn copies_are_read()
 /// Any bytes have a copy by a test of packets and by what each is edited to, and only one.
 pub fn copies_are_one()
     ensures { CopiesAreOne }
+{}
+
+/// Selecting packets of a capture, and then packets of the copy, gives the copy of the packets that both tests select. By one test
+/// twice it is the first copy.
+pub fn copies_compose()
+    ensures { CopiesCompose }
 {}
