@@ -284,6 +284,22 @@ def copies(program):
     return tried
 
 
+def copies_of_copies(program):
+    """Packets that are selected from a copy of selected packets, and those that both expressions select at once."""
+    tried = []
+    texts = ["vlan", "not arp", "refused or cut", "greater 46"]
+    for number, capture in enumerate((classic(*SIX), SECTIONS, WITH_FCS, CLASSIC)):
+        for first in texts:
+            between, _, _ = copied(program, ["--write", "--select", first], capture)
+            for second in texts:
+                twice = copied(program, ["--write", "--select", second], between)
+                both = copied(program, ["--write", "--select", f"({first}) and ({second})"], capture)
+                tried.append((f"capture {number}: {second!r} of {first!r}", twice, both))
+                if first == second:
+                    tried.append((f"capture {number}: {first!r} again", twice, (between, "", 0)))
+    return tried
+
+
 def long_copy_in_pieces(program):
     """How many seconds of processor time a copy of a block of 15 MiB takes that comes in pieces of 4 KiB, by the second."""
     large = secrets(15 << 20, 15 << 20)

@@ -18,7 +18,7 @@ from captures import (
     NOT_READ, OBSOLETE, ONE_LINES, OUTER, SECTIONS, SECTION_HEADER, SECTION_LINES, SELECTED, SIX, TAGGED_V1, TAGGED_V2, V1_LINE, V2_LINE, WITH_FCS, block,
     classic, cooked, cooked_lines, frame, interface, joined, long_record, plain, record_is_cut, secrets,
 )
-from capture_copies import copied, copies, copies_that_fail, long_copy_in_pieces
+from capture_copies import copied, copies, copies_of_copies, copies_that_fail, long_copy_in_pieces
 from capture_files import several
 from capture_limits import limits
 from programs import count, on_a_full_disk, run, run_in_pieces, run_until_a_fault, without_memory
@@ -386,6 +386,7 @@ def main():
     tried += limits(program)
     tried += reasons(program)
     tried += copies(program)
+    tried += copies_of_copies(program)
     tried += copies_that_fail(program)
     tried += long_copy_in_pieces(program)
     tried += wrong_words_alone(program)
