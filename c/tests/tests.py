@@ -196,6 +196,33 @@ def filters():
     check("wrong packet", raised(list, etherpeel.select("vlan", [captured(TAGGED, 1)._replace(original_len=-1)])), ValueError)
 
 
+def late_texts():
+    """The texts of refusals far behind the first bytes: the length of a text is that of its numbers."""
+    tags = ADDRESSES + bytes.fromhex("8100" + "0001 8100" * 30_000) + bytes(1)
+    try:
+        etherpeel.walk(tags)
+        check("late fault", False, True)
+    except etherpeel.Refused as refused:
+        check("late fault", (refused.fault.offset, len(refused.units), str(refused)[:34]),
+              (120_014, 30_001, "at offset 120014: VLAN Header Erro"))
+    late = "vlan or" + " " * 99_990 + "vlan 4096"
+    try:
+        etherpeel.select(late, [])
+        check("late word", False, True)
+    except etherpeel.FilterError as error:
+        check("late word", (error.offset, str(error)), (100_002, "At byte 100002: expected a number up to 4095."))
+    header = bytes.fromhex("a1b2c3d4 00020004 00000000 00000000 0000ffff 00000001")
+    record = bytes.fromhex("00000001 00000000 000005dc 000005dc") + bytes(1500)
+    packets = etherpeel.capture(header + record * 110 + record[:9])
+    check("packets before it", sum(len(next(packets).packet) for _ in range(110)), 165_000)
+    try:
+        next(packets)
+        check("late record", False, True)
+    except etherpeel.CaptureError as error:
+        check("late record", (error.offset, error.needed, str(error)), (
+            166_784, 16, "At byte 166784: A record of a pcap file needs 16 byte(s); only 9 are available."))
+
+
 def fields():
     ethernet2 = [(FieldName.ETHERNET2_DESTINATION, 0, 0, 48, 0xFFFFFFFFFFFF), (FieldName.ETHERNET2_SOURCE, 0, 48, 48, 0x020000000001)]
     tagged = [*ethernet2, (FieldName.ETHERNET2_ETHER_TYPE, 0, 96, 16, 0x8100), (FieldName.VLAN_PCP, 1, 112, 3, 5),
@@ -364,6 +391,7 @@ captures()
 sources(CLASSIC, [b"\xff", b""])
 frames_of_captures()
 filters()
+late_texts()
 fields()
 cooked_v2()
 tags_in_place()

@@ -91,9 +91,7 @@ def capture(source: Union[str, os.PathLike[str], Readable, Buffer]) -> Iterator[
         lib.etherpeel_capture(at, length, None, 0, C.byref(count), C.byref(end))
         packets = (_library.Captured * count.value)()
         status = lib.etherpeel_capture(at, length, packets, count.value, C.byref(count), C.byref(end))
-        said = text(lib.etherpeel_capture_fault_text, at, length)
-    error = CaptureError(said, end.offset, end.needed) if status != Status.DONE else None
-    return _captured(view, at, packets, error)
+    return _captured(view, at, packets, end if status != Status.DONE else None)
 
 
 def _memory(source):
@@ -119,14 +117,17 @@ def _content(file):
     return memoryview(file.read())
 
 
-def _captured(view, at, packets, error):
+def _captured(view, at, packets, end):
+    """The packets, and then the error if they end before the file."""
     for it in packets:
         start = it.packet - at if it.packet_len else 0
         time_ns = it.seconds * 10**9 + it.nanoseconds if it.has_time else None
         yield Captured(view[start:start + it.packet_len], time_ns, it.link_type, it.original_len,
                        it.fcs_len if it.has_fcs_len else None)
-    if error:
-        raise error
+    if end:
+        with lent(view) as (at, length):
+            said = text(lib.etherpeel_capture_fault_text, at, length)
+        raise CaptureError(said, end.offset, end.needed)
 
 
 class Frame(NamedTuple):
