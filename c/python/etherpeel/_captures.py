@@ -8,7 +8,7 @@ import os
 from typing import Iterable, Iterator, List, NamedTuple, Optional, Protocol, Union
 
 from . import _library
-from ._library import Error, Status, filled, lent, lib, number, required, text
+from ._library import Error, Status, filled, lent, lib, number, reader, required, text
 from ._types import Buffer, Field, FieldName, FilterError, FilterErrorKind, LinuxSll2, LinuxSll2Error, Start
 
 
@@ -91,7 +91,7 @@ def capture(source: Union[str, os.PathLike[str], Readable, Buffer]) -> Iterator[
         lib.etherpeel_capture(at, length, None, 0, C.byref(count), C.byref(end))
         packets = (_library.Captured * count.value)()
         status = lib.etherpeel_capture(at, length, packets, count.value, C.byref(count), C.byref(end))
-    return _captured(view, at, packets, end if status != Status.DONE else None)
+    return _Packets(view, at, packets, end if status != Status.DONE else None)
 
 
 def _memory(source):
@@ -117,17 +117,62 @@ def _content(file):
     return memoryview(file.read())
 
 
-def _captured(view, at, packets, end):
-    """The packets, and then the error if they end before the file."""
-    for it in packets:
-        start = it.packet - at if it.packet_len else 0
-        time_ns = it.seconds * 10**9 + it.nanoseconds if it.has_time else None
-        yield Captured(view[start:start + it.packet_len], time_ns, it.link_type, it.original_len,
-                       it.fcs_len if it.has_fcs_len else None)
-    if end:
-        with lent(view) as (at, length):
-            said = text(lib.etherpeel_capture_fault_text, at, length)
-        raise CaptureError(said, end.offset, end.needed)
+class _Packets:
+    """The packets of a capture, and then the error if they end before the file. Their structs stay as C wrote them, so a filter
+    can be asked of many at once; the view keeps the bytes where they are."""
+
+    __slots__ = ("view", "at", "structs", "memory", "end", "next")
+
+    def __init__(self, view, at, structs, end):
+        self.view, self.at, self.structs, self.end, self.next = view, at, structs, end, 0
+        self.memory = memoryview(structs).cast("B") if len(structs) else b""
+
+    def __iter__(self):
+        return self
+
+    def __next__(self):
+        if self.next == len(self.structs):
+            self._stop()
+        (address, packet_len, seconds, nanoseconds, original_len, link_type, has_time, has_fcs_len,
+         fcs_len) = _captured(self.memory, self.next * _SIZE)
+        self.next += 1
+        start = address - self.at if packet_len else 0
+        return _new(Captured, (self.view[start:start + packet_len], seconds * 10**9 + nanoseconds if has_time else None, link_type,
+                               original_len, fcs_len if has_fcs_len else None))
+
+    def _stop(self):
+        """Ends the packets: with the error, once, if there is one."""
+        end, self.end = self.end, None
+        if end:
+            with lent(self.view) as (at, length):
+                said = text(lib.etherpeel_capture_fault_text, at, length)
+            raise CaptureError(said, end.offset, end.needed)
+        raise StopIteration
+
+    def selected(self, words):
+        """Those of the packets that are left which a filter selects."""
+        error = _library.FilterError()
+        while self.next < len(self.structs):
+            first = self.next
+            count = min(_AT_ONCE, len(self.structs) - first)
+            packets = C.cast(C.byref(self.structs, first * _SIZE), C.POINTER(_library.Captured))
+            marks = (C.c_uint8 * count)()
+            required(lib.etherpeel_select(words, len(words), packets, count, marks, count, C.byref(error)))
+            found = bytes(marks)
+            at = found.find(1)
+            while at >= 0:
+                self.next = first + at
+                yield next(self)
+                at = found.find(1, self.next - first)  # where the caller took others meanwhile, after these
+            self.next = max(self.next, first + count)
+        try:
+            self._stop()
+        except StopIteration:
+            return
+
+
+_captured, _SIZE, _new = reader(_library.Captured), C.sizeof(_library.Captured), tuple.__new__
+_AT_ONCE = 4096  # packets that a filter is asked of in one call
 
 
 class Frame(NamedTuple):
@@ -205,6 +250,8 @@ def select(expression: str, packets: Iterable[Captured]) -> Iterator[Captured]:
         kind = FilterErrorKind(error.kind)
         raise FilterError(text(lib.etherpeel_filter_error_text, words, len(words)), error.offset, kind,
                           error.greatest if kind in (FilterErrorKind.NUMBER, FilterErrorKind.VLAN_ID_OR_OPERATOR) else None)
+    if isinstance(packets, _Packets):
+        return packets.selected(words)
     return filter(lambda packet: _is_selected(words, packet), packets)
 
 

@@ -1,28 +1,17 @@
 """The units of a frame, read from the bytes that one call of the library writes.
 
-A field of a struct of `ctypes` takes longer to read than a whole header by `struct`, so the headers are read by that. The
-memory that is written to is kept, one for each thread.
+The memory that the call writes to is kept, one for each thread.
 """
 import ctypes as C
 import struct
 import threading
 
 from . import _library
+from ._library import reader
 from ._types import Arp, Ethernet2, LinuxSll, Macsec, Unit, Vlan
 
-_CODES = {C.c_uint8: "B", C.c_uint16: "H", C.c_uint32: "I", C.c_uint64: "Q", C.c_size_t: "Q", C.c_uint8 * 6: "6s", C.c_uint8 * 8: "8s"}
 _SIZE = C.sizeof(_library.Unit)
 _TAGS = 3  # the call reads no more tags
-
-
-def _reader(kind, names=None):
-    """What reads these fields of a struct, or all, from a place of the memory on."""
-    text, end = "=", 0
-    for name, what in kind._fields_:
-        if names is None or name in names:
-            at = getattr(kind, name).offset
-            text, end = f"{text}{at - end}x{_CODES[what]}", at + C.sizeof(what)
-    return struct.Struct(text).unpack_from
 
 
 class _Room(threading.local):
@@ -35,9 +24,9 @@ class _Room(threading.local):
 
 _room = _Room()
 _call = _library.CALLS["packet"]
-_head = _reader(_library.Unit, ("offset", "header_len", "payload_start", "payload_end", "kind", "closed"))
+_head = reader(_library.Unit, ("offset", "header_len", "payload_start", "payload_end", "kind", "closed"))
 _ethernet2, _linux_sll, _vlan, _macsec, _arp = (
-    _reader(kind) for kind in (_library.Ethernet2, _library.LinuxSll, _library.Vlan, _library.Macsec, _library.Arp))
+    reader(kind) for kind in (_library.Ethernet2, _library.LinuxSll, _library.Vlan, _library.Macsec, _library.Arp))
 _at_ethernet2, _at_linux_sll, _at_vlan, _at_macsec, _at_arp = (
     getattr(_library.Unit, name).offset for name in ("ethernet2", "linux_sll", "vlan", "macsec", "arp"))
 _found = struct.Struct(f"={_library.Headers.found.offset}xQ").unpack_from
