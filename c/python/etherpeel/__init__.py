@@ -25,7 +25,7 @@ from ._replacing import build, replace_arp, replace_link, replace_link_ext
 from ._types import (Arp, Buffer, BuildError, Difference, Ethernet2, Fault, FaultKind, Fed, Field, FieldName, FilterError,
                      FilterErrorKind, Header, Layer, LenSource, LinuxSll, LinuxSll2, LinuxSll2Error, Macsec, Packet, Refused,
                      ReplaceError, RestKind, Start, Summary, TagError, Unit, Vlan, WritableBuffer, begun)
-from ._units import units_of
+from ._units import bytes_of, units_of
 
 __all__ = [
     "Arp", "BuildError", "CaptureError", "Captured", "Difference", "Error", "Ethernet2", "Fault", "FaultKind", "Fed", "Field",
@@ -125,8 +125,9 @@ def walk(frame: Buffer, start: Start = Start.ETHERNET2, *, ether_type: Optional[
 
     Raises `Refused` if a unit is refused, with the units before it.
     """
-    if limit is None and type(frame) is bytes:
-        units = units_of(frame, *begun(start, ether_type))
+    content = bytes_of(frame) if limit is None else None
+    if content is not None:
+        units = units_of(content, *begun(start, ether_type))
         if units is not None:
             return units
     with lent(frame) as (at, length):

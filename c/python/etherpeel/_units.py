@@ -12,6 +12,7 @@ from ._types import Arp, Ethernet2, LinuxSll, Macsec, Unit, Vlan
 
 _SIZE = C.sizeof(_library.Unit)
 _TAGS = 3  # the call reads no more tags
+_SHORT = 9_216  # a jumbo frame of Ethernet
 
 
 class _Room(threading.local):
@@ -32,6 +33,15 @@ _at_ethernet2, _at_linux_sll, _at_vlan, _at_macsec, _at_arp = (
 _found = struct.Struct(f"={_library.Headers.found.offset}xQ").unpack_from
 _fault = struct.Struct(f"={_library.Headers.found.offset + _library.Found.fault.offset + _library.Fault.kind.offset}xI").unpack_from
 _new = tuple.__new__
+
+
+def bytes_of(frame):
+    """The bytes of a frame that is short, or None. To copy them takes less time than to borrow them."""
+    if type(frame) is bytes:
+        return frame
+    if type(frame) is bytearray or type(frame) is memoryview and frame.c_contiguous:
+        return bytes(frame) if len(frame) <= _SHORT else None
+    return None
 
 
 def units_of(frame, start, ether_type):
