@@ -399,11 +399,10 @@ free_bytes frame ok (suc (suc zero)) = omega arith
 free_bytes frame ok (suc (suc (suc zero))) = omega arith
 free_bytes frame ok (suc (suc (suc (suc i)))) = ok i
 
-pub pushed_usual : (next : Next) (frame : List ℕ) (hs : List Header) (e : Ending) (tag : VlanValue) (tpid : ℕ)
+pub pushed_bytes_fit : (next : Next) (frame : List ℕ) (hs : List Header) (e : Ending) (tag : VlanValue) (tpid : ℕ)
     (new : List ℕ)
-    → IsBytes frame → IsPushed (frame_start next) (after_free frame) hs e tag tpid new
-    → Start kinds.LinuxSll ≡ next → has_other_hardware new ≡ false
-pushed_usual next frame hs e tag tpid new ok is =
+    → IsBytes frame → IsPushed (frame_start next) (after_free frame) hs e tag tpid new → IsBytes new
+pushed_bytes_fit next frame hs e tag tpid new ok is =
     let n = header_len is.link + 2 in
     let old = free_bytes frame ok in
     let front = slice_range (after_free frame) 4 n in
@@ -411,13 +410,19 @@ pushed_usual next frame hs e tag tpid new ok is =
     let four_bytes =
     IsBytes-append (spelled 2 tpid) (slice_range (vlan_bytes tag) 0 2) (IsBytes-spelled 2 tpid)
     (IsBytes-part 0 2 (vlan_bytes tag) (IsBytes-spelled 4 _)) in
-    let bytes =
     subst IsBytes (sym is.bytes)
     (written_bytes (after_free frame) (front ++ four) 0 old
-    (IsBytes-append front four (IsBytes-part 4 n (after_free frame) old) four_bytes)) in
+    (IsBytes-append front four (IsBytes-part 4 n (after_free frame) old) four_bytes))
+
+pub pushed_usual : (next : Next) (frame : List ℕ) (hs : List Header) (e : Ending) (tag : VlanValue) (tpid : ℕ)
+    (new : List ℕ)
+    → IsBytes frame → IsPushed (frame_start next) (after_free frame) hs e tag tpid new
+    → Start kinds.LinuxSll ≡ next → has_other_hardware new ≡ false
+pushed_usual next frame hs e tag tpid new ok is =
     let inner = headers.Vlan (record tag { ether_type = type_of_link is.link }) in
     walked_usual next new (with_type is.link tpid) (inner ∷ is.later)
-    (moved_ending (header_len is.link) (header_len is.link + 4) e) bytes is.walk
+    (moved_ending (header_len is.link) (header_len is.link + 4) e)
+    (pushed_bytes_fit next frame hs e tag tpid new ok is) is.walk
 
 pub record PushDone (tpid id : ℕ) (p : PacketValue) (after : List ℕ) : Type 0 where
   pub pushes : Pushes tpid id p

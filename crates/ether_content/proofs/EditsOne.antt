@@ -55,7 +55,7 @@ abbrev first_of : Header → List Header → Header
 first_of h [] = h
 first_of h (x ∷ xs) = x
 
-same_link : (hs gs : List Header) (h g : Header) (later more : List Header) → hs ≡ gs → hs ≡ h ∷ later
+pub same_link : (hs gs : List Header) (h g : Header) (later more : List Header) → hs ≡ gs → hs ≡ h ∷ later
     → gs ≡ g ∷ more → h ≡ g
 same_link hs gs h g later more same a b = ap (first_of h) (sym a ∙ same ∙ b)
 
@@ -69,7 +69,7 @@ captured_apart s false is other typed =
     (λ i. if sym is i then EtherType s.protocol else Sll (link_protocol_of s.hardware_type s.protocol)) ∙ typed in
     absurd cc
 
-typed_apart : (hs : List Header) (h : Header) (later : List Header) (error : TagError) → BeginsTyped hs h later
+pub typed_apart : (hs : List Header) (h : Header) (later : List Header) (error : TagError) → BeginsTyped hs h later
     → RefusesTyped hs error → ⊥
 typed_apart hs h later error begins (no_link none) =
     let e : true ≡ false = sym begins.is_link ∙ ap has_link (sym begins.parts) ∙ none in absurd cc

@@ -23,13 +23,13 @@ use Rattle.ether_content.proofs.SettingLemmas.{keeps_end_same, set_usual}
 
 -- ---- a packet is a frame, or it is none
 
-record Framed (c : ContentValue) : Type 0 where
-  start : Start
-  frame : List ℕ
-  is : c ≡ Frame (next_of start) frame
-  ok : IsBytes frame
+pub record Framed (c : ContentValue) : Type 0 where
+  pub start : Start
+  pub frame : List ℕ
+  pub is : c ≡ Frame (next_of start) frame
+  pub ok : IsBytes frame
 
-abbrev Unframed : ContentValue → Type 0
+abbrev pub Unframed : ContentValue → Type 0
 Unframed c = (next : Next) (frame : List ℕ) → c ≢ Frame next frame
 
 framed_by : (a b o c d : Bool) (all without : List ℕ) → IsBytes all → IsBytes without
@@ -44,7 +44,7 @@ framed_by false true false c d all without x y =
 framed_by false false o true d all without x y = inr (λ next frame is. absurd cc)
 framed_by false false o false d all without x y = inr (λ next frame is. absurd cc)
 
-framed_or_not : (p : PacketValue) → IsBytes p.packet → Framed (content_of p) ⊎ Unframed (content_of p)
+pub framed_or_not : (p : PacketValue) → IsBytes p.packet → Framed (content_of p) ⊎ Unframed (content_of p)
 framed_or_not p ok =
     framed_by (nat_eq p.link_type 1) (nat_eq p.link_type 113) (has_other_hardware (without_fcs p))
     (nat_eq p.link_type 276) (has_fcs p) p.packet (without_fcs p) ok (IsBytes-take (max p.original_len (length p.packet) - fcs_len p) p.packet ok)

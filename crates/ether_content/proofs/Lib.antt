@@ -7,3 +7,4 @@ pub mod SettingLemmas
 pub mod EditsOne
 pub mod EditsSome
 pub mod Growth
+pub mod PushedPopped

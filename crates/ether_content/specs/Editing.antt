@@ -127,3 +127,13 @@ EditsGrow = (edit : EditValue) (p : PacketValue) (e : EditedValue) → Edits edi
 -- A packet is edited to one value.
 abbrev pub EditsAreOne : Type 0
 EditsAreOne = (edit : EditValue) (p : PacketValue) (o q : Option EditedValue) → Edits edit p o → Edits edit p q → o ≡ q
+
+-- a packet with the bytes and the original length that it has
+abbrev pub unedited : PacketValue → EditedValue
+unedited p = record { original_len = p.original_len; packet = p.packet }
+
+-- A VLAN tag that is put in can be taken off again, and the packet is as before.
+abbrev pub PoppedAfterPushed : Type 0
+PoppedAfterPushed =
+    (tpid id : ℕ) (p : PacketValue) (e : EditedValue) → IsBytes p.packet → Edits (PushVlan tpid id) p (Some e)
+    → Edits PopVlan (edited_packet e p) (Some (unedited p)) × (edited_packet (unedited p) (edited_packet e p) ≡ p)

@@ -1,5 +1,5 @@
 //! The laws on the headers and the edits of a captured packet. Each is the contract of a function that does nothing.
-ghost use Rattle.ether_content.specs.Editing.{EditsAreOne, EditsAreSome, EditsGrow};
+ghost use Rattle.ether_content.specs.Editing.{EditsAreOne, EditsAreSome, EditsGrow, PoppedAfterPushed};
 ghost use Rattle.ether_content.specs.Headers.{HeadersTakeOne};
 
 /// The headers of any packet take a number of bytes, and only one.
@@ -20,4 +20,9 @@ pub fn edits_are_some()
 /// A packet that is edited has no more bytes than before, or four more where a VLAN tag is put in.
 pub fn edits_grow()
     ensures { EditsGrow }
+{}
+
+/// A VLAN tag that is put in can be taken off again, and the packet is as before.
+pub fn popped_after_pushed()
+    ensures { PoppedAfterPushed }
 {}
