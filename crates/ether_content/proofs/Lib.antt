@@ -8,3 +8,4 @@ pub mod EditsOne
 pub mod EditsSome
 pub mod Growth
 pub mod PushedPopped
+pub mod CutOnce

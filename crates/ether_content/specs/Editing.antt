@@ -1,5 +1,5 @@
 -- What an edit makes of a captured packet.
-use Rattle.std.specs.Prelude.{◌≡◌, ◌≢◌, ℕ, ◌+◌, ◌-◌, ◌<◌, ◌≤◌, List, ◌∷◌, ◌++◌, length, take, drop, Option, Some, None, ⊤}
+use Rattle.std.specs.Prelude.{◌≡◌, ◌≢◌, ℕ, ◌+◌, ◌-◌, ◌<◌, ◌≤◌, List, ◌∷◌, ◌++◌, length, take, drop, Option, Some, None, ⊤, ◌⊎◌}
 use Rattle.ether_base.specs.Bytes.{IsBytes}
 use Rattle.etherparse.specs.Header.{Header}
 use Rattle.etherparse.specs.Vlan.{VlanValue}
@@ -11,7 +11,7 @@ use Rattle.ether_packet.specs.Setting.{LacksVlan, FindsVlan, SetsTag}
 use Rattle.ether_packet.specs.declared.tag_error.TagError.{TagError}
 use Rattle.ether_pcap.specs.Capture.{PacketValue}
 use Rattle.ether_pcap.specs.Editing.{EditedValue, edited_packet}
-use Rattle.ether_content.specs.Content.{Frame, content_of}
+use Rattle.ether_content.specs.Content.{Frame, content_of, fcs_len}
 use Rattle.ether_content.specs.Headers.{HeadersTake}
 
 -- a packet is cut where its headers end; the VLAN tag after the header of its link is taken off; one is put in there, which is
@@ -137,3 +137,13 @@ abbrev pub PoppedAfterPushed : Type 0
 PoppedAfterPushed =
     (tpid id : ℕ) (p : PacketValue) (e : EditedValue) → IsBytes p.packet → Edits (PushVlan tpid id) p (Some e)
     → Edits PopVlan (edited_packet e p) (Some (unedited p)) × (edited_packet (unedited p) (edited_packet e p) ≡ p)
+
+-- no more bytes were captured than the packet had, or the file gives no frame check sequence
+abbrev pub IsWithinOriginal : PacketValue → Type 0
+IsWithinOriginal p = (length p.packet ≤ p.original_len) ⊎ (fcs_len p ≡ 0)
+
+-- A packet that is cut to its headers stays as it is if it is cut again.
+abbrev pub CutOnce : Type 0
+CutOnce =
+    (p : PacketValue) (e : EditedValue) → IsBytes p.packet → IsWithinOriginal p → Edits CutToHeaders p (Some e)
+    → Edits CutToHeaders (edited_packet e p) None
