@@ -74,7 +74,7 @@ ARTEFACTS = {
         "ether_content/src/headers.rt": ["headers_len"],
         "ether_content/src/editing.rt": ["edit_packet"],
         "ether_content/src/laws.rt": ["edits_are_one", "edits_are_some", "edits_grow", "popped_after_pushed",
-                                      "cut_once"],
+                                      "cut_once", "set_back"],
     },
     "Captures": {
         "ether_stream/src/run.rt": ["run"],

@@ -9,3 +9,4 @@ pub mod EditsSome
 pub mod Growth
 pub mod PushedPopped
 pub mod CutOnce
+pub mod SetBack

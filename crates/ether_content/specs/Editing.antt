@@ -132,18 +132,33 @@ EditsAreOne = (edit : EditValue) (p : PacketValue) (o q : Option EditedValue) �
 abbrev pub unedited : PacketValue → EditedValue
 unedited p = record { original_len = p.original_len; packet = p.packet }
 
--- A VLAN tag that is put in can be taken off again, and the packet is as before.
+-- this edit of the edited packet restores the packet
+abbrev pub Undoes : EditValue → PacketValue → EditedValue → Type 0
+Undoes edit p e = Edits edit (edited_packet e p) (Some (unedited p)) × (edited_packet (unedited p) (edited_packet e p) ≡ p)
+
+-- Taking off the VLAN tag that was put into a packet restores the packet.
 abbrev pub PoppedAfterPushed : Type 0
 PoppedAfterPushed =
-    (tpid id : ℕ) (p : PacketValue) (e : EditedValue) → IsBytes p.packet → Edits (PushVlan tpid id) p (Some e)
-    → Edits PopVlan (edited_packet e p) (Some (unedited p)) × (edited_packet (unedited p) (edited_packet e p) ≡ p)
+    (tpid id : ℕ) (p : PacketValue) (e : EditedValue) → IsBytes p.packet → Edits (PushVlan tpid id) p (Some e) → Undoes PopVlan p e
 
--- no more bytes were captured than the packet had, or the file gives no frame check sequence
+-- at most the original length was captured, or the file gives no frame check sequence
 abbrev pub IsWithinOriginal : PacketValue → Type 0
 IsWithinOriginal p = (length p.packet ≤ p.original_len) ⊎ (fcs_len p ≡ 0)
 
--- A packet that is cut to its headers stays as it is if it is cut again.
+-- Cutting a packet to its headers a second time changes nothing.
 abbrev pub CutOnce : Type 0
 CutOnce =
     (p : PacketValue) (e : EditedValue) → IsBytes p.packet → IsWithinOriginal p → Edits CutToHeaders p (Some e)
     → Edits CutToHeaders (edited_packet e p) None
+
+-- No VLAN tag of a packet before the outermost one with an identifier has this other one.
+abbrev pub LacksBefore : (id other : ℕ) → PacketValue → Type 0
+LacksBefore id other p =
+    (next : Next) (frame : List ℕ) (hs : List Header) (e : Ending) (i : ℕ) → IsFrame p next frame hs e
+    → (found : FindsVlan hs id i) → LacksVlan found.front other
+
+-- Setting the old identifier of a VLAN tag again restores the packet, if no tag before it has the new identifier.
+abbrev pub SetBack : Type 0
+SetBack =
+    (old new : ℕ) (p : PacketValue) (e : EditedValue) → IsBytes p.packet → LacksBefore old new p → Edits (SetVlan old new) p (Some e)
+    → Undoes (SetVlan new old) p e

@@ -1,5 +1,5 @@
 //! The laws on the headers and the edits of a captured packet. Each is the contract of a function that does nothing.
-ghost use Rattle.ether_content.specs.Editing.{CutOnce, EditsAreOne, EditsAreSome, EditsGrow, PoppedAfterPushed};
+ghost use Rattle.ether_content.specs.Editing.{CutOnce, EditsAreOne, EditsAreSome, EditsGrow, PoppedAfterPushed, SetBack};
 ghost use Rattle.ether_content.specs.Headers.{HeadersTakeOne};
 
 /// The headers of any packet take a number of bytes, and only one.
@@ -22,15 +22,20 @@ pub fn edits_grow()
     ensures { EditsGrow }
 {}
 
-/// A VLAN tag that is put in can be taken off again, and the packet is as before.
+/// Taking off the VLAN tag that was put into a packet restores the packet.
 pub fn popped_after_pushed()
     ensures { PoppedAfterPushed }
 {}
 
-/// A packet that is cut to its headers stays as it is if it is cut again.
+/// Cutting a packet to its headers a second time changes nothing.
 ///
-/// This leaves out a file that gives a frame check sequence and says that more bytes were captured than the packet had: of the packet
-/// that is cut, the last bytes of its headers may be taken for the sequence.
+/// This is not said of a packet with more captured bytes than its original length, if the file also gives a frame check sequence: once
+/// such a packet is cut, the last bytes of its headers may count as the check sequence.
 pub fn cut_once()
     ensures { CutOnce }
+{}
+
+/// Setting the old identifier of a VLAN tag again restores the packet, if no tag before it has the new identifier.
+pub fn set_back()
+    ensures { SetBack }
 {}
