@@ -19,7 +19,7 @@ _ether_capture() {
 
     case "${cmd}" in
         ether_capture)
-            opts="-c -h -V --plain --write --cut-to-headers --pop-vlan --push-vlan --set-vlan --select --limit --help --version [file]..."
+            opts="-c -h -V --plain --write --cut-to-headers --pop-vlan --push-vlan --set-vlan --select --undecided --limit --help --version [file]..."
             if [[ ${cur} == -* || ${COMP_CWORD} -eq 1 ]] ; then
                 COMPREPLY=( $(compgen -W "${opts}" -- "${cur}") )
                 return 0
@@ -34,6 +34,10 @@ _ether_capture() {
                     return 0
                     ;;
                 --select)
+                    COMPREPLY=($(compgen -f "${cur}"))
+                    return 0
+                    ;;
+                --undecided)
                     COMPREPLY=($(compgen -f "${cur}"))
                     return 0
                     ;;

@@ -1,6 +1,7 @@
 complete -c ether_capture -l push-vlan -d 'put a VLAN tag after the link\'s header, as 0x8100:5' -r
 complete -c ether_capture -l set-vlan -d 'give the outermost VLAN tag with identifier A identifier B, as A:B' -r
 complete -c ether_capture -l select -d 'only packets that match an expression' -r
+complete -c ether_capture -l undecided -d 'keep or drop packets that were cut too short to tell' -r
 complete -c ether_capture -l limit -d 'read so many VLAN tags and SecTags of each packet at most' -r
 complete -c ether_capture -s c -d 'end with so many of these packets' -r
 complete -c ether_capture -l plain -d 'leave out the lines of packets and the totals'

@@ -70,7 +70,7 @@ ARTEFACTS = {
     },
     "Captured packets": {
         "ether_content/src/content.rt": ["of", "is_unknown", "frame", "is_cut"],
-        "ether_content/src/selecting.rt": ["selects"],
+        "ether_content/src/selecting.rt": ["selects", "is_undecided"],
         "ether_content/src/headers.rt": ["headers_len"],
         "ether_content/src/editing.rt": ["edit_packet"],
         "ether_content/src/laws.rt": ["edits_are_one", "edits_are_some", "edits_grow", "popped_after_pushed",
@@ -78,6 +78,7 @@ ARTEFACTS = {
     },
     "Captures": {
         "ether_stream/src/run.rt": ["run"],
+        "ether_stream/src/laws.rt": ["runs_compose"],
         "ether_capture/src/program.rt": ["program"],
     },
     "C": {
@@ -155,7 +156,7 @@ ORDER = {
     """,
     "Captures": """
         ether_pcap: Capture
-        ether_stream: Task Packets LinuxSll2Lines FrameLines Answering Copying
+        ether_stream: Task Packets LinuxSll2Lines FrameLines Answering Copying Composition
         ether_text: Run
         ether_stream: Run Tags Words
         ether_capture: Options

@@ -41,6 +41,9 @@ COPIES += [
     Copy("the cut one of them", ["--select", "cut"], SECTIONS, NO_PACKETS + CUT_PACKET + SECOND_SECTION),
     Copy("none of them", ["--select", "macsec"], SECTIONS, NO_PACKETS + SECOND_SECTION),
     Copy("no packet of a link type that is not walked", ["--select", "greater 1"], SECTIONS, SECTIONS[:-36]),
+    Copy("a packet that may match, as it is", ["--select", "vlan 5"], CLASSIC, CLASSIC[:24]),
+    Copy("a packet that may match", ["--select", "vlan 5", "--undecided", "keep"], CLASSIC, CLASSIC[:59]),
+    Copy("those that match for sure", ["--select", "not vlan 5", "--undecided", "drop"], CLASSIC, CLASSIC[:24] + CLASSIC[59:]),
     Copy("a long block between packets", ["--select", "macsec"], secrets(100_000, 100_000), secrets(100_000, 100_000)[:48]
          + secrets(100_000, 100_000)[96:-48]),
     Copy("a record that is cut", [], CLASSIC[:120], CLASSIC[:59], record_is_cut(59, 62, 61), 3),

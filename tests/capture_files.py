@@ -24,8 +24,8 @@ def part(lines, before):
     return "".join(found)
 
 
-def totals(frames, skipped):
-    return f"total frames {frames} skipped {skipped}\n"
+def totals(frames, skipped, end=""):
+    return f"total frames {frames} skipped {skipped}{end}\n"
 
 
 # Several files: those that are there, and the words, the lines and the status of each run over some of them.
@@ -60,7 +60,7 @@ SEVERAL_FILES = [
      FIRST_LINES + CUT_FAULT + part(FIRST_LINES, 1) + totals(2, 0), 3),
     ("the second packet that a filter selects", ["-c", "2", "--select", "not refused and vlan 291", "one.pcap", "two.pcapng", "cut.pcap"],
      part(CLASSIC_LINES, 0).replace(FIRST_LINES, "") + part(SECTION_LINES, 2)[part(SECTION_LINES, 2).index("frame 5"):part(SECTION_LINES, 2).index("frame 6")]
-     + totals(5, 0), 0),
+     + totals(5, 0, " undecided 2"), 0),
     ("a limit", ["--limit", "0", "--plain", "--select", "outer vlan 100", "six.pcap", "six.pcap"], 2 * (plain(DOUBLE) + "rest 14 23 type 0x88A8\n"), 0),
     ("a limit after a header of cooked capture v2", ["--plain", "--limit", "0", "none.pcap", "v2.pcap"], V2_LINE + "rest 20 25 type 0x8100\n", 0),
 ]

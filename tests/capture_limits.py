@@ -20,7 +20,7 @@ LONG_NAME = "a/" * 2_000
 def selecting(program):
     """Long expressions: what is said of them, and of the packets."""
     selected = {
-        "192 words": (MOST, (CLASSIC_LINES, 1)),
+        "192 words": (MOST, (CLASSIC_LINES.replace("skipped 0", "skipped 0 undecided 1"), 1)),
         "193 words": (MOST + " or refused", (f"--select: At byte {len(MOST) + 1}: an expression has at most 192 words.\n", 2)),
         "a word that is wrong far behind": (LATE, ("--select: At byte 2005: expected a number up to 4095.\n", 2)),
         "blanks alone": (" " * 5_000, ("--select: At byte 5000: expected a primitive, `not` or `(`.\n", 2)),

@@ -122,16 +122,17 @@ def long_record(len_, captured):
 COOKED_LINKS = {1: 113, 2: 276}
 
 
-def cooked(packet, version=2):
+def cooked(packet, version=2, original=0):
     """A classic capture of one packet of Linux cooked capture."""
     packet = joined(packet)
-    length = len(packet).to_bytes(4, "big")
-    return CLASSIC[:20] + COOKED_LINKS[version].to_bytes(4, "big") + joined("6553f100 00000000") + length + length + packet
+    captured = len(packet)
+    record = joined("6553f100 00000000") + captured.to_bytes(4, "big") + max(captured, original).to_bytes(4, "big") + packet
+    return CLASSIC[:20] + COOKED_LINKS[version].to_bytes(4, "big") + record
 
 
-def cooked_lines(captured, lines, version=2):
+def cooked_lines(captured, lines, version=2, end=""):
     return (f"frame 1 time 1700000000.000000000 link {COOKED_LINKS[version]} captured {captured} original {captured}\n{lines}"
-            "total frames 1 skipped 0\n")
+            f"total frames 1 skipped 0{end}\n")
 
 
 def classic(*frames, original=0):

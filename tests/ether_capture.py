@@ -23,7 +23,7 @@ from capture_files import several
 from capture_limits import limits
 from programs import count, on_a_full_disk, run, run_in_pieces, run_until_a_fault, without_memory
 
-USAGE = "usage: ether_capture [[--plain] [--limit N] | --write [--cut-to-headers | --pop-vlan | --push-vlan TPID:ID | --set-vlan A:B]] [--select EXPR] [-c N] [FILE]..\n"
+USAGE = "usage: ether_capture [[--plain] [--limit N] | --write [--cut-to-headers | --pop-vlan | --push-vlan TPID:ID | --set-vlan A:B]] [--select EXPR [--undecided keep|drop]] [-c N] [FILE]..\n"
 
 
 @dataclass
@@ -171,8 +171,8 @@ CASES += [
     Case("a tag cut short after it", [], cooked("0004 0200 0000 0000000000000000 8100 b123", 1),
          cooked_lines(18, V1_LINE + "fault 16 open length 4 2 slice\n", 1), 1),
     Case("no tag after it", ["--limit", "0"], TAGGED_V1, cooked_lines(21, V1_LINE + "rest 16 21 type 0x8100\n", 1), 0),
-    Case("a filter after it", ["--select", "vlan 291"], TAGGED_V1, cooked_lines(21, V1_LINE + V1_TAG, 1), 0),
-    Case("a filter that selects no tag", ["--select", "vlan 5"], TAGGED_V1, "total frames 1 skipped 0\n", 0),
+    Case("a filter after it", ["--select", "vlan 291"], TAGGED_V1, cooked_lines(21, V1_LINE + V1_TAG, 1, " undecided 0"), 0),
+    Case("a filter that selects no tag", ["--select", "vlan 5"], TAGGED_V1, "total frames 1 skipped 0 undecided 0\n", 0),
     Case("a number that is no ether type", [], cooked("0000 0304 0006 0000000000000000 0004 aa", 1),
          cooked_lines(17, "linux_sll 0 packet 0 hw 772 alen 6 addr 0000000000000000 0x0004\nrest 16 17 type 0x0004\n", 1), 0),
     Case("packet type 8 of hardware type 772", [], cooked("0008 0304 0006 0000000000000000 0800 45", 1),
@@ -190,27 +190,44 @@ def selections(program):
     for text, wanted in SELECTED.items():
         lines, status = run(program, ["--select", text], classic(*SIX))
         found = tuple(int(line.split()[1]) for line in lines.splitlines() if line.startswith("frame"))
-        tried.append((f"--select {text!r}", (found, lines.splitlines()[-1:], status), (wanted, ["total frames 6 skipped 0"], 0)))
+        tried.append((f"--select {text!r}", (found, lines.splitlines()[-1:], status), (wanted, ["total frames 6 skipped 0 undecided 0"], 0)))
     return tried
 
 
 CASES += [
-    Case("a filter that selects a packet", ["--select", "refused"], CLASSIC, FIRST_LINES + "total frames 2 skipped 0\n", 1),
+    Case("a filter that selects a packet", ["--select", "refused"], CLASSIC, FIRST_LINES + "total frames 2 skipped 0 undecided 1\n", 1),
     Case("one that leaves the refused frame out", ["--plain", "--select", "not refused"], CLASSIC,
          plain(CLASSIC_LINES).replace(plain(FIRST_LINES), ""), 0),
-    Case("cut packets", ["--select", "cut"], CLASSIC, FIRST_LINES + "total frames 2 skipped 0\n", 1),
+    Case("cut packets", ["--select", "cut"], CLASSIC, FIRST_LINES + "total frames 2 skipped 0 undecided 0\n", 1),
     Case("a filter after a header of cooked capture v2", ["--select", "vlan 291"],
          cooked("8100 0000 00000003 0001 04 06 0200000000010000 b123 0800 45"),
          cooked_lines(25, "linux_sll2 0 packet 4 hw 1 if 3 alen 6 addr 0200000000010000 0x8100\n"
-                          "vlan 20 pcp 5 dei 1 vid 291 0x0800\nrest 24 25 type 0x0800\n"), 0),
+                          "vlan 20 pcp 5 dei 1 vid 291 0x0800\nrest 24 25 type 0x0800\n", end=" undecided 0"), 0),
     Case("netlink, which no filter selects", ["--select", "not arp"], cooked("0010 0000 00000002 0338 04 00 0000000000000000 14000000"),
-         "total frames 1 skipped 0\n", 0),
+         "total frames 1 skipped 0 undecided 0\n", 0),
     Case("no expression", ["--select", "vlan 4096"], CLASSIC, "--select: At byte 5: expected a number up to 4095.\n", 2),
     Case("a word after vlan", ["--select", "vlan abc"], CLASSIC, "--select: At byte 5: expected a number up to 4095, `and`, `or`, `)` or the end.\n", 2),
     Case("and beside or", ["--select", "arp and ip or vlan"], CLASSIC,
          "--select: At byte 11: `and` and `or` can be mixed only with parentheses.\n", 2),
     Case("options in another order", ["--select", "refused", "--plain"], CLASSIC, plain(FIRST_LINES), 1),
     Case("a filter that looks like an option", ["--select=--plain"], CLASSIC, "--select: At byte 0: expected a primitive, `not` or `(`.\n", 2),
+]
+
+# Packets that were cut too short to tell: of the first one the identifier of the first VLAN tag is known, 1, and nothing after it.
+OPEN, SECOND_LINES = "total frames 2 skipped 0 undecided 1\n", CLASSIC_LINES.replace(FIRST_LINES, "").replace("skipped 0", "skipped 0 undecided 1")
+NO_HEADER_V2 = cooked("8100 0000 00000003 0001 04 06 0200000000010000"[:-4], original=25)
+CASES += [
+    Case("an identifier that may still come", ["--select", "vlan 5"], CLASSIC, OPEN, 0),
+    Case("that is kept", ["--select", "vlan 5", "--undecided", "keep"], CLASSIC, FIRST_LINES + OPEN, 1),
+    Case("that is dropped", ["--undecided", "drop", "--select", "vlan 5"], CLASSIC, OPEN, 0),
+    Case("not an identifier that may still come", ["--select", "not vlan 5", "--undecided=keep"], CLASSIC, FIRST_LINES + SECOND_LINES, 1),
+    Case("not one, that is dropped", ["--select", "not vlan 5", "--undecided=drop"], CLASSIC, SECOND_LINES, 0),
+    Case("the first identifier", ["--select", "outer vlan 1", "--undecided", "drop"], CLASSIC, FIRST_LINES + OPEN.replace("1\n", "0\n"), 1),
+    Case("an identifier of a packet that is too short", ["--select", "vlan 5 and greater 100"], CLASSIC, OPEN.replace("1\n", "0\n"), 0),
+    Case("a header of cooked capture v2 that is cut", ["--select", "greater 1"], NO_HEADER_V2, "total frames 1 skipped 0 undecided 1\n", 0),
+    Case("its lines", ["--plain", "--select", "greater 1", "--undecided", "keep"], NO_HEADER_V2, "fault 0 open length 20 18 slice\n", 1),
+    Case("a word that is neither", ["--select", "vlan 5", "--undecided", "maybe"], CLASSIC, "", 2),
+    Case("no filter", ["--undecided", "keep"], CLASSIC, "", 2),
 ]
 
 # A number of packets: the run ends with the last of them, as if the capture ended there.
@@ -224,7 +241,7 @@ CASES += [
     Case("the second packet, by a filter", ["-c", "0x1", "--plain", "--select", "not refused"], CLASSIC,
          plain(CLASSIC_LINES).replace(plain(FIRST_LINES), ""), 0),
     Case("three packets of two sections", ["-c", "3"], SECTIONS, SECTION_LINES[:SECTION_LINES.index("frame 4")] + "total frames 3 skipped 0\n", 1),
-    Case("no packet that is asked for", ["-c", "1", "--select", "macsec"], CLASSIC, "total frames 2 skipped 0\n", 0),
+    Case("no packet that is asked for", ["-c", "1", "--select", "macsec"], CLASSIC, "total frames 2 skipped 0 undecided 1\n", 0),
 ]
 
 # A limit on VLAN tags and SecTags: what is not read begins the rest. The header of the link and an ARP packet don't count.

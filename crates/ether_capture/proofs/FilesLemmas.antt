@@ -52,9 +52,10 @@ module _ (has : List ℕ → Option (List ℕ) → Type 0) (can_refuse : OpenFau
       → IfFileRead end (AreCounted task packets counts) → end ≢ ends.Read (Err faults.Output)
       → Appends mid holds (last_bytes (text_of_file name end))
       → next.packets ≡ counts.number → next.skipped ≡ counted (at.skipped + counts.skipped)
+      → next.undecided ≡ counted (at.undecided + counts.undecided)
       → next.left ≡ counts.left → next.status ≡ max at.status (status_of_file end)
       → ReadsFile has can_refuse can_read can_write l name at held next holds
-  file_read l task name at next held mid holds packets end counts same ended known going told number skipped left
+  file_read l task name at next held mid holds packets end counts same ended known going told number skipped undecided left
       status =
       let ended_so =
       subst (λ (t : TaskValue). HasEnded has can_refuse can_read can_write t name packets held mid end) same ended in
@@ -72,6 +73,9 @@ module _ (has : List ℕ → Option (List ℕ) → Type 0) (can_refuse : OpenFau
           selected = are.selected;
           is_count = number ∙ are.is_number;
           is_skipped = let a = are.is_skipped in omega (arith, skipped, a);
+          undecided = are.undecided.undecided;
+          are_undecided = are.undecided.selected;
+          is_undecided = let a = are.undecided.is_count in omega (arith, undecided, a);
           is_left = subst (IsLeftOf at.left (length are.kept)) (sym left) are.is_left;
           is_status = status;
         };

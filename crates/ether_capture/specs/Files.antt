@@ -2,18 +2,18 @@
 use Rattle.std.specs.Prelude.{◌≡◌, ◌≢◌, ◌⊎◌, ℕ, ◌+◌, max, List, [], ◌∷◌, length, Option, Some, Result, Ok, Err, IfErr}
 use Rattle.std.specs.List.{sum_by}
 use Rattle.std.specs.Io.KnownBytes.{Appends}
-use Rattle.ether_filter.specs.Expressions.{Expression}
 use Rattle.ether_pcap.specs.Capture.{PacketValue}
 use Rattle.ether_pcap.specs.Copies.{Selected}
 use Rattle.ether_text.specs.Run.{IsEndless}
 use Rattle.ether_text.specs.declared.output_fault.OutputFault.{OutputFault}
-use Rattle.ether_stream.specs.FrameLines.{skip_count, totals_line_if}
+use Rattle.ether_stream.specs.FrameLines.{if_selected, skip_count, totals_line_if}
 use Rattle.ether_capture.specs.Options.{ListingValue}
 use Rattle.ether_stream.specs.Outcome.{last_bytes, status_of_file, text_of_file}
 use Rattle.ether_stream.specs.Packets.{counted, IsLeftOf}
 use Rattle.ether_stream.specs.Run.{HasRunOver, HasNoMemory, OnStreamFault}
-use Rattle.ether_stream.specs.Task.{TaskValue, Lines, IsChosen}
+use Rattle.ether_stream.specs.Task.{TaskValue, Lines, IsChosen, IsOpen}
 use Rattle.ether_stream.specs.declared.open_fault.OpenFault.{OpenFault}
+use Rattle.ether_stream.specs.declared.selection.Selection.{Selection}
 use Rattle.ether_capture.specs.declared.files.Tally.{Tally}
 use Rattle.ether_stream.specs.declared.outcome.FileEnd.{FileEnd}
 use Rattle.ether_stream.specs.declared.outcome.FileEnd.TheVariants as ends
@@ -21,18 +21,21 @@ use Rattle.ether_stream.specs.declared.outcome.RunFault.TheVariants.{Output}
 
 -- before the first capture
 abbrev pub nothing_read : (count : Option ℕ) → Tally
-nothing_read count = record { packets = 0; skipped = 0; left = count; status = 0 }
+nothing_read count = record { packets = 0; skipped = 0; undecided = 0; left = count; status = 0 }
 
 -- what is made of the next capture: lines, numbered on, of as many packets as are still asked for
 abbrev pub next_task : ListingValue → (at : Tally) → TaskValue
 next_task l at = record { select = l.select; count = at.left; form = Lines (record l.options { before = Some at.packets }) }
 
 -- the tally with a capture more, which has these packets and this end
-pub record IsTallied (select : Option Expression) (at : Tally) (packets : List PacketValue) (end : FileEnd) (next : Tally) : Type 0 where
+pub record IsTallied (select : Option Selection) (at : Tally) (packets : List PacketValue) (end : FileEnd) (next : Tally) : Type 0 where
   pub kept : List PacketValue
   pub selected : Selected (IsChosen select) packets kept
   pub is_count : next.packets ≡ counted (at.packets + length packets)
   pub is_skipped : next.skipped ≡ counted (at.skipped + sum_by skip_count packets)
+  pub undecided : List PacketValue
+  pub are_undecided : Selected (IsOpen select) packets undecided
+  pub is_undecided : next.undecided ≡ counted (at.undecided + length undecided)
   pub is_left : IsLeftOf at.left (length kept) next.left
   pub is_status : next.status ≡ max at.status (status_of_file end)
 
@@ -73,5 +76,5 @@ abbrev pub HasListed : (has : List ℕ → Option (List ℕ) → Type 0) (can_re
     → (held holds : Option (List ℕ)) → Result ℕ OutputFault → Type 0
 HasListed has can_refuse can_read can_write l held holds (Ok status) =
     (last : Tally) × (mid : Option (List ℕ)) × ReadsFiles has can_refuse can_read can_write l l.files (nothing_read l.count) held last mid
-    × Appends mid holds (totals_line_if l.options.is_plain last.packets last.skipped) × (status ≡ last.status)
+    × Appends mid holds (totals_line_if l.options.is_plain last.packets last.skipped (if_selected l.select last.undecided)) × (status ≡ last.status)
 HasListed has can_refuse can_read can_write l held holds (Err fault) = can_write

@@ -1,5 +1,5 @@
 -- What the arguments ask for. `clap` defines which options words are, and which values these have.
-use Rattle.std.specs.Prelude.{◌≡◌, ◌≢◌, ◌⊎◌, ℕ, List, [], ◌∷◌, map, codes, Bool, true, false, if◌then◌else◌, ◌||◌, Option, Some, None, unwrap_or, ⊤}
+use Rattle.std.specs.Prelude.{◌≡◌, ◌≢◌, ◌⊎◌, ℕ, List, [], ◌∷◌, map, codes, Bool, true, false, if◌then◌else◌, ◌&&◌, ◌||◌, not, Option, Some, None, unwrap_or, ⊤}
 use Rattle.std.specs.Int.NonZero.{non_zero_usize_get}
 use Rattle.std.specs.Option.{option_map, option_map_or, is_some}
 use Rattle.std.specs.Str.{bytes_eq}
@@ -12,9 +12,11 @@ use Rattle.ether_filter.specs.Refusals.{RefusesText}
 use Rattle.ether_filter.specs.declared.filter_error.FilterError.{FilterError}
 use Rattle.ether_content.specs.Editing.{EditValue}
 use Rattle.ether_content.specs.EditingViews.{edit_view}
-use Rattle.ether_stream.specs.Words.{IsCount, IsIfAny, IsLimit, IsOneEdit, IsSelection}
+use Rattle.ether_stream.specs.Words.{IsCount, IsIfAny, IsLimit, IsOneEdit, IsSelection, MeansUndecided}
 use Rattle.ether_pcap.specs.CopiedUnits.{ModeValue, Exact, Changed}
 use Rattle.ether_stream.specs.Copying.{growth_if}
+use Rattle.ether_stream.specs.declared.selection.Selection.{Selection}
+use Rattle.ether_stream.specs.declared.selection.Undecided.{Undecided}
 use Rattle.ether_stream.specs.Task.{TaskValue, FormValue, Lines, Copy, task_view}
 use Rattle.ether_capture.specs.declared.asked.Asked.{Asked}
 use Rattle.ether_capture.specs.declared.asked.Listing.{Listing}
@@ -26,14 +28,14 @@ use Rattle.ether_capture.specs.declared.asked.Request.TheVariants as requests
 
 -- the lines of the captures in the files of these names
 pub record ListingValue : Type 0 where
-  pub select : Option Expression
+  pub select : Option Selection
   pub count : Option ℕ
   pub options : LineOptions
   pub files : List Text
 
 abbrev pub listing_view : Listing → ListingValue
 listing_view l = record {
-  select = l.filter;
+  select = l.selection;
   count = option_map non_zero_usize_get l.count;
   options = l.options;
   files = map (λ s. s.now) l.files.items;
@@ -72,8 +74,8 @@ file_rule = record (new_rule (codes "file")) { action = Some Append }
 
 abbrev pub capture_rules : List Rule
 capture_rules = flag_rule (codes "plain") ∷ flag_rule (codes "write") ∷ flag_rule (codes "cut-to-headers") ∷ flag_rule (codes "pop-vlan")
-    ∷ option_rule (codes "push-vlan") ∷ option_rule (codes "set-vlan") ∷ option_rule (codes "select") ∷ option_rule (codes "limit")
-    ∷ count_rule ∷ file_rule ∷ []
+    ∷ option_rule (codes "push-vlan") ∷ option_rule (codes "set-vlan") ∷ option_rule (codes "select") ∷ option_rule (codes "undecided")
+    ∷ option_rule (codes "limit") ∷ count_rule ∷ file_rule ∷ []
 
 -- .. with `--help` and `--version`, which `clap` adds
 abbrev pub capture_app : App
@@ -87,6 +89,7 @@ pub record AskedValue : Type 0 where
   pub write : Bool
   pub edit : Option EditValue
   pub text : Option Text
+  pub undecided : Option Undecided
   pub count : Option ℕ
   pub limit : Option ℕ
   pub files : List Text
@@ -106,6 +109,7 @@ pub record Asks (rows : List Row) (a : AskedValue) : Type 0 where
   pub write : a.write ≡ is_set (codes "write") rows
   pub edit : IsEdit rows a.edit
   pub text : a.text ≡ first_of (codes "select") rows
+  pub undecided : IsIfAny MeansUndecided (first_of (codes "undecided") rows) a.undecided
   pub count : IsIfAny IsCount (first_of (codes "count") rows) a.count
   pub limit : IsIfAny IsLimit (first_of (codes "limit") rows) a.limit
   pub files : a.files ≡ unwrap_or (all_of (codes "file") rows) []
@@ -117,10 +121,11 @@ abbrev pub are_several : List Text → Bool
 are_several (name ∷ other ∷ names) = true
 are_several _ = false
 
--- an option is asked for that does not go with the others: no copy is plain, has a limit or is of several files, and no packet is edited without
--- a copy
+-- an option is asked for that does not go with the others: no copy is plain, has a limit or is of several files; no packet is edited without
+-- a copy; and none is undecided without a filter
 abbrev pub clashes : AskedValue → Bool
-clashes a = if a.write then a.plain || (is_some a.limit || are_several a.files) else is_some a.edit
+clashes a =
+    (if a.write then a.plain || (is_some a.limit || are_several a.files) else is_some a.edit) || (is_some a.undecided && not (is_some a.text))
 
 -- which lines are asked for
 abbrev pub options_of : AskedValue → LineOptions
@@ -134,19 +139,23 @@ mode_of a = if is_some a.text || (is_some a.count || is_some a.edit) then Change
 abbrev pub form_of : AskedValue → FormValue
 form_of a = if a.write then Copy (mode_of a) a.edit else Lines (options_of a)
 
+-- which packets are selected by an expression, if there is one
+abbrev pub selection_of : AskedValue → Option Expression → Option Selection
+selection_of a = option_map (λ x. record { filter = x; undecided = a.undecided })
+
 -- what is asked for, with these files
-abbrev pub request_for : AskedValue → (select : Option Expression) → (files : List Text) → RequestValue
-request_for a x [] = Run (record { select = x; count = a.count; form = form_of a }) None
-request_for a x (name ∷ []) = Run (record { select = x; count = a.count; form = form_of a }) (Some name)
-request_for a x (name ∷ other ∷ names) =
-    Lists (record { select = x; count = a.count; options = options_of a; files = name ∷ other ∷ names })
+abbrev pub request_for : AskedValue → (select : Option Selection) → (files : List Text) → RequestValue
+request_for a s [] = Run (record { select = s; count = a.count; form = form_of a }) None
+request_for a s (name ∷ []) = Run (record { select = s; count = a.count; form = form_of a }) (Some name)
+request_for a s (name ∷ other ∷ names) =
+    Lists (record { select = s; count = a.count; options = options_of a; files = name ∷ other ∷ names })
 
 -- this is what is asked for
 pub record IsRequestOf (a : AskedValue) (request : RequestValue) : Type 0 where
-  pub select : Option Expression
+  pub expression : Option Expression
   pub goes : clashes a ≡ false
-  pub selects : IsSelection a.text select
-  pub is : request ≡ request_for a select a.files
+  pub selects : IsSelection a.text expression
+  pub is : request ≡ request_for a (selection_of a expression) a.files
 
 -- what arguments ask for; the first of them is the program's name
 pub data NamesRequest : (words : List Text) → RequestValue → Type 0 where
@@ -201,6 +210,7 @@ asked_view asked = record {
   write = asked.is_copy;
   edit = option_map edit_view asked.edit;
   text = option_map (λ s. s.now) asked.text;
+  undecided = asked.undecided;
   count = option_map non_zero_usize_get asked.count;
   limit = asked.limit;
   files = map (λ s. s.now) asked.files.items;

@@ -1,5 +1,5 @@
 -- What the program has read and written, and how it ends.
-use Rattle.std.specs.Prelude.{◌≡◌, ◌⊎◌, ℕ, List, Option, Some, None, Result, Ok, Err, IfNone, Bool, true, false, IfErr, map, String, string_bytes}
+use Rattle.std.specs.Prelude.{◌≡◌, ◌⊎◌, ℕ, List, Option, Some, None, Result, Ok, Err, IfNone, OnOk, Bool, true, false, IfErr, map, String, string_bytes}
 use Rattle.std.specs.Vec.Iter.{into_iter_items}
 use Rattle.std.specs.declared.vec.IntoIter.{IntoIter}
 use Rattle.std.specs.Io.KnownBytes.{Appends}
@@ -8,7 +8,7 @@ use Rattle.ether_text.specs.declared.verdict.Verdict.{Verdict}
 use Rattle.ether_capture.specs.Options.{RequestValue, Run, Lists, Help, Version, NamesRequest, RefusesWords}
 use Rattle.ether_capture.specs.declared.asked.RequestError.TheVariants as reasons
 use Rattle.ether_capture.specs.Files.{HasListed}
-use Rattle.ether_stream.specs.Run.{HasRun, HasNoMemory, OnStreamFault}
+use Rattle.ether_stream.specs.Run.{HasRun, HasNoMemory, IfSettled, OnStreamFault}
 use Rattle.ether_stream.specs.Task.{TaskValue, is_copy}
 use Rattle.ether_stream.specs.Outcome.{last_bytes, last_text, is_message, status_of_program}
 use Rattle.ether_stream.specs.declared.open_fault.OpenFault.{OpenFault}
@@ -68,6 +68,17 @@ HasObeyed has can_fail can_refuse can_read can_write (Some words) before after h
 HasObeyed has can_fail can_refuse can_read can_write (Some words) before after held holds outcome =
     (request : RequestValue) × NamesRequest words request
     × HasAnswered has can_fail can_refuse can_read can_write request before after held holds outcome
+
+-- what was written is flushed, or nothing was
+abbrev pub Settles : {W : Type 0} → (is_flushed : W → Type 0) → (old new : W) → Type 0
+Settles is_flushed old new = is_flushed new ⊎ (new ≡ old)
+
+-- if no stream has failed
+abbrev pub IfGone : Outcome → Type 0 → Type 0
+IfGone (outcomes.Run copy end) P = IfSettled end P
+IfGone (outcomes.File copy name end) P = IfSettled end P
+IfGone (outcomes.Files end) P = OnOk end P
+IfGone outcome P = P
 
 -- the last line of the outcome, if there is one, is written, or the writer, which can fail, has failed
 pub record PrintsLast (can_write : Type 0) (outcome : Outcome) (held holds : Option (List ℕ)) (printed : Bool) : Type 0 where

@@ -3,12 +3,12 @@ ghost use Rattle.std.specs.Prelude.{◌≡◌, IfOk, IfErr, false, map};
 ghost use Rattle.ether_pcap.specs.CopiedUnits.{copy_mode_view};
 ghost use Rattle.ether_stream.specs.Copying.{growth_if};
 ghost use Rattle.ether_stream.specs.Task.{form_view};
-ghost use Rattle.ether_capture.specs.Options.{IsRequestOf, RefusesAsked, are_several, asked_view, clashes, form_of, mode_of, options_of, request_view};
+ghost use Rattle.ether_capture.specs.Options.{IsRequestOf, RefusesAsked, are_several, asked_view, clashes, form_of, mode_of, options_of, request_view, selection_of};
 
 use ether_content::PacketEdit;
 use ether_filter::{Filter, FilterError};
 use ether_pcap::CopyMode;
-use ether_stream::{Form, LineOptions, Task, Usage, filter_of};
+use ether_stream::{Form, LineOptions, Selection, Task, Undecided, Usage, filter_of};
 use std::num::NonZeroUsize;
 
 /// Why the arguments ask for nothing.
@@ -53,8 +53,8 @@ pub enum Request<'a> {
 /// Which lines of several captures.
 #[derive(Debug, Drop)]
 pub struct Listing<'a> {
-    /// Which packets are chosen; all of them without a filter.
-    pub filter: Option<Filter>,
+    /// Which packets are chosen; all of them without a selection.
+    pub selection: Option<Selection>,
     /// After how many of these the run ends; at the end of the last capture without a number.
     pub count: Option<NonZeroUsize>,
     /// Which lines a packet has.
@@ -70,6 +70,7 @@ pub(crate) struct Asked<'a> {
     pub(crate) is_copy: bool,
     pub(crate) edit: Option<PacketEdit>,
     pub(crate) text: Option<&'a str>,
+    pub(crate) undecided: Option<Undecided>,
     pub(crate) count: Option<NonZeroUsize>,
     pub(crate) limit: Option<usize>,
     pub(crate) files: Vec<&'a str>,
@@ -87,6 +88,9 @@ impl<'a> Asked<'a> {
     fn clashes(&self) -> bool
         ensures { result ≡ clashes (asked_view self.now) }
     {
+        if self.undecided.is_some() && self.text.is_none() {
+            return true;
+        }
         if self.is_copy {
             self.is_plain || self.limit.is_some() || self.has_several()
         } else {
@@ -104,7 +108,7 @@ impl<'a> Asked<'a> {
         }
         match filter_of(self.text) {
             Ok(filter) if self.has_several() => Ok(Request::List(Listing {
-                filter,
+                selection: self.selection(filter),
                 count: self.count,
                 options: self.options(),
                 files: self.files,
@@ -112,7 +116,7 @@ impl<'a> Asked<'a> {
             Ok(filter) => {
                 let form = self.form();
                 let task = Task {
-                    filter,
+                    selection: self.selection(filter),
                     count: self.count,
                     form,
                 };
@@ -122,6 +126,19 @@ impl<'a> Asked<'a> {
                 is_copy: self.is_copy,
                 error,
             }),
+        }
+    }
+
+    /// Which packets a filter selects, if there is one.
+    fn selection(&self, filter: Option<Filter>) -> Option<Selection>
+        ensures { result ≡ selection_of (asked_view self.now) filter }
+    {
+        match filter {
+            Some(filter) => Some(Selection {
+                filter,
+                undecided: self.undecided,
+            }),
+            None => None,
         }
     }
 

@@ -32,6 +32,8 @@ pub struct Tally {
     pub packets: usize,
     /// How many of these were skipped.
     pub skipped: usize,
+    /// Of how many of these the captured bytes don't decide whether they are selected.
+    pub undecided: usize,
     /// How many packets more are asked for, if their number is limited.
     pub left: Option<usize>,
     /// The greatest exit status of a capture.
@@ -46,6 +48,7 @@ impl Tally {
         Tally {
             packets: 0,
             skipped: 0,
+            undecided: 0,
             left: asked_for,
             status: 0,
         }
@@ -55,12 +58,14 @@ impl Tally {
     fn with(&self, counts: PacketCounts, end: &FileEnd) -> Tally
         ensures packets { result.packets ≡ counts.number }
         ensures skipped { result.skipped ≡ counted (self.now.skipped + counts.skipped) }
+        ensures undecided { result.undecided ≡ counted (self.now.undecided + counts.undecided) }
         ensures left { result.left ≡ counts.left }
         ensures status { result.status ≡ max self.now.status (status_of_file end.now) }
     {
         Tally {
             packets: counts.number,
             skipped: self.skipped.saturating_add(counts.skipped),
+            undecided: self.undecided.saturating_add(counts.undecided),
             left: counts.left,
             status: self.status.max(status_of_file(end)),
         }
@@ -97,8 +102,10 @@ pub fn run_files<C: Captures, W: LineSink>(
     ensures flushed { OnOk result (W.Sink.is_flushed writer.new) }
 {
     let is_plain = listing.options.is_plain;
+    let selects = listing.selection.is_some();
     let tally = read_files(listing, alloc, captures, writer)?;
-    write_last(is_plain, &tally, writer)?;
+    let undecided = if selects { Some(tally.undecided) } else { None };
+    write_last(is_plain, &tally, undecided, writer)?;
     Ok(tally.status)
 }
 
@@ -117,7 +124,7 @@ fn read_files<C: Captures, W: LineSink>(
     let options = listing.options;
     let mut files = listing.files.into_iter();
     let mut task = Task {
-        filter: listing.filter,
+        selection: listing.selection,
         count: listing.count,
         form: Form::Lines(options),
     };
@@ -196,13 +203,18 @@ fn end_of_file<C: Captures, W: Sink>(
 }
 
 /// Writes the line of the totals, unless only those of walks are asked for.
-fn write_last<W: Sink>(is_plain: bool, tally: &Tally, writer: &mut W) -> Result<(), OutputFault>
+fn write_last<W: Sink>(
+    is_plain: bool,
+    tally: &Tally,
+    undecided: Option<usize>,
+    writer: &mut W,
+) -> Result<(), OutputFault>
     ensures written { OnOk result (Appends (W.contents writer.old) (W.contents writer.new)
-        (totals_line_if is_plain tally.now.packets tally.now.skipped)) }
+        (totals_line_if is_plain tally.now.packets tally.now.skipped undecided)) }
     ensures flushed { OnOk result (W.is_flushed writer.new) }
     ensures failed { OnErr result W.can_fail }
 {
     let mut out = OutputBuffer::new(writer);
-    write_totals(is_plain, tally.packets, tally.skipped, &mut out);
+    write_totals(is_plain, tally.packets, tally.skipped, undecided, &mut out);
     out.flush()
 }

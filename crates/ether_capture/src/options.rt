@@ -10,7 +10,7 @@ use crate::asked::{Asked, Request, RequestError};
 use clap::error::ErrorKind;
 use clap::{Arg, ArgAction, ArgMatches, Command};
 use ether_content::PacketEdit;
-use ether_stream::{count_of, edit_of_words, limit_of};
+use ether_stream::{count_of, edit_of_words, limit_of, undecided_of};
 use std::alloc::{AllocError, Global};
 use std::env;
 
@@ -65,6 +65,7 @@ fn command<'a>(alloc: Global) -> Result<Command<'a>, AllocError>
         .arg(option(alloc, "push-vlan"))?
         .arg(option(alloc, "set-vlan"))?
         .arg(option(alloc, "select"))?
+        .arg(option(alloc, "undecided"))?
         .arg(option(alloc, "limit"))?
         .arg(count(alloc))?
         .arg(files(alloc))?;
@@ -74,8 +75,8 @@ fn command<'a>(alloc: Global) -> Result<Command<'a>, AllocError>
 /// What the program's arguments ask for. The first of them is its own name.
 ///
 /// Options go before, between and after the names of files: `--plain` and `--limit` with a number of headers; or `--write`, and with it one of
-/// `--cut-to-headers`, `--pop-vlan`, `--push-vlan` with a tag and `--set-vlan` with two identifiers; `--select` with the text of a filter, and `-c`
-/// with a number of packets. `--help` and `--version` need no others.
+/// `--cut-to-headers`, `--pop-vlan`, `--push-vlan` with a tag and `--set-vlan` with two identifiers; `--select` with the text of a filter, and
+/// with it `--undecided` with `keep` or `drop`; and `-c` with a number of packets. `--help` and `--version` need no others.
 pub fn request_of_words<'a>(words: &'a [String], alloc: Global) -> Result<Request<'a>, RequestError>
     ensures ok { IfOk result (λ request. NamesRequest (map string_bytes words.now) (request_view request)) }
     ensures err { IfErr result (RefusesWords (map string_bytes words.now)) }
@@ -109,12 +110,14 @@ impl<'a> Asked<'a> {
         let edit = edit_of(matches)?;
         let count = count_of(text_of(matches, "count"))?;
         let limit = limit_of(text_of(matches, "limit"))?;
+        let undecided = undecided_of(text_of(matches, "undecided"))?;
         let files = names_of(matches, alloc)?;
         Ok(Asked {
             is_plain: is_set(matches, "plain"),
             is_copy: is_set(matches, "write"),
             edit,
             text: text_of(matches, "select"),
+            undecided,
             count,
             limit,
             files,

@@ -1,7 +1,7 @@
 //! The program, over any arguments, files, reader and writer.
-ghost use Rattle.std.specs.Prelude.{◌≡◌, ◌⊎◌, Bool, IfErr, Some, map, string_bytes};
+ghost use Rattle.std.specs.Prelude.{◌≡◌, ◌≢◌, ◌⊎◌, Bool, true, false, IfErr, Some, map, string_bytes};
 ghost use Rattle.ether_stream.specs.Outcome.{is_message, status_of_program};
-ghost use Rattle.ether_capture.specs.Program.{HasObeyed, HasRunFile, HasServed, PrintsApart, PrintsLast, arguments_of};
+ghost use Rattle.ether_capture.specs.Program.{HasObeyed, HasRunFile, HasServed, IfGone, PrintsApart, PrintsLast, Settles, arguments_of};
 ghost use Rattle.ether_stream.specs.Task.{task_view};
 
 use crate::asked::{Request, RequestError};
@@ -26,9 +26,11 @@ pub fn program<C: Captures, R: Source, W: LineSink, M: LineSink>(
     writer: &mut W,
     messages: &mut M,
 ) -> u8
-    ensures { HasServed (C.has captures.now) R.can_fail C.can_refuse C.Input.Source.can_fail W.Sink.can_fail M.Sink.can_fail
+    ensures served { HasServed (C.has captures.now) R.can_fail C.can_refuse C.Input.Source.can_fail W.Sink.can_fail M.Sink.can_fail
         (arguments_of args) (R.remaining reader.old) (R.remaining reader.new) (W.Sink.contents writer.old)
         (W.Sink.contents writer.new) (M.Sink.contents messages.old) (M.Sink.contents messages.new) result }
+    ensures flushed { result ≢ 4 → Settles W.Sink.is_flushed writer.old writer.new }
+    ensures told { Settles M.Sink.is_flushed messages.old messages.new ⊎ M.Sink.can_fail }
 {
     let Ok(args) = args else {
         let outcome = Outcome::Run {
@@ -52,8 +54,9 @@ fn obey<'a, C: Captures, R: Source, W: LineSink>(
     reader: &mut R,
     writer: &mut W,
 ) -> Outcome<'a>
-    ensures { HasObeyed (C.has captures.now) R.can_fail C.can_refuse C.Input.Source.can_fail W.Sink.can_fail (Some (map string_bytes words.now))
+    ensures obeyed { HasObeyed (C.has captures.now) R.can_fail C.can_refuse C.Input.Source.can_fail W.Sink.can_fail (Some (map string_bytes words.now))
         (R.remaining reader.old) (R.remaining reader.new) (W.Sink.contents writer.old) (W.Sink.contents writer.new) result }
+    ensures flushed { IfGone result (Settles W.Sink.is_flushed writer.old writer.new) }
 {
     match request_of_words(words, alloc) {
         Ok(Request::Run(task, file)) => match file {
@@ -80,8 +83,9 @@ fn run_file<'a, C: Captures, W: Sink>(
     captures: &C,
     writer: &mut W,
 ) -> Outcome<'a>
-    ensures { HasRunFile (C.has captures.now) C.can_refuse C.Input.Source.can_fail W.can_fail (task_view task.now) name.entry.now
+    ensures run { HasRunFile (C.has captures.now) C.can_refuse C.Input.Source.can_fail W.can_fail (task_view task.now) name.entry.now
         (W.contents writer.old) (W.contents writer.new) result }
+    ensures flushed { IfGone result (Settles W.is_flushed writer.old writer.new) }
 {
     let is_copy = task.is_copy();
     match captures.open_named(name) {
@@ -100,9 +104,11 @@ fn run_file<'a, C: Captures, W: Sink>(
 
 /// Prints the last line, if there is one, and returns the exit status.
 fn end<W: LineSink, M: LineSink>(outcome: &Outcome<'_>, writer: &mut W, messages: &mut M) -> u8
-    ensures { (printed : Bool) × PrintsApart W.Sink.can_fail M.Sink.can_fail (is_message outcome.now) outcome.now
+    ensures printed { (printed : Bool) × PrintsApart W.Sink.can_fail M.Sink.can_fail (is_message outcome.now) outcome.now
         (W.Sink.contents writer.old) (W.Sink.contents writer.new) (M.Sink.contents messages.old) (M.Sink.contents messages.new) printed
         × (result ≡ status_of_program outcome.now printed) }
+    ensures flushed { result ≢ 4 → IfGone outcome.now (Settles W.Sink.is_flushed writer.old writer.new) }
+    ensures told { Settles M.Sink.is_flushed messages.old messages.new ⊎ M.Sink.can_fail }
 {
     let is_printed = print_apart(outcome, writer, messages);
     program_status(outcome, is_printed)
@@ -114,8 +120,10 @@ fn print_apart<W: LineSink, M: LineSink>(
     writer: &mut W,
     messages: &mut M,
 ) -> bool
-    ensures { PrintsApart W.Sink.can_fail M.Sink.can_fail (is_message outcome.now) outcome.now (W.Sink.contents writer.old)
+    ensures printed { PrintsApart W.Sink.can_fail M.Sink.can_fail (is_message outcome.now) outcome.now (W.Sink.contents writer.old)
         (W.Sink.contents writer.new) (M.Sink.contents messages.old) (M.Sink.contents messages.new) result }
+    ensures flushed { Settles W.Sink.is_flushed writer.old writer.new ⊎ ((is_message outcome.now ≡ false) × (result ≡ false)) }
+    ensures told { Settles M.Sink.is_flushed messages.old messages.new ⊎ M.Sink.can_fail }
 {
     if is_message(outcome) {
         return print_last_line(outcome, messages);
@@ -125,7 +133,8 @@ fn print_apart<W: LineSink, M: LineSink>(
 
 /// Prints the last line, if there is one, and returns whether the writer took it.
 fn print_last_line<W: LineSink>(outcome: &Outcome<'_>, writer: &mut W) -> bool
-    ensures { PrintsLast W.Sink.can_fail outcome.now (W.Sink.contents writer.old) (W.Sink.contents writer.new) result }
+    ensures printed { PrintsLast W.Sink.can_fail outcome.now (W.Sink.contents writer.old) (W.Sink.contents writer.new) result }
+    ensures flushed { result ≡ true → Settles W.Sink.is_flushed writer.old writer.new }
 {
     match last_line(outcome) {
         Some(line) => writer.put_line(&line).is_ok(),

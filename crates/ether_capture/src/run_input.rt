@@ -4,6 +4,7 @@ ghost use Rattle.ether_text.specs.Run.{IsEndless};
 ghost use Rattle.ether_stream.specs.Counting.{AreCounted, HasCounted};
 ghost use Rattle.ether_stream.specs.Run.{HasNoMemory, HasRun, IfSettled, OnStreamFault};
 ghost use Rattle.ether_stream.specs.Task.{task_view};
+ghost use Rattle.ether_capture.specs.Program.{Settles};
 
 use crate::heap_memory::HeapMemory;
 use crate::interface_buffer::InterfaceBuffer;
@@ -28,8 +29,7 @@ pub fn run_input<R: Source, W: Sink>(
         × AreCounted (task_view task.now) [] result.1) }
     ensures failed { IfErr result.0 (λ fault. OnStreamFault fault
         (R.can_fail ⊎ IsEndless (R.remaining reader.old) (R.remaining reader.new)) W.can_fail) }
-    ensures flushed { HasNoMemory (R.remaining reader.old) (R.remaining reader.new) (W.contents writer.old) (W.contents writer.new) result.0
-        ⊎ IfSettled result.0 (W.is_flushed writer.new) }
+    ensures flushed { IfSettled result.0 (Settles W.is_flushed writer.old writer.new) }
 {
     match allocated(alloc) {
         Ok(buffers) => run_counted(task, buffers, reader, writer),

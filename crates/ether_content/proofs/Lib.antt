@@ -1,4 +1,5 @@
 pub mod SelectingLemmas
+pub mod UndecidedLemmas
 pub mod ContentLemmas
 pub mod CookedLemmas
 pub mod HeadersLemmas

@@ -15,9 +15,13 @@ is_cut p = nat_lt (length p.packet) p.original_len
 abbrev pub fcs_len : PacketValue → ℕ
 fcs_len p = unwrap_or p.fcs_len 0
 
+-- the length of the packet before it was cut, without the frame check sequence
+abbrev pub whole_len : PacketValue → ℕ
+whole_len p = max p.original_len (length p.packet) - fcs_len p
+
 -- the captured bytes without those of the frame check sequence
 abbrev pub without_fcs : PacketValue → List ℕ
-without_fcs p = take (max p.original_len (length p.packet) - fcs_len p) p.packet
+without_fcs p = take (whole_len p) p.packet
 
 -- the whole frame check sequence of Ethernet is there
 abbrev pub has_fcs : PacketValue → Bool

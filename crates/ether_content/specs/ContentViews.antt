@@ -1,5 +1,4 @@
 -- What is walked of a packet, as a value.
-use Rattle.std.specs.Prelude.{ℕ}
 use Rattle.ether_base.specs.Bytes.{number}
 use Rattle.ether_base.specs.Formats.LinuxSll.{LinuxSllValue}
 use Rattle.ether_peel.specs.Walker.Start.{next_of}

@@ -5,7 +5,7 @@ ghost use Rattle.ether_sll2.specs.LinuxSll2.{AcceptsLinuxSll2, protocol_of_heade
 ghost use Rattle.ether_pcap.specs.CaptureViews.{captured_packet_view};
 ghost use Rattle.ether_peel.specs.Walker.Start.{next_of};
 ghost use Rattle.ether_peel.specs.Grammar.Expectation.{Next};
-ghost use Rattle.ether_content.specs.Content.{IsWalked, content_of, cooked_content, fcs_len, has_fcs, is_cut, is_unknown, without_fcs};
+ghost use Rattle.ether_content.specs.Content.{IsWalked, content_of, cooked_content, fcs_len, has_fcs, is_cut, is_unknown, whole_len, without_fcs};
 ghost use Rattle.ether_content.specs.Content as contents;
 ghost use Rattle.ether_content.specs.ContentViews.{content_view};
 
@@ -157,8 +157,15 @@ fn has_fcs(packet: &CapturedPacket<'_>) -> bool
 pub fn without_fcs<'a>(packet: &CapturedPacket<'a>) -> &'a [u8]
     ensures { result.now ≡ without_fcs (captured_packet_view packet.now) }
 {
+    &packet.packet[..whole_len(packet).min(packet.packet.len())]
+}
+
+/// The length of the packet before it was cut, without its frame check sequence.
+pub(crate) fn whole_len(packet: &CapturedPacket<'_>) -> usize
+    ensures { result ≡ whole_len (captured_packet_view packet.now) }
+{
     let captured_len = packet.packet.len();
-    let whole_len = captured_len.max(packet.original_len as usize);
-    let end = whole_len.saturating_sub(fcs_len(packet));
-    &packet.packet[..end.min(captured_len)]
+    captured_len
+        .max(packet.original_len as usize)
+        .saturating_sub(fcs_len(packet))
 }

@@ -13,4 +13,4 @@ pub use content::{Content, is_cut, without_fcs};
 pub use cooked::CookedHeader;
 pub use editing::{EditedPacket, NoRoom, PacketEdit, edit_packet};
 pub use headers::headers_len;
-pub use selecting::selects;
+pub use selecting::{is_undecided, selects};

@@ -2,12 +2,13 @@
 ghost use Rattle.std.specs.Prelude.{◌≡◌, ◌↔◌, length, IsTrue};
 ghost use Rattle.ether_pcap.specs.CaptureViews.{captured_packet_view};
 ghost use Rattle.ether_peel.specs.Walker.Start.{next_of};
-ghost use Rattle.ether_content.specs.Selecting.{HoldsOf, Selects};
+ghost use Rattle.ether_content.specs.Selecting.{HoldsOf, IsUndecided, NeedsBytes, Selects, asked_of};
 
-use crate::content::Content;
-use ether_filter::{Filter, Packet};
+use crate::content::{Content, is_cut, whole_len};
+use ether_filter::{Decision, Filter, Packet};
 use ether_pcap::CapturedPacket;
 use ether_peel::Start;
+use ether_sll2::LinuxSll2Header;
 
 /// Returns `true` if a filter selects a packet: its expression holds of what is walked of the packet.
 ///
@@ -50,4 +51,57 @@ fn holds(filter: &Filter, start: Start, frame: &[u8], packet: &CapturedPacket<'_
         captured_len: packet.packet.len(),
         original_len: packet.original_len,
     })
+}
+
+/// Returns `true` if a packet was cut so that its captured bytes don't decide whether a filter selects it.
+///
+/// That is so if [`Filter::decide`] needs more bytes of what is walked of the packet, and if the header of cooked capture v2 was cut.
+/// [`selects`] says then what holds by the captured bytes. A frame check sequence that was cut counts as bytes that may belong to
+/// headers.
+///
+/// ```
+/// let packet = CapturedPacket {
+///     time: None,
+///     interface: None,
+///     original_len: 60,
+///     link_type: LinkType::ETHERNET,
+///     snap_len: 16,
+///     fcs_len: None,
+///     packet: &[
+///         0xFF, 0xFF, 0xFF, 0xFF, 0xFF, 0xFF, 0x02, 0x00, 0x00, 0x00, 0x00, 0x01, 0x81, 0x00, // Ethernet II
+///         0xB1, 0x23, // the first bytes of a VLAN tag
+///     ],
+/// };
+/// assert!(rt; is_undecided(&Filter::parse(b"vlan 291")?, &packet));
+/// assert!(rt; !is_undecided(&Filter::parse(b"vlan 291 or greater 60")?, &packet));
+/// ```
+pub fn is_undecided(filter: &Filter, packet: &CapturedPacket<'_>) -> bool
+    ensures { IsTrue result ↔ IsUndecided filter.now (captured_packet_view packet.now) }
+{
+    if !is_cut(packet) {
+        return false;
+    }
+    let content = Content::of(packet);
+    if let Content::LinuxSll2(bytes) = content {
+        if bytes.len() < LinuxSll2Header::LEN {
+            return whole_len(packet) >= LinuxSll2Header::LEN;
+        }
+    }
+    match content.frame() {
+        Some((start, frame)) => needs_bytes(filter, start, frame, packet),
+        None => false,
+    }
+}
+
+/// Whether more bytes of a packet's walk are needed to decide whether a filter's expression holds of it.
+fn needs_bytes(filter: &Filter, start: Start, frame: &[u8], packet: &CapturedPacket<'_>) -> bool
+    ensures { IsTrue result ↔ NeedsBytes filter.now (asked_of start frame.entry packet.now) }
+{
+    let decision = filter.decide(&Packet {
+        start,
+        frame,
+        captured_len: packet.packet.len(),
+        original_len: packet.original_len,
+    });
+    matches!(decision, Decision::Needs(_))
 }

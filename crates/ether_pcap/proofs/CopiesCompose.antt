@@ -1,6 +1,6 @@
 -- A copy of a copy: packets are selected twice.
 use Rattle.std.proofs.Common.{◌≡◌, ◌≢◌, ◌⊎◌, ℕ, ◌+◌, ◌-◌, ◌^◌, ◌<◌, ◌≤◌, Bool, true, false, List, [], ◌∷◌, ◌++◌, length, take, drop, map, reverse, length-append, refl, sym, ap, subst, ◌∙◌, arith, inl, inr, Some, None}
-use Rattle.std.specs.Prelude.{Option, IsTrue, All, ⊤, ◌&&◌, unwrap_or, nat_eq, slice_range, if◌then◌else◌}
+use Rattle.std.specs.Prelude.{Option, IsTrue, ◌↔◌, ◌&&◌, All, ⊤, unwrap_or, nat_eq, slice_range, if◌then◌else◌}
 use Rattle.std.proofs.lemmas.Bool.{cases_eq, eq-eqb, ne_eqb}
 use Rattle.std.proofs.lemmas.List.{length-reverse, drop_at}
 use Rattle.std.proofs.lemmas.List.Elements.{All-nil, All-cons, All-head, All-tail, All-append}
@@ -12,16 +12,17 @@ use Rattle.ether_pcap.specs.Numbers.{Order, BigEndian, LittleEndian, number_from
 use Rattle.ether_pcap.specs.Writing.{bytes_of}
 use Rattle.ether_pcap.specs.FileHeader.{FileHeaderValue}
 use Rattle.ether_pcap.specs.Section.{section_type, HasSectionType}
-use Rattle.ether_pcap.specs.CopiedUnits.{Changed, raised_len, raised_header, raised_interface, expected_in, with_bytes, no_section_len, changed_unit, other_unit, packet_in, is_kept, packet_unit, unit_after}
+use Rattle.ether_pcap.specs.CopiedUnits.{ModeValue, Changed, packet_after, raised_len, raised_header, raised_interface, expected_in, with_bytes, no_section_len, changed_unit, other_unit, packet_in, is_kept, packet_unit, unit_after}
 use Rattle.ether_pcap.specs.Bodies.{captured_by}
-use Rattle.ether_pcap.specs.Capture.{PacketValue, packet_of_record, packet_on, simple_packet_on, CaptureInterfaceValue, Expectation, Beginning, Records, Blocks, BlockKind, InterfaceDescription, SimplePacket, EnhancedPacket, Other, kind_of_block, IsBody, HasBegun, Begins, file_header, file_record, first_section, section, block}
+use Rattle.ether_pcap.specs.Capture.{PacketValue, packet_of_record, packet_on, simple_packet_on, CaptureInterfaceValue, Expectation, Beginning, Records, Blocks, BlockKind, InterfaceDescription, SimplePacket, EnhancedPacket, Other, kind_of_block, IsBody, HasBegun, Begins, HasPackets, file_header, file_record, first_section, section, block}
 use Rattle.ether_pcap.specs.Editing.{EditedValue}
-use Rattle.ether_pcap.specs.Copies.{CopyFault, Copies, CopiesBy, ended, refused, not_edited, unit, keeps, leaves, EditsOnce, Copy, edits_none}
+use Rattle.ether_pcap.specs.Copies.{CopyFault, Copies, Refused, NotEdited, ended, refused, not_edited, unit, keeps, leaves, EditsOnce, Selected, one_kept, one_left, HasSource, CopiesBy, EditsNone, edits_none}
 use Rattle.ether_pcap.proofs.CaptureLocality.{unit_local}
 use Rattle.ether_pcap.proofs.PacketUnits.{same_packet, same_after, begun}
 use Rattle.ether_pcap.proofs.CaptureLengths.{unit_some}
-use Rattle.ether_pcap.proofs.Copies.{other_taken, packet_copied}
-use Rattle.ether_pcap.proofs.CopiesOne.{one_copy}
+use Rattle.ether_pcap.proofs.Copies.{copy_read, copy_source, other_taken, packet_copied}
+use Rattle.ether_pcap.proofs.CopiesOne.{one_copied}
+use Rattle.ether_pcap.proofs.PacketsOne.{packets_one}
 use Rattle.ether_pcap.proofs.CopiedUnits.{HasRoom, unit_room, unit_in_copy, section_changed, other_changed}
 use Rattle.ether_pcap.proofs.WithBytes.{with_bytes-before, raised_none, raised_some, raised_room, raised_field}
 
@@ -271,237 +272,327 @@ take_front : (u others : List ℕ) → take (length u) (u ++ others) ≡ u
 take_front [] others = refl
 take_front (b ∷ u) others = let more = take_front u others in λ i. b ∷ more i
 
-decided : (b : Bool) → (b ≡ true) ⊎ (b ≡ false)
-decided true = inl refl
-decided false = inr refl
+-- what is kept by a test is kept by one that says the same
+pub copies_alike : (mode : ModeValue) (Keeps Also : PacketValue → Type 0) (Edits : PacketValue → Option EditedValue → Type 0)
+    → ((p : PacketValue) → Keeps p ↔ Also p)
+    → (x : Expectation) (bytes copy : List ℕ) (kept edited : List PacketValue) (rest : List ℕ) (fault : Option CopyFault)
+    → Copies mode Keeps Edits x bytes copy kept edited rest fault
+    → Copies mode Also Edits x bytes copy kept edited rest fault
+copies_alike mode Keeps Also Edits same x bytes copy kept edited rest fault (ended _ _ end) = ended x bytes end
+copies_alike mode Keeps Also Edits same x bytes copy kept edited rest fault (refused _ _ r more is) = refused x bytes r more is
+copies_alike mode Keeps Also Edits same x bytes copy kept edited rest fault (not_edited _ y _ len p o begins is edits no_front) =
+    not_edited x y bytes len p o begins ((same p).0 is) edits no_front
+copies_alike mode Keeps Also Edits same x bytes copy kept edited rest fault (unit _ y _ others len _ _ _ _ begins copies) =
+    unit x y bytes others len kept edited rest fault begins
+    (copies_alike mode Keeps Also Edits same y (drop len bytes) others kept edited rest fault copies)
+copies_alike mode Keeps Also Edits same x bytes copy kept edited rest fault
+    (keeps _ y _ front others len p o ps qs _ _ begins is edits fits copies) =
+    keeps x y bytes front others len p o ps qs rest fault begins ((same p).0 is) edits fits
+    (copies_alike mode Keeps Also Edits same y (drop len bytes) others ps qs rest fault copies)
+copies_alike mode Keeps Also Edits same x bytes copy kept edited rest fault (leaves _ y _ _ len p _ _ _ _ begins not copies) =
+    leaves x y bytes copy len p kept edited rest fault begins (λ is. not ((same p).1 is))
+    (copies_alike mode Keeps Also Edits same y (drop len bytes) copy kept edited rest fault copies)
 
-both_true : (a b : Bool) → IsTrue a → b ≡ true → IsTrue (a && b)
-both_true true b is same = same
-both_true false b is same = absurd cc
+module _ (Edits : PacketValue → Option EditedValue → Type 0) (unedited : EditsNone Edits) (one_edit : EditsOnce Edits) where
+  -- a packet that is not edited can be copied
+  never_stuck : (x y : Expectation) (bytes : List ℕ) (len : ℕ) (p : PacketValue) (o : Option EditedValue)
+      → Begins bytes x len (Some p) y → InRange x → Edits p o → unit_after (Changed 0) x p o (take len bytes) ≡ None → ⊥
+  never_stuck x y bytes len p o begins range edits no_front =
+      let found = range_packet bytes x y len (Some p) p refl begins range in
+      let plain : packet_unit (Changed 0) x p (take len bytes) ≡ None =
+      subst (λ (q : Option EditedValue). unit_after (Changed 0) x p q (take len bytes) ≡ None) (unedited p o edits) no_front in
+      let bad : Some (take len bytes) ≡ None = sym found.1 ∙ plain in absurd cc
 
-not_second : (a b : Bool) → b ≡ false → IsTrue (a && b) → ⊥
-not_second true b same is = absurd cc
-not_second false b same is = absurd cc
+  -- so no copy ends at one, and each that is kept stays
+  module _ (Keeps : PacketValue → Type 0) where
+    abbrev Stays : Option CopyFault → (kept edited : List PacketValue) → Type 0
+    Stays fault kept edited = ((q : PacketValue) → fault ≡ Some (NotEdited q) → ⊥) × (edited ≡ kept)
 
-not_first : (a b : Bool) → (IsTrue a → ⊥) → IsTrue (a && b) → ⊥
-not_first true b never is = never refl
-not_first false b never is = absurd cc
+    stay : (x : Expectation) (bytes copy : List ℕ) (kept edited : List PacketValue) (rest : List ℕ)
+        (fault : Option CopyFault) → IsBytes bytes → InRange x
+        → Copies (Changed 0) Keeps Edits x bytes copy kept edited rest fault → Stays fault kept edited
+    stay x bytes copy kept edited rest fault ok range (ended _ _ end) = (λ q e. absurd cc, refl)
+    stay x bytes copy kept edited rest fault ok range (refused _ _ r more is) = (λ q e. absurd cc, refl)
+    stay x bytes copy kept edited rest fault ok range (not_edited _ y _ len p o begins is edits no_front) =
+        absurd (never_stuck x y bytes len p o begins range edits no_front)
+    stay x bytes copy kept edited rest fault ok range (unit _ y _ others len _ _ _ _ begins copies) =
+        stay y (drop len bytes) others kept edited rest fault (IsBytes-drop len bytes ok)
+        (range_after bytes x y len None ok begins range) copies
+    stay x bytes copy kept edited rest fault ok range (leaves _ y _ _ len p _ _ _ _ begins not_kept copies) =
+        stay y (drop len bytes) copy kept edited rest fault (IsBytes-drop len bytes ok)
+        (range_after bytes x y len (Some p) ok begins range) copies
+    stay x bytes copy kept edited rest fault ok range (keeps _ y _ front others len p o ps qs _ _ begins is edits fits copies) =
+        let s =
+        stay y (drop len bytes) others ps qs rest fault (IsBytes-drop len bytes ok)
+        (range_after bytes x y len (Some p) ok begins range) copies in
+        let found = range_packet bytes x y len (Some p) p refl begins range in
+        let same : packet_after (Changed 0) p o ≡ p =
+        ap (packet_after (Changed 0) p) (unedited p o edits) ∙ same_packet_in p found.0 in
+        (s.0, λ i. same i ∷ s.1 i)
 
-is_false : (b : Bool) → b ≡ false → IsTrue b → ⊥
-is_false b same is = absurd cc
+    -- these packets are kept, or not
+    abbrev Chosen : List PacketValue → Type 0
+    Chosen packets = (chosen : List PacketValue) × Selected Keeps packets chosen
 
-none_of : (p : PacketValue) (o : Option EditedValue) → IsTrue (edits_none p o) → o ≡ None
-none_of p None is = refl
-none_of p (Some e) is = absurd cc
+    first_chosen : (p : PacketValue) (packets : List PacketValue) → Chosen (p ∷ packets)
+        → (Keeps p ⊎ ¬ (Keeps p)) × Chosen packets
+    first_chosen p packets (_, one_kept _ _ chosen is others) = (inl is, (chosen, others))
+    first_chosen p packets (chosen, one_left _ _ _ not others) = (inr not, (chosen, others))
 
-module _ (first second : PacketValue → Bool) where
-  abbrev Unedited : PacketValue → Option EditedValue → Type 0
-  Unedited p o = IsTrue (edits_none p o)
+  module _ (First Second : PacketValue → Type 0) where
+    abbrev Selects : (PacketValue → Type 0) → Expectation → (bytes copy : List ℕ) → List PacketValue → (rest : List ℕ)
+        → Option CopyFault → Type 0
+    Selects Keeps x bytes copy chosen rest fault = Copies (Changed 0) Keeps Edits x bytes copy chosen chosen rest fault
 
-  abbrev Selects : (PacketValue → Bool) → Expectation → (bytes copy : List ℕ) → List PacketValue → (rest : List ℕ)
-      → Option CopyFault → Type 0
-  Selects test x bytes copy chosen rest fault =
-      Copies (Changed 0) (λ p. IsTrue (test p)) Unedited x bytes copy chosen chosen rest fault
+    abbrev Both : PacketValue → Type 0
+    Both p = First p × Second p
 
-  abbrev both : PacketValue → Bool
-  both p = first p && second p
+    -- the copy of a copy, which is read if it has begun or is not empty, and the copy by both tests
+    pub record Composed (x : Expectation) (bytes between rest : List ℕ) (fault : Option CopyFault) : Type 0 where
+      pub copy : List ℕ
+      pub chosen : List PacketValue
+      pub again : HasBegun x ⊎ (between ≢ []) → Selects Second x between copy chosen [] None
+      pub whole : Selects Both x bytes copy chosen rest fault
 
-  -- the copy of a copy, which is read if it has begun or is not empty, and the copy by both tests
-  pub record Composed (x : Expectation) (bytes between rest : List ℕ) (fault : Option CopyFault) : Type 0 where
-    pub copy : List ℕ
-    pub chosen : List PacketValue
-    pub again : HasBegun x ⊎ (between ≢ []) → Selects second x between copy chosen [] None
-    pub whole : Selects both x bytes copy chosen rest fault
+    -- a unit before a copy
+    after_unit : (x y : Expectation) (u others copy : List ℕ) (chosen : List PacketValue)
+        → Begins u x (length u) None y → changed_unit 0 y u ≡ u → Selects Second y others copy chosen [] None
+        → Selects Second x (u ++ others) (u ++ copy) chosen [] None
+    after_unit x y u others copy chosen begins same selects =
+        let front : take (length u) (u ++ others) ≡ u = take_front u others in
+        let is : other_unit (Changed 0) y (take (length u) (u ++ others)) ≡ u = ap (changed_unit 0 y) front ∙ same in
+        subst (λ (l : List ℕ). Selects Second x (u ++ others) (l ++ copy) chosen [] None) is
+        (unit x y (u ++ others) copy (length u) chosen chosen [] None (unit_local u others x y (length u) None begins)
+        (subst (λ (l : List ℕ). Selects Second y l copy chosen [] None) (sym (drop_at u others (length u) refl)) selects))
 
-  -- a unit before a copy
-  after_unit : (x y : Expectation) (u others copy : List ℕ) (chosen : List PacketValue)
-      → Begins u x (length u) None y → changed_unit 0 y u ≡ u → Selects second y others copy chosen [] None
-      → Selects second x (u ++ others) (u ++ copy) chosen [] None
-  after_unit x y u others copy chosen begins same selects =
-      let front : take (length u) (u ++ others) ≡ u = take_front u others in
-      let is : other_unit (Changed 0) y (take (length u) (u ++ others)) ≡ u = ap (changed_unit 0 y) front ∙ same in
-      subst (λ (l : List ℕ). Selects second x (u ++ others) (l ++ copy) chosen [] None) is
-      (unit x y (u ++ others) copy (length u) chosen chosen [] None (unit_local u others x y (length u) None begins)
-      (subst (λ (l : List ℕ). Selects second y l copy chosen [] None) (sym (drop_at u others (length u) refl)) selects))
+    -- a packet before a copy
+    after_packet : (x y : Expectation) (u others copy : List ℕ) (p : PacketValue) (chosen : List PacketValue)
+        → Begins (u ++ others) x (length u) (Some p) y → IsFour p.snap_len → packet_unit (Changed 0) x p u ≡ Some u
+        → Second p → Edits p None → Selects Second y others copy chosen [] None
+        → Selects Second x (u ++ others) (u ++ copy) (p ∷ chosen) [] None
+    after_packet x y u others copy p chosen begins four fits is stays selects =
+        let front : take (length u) (u ++ others) ≡ u = take_front u others in
+        subst (λ (q : PacketValue). Copies (Changed 0) Second Edits x (u ++ others) (u ++ copy) (p ∷ chosen) (q ∷ chosen) [] None)
+        (same_packet_in p four)
+        (keeps x y (u ++ others) u copy (length u) p None chosen chosen [] None begins is stays
+        (ap (packet_unit (Changed 0) x p) front ∙ fits)
+        (subst (λ (l : List ℕ). Selects Second y l copy chosen [] None) (sym (drop_at u others (length u) refl)) selects))
 
-  -- a packet before a copy
-  after_packet : (x y : Expectation) (u others copy : List ℕ) (p : PacketValue) (chosen : List PacketValue)
-      → Begins (u ++ others) x (length u) (Some p) y → IsFour p.snap_len → packet_unit (Changed 0) x p u ≡ Some u
-      → IsTrue (second p) → Selects second y others copy chosen [] None
-      → Selects second x (u ++ others) (u ++ copy) (p ∷ chosen) [] None
-  after_packet x y u others copy p chosen begins four fits is selects =
-      let front : take (length u) (u ++ others) ≡ u = take_front u others in
-      subst (λ (q : PacketValue). Copies (Changed 0) (λ p. IsTrue (second p)) Unedited x (u ++ others) (u ++ copy) (p ∷ chosen) (q ∷ chosen) [] None)
-      (same_packet_in p four)
-      (keeps x y (u ++ others) u copy (length u) p None chosen chosen [] None begins is refl
-      (ap (packet_unit (Changed 0) x p) front ∙ fits)
-      (subst (λ (l : List ℕ). Selects second y l copy chosen [] None) (sym (drop_at u others (length u) refl)) selects))
-
-  -- what is copied first, and then what is composed
-  on_unit : (x y : Expectation) (bytes others : List ℕ) (len : ℕ) (rest : List ℕ) (fault : Option CopyFault)
-      → Begins bytes x len None y → InRange x → InRange y
-      → Composed y (drop len bytes) others rest fault
-      → Composed x bytes (other_unit (Changed 0) y (take len bytes) ++ others) rest fault
-  on_unit x y bytes others len rest fault begins ok ok_after r =
-      let b = take len bytes in
-      let u = changed_unit 0 y b in
-      let here = other_taken bytes x y len begins in
-      let later = r.again (inl (begun bytes x y len None begins)) in
-      record {
-        copy = u ++ r.copy;
-        chosen = r.chosen;
-        again = λ some. elim (unit_in_copy (Changed 0) b x y here) [
-          | inl (none, same) ↦
-              subst (λ (l : List ℕ). Selects second x (l ++ others) (l ++ r.copy) r.chosen [] None) (sym none)
-              (subst (λ (z : Expectation). Selects second z others r.copy r.chosen [] None) same later)
-          | inr is ↦
-              let from : Begins u x (length u) None y =
-              subst (λ (z : Expectation). Begins u z (length u) None y) (same_expected x ok)
-              (subst (λ (z : Expectation). Begins u (expected_in (Changed 0) x) (length u) None z) (same_expected y ok_after) is) in
-              let some_bytes = unit_some u x y (length u) None from in
-              let twice : changed_unit 0 y u ≡ u =
-              elim (changed_twice y b (unit_room b x y (length b) here)) [
-                | inl empty ↦ absurd (let none : length u ≡ 0 = ap length empty in omega (arith, none, some_bytes))
-                | inr same ↦ same
-              ] in
-              after_unit x y u others r.copy r.chosen from twice later
-        ];
-        whole = unit x y bytes r.copy len r.chosen r.chosen rest fault begins r.whole;
-      }
-
-  on_packet : (x y : Expectation) (bytes front others : List ℕ) (len : ℕ) (p : PacketValue) (o : Option EditedValue)
-      (rest : List ℕ) (fault : Option CopyFault)
-      → Begins bytes x len (Some p) y → InRange x → InRange y → IsTrue (first p) → Unedited p o
-      → unit_after (Changed 0) x p o (take len bytes) ≡ Some front
-      → Composed y (drop len bytes) others rest fault
-      → Composed x bytes (front ++ others) rest fault
-  on_packet x y bytes front others len p o rest fault begins ok ok_after is edits fits r =
-      let b = take len bytes in
-      let found = range_packet bytes x y len (Some p) p refl begins ok in
-      let plain : packet_unit (Changed 0) x p b ≡ Some front =
-      subst (λ (q : Option EditedValue). unit_after (Changed 0) x p q b ≡ Some front) (none_of p o edits) fits in
-      let same : b ≡ front = ap (λ (q : Option (List ℕ)). unwrap_or q b) (sym found.1 ∙ plain) in
-      let kept : packet_unit (Changed 0) x p front ≡ Some front =
-      subst (λ (l : List ℕ). packet_unit (Changed 0) x p l ≡ Some front) same plain in
-      let copied = packet_copied (Changed 0) bytes front others x y len p None begins plain in
-      let at : Begins (front ++ others) x (length front) (Some p) y =
-      subst (λ (q : PacketValue). Begins (front ++ others) x (length front) (Some q) y) (same_packet_in p found.0)
-      (subst (λ (z : Expectation). Begins (front ++ others) z (length front) (Some (packet_in (Changed 0) p)) y) (same_expected x ok)
-      (subst (λ (z : Expectation). Begins (front ++ others) (expected_in (Changed 0) x) (length front) (Some (packet_in (Changed 0) p)) z)
-      (same_expected y ok_after) copied)) in
-      let later = r.again (inl (begun bytes x y len (Some p) begins)) in
-      elim (decided (second p)) [
-        | inl chosen ↦ record {
-          copy = front ++ r.copy;
-          chosen = p ∷ r.chosen;
-          again = λ some. after_packet x y front others r.copy p r.chosen at found.0 kept chosen later;
-          whole =
-              subst
-              (λ (q : PacketValue). Copies (Changed 0) (λ p. IsTrue (both p)) Unedited x bytes (front ++ r.copy) (p ∷ r.chosen) (q ∷ r.chosen) rest fault)
-              (same_packet_in p found.0)
-              (keeps x y bytes front r.copy len p None r.chosen r.chosen rest fault begins
-              (both_true (first p) (second p) is chosen) refl plain r.whole);
+    -- what is copied first, and then what is composed
+    on_unit : (x y : Expectation) (bytes others : List ℕ) (len : ℕ) (rest : List ℕ) (fault : Option CopyFault)
+        → Begins bytes x len None y → InRange x → InRange y
+        → Composed y (drop len bytes) others rest fault
+        → Composed x bytes (other_unit (Changed 0) y (take len bytes) ++ others) rest fault
+    on_unit x y bytes others len rest fault begins ok ok_after r =
+        let b = take len bytes in
+        let u = changed_unit 0 y b in
+        let here = other_taken bytes x y len begins in
+        let later = r.again (inl (begun bytes x y len None begins)) in
+        record {
+          copy = u ++ r.copy;
+          chosen = r.chosen;
+          again = λ some. elim (unit_in_copy (Changed 0) b x y here) [
+            | inl (none, same) ↦
+                subst (λ (l : List ℕ). Selects Second x (l ++ others) (l ++ r.copy) r.chosen [] None) (sym none)
+                (subst (λ (z : Expectation). Selects Second z others r.copy r.chosen [] None) same later)
+            | inr is ↦
+                let from : Begins u x (length u) None y =
+                subst (λ (z : Expectation). Begins u z (length u) None y) (same_expected x ok)
+                (subst (λ (z : Expectation). Begins u (expected_in (Changed 0) x) (length u) None z) (same_expected y ok_after) is) in
+                let some_bytes = unit_some u x y (length u) None from in
+                let twice : changed_unit 0 y u ≡ u =
+                elim (changed_twice y b (unit_room b x y (length b) here)) [
+                  | inl empty ↦ absurd (let none : length u ≡ 0 = ap length empty in omega (arith, none, some_bytes))
+                  | inr same ↦ same
+                ] in
+                after_unit x y u others r.copy r.chosen from twice later
+          ];
+          whole = unit x y bytes r.copy len r.chosen r.chosen rest fault begins r.whole;
         }
-        | inr left ↦ record {
+
+    on_packet : (x y : Expectation) (bytes front others : List ℕ) (len : ℕ) (p : PacketValue) (o : Option EditedValue)
+        (rest : List ℕ) (fault : Option CopyFault)
+        → Begins bytes x len (Some p) y → InRange x → InRange y → First p → Second p ⊎ ¬ (Second p) → Edits p o
+        → unit_after (Changed 0) x p o (take len bytes) ≡ Some front
+        → Composed y (drop len bytes) others rest fault
+        → Composed x bytes (front ++ others) rest fault
+    on_packet x y bytes front others len p o rest fault begins ok ok_after is choice edits fits r =
+        let b = take len bytes in
+        let found = range_packet bytes x y len (Some p) p refl begins ok in
+        let plain : packet_unit (Changed 0) x p b ≡ Some front =
+        subst (λ (q : Option EditedValue). unit_after (Changed 0) x p q b ≡ Some front) (unedited p o edits) fits in
+        let same : b ≡ front = ap (λ (q : Option (List ℕ)). unwrap_or q b) (sym found.1 ∙ plain) in
+        let kept : packet_unit (Changed 0) x p front ≡ Some front =
+        subst (λ (l : List ℕ). packet_unit (Changed 0) x p l ≡ Some front) same plain in
+        let copied = packet_copied (Changed 0) bytes front others x y len p None begins plain in
+        let at : Begins (front ++ others) x (length front) (Some p) y =
+        subst (λ (q : PacketValue). Begins (front ++ others) x (length front) (Some q) y) (same_packet_in p found.0)
+        (subst (λ (z : Expectation). Begins (front ++ others) z (length front) (Some (packet_in (Changed 0) p)) y) (same_expected x ok)
+        (subst (λ (z : Expectation). Begins (front ++ others) (expected_in (Changed 0) x) (length front) (Some (packet_in (Changed 0) p)) z)
+        (same_expected y ok_after) copied)) in
+        let later = r.again (inl (begun bytes x y len (Some p) begins)) in
+        let stays = subst (Edits p) (unedited p o edits) edits in
+        elim choice [
+          | inl chosen ↦ record {
+            copy = front ++ r.copy;
+            chosen = p ∷ r.chosen;
+            again = λ some. after_packet x y front others r.copy p r.chosen at found.0 kept chosen stays later;
+            whole =
+                subst
+                (λ (q : PacketValue). Copies (Changed 0) Both Edits x bytes (front ++ r.copy) (p ∷ r.chosen) (q ∷ r.chosen) rest fault)
+                (same_packet_in p found.0)
+                (keeps x y bytes front r.copy len p None r.chosen r.chosen rest fault begins
+                (is, chosen) stays plain r.whole);
+          }
+          | inr left ↦ record {
+            copy = r.copy;
+            chosen = r.chosen;
+            again = λ some.
+                leaves x y (front ++ others) r.copy (length front) p r.chosen r.chosen [] None at left
+                (subst (λ (l : List ℕ). Selects Second y l r.copy r.chosen [] None) (sym (drop_at front others (length front) refl)) later);
+            whole =
+                leaves x y bytes r.copy len p r.chosen r.chosen rest fault begins (λ both. left both.1) r.whole;
+          }
+        ]
+
+    compose : (x : Expectation) (bytes between : List ℕ) (kept edited : List PacketValue) (rest : List ℕ)
+        (fault : Option CopyFault) → IsBytes bytes → InRange x
+        → Chosen Second kept → Copies (Changed 0) First Edits x bytes between kept edited rest fault
+        → Composed x bytes between rest fault
+    compose x bytes between kept edited rest fault ok range chosen (ended _ _ end) = record {
+      copy = [];
+      chosen = [];
+      again = λ some. ended x [] (end.0, refl);
+      whole = ended x bytes end;
+    }
+    compose x bytes between kept edited rest fault ok range chosen (refused _ _ r more is) = record {
+      copy = [];
+      chosen = [];
+      again = λ some. elim some [
+        | inl later ↦ ended x [] (later, refl)
+        | inr not_empty ↦ absurd (not_empty refl)
+      ];
+      whole = refused x bytes r more is;
+    }
+    compose x bytes between kept edited rest fault ok range chosen (not_edited _ y _ len p o begins is edits no_front) =
+        absurd (never_stuck x y bytes len p o begins range edits no_front)
+    compose x bytes between kept edited rest fault ok range chosen (unit _ y _ others len _ _ _ _ begins copies) =
+        let after = range_after bytes x y len None ok begins range in
+        on_unit x y bytes others len rest fault begins range after
+        (compose y (drop len bytes) others kept edited rest fault (IsBytes-drop len bytes ok) after chosen copies)
+    compose x bytes between kept edited rest fault ok range chosen (keeps _ y _ front others len p o ps qs _ _ begins is edits fits copies) =
+        let after = range_after bytes x y len (Some p) ok begins range in
+        let split = first_chosen Second p ps chosen in
+        on_packet x y bytes front others len p o rest fault begins range after is split.0 edits fits
+        (compose y (drop len bytes) others ps qs rest fault (IsBytes-drop len bytes ok) after split.1 copies)
+    compose x bytes between kept edited rest fault ok range chosen (leaves _ y _ _ len p _ _ _ _ begins not_kept copies) =
+        let after = range_after bytes x y len (Some p) ok begins range in
+        let r = compose y (drop len bytes) between kept edited rest fault (IsBytes-drop len bytes ok) after chosen copies in
+        record {
           copy = r.copy;
           chosen = r.chosen;
           again = λ some.
-              leaves x y (front ++ others) r.copy (length front) p r.chosen r.chosen [] None at (is_false (second p) left)
-              (subst (λ (l : List ℕ). Selects second y l r.copy r.chosen [] None) (sym (drop_at front others (length front) refl)) later);
+              subst (λ (z : Expectation). Selects Second z between r.copy r.chosen [] None) (same_after bytes x y len p begins)
+              (r.again (inl (begun bytes x y len (Some p) begins)));
           whole =
-              leaves x y bytes r.copy len p r.chosen r.chosen rest fault begins (not_second (first p) (second p) left) r.whole;
+              leaves x y bytes r.copy len p r.chosen r.chosen rest fault begins
+              (λ both. not_kept both.0) r.whole;
         }
-      ]
 
-  compose : (x : Expectation) (bytes between : List ℕ) (kept edited : List PacketValue) (rest : List ℕ)
-      (fault : Option CopyFault) → IsBytes bytes → InRange x
-      → Copies (Changed 0) (λ p. IsTrue (first p)) Unedited x bytes between kept edited rest fault
-      → Composed x bytes between rest fault
-  compose x bytes between kept edited rest fault ok range (ended _ _ end) = record {
-    copy = [];
-    chosen = [];
-    again = λ some. ended x [] (end.0, refl);
-    whole = ended x bytes end;
-  }
-  compose x bytes between kept edited rest fault ok range (refused _ _ r more is) = record {
-    copy = [];
-    chosen = [];
-    again = λ some. elim some [
-      | inl later ↦ ended x [] (later, refl)
-      | inr not_empty ↦ absurd (not_empty refl)
-    ];
-    whole = refused x bytes r more is;
-  }
-  compose x bytes between kept edited rest fault ok range (not_edited _ y _ len p o begins is edits no_front) =
-      let found = range_packet bytes x y len (Some p) p refl begins range in
-      let plain : packet_unit (Changed 0) x p (take len bytes) ≡ None =
-      subst (λ (q : Option EditedValue). unit_after (Changed 0) x p q (take len bytes) ≡ None) (none_of p o edits) no_front in
-      let bad : Some (take len bytes) ≡ None = sym found.1 ∙ plain in absurd cc
-  compose x bytes between kept edited rest fault ok range (unit _ y _ others len _ _ _ _ begins copies) =
-      let after = range_after bytes x y len None ok begins range in
-      on_unit x y bytes others len rest fault begins range after
-      (compose y (drop len bytes) others kept edited rest fault (IsBytes-drop len bytes ok) after copies)
-  compose x bytes between kept edited rest fault ok range (keeps _ y _ front others len p o ps qs _ _ begins is edits fits copies) =
-      let after = range_after bytes x y len (Some p) ok begins range in
-      on_packet x y bytes front others len p o rest fault begins range after is edits fits
-      (compose y (drop len bytes) others ps qs rest fault (IsBytes-drop len bytes ok) after copies)
-  compose x bytes between kept edited rest fault ok range (leaves _ y _ _ len p _ _ _ _ begins not_kept copies) =
-      let after = range_after bytes x y len (Some p) ok begins range in
-      let r = compose y (drop len bytes) between kept edited rest fault (IsBytes-drop len bytes ok) after copies in
-      record {
-        copy = r.copy;
-        chosen = r.chosen;
-        again = λ some.
-            subst (λ (z : Expectation). Selects second z between r.copy r.chosen [] None) (same_after bytes x y len p begins)
-            (r.again (inl (begun bytes x y len (Some p) begins)));
-        whole =
-            leaves x y bytes r.copy len p r.chosen r.chosen rest fault begins
-            (not_first (first p) (second p) not_kept) r.whole;
-      }
+  -- of the packets of a capture each is kept or not
+  chosen_of : (Keeps : PacketValue → Type 0) (x : Expectation) (bytes : List ℕ) (packets chosen : List PacketValue)
+      (left : List ℕ) (other : Option CopyFault) → IsBytes bytes → ((q : PacketValue) → other ≡ Some (NotEdited q) → ⊥)
+      → HasPackets x bytes packets [] None → HasSource Keeps x bytes chosen left other → Chosen Keeps packets
+  chosen_of Keeps x bytes packets chosen left None ok never has source =
+      let one = packets_one x bytes source.packets packets left [] None None ok source.has has in
+      (chosen, subst (λ (ps : List PacketValue). Selected Keeps ps chosen) one.0 source.selected)
+  chosen_of Keeps x bytes packets chosen left (Some (Refused r)) ok never has source =
+      let one = packets_one x bytes source.packets packets left [] (Some r) None ok source.has has in
+      let bad : Some r ≡ None = one.2 in absurd cc
+  chosen_of Keeps x bytes packets chosen left (Some (NotEdited q)) ok never has source = absurd (never q refl)
+
+  abbrev Kept : (most : ℕ) → (PacketValue → Type 0) → (bytes copy : List ℕ) → (kept edited : List PacketValue)
+      → (rest : List ℕ) → Option CopyFault → Type 0
+  Kept most Keeps = Copies (Changed 0) Keeps Edits (Beginning most)
+
+  pub composed : (most : ℕ) (First Second : PacketValue → Type 0) (bytes between copy : List ℕ)
+      (kept edited chosen last : List PacketValue) (rest left : List ℕ) (fault other : Option CopyFault)
+      → IsBytes bytes → IsBytes between → between ≢ []
+      → Kept most First bytes between kept edited rest fault → Kept most Second between copy chosen last left other
+      → Kept most (λ p. First p × Second p) bytes copy chosen last rest fault × (left ≡ []) × (other ≡ None)
+  composed most First Second bytes between copy kept edited chosen last rest left fault other ok ok_between some once twice =
+      let start = Beginning most in
+      let stays = stay First start bytes between kept edited rest fault ok tt once in
+      let has : HasPackets start between kept [] None =
+      subst (λ (ps : List PacketValue). HasPackets start between ps [] None) stays.1
+      (copy_read (Changed 0) First Edits start bytes between kept edited rest fault once (inr some)) in
+      let never = (stay Second start between copy chosen last left other ok_between tt twice).0 in
+      let each =
+      chosen_of Second start between kept chosen left other ok_between never has
+      (copy_source (Changed 0) Second Edits start between copy chosen last left other twice) in
+      let r = compose First Second start bytes between kept edited rest fault ok tt each once in
+      let one =
+      one_copied (Changed 0) Second Edits one_edit start between r.copy copy r.chosen chosen r.chosen last [] left
+      None other ok_between (r.again (inr some)) twice in (
+        subst (λ (l : List ℕ). Kept most (λ p. First p × Second p) bytes l chosen last rest fault) one.0
+            (subst (λ (l : List PacketValue). Kept most (λ p. First p × Second p) bytes r.copy l last rest fault) one.1
+            (subst (λ (l : List PacketValue). Kept most (λ p. First p × Second p) bytes r.copy r.chosen l rest fault) one.2
+            r.whole)),
+        sym one.3,
+        sym one.4,
+      )
+
+  -- packets that are kept once are kept again
+  pub composed_twice : (most : ℕ) (Keeps : PacketValue → Type 0) (bytes between copy : List ℕ)
+      (kept edited chosen last : List PacketValue) (rest left : List ℕ) (fault other : Option CopyFault)
+      → IsBytes bytes → IsBytes between → between ≢ []
+      → Kept most Keeps bytes between kept edited rest fault → Kept most Keeps between copy chosen last left other
+      → copy ≡ between
+  composed_twice most Keeps bytes between copy kept edited chosen last rest left fault other ok ok_between some once twice =
+      let c =
+      composed most Keeps Keeps bytes between copy kept edited chosen last rest left fault other ok ok_between some once
+      twice in
+      let mine =
+      copies_alike (Changed 0) (λ p. Keeps p × Keeps p) Keeps Edits (λ p. (λ both. both.0, λ is. (is, is)))
+      (Beginning most) bytes copy chosen last rest fault c.0 in
+      (one_copied (Changed 0) Keeps Edits one_edit (Beginning most) bytes copy between chosen kept last edited rest rest
+      fault fault ok mine once).0
+
+-- ---- the law, by tests of packets
+
+unedited_none : EditsNone (λ p o. IsTrue (edits_none p o))
+unedited_none p None is = refl
+unedited_none p (Some e) is = absurd cc
 
 edits_once : EditsOnce (λ p o. IsTrue (edits_none p o))
 edits_once = record {
   some = λ p ok. (None, refl);
-  one = λ p o q a b. none_of p o a ∙ sym (none_of p q b);
+  one = λ p o q a b. unedited_none p o a ∙ sym (unedited_none p q b);
 }
 
-pub composed : (most : ℕ) (first second : PacketValue → Bool) (bytes between copy : List ℕ)
+both_true : (a b : Bool) → (IsTrue a × IsTrue b) ↔ IsTrue (a && b)
+both_true true b = (λ is. is.1, λ is. (refl, is))
+both_true false b = (λ is. absurd (let bad = is.0 in cc), λ is. absurd cc)
+
+pub composed_tests : (most : ℕ) (first second : PacketValue → Bool) (bytes between copy : List ℕ)
     (kept edited chosen last : List PacketValue) (rest left : List ℕ) (fault other : Option CopyFault)
     → IsBytes bytes → IsBytes between → between ≢ []
     → CopiesBy (Changed 0) first edits_none (Beginning most) bytes between kept edited rest fault
     → CopiesBy (Changed 0) second edits_none (Beginning most) between copy chosen last left other
     → CopiesBy (Changed 0) (λ p. first p && second p) edits_none (Beginning most) bytes copy chosen last rest fault
     × (left ≡ []) × (other ≡ None)
-composed most first second bytes between copy kept edited chosen last rest left fault other ok ok_between some once twice =
-    let r = compose first second (Beginning most) bytes between kept edited rest fault ok tt once in
-    let mine : Copy (Changed 0) second edits_none (Beginning most) between = record {
-      copy = r.copy;
-      kept = r.chosen;
-      edited = r.chosen;
-      rest = [];
-      fault = None;
-      copies = r.again (inr some);
-    } in
-    let given : Copy (Changed 0) second edits_none (Beginning most) between = record {
-      copy = copy;
-      kept = chosen;
-      edited = last;
-      rest = left;
-      fault = other;
-      copies = twice;
-    } in
-    let one = one_copy (Changed 0) second edits_none (Beginning most) between mine given ok_between edits_once in (
-      subst (λ (l : List ℕ). CopiesBy (Changed 0) (λ p. first p && second p) edits_none (Beginning most) bytes l chosen last rest fault) one.0
-          (subst (λ (l : List PacketValue). CopiesBy (Changed 0) (λ p. first p && second p) edits_none (Beginning most) bytes r.copy l last rest fault) one.1
-          (subst (λ (l : List PacketValue). CopiesBy (Changed 0) (λ p. first p && second p) edits_none (Beginning most) bytes r.copy r.chosen l rest fault) one.2
-          r.whole)),
-      sym one.3,
-      sym one.4,
+composed_tests most first second bytes between copy kept edited chosen last rest left fault other ok ok_between some once twice =
+    let Edits = λ (p : PacketValue) (o : Option EditedValue). IsTrue (edits_none p o) in
+    let First = λ (p : PacketValue). IsTrue (first p) in
+    let Second = λ (p : PacketValue). IsTrue (second p) in
+    let c =
+    composed Edits unedited_none edits_once most First Second bytes between copy kept edited chosen last rest left fault
+    other ok ok_between some once twice in (
+      copies_alike (Changed 0) (λ p. First p × Second p) (λ p. IsTrue (first p && second p)) Edits
+          (λ p. both_true (first p) (second p)) (Beginning most) bytes copy chosen last rest fault c.0,
+      c.1,
+      c.2,
     )
-
-and_self : (b : Bool) → (b && b) ≡ b
-and_self true = refl
-and_self false = refl
 
 pub composed_again : (most : ℕ) (test : PacketValue → Bool) (bytes between copy : List ℕ)
     (kept edited chosen last : List PacketValue) (rest left : List ℕ) (fault other : Option CopyFault)
@@ -509,23 +600,5 @@ pub composed_again : (most : ℕ) (test : PacketValue → Bool) (bytes between c
     → CopiesBy (Changed 0) test edits_none (Beginning most) bytes between kept edited rest fault
     → CopiesBy (Changed 0) test edits_none (Beginning most) between copy chosen last left other
     → copy ≡ between
-composed_again most test bytes between copy kept edited chosen last rest left fault other ok ok_between some once twice =
-    let c = composed most test test bytes between copy kept edited chosen last rest left fault other ok ok_between some once twice in
-    let same : (λ (p : PacketValue). test p && test p) ≡ test = λ i p. and_self (test p) i in
-    let mine : Copy (Changed 0) test edits_none (Beginning most) bytes = record {
-      copy = copy;
-      kept = chosen;
-      edited = last;
-      rest = rest;
-      fault = fault;
-      copies = subst (λ (t : PacketValue → Bool). CopiesBy (Changed 0) t edits_none (Beginning most) bytes copy chosen last rest fault) same c.0;
-    } in
-    let given : Copy (Changed 0) test edits_none (Beginning most) bytes = record {
-      copy = between;
-      kept = kept;
-      edited = edited;
-      rest = rest;
-      fault = fault;
-      copies = once;
-    } in
-    (one_copy (Changed 0) test edits_none (Beginning most) bytes mine given ok edits_once).0
+composed_again most test =
+    composed_twice (λ p o. IsTrue (edits_none p o)) unedited_none edits_once most (λ p. IsTrue (test p))

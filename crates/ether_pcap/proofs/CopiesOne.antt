@@ -178,23 +178,27 @@ module _ (mode : ModeValue) (Keeps : PacketValue → Type 0) (Edits : PacketValu
       (first_step z (drop n bytes) more.copy more.kept more.edited rest2 fault2 copies3) in
       (same_joined x z q (take n bytes) others more all other s.0 joined joined3, s.1, s.2)
 
+  pub one_copied : (x : Expectation) (bytes copy copy2 : List ℕ) (kept kept2 edited edited2 : List PacketValue)
+      (rest rest2 : List ℕ) (fault fault2 : Option CopyFault) → IsBytes bytes
+      → Copies mode Keeps Edits x bytes copy kept edited rest fault
+      → Copies mode Keeps Edits x bytes copy2 kept2 edited2 rest2 fault2
+      → (copy ≡ copy2) × (kept ≡ kept2) × (edited ≡ edited2) × (rest ≡ rest2) × (fault ≡ fault2)
+  one_copied x bytes copy copy2 kept kept2 edited edited2 rest rest2 fault fault2 ok c d =
+      let s =
+      one_step (length bytes) x bytes (result copy kept edited) (result copy2 kept2 edited2) rest rest2 fault fault2
+      (omega arith) ok (first_step x bytes copy kept edited rest fault c)
+      (first_step x bytes copy2 kept2 edited2 rest2 fault2 d) in (
+        ap (λ (r : Result). r.copy) s.0,
+        ap (λ (r : Result). r.kept) s.0,
+        ap (λ (r : Result). r.edited) s.0,
+        s.1,
+        s.2,
+      )
+
 pub one_copy : (mode : ModeValue) (test : PacketValue → Bool) (edits : PacketValue → Option EditedValue → Bool)
     (x : Expectation) (bytes : List ℕ) (c d : Copy mode test edits x bytes)
     → IsBytes bytes → EditsOnce (λ p o. IsTrue (edits p o))
     → (c.copy ≡ d.copy) × (c.kept ≡ d.kept) × (c.edited ≡ d.edited) × (c.rest ≡ d.rest) × (c.fault ≡ d.fault)
 one_copy mode test edits x bytes c d ok once =
-    let Keeps = λ (p : PacketValue). IsTrue (test p) in
-    let Edits = λ (p : PacketValue) (o : Option EditedValue). IsTrue (edits p o) in
-    let of = result mode Keeps Edits once in
-    let step = first_step mode Keeps Edits once x bytes in
-    let s =
-    one_step mode Keeps Edits once (length bytes) x bytes (of c.copy c.kept c.edited) (of d.copy d.kept d.edited) c.rest
-    d.rest c.fault d.fault (omega arith) ok
-    (step c.copy c.kept c.edited c.rest c.fault c.copies)
-    (step d.copy d.kept d.edited d.rest d.fault d.copies) in (
-      ap (λ (r : Result mode Keeps Edits once). r.copy) s.0,
-      ap (λ (r : Result mode Keeps Edits once). r.kept) s.0,
-      ap (λ (r : Result mode Keeps Edits once). r.edited) s.0,
-      s.1,
-      s.2,
-    )
+    one_copied mode (λ p. IsTrue (test p)) (λ p o. IsTrue (edits p o)) once x bytes c.copy d.copy c.kept d.kept c.edited
+    d.edited c.rest d.rest c.fault d.fault ok c.copies d.copies

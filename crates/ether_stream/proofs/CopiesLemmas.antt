@@ -1,7 +1,7 @@
 -- Copies of a capture, as further units are read.
 use Rattle.std.proofs.Common.{◌≡◌, ◌≢◌, ◌⊎◌, ℕ, ◌≤◌, List, [], ◌∷◌, ◌++◌, length, take, drop, Option, Some, None, refl, sym, ap, subst, ◌∙◌, arith, append_assoc, append-nil, inl, inr, zero, suc}
 use Rattle.std.proofs.lemmas.List.{take-append-le, take_all, length-take-le}
-use Rattle.ether_filter.specs.Expressions.{Expression}
+use Rattle.ether_stream.specs.declared.selection.Selection.{Selection}
 use Rattle.ether_pcap.specs.Capture.{PacketValue, Expectation, HasBegun, CaptureRefusal, Begins, Refuses, IsEnd, HasPackets}
 use Rattle.ether_pcap.specs.Editing.{EditedValue}
 use Rattle.ether_pcap.specs.CopiedUnits.{ModeValue, Exact, Changed, expected_in, other_unit, unit_after, packet_after}
@@ -41,7 +41,7 @@ start_in : (mode : ModeValue) → expected_in mode capture_start ≡ capture_sta
 start_in Exact = refl
 start_in (Changed raise) = refl
 
-module _ (mode : ModeValue) (select : Option Expression) (asked : Option EditValue) where
+module _ (mode : ModeValue) (select : Option Selection) (asked : Option EditValue) where
   abbrev pub Copied : Expectation → (bytes copy : List ℕ) → (kept edited : List PacketValue) → (rest : List ℕ)
       → Option CopyFault → Type 0
   Copied = Copies mode (IsChosen select) (EditsIf asked)
@@ -83,7 +83,7 @@ module _ (mode : ModeValue) (select : Option Expression) (asked : Option EditVal
         all = λ exact every whole.
             copy_all Edits (none_edited asked whole) capture_start bytes copy kept edited rest fault
             (subst (λ (m : ModeValue). Copies m (λ p. ⊤) Edits capture_start bytes copy kept edited rest fault) exact
-            (subst (λ (s : Option Expression). Copies mode (IsChosen s) Edits capture_start bytes copy kept edited rest fault)
+            (subst (λ (s : Option Selection). Copies mode (IsChosen s) Edits capture_start bytes copy kept edited rest fault)
             every copies));
       }
     where

@@ -6,3 +6,4 @@ pub mod MadeLemmas
 pub mod ProgressLemmas
 pub mod RunLemmas
 pub mod TagsLemmas
+pub mod CompositionLemmas

@@ -4,7 +4,7 @@ use Rattle.std.proofs.Math.Bool.{and_assoc}
 use Rattle.std.proofs.lemmas.List.{length-append, take-append-drop, length-take-le}
 use Rattle.std.proofs.lemmas.List.Sums.{sum_by-append}
 use Rattle.std.specs.List.{sum_by}
-use Rattle.ether_filter.specs.Expressions.{Expression}
+use Rattle.ether_stream.specs.declared.selection.Selection.{Selection}
 use Rattle.ether_pcap.specs.Capture.{PacketValue, Expectation, Begins}
 use Rattle.ether_pcap.specs.CopiedUnits.{ModeValue, other_unit, packet_after}
 use Rattle.ether_pcap.specs.Copies.{Selected, none, one_kept, one_left}
@@ -35,7 +35,7 @@ and_is_true true = refl
 and_is_true false = refl
 
 -- one answered packet more
-pub AreAnswered-push : (select : Option Expression) (options : LineOptions) (before : ℕ) (packets : List PacketValue)
+pub AreAnswered-push : (select : Option Selection) (options : LineOptions) (before : ℕ) (packets : List PacketValue)
     (text : List ℕ) (all : Bool)
     (p : PacketValue) (more : List ℕ) (accepted : Bool)
     → AreAnswered select options before packets text all
@@ -94,10 +94,10 @@ front_len front buffered len within =
 
 -- ---- what is chosen
 
-module _ (select : Option Expression) where
+module _ (Is : PacketValue → Type 0) where
   -- a packet more, which is chosen
-  chosen-push : (packets kept : List PacketValue) (p : PacketValue) → IsChosen select p
-      → Selected (IsChosen select) packets kept → Selected (IsChosen select) (packets ++ p ∷ []) (kept ++ p ∷ [])
+  pub chosen-push : (packets kept : List PacketValue) (p : PacketValue) → Is p
+      → Selected Is packets kept → Selected Is (packets ++ p ∷ []) (kept ++ p ∷ [])
   chosen-push packets kept p is none = one_kept p [] [] is none
   chosen-push packets kept p is (one_kept q qs ks first others) =
       one_kept q (qs ++ p ∷ []) (ks ++ p ∷ []) first (chosen-push qs ks p is others)
@@ -105,8 +105,8 @@ module _ (select : Option Expression) where
       one_left q (qs ++ p ∷ []) (ks ++ p ∷ []) first (chosen-push qs ks p is others)
 
   -- .. or is not
-  left-push : (packets kept : List PacketValue) (p : PacketValue) → ¬ (IsChosen select p)
-      → Selected (IsChosen select) packets kept → Selected (IsChosen select) (packets ++ p ∷ []) kept
+  pub left-push : (packets kept : List PacketValue) (p : PacketValue) → ¬ (Is p)
+      → Selected Is packets kept → Selected Is (packets ++ p ∷ []) kept
   left-push packets kept p is none = one_left p [] [] is none
   left-push packets kept p is (one_kept q qs ks first others) =
       one_kept q (qs ++ p ∷ []) ks first (left-push qs ks p is others)
@@ -121,14 +121,14 @@ with_packet packets None = packets
 with_packet packets (Some p) = packets ++ p ∷ []
 
 -- .. if it is chosen
-abbrev pub KeptMore : (select : Option Expression) → (old : List PacketValue) → Option PacketValue
+abbrev pub KeptMore : (select : Option Selection) → (old : List PacketValue) → Option PacketValue
     → (new : List PacketValue) → Type 0
 KeptMore select old None new = new ≡ old
 KeptMore select old (Some p) new =
     (IsChosen select p × (new ≡ old ++ p ∷ [])) ⊎ (¬ (IsChosen select p) × (new ≡ old))
 
 -- what is made with a unit more
-pub record MadeMore (select : Option Expression) (form : FormValue) (packets old : List PacketValue)
+pub record MadeMore (select : Option Selection) (form : FormValue) (packets old : List PacketValue)
     (packet : Option PacketValue) (front text : List ℕ) (all : Bool) (x : Expectation) : Type 0 where
   pub kept : List PacketValue
   pub more : KeptMore select old packet kept
@@ -136,7 +136,7 @@ pub record MadeMore (select : Option Expression) (form : FormValue) (packets old
   pub made : Made select form (with_packet packets packet) kept front text all x
 
 -- the lines of a packet that is chosen or not
-answered_more : (select : Option Expression) (options : LineOptions) (packets kept : List PacketValue)
+answered_more : (select : Option Selection) (options : LineOptions) (packets kept : List PacketValue)
     (front text : List ℕ) (all : Bool) (x y : Expectation) (p : PacketValue) (own more : List ℕ) (accepted : Bool)
     → Selected (IsChosen select) packets kept → Made select (Lines options) packets kept front text all x
     → AnswersPacket select options (counted (packets_before (Lines options) + length packets + 1)) p more accepted
@@ -144,20 +144,20 @@ answered_more : (select : Option Expression) (options : LineOptions) (packets ke
 answered_more select options packets kept front text all x y p own more accepted selected made (inl is) = record {
   kept = kept ++ p ∷ [];
   more = inl (is.0, refl);
-  selected = chosen-push select packets kept p is.0 selected;
+  selected = chosen-push (IsChosen select) packets kept p is.0 selected;
   made =
       AreAnswered-push select options (packets_before (Lines options)) packets text all p more accepted made (inl is);
 }
 answered_more select options packets kept front text all x y p own more accepted selected made (inr is) = record {
   kept = kept;
   more = inr (is.0, refl);
-  selected = left-push select packets kept p is.0 selected;
+  selected = left-push (IsChosen select) packets kept p is.0 selected;
   made =
       AreAnswered-push select options (packets_before (Lines options)) packets text all p more accepted made (inr is);
 }
 
 -- the copy of a unit
-copied_more : (mode : ModeValue) (select : Option Expression) (edit : Option EditValue) (packets kept : List PacketValue)
+copied_more : (mode : ModeValue) (select : Option Selection) (edit : Option EditValue) (packets kept : List PacketValue)
     (front copy : List ℕ) (all : Bool) (x y : Expectation) (buffered : List ℕ) (len : ℕ) (packet : Option PacketValue)
     (own more : List ℕ) (text : Option (List ℕ))
     → len ≤ length buffered → Begins buffered x len packet y → own ≡ take len buffered
@@ -186,7 +186,7 @@ copied_more mode select edit packets kept front copy all x y buffered len packet
     record {
       kept = kept;
       more = inr (not_chosen, refl);
-      selected = left-push select packets kept p not_chosen selected;
+      selected = left-push (IsChosen select) packets kept p not_chosen selected;
       made = (
         made.0,
         subst (λ (l : List ℕ). CopiesOn mode select edit (front ++ take len buffered) l kept made.0 y) same
@@ -199,7 +199,7 @@ copied_more mode select edit packets kept front copy all x y buffered len packet
     record {
       kept = kept ++ p ∷ [];
       more = inl (chosen, refl);
-      selected = chosen-push select packets kept p chosen selected;
+      selected = chosen-push (IsChosen select) packets kept p chosen selected;
       made = (
         made.0 ++ packet_after mode p o ∷ [],
         CopiesOn-kept mode select edit front copy more kept made.0 p o x y buffered len within begins chosen edits
@@ -211,19 +211,19 @@ copied_more mode select edit packets kept front copy all x y buffered len packet
     }
 
 -- the text of a unit that is no packet
-pub other_made : (select : Option Expression) (form : FormValue) (x : Expectation) (number : ℕ) (unit : List ℕ)
+pub other_made : (select : Option Selection) (form : FormValue) (x : Expectation) (number : ℕ) (unit : List ℕ)
     → Makes select form x number unit None true (Some (other_text form x unit))
 other_made select (Lines options) x number unit = (refl, refl)
 other_made select (Copy mode edit) x number unit = (writes_unit, refl)
 
 -- .. and of a packet that is not chosen
-pub left_made : (select : Option Expression) (form : FormValue) (x : Expectation) (number : ℕ) (unit : List ℕ)
+pub left_made : (select : Option Selection) (form : FormValue) (x : Expectation) (number : ℕ) (unit : List ℕ)
     (p : PacketValue) → ¬ (IsChosen select p) → Makes select form x number unit (Some p) true (Some [])
 left_made select (Lines options) x number unit p not_chosen = ([], inr (not_chosen, refl, refl), refl)
 left_made select (Copy mode edit) x number unit p not_chosen = (writes_nothing p not_chosen, refl)
 
 -- what is made of a unit
-pub made_more : (select : Option Expression) (form : FormValue) (packets kept : List PacketValue) (front text : List ℕ)
+pub made_more : (select : Option Selection) (form : FormValue) (packets kept : List PacketValue) (front text : List ℕ)
     (all : Bool) (x y : Expectation) (buffered : List ℕ) (len number : ℕ) (packet : Option PacketValue)
     (own more : List ℕ) (accepted : Bool)
     → len ≤ length buffered → Begins buffered x len packet y → own ≡ take len buffered
@@ -260,7 +260,7 @@ made_more select (Copy mode edit) packets kept front text all x y buffered len n
     unit_is selected made refl makes.0)
 
 -- nothing is made yet
-pub made_start : (select : Option Expression) (form : FormValue) → Made select form [] [] [] [] true capture_start
+pub made_start : (select : Option Selection) (form : FormValue) → Made select form [] [] [] [] true capture_start
 made_start select (Lines options) = (refl, refl)
 made_start select (Copy mode edit) = ([], CopiesOn-start mode select edit, refl)
 

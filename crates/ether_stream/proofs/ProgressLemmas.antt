@@ -3,7 +3,7 @@ use Rattle.std.proofs.Common.{◌≡◌, ◌≢◌, ℕ, zero, suc, ◌+◌, ◌
 use Rattle.std.proofs.lemmas.List.{length-append, length-drop, take_all, length-take-le}
 use Rattle.std.specs.List.{sum_by}
 use Rattle.std.specs.Io.KnownBytes.{Appends}
-use Rattle.ether_filter.specs.Expressions.{Expression}
+use Rattle.ether_stream.specs.declared.selection.Selection.{Selection}
 use Rattle.ether_pcap.specs.Capture.{PacketValue, Expectation, HasBegun, Begins}
 use Rattle.ether_pcap.specs.Copies.{Selected, none}
 use Rattle.ether_pcap.specs.Editing.{EditedValue}
@@ -18,16 +18,16 @@ use Rattle.ether_text.proofs.KnownBytesLemmas.{Appends-none, Appends-then, Appen
 use Rattle.ether_stream.specs.Copying.{EditsIf}
 use Rattle.ether_stream.specs.Counting.{AreCounted}
 use Rattle.ether_stream.specs.FrameLines.{skip_count}
-use Rattle.ether_stream.specs.Packets.{counted, GoesOn, HasFewer, EndsAtCount, IsLeftOf}
-use Rattle.ether_stream.specs.Progress.{Made, LeavesLess, Reached, IsStart, counts_at, Writes, writes_unit, writes_nothing, writes_packet, Makes, Counts, TakesUnit, StopsUnwritten, Unedited, UneditedIn, StopsAfter, OnNotEdited}
-use Rattle.ether_stream.specs.Task.{TaskValue, FormValue, Lines, Copy, IsChosen, IsBelow, packets_before}
+use Rattle.ether_stream.specs.Packets.{counted, GoesOn, HasFewer, HasOpen, EndsAtCount, IsLeftOf}
+use Rattle.ether_stream.specs.Progress.{CountsOpen, Made, LeavesLess, Reached, IsStart, counts_at, Writes, writes_unit, writes_nothing, writes_packet, Makes, Counts, TakesUnit, StopsUnwritten, Unedited, UneditedIn, StopsAfter, OnNotEdited}
+use Rattle.ether_stream.specs.Task.{TaskValue, FormValue, Lines, Copy, IsChosen, IsBelow, IsOpen, packets_before}
 use Rattle.ether_stream.specs.declared.outcome.RunFault.{RunFault}
 use Rattle.ether_stream.specs.declared.outcome.RunFault.TheVariants as faults
 use Rattle.ether_stream.specs.declared.progress.Progress.{Progress}
 use Rattle.ether_stream.specs.declared.task.LineOptions.{LineOptions}
 use Rattle.ether_stream.proofs.CopiesLemmas.{unit_there}
 use Rattle.ether_stream.proofs.PacketsLemmas.{GoesOn-start, GoesOn-unit, GoesOn-packet}
-use Rattle.ether_stream.proofs.MadeLemmas.{verdict_with-verdict_of, skipped-push, some_none, front_after, front_len, with_packet, KeptMore, made_more, made_start, packet_of_unit}
+use Rattle.ether_stream.proofs.MadeLemmas.{chosen-push, left-push, verdict_with-verdict_of, skipped-push, some_none, front_after, front_len, with_packet, KeptMore, made_more, made_start, packet_of_unit}
 
 -- ---- how far the run has come
 
@@ -42,18 +42,35 @@ goes_more front packets (Some p) x y buffered len within begins go =
     GoesOn-packet front packets p x y buffered len within begins go
 
 -- the counts with a unit more
-counts_more : {X : Type 0} (select : Option Expression) (before : ℕ) (packets : List PacketValue) (packet : Option PacketValue)
+counts_more : {X : Type 0} (select : Option Selection) (before : ℕ) (packets : List PacketValue) (packet : Option PacketValue)
     (old new : Progress X)
     → Counts select packet old new → old.count ≡ counted (before + length packets)
-    → old.skipped ≡ counted (sum_by skip_count packets)
+    → old.skipped ≡ counted (sum_by skip_count packets) → HasOpen select packets old.undecided
     → (new.count ≡ counted (before + length (with_packet packets packet)))
     × (new.skipped ≡ counted (sum_by skip_count (with_packet packets packet)))
-counts_more select before packets None old new counts count skipped = (counts.0 ∙ count, counts.1 ∙ skipped)
-counts_more select before packets (Some p) old new counts count skipped =
+    × HasOpen select (with_packet packets packet) new.undecided
+counts_more select before packets None old new counts count skipped so_far =
+    (counts.0 ∙ count, counts.1 ∙ skipped, subst (HasOpen select packets) (sym counts.2) so_far)
+counts_more select before packets (Some p) old new counts count skipped so_far =
     let more = length-append packets (p ∷ []) in
     let skips = skipped-push packets p in
     let a = counts.0 in let b = counts.1 in
-    (omega (arith, a, count, more), omega (arith, b, skipped, skips))
+    (omega (arith, a, count, more), omega (arith, b, skipped, skips), open_more counts.2 so_far)
+  where
+    open_more : {old new : ℕ} → CountsOpen select p old new → HasOpen select packets old
+        → HasOpen select (packets ++ p ∷ []) new
+    open_more (inl (is, one)) has =
+        let was = has.is_count in let long = length-append has.undecided (p ∷ []) in
+        record {
+          undecided = has.undecided ++ p ∷ [];
+          selected = chosen-push (IsOpen select) packets has.undecided p is has.selected;
+          is_count = omega (arith, one, was, long);
+        }
+    open_more (inr (not, same)) has = record {
+      undecided = has.undecided;
+      selected = left-push (IsOpen select) packets has.undecided p not has.selected;
+      is_count = same ∙ has.is_count;
+    }
 
 -- ---- how many packets are left that are asked for
 
@@ -61,14 +78,14 @@ some_number : (a b : ℕ) → Some a ≡ Some b → a ≡ b
 some_number a b e = ap (λ (o : Option ℕ). unwrap_or o a) e
 
 -- what is counted of those that are left
-abbrev LeftMore : (select : Option Expression) → Option PacketValue → (old new : Option ℕ) → Type 0
+abbrev LeftMore : (select : Option Selection) → Option PacketValue → (old new : Option ℕ) → Type 0
 LeftMore select None old new = new ≡ old
 LeftMore select (Some p) old new = LeavesLess select p old new
 
-left_counted : {X : Type 0} (select : Option Expression) (packet : Option PacketValue) (old new : Progress X)
+left_counted : {X : Type 0} (select : Option Selection) (packet : Option PacketValue) (old new : Progress X)
     → Counts select packet old new → LeftMore select packet old.left new.left
-left_counted select None old new counts = counts.2
-left_counted select (Some p) old new counts = counts.2
+left_counted select None old new counts = counts.3
+left_counted select (Some p) old new counts = counts.3
 
 -- with a packet that is chosen
 chosen_left : (count : Option ℕ) (kept : List PacketValue) (p : PacketValue) (m : ℕ) (new : Option ℕ) → m ≢ 0
@@ -86,7 +103,7 @@ chosen_left (Some n) kept p m new some (l, left, sum) e =
     elim_zero (suc m) some = omega arith
 
 -- with a unit more
-left_more : (select : Option Expression) (count : Option ℕ) (kept kept' : List PacketValue)
+left_more : (select : Option Selection) (count : Option ℕ) (kept kept' : List PacketValue)
     (packet : Option PacketValue) (old new : Option ℕ)
     → IsLeftOf count (length kept) old → old ≢ Some 0 → KeptMore select kept packet kept'
     → LeftMore select packet old new → IsLeftOf count (length kept') new
@@ -116,7 +133,7 @@ last_left (Some n) k (suc m) new some (l, left, sum) e done =
     ap (λ (j : ℕ). Some j) (omega (arith, same, last, sum))
 
 -- the front ends with it
-ends_more : (select : Option Expression) (count : Option ℕ) (packets kept : List PacketValue) (front : List ℕ)
+ends_more : (select : Option Selection) (count : Option ℕ) (packets kept : List PacketValue) (front : List ℕ)
     (x y : Expectation) (buffered : List ℕ) (len : ℕ) (packet : Option PacketValue) (old new : Option ℕ)
     → len ≤ length buffered → Begins buffered x len packet y → GoesOn front packets x
     → Selected (IsChosen select) packets kept
@@ -181,6 +198,7 @@ module _ {W X : Type 0} (task : TaskValue) (contents : W → Option (List ℕ)) 
     selected = so_far.selected;
     is_number = so_far.is_count;
     is_skipped = so_far.is_skipped;
+    undecided = so_far.undecided;
     is_left = so_far.is_left;
   }
 
@@ -202,6 +220,7 @@ module _ {W X : Type 0} (task : TaskValue) (contents : W → Option (List ℕ)) 
     is_verdict = is.is_verdict;
     is_count = let a = is.is_count in omega (arith, a);
     is_skipped = is.is_skipped;
+    undecided = record { undecided = []; selected = none; is_count = is.is_undecided };
     is_offset = is.is_offset;
     is_left =
         subst (λ (o : Option ℕ). IsLeftOf task.count 0 o) (sym is.is_left) (all_left task.count);
@@ -227,6 +246,7 @@ module _ {W X : Type 0} (task : TaskValue) (contents : W → Option (List ℕ)) 
     is_verdict = so_far.is_verdict;
     is_count = so_far.is_count;
     is_skipped = so_far.is_skipped;
+    undecided = so_far.undecided;
     is_offset = so_far.is_offset;
     is_left = so_far.is_left;
     at_count = so_far.at_count;
@@ -252,6 +272,7 @@ module _ {W X : Type 0} (task : TaskValue) (contents : W → Option (List ℕ)) 
     is_verdict = so_far.is_verdict;
     is_count = so_far.is_count;
     is_skipped = so_far.is_skipped;
+    undecided = so_far.undecided;
     is_offset = so_far.is_offset;
     is_left = so_far.is_left;
     at_count = so_far.at_count;
@@ -275,7 +296,8 @@ module _ {W X : Type 0} (task : TaskValue) (contents : W → Option (List ℕ)) 
       so_far.selected so_far.made takes.makes in
       let counts =
       counts_more task.select (packets_before task.form) so_far.packets packet
-      (record old { reader = y }) new takes.counts so_far.is_count so_far.is_skipped in
+      (record old { reader = y }) new takes.counts so_far.is_count so_far.is_skipped
+      so_far.undecided in
       let less = left_counted task.select packet (record old { reader = y }) new takes.counts in
       let long : length own ≡ len = ap length unit_is ∙ length-take-le len buffered within in
       let front = front_len so_far.front buffered len within in
@@ -303,6 +325,7 @@ module _ {W X : Type 0} (task : TaskValue) (contents : W → Option (List ℕ)) 
             ∙ verdict_with-verdict_of so_far.all_accepted takes.accepted;
         is_count = counts.0;
         is_skipped = counts.1;
+        undecided = counts.2;
         is_offset = let a = takes.is_offset in let b = so_far.is_offset in omega (arith, a, b, long, front);
         is_left =
             left_more task.select task.count so_far.kept more.kept packet old.left new.left so_far.is_left some
@@ -321,7 +344,7 @@ module _ {W X : Type 0} (task : TaskValue) (contents : W → Option (List ℕ)) 
 
 -- ---- a packet that can't be edited
 
-module _ {W X : Type 0} (mode : ModeValue) (select : Option Expression) (count : Option ℕ) (edit : Option EditValue)
+module _ {W X : Type 0} (mode : ModeValue) (select : Option Selection) (count : Option ℕ) (edit : Option EditValue)
     (contents : W → Option (List ℕ)) (held : Option (List ℕ)) where
   abbrev Copying : (input buffered : List ℕ) → (at : Progress X) → (out : OutputBuffer W) → Type 0
   Copying = Reached (record { select = select; count = count; form = Copy mode edit }) contents held
@@ -378,13 +401,13 @@ module _ {W X : Type 0} (mode : ModeValue) (select : Option Expression) (count :
       (subst (λ (z : Expectation). Begins buffered old.reader len (Some p) z) same begins) kept edits (at ∙ same)
       unit_is (e ∙ no_copy) place same_out some so_far
 
-no_lines : (select : Option Expression) (options : LineOptions) (x : Expectation) (number : ℕ) (own : List ℕ)
+no_lines : (select : Option Selection) (options : LineOptions) (x : Expectation) (number : ℕ) (own : List ℕ)
     (packet : Option PacketValue) (accepted : Bool)
     → Makes select (Lines options) x number own packet accepted None → ⊥
 no_lines select options x number own None accepted makes = some_none [] (sym makes.0)
 no_lines select options x number own (Some p) accepted makes = some_none makes.0 (sym makes.2)
 
-module _ {W X : Type 0} (select : Option Expression) (count : Option ℕ) (contents : W → Option (List ℕ)) where
+module _ {W X : Type 0} (select : Option Selection) (count : Option ℕ) (contents : W → Option (List ℕ)) where
   pub Reached-stopped : (form : FormValue) (held : Option (List ℕ)) (input buffered : List ℕ) (old : Progress X)
       (y : Expectation) (from to : OutputBuffer W) (len : ℕ) (packet : Option PacketValue) (own : List ℕ) (offset : ℕ)
       → old.left ≢ Some 0

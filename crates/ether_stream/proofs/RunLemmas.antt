@@ -2,7 +2,7 @@
 use Rattle.std.proofs.Common.{◌⊎◌, ◌+◌, ◌-◌, ◌^◌, ◌≡◌, ◌≢◌, ℕ, ◌<◌, ◌≤◌, List, [], ◌∷◌, ◌++◌, length, drop, Bool, Option, Some, None, unwrap_or, Result, Ok, Err, IfOk, IfErr, IsErrAnd, OnOk, refl, sym, ap, subst, ◌∙◌, arith, append_assoc, append-nil, inl, inr, IfSome}
 use Rattle.std.specs.List.{sum_by}
 use Rattle.std.specs.Io.KnownBytes.{Appends, Consumes, IsAtEnd, Keeps}
-use Rattle.ether_filter.specs.Expressions.{Expression}
+use Rattle.ether_stream.specs.declared.selection.Selection.{Selection}
 use Rattle.ether_pcap.specs.FileHeader as file
 use Rattle.ether_pcap.specs.Record as record_rows
 use Rattle.ether_pcap.specs.Block as block_rows
@@ -21,8 +21,8 @@ use Rattle.ether_text.specs.Run.{IsLeft, BreaksOffAfter, IsEndless}
 use Rattle.ether_text.proofs.RunLemmas.{IsLeft-left_of, IsLeft-end, Consumes-nothing, answers_flushed, stops_flushed, breaks_flushed, answers_slice, stops_slice, breaks_slice, no_endless_slice}
 use Rattle.ether_stream.specs.Copying.{IsCopy}
 use Rattle.ether_stream.specs.Counting.{HasCounted, IfRead}
-use Rattle.ether_stream.specs.FrameLines.{skip_count}
-use Rattle.ether_stream.specs.Packets.{capture_start, counted, GoesOn, HasFewer}
+use Rattle.ether_stream.specs.FrameLines.{if_selected, skip_count}
+use Rattle.ether_stream.specs.Packets.{capture_start, counted, GoesOn, HasFewer, HasOpen}
 use Rattle.ether_stream.specs.Progress.{Made, Reached, counts_at, TakesUnits, UneditedIn, StopsAfter, OnNotEdited, IsTakingFault, last_lines}
 use Rattle.ether_stream.specs.Run.{Completes, CompletesAll, ReachesCount, StopsAtFault, StopsAtPacket, EndsInUnit, AnswersSlice, AnswersSliceOver, NeedsMemory, HasRun, HasRunOver, OnStreamFault}
 use Rattle.ether_stream.specs.Task.{TaskValue, FormValue, Lines, Copy, packets_before}
@@ -102,22 +102,25 @@ refused_nothing bytes x r e (body_refused most order interfaces b s other begins
 
 -- ---- what is made of a capture, by how it ends
 
-module _ (select : Option Expression) (bytes front text : List ℕ) (packets kept : List PacketValue) (all : Bool)
+module _ (select : Option Selection) (bytes front text : List ℕ) (packets kept : List PacketValue) (all : Bool)
     (x : Expectation) (count : Option ℕ) (go : GoesOn front packets x) where
   -- it ends after a unit
-  completed : (form : FormValue) → bytes ≡ front → HasBegun x → Made select form packets kept front text all x
+  completed : (undecided : ℕ) → HasOpen select packets undecided → (form : FormValue) → bytes ≡ front → HasBegun x
+      → Made select form packets kept front text all x
       → Completes select form packets bytes
       (text ++ last_lines form (counted (packets_before form + length packets))
-      (counted (sum_by skip_count packets))) all
-  completed (Lines options) is begun made = record {
+      (counted (sum_by skip_count packets)) (if_selected select undecided)) all
+  completed undecided has (Lines options) is begun made = record {
     lines = text;
     has =
         subst (λ (l : List ℕ). HasPackets capture_start l packets [] None) (sym is)
         (GoesOn-ended front packets x begun go);
     answered = made;
+    undecided = undecided;
+    has_undecided = has;
     is_text = refl;
   }
-  completed (Copy mode edit) is begun made = record {
+  completed undecided has (Copy mode edit) is begun made = record {
     is_copy =
         subst (λ (l : List ℕ). IsCopy mode select edit l (text ++ []) [] None) (sym is)
         (subst (λ (l : List ℕ). IsCopy mode select edit front l [] None) (sym (append-nil text))
@@ -341,15 +344,16 @@ module _ {W X : Type 0} (task : TaskValue) (contents : W → Option (List ℕ)) 
         → Consumes before after input → IsAtEnd after → at.left ≢ Some 0 → IsEnd at.reader buffered
         → IfOk r (λ verdict. verdict ≡ at.verdict)
         → OnOk r
-        (Appends (contents_of contents from) (contents_of contents to) (last_lines task.form at.count at.skipped))
+        (Appends (contents_of contents from) (contents_of contents to) (last_lines task.form at.count at.skipped
+        (if_selected task.select at.undecided)))
         → IfErr r (λ fault. fault ≡ faults.Output)
         → Reached task contents held input buffered at from
         → HasCounted task before after held (contents_of contents to) r (counts_at at)
     finished input buffered at from to (Ok verdict) read end some over is written fault so_far =
         let last = last_lines task.form (counted (packets_before task.form + length so_far.packets)) (counted
-        (sum_by skip_count so_far.packets)) in
-        let same : last_lines task.form at.count at.skipped ≡ last =
-        (λ i. last_lines task.form (so_far.is_count i) (so_far.is_skipped i)) in
+        (sum_by skip_count so_far.packets)) (if_selected task.select at.undecided) in
+        let same : last_lines task.form at.count at.skipped (if_selected task.select at.undecided) ≡ last =
+        (λ i. last_lines task.form (so_far.is_count i) (so_far.is_skipped i) (if_selected task.select at.undecided)) in
         let whole : input ≡ so_far.front =
         so_far.place ∙ ap (λ (l : List ℕ). so_far.front ++ l) over.1 ∙ append-nil so_far.front in
         counted_as input buffered at from (contents_of contents to) (Ok verdict) so_far (inl (record {
@@ -362,7 +366,7 @@ module _ {W X : Type 0} (task : TaskValue) (contents : W → Option (List ℕ)) 
             subst (HasFewer task.select task.count) (sym whole)
                 (Reached-fewer task contents held input buffered at from some so_far),
             completed task.select input so_far.front so_far.text so_far.packets so_far.kept so_far.all_accepted
-                at.reader task.count so_far.parts task.form whole over.0 so_far.made,
+                at.reader task.count so_far.parts at.undecided so_far.undecided task.form whole over.0 so_far.made,
           );
           is_verdict = is ∙ so_far.is_verdict;
           written =
@@ -377,16 +381,17 @@ module _ {W X : Type 0} (task : TaskValue) (contents : W → Option (List ℕ)) 
         → Consumes before after input → at.left ≡ Some 0
         → IfOk r (λ verdict. verdict ≡ at.verdict)
         → OnOk r
-        (Appends (contents_of contents from) (contents_of contents to) (last_lines task.form at.count at.skipped))
+        (Appends (contents_of contents from) (contents_of contents to) (last_lines task.form at.count at.skipped
+        (if_selected task.select at.undecided)))
         → IfErr r (λ fault. fault ≡ faults.Output)
         → Reached task contents held input buffered at from
         → HasCounted task before after held (contents_of contents to) r (counts_at at)
     counted_out input buffered at from to (Ok verdict) read none is written fault so_far =
         let left : List ℕ = unwrap_or after [] in
         let last = last_lines task.form (counted (packets_before task.form + length so_far.packets)) (counted
-        (sum_by skip_count so_far.packets)) in
-        let same : last_lines task.form at.count at.skipped ≡ last =
-        (λ i. last_lines task.form (so_far.is_count i) (so_far.is_skipped i)) in
+        (sum_by skip_count so_far.packets)) (if_selected task.select at.undecided) in
+        let same : last_lines task.form at.count at.skipped (if_selected task.select at.undecided) ≡ last =
+        (λ i. last_lines task.form (so_far.is_count i) (so_far.is_skipped i) (if_selected task.select at.undecided)) in
         let ends = so_far.at_count none in
         counted_as input buffered at from (contents_of contents to) (Ok verdict) so_far (inr (record {
           taken = input;
@@ -403,7 +408,7 @@ module _ {W X : Type 0} (task : TaskValue) (contents : W → Option (List ℕ)) 
                 ends = ends.1;
                 completes =
                     completed task.select so_far.front so_far.front so_far.text so_far.packets so_far.kept
-                    so_far.all_accepted at.reader task.count so_far.parts task.form refl ends.0 so_far.made;
+                    so_far.all_accepted at.reader task.count so_far.parts at.undecided so_far.undecided task.form refl ends.0 so_far.made;
                 is_verdict = is ∙ so_far.is_verdict;
               };
           written =

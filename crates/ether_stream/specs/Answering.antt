@@ -1,17 +1,17 @@
 -- The lines of a capture.
 use Rattle.std.specs.Prelude.{◌≡◌, ℕ, ◌+◌, List, [], ◌∷◌, ◌++◌, length, Bool, true, ◌&&◌, Option, Some, None}
 use Rattle.std.specs.List.{sum_by}
-use Rattle.ether_filter.specs.Expressions.{Expression}
+use Rattle.ether_stream.specs.declared.selection.Selection.{Selection}
 use Rattle.ether_pcap.specs.Capture.{PacketValue, Expectation, CaptureRefusal, Refuses, required_len, HasPackets}
 use Rattle.ether_pcap.specs.CaptureViews.{capture_refusal_view}
 use Rattle.ether_pcap.specs.declared.capture.capture_fault.CaptureFault.{CaptureFault}
-use Rattle.ether_stream.specs.FrameLines.{AnswersPacket, skip_count, totals_line_after}
-use Rattle.ether_stream.specs.Packets.{capture_start, counted, GoesOn, HasFewer}
+use Rattle.ether_stream.specs.FrameLines.{AnswersPacket, if_selected, skip_count, totals_line_after}
+use Rattle.ether_stream.specs.Packets.{capture_start, counted, GoesOn, HasFewer, HasOpen}
 use Rattle.ether_stream.specs.Task.{Lines, packets_before}
 use Rattle.ether_stream.specs.declared.task.LineOptions.{LineOptions}
 
 -- this is the text for the packets in order, after so many before them, and all says that each is accepted
-abbrev pub AreAnswered : (select : Option Expression) → (options : LineOptions) → (before : ℕ) → List PacketValue → (text : List ℕ) → (all : Bool) → Type 0
+abbrev pub AreAnswered : (select : Option Selection) → (options : LineOptions) → (before : ℕ) → List PacketValue → (text : List ℕ) → (all : Bool) → Type 0
 AreAnswered select options before [] text all = (text ≡ []) × (all ≡ true)
 AreAnswered select options before (p ∷ packets) text all =
     (first : List ℕ) × (accepted : Bool) × (rest : List ℕ) × (others_accepted : Bool)
@@ -19,25 +19,27 @@ AreAnswered select options before (p ∷ packets) text all =
     × (text ≡ first ++ rest) × (all ≡ (accepted && others_accepted))
 
 -- the line after those of all packets
-abbrev pub totals_of : (options : LineOptions) → List PacketValue → List ℕ
-totals_of options packets =
+abbrev pub totals_of : (options : LineOptions) → List PacketValue → (undecided : Option ℕ) → List ℕ
+totals_of options packets undecided =
     totals_line_after options.before options.is_plain (counted (packets_before (Lines options) + length packets))
-    (counted (sum_by skip_count packets))
+    (counted (sum_by skip_count packets)) undecided
 
 -- this is the text for the packets of a capture, after those of captures before it
-abbrev pub AreListed : (select : Option Expression) → (options : LineOptions) → List PacketValue → (text : List ℕ) → (all : Bool) → Type 0
+abbrev pub AreListed : (select : Option Selection) → (options : LineOptions) → List PacketValue → (text : List ℕ) → (all : Bool) → Type 0
 AreListed select options packets text all = AreAnswered select options (packets_before (Lines options)) packets text all
 
 -- these are all packets of the bytes, to their end, and this is the text for them and for the totals
-pub record AnswersCapture (select : Option Expression) (options : LineOptions) (packets : List PacketValue) (bytes text : List ℕ)
+pub record AnswersCapture (select : Option Selection) (options : LineOptions) (packets : List PacketValue) (bytes text : List ℕ)
     (all_accepted : Bool) : Type 0 where
   pub lines : List ℕ
   pub has : HasPackets capture_start bytes packets [] None
   pub answered : AreListed select options packets lines all_accepted
-  pub is_text : text ≡ lines ++ totals_of options packets
+  pub undecided : ℕ
+  pub has_undecided : HasOpen select packets undecided
+  pub is_text : text ≡ lines ++ totals_of options packets (if_selected select undecided)
 
 -- these are the packets of the bytes up to the fault, which is at this place, and this is the text for them
-pub record AnswersToFault (select : Option Expression) (count : Option ℕ) (options : LineOptions) (packets : List PacketValue)
+pub record AnswersToFault (select : Option Selection) (count : Option ℕ) (options : LineOptions) (packets : List PacketValue)
     (fault : CaptureFault) (bytes text : List ℕ) : Type 0 where
   pub front : List ℕ
   pub rest : List ℕ
@@ -50,7 +52,7 @@ pub record AnswersToFault (select : Option Expression) (count : Option ℕ) (opt
 
 -- These are the packets that come first in the bytes, whatever follows, and this is the text for them; what is left is not a whole unit, and
 -- more bytes may make it one: this holds of how many it needs at least.
-pub record AnswersToUnit (Needs : Option ℕ → Type 0) (select : Option Expression) (count : Option ℕ) (options : LineOptions)
+pub record AnswersToUnit (Needs : Option ℕ → Type 0) (select : Option Selection) (count : Option ℕ) (options : LineOptions)
     (packets : List PacketValue) (bytes text : List ℕ) : Type 0 where
   pub front : List ℕ
   pub rest : List ℕ

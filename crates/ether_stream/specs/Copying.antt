@@ -1,6 +1,6 @@
 -- The copy of a capture.
 use Rattle.std.specs.Prelude.{◌≡◌, ◌≢◌, ◌⊎◌, ℕ, ◌≤◌, List, [], ◌++◌, length, Bool, true, Option, Some, None, unwrap_or, All}
-use Rattle.ether_filter.specs.Expressions.{Expression}
+use Rattle.ether_stream.specs.declared.selection.Selection.{Selection}
 use Rattle.std.specs.Option.{option_map}
 use Rattle.ether_pcap.specs.Capture.{PacketValue, IsWithinSnap, Expectation, CaptureRefusal, Refuses, required_len, HasPackets}
 use Rattle.ether_pcap.specs.Copies.{CopyFault, NotEdited, Copies, Selected, HasPacketsTo, AreEdited}
@@ -22,7 +22,7 @@ growth_if asked = unwrap_or (option_map growth asked) 0
 -- The copy of a capture up to what is left of it. It is a capture of its own, which has exactly the packets that are chosen, each edited,
 -- unless there was a fault before anything was copied. As another capture its packets have no more bytes than its snap lengths allow, if those of
 -- the first have not. An exact copy of all that are not edited is the capture itself, up to what is left.
-pub record IsCopy (mode : ModeValue) (select : Option Expression) (asked : Option EditValue)
+pub record IsCopy (mode : ModeValue) (select : Option Selection) (asked : Option EditValue)
     (bytes copy rest : List ℕ) (fault : Option CopyFault) : Type 0 where
   pub packets : List PacketValue
   pub kept : List PacketValue
@@ -37,12 +37,12 @@ pub record IsCopy (mode : ModeValue) (select : Option Expression) (asked : Optio
   pub all : mode ≡ Exact → select ≡ None → asked ≡ None → copy ++ rest ≡ bytes
 
 -- this is the copy of the bytes to their end; no packet is refused
-pub record CopiesCapture (mode : ModeValue) (select : Option Expression) (asked : Option EditValue) (bytes copy : List ℕ) (all_accepted : Bool) : Type 0 where
+pub record CopiesCapture (mode : ModeValue) (select : Option Selection) (asked : Option EditValue) (bytes copy : List ℕ) (all_accepted : Bool) : Type 0 where
   pub is_copy : IsCopy mode select asked bytes copy [] None
   pub accepted : all_accepted ≡ true
 
 -- this is the copy of the bytes up to a fault, which is at this place
-pub record CopiesToFault (mode : ModeValue) (select : Option Expression) (count : Option ℕ) (asked : Option EditValue) (reason : CopyFault)
+pub record CopiesToFault (mode : ModeValue) (select : Option Selection) (count : Option ℕ) (asked : Option EditValue) (reason : CopyFault)
     (offset : ℕ) (bytes copy : List ℕ) : Type 0 where
   pub front : List ℕ
   pub rest : List ℕ
@@ -52,12 +52,12 @@ pub record CopiesToFault (mode : ModeValue) (select : Option Expression) (count 
   pub fewer : HasFewer select count front
 
 -- .. up to a packet that is to be edited, and can't be
-abbrev pub CopiesToPacket : ModeValue → (select : Option Expression) → (count : Option ℕ) → (asked : Option EditValue) → (offset : ℕ) → (bytes copy : List ℕ) → Type 0
+abbrev pub CopiesToPacket : ModeValue → (select : Option Selection) → (count : Option ℕ) → (asked : Option EditValue) → (offset : ℕ) → (bytes copy : List ℕ) → Type 0
 CopiesToPacket mode select count asked offset bytes copy = (p : PacketValue) × CopiesToFault mode select count asked (NotEdited p) offset bytes copy
 
 -- A copy of a capture that begins with these bytes, whole units, begins with these, and has these packets first, which are edited to those; then
 -- follows the copy of what is left, where this is expected.
-abbrev pub CopiesOn : ModeValue → (select : Option Expression) → (asked : Option EditValue) → (front copy : List ℕ)
+abbrev pub CopiesOn : ModeValue → (select : Option Selection) → (asked : Option EditValue) → (front copy : List ℕ)
     → (kept edited : List PacketValue) → Expectation → Type 0
 CopiesOn mode select asked front copy kept edited x =
     (later more : List ℕ) (others changed : List PacketValue) (rest : List ℕ) (fault : Option CopyFault)
@@ -66,7 +66,7 @@ CopiesOn mode select asked front copy kept edited x =
 
 -- This is the copy of what comes first in the bytes, whatever follows, and a capture of its own; what is left is not a whole unit, and more
 -- bytes may make it one: this holds of how many it needs at least.
-pub record CopiesToUnit (Needs : Option ℕ → Type 0) (mode : ModeValue) (select : Option Expression) (count : Option ℕ) (asked : Option EditValue)
+pub record CopiesToUnit (Needs : Option ℕ → Type 0) (mode : ModeValue) (select : Option Selection) (count : Option ℕ) (asked : Option EditValue)
     (bytes copy : List ℕ) : Type 0 where
   pub kept : List PacketValue
   pub edited : List PacketValue

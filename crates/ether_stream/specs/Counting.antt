@@ -5,7 +5,7 @@ use Rattle.ether_pcap.specs.Capture.{PacketValue}
 use Rattle.ether_pcap.specs.Copies.{Selected}
 use Rattle.ether_text.specs.declared.verdict.Verdict.{Verdict}
 use Rattle.ether_stream.specs.FrameLines.{skip_count}
-use Rattle.ether_stream.specs.Packets.{counted, IsLeftOf}
+use Rattle.ether_stream.specs.Packets.{counted, HasOpen, IsLeftOf}
 use Rattle.ether_stream.specs.Run.{HasRunOver}
 use Rattle.ether_stream.specs.Task.{TaskValue, IsChosen, packets_before}
 use Rattle.ether_stream.specs.declared.counts.PacketCounts.{PacketCounts}
@@ -20,6 +20,7 @@ pub record AreCounted (task : TaskValue) (packets : List PacketValue) (counts : 
   pub selected : Selected (IsChosen task.select) packets kept
   pub is_number : counts.number ≡ counted (packets_before task.form + length packets)
   pub is_skipped : counts.skipped ≡ counted (sum_by skip_count packets)
+  pub undecided : HasOpen task.select packets counts.undecided
   pub is_left : IsLeftOf task.count (length kept) counts.left
 
 -- of a run whose writer has not failed, and which met no packet that can't be edited

@@ -4,7 +4,7 @@ use Rattle.std.specs.Fmt.{decimal}
 use Rattle.ether_base.specs.Formats.LinuxSll.{LinuxSllValue}
 use Rattle.ether_peel.specs.Grammar.Expectation.{EtherType}
 use Rattle.ether_content.specs.Content.{ContentValue, Frame, LinuxSll, LinuxSll2, Unknown, content_of, is_cut, is_unknown}
-use Rattle.ether_filter.specs.Expressions.{Expression}
+use Rattle.ether_stream.specs.declared.selection.Selection.{Selection}
 use Rattle.ether_text.specs.Lines.{spaced, linux_sll_text}
 use Rattle.ether_text.specs.WalkText.{AnswersWalk, AnswersWalkAfter}
 use Rattle.ether_pcap.specs.Capture.{PacketValue, TimeValue}
@@ -69,18 +69,33 @@ pub record HasLines (options : LineOptions) (number : ℕ) (p : PacketValue) (te
   pub whole : text ≡ packet_line_if options.is_plain number p ++ lines
 
 -- .. if it is chosen
-abbrev pub AnswersPacket : (select : Option Expression) → (options : LineOptions) → ℕ → PacketValue → (text : List ℕ) → (accepted : Bool) → Type 0
+abbrev pub AnswersPacket : (select : Option Selection) → (options : LineOptions) → ℕ → PacketValue → (text : List ℕ) → (accepted : Bool) → Type 0
 AnswersPacket select options number p text accepted =
     (IsChosen select p × HasLines options number p text accepted) ⊎ (¬ (IsChosen select p) × (text ≡ []) × (accepted ≡ true))
 
 -- ---- the line after those of all packets
 
--- how many packets there are and how many of them were skipped, unless only the lines of walks are asked for
-abbrev pub totals_line_if : (plain : Bool) → (frames skipped : ℕ) → List ℕ
-totals_line_if true frames skipped = []
-totals_line_if false frames skipped = codes "total frames " ++ (decimal frames ++ (codes " skipped " ++ (decimal skipped ++ codes "\n")))
+-- a number after its word
+abbrev pub told : (word : List ℕ) → ℕ → List ℕ
+told word n = word ++ decimal n
+
+-- .. if there is one
+abbrev pub told_if : (word : List ℕ) → Option ℕ → List ℕ
+told_if word None = []
+told_if word (Some n) = told word n
+
+-- the number of packets that are undecided is told if packets are selected
+abbrev pub if_selected : (select : Option Selection) → ℕ → Option ℕ
+if_selected None n = None
+if_selected (Some s) n = Some n
+
+-- how many packets there are, how many of them were skipped, and how many are undecided, unless only the lines of walks are asked for
+abbrev pub totals_line_if : (plain : Bool) → (frames skipped : ℕ) → (undecided : Option ℕ) → List ℕ
+totals_line_if true frames skipped undecided = []
+totals_line_if false frames skipped undecided =
+    told (codes "total frames ") frames ++ (told (codes " skipped ") skipped ++ (told_if (codes " undecided ") undecided ++ codes "\n"))
 
 -- .. and unless the capture is one of several
-abbrev pub totals_line_after : (before : Option ℕ) → (plain : Bool) → (frames skipped : ℕ) → List ℕ
-totals_line_after None plain frames skipped = totals_line_if plain frames skipped
-totals_line_after (Some packets) plain frames skipped = []
+abbrev pub totals_line_after : (before : Option ℕ) → (plain : Bool) → (frames skipped : ℕ) → (undecided : Option ℕ) → List ℕ
+totals_line_after None plain frames skipped undecided = totals_line_if plain frames skipped undecided
+totals_line_after (Some packets) plain frames skipped undecided = []

@@ -11,3 +11,4 @@ pub mod Progress
 pub mod Tags
 pub mod Words
 pub mod Counting
+pub mod Composition

@@ -34,7 +34,7 @@ exit_status (Err Output) = 4
 exit_status (Err Memory) = 5
 
 abbrev pub usage_text : List ℕ
-usage_text = codes "usage: ether_capture [[--plain] [--limit N] | --write [--cut-to-headers | --pop-vlan | --push-vlan TPID:ID | --set-vlan A:B]] [--select EXPR] [-c N] [FILE].."
+usage_text = codes "usage: ether_capture [[--plain] [--limit N] | --write [--cut-to-headers | --pop-vlan | --push-vlan TPID:ID | --set-vlan A:B]] [--select EXPR [--undecided keep|drop]] [-c N] [FILE].."
 
 -- what is said if memory was refused
 abbrev pub memory_text : List ℕ
@@ -64,7 +64,7 @@ not_edited_text offset =
     codes "byte " ++ (decimal offset ++ (codes ": " ++ codes "This packet can't be written: its block has no number of captured bytes, or it would be too long."))
 
 abbrev pub help_text : List ℕ
-help_text = codes "usage: ether_capture [[--plain] [--limit N] | --write [--cut-to-headers | --pop-vlan | --push-vlan TPID:ID | --set-vlan A:B]] [--select EXPR] [-c N] [FILE]..\n\nPrints the link-layer headers of each packet of captures, pcap or pcapng: of each FILE, or of standard input.\n\n  --plain           leave out the lines of packets and the totals\n  --limit N         read N VLAN tags and SecTags of each packet at most\n  --select EXPR     only packets that match EXPR, as 'vlan 5 or arp'\n  -c N              end with the N-th of these packets, of all files together\n  --write           write the capture itself, of one FILE at most, without the other packets; faults go to standard error\n  --cut-to-headers  with --write, cut each packet where its link-layer headers end\n  --pop-vlan        with --write, take the VLAN tag after the link's header off each frame\n  --push-vlan TPID:ID\n                    with --write, put a VLAN tag after the link's header, as 0x8100:5\n  --set-vlan A:B    with --write, give the outermost VLAN tag with identifier A identifier B\n  -h, --help        print this text\n  -V, --version     print the version\n\nEXPR has these primitives, with not, and, or and parentheses:\n\n  vlan [ID], outer vlan ID, inner vlan ID, macsec, arp, ip, ip6\n  ether proto TYPE, ether src ADDR, ether dst ADDR, ether host ADDR\n  ether broadcast, ether multicast, less N, greater N, cut, refused\n\nEach says something of all headers of a packet: arp is true after any tags, too."
+help_text = codes "usage: ether_capture [[--plain] [--limit N] | --write [--cut-to-headers | --pop-vlan | --push-vlan TPID:ID | --set-vlan A:B]] [--select EXPR [--undecided keep|drop]] [-c N] [FILE]..\n\nPrints the link-layer headers of each packet of captures, pcap or pcapng: of each FILE, or of standard input.\n\n  --plain           leave out the lines of packets and the totals\n  --limit N         read N VLAN tags and SecTags of each packet at most\n  --select EXPR     only packets that match EXPR, as 'vlan 5 or arp'\n  --undecided keep|drop\n                    with --select, keep or drop packets that were cut too short to tell, in place of taking them as they are\n  -c N              end with the N-th of these packets, of all files together\n  --write           write the capture itself, of one FILE at most, without the other packets; faults go to standard error\n  --cut-to-headers  with --write, cut each packet where its link-layer headers end\n  --pop-vlan        with --write, take the VLAN tag after the link's header off each frame\n  --push-vlan TPID:ID\n                    with --write, put a VLAN tag after the link's header, as 0x8100:5\n  --set-vlan A:B    with --write, give the outermost VLAN tag with identifier A identifier B\n  -h, --help        print this text\n  -V, --version     print the version\n\nEXPR has these primitives, with not, and, or and parentheses:\n\n  vlan [ID], outer vlan ID, inner vlan ID, macsec, arp, ip, ip6\n  ether proto TYPE, ether src ADDR, ether dst ADDR, ether host ADDR\n  ether broadcast, ether multicast, less N, greater N, cut, refused\n\nEach says something of all headers of a packet: arp is true after any tags, too."
 
 abbrev pub version_text : List ℕ
 version_text = codes "ether_capture 3.0.0"

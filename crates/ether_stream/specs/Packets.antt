@@ -1,9 +1,9 @@
 -- The packets of a capture as far as it was read.
 use Rattle.std.specs.Prelude.{◌≡◌, ℕ, suc, ◌+◌, ◌-◌, ◌^◌, min, List, ◌++◌, length, Option, Some, None}
-use Rattle.ether_filter.specs.Expressions.{Expression}
+use Rattle.ether_stream.specs.declared.selection.Selection.{Selection}
 use Rattle.ether_pcap.specs.Capture.{PacketValue, Expectation, Beginning, CaptureRefusal, Begins, HasPackets}
 use Rattle.ether_pcap.specs.Copies.{Selected}
-use Rattle.ether_stream.specs.Task.{IsChosen, IsBelow}
+use Rattle.ether_stream.specs.Task.{IsChosen, IsBelow, IsOpen}
 
 -- a count stays at its greatest value
 abbrev pub counted : ℕ → ℕ
@@ -24,8 +24,14 @@ abbrev pub IsLeftOf : (count : Option ℕ) → ℕ → (left : Option ℕ) → T
 IsLeftOf None k left = left ≡ None
 IsLeftOf (Some n) k left = (m : ℕ) × (left ≡ Some m) × (m + k ≡ n)
 
+-- of this number of packets the captured bytes don't decide whether they are selected
+pub record HasOpen (select : Option Selection) (packets : List PacketValue) (count : ℕ) : Type 0 where
+  pub undecided : List PacketValue
+  pub selected : Selected (IsOpen select) packets undecided
+  pub is_count : count ≡ counted (length undecided)
+
 -- Of the packets of these units fewer are chosen than are asked for at most.
-pub record HasFewer (select : Option Expression) (count : Option ℕ) (front : List ℕ) : Type 0 where
+pub record HasFewer (select : Option Selection) (count : Option ℕ) (front : List ℕ) : Type 0 where
   pub packets : List PacketValue
   pub kept : List PacketValue
   pub expected : Expectation
@@ -34,7 +40,7 @@ pub record HasFewer (select : Option Expression) (count : Option ℕ) (front : L
   pub below : IsBelow count (length kept)
 
 -- The last of these units is the packet with which so many are chosen as are asked for.
-pub record EndsAtCount (select : Option Expression) (count : Option ℕ) (front : List ℕ) : Type 0 where
+pub record EndsAtCount (select : Option Selection) (count : Option ℕ) (front : List ℕ) : Type 0 where
   pub before : List ℕ
   pub unit : List ℕ
   pub packets : List PacketValue

@@ -2,7 +2,7 @@
 use Rattle.std.specs.Prelude.{◌≡◌, ◌≢◌, ◌⊎◌, ℕ, ◌+◌, ◌-◌, List, [], ◌++◌, length, take, Bool, true, Option, Some, None, IfSome, IfNone, ⊤}
 use Rattle.std.specs.List.{sum_by}
 use Rattle.std.specs.Io.KnownBytes.{Appends}
-use Rattle.ether_filter.specs.Expressions.{Expression}
+use Rattle.ether_stream.specs.declared.selection.Selection.{Selection}
 use Rattle.ether_pcap.specs.Capture.{PacketValue, Expectation, HasBegun, Begins, Refuses}
 use Rattle.ether_pcap.specs.CaptureViews.{capture_refusal_view}
 use Rattle.ether_pcap.specs.Copies.{Selected}
@@ -18,8 +18,8 @@ use Rattle.ether_stream.specs.Answering.{AreListed}
 use Rattle.ether_stream.specs.Copying.{EditsIf, CopiesOn}
 use Rattle.ether_stream.specs.declared.counts.PacketCounts.{PacketCounts}
 use Rattle.ether_stream.specs.FrameLines.{AnswersPacket, skip_count, totals_line_after}
-use Rattle.ether_stream.specs.Packets.{capture_start, counted, GoesOn, HasFewer, EndsAtCount, IsLeftOf}
-use Rattle.ether_stream.specs.Task.{TaskValue, FormValue, Lines, Copy, IsChosen, packets_before}
+use Rattle.ether_stream.specs.Packets.{capture_start, counted, GoesOn, HasFewer, HasOpen, EndsAtCount, IsLeftOf}
+use Rattle.ether_stream.specs.Task.{TaskValue, FormValue, Lines, Copy, IsChosen, IsOpen, packets_before}
 use Rattle.ether_stream.specs.declared.outcome.RunFault.{RunFault}
 use Rattle.ether_stream.specs.declared.outcome.RunFault.TheVariants as faults
 use Rattle.ether_stream.specs.declared.progress.Progress.{Progress}
@@ -28,7 +28,7 @@ use Rattle.ether_stream.specs.declared.task.LineOptions.{LineOptions}
 -- ---- what is made of the front of a capture
 
 -- this is the text for its packets, or its copy, after which this is expected
-abbrev pub Made : (select : Option Expression) → FormValue → (packets kept : List PacketValue) → (front text : List ℕ) → (all : Bool)
+abbrev pub Made : (select : Option Selection) → FormValue → (packets kept : List PacketValue) → (front text : List ℕ) → (all : Bool)
     → Expectation → Type 0
 Made select (Lines options) packets kept front text all x = AreListed select options packets text all
 Made select (Copy mode edit) packets kept front text all x =
@@ -49,6 +49,7 @@ pub record Reached {W X : Type 0} (task : TaskValue) (contents : W → Option (L
   pub is_verdict : at.verdict ≡ verdict_of all_accepted
   pub is_count : at.count ≡ counted (packets_before task.form + length packets)
   pub is_skipped : at.skipped ≡ counted (sum_by skip_count packets)
+  pub undecided : HasOpen task.select packets at.undecided
   pub is_offset : at.offset ≡ counted (length front)
   pub is_left : IsLeftOf task.count (length kept) at.left
   pub at_count : at.left ≡ Some 0 → HasBegun at.reader × EndsAtCount task.select task.count front
@@ -59,6 +60,7 @@ pub record IsStart {X : Type 0} (task : TaskValue) (at : Progress X) : Type 0 wh
   pub is_reader : at.reader ≡ capture_start
   pub is_count : at.count ≡ counted (packets_before task.form)
   pub is_skipped : at.skipped ≡ 0
+  pub is_undecided : at.undecided ≡ 0
   pub is_offset : at.offset ≡ 0
   pub is_verdict : at.verdict ≡ AllAccepted
   pub is_left : at.left ≡ task.count
@@ -66,7 +68,7 @@ pub record IsStart {X : Type 0} (task : TaskValue) (at : Progress X) : Type 0 wh
 
 -- how many packets were read
 abbrev pub counts_at : {X : Type 0} → Progress X → PacketCounts
-counts_at at = record { number = at.count; skipped = at.skipped; left = at.left }
+counts_at at = record { number = at.count; skipped = at.skipped; undecided = at.undecided; left = at.left }
 
 -- ---- one unit
 
@@ -76,14 +78,14 @@ IsUnitOf x unit None = (before : Expectation) × Begins unit before (length unit
 IsUnitOf x unit (Some p) = Begins unit x (length unit) (Some p) x
 
 -- the lines of a packet of this number, if there is a packet
-abbrev pub Answers : (select : Option Expression) → (options : LineOptions) → (number : ℕ) → Option PacketValue → (accepted : Bool) → Option (List ℕ)
+abbrev pub Answers : (select : Option Selection) → (options : LineOptions) → (number : ℕ) → Option PacketValue → (accepted : Bool) → Option (List ℕ)
     → Type 0
 Answers select options number None accepted text = (text ≡ Some []) × (accepted ≡ true)
 Answers select options number (Some p) accepted text =
     (lines : List ℕ) × AnswersPacket select options number p lines accepted × (text ≡ Some lines)
 
 -- The copy of a unit, by its packet if it has one: nothing if that is not chosen, none if it is to be edited and can't be.
-pub data Writes (mode : ModeValue) (select : Option Expression) (edit : Option EditValue) (x : Expectation) (unit : List ℕ)
+pub data Writes (mode : ModeValue) (select : Option Selection) (edit : Option EditValue) (x : Expectation) (unit : List ℕ)
     : Option PacketValue → Option (List ℕ) → Type 0 where
   writes_unit : Writes mode select edit x unit None (Some (other_unit mode x unit))
   writes_nothing : (p : PacketValue) → ¬ (IsChosen select p) → Writes mode select edit x unit (Some p) (Some [])
@@ -91,7 +93,7 @@ pub data Writes (mode : ModeValue) (select : Option Expression) (edit : Option E
       → unit_after mode x p o unit ≡ text → Writes mode select edit x unit (Some p) text
 
 -- the text that is made of a unit, or none
-abbrev pub Makes : (select : Option Expression) → FormValue → Expectation → (number : ℕ) → (unit : List ℕ) → Option PacketValue
+abbrev pub Makes : (select : Option Selection) → FormValue → Expectation → (number : ℕ) → (unit : List ℕ) → Option PacketValue
     → (accepted : Bool) → Option (List ℕ) → Type 0
 Makes select (Lines options) x number unit packet accepted text = Answers select options number packet accepted text
 Makes select (Copy mode edit) x number unit packet accepted text = Writes mode select edit x unit packet text × (accepted ≡ true)
@@ -102,15 +104,21 @@ other_text (Lines options) x unit = []
 other_text (Copy mode edit) x unit = other_unit mode x unit
 
 -- one packet less is left if this one is chosen
-abbrev pub LeavesLess : (select : Option Expression) → PacketValue → (old new : Option ℕ) → Type 0
+abbrev pub LeavesLess : (select : Option Selection) → PacketValue → (old new : Option ℕ) → Type 0
 LeavesLess select p None new = new ≡ None
 LeavesLess select p (Some m) new = (IsChosen select p × (new ≡ Some (m - 1))) ⊎ (¬ (IsChosen select p) × (new ≡ Some m))
 
+-- .. and one more is undecided if this one is
+abbrev pub CountsOpen : (select : Option Selection) → PacketValue → (old new : ℕ) → Type 0
+CountsOpen select p old new = (IsOpen select p × (new ≡ counted (old + 1))) ⊎ (¬ (IsOpen select p) × (new ≡ old))
+
 -- a unit is counted, if it has a packet
-abbrev pub Counts : {X : Type 0} → (select : Option Expression) → Option PacketValue → (old new : Progress X) → Type 0
-Counts select None old new = (new.count ≡ old.count) × (new.skipped ≡ old.skipped) × (new.left ≡ old.left)
+abbrev pub Counts : {X : Type 0} → (select : Option Selection) → Option PacketValue → (old new : Progress X) → Type 0
+Counts select None old new =
+    (new.count ≡ old.count) × (new.skipped ≡ old.skipped) × (new.undecided ≡ old.undecided) × (new.left ≡ old.left)
 Counts select (Some p) old new =
-    (new.count ≡ counted (old.count + 1)) × (new.skipped ≡ counted (old.skipped + skip_count p)) × LeavesLess select p old.left new.left
+    (new.count ≡ counted (old.count + 1)) × (new.skipped ≡ counted (old.skipped + skip_count p))
+    × CountsOpen select p old.undecided new.undecided × LeavesLess select p old.left new.left
 
 -- a unit is taken, and this is written for it
 pub record TakesUnit {W X : Type 0} (task : TaskValue) (contents : W → Option (List ℕ)) (unit : List ℕ) (packet : Option PacketValue)
@@ -133,7 +141,7 @@ pub record StopsUnwritten {W X : Type 0} (task : TaskValue) (unit : List ℕ) (p
   pub same_out : to ≡ from
 
 -- this is appended for a unit
-pub record MakesText {W : Type 0} (select : Option Expression) (form : FormValue) (x : Expectation) (number : ℕ) (unit : List ℕ)
+pub record MakesText {W : Type 0} (select : Option Selection) (form : FormValue) (x : Expectation) (number : ℕ) (unit : List ℕ)
     (packet : Option PacketValue) (contents : W → Option (List ℕ)) (can_fail : Type 0) (from : OutputBuffer W) (accepted : Bool)
     (to : OutputBuffer W) : Type 0 where
   pub text : List ℕ
@@ -183,7 +191,7 @@ IsTakingFault faults.Output = ⊤
 IsTakingFault _ = ⊥
 
 -- Of the input the units before a packet are taken that is to be edited and can't be; it is at this place.
-pub record Unedited {W : Type 0} (mode : ModeValue) (select : Option Expression) (count : Option ℕ) (edit : Option EditValue) (contents : W → Option (List ℕ))
+pub record Unedited {W : Type 0} (mode : ModeValue) (select : Option Selection) (count : Option ℕ) (edit : Option EditValue) (contents : W → Option (List ℕ))
     (held : Option (List ℕ)) (input : List ℕ) (offset : ℕ) (out : OutputBuffer W) : Type 0 where
   pub front : List ℕ
   pub copy : List ℕ
@@ -205,7 +213,7 @@ pub record Unedited {W : Type 0} (mode : ModeValue) (select : Option Expression)
   pub written : Appends held (contents_of contents out) copy
 
 -- .. if a copy is made
-abbrev pub UneditedIn : {W : Type 0} → (select : Option Expression) → (count : Option ℕ) → FormValue → (contents : W → Option (List ℕ)) → (held : Option (List ℕ))
+abbrev pub UneditedIn : {W : Type 0} → (select : Option Selection) → (count : Option ℕ) → FormValue → (contents : W → Option (List ℕ)) → (held : Option (List ℕ))
     → (input : List ℕ) → (offset : ℕ) → (out : OutputBuffer W) → Type 0
 UneditedIn select count (Lines options) contents held input offset out = ⊥
 UneditedIn select count (Copy mode edit) contents held input offset out = Unedited mode select count edit contents held input offset out
@@ -228,6 +236,6 @@ pub record TakesUnits {W X : Type 0} (task : TaskValue) (contents : W → Option
 -- ---- the end
 
 -- what is written after all units
-abbrev pub last_lines : FormValue → (count skipped : ℕ) → List ℕ
-last_lines (Lines options) count skipped = totals_line_after options.before options.is_plain count skipped
-last_lines (Copy mode edit) count skipped = []
+abbrev pub last_lines : FormValue → (count skipped : ℕ) → (undecided : Option ℕ) → List ℕ
+last_lines (Lines options) count skipped undecided = totals_line_after options.before options.is_plain count skipped undecided
+last_lines (Copy mode edit) count skipped undecided = []

@@ -1,7 +1,7 @@
 -- What a run has read and written.
 use Rattle.std.specs.Prelude.{◌≡◌, ◌≢◌, ◌⊎◌, ℕ, ◌<◌, List, ◌++◌, Bool, Option, Some, None, Result, Ok, Err, ⊤}
 use Rattle.std.specs.Io.KnownBytes.{Appends}
-use Rattle.ether_filter.specs.Expressions.{Expression}
+use Rattle.ether_stream.specs.declared.selection.Selection.{Selection}
 use Rattle.ether_pcap.specs.Capture.{PacketValue}
 use Rattle.ether_pcap.specs.CaptureViews.{capture_refusal_view}
 use Rattle.ether_pcap.specs.Copies.{Refused}
@@ -18,7 +18,7 @@ use Rattle.ether_stream.specs.declared.outcome.RunFault.{RunFault}
 use Rattle.ether_stream.specs.declared.outcome.RunFault.TheVariants.{Capture, NotEdited, Input, Output, Memory}
 
 -- this is made of a whole capture with these packets, and all says that each is accepted
-abbrev pub Completes : (select : Option Expression) → FormValue → List PacketValue → (bytes text : List ℕ) → (all : Bool) → Type 0
+abbrev pub Completes : (select : Option Selection) → FormValue → List PacketValue → (bytes text : List ℕ) → (all : Bool) → Type 0
 Completes select (Lines options) packets bytes text all = AnswersCapture select options packets bytes text all
 Completes select (Copy mode edit) packets bytes text all = CopiesCapture mode select edit bytes text all
 
@@ -38,19 +38,19 @@ pub record ReachesCount (task : TaskValue) (packets : List PacketValue) (verdict
   pub is_verdict : verdict ≡ verdict_of all_accepted
 
 -- this is made of a capture up to a fault
-abbrev pub StopsAtFault : (select : Option Expression) → (count : Option ℕ) → FormValue → List PacketValue → CaptureFault → (bytes text : List ℕ)
+abbrev pub StopsAtFault : (select : Option Selection) → (count : Option ℕ) → FormValue → List PacketValue → CaptureFault → (bytes text : List ℕ)
     → Type 0
 StopsAtFault select count (Lines options) packets fault bytes text = AnswersToFault select count options packets fault bytes text
 StopsAtFault select count (Copy mode edit) packets fault bytes text =
     CopiesToFault mode select count edit (Refused (capture_refusal_view fault.error)) fault.offset bytes text
 
 -- .. up to a packet at this place that is to be edited, and can't be
-abbrev pub StopsAtPacket : (select : Option Expression) → (count : Option ℕ) → FormValue → (offset : ℕ) → (bytes text : List ℕ) → Type 0
+abbrev pub StopsAtPacket : (select : Option Selection) → (count : Option ℕ) → FormValue → (offset : ℕ) → (bytes text : List ℕ) → Type 0
 StopsAtPacket select count (Lines options) offset bytes text = ⊥
 StopsAtPacket select count (Copy mode edit) offset bytes text = CopiesToPacket mode select count edit offset bytes text
 
 -- .. up to bytes that are not a whole unit; this holds of how many it needs at least
-abbrev pub EndsInUnit : (Needs : Option ℕ → Type 0) → (select : Option Expression) → (count : Option ℕ) → FormValue → List PacketValue
+abbrev pub EndsInUnit : (Needs : Option ℕ → Type 0) → (select : Option Selection) → (count : Option ℕ) → FormValue → List PacketValue
     → (bytes text : List ℕ) → Type 0
 EndsInUnit Needs select count (Lines options) packets bytes text = AnswersToUnit Needs select count options packets bytes text
 EndsInUnit Needs select count (Copy mode edit) packets bytes text = CopiesToUnit Needs mode select count edit bytes text

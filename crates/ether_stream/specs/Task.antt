@@ -1,13 +1,15 @@
 -- What is made of a capture.
-use Rattle.std.specs.Prelude.{◌<◌, ℕ, Bool, true, false, Option, None, Some, unwrap_or, ⊤}
+use Rattle.std.specs.Prelude.{◌<◌, ◌⊎◌, ◌&&◌, ◌||◌, not, ℕ, Bool, true, false, Option, None, Some, unwrap_or, ⊤}
 use Rattle.std.specs.Int.NonZero.{non_zero_usize_get}
 use Rattle.std.specs.Option.{option_map}
-use Rattle.ether_filter.specs.Expressions.{Expression}
+use Rattle.ether_stream.specs.declared.selection.Selection.{Selection}
+use Rattle.ether_stream.specs.declared.selection.Undecided.{Undecided}
 use Rattle.ether_pcap.specs.Capture.{PacketValue}
 use Rattle.ether_pcap.specs.CopiedUnits.{ModeValue, copy_mode_view}
 use Rattle.ether_content.specs.Editing.{EditValue}
 use Rattle.ether_content.specs.EditingViews.{edit_view}
-use Rattle.ether_content.specs.Selecting.{Selects}
+use Rattle.ether_content.specs.Selecting.{IsUndecided, Selects}
+use Rattle.ether_stream.specs.declared.selection.Undecided.TheVariants.{Dropped, Kept}
 use Rattle.ether_stream.specs.declared.task.Form.{Form}
 use Rattle.ether_stream.specs.declared.task.Form.TheVariants as forms
 use Rattle.ether_stream.specs.declared.task.LineOptions.{LineOptions}
@@ -18,9 +20,9 @@ pub data FormValue : Type 0 where
   Lines : (options : LineOptions) → FormValue
   Copy : (mode : ModeValue) → (edit : Option EditValue) → FormValue
 
--- .. of the packets that an expression selects, or of all, and of so many of them at most
+-- .. of the packets that are selected, or of all, and of this number of them at most
 pub record TaskValue : Type 0 where
-  pub select : Option Expression
+  pub select : Option Selection
   pub count : Option ℕ
   pub form : FormValue
 
@@ -29,7 +31,7 @@ form_view (forms.Lines options) = Lines options
 form_view (forms.Copy mode edit) = Copy (copy_mode_view mode) (option_map edit_view edit)
 
 abbrev pub task_view : Task → TaskValue
-task_view task = record { select = task.filter; count = option_map non_zero_usize_get task.count; form = form_view task.form }
+task_view task = record { select = task.selection; count = option_map non_zero_usize_get task.count; form = form_view task.form }
 
 -- how many packets were in captures before this one
 abbrev pub packets_before : FormValue → ℕ
@@ -40,10 +42,26 @@ abbrev pub is_copy : FormValue → Bool
 is_copy (Lines options) = false
 is_copy (Copy mode edit) = true
 
--- the packets that are chosen: those that an expression selects, or all
-abbrev pub IsChosen : (select : Option Expression) → PacketValue → Type 0
+-- the captured bytes of a packet don't decide whether it is selected
+abbrev pub IsOpen : (select : Option Selection) → PacketValue → Type 0
+IsOpen None p = ⊥
+IsOpen (Some s) p = IsUndecided s.filter p
+
+-- these are chosen of those that an expression selects: all, by the captured bytes; those that are undecided, too; or without these
+abbrev pub IsChosenOf : (undecided : Option Undecided) → (is_selected is_undecided : Type 0) → Type 0
+IsChosenOf None is_selected is_undecided = is_selected
+IsChosenOf (Some Kept) is_selected is_undecided = is_selected ⊎ is_undecided
+IsChosenOf (Some Dropped) is_selected is_undecided = is_selected × ¬ is_undecided
+
+-- the packets that are chosen, or all
+abbrev pub IsChosen : (select : Option Selection) → PacketValue → Type 0
 IsChosen None p = ⊤
-IsChosen (Some x) p = Selects x p
+IsChosen (Some s) p = IsChosenOf s.undecided (Selects s.filter p) (IsUndecided s.filter p)
+
+-- .. by truths
+abbrev pub chosen_by : Undecided → (is_selected is_undecided : Bool) → Bool
+chosen_by Kept is_selected is_undecided = is_selected || is_undecided
+chosen_by Dropped is_selected is_undecided = is_selected && not is_undecided
 
 -- this is less than the number of packets that is asked for at most
 abbrev pub IsBelow : (count : Option ℕ) → ℕ → Type 0

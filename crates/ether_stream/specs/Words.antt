@@ -7,6 +7,8 @@ use Rattle.ether_filter.specs.Refusals.{RefusesText}
 use Rattle.ether_filter.specs.declared.filter_error.FilterError.{FilterError}
 use Rattle.ether_content.specs.Editing.{EditValue, CutToHeaders, PopVlan}
 use Rattle.ether_stream.specs.Tags.{IsTagEdit}
+use Rattle.ether_stream.specs.declared.selection.Undecided.{Undecided}
+use Rattle.ether_stream.specs.declared.selection.Undecided.TheVariants.{Dropped, Kept}
 
 -- a text that may be missing means this
 abbrev pub IsIfAny : {A : Type 0} → (List ℕ → A → Type 0) → Option (List ℕ) → Option A → Type 0
@@ -21,6 +23,11 @@ IsCount text n = (number_in text ≡ Some (Some n)) × (0 < n)
 -- a number of headers, written alike, which may be 0
 abbrev pub IsLimit : List ℕ → ℕ → Type 0
 IsLimit text n = number_in text ≡ Some (Some n)
+
+-- what becomes of packets that are undecided
+abbrev pub MeansUndecided : List ℕ → Undecided → Type 0
+MeansUndecided text Kept = text ≡ codes "keep"
+MeansUndecided text Dropped = text ≡ codes "drop"
 
 -- one edit at most
 abbrev pub IsOneEdit : (cuts pops : Bool) → (push set : Option (List ℕ)) → Option EditValue → Type 0

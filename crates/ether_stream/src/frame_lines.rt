@@ -5,7 +5,7 @@ ghost use Rattle.ether_pcap.specs.CaptureViews.{captured_packet_view, timestamp_
 ghost use Rattle.ether_content.specs.Content.{content_of};
 ghost use Rattle.ether_content.specs.ContentViews.{content_view};
 ghost use Rattle.ether_text.specs.OutputBuffer.{Takes, TakesAnswer};
-ghost use Rattle.ether_stream.specs.FrameLines.{is_skipped, nine_digits, time_text, mark, packet_line_if, HasLines, totals_line_if, totals_line_after};
+ghost use Rattle.ether_stream.specs.FrameLines.{is_skipped, nine_digits, time_text, mark, packet_line_if, HasLines, told, told_if, totals_line_if, totals_line_after};
 ghost use Rattle.ether_stream.specs.Packets.{counted};
 
 use crate::LineOptions;
@@ -56,33 +56,52 @@ pub fn write_totals_of<W: Sink>(
     options: LineOptions,
     frames: usize,
     skipped: usize,
+    undecided: Option<usize>,
     out: &mut OutputBuffer<'_, W>,
 )
-    ensures { Takes W.contents W.can_fail out.old (totals_line_after options.before options.is_plain frames skipped) out.new }
+    ensures { Takes W.contents W.can_fail out.old (totals_line_after options.before options.is_plain frames skipped undecided) out.new }
 {
     match options.before {
-        None => write_totals(options.is_plain, frames, skipped, out),
+        None => write_totals(options.is_plain, frames, skipped, undecided, out),
         Some(_) => {}
     }
 }
 
-/// Writes the line after those of all packets, unless `is_plain`: how many packets there are, and how many of them were skipped.
+/// Writes the line after those of all packets, unless `is_plain`: how many packets there are, how many of them were skipped, and how many
+/// are undecided, if that is asked for.
 pub fn write_totals<W: Sink>(
     is_plain: bool,
     frames: usize,
     skipped: usize,
+    undecided: Option<usize>,
     out: &mut OutputBuffer<'_, W>,
 )
-    ensures { Takes W.contents W.can_fail out.old (totals_line_if is_plain frames skipped) out.new }
+    ensures { Takes W.contents W.can_fail out.old (totals_line_if is_plain frames skipped undecided) out.new }
 {
     if is_plain {
         return;
     }
-    out.append(b"total frames ");
-    write_decimal(out, frames);
-    out.append(b" skipped ");
-    write_decimal(out, skipped);
+    write_told(b"total frames ", frames, out);
+    write_told(b" skipped ", skipped, out);
+    write_undecided(undecided, out);
     out.append(b"\n");
+}
+
+/// Writes how many packets are undecided, if that is asked for.
+fn write_undecided<W: Sink>(undecided: Option<usize>, out: &mut OutputBuffer<'_, W>)
+    ensures { Takes W.contents W.can_fail out.old (told_if (codes " undecided ") undecided) out.new }
+{
+    if let Some(undecided) = undecided {
+        write_told(b" undecided ", undecided, out);
+    }
+}
+
+/// Writes a number after its word.
+fn write_told<W: Sink>(word: &[u8], number: usize, out: &mut OutputBuffer<'_, W>)
+    ensures { Takes W.contents W.can_fail out.old (told word.now number) out.new }
+{
+    out.append(word);
+    write_decimal(out, number);
 }
 
 /// Whether the packet has no lines of a walk.

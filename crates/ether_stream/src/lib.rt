@@ -11,6 +11,7 @@ mod counts;
 mod edit_buffer;
 mod frame_lines;
 mod input_buffer;
+pub mod laws;
 mod line_sink;
 mod linux_sll2_lines;
 mod linux_sll_lines;
@@ -21,6 +22,7 @@ mod outcome;
 mod progress;
 pub mod run;
 mod section_table;
+mod selection;
 mod tags;
 mod task;
 mod words;
@@ -39,5 +41,6 @@ pub use outcome::{
     line_of_file, program_status, status_of, status_of_file,
 };
 pub use section_table::{MAX_INTERFACES, SectionTable};
+pub use selection::{Selection, Undecided};
 pub use task::{Form, LineOptions, Task};
-pub use words::{Usage, count_of, edit_of_words, filter_of, limit_of};
+pub use words::{Usage, count_of, edit_of_words, filter_of, limit_of, undecided_of};

@@ -6,7 +6,7 @@ ghost use Rattle.ether_pcap.specs.Capture.{HasBegun};
 ghost use Rattle.ether_pcap.specs.CaptureViews.{captured_packet_view};
 ghost use Rattle.ether_text.specs.OutputBuffer.{contents_of, Marks, Takes};
 ghost use Rattle.ether_text.specs.Verdict.{verdict_with};
-ghost use Rattle.ether_stream.specs.FrameLines.{skip_count};
+ghost use Rattle.ether_stream.specs.FrameLines.{if_selected, skip_count};
 ghost use Rattle.ether_stream.specs.Packets.{counted};
 ghost use Rattle.ether_stream.specs.Progress.{Counts, counts_at, IsStart, IsTakingFault, IsUnitOf, last_lines, Makes, MakesText, OnNotEdited, OnOutput, other_text, StopsAfter, StopsUnwritten, TakesUnit, TakesUnits};
 ghost use Rattle.ether_stream.specs.Task.{form_view, task_view};
@@ -23,6 +23,7 @@ pub struct Progress<T: InterfaceTable> {
     reader: CaptureReader<T>,
     count: usize,
     skipped: usize,
+    undecided: usize,
     offset: usize,
     left: Option<usize>,
     verdict: Verdict,
@@ -37,6 +38,7 @@ impl<T: SectionTable> Progress<T> {
             reader: CaptureReader::new(interfaces),
             count: task.packets_before(),
             skipped: 0,
+            undecided: 0,
             offset: 0,
             left: task.asked_for(),
             verdict: Verdict::AllAccepted,
@@ -52,6 +54,7 @@ impl<T: InterfaceTable> Progress<T> {
         PacketCounts {
             number: self.count,
             skipped: self.skipped,
+            undecided: self.undecided,
             left: self.left,
         }
     }
@@ -147,10 +150,10 @@ impl<T: InterfaceTable> Progress<T> {
         out: &mut OutputBuffer<'_, W>,
     ) -> Option<bool>
         requires { IsUnitOf self.now.reader unit.now (option_map captured_packet_view packet.now) }
-        ensures some { IfSome result (λ accepted. MakesText task.now.filter (form_view task.now.form) self.now.reader
+        ensures some { IfSome result (λ accepted. MakesText task.now.selection (form_view task.now.form) self.now.reader
             (counted (self.now.count + 1)) unit.now (option_map captured_packet_view packet.now)
             W.contents W.can_fail out.old accepted out.new) }
-        ensures none { IfNone result (Makes task.now.filter (form_view task.now.form) self.now.reader
+        ensures none { IfNone result (Makes task.now.selection (form_view task.now.form) self.now.reader
             (counted (self.now.count + 1)) unit.now (option_map captured_packet_view packet.now) true None) }
         ensures same_out { IfNone result (out.new ≡ out.old) }
     {
@@ -187,7 +190,7 @@ impl<T: InterfaceTable> Progress<T> {
     /// Counts the packet of a unit, if it has one.
     #[inline(always)]
     fn count_packet(&mut self, task: &Task, packet: &Option<CapturedPacket<'_>>)
-        ensures counts { Counts task.now.filter (option_map captured_packet_view packet.now) self.old self.new }
+        ensures counts { Counts task.now.selection (option_map captured_packet_view packet.now) self.old self.new }
         ensures same_reader { self.new.reader ≡ self.old.reader }
         ensures same_offset { self.new.offset ≡ self.old.offset }
         ensures same_verdict { self.new.verdict ≡ self.old.verdict }
@@ -197,6 +200,9 @@ impl<T: InterfaceTable> Progress<T> {
         };
         self.count = self.count.saturating_add(1);
         self.skipped = skipped_after(self.skipped, packet);
+        if task.leaves_open(packet) {
+            self.undecided = self.undecided.saturating_add(1);
+        }
         if let Some(left) = self.left {
             if task.chooses(packet) {
                 self.left = Some(left.saturating_sub(1));
@@ -225,19 +231,21 @@ impl<T: InterfaceTable> Progress<T> {
     /// Ends the run at the end of the capture: writes the line after those of all packets, if there is to be one, and returns the verdict.
     pub fn finish<W: Sink>(
         &self,
-        form: Form,
+        task: &Task,
         out: &mut OutputBuffer<'_, W>,
     ) -> Result<Verdict, RunFault>
         ensures same_writer { out.new.writer.ghost_name ≡ out.old.writer.ghost_name }
         ensures ok { IfOk result (λ verdict. verdict ≡ self.now.verdict) }
         ensures written { OnOk result (Appends (contents_of W.contents out.old) (contents_of W.contents out.new)
-            (last_lines (form_view form) self.now.count self.now.skipped)) }
+            (last_lines (form_view task.now.form) self.now.count self.now.skipped
+            (if_selected task.now.selection self.now.undecided))) }
         ensures fault { IfErr result (λ fault. fault ≡ RunFault.Output) }
         ensures failed { IfErr result (λ fault. out.new.has_failed ≡ true) }
         ensures marks { Marks W.can_fail out.old out.new }
     {
-        if let Form::Lines(options) = form {
-            write_totals_of(options, self.count, self.skipped, out);
+        if let Form::Lines(options) = task.form {
+            let undecided = task.if_selected(self.undecided);
+            write_totals_of(options, self.count, self.skipped, undecided, out);
         }
         out.check()?;
         Ok(self.verdict)

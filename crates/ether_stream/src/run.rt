@@ -137,7 +137,7 @@ fn read_capture<B: Grow, T: InterfaceTable, R: Source, W: Sink>(
     buffer.clear();
     loop {
         let Some(error) = buffer.take_units(progress, task, &mut edits, out)? else {
-            return progress.finish(task.form, out);
+            return progress.finish(task, out);
         };
         let Some(required_len) = error.required_len() else {
             return Err(progress.fault(error));
@@ -146,7 +146,7 @@ fn read_capture<B: Grow, T: InterfaceTable, R: Source, W: Sink>(
         buffer.make_room(required_len)?;
         if buffer.read(input, out)? == 0 {
             if is_over(progress, &buffer) {
-                return progress.finish(task.form, out);
+                return progress.finish(task, out);
             }
             return Err(progress.fault(error));
         }

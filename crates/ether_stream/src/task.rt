@@ -1,18 +1,19 @@
 //! What is made of a capture.
 ghost use Rattle.std.specs.Prelude.{◌≡◌, ◌↔◌, IsTrue, Some};
 ghost use Rattle.ether_pcap.specs.CaptureViews.{captured_packet_view};
-ghost use Rattle.ether_stream.specs.Task.{is_copy, packets_before, task_view, IsChosen};
+ghost use Rattle.ether_stream.specs.FrameLines.{if_selected};
+ghost use Rattle.ether_stream.specs.Task.{is_copy, packets_before, task_view, IsChosen, IsOpen};
 
-use ether_content::{PacketEdit, selects};
-use ether_filter::Filter;
+use crate::selection::Selection;
+use ether_content::PacketEdit;
 use ether_pcap::{CapturedPacket, CopyMode};
 use std::num::NonZeroUsize;
 
 /// What is made of a capture, and for which packets.
 #[derive(Debug, Drop)]
 pub struct Task {
-    /// Which packets are chosen; all of them without a filter.
-    pub filter: Option<Filter>,
+    /// Which packets are chosen; all of them without a selection.
+    pub selection: Option<Selection>,
     /// After how many of these the run ends; at the end of the capture without a number.
     pub count: Option<NonZeroUsize>,
     /// What is made of them.
@@ -63,9 +64,30 @@ impl Task {
     pub fn chooses(&self, packet: &CapturedPacket<'_>) -> bool
         ensures { IsTrue result ↔ IsChosen (task_view self.now).select (captured_packet_view packet.now) }
     {
-        match &self.filter {
-            Some(filter) => selects(filter, packet),
+        match &self.selection {
+            Some(selection) => selection.chooses(packet),
             None => true,
+        }
+    }
+
+    /// Tests that the captured bytes of a packet don't decide whether it is selected.
+    #[inline(always)]
+    pub fn leaves_open(&self, packet: &CapturedPacket<'_>) -> bool
+        ensures { IsTrue result ↔ IsOpen (task_view self.now).select (captured_packet_view packet.now) }
+    {
+        match &self.selection {
+            Some(selection) => selection.leaves_open(packet),
+            None => false,
+        }
+    }
+
+    /// The number, if packets are selected.
+    pub fn if_selected(&self, number: usize) -> Option<usize>
+        ensures { result ≡ if_selected (task_view self.now).select number }
+    {
+        match &self.selection {
+            Some(_) => Some(number),
+            None => None,
         }
     }
 

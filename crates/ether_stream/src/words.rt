@@ -4,9 +4,11 @@ ghost use Rattle.std.specs.Int.NonZero.{non_zero_usize_get};
 ghost use Rattle.std.specs.Option.{option_map};
 ghost use Rattle.ether_content.specs.Editing.{EditValue};
 ghost use Rattle.ether_content.specs.EditingViews.{edit_view};
+ghost use Rattle.ether_stream.specs.declared.selection.Undecided.{Undecided as UndecidedValue};
 ghost use Rattle.ether_stream.specs.Tags.{IsTagEdit, tag_word};
-ghost use Rattle.ether_stream.specs.Words.{IsCount, IsIfAny, IsLimit, IsOneEdit, IsSelection, RefusesSelection};
+ghost use Rattle.ether_stream.specs.Words.{IsCount, IsIfAny, IsLimit, IsOneEdit, IsSelection, MeansUndecided, RefusesSelection};
 
+use crate::selection::Undecided;
 use crate::tags::{TagEdit, small_number, tag_edit_of};
 use ether_content::PacketEdit;
 use ether_filter::{Filter, FilterError};
@@ -77,6 +79,19 @@ pub fn limit_of(text: Option<&str>) -> Result<Option<usize>, Usage>
     match small_number(text.as_bytes()) {
         Some(number) => Ok(Some(number as usize)),
         None => Err(Usage),
+    }
+}
+
+/// What becomes of packets that are undecided, as a text says it, if there is one: `keep` or `drop`.
+pub fn undecided_of(text: Option<&str>) -> Result<Option<Undecided>, Usage>
+    ensures ok { IfOk result (IsIfAny MeansUndecided (option_map (λ s. s.now) text.entry)) }
+    ensures err { OnErr result ((u : Option UndecidedValue) → ¬ (IsIfAny MeansUndecided (option_map (λ s. s.now) text.entry) u)) }
+{
+    match text {
+        None => Ok(None),
+        Some("keep") => Ok(Some(Undecided::Kept)),
+        Some("drop") => Ok(Some(Undecided::Dropped)),
+        Some(_) => Err(Usage),
     }
 }
 

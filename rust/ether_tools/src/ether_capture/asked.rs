@@ -3,7 +3,7 @@
 use etherpeel::ether_content::PacketEdit;
 use etherpeel::ether_filter::{Filter, FilterError};
 use etherpeel::ether_pcap::CopyMode;
-use crate::ether_stream::{Form, LineOptions, Task, Usage, filter_of};
+use crate::ether_stream::{Form, LineOptions, Selection, Task, Undecided, Usage, filter_of};
 use std::num::NonZeroUsize;
 
 /// Why the arguments ask for nothing.
@@ -44,8 +44,8 @@ pub enum Request<'a> {
 /// Which lines of several captures.
 #[derive(Debug)]
 pub struct Listing<'a> {
-    /// Which packets are chosen; all of them without a filter.
-    pub filter: Option<Filter>,
+    /// Which packets are chosen; all of them without a selection.
+    pub selection: Option<Selection>,
     /// After how many of these the run ends; at the end of the last capture without a number.
     pub count: Option<NonZeroUsize>,
     /// Which lines a packet has.
@@ -60,6 +60,7 @@ pub(crate) struct Asked<'a> {
     pub(crate) is_copy: bool,
     pub(crate) edit: Option<PacketEdit>,
     pub(crate) text: Option<&'a str>,
+    pub(crate) undecided: Option<Undecided>,
     pub(crate) count: Option<NonZeroUsize>,
     pub(crate) limit: Option<usize>,
     pub(crate) files: Vec<&'a str>,
@@ -73,6 +74,9 @@ impl<'a> Asked<'a> {
 
     /// Tests that there is an option that does not go with the others.
     fn clashes(&self) -> bool {
+        if self.undecided.is_some() && self.text.is_none() {
+            return true;
+        }
         if self.is_copy {
             self.is_plain || self.limit.is_some() || self.has_several()
         } else {
@@ -87,7 +91,7 @@ impl<'a> Asked<'a> {
         }
         match filter_of(self.text) {
             Ok(filter) if self.has_several() => Ok(Request::List(Listing {
-                filter,
+                selection: self.selection(filter),
                 count: self.count,
                 options: self.options(),
                 files: self.files,
@@ -95,7 +99,7 @@ impl<'a> Asked<'a> {
             Ok(filter) => {
                 let form = self.form();
                 let task = Task {
-                    filter,
+                    selection: self.selection(filter),
                     count: self.count,
                     form,
                 };
@@ -105,6 +109,17 @@ impl<'a> Asked<'a> {
                 is_copy: self.is_copy,
                 error,
             }),
+        }
+    }
+
+    /// Which packets a filter selects, if there is one.
+    fn selection(&self, filter: Option<Filter>) -> Option<Selection> {
+        match filter {
+            Some(filter) => Some(Selection {
+                filter,
+                undecided: self.undecided,
+            }),
+            None => None,
         }
     }
 

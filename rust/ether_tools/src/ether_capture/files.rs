@@ -18,6 +18,8 @@ pub struct Tally {
     pub packets: usize,
     /// How many of these were skipped.
     pub skipped: usize,
+    /// Of how many of these the captured bytes don't decide whether they are selected.
+    pub undecided: usize,
     /// How many packets more are asked for, if their number is limited.
     pub left: Option<usize>,
     /// The greatest exit status of a capture.
@@ -30,6 +32,7 @@ impl Tally {
         Tally {
             packets: 0,
             skipped: 0,
+            undecided: 0,
             left: asked_for,
             status: 0,
         }
@@ -40,6 +43,7 @@ impl Tally {
         Tally {
             packets: counts.number,
             skipped: self.skipped.saturating_add(counts.skipped),
+            undecided: self.undecided.saturating_add(counts.undecided),
             left: counts.left,
             status: self.status.max(status_of_file(end)),
         }
@@ -78,8 +82,10 @@ pub fn run_files<C: Captures, W: LineSink>(
     writer: &mut W,
 ) -> Result<u8, OutputFault> {
     let is_plain = listing.options.is_plain;
+    let selects = listing.selection.is_some();
     let tally = read_files(listing, alloc, captures, writer)?;
-    write_last(is_plain, &tally, writer)?;
+    let undecided = if selects { Some(tally.undecided) } else { None };
+    write_last(is_plain, &tally, undecided, writer)?;
     Ok(tally.status)
 }
 
@@ -93,7 +99,7 @@ fn read_files<C: Captures, W: LineSink>(
     let options = listing.options;
     let mut files = listing.files.into_iter();
     let mut task = Task {
-        filter: listing.filter,
+        selection: listing.selection,
         count: listing.count,
         form: Form::Lines(options),
     };
@@ -157,8 +163,13 @@ fn end_of_file<C: Captures, W: Sink>(
 }
 
 /// Writes the line of the totals, unless only those of walks are asked for.
-fn write_last<W: Sink>(is_plain: bool, tally: &Tally, writer: &mut W) -> Result<(), OutputFault> {
+fn write_last<W: Sink>(
+    is_plain: bool,
+    tally: &Tally,
+    undecided: Option<usize>,
+    writer: &mut W,
+) -> Result<(), OutputFault> {
     let mut out = OutputBuffer::new(writer);
-    write_totals(is_plain, tally.packets, tally.skipped, &mut out);
+    write_totals(is_plain, tally.packets, tally.skipped, undecided, &mut out);
     out.flush()
 }

@@ -18,9 +18,11 @@ use std::{env, io};
 /// <details><summary>Contract</summary>
 ///
 /// ```text
-/// ensures { HasServed (C.has captures.now) R.can_fail C.can_refuse C.Input.Source.can_fail W.Sink.can_fail M.Sink.can_fail
+/// ensures served { HasServed (C.has captures.now) R.can_fail C.can_refuse C.Input.Source.can_fail W.Sink.can_fail M.Sink.can_fail
 ///     (arguments_of args) (R.remaining reader.old) (R.remaining reader.new) (W.Sink.contents writer.old)
 ///     (W.Sink.contents writer.new) (M.Sink.contents messages.old) (M.Sink.contents messages.new) result }
+/// ensures flushed { result ≢ 4 → Settles W.Sink.is_flushed writer.old writer.new }
+/// ensures told { Settles M.Sink.is_flushed messages.old messages.new ⊎ M.Sink.can_fail }
 /// ```
 ///
 /// </details>

@@ -21,8 +21,7 @@ use crate::ether_capture::memory::Global;
 ///     × AreCounted (task_view task.now) [] result.1) }
 /// ensures failed { IfErr result.0 (λ fault. OnStreamFault fault
 ///     (R.can_fail ⊎ IsEndless (R.remaining reader.old) (R.remaining reader.new)) W.can_fail) }
-/// ensures flushed { HasNoMemory (R.remaining reader.old) (R.remaining reader.new) (W.contents writer.old) (W.contents writer.new) result.0
-///     ⊎ IfSettled result.0 (W.is_flushed writer.new) }
+/// ensures flushed { IfSettled result.0 (Settles W.is_flushed writer.old writer.new) }
 /// ```
 ///
 /// </details>

@@ -9,6 +9,8 @@ pub struct PacketCounts {
     pub number: usize,
     /// How many packets of this capture were skipped.
     pub skipped: usize,
+    /// Of how many packets of this capture the captured bytes don't decide whether they are selected.
+    pub undecided: usize,
     /// How many packets more are asked for, if their number is limited.
     pub left: Option<usize>,
 }
@@ -27,6 +29,7 @@ impl PacketCounts {
         PacketCounts {
             number: task.packets_before(),
             skipped: 0,
+            undecided: 0,
             left: task.asked_for(),
         }
     }

@@ -54,7 +54,7 @@ pub fn write_lines<W: Sink>(
 /// <details><summary>Contract</summary>
 ///
 /// ```text
-/// ensures { Takes W.contents W.can_fail out.old (totals_line_after options.before options.is_plain frames skipped) out.new }
+/// ensures { Takes W.contents W.can_fail out.old (totals_line_after options.before options.is_plain frames skipped undecided) out.new }
 /// ```
 ///
 /// </details>
@@ -62,20 +62,22 @@ pub fn write_totals_of<W: Sink>(
     options: LineOptions,
     frames: usize,
     skipped: usize,
+    undecided: Option<usize>,
     out: &mut OutputBuffer<'_, W>,
 ) {
     match options.before {
-        None => write_totals(options.is_plain, frames, skipped, out),
+        None => write_totals(options.is_plain, frames, skipped, undecided, out),
         Some(_) => {}
     }
 }
 
-/// Writes the line after those of all packets, unless `is_plain`: how many packets there are, and how many of them were skipped.
+/// Writes the line after those of all packets, unless `is_plain`: how many packets there are, how many of them were skipped, and how many
+/// are undecided, if that is asked for.
 ///
 /// <details><summary>Contract</summary>
 ///
 /// ```text
-/// ensures { Takes W.contents W.can_fail out.old (totals_line_if is_plain frames skipped) out.new }
+/// ensures { Takes W.contents W.can_fail out.old (totals_line_if is_plain frames skipped undecided) out.new }
 /// ```
 ///
 /// </details>
@@ -83,16 +85,29 @@ pub fn write_totals<W: Sink>(
     is_plain: bool,
     frames: usize,
     skipped: usize,
+    undecided: Option<usize>,
     out: &mut OutputBuffer<'_, W>,
 ) {
     if is_plain {
         return;
     }
-    out.append(b"total frames ");
-    write_decimal(out, frames);
-    out.append(b" skipped ");
-    write_decimal(out, skipped);
+    write_told(b"total frames ", frames, out);
+    write_told(b" skipped ", skipped, out);
+    write_undecided(undecided, out);
     out.append(b"\n");
+}
+
+/// Writes how many packets are undecided, if that is asked for.
+fn write_undecided<W: Sink>(undecided: Option<usize>, out: &mut OutputBuffer<'_, W>) {
+    if let Some(undecided) = undecided {
+        write_told(b" undecided ", undecided, out);
+    }
+}
+
+/// Writes a number after its word.
+fn write_told<W: Sink>(word: &[u8], number: usize, out: &mut OutputBuffer<'_, W>) {
+    out.append(word);
+    write_decimal(out, number);
 }
 
 /// Whether the packet has no lines of a walk.

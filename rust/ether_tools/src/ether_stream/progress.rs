@@ -11,6 +11,7 @@ pub struct Progress<T: InterfaceTable> {
     reader: CaptureReader<T>,
     count: usize,
     skipped: usize,
+    undecided: usize,
     offset: usize,
     left: Option<usize>,
     verdict: Verdict,
@@ -31,6 +32,7 @@ impl<T: SectionTable> Progress<T> {
             reader: CaptureReader::new(interfaces),
             count: task.packets_before(),
             skipped: 0,
+            undecided: 0,
             offset: 0,
             left: task.asked_for(),
             verdict: Verdict::AllAccepted,
@@ -52,6 +54,7 @@ impl<T: InterfaceTable> Progress<T> {
         PacketCounts {
             number: self.count,
             skipped: self.skipped,
+            undecided: self.undecided,
             left: self.left,
         }
     }
@@ -173,6 +176,9 @@ impl<T: InterfaceTable> Progress<T> {
         };
         self.count = self.count.saturating_add(1);
         self.skipped = skipped_after(self.skipped, packet);
+        if task.leaves_open(packet) {
+            self.undecided = self.undecided.saturating_add(1);
+        }
         if let Some(left) = self.left {
             if task.chooses(packet) {
                 self.left = Some(left.saturating_sub(1));
@@ -218,7 +224,8 @@ impl<T: InterfaceTable> Progress<T> {
     /// ensures same_writer { out.new.writer.ghost_name ≡ out.old.writer.ghost_name }
     /// ensures ok { IfOk result (λ verdict. verdict ≡ self.now.verdict) }
     /// ensures written { OnOk result (Appends (contents_of W.contents out.old) (contents_of W.contents out.new)
-    ///     (last_lines (form_view form) self.now.count self.now.skipped)) }
+    ///     (last_lines (form_view task.now.form) self.now.count self.now.skipped
+    ///     (if_selected task.now.selection self.now.undecided))) }
     /// ensures fault { IfErr result (λ fault. fault ≡ RunFault.Output) }
     /// ensures failed { IfErr result (λ fault. out.new.has_failed ≡ true) }
     /// ensures marks { Marks W.can_fail out.old out.new }
@@ -227,11 +234,12 @@ impl<T: InterfaceTable> Progress<T> {
     /// </details>
     pub fn finish<W: Sink>(
         &self,
-        form: Form,
+        task: &Task,
         out: &mut OutputBuffer<'_, W>,
     ) -> Result<Verdict, RunFault> {
-        if let Form::Lines(options) = form {
-            write_totals_of(options, self.count, self.skipped, out);
+        if let Form::Lines(options) = task.form {
+            let undecided = task.if_selected(self.undecided);
+            write_totals_of(options, self.count, self.skipped, undecided, out);
         }
         out.check()?;
         Ok(self.verdict)

@@ -123,7 +123,7 @@ fn read_capture<B: Grow, T: InterfaceTable, R: Source, W: Sink>(
     buffer.clear();
     loop {
         let Some(error) = buffer.take_units(progress, task, &mut edits, out)? else {
-            return progress.finish(task.form, out);
+            return progress.finish(task, out);
         };
         let Some(required_len) = error.required_len() else {
             return Err(progress.fault(error));
@@ -132,7 +132,7 @@ fn read_capture<B: Grow, T: InterfaceTable, R: Source, W: Sink>(
         buffer.make_room(required_len)?;
         if buffer.read(input, out)? == 0 {
             if is_over(progress, &buffer) {
-                return progress.finish(task.form, out);
+                return progress.finish(task, out);
             }
             return Err(progress.fault(error));
         }

@@ -1,15 +1,15 @@
 //! What is made of a capture.
 
-use etherpeel::ether_content::{PacketEdit, selects};
-use etherpeel::ether_filter::Filter;
+use crate::ether_stream::selection::Selection;
+use etherpeel::ether_content::PacketEdit;
 use etherpeel::ether_pcap::{CapturedPacket, CopyMode};
 use std::num::NonZeroUsize;
 
 /// What is made of a capture, and for which packets.
 #[derive(Debug)]
 pub struct Task {
-    /// Which packets are chosen; all of them without a filter.
-    pub filter: Option<Filter>,
+    /// Which packets are chosen; all of them without a selection.
+    pub selection: Option<Selection>,
     /// After how many of these the run ends; at the end of the capture without a number.
     pub count: Option<NonZeroUsize>,
     /// What is made of them.
@@ -72,9 +72,42 @@ impl Task {
     /// </details>
     #[inline(always)]
     pub fn chooses(&self, packet: &CapturedPacket<'_>) -> bool {
-        match &self.filter {
-            Some(filter) => selects(filter, packet),
+        match &self.selection {
+            Some(selection) => selection.chooses(packet),
             None => true,
+        }
+    }
+
+    /// Tests that the captured bytes of a packet don't decide whether it is selected.
+    ///
+    /// <details><summary>Contract</summary>
+    ///
+    /// ```text
+    /// ensures { IsTrue result ↔ IsOpen (task_view self.now).select (captured_packet_view packet.now) }
+    /// ```
+    ///
+    /// </details>
+    #[inline(always)]
+    pub fn leaves_open(&self, packet: &CapturedPacket<'_>) -> bool {
+        match &self.selection {
+            Some(selection) => selection.leaves_open(packet),
+            None => false,
+        }
+    }
+
+    /// The number, if packets are selected.
+    ///
+    /// <details><summary>Contract</summary>
+    ///
+    /// ```text
+    /// ensures { result ≡ if_selected (task_view self.now).select number }
+    /// ```
+    ///
+    /// </details>
+    pub fn if_selected(&self, number: usize) -> Option<usize> {
+        match &self.selection {
+            Some(_) => Some(number),
+            None => None,
         }
     }
 

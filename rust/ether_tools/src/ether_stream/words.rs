@@ -1,5 +1,6 @@
 //! Words of a request.
 
+use crate::ether_stream::selection::Undecided;
 use crate::ether_stream::tags::{TagEdit, small_number, tag_edit_of};
 use etherpeel::ether_content::PacketEdit;
 use etherpeel::ether_filter::{Filter, FilterError};
@@ -85,6 +86,25 @@ pub fn limit_of(text: Option<&str>) -> Result<Option<usize>, Usage> {
     match small_number(text.as_bytes()) {
         Some(number) => Ok(Some(number as usize)),
         None => Err(Usage),
+    }
+}
+
+/// What becomes of packets that are undecided, as a text says it, if there is one: `keep` or `drop`.
+///
+/// <details><summary>Contract</summary>
+///
+/// ```text
+/// ensures ok { IfOk result (IsIfAny MeansUndecided (option_map (λ s. s.now) text.entry)) }
+/// ensures err { OnErr result ((u : Option UndecidedValue) → ¬ (IsIfAny MeansUndecided (option_map (λ s. s.now) text.entry) u)) }
+/// ```
+///
+/// </details>
+pub fn undecided_of(text: Option<&str>) -> Result<Option<Undecided>, Usage> {
+    match text {
+        None => Ok(None),
+        Some("keep") => Ok(Some(Undecided::Kept)),
+        Some("drop") => Ok(Some(Undecided::Dropped)),
+        Some(_) => Err(Usage),
     }
 }
 

@@ -189,8 +189,14 @@ fn has_fcs(packet: &CapturedPacket<'_>) -> bool {
 /// </details>
 #[inline]
 pub fn without_fcs<'a>(packet: &CapturedPacket<'a>) -> &'a [u8] {
+    &packet.packet[..whole_len(packet).min(packet.packet.len())]
+}
+
+/// The length of the packet before it was cut, without its frame check sequence.
+#[inline]
+pub(crate) fn whole_len(packet: &CapturedPacket<'_>) -> usize {
     let captured_len = packet.packet.len();
-    let whole_len = captured_len.max(packet.original_len as usize);
-    let end = whole_len.saturating_sub(fcs_len(packet));
-    &packet.packet[..end.min(captured_len)]
+    captured_len
+        .max(packet.original_len as usize)
+        .saturating_sub(fcs_len(packet))
 }

@@ -1,9 +1,10 @@
 //! Which packets of a capture a filter selects.
 
-use crate::ether_content::content::Content;
-use crate::ether_filter::{Filter, Packet};
+use crate::ether_content::content::{Content, is_cut, whole_len};
+use crate::ether_filter::{Decision, Filter, Packet};
 use crate::ether_pcap::CapturedPacket;
 use crate::ether_peel::Start;
+use crate::ether_sll2::LinuxSll2Header;
 
 /// Returns `true` if a filter selects a packet: its expression holds of what is walked of the packet.
 ///
@@ -61,4 +62,73 @@ fn holds(filter: &Filter, start: Start, frame: &[u8], packet: &CapturedPacket<'_
         captured_len: packet.packet.len(),
         original_len: packet.original_len,
     })
+}
+
+/// Returns `true` if a packet was cut so that its captured bytes don't decide whether a filter selects it.
+///
+/// That is so if [`Filter::decide`] needs more bytes of what is walked of the packet, and if the header of cooked capture v2 was cut.
+/// [`selects`] says then what holds by the captured bytes. A frame check sequence that was cut counts as bytes that may belong to
+/// headers.
+///
+/// ```
+/// # use etherpeel::*;
+/// # use etherpeel::ether_peel::*;
+/// # use etherpeel::ether_sll2::*;
+/// # use etherpeel::ether_packet::*;
+/// # use etherpeel::ether_filter::*;
+/// # use etherpeel::ether_pcap::*;
+/// # use etherpeel::ether_content::*;
+/// # fn main() -> Result<(), Box<dyn std::error::Error>> {
+/// let packet = CapturedPacket {
+///     time: None,
+///     interface: None,
+///     original_len: 60,
+///     link_type: LinkType::ETHERNET,
+///     snap_len: 16,
+///     fcs_len: None,
+///     packet: &[
+///         0xFF, 0xFF, 0xFF, 0xFF, 0xFF, 0xFF, 0x02, 0x00, 0x00, 0x00, 0x00, 0x01, 0x81, 0x00, // Ethernet II
+///         0xB1, 0x23, // the first bytes of a VLAN tag
+///     ],
+/// };
+/// assert!(is_undecided(&Filter::parse(b"vlan 291")?, &packet));
+/// assert!(!is_undecided(&Filter::parse(b"vlan 291 or greater 60")?, &packet));
+/// # Ok(())
+/// # }
+/// ```
+///
+/// <details><summary>Contract</summary>
+///
+/// ```text
+/// ensures { IsTrue result ↔ IsUndecided filter.now (captured_packet_view packet.now) }
+/// ```
+///
+/// </details>
+#[inline]
+pub fn is_undecided(filter: &Filter, packet: &CapturedPacket<'_>) -> bool {
+    if !is_cut(packet) {
+        return false;
+    }
+    let content = Content::of(packet);
+    if let Content::LinuxSll2(bytes) = content {
+        if bytes.len() < LinuxSll2Header::LEN {
+            return whole_len(packet) >= LinuxSll2Header::LEN;
+        }
+    }
+    match content.frame() {
+        Some((start, frame)) => needs_bytes(filter, start, frame, packet),
+        None => false,
+    }
+}
+
+/// Whether more bytes of a packet's walk are needed to decide whether a filter's expression holds of it.
+#[inline]
+fn needs_bytes(filter: &Filter, start: Start, frame: &[u8], packet: &CapturedPacket<'_>) -> bool {
+    let decision = filter.decide(&Packet {
+        start,
+        frame,
+        captured_len: packet.packet.len(),
+        original_len: packet.original_len,
+    });
+    matches!(decision, Decision::Needs(_))
 }

@@ -28,14 +28,14 @@ loop-name-preserved g c =
     let going : at.left ≢ Some 0 = λ e. let t = c.is_done.ensures.1 e in absurd cc in
     let left : option_map non_zero_usize_get c.count-task.result ≡ at.left = c.count-task.ensures going in
     let same : record {
-      select = c.loop-name.task.filter;
+      select = c.loop-name.task.selection;
       count = option_map non_zero_usize_get c.count-task.result;
       form = Lines c.after.result;
     } ≡ next_task listing at =
-    (λ i. record { select = so_far.filter i; count = left i; form = Lines (c.after.ensures i) }) in
+    (λ i. record { select = so_far.selection i; count = left i; form = Lines (c.after.ensures i) }) in
     let here = c.in_ok-tally.ensures.ok listing same in
     record {
-      filter = so_far.filter;
+      selection = so_far.selection;
       options = refl;
       reads = λ last holds others.
           so_far.reads last holds

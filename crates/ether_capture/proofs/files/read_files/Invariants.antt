@@ -9,7 +9,7 @@ abbrev pub invariant-loop-name : goal.invariant-loop-name
 invariant-loop-name g l =
     let listing = listing_view l.fn.listing in
     record {
-      filter : l.task.filter ≡ l.fn.listing.filter;
+      selection : l.task.selection ≡ l.fn.listing.selection;
       options : l.options ≡ l.fn.listing.options;
       reads : (last : Tally) (holds : Option (List ℕ))
           → ReadsFiles (g.C.Captures.has l.fn.captures) g.C.Captures.can_refuse g.C.Input.Source.can_fail

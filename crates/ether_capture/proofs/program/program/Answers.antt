@@ -8,32 +8,32 @@ use Rattle.ether_stream.specs.declared.outcome.Outcome.TheVariants as outcomes
 use Rattle.ether_stream.specs.declared.outcome.RunFault.TheVariants.{Input}
 use Rattle.ether_capture.proofs.program.program.Goals as goal
 
-pub returns-in_default : goal.returns-in_default
-returns-in_default g c =
+pub returns-in_default-clause-served : goal.returns-in_default-clause-served
+returns-in_default-clause-served g c =
     rw c.in_default.is
     (record {
       outcome = outcomes.Run false (Err Input);
-      printed = c.end.ensures.0;
+      printed = c.end.ensures.printed.0;
       between = g.W.Sink.contents c.args.writer.now;
       obeyed = (refl, refl, refl);
-      ended = c.end.ensures.1;
-      is_status = c.end.ensures.2;
+      ended = c.end.ensures.printed.1;
+      is_status = c.end.ensures.printed.2;
     })
 
-pub returns-in_default-collect : goal.returns-in_default-collect
-returns-in_default-collect g c =
+pub returns-in_default-collect-clause-served : goal.returns-in_default-collect-clause-served
+returns-in_default-collect-clause-served g c =
     rw c.in-Ok.is
     (record {
       outcome = outcomes.NoMemory;
-      printed = c.end-in_default-collect.ensures.0;
+      printed = c.end-in_default-collect.ensures.printed.0;
       between = g.W.Sink.contents c.args.writer.now;
       obeyed = (refl, refl);
-      ended = c.end-in_default-collect.ensures.1;
-      is_status = c.end-in_default-collect.ensures.2;
+      ended = c.end-in_default-collect.ensures.printed.1;
+      is_status = c.end-in_default-collect.ensures.printed.2;
     })
 
-pub returns : goal.returns
-returns g c =
+pub returns-clause-served : goal.returns-clause-served
+returns-clause-served g c =
     let args = c.in-Ok.args in
     let yields = YieldsList-from_vec {s = args} (into_iter_items args) refl args.rest.ok.0 in
     let collected = subst (λ r. IfOk r (λ w. vec_items w ≡ into_iter_items args)) c.in-Ok-collect.is (items_from_collect c.collect.result c.collect.ensures.ran yields) in
@@ -42,7 +42,7 @@ returns g c =
     rw c.in-Ok.is
     (record {
       outcome = c.obey-outcome.result;
-      printed = c.end-2.ensures.0;
+      printed = c.end-2.ensures.printed.0;
       between = g.W.Sink.contents c.obey-outcome.new.writer;
       obeyed = subst
           (λ (it : List (List ℕ)).
@@ -50,7 +50,7 @@ returns g c =
           g.C.Input.Source.can_fail g.W.Sink.can_fail (Some it) (g.R.Source.remaining c.args.reader.now)
           (g.R.Source.remaining c.obey-outcome.new.reader) (g.W.Sink.contents c.args.writer.now)
           (g.W.Sink.contents c.obey-outcome.new.writer) c.obey-outcome.result)
-          words c.obey-outcome.ensures;
-      ended = c.end-2.ensures.1;
-      is_status = c.end-2.ensures.2;
+          words c.obey-outcome.ensures.obeyed;
+      ended = c.end-2.ensures.printed.1;
+      is_status = c.end-2.ensures.printed.2;
     })

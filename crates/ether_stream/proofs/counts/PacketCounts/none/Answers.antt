@@ -14,5 +14,6 @@ returns c =
       selected = none;
       is_number = omega (arith, number);
       is_skipped = refl;
+      undecided = record { undecided = []; selected = none; is_count = refl };
       is_left = subst (λ (o : Option ℕ). IsLeftOf count 0 o) (sym c.asked_for.ensures) (all_left count);
     }

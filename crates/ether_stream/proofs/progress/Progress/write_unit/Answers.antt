@@ -19,12 +19,12 @@ returns-in_default-clause-some g c =
     let form = form_view task.form in
     subst
     (λ (o : Option CapturedPacket).
-    MakesText task.filter form self.reader (counted (self.count + 1)) unit (option_map captured_packet_view o)
+    MakesText task.selection form self.reader (counted (self.count + 1)) unit (option_map captured_packet_view o)
     g.W.Sink.contents g.W.Sink.can_fail c.args.out.now true c.write_other.new.out)
     (sym c.in_default.is)
     (record {
       text = other_text form self.reader unit;
-      makes = other_made task.filter form self.reader (counted (self.count + 1)) unit;
+      makes = other_made task.selection form self.reader (counted (self.count + 1)) unit;
       taken = c.write_other.ensures;
     })
 
@@ -34,17 +34,17 @@ returns-then-not-chooses-clause-some g c =
     let task = c.args.task.now in
     let unit = c.args.unit.now in
     let form = form_view task.form in
-    let left : ¬ (IsChosen task.filter (captured_packet_view c.in-Some.packet)) = λ is. let e : true ≡ false = sym
+    let left : ¬ (IsChosen task.selection (captured_packet_view c.in-Some.packet)) = λ is. let e : true ≡ false = sym
     (c.chooses.ensures.1 is) ∙ c.if-not-chooses.true in absurd cc in
     subst
     (λ (o : Option CapturedPacket).
-    MakesText task.filter form self.reader (counted (self.count + 1)) unit (option_map captured_packet_view o)
+    MakesText task.selection form self.reader (counted (self.count + 1)) unit (option_map captured_packet_view o)
     g.W.Sink.contents g.W.Sink.can_fail c.args.out.now true c.args.out.now)
     (sym c.in-Some.is)
     (record {
       text = [];
       makes =
-          left_made task.filter form self.reader (counted (self.count + 1)) unit
+          left_made task.selection form self.reader (counted (self.count + 1)) unit
           (captured_packet_view c.in-Some.packet) left;
       taken = Takes-none g.W.Sink.contents g.W.Sink.can_fail c.args.out.now;
     })
@@ -59,12 +59,12 @@ returns-then-write_packet-clause-some g c =
     let chosen = c.chooses.ensures.0 c.if-not-chooses.false in
     subst
     (λ (o : Option CapturedPacket).
-    MakesText task.filter (form_view task.form) self.reader (counted (self.count + 1)) unit
+    MakesText task.selection (form_view task.form) self.reader (counted (self.count + 1)) unit
     (option_map captured_packet_view o) g.W.Sink.contents g.W.Sink.can_fail c.args.out.now true c.write_packet.new.out)
     (sym c.in-Some.is)
     (subst
     (λ (f : Form).
-    MakesText task.filter (form_view f) self.reader (counted (self.count + 1)) unit (Some p)
+    MakesText task.selection (form_view f) self.reader (counted (self.count + 1)) unit (Some p)
     g.W.Sink.contents g.W.Sink.can_fail c.args.out.now true c.write_packet.new.out)
     (sym c.in-Copy.is)
     (record {
@@ -83,9 +83,9 @@ returns-else-write_packet-clause-none g c =
     let chosen = c.chooses.ensures.0 c.if-not-chooses.false in
     subst
     (λ (o : Option CapturedPacket).
-    Makes task.filter (form_view task.form) self.reader (counted (self.count + 1)) unit
+    Makes task.selection (form_view task.form) self.reader (counted (self.count + 1)) unit
     (option_map captured_packet_view o) true None)
     (sym c.in-Some.is)
     (subst
-    (λ (f : Form). Makes task.filter (form_view f) self.reader (counted (self.count + 1)) unit (Some p) true None)
+    (λ (f : Form). Makes task.selection (form_view f) self.reader (counted (self.count + 1)) unit (Some p) true None)
     (sym c.in-Copy.is) (writes_packet p w.0 None chosen w.1 w.2, refl))

@@ -1,0 +1,66 @@
+//! Which packets are chosen.
+
+use etherpeel::ether_content::{is_undecided, selects};
+use etherpeel::ether_filter::Filter;
+use etherpeel::ether_pcap::CapturedPacket;
+
+/// Which packets are chosen.
+#[derive(Debug)]
+pub struct Selection {
+    /// Those that this filter selects.
+    pub filter: Filter,
+    /// What becomes of a packet that was cut so that its captured bytes don't decide that. Without a word for it, they count as if
+    /// they were all.
+    pub undecided: Option<Undecided>,
+}
+
+/// What becomes of a packet whose captured bytes don't decide whether a filter selects it.
+#[derive(Clone, Copy, PartialEq, Eq, Debug)]
+pub enum Undecided {
+    /// It is chosen.
+    Kept,
+    /// It is not chosen.
+    Dropped,
+}
+
+impl Undecided {
+    /// Whether a packet is chosen, by whether it is selected, and whether it is undecided.
+    fn chooses(self, is_selected: bool, is_undecided: bool) -> bool {
+        match self {
+            Undecided::Kept => is_selected || is_undecided,
+            Undecided::Dropped => is_selected && !is_undecided,
+        }
+    }
+}
+
+impl Selection {
+    /// Tests that a packet is chosen.
+    ///
+    /// <details><summary>Contract</summary>
+    ///
+    /// ```text
+    /// ensures { IsTrue result ↔ IsChosen (Some self.now) (captured_packet_view packet.now) }
+    /// ```
+    ///
+    /// </details>
+    pub fn chooses(&self, packet: &CapturedPacket<'_>) -> bool {
+        let is_selected = selects(&self.filter, packet);
+        match self.undecided {
+            None => is_selected,
+            Some(undecided) => undecided.chooses(is_selected, self.leaves_open(packet)),
+        }
+    }
+
+    /// Tests that the captured bytes of a packet don't decide whether the filter selects it.
+    ///
+    /// <details><summary>Contract</summary>
+    ///
+    /// ```text
+    /// ensures { IsTrue result ↔ IsOpen (Some self.now) (captured_packet_view packet.now) }
+    /// ```
+    ///
+    /// </details>
+    pub fn leaves_open(&self, packet: &CapturedPacket<'_>) -> bool {
+        is_undecided(&self.filter, packet)
+    }
+}
