@@ -1,5 +1,5 @@
 -- How far a run has come.
-use Rattle.std.specs.Prelude.{◌≡◌, ◌≢◌, ◌⊎◌, ℕ, ◌+◌, ◌-◌, List, [], ◌++◌, length, take, Bool, true, Option, Some, None, IfSome, IfNone, ⊤}
+use Rattle.std.specs.Prelude.{◌≡◌, ◌≢◌, ◌⊎◌, ℕ, ◌+◌, ◌-◌, List, [], ◌++◌, length, take, Bool, true, Option, Some, None, IfSome, IfNone, IsTrue, ◌↔◌, ⊤}
 use Rattle.std.specs.List.{sum_by}
 use Rattle.std.specs.Io.KnownBytes.{Appends}
 use Rattle.ether_stream.specs.declared.selection.Selection.{Selection}
@@ -102,6 +102,11 @@ Makes select (Copy mode edit) x number unit packet accepted text = Writes mode s
 abbrev pub other_text : FormValue → Expectation → (unit : List ℕ) → List ℕ
 other_text (Lines options) x unit = []
 other_text (Copy mode edit) x unit = other_unit mode x unit
+
+-- a truth says whether the packet of a unit is chosen, if it has one
+abbrev pub IsChoice : (select : Option Selection) → Option PacketValue → Bool → Type 0
+IsChoice select None is_chosen = ⊤
+IsChoice select (Some p) is_chosen = IsTrue is_chosen ↔ IsChosen select p
 
 -- one packet less is left if this one is chosen
 abbrev pub LeavesLess : (select : Option Selection) → PacketValue → (old new : Option ℕ) → Type 0

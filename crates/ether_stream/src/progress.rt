@@ -8,7 +8,7 @@ ghost use Rattle.ether_text.specs.OutputBuffer.{contents_of, Marks, Takes};
 ghost use Rattle.ether_text.specs.Verdict.{verdict_with};
 ghost use Rattle.ether_stream.specs.FrameLines.{if_selected, skip_count};
 ghost use Rattle.ether_stream.specs.Packets.{counted};
-ghost use Rattle.ether_stream.specs.Progress.{Counts, counts_at, IsStart, IsTakingFault, IsUnitOf, last_lines, Makes, MakesText, OnNotEdited, OnOutput, other_text, StopsAfter, StopsUnwritten, TakesUnit, TakesUnits};
+ghost use Rattle.ether_stream.specs.Progress.{Counts, counts_at, IsChoice, IsStart, IsTakingFault, IsUnitOf, last_lines, Makes, MakesText, OnNotEdited, OnOutput, other_text, StopsAfter, StopsUnwritten, TakesUnit, TakesUnits};
 ghost use Rattle.ether_stream.specs.Task.{form_view, task_view};
 
 use crate::copying::{write_other, write_packet};
@@ -118,11 +118,12 @@ impl<T: InterfaceTable> Progress<T> {
         ensures failed { IfErr result (λ fault. OnOutput fault (out.new.has_failed ≡ true)) }
         ensures marks { Marks W.can_fail out.old out.new }
     {
-        let Some(accepted) = self.write_unit(task, edits, unit, packet, out) else {
+        let is_chosen = is_chosen(task, packet);
+        let Some(accepted) = self.write_unit(task, is_chosen, edits, unit, packet, out) else {
             return Err(RunFault::NotEdited(self.offset));
         };
         out.check()?;
-        self.count_packet(task, packet);
+        self.count_packet(task, is_chosen, packet);
         self.judge(accepted);
         self.offset = self.offset.saturating_add(unit.len());
         Ok(())
@@ -144,12 +145,14 @@ impl<T: InterfaceTable> Progress<T> {
     fn write_unit<B: Grow, W: Sink>(
         &self,
         task: &Task,
+        is_chosen: bool,
         edits: &mut EditBuffer<B>,
         unit: &[u8],
         packet: &Option<CapturedPacket<'_>>,
         out: &mut OutputBuffer<'_, W>,
     ) -> Option<bool>
-        requires { IsUnitOf self.now.reader unit.now (option_map captured_packet_view packet.now) }
+        requires choice { IsChoice task.now.selection (option_map captured_packet_view packet.now) is_chosen }
+        requires unit { IsUnitOf self.now.reader unit.now (option_map captured_packet_view packet.now) }
         ensures some { IfSome result (λ accepted. MakesText task.now.selection (form_view task.now.form) self.now.reader
             (counted (self.now.count + 1)) unit.now (option_map captured_packet_view packet.now)
             W.contents W.can_fail out.old accepted out.new) }
@@ -161,7 +164,7 @@ impl<T: InterfaceTable> Progress<T> {
             self.write_other(task.form, unit, out);
             return Some(true);
         };
-        if !task.chooses(packet) {
+        if !is_chosen {
             return Some(true);
         }
         match task.form {
@@ -189,7 +192,8 @@ impl<T: InterfaceTable> Progress<T> {
 
     /// Counts the packet of a unit, if it has one.
     #[inline(always)]
-    fn count_packet(&mut self, task: &Task, packet: &Option<CapturedPacket<'_>>)
+    fn count_packet(&mut self, task: &Task, is_chosen: bool, packet: &Option<CapturedPacket<'_>>)
+        requires { IsChoice task.now.selection (option_map captured_packet_view packet.now) is_chosen }
         ensures counts { Counts task.now.selection (option_map captured_packet_view packet.now) self.old self.new }
         ensures same_reader { self.new.reader ≡ self.old.reader }
         ensures same_offset { self.new.offset ≡ self.old.offset }
@@ -204,7 +208,7 @@ impl<T: InterfaceTable> Progress<T> {
             self.undecided = self.undecided.saturating_add(1);
         }
         if let Some(left) = self.left {
-            if task.chooses(packet) {
+            if is_chosen {
                 self.left = Some(left.saturating_sub(1));
             }
         }
@@ -249,6 +253,17 @@ impl<T: InterfaceTable> Progress<T> {
         }
         out.check()?;
         Ok(self.verdict)
+    }
+}
+
+/// Tests that the packet of a unit is chosen.
+#[inline(always)]
+fn is_chosen(task: &Task, packet: &Option<CapturedPacket<'_>>) -> bool
+    ensures { IsChoice task.now.selection (option_map captured_packet_view packet.now) result }
+{
+    match packet {
+        Some(packet) => task.chooses(packet),
+        None => false,
     }
 }
 

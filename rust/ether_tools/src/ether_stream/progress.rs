@@ -112,11 +112,12 @@ impl<T: InterfaceTable> Progress<T> {
         packet: &Option<CapturedPacket<'_>>,
         out: &mut OutputBuffer<'_, W>,
     ) -> Result<(), RunFault> {
-        let Some(accepted) = self.write_unit(task, edits, unit, packet, out) else {
+        let is_chosen = is_chosen(task, packet);
+        let Some(accepted) = self.write_unit(task, is_chosen, edits, unit, packet, out) else {
             return Err(RunFault::NotEdited(self.offset));
         };
         out.check()?;
-        self.count_packet(task, packet);
+        self.count_packet(task, is_chosen, packet);
         self.judge(accepted);
         self.offset = self.offset.saturating_add(unit.len());
         Ok(())
@@ -136,6 +137,7 @@ impl<T: InterfaceTable> Progress<T> {
     fn write_unit<B: Grow, W: Sink>(
         &self,
         task: &Task,
+        is_chosen: bool,
         edits: &mut EditBuffer<B>,
         unit: &[u8],
         packet: &Option<CapturedPacket<'_>>,
@@ -145,7 +147,7 @@ impl<T: InterfaceTable> Progress<T> {
             self.write_other(task.form, unit, out);
             return Some(true);
         };
-        if !task.chooses(packet) {
+        if !is_chosen {
             return Some(true);
         }
         match task.form {
@@ -170,7 +172,7 @@ impl<T: InterfaceTable> Progress<T> {
 
     /// Counts the packet of a unit, if it has one.
     #[inline(always)]
-    fn count_packet(&mut self, task: &Task, packet: &Option<CapturedPacket<'_>>) {
+    fn count_packet(&mut self, task: &Task, is_chosen: bool, packet: &Option<CapturedPacket<'_>>) {
         let Some(packet) = packet else {
             return;
         };
@@ -180,7 +182,7 @@ impl<T: InterfaceTable> Progress<T> {
             self.undecided = self.undecided.saturating_add(1);
         }
         if let Some(left) = self.left {
-            if task.chooses(packet) {
+            if is_chosen {
                 self.left = Some(left.saturating_sub(1));
             }
         }
@@ -243,6 +245,15 @@ impl<T: InterfaceTable> Progress<T> {
         }
         out.check()?;
         Ok(self.verdict)
+    }
+}
+
+/// Tests that the packet of a unit is chosen.
+#[inline(always)]
+fn is_chosen(task: &Task, packet: &Option<CapturedPacket<'_>>) -> bool {
+    match packet {
+        Some(packet) => task.chooses(packet),
+        None => false,
     }
 }
 

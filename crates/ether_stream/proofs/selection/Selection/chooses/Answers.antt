@@ -1,5 +1,5 @@
-use Rattle.std.proofs.Common.{◌≡◌, ap, subst, sym, ◌∙◌, Bool, true, false, Some, refl, inl, inr}
-use Rattle.std.specs.Prelude.{◌↔◌, IsTrue, not, ◌||◌, ◌&&◌}
+use Rattle.std.proofs.Common.{Bool, true, false, Some, refl, inl, inr}
+use Rattle.std.specs.Prelude.{◌↔◌, IsTrue}
 use Rattle.ether_stream.specs.Task.{IsChosenOf, chosen_by}
 use Rattle.ether_stream.specs.declared.selection.Undecided.{Undecided}
 use Rattle.ether_stream.specs.declared.selection.Undecided.TheVariants.{Dropped, Kept}
