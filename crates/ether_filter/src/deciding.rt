@@ -94,7 +94,7 @@ pub(crate) fn known(
         → IsSeen (next_of packet.now.start) hs e seen.now
         → IsOpening packet.now e opening → IsValue packet.now hs e result (Test primitive) }
 {
-    let is_match = matches_primitive(primitive, packet, seen);
+    let is_match = matches_primitive(&primitive, packet, seen);
     if let Some(opening) = opening {
         if !is_known(primitive, packet, seen, is_match, opening) {
             return None;
@@ -168,7 +168,7 @@ fn is_told(primitive: Primitive, packet: &Packet<'_>, seen: &Option<Seen>, is_ma
         → IsTrue result ↔ IsTold primitive (walked packet.now hs e) }
 {
     match primitive {
-        Primitive::OuterVlan(_) => matches_primitive(Primitive::Vlan, packet, seen),
+        Primitive::OuterVlan(_) => matches_primitive(&Primitive::Vlan, packet, seen),
         Primitive::InnerVlan(_) | Primitive::Refused => false,
         _ => is_match,
     }

@@ -135,7 +135,7 @@ impl Filter {
         let seen = look_for(nodes, packet.start, packet.frame);
         let mut at = 0;
         while at < nodes.len() {
-            let Node::Test(primitive) = nodes[at] else {
+            let Node::Test(primitive) = &nodes[at] else {
                 return false; // not reached: each jump leads to a primitive
             };
             at = self.jumps[at].after(matches_primitive(primitive, packet, &seen));

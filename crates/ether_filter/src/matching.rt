@@ -1,5 +1,5 @@
 //! Whether a primitive matches a packet.
-ghost use Rattle.std.specs.Prelude.{◌≡◌, ◌↔◌, false, List, IsTrue};
+ghost use Rattle.std.specs.Prelude.{◌≡◌, ◌↔◌, false, List, Some, IsTrue};
 ghost use Rattle.etherparse.specs.Header.{Header};
 ghost use Rattle.ether_peel.specs.Grammar.Stack.{Ending, Walk};
 ghost use Rattle.ether_peel.specs.Walker.Start.{start_of, next_of};
@@ -16,22 +16,46 @@ use ether_peel::{Peel, Start};
 /// Whether a primitive matches a packet, by what was seen in it.
 #[inline]
 pub(crate) fn matches_primitive(
-    primitive: Primitive,
+    primitive: &Primitive,
     packet: &Packet<'_>,
     seen: &Option<Seen>,
 ) -> bool
     ensures { (hs : List Header) (e : Ending) → Walk (start_of packet.now.start) packet.now.frame.now hs e
         → IsSeen (next_of packet.now.start) hs e seen.now
-        → IsTrue result ↔ Matches primitive (walked packet.now hs e) }
+        → IsTrue result ↔ Matches primitive.now (walked packet.now hs e) }
 {
-    match primitive {
+    match seen {
+        Some(seen) => matches_seen(primitive, packet, seen),
+        None => matches_walked(primitive, packet),
+    }
+}
+
+/// Whether a primitive matches a packet in which all was seen.
+#[inline]
+fn matches_seen(primitive: &Primitive, packet: &Packet<'_>, seen: &Seen) -> bool
+    ensures { (hs : List Header) (e : Ending) → Walk (start_of packet.now.start) packet.now.frame.now hs e
+        → IsSeen (next_of packet.now.start) hs e (Some seen.now)
+        → IsTrue result ↔ Matches primitive.now (walked packet.now hs e) }
+{
+    match *primitive {
         Primitive::Cut => packet.captured_len < packet.original_len as usize,
         Primitive::Less(len) => packet.original_len <= len,
         Primitive::Greater(len) => packet.original_len >= len,
-        _ => match seen {
-            Some(seen) => is_seen(primitive, seen),
-            None => is_found(primitive, packet.start, packet.frame),
-        },
+        _ => is_seen(primitive, seen),
+    }
+}
+
+/// Whether a primitive matches a packet, by a walk of its own.
+#[inline(never)]
+fn matches_walked(primitive: &Primitive, packet: &Packet<'_>) -> bool
+    ensures { (hs : List Header) (e : Ending) → Walk (start_of packet.now.start) packet.now.frame.now hs e
+        → IsTrue result ↔ Matches primitive.now (walked packet.now hs e) }
+{
+    match *primitive {
+        Primitive::Cut => packet.captured_len < packet.original_len as usize,
+        Primitive::Less(len) => packet.original_len <= len,
+        Primitive::Greater(len) => packet.original_len >= len,
+        _ => is_found(*primitive, packet.start, packet.frame),
     }
 }
 

@@ -169,10 +169,10 @@ fn keep(numbers: &mut ArrayVec<u16, ROOM>, number: Option<u16>) -> bool
 
 /// Whether a primitive is seen.
 #[inline]
-pub(crate) fn is_seen(primitive: Primitive, seen: &Seen) -> bool
-    ensures { result ≡ seen_of primitive seen.now.told seen.now.ids.items seen.now.types.items }
+pub(crate) fn is_seen(primitive: &Primitive, seen: &Seen) -> bool
+    ensures { result ≡ seen_of primitive.now seen.now.told seen.now.ids.items seen.now.types.items }
 {
-    match primitive {
+    match *primitive {
         Primitive::Vlan => seen.told.outer.is_some(),
         Primitive::VlanId(id) => has(seen.ids.as_slice(), id),
         Primitive::OuterVlan(id) => seen.told.outer == Some(id),
@@ -181,7 +181,7 @@ pub(crate) fn is_seen(primitive: Primitive, seen: &Seen) -> bool
         Primitive::EtherType(number) => has(seen.types.as_slice(), number),
         Primitive::Refused => seen.told.is_refused,
         _ => match seen.told.link {
-            Some(link) => is_shown_by_link(primitive, link.destination, link.source),
+            Some(link) => is_shown_by_link(*primitive, link.destination, link.source),
             None => false,
         },
     }

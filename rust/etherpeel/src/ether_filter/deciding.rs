@@ -72,7 +72,7 @@ pub(crate) fn known(
     seen: &Option<Seen>,
     opening: Option<Opening>,
 ) -> Option<bool> {
-    let is_match = matches_primitive(primitive, packet, seen);
+    let is_match = matches_primitive(&primitive, packet, seen);
     if let Some(opening) = opening {
         if !is_known(primitive, packet, seen, is_match, opening) {
             return None;
@@ -135,7 +135,7 @@ fn is_of_link(primitive: Primitive) -> bool {
 #[inline]
 fn is_told(primitive: Primitive, packet: &Packet<'_>, seen: &Option<Seen>, is_match: bool) -> bool {
     match primitive {
-        Primitive::OuterVlan(_) => matches_primitive(Primitive::Vlan, packet, seen),
+        Primitive::OuterVlan(_) => matches_primitive(&Primitive::Vlan, packet, seen),
         Primitive::InnerVlan(_) | Primitive::Refused => false,
         _ => is_match,
     }

@@ -9,18 +9,35 @@ use crate::ether_peel::{Peel, Start};
 /// Whether a primitive matches a packet, by what was seen in it.
 #[inline]
 pub(crate) fn matches_primitive(
-    primitive: Primitive,
+    primitive: &Primitive,
     packet: &Packet<'_>,
     seen: &Option<Seen>,
 ) -> bool {
-    match primitive {
+    match seen {
+        Some(seen) => matches_seen(primitive, packet, seen),
+        None => matches_walked(primitive, packet),
+    }
+}
+
+/// Whether a primitive matches a packet in which all was seen.
+#[inline]
+fn matches_seen(primitive: &Primitive, packet: &Packet<'_>, seen: &Seen) -> bool {
+    match *primitive {
         Primitive::Cut => packet.captured_len < packet.original_len as usize,
         Primitive::Less(len) => packet.original_len <= len,
         Primitive::Greater(len) => packet.original_len >= len,
-        _ => match seen {
-            Some(seen) => is_seen(primitive, seen),
-            None => is_found(primitive, packet.start, packet.frame),
-        },
+        _ => is_seen(primitive, seen),
+    }
+}
+
+/// Whether a primitive matches a packet, by a walk of its own.
+#[inline(never)]
+fn matches_walked(primitive: &Primitive, packet: &Packet<'_>) -> bool {
+    match *primitive {
+        Primitive::Cut => packet.captured_len < packet.original_len as usize,
+        Primitive::Less(len) => packet.original_len <= len,
+        Primitive::Greater(len) => packet.original_len >= len,
+        _ => is_found(*primitive, packet.start, packet.frame),
     }
 }
 
