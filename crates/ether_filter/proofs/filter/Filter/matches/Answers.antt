@@ -12,14 +12,15 @@ use Rattle.ether_filter.proofs.filter.Filter.matches.Goals as goal
 pub loop-at-init : goal.loop-at-init
 loop-at-init c =
     runs_begin c.args.packet.now c.self.inside.nodes.items c.as_slice-nodes.result.now c.self.inside.jumps
-    c.args.self.now c.as_slice-nodes.ensures.value c.self.invariant c.self.view_is c.as_slice-nodes.ensures.fits
+    c.args.self.now c.as_slice-nodes.ensures.value c.self.invariant c.self.view_is
+    (omega (arith, c.as_slice-nodes.ensures.fits))
 
 pub returns-in_default : goal.returns-in_default
 returns-in_default c hs e walk =
     let t = matching (walked c.args.packet.now hs e) in
     let ns = c.as_slice-nodes.result.now in
     absurd (reaches_test ns c.self.inside.jumps t c.loop-at.at _ _ _ c.loop-at-test.true
-    (past_nodes ns (truth t c.args.self.now) c.as_slice-nodes.ensures.fits) refl c.in_default.not-Test
+    (past_nodes ns (truth t c.args.self.now) (omega (arith, c.as_slice-nodes.ensures.fits))) refl c.in_default.not-Test
     (c.loop-at.invariant hs e walk))
 
 -- what follows a primitive of a walk
@@ -40,7 +41,7 @@ after_test c hs e walk =
     (matching_is w packet.frame.now start (whole start packet.frame.now) walk p) in
     rw (c.after-at.ensures, same)
     (reaches_next ns c.self.inside.jumps t c.loop-at.at (chosen (truth t c.args.self.now) first_jump) _ p
-    c.loop-at-test.true (past_nodes ns (truth t c.args.self.now) c.as_slice-nodes.ensures.fits) c.in-Test.is
+    c.loop-at-test.true (past_nodes ns (truth t c.args.self.now) (omega (arith, c.as_slice-nodes.ensures.fits))) c.in-Test.is
     (c.loop-at.invariant hs e walk))
 
 pub loop-at-smaller : goal.loop-at-smaller
