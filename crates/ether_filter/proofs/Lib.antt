@@ -1,5 +1,8 @@
 pub mod FollowingLemmas
 pub mod Found
+pub mod SeenLemmas
+pub mod JumpsLemmas
+pub mod Truth
 pub mod Evaluated
 pub mod Kleene
 pub mod Longer

@@ -2,6 +2,8 @@ pub mod Expressions
 pub mod Primitives
 pub mod Postfix
 pub mod Following
+pub mod Seen
+pub mod Jumps
 pub mod Deciding
 pub mod Evaluation
 pub mod Words

@@ -4,16 +4,18 @@ ghost use Rattle.etherparse.specs.Bytes.{IsBytes};
 ghost use Rattle.etherparse.specs.Header.{Header};
 ghost use Rattle.ether_peel.specs.Grammar.Expectation.{has_fcs as has_fcs_of};
 ghost use Rattle.ether_peel.specs.Grammar.Stack.{Ending, Walk};
-ghost use Rattle.ether_peel.specs.Walker.Start.{start_of};
+ghost use Rattle.ether_peel.specs.Walker.Start.{start_of, next_of};
 ghost use Rattle.ether_filter.specs.Primitives.{walked, Matches};
 ghost use Rattle.ether_filter.specs.Expressions.{Test};
 ghost use Rattle.ether_filter.specs.Deciding.{lost as lost_of, is_of_lengths as is_of_lengths_of, is_of_link as is_of_link_of, can_tell as can_tell_of, IsTold, IsKnown};
+ghost use Rattle.ether_filter.specs.Seen.{IsSeen};
 ghost use Rattle.ether_filter.specs.Evaluation.{IsRefusedUnit, IsOpening, IsValue, joined_value as joined_value_of};
 
 use crate::matching::matches_primitive;
 use crate::node::Operator;
 use crate::packet::Packet;
 use crate::primitive::Primitive;
+use crate::seen::Seen;
 use ether_peel::{PeelError, Start, summary};
 use etherparse::err::Layer;
 
@@ -85,14 +87,16 @@ fn lost(packet: &Packet<'_>) -> usize
 pub(crate) fn known(
     primitive: Primitive,
     packet: &Packet<'_>,
+    seen: &Option<Seen>,
     opening: Option<Opening>,
 ) -> Option<bool>
     ensures { (hs : List Header) (e : Ending) → Walk (start_of packet.now.start) packet.now.frame.now hs e
+        → IsSeen (next_of packet.now.start) hs e seen.now
         → IsOpening packet.now e opening → IsValue packet.now hs e result (Test primitive) }
 {
-    let is_match = matches_primitive(primitive, packet);
+    let is_match = matches_primitive(&primitive, packet, seen);
     if let Some(opening) = opening {
-        if !is_known(primitive, packet, is_match, opening) {
+        if !is_known(primitive, packet, seen, is_match, opening) {
             return None;
         }
     }
@@ -100,8 +104,15 @@ pub(crate) fn known(
 }
 
 /// Whether it is known if a primitive matches an open packet, by whether it matches so far.
-fn is_known(primitive: Primitive, packet: &Packet<'_>, is_match: bool, opening: Opening) -> bool
+fn is_known(
+    primitive: Primitive,
+    packet: &Packet<'_>,
+    seen: &Option<Seen>,
+    is_match: bool,
+    opening: Opening,
+) -> bool
     ensures { (hs : List Header) (e : Ending) → Walk (start_of packet.now.start) packet.now.frame.now hs e
+        → IsSeen (next_of packet.now.start) hs e seen.now
         → IsTrue is_match ↔ Matches primitive (walked packet.now hs e) → IsOpening packet.now e (Some opening)
         → IsTrue result ↔ IsKnown packet.now hs e primitive }
 {
@@ -109,7 +120,7 @@ fn is_known(primitive: Primitive, packet: &Packet<'_>, is_match: bool, opening: 
         return true;
     }
     match opening.layer {
-        Some(layer) => !can_tell(layer, primitive) || is_told(primitive, packet, is_match),
+        Some(layer) => !can_tell(layer, primitive) || is_told(primitive, packet, seen, is_match),
         None => false,
     }
 }
@@ -150,13 +161,14 @@ fn is_of_link(primitive: Primitive) -> bool
 }
 
 /// Whether the headers so far tell of a primitive, by whether it matches so far.
-fn is_told(primitive: Primitive, packet: &Packet<'_>, is_match: bool) -> bool
+fn is_told(primitive: Primitive, packet: &Packet<'_>, seen: &Option<Seen>, is_match: bool) -> bool
     ensures { (hs : List Header) (e : Ending) → Walk (start_of packet.now.start) packet.now.frame.now hs e
+        → IsSeen (next_of packet.now.start) hs e seen.now
         → IsTrue is_match ↔ Matches primitive (walked packet.now hs e)
         → IsTrue result ↔ IsTold primitive (walked packet.now hs e) }
 {
     match primitive {
-        Primitive::OuterVlan(_) => matches_primitive(Primitive::Vlan, packet),
+        Primitive::OuterVlan(_) => matches_primitive(&Primitive::Vlan, packet, seen),
         Primitive::InnerVlan(_) | Primitive::Refused => false,
         _ => is_match,
     }

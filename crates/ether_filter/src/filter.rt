@@ -1,28 +1,34 @@
 //! A filter.
 ghost use Rattle.std.specs.Prelude.{◌≡◌, ◌↔◌, ◌++◌, ◌+◌, ◌<◌, ◌≤◌, ℕ, List, Bool, false, IsTrue, Ok, Err, IfOk, IfErr, MatchResult, length, reverse};
 ghost use Rattle.arrayvec.specs.ArrayVec.{array_vec_len};
+ghost use Rattle.etherparse.specs.Bytes.{IsBytes};
 ghost use Rattle.etherparse.specs.Header.{Header};
 ghost use Rattle.ether_peel.specs.Grammar.Stack.{Ending, Walk};
-ghost use Rattle.ether_peel.specs.Walker.Start.{start_of};
+ghost use Rattle.ether_peel.specs.Walker.Start.{start_of, next_of};
 ghost use Rattle.ether_filter.specs.Primitives.{walked};
 ghost use Rattle.ether_filter.specs.Expressions.{Expression, Holds};
 ghost use Rattle.ether_filter.specs.Postfix.{pushed, expression_of};
 ghost use Rattle.ether_filter.specs.Reading.{read_text};
 ghost use Rattle.ether_filter.specs.Texts.{IsExpressionOf};
 ghost use Rattle.ether_filter.specs.Refusals.{RefusesText};
-ghost use Rattle.ether_filter.specs.Evaluation.{AreValues, AreTruths, joined_truth, IsOpening, IsValue};
+ghost use Rattle.ether_filter.specs.Evaluation.{AreValues, IsOpening, IsValue};
+ghost use Rattle.ether_filter.specs.Seen.{IsSeen, asks_headers as asks_headers_of};
 ghost use Rattle.ether_filter.specs.Deciding.{AtCompletions, Says, StaysUnknown, WaitsUntil};
 
 use crate::deciding::{Opening, find_opening, joined_value, known};
 use crate::decision::Decision;
 use crate::filter_error::{FilterError, FilterErrorKind};
+use crate::jumps::{HOLDS, Jump, jumps_of};
 use crate::matching::matches_primitive;
-use crate::node::{Node, Operator};
+use crate::node::Node;
 use crate::packet::Packet;
+use crate::primitive::Primitive;
 use crate::reading::Reading;
+use crate::seen::{Seen, look};
 use crate::token::token_of;
 use crate::words::next_word;
 use arrayvec::ArrayVec;
+use ether_peel::Start;
 use std::marker::Model;
 
 /// The greatest number of words of an expression.
@@ -80,11 +86,14 @@ pub(crate) const MAX_WORDS: usize = 192;
 pub struct Filter {
     /// The nodes of the expression, each after its operands.
     nodes: ArrayVec<Node, MAX_WORDS>,
+    /// Where the evaluation goes on after each primitive, at the index of its node.
+    jumps: [Jump; MAX_WORDS],
 }
 
 impl Model for Filter {
     ghost use Rattle.ether_filter.specs.Expressions.{Expression};
     ghost use Rattle.ether_filter.specs.Postfix.{IsPostfix, expression_of, expression_code};
+    ghost use Rattle.ether_filter.specs.Jumps.{AreJumps, first_jump};
 
     ghost Value = { Expression };
 
@@ -92,7 +101,7 @@ impl Model for Filter {
 
     ghost view = { λ f. expression_of f.nodes.items };
 
-    ghost invariant = { λ f. IsPostfix f.nodes.items };
+    ghost invariant = { λ f. IsPostfix f.nodes.items × AreJumps f.jumps 0 (expression_of f.nodes.items) first_jump };
 }
 
 impl Filter {
@@ -108,24 +117,30 @@ impl Filter {
         ensures err { IfErr result (RefusesText text.now) }
     {
         match read(text) {
-            Ok(nodes) => Ok(Filter { nodes }),
+            Ok(nodes) => {
+                let jumps = jumps_of(nodes.as_slice());
+                Ok(Filter { nodes, jumps })
+            }
             Err(error) => Err(error),
         }
     }
 
     /// Returns `true` if a packet matches, by the bytes that were captured. Of a packet that was cut, [`decide`](Self::decide)
     /// tells more.
-    ///
-    /// Each primitive that asks for headers takes a walk of its own through the frame.
     pub fn matches(&self, packet: &Packet<'_>) -> bool
         ensures { (hs : List Header) (e : Ending) → Walk (start_of packet.now.start) packet.now.frame.now hs e
             → IsTrue result ↔ Holds self.now (walked packet.now hs e) }
     {
-        let mut truths = ArrayVec::new();
-        for node in self.nodes.as_slice() {
-            take_node(&mut truths, *node, packet);
+        let nodes = self.nodes.as_slice();
+        let seen = look_for(nodes, packet.start, packet.frame);
+        let mut at = 0;
+        while at < nodes.len() {
+            let Node::Test(primitive) = &nodes[at] else {
+                return false; // not reached: each jump leads to a primitive
+            };
+            at = self.jumps[at].after(matches_primitive(primitive, packet, &seen));
         }
-        truths.pop().unwrap_or(false)
+        at == usize::from(HOLDS)
     }
 
     /// What is known of whether a packet matches, if not all of its bytes were captured.
@@ -171,11 +186,38 @@ impl Filter {
         ensures waits { (n : ℕ) → result ≡ Decision.Needs n → WaitsUntil packet.now n }
     {
         let opening = find_opening(packet);
+        let seen = look_for(self.nodes.as_slice(), packet.start, packet.frame);
         let mut values = ArrayVec::new();
         for node in self.nodes.as_slice() {
-            decide_node(&mut values, *node, packet, opening);
+            decide_node(&mut values, *node, packet, &seen, opening);
         }
         decision(values.pop().unwrap_or(None), opening)
+    }
+}
+
+/// What the headers of a packet show, if a node asks for them and there is room for it.
+fn look_for(nodes: &[Node], start: Start, frame: &[u8]) -> Option<Seen>
+    ensures bytes { IsBytes frame.now }
+    ensures seen { (hs : List Header) (e : Ending) → Walk (start_of start) frame.now hs e → IsSeen (next_of start) hs e result }
+{
+    for node in nodes {
+        if asks_headers(*node) {
+            return look(start, frame);
+        }
+    }
+    None
+}
+
+/// Whether a node is a primitive that asks for headers.
+fn asks_headers(node: Node) -> bool
+    ensures { result ≡ asks_headers_of node }
+{
+    match node {
+        Node::Test(primitive) => !matches!(
+            primitive,
+            Primitive::Cut | Primitive::Less(_) | Primitive::Greater(_)
+        ),
+        _ => false,
     }
 }
 
@@ -197,17 +239,18 @@ fn decide_node(
     values: &mut ArrayVec<Option<bool>, MAX_WORDS>,
     node: Node,
     packet: &Packet<'_>,
+    seen: &Option<Seen>,
     opening: Option<Opening>,
 )
     requires { array_vec_len values.old < MAX_WORDS }
     ensures len { array_vec_len values.new ≤ array_vec_len values.old + 1 }
     ensures values { (hs : List Header) (e : Ending) → Walk (start_of packet.now.start) packet.now.frame.now hs e
-        → IsOpening packet.now e opening
+        → IsSeen (next_of packet.now.start) hs e seen.now → IsOpening packet.now e opening
         → (xs : List Expression) → AreValues (IsValue packet.now hs e) (reverse values.old.items) xs
         → AreValues (IsValue packet.now hs e) (reverse values.new.items) (pushed xs node) }
 {
     match node {
-        Node::Test(primitive) => values.push(known(primitive, packet, opening)),
+        Node::Test(primitive) => values.push(known(primitive, packet, seen, opening)),
         Node::Not => {
             if let Some(value) = values.pop() {
                 values.push(value.map(|truth| !truth));
@@ -220,41 +263,6 @@ fn decide_node(
                 values.push(joined_value(operator, left, right));
             }
         }
-    }
-}
-
-/// Puts the truth of an expression in the place of those of its operands.
-fn take_node(truths: &mut ArrayVec<bool, MAX_WORDS>, node: Node, packet: &Packet<'_>)
-    requires { array_vec_len truths.old < MAX_WORDS }
-    ensures len { array_vec_len truths.new ≤ array_vec_len truths.old + 1 }
-    ensures truths { (hs : List Header) (e : Ending) → Walk (start_of packet.now.start) packet.now.frame.now hs e
-        → (xs : List Expression) → AreTruths (walked packet.now hs e) (reverse truths.old.items) xs
-        → AreTruths (walked packet.now hs e) (reverse truths.new.items) (pushed xs node) }
-{
-    match node {
-        Node::Test(primitive) => truths.push(matches_primitive(primitive, packet)),
-        Node::Not => {
-            if let Some(truth) = truths.pop() {
-                truths.push(!truth);
-            }
-        }
-        Node::Join(operator) => {
-            let right = truths.pop();
-            let left = truths.pop();
-            if let (Some(left), Some(right)) = (left, right) {
-                truths.push(joined(operator, left, right));
-            }
-        }
-    }
-}
-
-/// The truth of two operands that are joined.
-fn joined(operator: Operator, left: bool, right: bool) -> bool
-    ensures { result ≡ joined_truth operator left right }
-{
-    match operator {
-        Operator::And => left && right,
-        Operator::Or => left || right,
     }
 }
 

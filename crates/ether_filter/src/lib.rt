@@ -7,6 +7,7 @@ mod decision;
 mod fields;
 mod filter;
 mod filter_error;
+mod jumps;
 pub mod laws;
 mod matching;
 mod node;
@@ -14,6 +15,7 @@ mod numeral;
 mod packet;
 mod primitive;
 mod reading;
+mod seen;
 mod token;
 mod words;
 

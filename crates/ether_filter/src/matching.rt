@@ -1,29 +1,61 @@
 //! Whether a primitive matches a packet.
-ghost use Rattle.std.specs.Prelude.{◌≡◌, ◌↔◌, false, ◌/◌, ◌%◌, ◌^◌, List, IsTrue};
+ghost use Rattle.std.specs.Prelude.{◌≡◌, ◌↔◌, false, List, Some, IsTrue};
 ghost use Rattle.etherparse.specs.Header.{Header};
 ghost use Rattle.ether_peel.specs.Grammar.Stack.{Ending, Walk};
 ghost use Rattle.ether_peel.specs.Walker.Start.{start_of, next_of};
-ghost use Rattle.ether_filter.specs.Primitives.{Matches, walked, ether_type_of, is_group as is_group_of};
-ghost use Rattle.ether_filter.specs.Following.{shown as shown_of, shown_by_link, shown_by_tag, shown_by_sec_tag, found_after as found_after_of, found_at_end, found_at_fault as found_at_fault_of, is_tagged as is_tagged_of, found_first as found_first_of};
+ghost use Rattle.ether_filter.specs.Primitives.{Matches, walked, ether_type_of};
+ghost use Rattle.ether_filter.specs.Seen.{IsSeen};
+ghost use Rattle.ether_filter.specs.Following.{shown as shown_of, shown_by_tag, shown_by_sec_tag, found_after as found_after_of, found_at_end, found_at_fault as found_at_fault_of, is_tagged as is_tagged_of, found_first as found_first_of};
 
-use crate::fields::{Fields, announced_type, read_fields};
+use crate::fields::{Fields, announced_type, is_shown_by_link, read_fields};
 use crate::packet::Packet;
 use crate::primitive::Primitive;
+use crate::seen::{Seen, is_seen};
 use ether_peel::{Peel, Start};
 
-/// The broadcast address.
-const BROADCAST: u64 = 0xFFFF_FFFF_FFFF;
-
-/// Whether a primitive matches a packet.
-pub(crate) fn matches_primitive(primitive: Primitive, packet: &Packet<'_>) -> bool
+/// Whether a primitive matches a packet, by what was seen in it.
+#[inline]
+pub(crate) fn matches_primitive(
+    primitive: &Primitive,
+    packet: &Packet<'_>,
+    seen: &Option<Seen>,
+) -> bool
     ensures { (hs : List Header) (e : Ending) → Walk (start_of packet.now.start) packet.now.frame.now hs e
-        → IsTrue result ↔ Matches primitive (walked packet.now hs e) }
+        → IsSeen (next_of packet.now.start) hs e seen.now
+        → IsTrue result ↔ Matches primitive.now (walked packet.now hs e) }
 {
-    match primitive {
+    match seen {
+        Some(seen) => matches_seen(primitive, packet, seen),
+        None => matches_walked(primitive, packet),
+    }
+}
+
+/// Whether a primitive matches a packet in which all was seen.
+#[inline]
+fn matches_seen(primitive: &Primitive, packet: &Packet<'_>, seen: &Seen) -> bool
+    ensures { (hs : List Header) (e : Ending) → Walk (start_of packet.now.start) packet.now.frame.now hs e
+        → IsSeen (next_of packet.now.start) hs e (Some seen.now)
+        → IsTrue result ↔ Matches primitive.now (walked packet.now hs e) }
+{
+    match *primitive {
         Primitive::Cut => packet.captured_len < packet.original_len as usize,
         Primitive::Less(len) => packet.original_len <= len,
         Primitive::Greater(len) => packet.original_len >= len,
-        _ => is_found(primitive, packet.start, packet.frame),
+        _ => is_seen(primitive, seen),
+    }
+}
+
+/// Whether a primitive matches a packet, by a walk of its own.
+#[inline(never)]
+fn matches_walked(primitive: &Primitive, packet: &Packet<'_>) -> bool
+    ensures { (hs : List Header) (e : Ending) → Walk (start_of packet.now.start) packet.now.frame.now hs e
+        → IsTrue result ↔ Matches primitive.now (walked packet.now hs e) }
+{
+    match *primitive {
+        Primitive::Cut => packet.captured_len < packet.original_len as usize,
+        Primitive::Less(len) => packet.original_len <= len,
+        Primitive::Greater(len) => packet.original_len >= len,
+        _ => is_found(*primitive, packet.start, packet.frame),
     }
 }
 
@@ -118,20 +150,6 @@ fn is_shown(primitive: Primitive, fields: Fields, announced: Option<u16>) -> boo
     }
 }
 
-/// Whether the addresses of a link show a primitive.
-fn is_shown_by_link(primitive: Primitive, destination: u64, source: u64) -> bool
-    ensures { result ≡ shown_by_link primitive destination source }
-{
-    match primitive {
-        Primitive::Source(address) => address == source,
-        Primitive::Destination(address) => address == destination,
-        Primitive::Host(address) => address == source || address == destination,
-        Primitive::Broadcast => destination == BROADCAST,
-        Primitive::Multicast => is_group(destination),
-        _ => false,
-    }
-}
-
 /// Whether the identifier of a VLAN tag shows a primitive.
 fn is_shown_by_tag(primitive: Primitive, id: u16) -> bool
     ensures { result ≡ shown_by_tag primitive id }
@@ -141,11 +159,4 @@ fn is_shown_by_tag(primitive: Primitive, id: u16) -> bool
         Primitive::VlanId(wanted) => wanted == id,
         _ => false,
     }
-}
-
-/// Whether an address is that of a group.
-fn is_group(address: u64) -> bool
-    ensures { result ≡ is_group_of address }
-{
-    address / (1 << 40) % 2 == 1
 }

@@ -6,12 +6,14 @@ mod decision;
 mod fields;
 mod filter;
 mod filter_error;
+mod jumps;
 mod matching;
 mod node;
 mod numeral;
 mod packet;
 mod primitive;
 mod reading;
+mod seen;
 mod token;
 mod words;
 

@@ -4,6 +4,7 @@ use crate::ether_filter::matching::matches_primitive;
 use crate::ether_filter::node::Operator;
 use crate::ether_filter::packet::Packet;
 use crate::ether_filter::primitive::Primitive;
+use crate::ether_filter::seen::Seen;
 use crate::ether_peel::{PeelError, Start, summary};
 use crate::err::Layer;
 
@@ -68,11 +69,12 @@ fn lost(packet: &Packet<'_>) -> usize {
 pub(crate) fn known(
     primitive: Primitive,
     packet: &Packet<'_>,
+    seen: &Option<Seen>,
     opening: Option<Opening>,
 ) -> Option<bool> {
-    let is_match = matches_primitive(primitive, packet);
+    let is_match = matches_primitive(&primitive, packet, seen);
     if let Some(opening) = opening {
-        if !is_known(primitive, packet, is_match, opening) {
+        if !is_known(primitive, packet, seen, is_match, opening) {
             return None;
         }
     }
@@ -81,12 +83,18 @@ pub(crate) fn known(
 
 /// Whether it is known if a primitive matches an open packet, by whether it matches so far.
 #[inline]
-fn is_known(primitive: Primitive, packet: &Packet<'_>, is_match: bool, opening: Opening) -> bool {
+fn is_known(
+    primitive: Primitive,
+    packet: &Packet<'_>,
+    seen: &Option<Seen>,
+    is_match: bool,
+    opening: Opening,
+) -> bool {
     if is_of_lengths(primitive) {
         return true;
     }
     match opening.layer {
-        Some(layer) => !can_tell(layer, primitive) || is_told(primitive, packet, is_match),
+        Some(layer) => !can_tell(layer, primitive) || is_told(primitive, packet, seen, is_match),
         None => false,
     }
 }
@@ -125,9 +133,9 @@ fn is_of_link(primitive: Primitive) -> bool {
 
 /// Whether the headers so far tell of a primitive, by whether it matches so far.
 #[inline]
-fn is_told(primitive: Primitive, packet: &Packet<'_>, is_match: bool) -> bool {
+fn is_told(primitive: Primitive, packet: &Packet<'_>, seen: &Option<Seen>, is_match: bool) -> bool {
     match primitive {
-        Primitive::OuterVlan(_) => matches_primitive(Primitive::Vlan, packet),
+        Primitive::OuterVlan(_) => matches_primitive(&Primitive::Vlan, packet, seen),
         Primitive::InnerVlan(_) | Primitive::Refused => false,
         _ => is_match,
     }

@@ -1,8 +1,12 @@
 //! The fields of a header that primitives speak of.
 
+use crate::ether_filter::primitive::Primitive;
 use crate::ether_base::big_endian::u64_of;
 use crate::ether_peel::{PeelUnit, RestKind};
 use crate::EtherType;
+
+/// The broadcast address.
+const BROADCAST: u64 = 0xFFFF_FFFF_FFFF;
 
 /// The fields of a header that primitives speak of.
 #[derive(Clone, Copy)]
@@ -43,4 +47,23 @@ pub(crate) fn announced_type(kind: RestKind) -> Option<u16> {
         RestKind::EtherType(EtherType(number)) => Some(number),
         _ => None,
     }
+}
+
+/// Whether the addresses of a link show a primitive.
+#[inline]
+pub(crate) fn is_shown_by_link(primitive: Primitive, destination: u64, source: u64) -> bool {
+    match primitive {
+        Primitive::Source(address) => address == source,
+        Primitive::Destination(address) => address == destination,
+        Primitive::Host(address) => address == source || address == destination,
+        Primitive::Broadcast => destination == BROADCAST,
+        Primitive::Multicast => is_group(destination),
+        _ => false,
+    }
+}
+
+/// Whether an address is that of a group.
+#[inline]
+fn is_group(address: u64) -> bool {
+    address / (1 << 40) % 2 == 1
 }

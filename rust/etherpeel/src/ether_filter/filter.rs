@@ -3,13 +3,17 @@
 use crate::ether_filter::deciding::{Opening, find_opening, joined_value, known};
 use crate::ether_filter::decision::Decision;
 use crate::ether_filter::filter_error::{FilterError, FilterErrorKind};
+use crate::ether_filter::jumps::{HOLDS, Jump, jumps_of};
 use crate::ether_filter::matching::matches_primitive;
-use crate::ether_filter::node::{Node, Operator};
+use crate::ether_filter::node::Node;
 use crate::ether_filter::packet::Packet;
+use crate::ether_filter::primitive::Primitive;
 use crate::ether_filter::reading::Reading;
+use crate::ether_filter::seen::{Seen, look};
 use crate::ether_filter::token::token_of;
 use crate::ether_filter::words::next_word;
 use arrayvec::ArrayVec;
+use crate::ether_peel::Start;
 
 /// The greatest number of words of an expression.
 pub(crate) const MAX_WORDS: usize = 192;
@@ -71,6 +75,8 @@ pub(crate) const MAX_WORDS: usize = 192;
 pub struct Filter {
     /// The nodes of the expression, each after its operands.
     nodes: ArrayVec<Node, MAX_WORDS>,
+    /// Where the evaluation goes on after each primitive, at the index of its node.
+    jumps: [Jump; MAX_WORDS],
 }
 
 impl Filter {
@@ -93,15 +99,16 @@ impl Filter {
     #[inline]
     pub fn parse(text: &[u8]) -> Result<Filter, FilterError> {
         match read(text) {
-            Ok(nodes) => Ok(Filter { nodes }),
+            Ok(nodes) => {
+                let jumps = jumps_of(nodes.as_slice());
+                Ok(Filter { nodes, jumps })
+            }
             Err(error) => Err(error),
         }
     }
 
     /// Returns `true` if a packet matches, by the bytes that were captured. Of a packet that was cut, [`decide`](Self::decide)
     /// tells more.
-    ///
-    /// Each primitive that asks for headers takes a walk of its own through the frame.
     ///
     /// <details><summary>Contract</summary>
     ///
@@ -113,11 +120,16 @@ impl Filter {
     /// </details>
     #[inline]
     pub fn matches(&self, packet: &Packet<'_>) -> bool {
-        let mut truths = ArrayVec::new();
-        for node in self.nodes.as_slice() {
-            take_node(&mut truths, *node, packet);
+        let nodes = self.nodes.as_slice();
+        let seen = look_for(nodes, packet.start, packet.frame);
+        let mut at = 0;
+        while at < nodes.len() {
+            let Node::Test(primitive) = &nodes[at] else {
+                return false; // not reached: each jump leads to a primitive
+            };
+            at = self.jumps[at].after(matches_primitive(primitive, packet, &seen));
         }
-        truths.pop().unwrap_or(false)
+        at == usize::from(HOLDS)
     }
 
     /// What is known of whether a packet matches, if not all of its bytes were captured.
@@ -175,11 +187,35 @@ impl Filter {
     #[inline]
     pub fn decide(&self, packet: &Packet<'_>) -> Decision {
         let opening = find_opening(packet);
+        let seen = look_for(self.nodes.as_slice(), packet.start, packet.frame);
         let mut values = ArrayVec::new();
         for node in self.nodes.as_slice() {
-            decide_node(&mut values, *node, packet, opening);
+            decide_node(&mut values, *node, packet, &seen, opening);
         }
         decision(values.pop().unwrap_or(None), opening)
+    }
+}
+
+/// What the headers of a packet show, if a node asks for them and there is room for it.
+#[inline]
+fn look_for(nodes: &[Node], start: Start, frame: &[u8]) -> Option<Seen> {
+    for node in nodes {
+        if asks_headers(*node) {
+            return look(start, frame);
+        }
+    }
+    None
+}
+
+/// Whether a node is a primitive that asks for headers.
+#[inline]
+fn asks_headers(node: Node) -> bool {
+    match node {
+        Node::Test(primitive) => !matches!(
+            primitive,
+            Primitive::Cut | Primitive::Less(_) | Primitive::Greater(_)
+        ),
+        _ => false,
     }
 }
 
@@ -200,10 +236,11 @@ fn decide_node(
     values: &mut ArrayVec<Option<bool>, MAX_WORDS>,
     node: Node,
     packet: &Packet<'_>,
+    seen: &Option<Seen>,
     opening: Option<Opening>,
 ) {
     match node {
-        Node::Test(primitive) => values.push(known(primitive, packet, opening)),
+        Node::Test(primitive) => values.push(known(primitive, packet, seen, opening)),
         Node::Not => {
             if let Some(value) = values.pop() {
                 values.push(value.map(|truth| !truth));
@@ -216,35 +253,6 @@ fn decide_node(
                 values.push(joined_value(operator, left, right));
             }
         }
-    }
-}
-
-/// Puts the truth of an expression in the place of those of its operands.
-#[inline]
-fn take_node(truths: &mut ArrayVec<bool, MAX_WORDS>, node: Node, packet: &Packet<'_>) {
-    match node {
-        Node::Test(primitive) => truths.push(matches_primitive(primitive, packet)),
-        Node::Not => {
-            if let Some(truth) = truths.pop() {
-                truths.push(!truth);
-            }
-        }
-        Node::Join(operator) => {
-            let right = truths.pop();
-            let left = truths.pop();
-            if let (Some(left), Some(right)) = (left, right) {
-                truths.push(joined(operator, left, right));
-            }
-        }
-    }
-}
-
-/// The truth of two operands that are joined.
-#[inline]
-fn joined(operator: Operator, left: bool, right: bool) -> bool {
-    match operator {
-        Operator::And => left && right,
-        Operator::Or => left || right,
     }
 }
 

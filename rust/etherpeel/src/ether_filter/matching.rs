@@ -1,21 +1,43 @@
 //! Whether a primitive matches a packet.
 
-use crate::ether_filter::fields::{Fields, announced_type, read_fields};
+use crate::ether_filter::fields::{Fields, announced_type, is_shown_by_link, read_fields};
 use crate::ether_filter::packet::Packet;
 use crate::ether_filter::primitive::Primitive;
+use crate::ether_filter::seen::{Seen, is_seen};
 use crate::ether_peel::{Peel, Start};
 
-/// The broadcast address.
-const BROADCAST: u64 = 0xFFFF_FFFF_FFFF;
-
-/// Whether a primitive matches a packet.
+/// Whether a primitive matches a packet, by what was seen in it.
 #[inline]
-pub(crate) fn matches_primitive(primitive: Primitive, packet: &Packet<'_>) -> bool {
-    match primitive {
+pub(crate) fn matches_primitive(
+    primitive: &Primitive,
+    packet: &Packet<'_>,
+    seen: &Option<Seen>,
+) -> bool {
+    match seen {
+        Some(seen) => matches_seen(primitive, packet, seen),
+        None => matches_walked(primitive, packet),
+    }
+}
+
+/// Whether a primitive matches a packet in which all was seen.
+#[inline]
+fn matches_seen(primitive: &Primitive, packet: &Packet<'_>, seen: &Seen) -> bool {
+    match *primitive {
         Primitive::Cut => packet.captured_len < packet.original_len as usize,
         Primitive::Less(len) => packet.original_len <= len,
         Primitive::Greater(len) => packet.original_len >= len,
-        _ => is_found(primitive, packet.start, packet.frame),
+        _ => is_seen(primitive, seen),
+    }
+}
+
+/// Whether a primitive matches a packet, by a walk of its own.
+#[inline(never)]
+fn matches_walked(primitive: &Primitive, packet: &Packet<'_>) -> bool {
+    match *primitive {
+        Primitive::Cut => packet.captured_len < packet.original_len as usize,
+        Primitive::Less(len) => packet.original_len <= len,
+        Primitive::Greater(len) => packet.original_len >= len,
+        _ => is_found(*primitive, packet.start, packet.frame),
     }
 }
 
@@ -103,19 +125,6 @@ fn is_shown(primitive: Primitive, fields: Fields, announced: Option<u16>) -> boo
     }
 }
 
-/// Whether the addresses of a link show a primitive.
-#[inline]
-fn is_shown_by_link(primitive: Primitive, destination: u64, source: u64) -> bool {
-    match primitive {
-        Primitive::Source(address) => address == source,
-        Primitive::Destination(address) => address == destination,
-        Primitive::Host(address) => address == source || address == destination,
-        Primitive::Broadcast => destination == BROADCAST,
-        Primitive::Multicast => is_group(destination),
-        _ => false,
-    }
-}
-
 /// Whether the identifier of a VLAN tag shows a primitive.
 #[inline]
 fn is_shown_by_tag(primitive: Primitive, id: u16) -> bool {
@@ -124,10 +133,4 @@ fn is_shown_by_tag(primitive: Primitive, id: u16) -> bool {
         Primitive::VlanId(wanted) => wanted == id,
         _ => false,
     }
-}
-
-/// Whether an address is that of a group.
-#[inline]
-fn is_group(address: u64) -> bool {
-    address / (1 << 40) % 2 == 1
 }

@@ -19,9 +19,10 @@ pub loop-node-preserved : goal.loop-node-preserved
 loop-node-preserved c =
     let few = c.loop-node.invariant.0 in (
       omega (arith, c.decide_node.ensures.len),
-      λ hs e walk at. evaluates_next (IsValue c.args.packet.now hs e)
+      λ hs e walk seen at. evaluates_next (IsValue c.args.packet.now hs e)
           c.loop-node.values.items c.decide_node.new.values.items c.as_slice-node-items.result.now c.loop-node.node-index
-          _ c.loop-node-test.true (c.loop-node.invariant.1 hs e walk at) (c.decide_node.ensures.values hs e walk at),
+          _ c.loop-node-test.true (c.loop-node.invariant.1 hs e walk seen at)
+          (c.decide_node.ensures.values hs e walk seen at),
     )
 
 -- what the decision says
@@ -37,9 +38,9 @@ says c hs e walk =
     let value = c.unwrap_or.ensures ∙ ap (λ (o : Option (Option Bool)). unwrap_or o None) c.pop.ensures.value in
     c.decision.ensures packet hs e c.args.self.now at
     (subst (λ (x : Expression). IsValue packet hs e c.unwrap_or.result x) is
-    (evaluated (IsValue packet hs e) c.self.invariant.0 c.loop-node.values.items ns c.loop-node.node-index
-    c.unwrap_or.result None (c.as_slice-node-items.ensures.value ∙ c.self.invariant.1) c.loop-node-test.false
-    (c.loop-node.invariant.1 hs e walk at) value))
+    (evaluated (IsValue packet hs e) c.self.invariant.0.0 c.loop-node.values.items ns c.loop-node.node-index
+    c.unwrap_or.result None (c.as_slice-node-items.ensures.value ∙ c.self.invariant.0.1) c.loop-node-test.false
+    (c.loop-node.invariant.1 hs e walk (c.look_for-seen.ensures.seen hs e walk) at) value))
 
 pub returns-clause-says : goal.returns-clause-says
 returns-clause-says c hs e walk d =

@@ -1,29 +1,66 @@
-use Rattle.std.proofs.Common.{◌≡◌, Bool, false, ap, subst, ◌∙◌, IsTrue, ◌↔◌, arith}
-use Rattle.std.specs.Prelude.{Option, unwrap_or}
-use Rattle.ether_filter.specs.Expressions.{Expression, Holds}
-use Rattle.ether_filter.specs.Postfix.{expression_of}
+use Rattle.std.proofs.Common.{◌<◌, refl, arith, List}
+use Rattle.etherparse.specs.Header.{Header}
+use Rattle.ether_peel.specs.Grammar.Stack.{Ending, whole, Walk}
+use Rattle.ether_peel.specs.Walker.Start.{start_of}
+use Rattle.ether_peel.proofs.Grammar.Stacks.{some_stack}
 use Rattle.ether_filter.specs.Primitives.{walked}
-use Rattle.ether_filter.specs.Evaluation.{IsTruth}
-use Rattle.ether_filter.proofs.Evaluated.{evaluates_next, evaluated}
+use Rattle.ether_filter.specs.Jumps.{chosen, first_jump}
+use Rattle.ether_filter.proofs.JumpsLemmas.{Reaches, truth, reaches_next, reaches_test, reaches_end}
+use Rattle.ether_filter.proofs.Truth.{matching, matching_is, expression_is, one_truth, runs_begin, past_nodes, end_is}
 use Rattle.ether_filter.proofs.filter.Filter.matches.Goals as goal
 
-pub loop-node-preserved : goal.loop-node-preserved
-loop-node-preserved c =
-    let few = c.loop-node.invariant.0 in (
-      omega (arith, c.take_node.ensures.len),
-      λ hs e walk. evaluates_next (IsTruth (walked c.args.packet.now hs e))
-          c.loop-node.truths.items c.take_node.new.truths.items c.as_slice-node-items.result.now c.loop-node.node-index
-          _ c.loop-node-test.true (c.loop-node.invariant.1 hs e walk) (c.take_node.ensures.truths hs e walk),
-    )
+pub loop-at-init : goal.loop-at-init
+loop-at-init c =
+    runs_begin c.args.packet.now c.self.inside.nodes.items c.as_slice-nodes.result.now c.self.inside.jumps
+    c.args.self.now c.as_slice-nodes.ensures.value c.self.invariant c.self.view_is
+    (omega (arith, c.as_slice-nodes.ensures.fits))
+
+pub returns-in_default : goal.returns-in_default
+returns-in_default c hs e walk =
+    let t = matching (walked c.args.packet.now hs e) in
+    let ns = c.as_slice-nodes.result.now in
+    absurd (reaches_test ns c.self.inside.jumps t c.loop-at.at _ _ _ c.loop-at-test.true
+    (past_nodes ns (truth t c.args.self.now) (omega (arith, c.as_slice-nodes.ensures.fits))) refl c.in_default.not-Test
+    (c.loop-at.invariant hs e walk))
+
+-- what follows a primitive of a walk
+after_test : (c : goal.After-after-at) (hs : List Header) (e : Ending)
+    → Walk (start_of c.args.packet.now.start) c.args.packet.now.frame.now hs e
+    → (c.loop-at.at < c.after-at.result)
+    × Reaches c.as_slice-nodes.result.now c.self.inside.jumps (matching (walked c.args.packet.now hs e)) c.after-at.result
+    (chosen (truth (matching (walked c.args.packet.now hs e)) c.args.self.now) first_jump)
+after_test c hs e walk =
+    let packet = c.args.packet.now in
+    let start = start_of packet.start in
+    let w = walked packet hs e in
+    let t = matching w in
+    let ns = c.as_slice-nodes.result.now in
+    let p = c.in-Test.primitive in
+    let same = one_truth c.matches_primitive.result (t p)
+    (c.matches_primitive.ensures hs e walk (c.look_for-seen.ensures.seen hs e walk))
+    (matching_is w packet.frame.now start (whole start packet.frame.now) walk p) in
+    rw (c.after-at.ensures, same)
+    (reaches_next ns c.self.inside.jumps t c.loop-at.at (chosen (truth t c.args.self.now) first_jump) _ p
+    c.loop-at-test.true (past_nodes ns (truth t c.args.self.now) (omega (arith, c.as_slice-nodes.ensures.fits))) c.in-Test.is
+    (c.loop-at.invariant hs e walk))
+
+pub loop-at-smaller : goal.loop-at-smaller
+loop-at-smaller c =
+    let packet = c.args.packet.now in
+    let start = start_of packet.start in
+    let s = some_stack packet.frame.now start (whole start packet.frame.now) c.look_for-seen.ensures.bytes in
+    omega (arith, c.loop-at-test.true, (after_test c s.0 s.1 s.2).0)
+
+pub loop-at-preserved : goal.loop-at-preserved
+loop-at-preserved c hs e walk = (after_test c hs e walk).1
 
 pub returns : goal.returns
 returns c hs e walk =
-    let w = walked c.args.packet.now hs e in
-    let ns = c.as_slice-node-items.result.now in
-    let is : expression_of ns ≡ c.args.self.now = ap expression_of c.as_slice-node-items.ensures.value
-    ∙ c.self.view_is in
-    let value = c.unwrap_or.ensures ∙ ap (λ (o : Option Bool). unwrap_or o false) c.pop.ensures.value in
-    subst (λ (x : Expression). IsTrue c.unwrap_or.result ↔ Holds x w) is
-    (evaluated (IsTruth w) c.self.invariant.0 c.loop-node.truths.items ns c.loop-node.node-index c.unwrap_or.result
-    false (c.as_slice-node-items.ensures.value ∙ c.self.invariant.1) c.loop-node-test.false
-    (c.loop-node.invariant.1 hs e walk) value)
+    let packet = c.args.packet.now in
+    let start = start_of packet.start in
+    let w = walked packet hs e in
+    let t = truth (matching w) c.args.self.now in
+    let at_end = reaches_end c.as_slice-nodes.result.now c.self.inside.jumps (matching w) c.loop-at.at
+    (chosen t first_jump) c.loop-at-test.false (c.loop-at.invariant hs e walk) in
+    rw (c.from.ensures, end_is t c.loop-at.at at_end)
+    (expression_is w packet.frame.now start (whole start packet.frame.now) walk c.args.self.now)

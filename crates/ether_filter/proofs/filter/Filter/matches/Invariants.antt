@@ -1,15 +1,9 @@
-use Rattle.std.proofs.Common.{◌≤◌, List}
-use Rattle.arrayvec.specs.ArrayVec.{array_vec_len}
-use Rattle.etherparse.specs.Header.{Header}
-use Rattle.ether_peel.specs.Grammar.Stack.{Ending, Walk}
-use Rattle.ether_peel.specs.Walker.Start.{start_of}
-use Rattle.ether_filter.specs.Primitives.{walked}
-use Rattle.ether_filter.specs.Evaluation.{IsTruth}
-use Rattle.ether_filter.proofs.Evaluated.{Evaluates}
+use Rattle.std.proofs.Common.{◌-◌, length}
+use Rattle.ether_filter.proofs.Truth.{Runs}
 use Rattle.ether_filter.proofs.filter.Filter.matches.Given as goal
 
-abbrev pub invariant-loop-node : goal.invariant-loop-node
-invariant-loop-node l =
-    (array_vec_len l.truths ≤ l.node-index)
-    × ((hs : List Header) (e : Ending) → Walk (start_of l.packet.start) l.packet.frame.now hs e
-    → Evaluates (IsTruth (walked l.packet hs e)) l.truths.items l.node-items l.node-index)
+abbrev pub invariant-loop-at : goal.invariant-loop-at
+invariant-loop-at l = Runs l.packet l.nodes l.self-inside.jumps l.self l.at
+
+abbrev pub decreases-loop-at : goal.decreases-loop-at
+decreases-loop-at l = length l.nodes - l.at

@@ -1,0 +1,101 @@
+-- The truth of an expression of a packet.
+use Rattle.std.proofs.Common.{◌≡◌, ℕ, ◌≤◌, List, [], length, refl, sym, ap, subst, ◌∙◌, arith, nat_eq, Bool, true, false, ◌↔◌, IsTrue, inl, inr}
+use Rattle.std.proofs.lemmas.List.{append-nil}
+use Rattle.std.specs.Prelude.{not, nat_lt, nat_le}
+use Rattle.std.proofs.lemmas.Bool.{ltb-true, lt-ltb, leb-true, le-leb}
+use Rattle.etherparse.specs.Header.{Header}
+use Rattle.ether_peel.specs.Grammar.Window.{Window}
+use Rattle.ether_peel.specs.Grammar.Expectation.{Expectation}
+use Rattle.ether_peel.specs.Grammar.Stack.{Ending, Stack, Walk}
+use Rattle.ether_peel.specs.Walker.Start.{start_of}
+use Rattle.ether_filter.specs.declared.jumps.Jump.{Jump}
+use Rattle.ether_filter.specs.declared.node.Node.{Node}
+use Rattle.ether_filter.specs.declared.packet.Packet.{Packet}
+use Rattle.ether_filter.specs.declared.primitive.Primitive.{Primitive}
+use Rattle.ether_filter.specs.declared.primitive.Primitive.TheVariants as primitives
+use Rattle.ether_filter.specs.declared.node.Operator.{Operator}
+use Rattle.ether_filter.specs.declared.node.Operator.TheVariants as operators
+use Rattle.ether_filter.specs.Primitives.{Walked, walked, ether_type_of}
+use Rattle.ether_filter.specs.Postfix.{IsPostfix, postfix, expression_of, expression_of-postfix}
+use Rattle.ether_filter.specs.Jumps.{chosen, first_jump, AreJumps}
+use Rattle.ether_filter.specs.Expressions.{Expression, Test, Not, Join}
+use Rattle.ether_filter.specs.Following.{found_at_end, found_first}
+use Rattle.ether_filter.specs.Evaluation.{IsTruth, joined_truth}
+use Rattle.ether_filter.proofs.Found.{found_matches}
+use Rattle.ether_filter.proofs.JumpsLemmas.{Reaches, reaches, truth}
+
+-- whether a primitive matches
+abbrev pub matching : Walked → Primitive → Bool
+matching w primitives.Cut = nat_lt w.captured w.original
+matching w (primitives.Less n) = nat_le w.original n
+matching w (primitives.Greater n) = nat_le n w.original
+matching w p = found_at_end p (found_first p (ether_type_of w.start)) false w.headers w.ending
+
+pub matching_is : (w : Walked) (list : List ℕ) (x : Expectation) (window : Window) → Stack list x window w.headers w.ending
+    → (p : Primitive) → IsTruth w (matching w p) (Test p)
+matching_is w list x window stack primitives.Cut = (ltb-true w.captured w.original, lt-ltb w.captured w.original)
+matching_is w list x window stack (primitives.Less n) = (leb-true w.original n, le-leb w.original n)
+matching_is w list x window stack (primitives.Greater n) = (leb-true n w.original, le-leb n w.original)
+matching_is w list x window stack p = found_matches p w list x window
+    (record { not_cut = λ is. cc; not_less = λ n is. cc; not_greater = λ n is. cc }) stack
+
+not_truth : (w : Walked) (b : Bool) (x : Expression) → IsTruth w b x → IsTruth w (not b) (Not x)
+not_truth w true x is = (λ t. absurd cc, λ never. absurd (never (is.0 refl)))
+not_truth w false x is = (λ t h. let true_is = is.1 h in absurd cc, λ never. refl)
+
+joined_is_truth : (w : Walked) (operator : Operator) (a b : Bool) (x y : Expression) → IsTruth w a x → IsTruth w b y
+    → IsTruth w (joined_truth operator a b) (Join operator x y)
+joined_is_truth w operators.And true b x y left right = (λ t. (left.0 refl, right.0 t), λ h. right.1 h.1)
+joined_is_truth w operators.And false b x y left right = (λ t. absurd cc, λ h. left.1 h.0)
+joined_is_truth w operators.Or true b x y left right = (λ t. inl (left.0 refl), λ h. refl)
+joined_is_truth w operators.Or false b x y left right = (
+  λ t. inr (right.0 t),
+  λ h. elim h [ inl h ↦ let true_is = left.1 h in absurd cc | inr h ↦ right.1 h ],
+)
+
+truth_is : (w : Walked) (t : Primitive → Bool) → ((p : Primitive) → IsTruth w (t p) (Test p)) → (x : Expression)
+    → IsTruth w (truth t x) x
+truth_is w t are (Test p) = are p
+truth_is w t are (Not x) = not_truth w (truth t x) x (truth_is w t are x)
+truth_is w t are (Join operator x y) =
+    joined_is_truth w operator (truth t x) (truth t y) x y (truth_is w t are x) (truth_is w t are y)
+
+-- two truths of one thing
+pub one_truth : {P : Type 0} (a b : Bool) → IsTrue a ↔ P → IsTrue b ↔ P → a ≡ b
+one_truth true true left right = refl
+one_truth true false left right = let t = right.1 (left.0 refl) in absurd cc
+one_truth false true left right = let t = left.1 (right.0 refl) in absurd cc
+one_truth false false left right = refl
+
+pub expression_is : (w : Walked) (list : List ℕ) (x : Expectation) (window : Window)
+    → Stack list x window w.headers w.ending → (expression : Expression)
+    → IsTruth w (truth (matching w) expression) expression
+expression_is w list x window stack expression =
+    truth_is w (matching w) (matching_is w list x window stack) expression
+
+-- ---- an evaluation
+
+-- from an index on the jumps lead to the end that says whether the expression holds of the packet
+abbrev pub Runs : Packet → List Node → List Jump → Expression → ℕ → Type 0
+Runs packet ns js x at =
+    (hs : List Header) (e : Ending) → Walk (start_of packet.start) packet.frame.now hs e
+    → Reaches ns js (matching (walked packet hs e)) at (chosen (truth (matching (walked packet hs e)) x) first_jump)
+
+pub runs_begin : (packet : Packet) (items ns : List Node) (js : List Jump) (x : Expression) → ns ≡ items
+    → IsPostfix items × AreJumps js 0 (expression_of items) first_jump → expression_of items ≡ x → length ns ≤ 192
+    → Runs packet ns js x 0
+runs_begin packet items ns js x same are view few hs e walk =
+    let y = are.0.0 in
+    let is : y ≡ x = sym (expression_of-postfix y) ∙ sym (ap expression_of are.0.1) ∙ view in
+    let nodes_are : ns ≡ postfix x = same ∙ are.0.1 ∙ ap postfix is in
+    let few_nodes : length (postfix x) ≤ 192 = rw (sym nodes_are) few in
+    reaches x ns [] [] js (matching (walked packet hs e)) 0 first_jump (nodes_are ∙ sym (append-nil (postfix x))) refl
+    (subst (λ y. AreJumps js 0 y first_jump) view are.1) (omega (arith, few_nodes)) (omega (arith, few_nodes))
+
+pub past_nodes : (ns : List Node) (b : Bool) → length ns ≤ 192 → length ns ≤ chosen b first_jump
+past_nodes ns true few = omega (arith, few)
+past_nodes ns false few = omega (arith, few)
+
+pub end_is : (b : Bool) (at : ℕ) → at ≡ chosen b first_jump → nat_eq at 255 ≡ b
+end_is true at is = rw is refl
+end_is false at is = rw is refl

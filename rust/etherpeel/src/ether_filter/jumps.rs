@@ -1,0 +1,81 @@
+//! Where the evaluation of an expression goes on after each of its primitives.
+
+use crate::ether_filter::filter::MAX_WORDS;
+use crate::ether_filter::node::{Node, Operator};
+
+/// Where it goes on if the expression holds.
+pub(crate) const HOLDS: u8 = 255;
+
+/// Where it goes on if it doesn't.
+const FAILS: u8 = 254;
+
+/// Where the evaluation goes on after a primitive: at which node, or an end.
+#[derive(Clone, Copy, Debug)]
+pub(crate) struct Jump {
+    if_true: u8,
+    if_false: u8,
+}
+
+impl Jump {
+    /// Where it goes on, by whether the primitive matches.
+    #[inline]
+    pub(crate) fn after(self, matches: bool) -> usize {
+        usize::from(if matches { self.if_true } else { self.if_false })
+    }
+}
+
+/// The jumps after the primitives of an expression, each at the index of its node.
+#[inline]
+pub(crate) fn jumps_of(nodes: &[Node]) -> [Jump; MAX_WORDS] {
+    let jump = Jump {
+        if_true: HOLDS,
+        if_false: FAILS,
+    };
+    let mut jumps = [jump; MAX_WORDS];
+    fill(&mut jumps, nodes, nodes.len(), jump);
+    jumps
+}
+
+/// Fills in the jumps of the expression whose nodes end at an index, and returns the index at which they begin.
+#[inline]
+fn fill(jumps: &mut [Jump; MAX_WORDS], nodes: &[Node], end: usize, jump: Jump) -> usize {
+    if end == 0 {
+        return 0;
+    }
+    let last = end - 1;
+    match nodes[last] {
+        Node::Test(_) => {
+            jumps[last] = jump;
+            last
+        }
+        Node::Not => fill(jumps, nodes, last, negated(jump)),
+        Node::Join(operator) => {
+            let middle = fill(jumps, nodes, last, jump);
+            fill(jumps, nodes, middle, before(operator, middle as u8, jump))
+        }
+    }
+}
+
+/// The jump after an expression that is negated.
+#[inline]
+fn negated(jump: Jump) -> Jump {
+    Jump {
+        if_true: jump.if_false,
+        if_false: jump.if_true,
+    }
+}
+
+/// The jump after a left operand, by where the right one begins and the jump after both.
+#[inline]
+fn before(operator: Operator, right: u8, jump: Jump) -> Jump {
+    match operator {
+        Operator::And => Jump {
+            if_true: right,
+            ..jump
+        },
+        Operator::Or => Jump {
+            if_false: right,
+            ..jump
+        },
+    }
+}

@@ -1,0 +1,180 @@
+//! What one walk through a packet shows of all primitives.
+
+use crate::ether_filter::fields::{Fields, announced_type, is_shown_by_link, read_fields};
+use crate::ether_filter::primitive::Primitive;
+use arrayvec::ArrayVec;
+use crate::ether_peel::{Peel, Start};
+
+/// The most identifiers, and the most ether types, that there is room for.
+const ROOM: usize = 8;
+
+/// The two addresses of a link.
+#[derive(Clone, Copy)]
+pub(crate) struct Addresses {
+    destination: u64,
+    source: u64,
+}
+
+/// What some headers show, but for what they are many of.
+#[derive(Clone, Copy)]
+pub(crate) struct Told {
+    link: Option<Addresses>,
+    /// The identifier of the first VLAN tag.
+    outer: Option<u16>,
+    /// The identifier of the last VLAN tag, if there are two or more.
+    inner: Option<u16>,
+    has_sec_tag: bool,
+    is_refused: bool,
+}
+
+/// What some headers show.
+pub(crate) struct Seen {
+    told: Told,
+    /// The identifiers of the VLAN tags.
+    ids: ArrayVec<u16, ROOM>,
+    /// The ether types that are announced.
+    types: ArrayVec<u16, ROOM>,
+}
+
+/// What the headers of a packet show. `None` if it is more than there is room for.
+#[inline]
+pub(crate) fn look(start: Start, frame: &[u8]) -> Option<Seen> {
+    let mut peel = Peel::new(start, frame);
+    let mut seen = begin(announced_type(peel.kind()));
+    loop {
+        match peel.next() {
+            Some(Ok(unit)) => {
+                if !take(&mut seen, read_fields(&unit), announced_type(peel.kind())) {
+                    return None;
+                }
+            }
+            Some(Err(_)) => {
+                seen.told.is_refused = true;
+                return Some(seen);
+            }
+            None => return Some(seen),
+        }
+    }
+}
+
+/// What is known before the first header, by the ether type that is announced.
+#[inline]
+fn begin(announced: Option<u16>) -> Seen {
+    let mut types = ArrayVec::new();
+    if let Some(number) = announced {
+        types.push(number);
+    }
+    Seen {
+        told: Told {
+            link: None,
+            outer: None,
+            inner: None,
+            has_sec_tag: false,
+            is_refused: false,
+        },
+        ids: ArrayVec::new(),
+        types,
+    }
+}
+
+/// Takes one header more. Returns `false` if there is no room for what it shows.
+#[inline]
+fn take(seen: &mut Seen, fields: Fields, announced: Option<u16>) -> bool {
+    if !fits(seen.told.link, fields) {
+        return false;
+    }
+    seen.told = told_after(seen.told, fields);
+    keep(&mut seen.ids, tag_id(fields)) && keep(&mut seen.types, announced)
+}
+
+/// Whether no link is seen twice.
+#[inline]
+fn fits(link: Option<Addresses>, fields: Fields) -> bool {
+    match (link, fields) {
+        (Some(_), Fields::Link { .. }) => false,
+        _ => true,
+    }
+}
+
+/// What is told after one header more.
+#[inline]
+fn told_after(told: Told, fields: Fields) -> Told {
+    match fields {
+        Fields::Link {
+            destination,
+            source,
+        } => Told {
+            link: Some(Addresses {
+                destination,
+                source,
+            }),
+            ..told
+        },
+        Fields::Tag(id) => match told.outer {
+            None => Told {
+                outer: Some(id),
+                inner: None,
+                ..told
+            },
+            Some(_) => Told {
+                inner: Some(id),
+                ..told
+            },
+        },
+        Fields::SecTag => Told {
+            has_sec_tag: true,
+            ..told
+        },
+        Fields::Other => told,
+    }
+}
+
+/// The identifier of a VLAN tag.
+#[inline]
+fn tag_id(fields: Fields) -> Option<u16> {
+    match fields {
+        Fields::Tag(id) => Some(id),
+        _ => None,
+    }
+}
+
+/// Keeps a number, if there is one. Returns `false` if there is no room for it.
+#[inline]
+fn keep(numbers: &mut ArrayVec<u16, ROOM>, number: Option<u16>) -> bool {
+    if let Some(number) = number {
+        if numbers.is_full() {
+            return false;
+        }
+        numbers.push(number);
+    }
+    true
+}
+
+/// Whether a primitive is seen.
+#[inline]
+pub(crate) fn is_seen(primitive: &Primitive, seen: &Seen) -> bool {
+    match *primitive {
+        Primitive::Vlan => seen.told.outer.is_some(),
+        Primitive::VlanId(id) => has(seen.ids.as_slice(), id),
+        Primitive::OuterVlan(id) => seen.told.outer == Some(id),
+        Primitive::InnerVlan(id) => seen.told.inner == Some(id),
+        Primitive::Macsec => seen.told.has_sec_tag,
+        Primitive::EtherType(number) => has(seen.types.as_slice(), number),
+        Primitive::Refused => seen.told.is_refused,
+        _ => match seen.told.link {
+            Some(link) => is_shown_by_link(*primitive, link.destination, link.source),
+            None => false,
+        },
+    }
+}
+
+/// Whether a number is among those that are kept.
+#[inline]
+fn has(numbers: &[u16], number: u16) -> bool {
+    for known in numbers {
+        if *known == number {
+            return true;
+        }
+    }
+    false
+}
