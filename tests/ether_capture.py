@@ -226,8 +226,6 @@ CASES += [
     Case("an identifier of a packet that is too short", ["--select", "vlan 5 and greater 100"], CLASSIC, OPEN.replace("1\n", "0\n"), 0),
     Case("a header of cooked capture v2 that is cut", ["--select", "greater 1"], NO_HEADER_V2, "total frames 1 skipped 0 undecided 1\n", 0),
     Case("its lines", ["--plain", "--select", "greater 1", "--undecided", "keep"], NO_HEADER_V2, "fault 0 open length 20 18 slice\n", 1),
-    Case("a word that is neither", ["--select", "vlan 5", "--undecided", "maybe"], CLASSIC, "", 2),
-    Case("no filter", ["--undecided", "keep"], CLASSIC, "", 2),
 ]
 
 # A number of packets: the run ends with the last of them, as if the capture ended there.
@@ -266,58 +264,67 @@ CASES += [
 ]
 
 
-# Words that are wrong: the usage goes to standard error.
+# Words that are wrong, and what standard error says of them.
+OPTION = "ether_capture: an option is unknown, comes twice, or lacks its value; try --help\n"
+CLASH = "ether_capture: these options do not go together; try --help\n"
+EDIT = "ether_capture: expected at most one edit, as --push-vlan 0x8100:5 or --set-vlan 5:6; try --help\n"
+COUNT = "ether_capture: -c: expected a number from 1 to 4294967295; try --help\n"
+LIMIT = "ether_capture: --limit: expected a number up to 4294967295; try --help\n"
+UNDECIDED = "ether_capture: --undecided: expected keep or drop; try --help\n"
 WRONG = [
-    ("no number of packets", ["-c"]),
-    ("no packets", ["-c", "0"]),
-    ("a number that is none", ["-c", "x"]),
-    ("a number of packets of more than 32 bits", ["-c", "4294967296"]),
-    ("two numbers of packets", ["-c", "1", "-c", "2"]),
-    ("no limit", ["--limit"]),
-    ("a limit that is none", ["--limit", "x"]),
-    ("a limit below zero", ["--limit", "-1"]),
-    ("a limit with a zero before it", ["--limit", "01"]),
-    ("a limit of more than 32 bits", ["--limit", "4294967296"]),
-    ("two limits", ["--limit", "1", "--limit", "1"]),
-    ("a limit of a copy", ["--write", "--limit", "1"]),
-    ("a limit of an edited copy", ["--limit", "0", "--cut-to-headers", "--write"]),
-    ("a copy of two files", ["--write", "one", "two"]),
-    ("an edited copy of three files", ["--pop-vlan", "--write", "one", "two", "three"]),
-    ("an option that is none", ["--plane"]),
-    ("the beginning of an option", ["--pla"]),
-    ("a letter that is none", ["-p"]),
-    ("a value of an option that has none", ["--plain=yes"]),
-    ("no filter before an option", ["--select", "--plain"]),
-    ("an option that is none, and help after it", ["--plane", "--help"]),
-    ("a word twice", ["--plain", "--plain"]),
-    ("an expression that is missing", ["--select"]),
-    ("lines and a copy", ["--plain", "--write"]),
-    ("a copy twice", ["--write", "--select", "arp", "--write"]),
-    ("two filters", ["--select", "arp", "--select", "arp"]),
-    ("headers without a copy", ["--cut-to-headers"]),
-    ("headers twice", ["--write", "--cut-to-headers", "--cut-to-headers"]),
-    ("a tag less without a copy", ["--pop-vlan"]),
-    ("a tag more without a copy", ["--push-vlan", "0x8100:5"]),
-    ("no tag to put in", ["--write", "--push-vlan"]),
-    ("a tag without a TPID", ["--write", "--push-vlan", "5"]),
-    ("a TPID of another kind", ["--write", "--push-vlan", "0x8101:5"]),
-    ("a tag of 13 bits", ["--write", "--push-vlan", "0x8100:4096"]),
-    ("a tag in three parts", ["--write", "--push-vlan", "0x8100:5:6"]),
-    ("an octal identifier", ["--write", "--push-vlan", "0x8100:05"]),
-    ("a number of more than 32 bits", ["--write", "--push-vlan", "0x100008100:5"]),
-    ("two edits", ["--write", "--pop-vlan", "--cut-to-headers"]),
-    ("another identifier without a copy", ["--set-vlan", "5:6"]),
-    ("no identifiers", ["--write", "--set-vlan"]),
-    ("one identifier", ["--write", "--set-vlan", "5"]),
-    ("no second identifier", ["--write", "--set-vlan", "5:"]),
-    ("no first identifier", ["--write", "--set-vlan", ":5"]),
-    ("a new identifier of 13 bits", ["--write", "--set-vlan", "5:4096"]),
-    ("an old identifier of 13 bits", ["--write", "--set-vlan", "0x1000:5"]),
-    ("an identifier that is no number", ["--write", "--set-vlan", "x:1"]),
-    ("three identifiers", ["--write", "--set-vlan", "5:6:7"]),
-    ("other identifiers twice", ["--write", "--set-vlan", "5:6", "--set-vlan", "6:7"]),
-    ("another identifier and a tag less", ["--write", "--set-vlan", "5:6", "--pop-vlan"]),
-    ("a tag more and another identifier", ["--write", "--push-vlan", "0x8100:5", "--set-vlan", "5:6"]),
+    ("no number of packets", ["-c"], OPTION),
+    ("no packets", ["-c", "0"], COUNT),
+    ("a number that is none", ["-c", "x"], COUNT),
+    ("a number of packets of more than 32 bits", ["-c", "4294967296"], COUNT),
+    ("two numbers of packets", ["-c", "1", "-c", "2"], OPTION),
+    ("no limit", ["--limit"], OPTION),
+    ("a limit that is none", ["--limit", "x"], LIMIT),
+    ("a limit below zero", ["--limit", "-1"], OPTION),
+    ("a limit with a zero before it", ["--limit", "01"], LIMIT),
+    ("a limit of more than 32 bits", ["--limit", "4294967296"], LIMIT),
+    ("two limits", ["--limit", "1", "--limit", "1"], OPTION),
+    ("a limit of a copy", ["--write", "--limit", "1"], CLASH),
+    ("a limit of an edited copy", ["--limit", "0", "--cut-to-headers", "--write"], CLASH),
+    ("a copy of two files", ["--write", "one", "two"], CLASH),
+    ("an edited copy of three files", ["--pop-vlan", "--write", "one", "two", "three"], CLASH),
+    ("an option that is none", ["--plane"], OPTION),
+    ("the beginning of an option", ["--pla"], OPTION),
+    ("a letter that is none", ["-p"], OPTION),
+    ("a value of an option that has none", ["--plain=yes"], OPTION),
+    ("no filter before an option", ["--select", "--plain"], OPTION),
+    ("an option that is none, and help after it", ["--plane", "--help"], OPTION),
+    ("a word twice", ["--plain", "--plain"], OPTION),
+    ("an expression that is missing", ["--select"], OPTION),
+    ("lines and a copy", ["--plain", "--write"], CLASH),
+    ("a copy twice", ["--write", "--select", "arp", "--write"], OPTION),
+    ("two filters", ["--select", "arp", "--select", "arp"], OPTION),
+    ("headers without a copy", ["--cut-to-headers"], CLASH),
+    ("headers twice", ["--write", "--cut-to-headers", "--cut-to-headers"], OPTION),
+    ("a tag less without a copy", ["--pop-vlan"], CLASH),
+    ("a tag more without a copy", ["--push-vlan", "0x8100:5"], CLASH),
+    ("no tag to put in", ["--write", "--push-vlan"], OPTION),
+    ("a tag without a TPID", ["--write", "--push-vlan", "5"], EDIT),
+    ("a TPID of another kind", ["--write", "--push-vlan", "0x8101:5"], EDIT),
+    ("a tag of 13 bits", ["--write", "--push-vlan", "0x8100:4096"], EDIT),
+    ("a tag in three parts", ["--write", "--push-vlan", "0x8100:5:6"], EDIT),
+    ("an octal identifier", ["--write", "--push-vlan", "0x8100:05"], EDIT),
+    ("a number of more than 32 bits", ["--write", "--push-vlan", "0x100008100:5"], EDIT),
+    ("two edits", ["--write", "--pop-vlan", "--cut-to-headers"], EDIT),
+    ("another identifier without a copy", ["--set-vlan", "5:6"], CLASH),
+    ("no identifiers", ["--write", "--set-vlan"], OPTION),
+    ("one identifier", ["--write", "--set-vlan", "5"], EDIT),
+    ("no second identifier", ["--write", "--set-vlan", "5:"], EDIT),
+    ("no first identifier", ["--write", "--set-vlan", ":5"], EDIT),
+    ("a new identifier of 13 bits", ["--write", "--set-vlan", "5:4096"], EDIT),
+    ("an old identifier of 13 bits", ["--write", "--set-vlan", "0x1000:5"], EDIT),
+    ("an identifier that is no number", ["--write", "--set-vlan", "x:1"], EDIT),
+    ("three identifiers", ["--write", "--set-vlan", "5:6:7"], EDIT),
+    ("other identifiers twice", ["--write", "--set-vlan", "5:6", "--set-vlan", "6:7"], OPTION),
+    ("another identifier and a tag less", ["--write", "--set-vlan", "5:6", "--pop-vlan"], EDIT),
+    ("a tag more and another identifier", ["--write", "--push-vlan", "0x8100:5", "--set-vlan", "5:6"], EDIT),
+    ("undecided packets that are neither kept nor dropped", ["--select", "vlan", "--undecided", "maybe"], UNDECIDED),
+    ("undecided packets without a filter", ["--undecided", "keep"], CLASH),
+    ("a filter that is wrong, and an option that is none", ["--select", "vlan 4096", "-c", "0"], COUNT),
 ]
 
 
@@ -325,7 +332,7 @@ def wrong_words_alone(program):
     """Wrong words if standard output is full, or there is no standard error."""
     silent = subprocess.run([program, "--plane"], stdin=subprocess.DEVNULL, stdout=subprocess.PIPE, preexec_fn=lambda: os.close(2), check=False)
     return [
-        ("wrong words on a full disk", on_a_full_disk(program, ["--plane"], b""), (USAGE, 2)),
+        ("wrong words on a full disk", on_a_full_disk(program, ["--plane"], b""), (OPTION, 2)),
         ("wrong words without standard error", (silent.stdout, silent.returncode), (b"", 2)),
     ]
 
@@ -396,8 +403,9 @@ def main():
         with open(name, "wb") as file:
             file.write(classic(*SIX))
         wanted = run(program, ["--plain", "--select", "arp"], classic(*SIX))
+        tried.append(("standard input by its name", run(program, ["--plain", "--select", "arp", "-"], classic(*SIX)), wanted))
         tried.append(("a filter and a file", run(program, ["--plain", "--select", "arp", name], b""), wanted))
-    tried += [(name, copied(program, words, CLASSIC), (b"", USAGE, 2)) for name, words in WRONG]
+    tried += [(name, copied(program, words, CLASSIC), (b"", text, 2)) for name, words, text in WRONG]
     tried += selections(program)
     tried += several(program)
     tried += limits(program)

@@ -46,7 +46,7 @@ def check_form():
 
 def main():
     check_form()
-    usage = re.search(r'"(usage: ether_capture .*?)";', text("crates/ether_stream/src/outcome.rt"))[1]
+    usage = re.search(r'"(usage: ether_capture .*?)\\n', text("crates/ether_stream/src/outcome.rt"))[1]
     for option in sorted(set(re.findall(r"-[a-zA-Z-]+(?=[ ,|\]])", usage))):
         check("ether_capture(1)", re.search(rf"(?<![\w-]){option}(?![\w-])", page("man/ether_capture.1")), f"{option} is missing")
     for word in ("eth", "fcs", "sll", "type XXXX", "feed", "limit N"):

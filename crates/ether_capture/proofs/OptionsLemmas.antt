@@ -4,7 +4,9 @@ use Rattle.clap.specs.Words.{App, FailsBy, HasKind, HasMatchesOf, IsAmong, Row, 
 use Rattle.clap.specs.declared.error.Error.{Error}
 use Rattle.clap.specs.declared.error.kind.ErrorKind.{ErrorKind}
 use Rattle.clap.specs.declared.parser.matches.ArgMatches.{ArgMatches}
-use Rattle.ether_capture.specs.Options.{AskedValue, Asks, IsRequestOf, KindNames, NamesRequest, RefusesAsked, RefusesKind, RefusesRows, RefusesWords, capture_app, help, options, request_view, version}
+use Rattle.ether_capture.specs.Options.{AskedValue, Asks, IsRequestOf, KindNames, MeansNothing, NamesNothing, NamesRequest, RefusesAsked, RefusesKind, RefusesRows, RefusesWords, capture_app, help, options, request_view, version}
+use Rattle.ether_stream.specs.declared.words.Usage.{Usage}
+use Rattle.ether_stream.specs.declared.words.Usage.TheVariants as usages
 use Rattle.ether_capture.specs.declared.asked.Request.{Request}
 use Rattle.ether_capture.specs.declared.asked.RequestError.{RequestError}
 use Rattle.ether_capture.specs.declared.asked.RequestError.TheVariants as reasons
@@ -36,9 +38,17 @@ refuses a words e is fails =
 
 module _ (words : List Text) (rows : List Row) (taken : fault_of capture_app words ≡ [])
     (is : rows ≡ matches_of capture_app words) where
+  means_nothing : (usage : Usage) → MeansNothing rows usage → NamesNothing words usage
+  means_nothing usage nothing =
+      record { taken = taken; nothing = subst (λ it. MeansNothing it usage) is nothing }
+
   rows_refused : (e : RequestError) → RefusesRows rows e → RefusesWords words e
-  rows_refused reasons.Usage nothing =
-      inr (inl (record { taken = taken; nothing = λ a asks. nothing a (subst (λ it. Asks it a) (sym is) asks) }))
+  rows_refused (reasons.Usage usages.Words) never = absurd never
+  rows_refused (reasons.Usage usages.Clash) never = absurd never
+  rows_refused (reasons.Usage usages.Edit) nothing = means_nothing usages.Edit nothing
+  rows_refused (reasons.Usage usages.Count) nothing = means_nothing usages.Count nothing
+  rows_refused (reasons.Usage usages.Limit) nothing = means_nothing usages.Limit nothing
+  rows_refused (reasons.Usage usages.Undecided) nothing = means_nothing usages.Undecided nothing
   rows_refused (reasons.Filter copy e) never = absurd never
   rows_refused reasons.Memory no_memory = tt
 
@@ -59,8 +69,13 @@ module _ (words : List Text) (rows : List Row) (taken : fault_of capture_app wor
   pub asked_refused : (a : AskedValue) (r : Result Request RequestError) → Asks rows a → IfErr r (RefusesAsked a)
       → IfErr r (RefusesWords words)
   asked_refused a (Ok request) asks refused = tt
-  asked_refused a (Err reasons.Usage) asks clash =
-      inr (inr (record { asked = a; taken = taken; asks = subst (λ it. Asks it a) is asks; clash = clash }))
+  asked_refused a (Err (reasons.Usage usages.Clash)) asks clash =
+      record { asked = a; taken = taken; asks = subst (λ it. Asks it a) is asks; clash = clash }
+  asked_refused a (Err (reasons.Usage usages.Words)) asks never = absurd never
+  asked_refused a (Err (reasons.Usage usages.Edit)) asks never = absurd never
+  asked_refused a (Err (reasons.Usage usages.Count)) asks never = absurd never
+  asked_refused a (Err (reasons.Usage usages.Limit)) asks never = absurd never
+  asked_refused a (Err (reasons.Usage usages.Undecided)) asks never = absurd never
   asked_refused a (Err (reasons.Filter copy e)) asks no_filter =
       record { asked = a; taken = taken; asks = subst (λ it. Asks it a) is asks; no_filter = no_filter }
   asked_refused a (Err reasons.Memory) asks refused = tt
@@ -89,15 +104,18 @@ module _ (words : List Text) (kind : ErrorKind) (e : Error) (fails : HasKind (fa
   kind_refused (Ok request) refused = tt
   kind_refused (Err (reasons.Filter copy other)) never = absurd never
   kind_refused (Err reasons.Memory) refused = tt
-  kind_refused (Err reasons.Usage) (no_help, no_version, no_memory) = by_kind fails
+  kind_refused (Err (reasons.Usage usages.Clash)) never = absurd never
+  kind_refused (Err (reasons.Usage usages.Edit)) never = absurd never
+  kind_refused (Err (reasons.Usage usages.Count)) never = absurd never
+  kind_refused (Err (reasons.Usage usages.Limit)) never = absurd never
+  kind_refused (Err (reasons.Usage usages.Undecided)) never = absurd never
+  kind_refused (Err (reasons.Usage usages.Words)) (no_help, no_version, no_memory) = by_kind fails
     where
-      by_kind : HasKind (fault_of capture_app words) e → RefusesWords words reasons.Usage
+      by_kind : HasKind (fault_of capture_app words) e → RefusesWords words (reasons.Usage usages.Words)
       by_kind (inl ends) = absurd (no_memory (is ∙ ends))
-      by_kind (inr among) =
-          inl
-          (record {
-            kind = kind;
-            among = subst (λ k. IsAmong k (fault_of capture_app words)) (sym is) among;
-            no_help = no_help;
-            no_version = no_version;
-          })
+      by_kind (inr among) = record {
+        kind = kind;
+        among = subst (λ k. IsAmong k (fault_of capture_app words)) (sym is) among;
+        no_help = no_help;
+        no_version = no_version;
+      }

@@ -17,6 +17,8 @@ use Rattle.ether_pcap.specs.CopiedUnits.{ModeValue, Exact, Changed}
 use Rattle.ether_stream.specs.Copying.{growth_if}
 use Rattle.ether_stream.specs.declared.selection.Selection.{Selection}
 use Rattle.ether_stream.specs.declared.selection.Undecided.{Undecided}
+use Rattle.ether_stream.specs.declared.words.Usage.{Usage}
+use Rattle.ether_stream.specs.declared.words.Usage.TheVariants as usages
 use Rattle.ether_stream.specs.Task.{TaskValue, FormValue, Lines, Copy, task_view}
 use Rattle.ether_capture.specs.declared.asked.Asked.{Asked}
 use Rattle.ether_capture.specs.declared.asked.Listing.{Listing}
@@ -143,10 +145,15 @@ form_of a = if a.write then Copy (mode_of a) a.edit else Lines (options_of a)
 abbrev pub selection_of : AskedValue → Option Expression → Option Selection
 selection_of a = option_map (λ x. record { filter = x; undecided = a.undecided })
 
+-- the name of a file, unless standard input is asked for: without a name, or by `-`
+abbrev pub file_of : List Text → Option Text
+file_of [] = None
+file_of (name ∷ names) = if bytes_eq name (codes "-") then None else Some name
+
 -- what is asked for, with these files
 abbrev pub request_for : AskedValue → (select : Option Selection) → (files : List Text) → RequestValue
 request_for a s [] = Run (record { select = s; count = a.count; form = form_of a }) None
-request_for a s (name ∷ []) = Run (record { select = s; count = a.count; form = form_of a }) (Some name)
+request_for a s (name ∷ []) = Run (record { select = s; count = a.count; form = form_of a }) (file_of (name ∷ []))
 request_for a s (name ∷ other ∷ names) =
     Lists (record { select = s; count = a.count; options = options_of a; files = name ∷ other ∷ names })
 
@@ -171,10 +178,19 @@ pub record IsRefused (words : List Text) : Type 0 where
   pub no_help : kind ≢ DisplayHelp
   pub no_version : kind ≢ DisplayVersion
 
+-- the value of an option means nothing, or there are several edits
+abbrev pub MeansNothing : List Row → Usage → Type 0
+MeansNothing rows usages.Edit = (e : Option EditValue) → ¬ (IsEdit rows e)
+MeansNothing rows usages.Count = (n : Option ℕ) → ¬ (IsIfAny IsCount (first_of (codes "count") rows) n)
+MeansNothing rows usages.Limit = (n : Option ℕ) → ¬ (IsIfAny IsLimit (first_of (codes "limit") rows) n)
+MeansNothing rows usages.Undecided = (u : Option Undecided) → ¬ (IsIfAny MeansUndecided (first_of (codes "undecided") rows) u)
+MeansNothing rows usages.Words = ⊥
+MeansNothing rows usages.Clash = ⊥
+
 -- .. or takes them, but a value means nothing
-pub record NamesNothing (words : List Text) : Type 0 where
+pub record NamesNothing (words : List Text) (usage : Usage) : Type 0 where
   pub taken : fault_of capture_app words ≡ []
-  pub nothing : (a : AskedValue) → ¬ (Asks (matches_of capture_app words) a)
+  pub nothing : MeansNothing (matches_of capture_app words) usage
 
 -- .. or options do not go together
 pub record NamesClash (words : List Text) : Type 0 where
@@ -198,7 +214,9 @@ pub record NamesNoFilter (words : List Text) (copy : Bool) (e : FilterError) : T
 
 -- why arguments ask for nothing, or that memory for them was refused
 abbrev pub RefusesWords : (words : List Text) → RequestError → Type 0
-RefusesWords words reasons.Usage = IsRefused words ⊎ (NamesNothing words ⊎ NamesClash words)
+RefusesWords words (reasons.Usage usages.Words) = IsRefused words
+RefusesWords words (reasons.Usage usages.Clash) = NamesClash words
+RefusesWords words (reasons.Usage usage) = NamesNothing words usage
 RefusesWords words (reasons.Filter copy e) = NamesNoFilter words copy e
 RefusesWords words reasons.Memory = ⊤
 
@@ -222,18 +240,20 @@ KindNames kind request = ((kind ≡ DisplayHelp) × (request ≡ Help)) ⊎ ((ki
 
 -- .. or why it is one
 abbrev pub RefusesKind : ErrorKind → RequestError → Type 0
-RefusesKind kind reasons.Usage = (kind ≢ DisplayHelp) × (kind ≢ DisplayVersion) × (kind ≢ OutOfMemory)
+RefusesKind kind (reasons.Usage usages.Words) = (kind ≢ DisplayHelp) × (kind ≢ DisplayVersion) × (kind ≢ OutOfMemory)
+RefusesKind kind (reasons.Usage usage) = ⊥
 RefusesKind kind (reasons.Filter copy e) = ⊥
 RefusesKind kind reasons.Memory = kind ≡ OutOfMemory
 
 -- why values of options ask for nothing
 abbrev pub RefusesRows : List Row → RequestError → Type 0
-RefusesRows rows reasons.Usage = (a : AskedValue) → ¬ (Asks rows a)
+RefusesRows rows (reasons.Usage usage) = MeansNothing rows usage
 RefusesRows rows (reasons.Filter copy e) = ⊥
 RefusesRows rows reasons.Memory = ⊤
 
 -- why what is asked for is no request
 abbrev pub RefusesAsked : AskedValue → RequestError → Type 0
-RefusesAsked a reasons.Usage = clashes a ≡ true
+RefusesAsked a (reasons.Usage usages.Clash) = clashes a ≡ true
+RefusesAsked a (reasons.Usage usage) = ⊥
 RefusesAsked a (reasons.Filter copy e) = HasNoFilter a copy e
 RefusesAsked a reasons.Memory = ⊥

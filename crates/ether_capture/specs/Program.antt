@@ -60,8 +60,8 @@ abbrev pub HasObeyed : (has : List ℕ → Option (List ℕ) → Type 0) (can_fa
     → (before after held holds : Option (List ℕ)) → Outcome → Type 0
 HasObeyed has can_fail can_refuse can_read can_write None before after held holds outcome =
     (outcome ≡ outcomes.Run false (Err Input)) × (after ≡ before) × (holds ≡ held)
-HasObeyed has can_fail can_refuse can_read can_write (Some words) before after held holds outcomes.Usage =
-    RefusesWords words reasons.Usage × (after ≡ before) × (holds ≡ held)
+HasObeyed has can_fail can_refuse can_read can_write (Some words) before after held holds (outcomes.Usage usage) =
+    RefusesWords words (reasons.Usage usage) × (after ≡ before) × (holds ≡ held)
 HasObeyed has can_fail can_refuse can_read can_write (Some words) before after held holds (outcomes.NoFilter copy error) =
     RefusesWords words (reasons.Filter copy error) × (after ≡ before) × (holds ≡ held)
 HasObeyed has can_fail can_refuse can_read can_write (Some words) before after held holds outcomes.NoMemory = (after ≡ before) × (holds ≡ held)

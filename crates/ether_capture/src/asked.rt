@@ -1,9 +1,10 @@
 //! What the options together ask for.
 ghost use Rattle.std.specs.Prelude.{◌≡◌, IfOk, IfErr, false, map};
+ghost use Rattle.std.specs.Option.{option_map};
 ghost use Rattle.ether_pcap.specs.CopiedUnits.{copy_mode_view};
 ghost use Rattle.ether_stream.specs.Copying.{growth_if};
 ghost use Rattle.ether_stream.specs.Task.{form_view};
-ghost use Rattle.ether_capture.specs.Options.{IsRequestOf, RefusesAsked, are_several, asked_view, clashes, form_of, mode_of, options_of, request_view, selection_of};
+ghost use Rattle.ether_capture.specs.Options.{IsRequestOf, RefusesAsked, are_several, asked_view, clashes, file_of, form_of, mode_of, options_of, request_view, selection_of};
 
 use ether_content::PacketEdit;
 use ether_filter::{Filter, FilterError};
@@ -14,8 +15,8 @@ use std::num::NonZeroUsize;
 /// Why the arguments ask for nothing.
 #[derive(Clone, Copy, Debug)]
 pub enum RequestError {
-    /// One of them is unknown, has a value that can't be read, or does not go with the others.
-    Usage,
+    /// They are wrong in this way.
+    Usage(Usage),
     /// Memory for them was refused.
     Memory,
     /// The filter is no expression.
@@ -30,10 +31,10 @@ pub enum RequestError {
 impl From<Usage> for RequestError {
     ghost use Rattle.ether_capture.specs.declared.asked.RequestError.TheVariants as reasons;
 
-    ghost from_gives = { λ _ error. error ≡ reasons.Usage };
+    ghost from_gives = { λ usage error. error ≡ reasons.Usage usage };
 
-    fn from(_error: Usage) -> RequestError {
-        RequestError::Usage
+    fn from(usage: Usage) -> RequestError {
+        RequestError::Usage(usage)
     }
 }
 
@@ -104,7 +105,7 @@ impl<'a> Asked<'a> {
         ensures err { IfErr result (RefusesAsked (asked_view self.entry)) }
     {
         if self.clashes() {
-            return Err(RequestError::Usage);
+            return Err(RequestError::Usage(Usage::Clash));
         }
         match filter_of(self.text) {
             Ok(filter) if self.has_several() => Ok(Request::List(Listing {
@@ -120,13 +121,24 @@ impl<'a> Asked<'a> {
                     count: self.count,
                     form,
                 };
-                Ok(Request::Run(task, self.files.first().copied()))
+                Ok(Request::Run(task, self.file()))
             }
             Err(error) => Err(RequestError::Filter {
                 is_copy: self.is_copy,
                 error,
             }),
         }
+    }
+
+    /// The name of a file, unless standard input is asked for.
+    fn file(&self) -> Option<&'a str>
+        ensures { option_map (λ s. s.now) result ≡ file_of (map (λ s. s.now) self.now.files.items) }
+    {
+        let name = self.files.first().copied()?;
+        if name == "-" {
+            return None;
+        }
+        Some(name)
     }
 
     /// Which packets a filter selects, if there is one.

@@ -10,7 +10,7 @@ use crate::asked::{Asked, Request, RequestError};
 use clap::error::ErrorKind;
 use clap::{Arg, ArgAction, ArgMatches, Command};
 use ether_content::PacketEdit;
-use ether_stream::{count_of, edit_of_words, limit_of, undecided_of};
+use ether_stream::{Usage, count_of, edit_of_words, limit_of, undecided_of};
 use std::alloc::{AllocError, Global};
 use std::env;
 
@@ -97,7 +97,7 @@ fn request_of_kind<'a>(kind: ErrorKind) -> Result<Request<'a>, RequestError>
         ErrorKind::DisplayHelp => Ok(Request::Help),
         ErrorKind::DisplayVersion => Ok(Request::Version),
         ErrorKind::OutOfMemory => Err(RequestError::Memory),
-        _ => Err(RequestError::Usage),
+        _ => Err(RequestError::Usage(Usage::Words)),
     }
 }
 
@@ -157,7 +157,7 @@ fn names_of<'a>(matches: &ArgMatches<'a>, alloc: Global) -> Result<Vec<&'a str>,
 fn edit_of(matches: &ArgMatches<'_>) -> Result<Option<PacketEdit>, RequestError>
     ensures ok { IfOk result (λ it. IsEdit (rows_of (found_of matches.now)) (option_map edit_view it)) }
     ensures err { OnErr result ((e : Option EditValue) → ¬ (IsEdit (rows_of (found_of matches.now)) e)) }
-    ensures usage { IfErr result (λ e. e ≡ RequestError.Usage) }
+    ensures usage { IfErr result (λ e. e ≡ RequestError.Usage Usage.Edit) }
 {
     let cuts = is_set(matches, "cut-to-headers");
     let pops = is_set(matches, "pop-vlan");

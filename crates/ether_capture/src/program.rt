@@ -69,7 +69,7 @@ fn obey<'a, C: Captures, R: Source, W: LineSink>(
         Ok(Request::List(listing)) => Outcome::Files(run_files(listing, alloc, captures, writer)),
         Ok(Request::Help) => Outcome::Help,
         Ok(Request::Version) => Outcome::Version,
-        Err(RequestError::Usage) => Outcome::Usage,
+        Err(RequestError::Usage(usage)) => Outcome::Usage(usage),
         Err(RequestError::Memory) => Outcome::NoMemory,
         Err(RequestError::Filter { is_copy, error }) => Outcome::NoFilter { is_copy, error },
     }

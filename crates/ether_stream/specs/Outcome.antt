@@ -11,6 +11,8 @@ use Rattle.ether_text.specs.declared.verdict.Verdict.{Verdict}
 use Rattle.ether_text.specs.declared.verdict.Verdict.TheVariants.{AllAccepted, SomeRefused}
 use Rattle.ether_stream.specs.declared.open_fault.OpenFault.{OpenFault}
 use Rattle.ether_stream.specs.declared.open_fault.OpenFault.TheVariants as open_faults
+use Rattle.ether_stream.specs.declared.words.Usage.{Usage}
+use Rattle.ether_stream.specs.declared.words.Usage.TheVariants as usages
 use Rattle.ether_stream.specs.declared.outcome.Outcome.{Outcome}
 use Rattle.ether_stream.specs.declared.outcome.Outcome.TheVariants as outcomes
 use Rattle.ether_pcap.specs.declared.capture.capture_fault.CaptureFault.{CaptureFault}
@@ -33,8 +35,17 @@ exit_status (Err Input) = 4
 exit_status (Err Output) = 4
 exit_status (Err Memory) = 5
 
-abbrev pub usage_text : List ℕ
-usage_text = codes "usage: ether_capture [[--plain] [--limit N] | --write [--cut-to-headers | --pop-vlan | --push-vlan TPID:ID | --set-vlan A:B]] [--select EXPR [--undecided keep|drop]] [-c N] [FILE].."
+-- what is wrong with words
+abbrev pub usage_text : Usage → List ℕ
+usage_text usages.Words = codes "an option is unknown, comes twice, or lacks its value"
+usage_text usages.Clash = codes "these options do not go together"
+usage_text usages.Edit = codes "expected at most one edit, as --push-vlan 0x8100:5 or --set-vlan 5:6"
+usage_text usages.Count = codes "-c: expected a number from 1 to 4294967295"
+usage_text usages.Limit = codes "--limit: expected a number up to 4294967295"
+usage_text usages.Undecided = codes "--undecided: expected keep or drop"
+
+abbrev pub usage_line_text : Usage → List ℕ
+usage_line_text usage = codes "ether_capture: " ++ (usage_text usage ++ codes "; try --help")
 
 -- what is said if memory was refused
 abbrev pub memory_text : List ℕ
@@ -64,7 +75,7 @@ not_edited_text offset =
     codes "byte " ++ (decimal offset ++ (codes ": " ++ codes "This packet can't be written: its block has no number of captured bytes, or it would be too long."))
 
 abbrev pub help_text : List ℕ
-help_text = codes "usage: ether_capture [[--plain] [--limit N] | --write [--cut-to-headers | --pop-vlan | --push-vlan TPID:ID | --set-vlan A:B]] [--select EXPR [--undecided keep|drop]] [-c N] [FILE]..\n\nPrints the link-layer headers of each packet of captures, pcap or pcapng: of each FILE, or of standard input.\n\n  --plain           leave out the lines of packets and the totals\n  --limit N         read N VLAN tags and SecTags of each packet at most\n  --select EXPR     only packets that match EXPR, as 'vlan 5 or arp'\n  --undecided keep|drop\n                    with --select, keep or drop packets that were cut too short to tell, in place of taking them as they are\n  -c N              end with the N-th of these packets, of all files together\n  --write           write the capture itself, of one FILE at most, without the other packets; faults go to standard error\n  --cut-to-headers  with --write, cut each packet where its link-layer headers end\n  --pop-vlan        with --write, take the VLAN tag after the link's header off each frame\n  --push-vlan TPID:ID\n                    with --write, put a VLAN tag after the link's header, as 0x8100:5\n  --set-vlan A:B    with --write, give the outermost VLAN tag with identifier A identifier B\n  -h, --help        print this text\n  -V, --version     print the version\n\nEXPR has these primitives, with not, and, or and parentheses:\n\n  vlan [ID], outer vlan ID, inner vlan ID, macsec, arp, ip, ip6\n  ether proto TYPE, ether src ADDR, ether dst ADDR, ether host ADDR\n  ether broadcast, ether multicast, less N, greater N, cut, refused\n\nEach says something of all headers of a packet: arp is true after any tags, too."
+help_text = codes "usage: ether_capture [[--plain] [--limit N] | --write [--cut-to-headers | --pop-vlan | --push-vlan TPID:ID | --set-vlan A:B]] [--select EXPR [--undecided keep|drop]] [-c N] [FILE]..\n\nPrints the link-layer headers of each packet of captures, pcap or pcapng: of each FILE, or of standard input, which a FILE of - also names.\n\nWhich packets:\n  --select EXPR     only packets that match EXPR, as 'vlan 5 or arp'\n  --undecided keep|drop\n                    with --select, keep or drop packets that were cut too short to tell, in place of taking them as they are\n  -c N              end with the N-th of these packets, of all files together\n\nLines:\n  --plain           leave out the lines of packets and the totals\n  --limit N         read N VLAN tags and SecTags of each packet at most\n\nCopies:\n  --write           write the capture itself, of one FILE at most, without the other packets; faults go to standard error\n  --cut-to-headers  with --write, cut each packet where its link-layer headers end\n  --pop-vlan        with --write, take the VLAN tag after the link's header off each frame\n  --push-vlan TPID:ID\n                    with --write, put a VLAN tag after the link's header, as 0x8100:5\n  --set-vlan A:B    with --write, give the outermost VLAN tag with identifier A identifier B\n\n  -h, --help        print this text\n  -V, --version     print the version\n\nEXPR has these primitives, with not, and, or and parentheses:\n\n  vlan [ID], outer vlan ID, inner vlan ID, macsec, arp, ip, ip6\n  ether proto TYPE, ether src ADDR, ether dst ADDR, ether host ADDR\n  ether broadcast, ether multicast, less N, greater N, cut, refused\n\nEach says something of all headers of a packet: unlike in pcap-filter(7), arp is true after any tags, too.\n\nExamples:\n\n  ether_capture --select 'vlan 5 or arp' f.pcap\n  tcpdump -U --immediate-mode -w - | ether_capture\n  ether_capture --write --push-vlan 0x8100:5 f.pcap > tagged.pcap"
 
 abbrev pub version_text : List ℕ
 version_text = codes "ether_capture 3.0.0"
@@ -138,7 +149,7 @@ last_text (outcomes.NotOpened copy name fault) = Some (not_opened_text name.now 
 last_text (outcomes.NoFilter copy error) = Some (no_filter_text error)
 last_text outcomes.Help = Some help_text
 last_text outcomes.Version = Some version_text
-last_text outcomes.Usage = Some usage_text
+last_text (outcomes.Usage usage) = Some (usage_line_text usage)
 last_text outcomes.NoMemory = Some memory_text
 
 -- what is printed last is a message: nothing was asked for, or a copy
@@ -150,7 +161,7 @@ is_message (outcomes.NotOpened copy name fault) = copy
 is_message (outcomes.NoFilter copy error) = copy
 is_message outcomes.Help = false
 is_message outcomes.Version = false
-is_message outcomes.Usage = true
+is_message (outcomes.Usage usage) = true
 is_message outcomes.NoMemory = true
 
 -- the exit status of an outcome
@@ -163,7 +174,7 @@ status_of_outcome (outcomes.NotOpened copy name fault) = exit_status (Err Input)
 status_of_outcome (outcomes.NoFilter copy error) = 2
 status_of_outcome outcomes.Help = 0
 status_of_outcome outcomes.Version = 0
-status_of_outcome outcomes.Usage = 2
+status_of_outcome (outcomes.Usage usage) = 2
 status_of_outcome outcomes.NoMemory = exit_status (Err Memory)
 
 -- that of the program, by whether its last line was printed: if not, output failed, unless the line is a message
@@ -176,5 +187,5 @@ last_line_text (last_lines.Named name reason) = named_text name.now (reason_text
 last_line_text (last_lines.NotOpened name fault) = not_opened_text name.now fault
 last_line_text last_lines.Help = help_text
 last_line_text last_lines.Version = version_text
-last_line_text last_lines.Usage = usage_text
+last_line_text (last_lines.Usage usage) = usage_line_text usage
 last_line_text (last_lines.NoFilter error) = no_filter_text error.now

@@ -37,7 +37,7 @@ pub use memory::Grow;
 pub use no_memory::NoMemory;
 pub use open_fault::OpenFault;
 pub use outcome::{
-    FileEnd, HELP, LastLine, Outcome, Reason, RunFault, USAGE, VERSION, is_message, last_line,
+    FileEnd, HELP, LastLine, Outcome, Reason, RunFault, VERSION, is_message, last_line,
     line_of_file, program_status, status_of, status_of_file,
 };
 pub use section_table::{MAX_INTERFACES, SectionTable};

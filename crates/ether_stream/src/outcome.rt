@@ -3,7 +3,7 @@ ghost use Rattle.std.specs.Prelude.{◌≡◌};
 ghost use Rattle.std.specs.Option.{option_map};
 ghost use Rattle.ether_stream.specs.Outcome.{exit_status, hint_text, is_message, magic_hint_text, last_line_text, last_text, last_text_of_named, last_text_of_run, open_fault_text, status_of_file, status_of_program, text_of_file};
 
-use crate::{NoMemory, OpenFault};
+use crate::{NoMemory, OpenFault, Usage};
 use ether_filter::FilterError;
 use ether_pcap::{CaptureError, CaptureFault, FileHeaderError};
 use ether_text::{InputFault, OutputFault, Verdict};
@@ -138,18 +138,14 @@ pub enum Outcome<'a> {
     /// The arguments ask for the version.
     Version,
     /// The arguments are wrong.
-    Usage,
+    Usage(Usage),
     /// Memory for the arguments was refused.
     NoMemory,
 }
 
-/// The line that is printed if the arguments are wrong, without its LF.
-pub const USAGE: &str =
-    "usage: ether_capture [[--plain] [--limit N] | --write [--cut-to-headers | --pop-vlan | --push-vlan TPID:ID | --set-vlan A:B]] [--select EXPR [--undecided keep|drop]] [-c N] [FILE]..";
-
 /// What `--help` prints, without its last LF.
 pub const HELP: &str =
-    "usage: ether_capture [[--plain] [--limit N] | --write [--cut-to-headers | --pop-vlan | --push-vlan TPID:ID | --set-vlan A:B]] [--select EXPR [--undecided keep|drop]] [-c N] [FILE]..\n\nPrints the link-layer headers of each packet of captures, pcap or pcapng: of each FILE, or of standard input.\n\n  --plain           leave out the lines of packets and the totals\n  --limit N         read N VLAN tags and SecTags of each packet at most\n  --select EXPR     only packets that match EXPR, as 'vlan 5 or arp'\n  --undecided keep|drop\n                    with --select, keep or drop packets that were cut too short to tell, in place of taking them as they are\n  -c N              end with the N-th of these packets, of all files together\n  --write           write the capture itself, of one FILE at most, without the other packets; faults go to standard error\n  --cut-to-headers  with --write, cut each packet where its link-layer headers end\n  --pop-vlan        with --write, take the VLAN tag after the link's header off each frame\n  --push-vlan TPID:ID\n                    with --write, put a VLAN tag after the link's header, as 0x8100:5\n  --set-vlan A:B    with --write, give the outermost VLAN tag with identifier A identifier B\n  -h, --help        print this text\n  -V, --version     print the version\n\nEXPR has these primitives, with not, and, or and parentheses:\n\n  vlan [ID], outer vlan ID, inner vlan ID, macsec, arp, ip, ip6\n  ether proto TYPE, ether src ADDR, ether dst ADDR, ether host ADDR\n  ether broadcast, ether multicast, less N, greater N, cut, refused\n\nEach says something of all headers of a packet: arp is true after any tags, too.";
+    "usage: ether_capture [[--plain] [--limit N] | --write [--cut-to-headers | --pop-vlan | --push-vlan TPID:ID | --set-vlan A:B]] [--select EXPR [--undecided keep|drop]] [-c N] [FILE]..\n\nPrints the link-layer headers of each packet of captures, pcap or pcapng: of each FILE, or of standard input, which a FILE of - also names.\n\nWhich packets:\n  --select EXPR     only packets that match EXPR, as 'vlan 5 or arp'\n  --undecided keep|drop\n                    with --select, keep or drop packets that were cut too short to tell, in place of taking them as they are\n  -c N              end with the N-th of these packets, of all files together\n\nLines:\n  --plain           leave out the lines of packets and the totals\n  --limit N         read N VLAN tags and SecTags of each packet at most\n\nCopies:\n  --write           write the capture itself, of one FILE at most, without the other packets; faults go to standard error\n  --cut-to-headers  with --write, cut each packet where its link-layer headers end\n  --pop-vlan        with --write, take the VLAN tag after the link's header off each frame\n  --push-vlan TPID:ID\n                    with --write, put a VLAN tag after the link's header, as 0x8100:5\n  --set-vlan A:B    with --write, give the outermost VLAN tag with identifier A identifier B\n\n  -h, --help        print this text\n  -V, --version     print the version\n\nEXPR has these primitives, with not, and, or and parentheses:\n\n  vlan [ID], outer vlan ID, inner vlan ID, macsec, arp, ip, ip6\n  ether proto TYPE, ether src ADDR, ether dst ADDR, ether host ADDR\n  ether broadcast, ether multicast, less N, greater N, cut, refused\n\nEach says something of all headers of a packet: unlike in pcap-filter(7), arp is true after any tags, too.\n\nExamples:\n\n  ether_capture --select 'vlan 5 or arp' f.pcap\n  tcpdump -U --immediate-mode -w - | ether_capture\n  ether_capture --write --push-vlan 0x8100:5 f.pcap > tagged.pcap";
 
 /// Why a packet can't be edited.
 const NOT_EDITED: &str =
@@ -218,7 +214,7 @@ pub enum LastLine<'a> {
     /// The version.
     Version,
     /// The arguments are wrong.
-    Usage,
+    Usage(Usage),
     /// The text of the filter is no expression.
     NoFilter(&'a FilterError),
 }
@@ -239,7 +235,10 @@ impl fmt::Display for LastLine<'_> {
             }
             LastLine::Help => write!(f, "{HELP}"),
             LastLine::Version => write!(f, "{VERSION}"),
-            LastLine::Usage => write!(f, "{USAGE}"),
+            LastLine::Usage(usage) => {
+                let text = usage.text();
+                write!(f, "ether_capture: {text}; try --help")
+            }
             LastLine::NoFilter(error) => write!(f, "--select: {error}"),
         }
     }
@@ -257,7 +256,7 @@ pub fn last_line<'a>(outcome: &'a Outcome<'_>) -> Option<LastLine<'a>>
         Outcome::NoFilter { error, .. } => Some(LastLine::NoFilter(error)),
         Outcome::Help => Some(LastLine::Help),
         Outcome::Version => Some(LastLine::Version),
-        Outcome::Usage => Some(LastLine::Usage),
+        Outcome::Usage(usage) => Some(LastLine::Usage(*usage)),
         Outcome::NoMemory => Some(LastLine::Stopped(Reason::Memory)),
     }
 }
@@ -337,7 +336,7 @@ pub fn is_message(outcome: &Outcome<'_>) -> bool
         | Outcome::NotOpened { is_copy, .. }
         | Outcome::NoFilter { is_copy, .. } => *is_copy,
         Outcome::Files(_) | Outcome::Help | Outcome::Version => false,
-        Outcome::Usage | Outcome::NoMemory => true,
+        Outcome::Usage(_) | Outcome::NoMemory => true,
     }
 }
 
@@ -355,7 +354,7 @@ pub fn program_status(outcome: &Outcome<'_>, is_printed: bool) -> u8
         Outcome::Files(Err(_)) => status_of(&Err(RunFault::Output)),
         Outcome::NotOpened { .. } => status_of(&Err(RunFault::Input)),
         Outcome::Help | Outcome::Version => 0,
-        Outcome::Usage | Outcome::NoFilter { .. } => 2,
+        Outcome::Usage(_) | Outcome::NoFilter { .. } => 2,
         Outcome::NoMemory => status_of(&Err(RunFault::Memory)),
     }
 }

@@ -5,6 +5,7 @@ ghost use Rattle.std.specs.Option.{option_map};
 ghost use Rattle.ether_content.specs.Editing.{EditValue};
 ghost use Rattle.ether_content.specs.EditingViews.{edit_view};
 ghost use Rattle.ether_stream.specs.declared.selection.Undecided.{Undecided as UndecidedValue};
+ghost use Rattle.ether_stream.specs.Outcome.{usage_text};
 ghost use Rattle.ether_stream.specs.Tags.{IsTagEdit, tag_word};
 ghost use Rattle.ether_stream.specs.Words.{IsCount, IsIfAny, IsLimit, IsOneEdit, IsSelection, MeansUndecided, RefusesSelection};
 
@@ -14,9 +15,38 @@ use ether_content::PacketEdit;
 use ether_filter::{Filter, FilterError};
 use std::num::NonZeroUsize;
 
-/// A word means nothing, or words do not go together.
+/// What is wrong with the words of a request.
 #[derive(Clone, Copy, PartialEq, Eq, Debug)]
-pub struct Usage;
+pub enum Usage {
+    /// An option is unknown, comes twice, or lacks its value.
+    Words,
+    /// Words do not go together.
+    Clash,
+    /// There are several edits, or the value of one means nothing.
+    Edit,
+    /// The number of packets is none.
+    Count,
+    /// The number of headers is none.
+    Limit,
+    /// What is to become of undecided packets is neither of the two.
+    Undecided,
+}
+
+impl Usage {
+    /// What the program says of it.
+    pub(crate) fn text(self) -> &'static str
+        ensures { result.now ≡ usage_text self }
+    {
+        match self {
+            Usage::Words => "an option is unknown, comes twice, or lacks its value",
+            Usage::Clash => "these options do not go together",
+            Usage::Edit => "expected at most one edit, as --push-vlan 0x8100:5 or --set-vlan 5:6",
+            Usage::Count => "-c: expected a number from 1 to 4294967295",
+            Usage::Limit => "--limit: expected a number up to 4294967295",
+            Usage::Undecided => "--undecided: expected keep or drop",
+        }
+    }
+}
 
 /// The edit, if one at most is asked for: packets are cut, a VLAN tag is taken off, put in by a TPID and an identifier,
 /// or gets another identifier.
@@ -29,6 +59,7 @@ pub fn edit_of_words(
     ensures ok { IfOk result (λ it. IsOneEdit cuts pops (option_map (λ s. s.now) push.entry) (option_map (λ s. s.now) set.entry) (option_map edit_view it)) }
     ensures err { OnErr result ((e : Option EditValue)
         → ¬ (IsOneEdit cuts pops (option_map (λ s. s.now) push.entry) (option_map (λ s. s.now) set.entry) e)) }
+    ensures usage { IfErr result (λ usage. usage ≡ Usage.Edit) }
 {
     match (cuts, pops, push, set) {
         (false, false, None, None) => Ok(None),
@@ -36,7 +67,7 @@ pub fn edit_of_words(
         (false, true, None, None) => Ok(Some(PacketEdit::PopVlan)),
         (false, false, Some(text), None) => tag_edit(TagEdit::Push, text),
         (false, false, None, Some(text)) => tag_edit(TagEdit::Set, text),
-        _ => Err(Usage),
+        _ => Err(Usage::Edit),
     }
 }
 
@@ -44,10 +75,11 @@ pub fn edit_of_words(
 fn tag_edit(kind: TagEdit, text: &str) -> Result<Option<PacketEdit>, Usage>
     ensures ok { IfOk result (λ it. IsIfAny (IsTagEdit (tag_word kind)) (Some text.now) (option_map edit_view it)) }
     ensures err { OnErr result ((e : EditValue) → ¬ (IsTagEdit (tag_word kind) text.now e)) }
+    ensures usage { IfErr result (λ usage. usage ≡ Usage.Edit) }
 {
     match tag_edit_of(kind, text.as_bytes()) {
         Some(edit) => Ok(Some(edit)),
-        None => Err(Usage),
+        None => Err(Usage::Edit),
     }
 }
 
@@ -55,16 +87,17 @@ fn tag_edit(kind: TagEdit, text: &str) -> Result<Option<PacketEdit>, Usage>
 pub fn count_of(text: Option<&str>) -> Result<Option<NonZeroUsize>, Usage>
     ensures ok { IfOk result (λ it. IsIfAny IsCount (option_map (λ s. s.now) text.entry) (option_map non_zero_usize_get it)) }
     ensures err { OnErr result ((n : Option ℕ) → ¬ (IsIfAny IsCount (option_map (λ s. s.now) text.entry) n)) }
+    ensures usage { IfErr result (λ usage. usage ≡ Usage.Count) }
 {
     let Some(text) = text else {
         return Ok(None);
     };
     let Some(number) = small_number(text.as_bytes()) else {
-        return Err(Usage);
+        return Err(Usage::Count);
     };
     match NonZeroUsize::new(number as usize) {
         Some(count) => Ok(Some(count)),
-        None => Err(Usage),
+        None => Err(Usage::Count),
     }
 }
 
@@ -72,13 +105,14 @@ pub fn count_of(text: Option<&str>) -> Result<Option<NonZeroUsize>, Usage>
 pub fn limit_of(text: Option<&str>) -> Result<Option<usize>, Usage>
     ensures ok { IfOk result (IsIfAny IsLimit (option_map (λ s. s.now) text.entry)) }
     ensures err { OnErr result ((n : Option ℕ) → ¬ (IsIfAny IsLimit (option_map (λ s. s.now) text.entry) n)) }
+    ensures usage { IfErr result (λ usage. usage ≡ Usage.Limit) }
 {
     let Some(text) = text else {
         return Ok(None);
     };
     match small_number(text.as_bytes()) {
         Some(number) => Ok(Some(number as usize)),
-        None => Err(Usage),
+        None => Err(Usage::Limit),
     }
 }
 
@@ -86,12 +120,13 @@ pub fn limit_of(text: Option<&str>) -> Result<Option<usize>, Usage>
 pub fn undecided_of(text: Option<&str>) -> Result<Option<Undecided>, Usage>
     ensures ok { IfOk result (IsIfAny MeansUndecided (option_map (λ s. s.now) text.entry)) }
     ensures err { OnErr result ((u : Option UndecidedValue) → ¬ (IsIfAny MeansUndecided (option_map (λ s. s.now) text.entry) u)) }
+    ensures usage { IfErr result (λ usage. usage ≡ Usage.Undecided) }
 {
     match text {
         None => Ok(None),
         Some("keep") => Ok(Some(Undecided::Kept)),
         Some("drop") => Ok(Some(Undecided::Dropped)),
-        Some(_) => Err(Usage),
+        Some(_) => Err(Usage::Undecided),
     }
 }
 

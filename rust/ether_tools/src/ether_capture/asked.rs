@@ -9,8 +9,8 @@ use std::num::NonZeroUsize;
 /// Why the arguments ask for nothing.
 #[derive(Clone, Copy, Debug)]
 pub enum RequestError {
-    /// One of them is unknown, has a value that can't be read, or does not go with the others.
-    Usage,
+    /// They are wrong in this way.
+    Usage(Usage),
     /// Memory for them was refused.
     Memory,
     /// The filter is no expression.
@@ -23,8 +23,8 @@ pub enum RequestError {
 }
 
 impl From<Usage> for RequestError {
-    fn from(_error: Usage) -> RequestError {
-        RequestError::Usage
+    fn from(usage: Usage) -> RequestError {
+        RequestError::Usage(usage)
     }
 }
 
@@ -87,7 +87,7 @@ impl<'a> Asked<'a> {
     /// What all options together ask for.
     pub(crate) fn request(self) -> Result<Request<'a>, RequestError> {
         if self.clashes() {
-            return Err(RequestError::Usage);
+            return Err(RequestError::Usage(Usage::Clash));
         }
         match filter_of(self.text) {
             Ok(filter) if self.has_several() => Ok(Request::List(Listing {
@@ -103,13 +103,22 @@ impl<'a> Asked<'a> {
                     count: self.count,
                     form,
                 };
-                Ok(Request::Run(task, self.files.first().copied()))
+                Ok(Request::Run(task, self.file()))
             }
             Err(error) => Err(RequestError::Filter {
                 is_copy: self.is_copy,
                 error,
             }),
         }
+    }
+
+    /// The name of a file, unless standard input is asked for.
+    fn file(&self) -> Option<&'a str> {
+        let name = self.files.first().copied()?;
+        if name == "-" {
+            return None;
+        }
+        Some(name)
     }
 
     /// Which packets a filter selects, if there is one.

@@ -41,7 +41,7 @@ pub fn request_of_words(words: &[String], _alloc: Global) -> Result<Request<'_>,
         Err(error) => match error.kind() {
             ErrorKind::DisplayHelp => Ok(Request::Help),
             ErrorKind::DisplayVersion => Ok(Request::Version),
-            _ => Err(RequestError::Usage),
+            _ => Err(RequestError::Usage(Usage::Words)),
         },
     }
 }
