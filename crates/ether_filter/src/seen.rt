@@ -5,6 +5,7 @@ ghost use Rattle.etherparse.specs.Header.{Header};
 ghost use Rattle.ether_peel.specs.Grammar.Stack.{Ending, Walk};
 ghost use Rattle.ether_peel.specs.Walker.Start.{start_of, next_of};
 ghost use Rattle.ether_filter.specs.Primitives.{listed};
+ghost use Rattle.ether_filter.specs.Jumps.{is_untagged as is_untagged_of};
 ghost use Rattle.ether_filter.specs.Seen.{told_after as told_after_of, tag_id as tag_id_of, fits as fits_of, seen as seen_of, begun, IsTaken, IsSeen};
 
 use crate::fields::{Fields, announced_type, is_shown_by_link, read_fields};
@@ -197,4 +198,14 @@ fn has(numbers: &[u16], number: u16) -> bool
         }
     }
     false
+}
+
+/// Whether it is seen that a packet has no VLAN tag.
+pub(crate) fn is_untagged(seen: &Option<Seen>) -> bool
+    ensures { result ≡ is_untagged_of seen.now }
+{
+    match seen {
+        Some(seen) => seen.told.outer.is_none(),
+        None => false,
+    }
 }

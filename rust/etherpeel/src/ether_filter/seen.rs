@@ -178,3 +178,12 @@ fn has(numbers: &[u16], number: u16) -> bool {
     }
     false
 }
+
+/// Whether it is seen that a packet has no VLAN tag.
+#[inline]
+pub(crate) fn is_untagged(seen: &Option<Seen>) -> bool {
+    match seen {
+        Some(seen) => seen.told.outer.is_none(),
+        None => false,
+    }
+}
