@@ -3,6 +3,8 @@ pub mod Found
 pub mod SeenLemmas
 pub mod JumpsLemmas
 pub mod Truth
+pub mod PastTags
+pub mod PassedTags
 pub mod Evaluated
 pub mod Kleene
 pub mod Longer

@@ -1,13 +1,13 @@
 -- The truth of an expression of a packet.
 use Rattle.std.proofs.Common.{◌≡◌, ℕ, ◌≤◌, List, [], length, refl, sym, ap, subst, ◌∙◌, arith, nat_eq, Bool, true, false, ◌↔◌, IsTrue, inl, inr}
 use Rattle.std.proofs.lemmas.List.{append-nil}
-use Rattle.std.specs.Prelude.{not, nat_lt, nat_le}
+use Rattle.std.specs.Prelude.{Some, not, nat_lt, nat_le}
 use Rattle.std.proofs.lemmas.Bool.{ltb-true, lt-ltb, leb-true, le-leb}
 use Rattle.etherparse.specs.Header.{Header}
 use Rattle.ether_peel.specs.Grammar.Window.{Window}
 use Rattle.ether_peel.specs.Grammar.Expectation.{Expectation}
 use Rattle.ether_peel.specs.Grammar.Stack.{Ending, Stack, Walk}
-use Rattle.ether_peel.specs.Walker.Start.{start_of}
+use Rattle.ether_peel.specs.Walker.Start.{start_of, next_of}
 use Rattle.ether_filter.specs.declared.jumps.Jump.{Jump}
 use Rattle.ether_filter.specs.declared.node.Node.{Node}
 use Rattle.ether_filter.specs.declared.packet.Packet.{Packet}
@@ -19,6 +19,8 @@ use Rattle.ether_filter.specs.Primitives.{Walked, walked, ether_type_of}
 use Rattle.ether_filter.specs.Postfix.{IsPostfix, postfix, expression_of, expression_of-postfix}
 use Rattle.ether_filter.specs.Jumps.{chosen, first_jump, AreJumps}
 use Rattle.ether_filter.specs.Expressions.{Expression, Test, Not, Join}
+use Rattle.ether_filter.specs.declared.seen.Seen.{Seen}
+use Rattle.ether_filter.specs.Seen.{IsSeen, matches_seen}
 use Rattle.ether_filter.specs.Following.{found_at_end, found_first}
 use Rattle.ether_filter.specs.Evaluation.{IsTruth, joined_truth}
 use Rattle.ether_filter.proofs.Found.{found_matches}
@@ -38,6 +40,15 @@ matching_is w list x window stack (primitives.Less n) = (leb-true w.original n, 
 matching_is w list x window stack (primitives.Greater n) = (leb-true n w.original, le-leb n w.original)
 matching_is w list x window stack p = found_matches p w list x window
     (record { not_cut = λ is. cc; not_less = λ n is. cc; not_greater = λ n is. cc }) stack
+
+-- what is seen of each says so too
+pub seen_is : (packet : Packet) (hs : List Header) (e : Ending) (s : Seen)
+    → IsSeen (next_of packet.start) hs e (Some s) → (p : Primitive)
+    → matches_seen p packet.captured_len packet.original_len s ≡ matching (walked packet hs e) p
+seen_is packet hs e s all primitives.Cut = refl
+seen_is packet hs e s all (primitives.Less n) = refl
+seen_is packet hs e s all (primitives.Greater n) = refl
+seen_is packet hs e s all p = all p
 
 not_truth : (w : Walked) (b : Bool) (x : Expression) → IsTruth w b x → IsTruth w (not b) (Not x)
 not_truth w true x is = (λ t. absurd cc, λ never. absurd (never (is.0 refl)))

@@ -1,6 +1,11 @@
 -- Where the evaluation of an expression goes on after each of its primitives, which are asked from the left to the right.
-use Rattle.std.specs.Prelude.{◌≡◌, ℕ, ◌+◌, ◌≤◌, List, length, get_or, Bool, true, false}
+use Rattle.std.specs.Prelude.{◌≡◌, ℕ, ◌+◌, ◌<◌, ◌≤◌, List, length, get_or, Bool, true, false, not, Option, Some, None, is_some}
 use Rattle.ether_filter.specs.declared.jumps.Jump.{Jump}
+use Rattle.ether_filter.specs.declared.primitive.Primitive.{Primitive}
+use Rattle.ether_filter.specs.declared.primitive.Primitive.TheVariants as primitives
+use Rattle.ether_filter.specs.declared.seen.Seen.{Seen}
+use Rattle.ether_filter.specs.declared.node.Node.{Node}
+use Rattle.ether_filter.specs.declared.node.Node.TheVariants as nodes
 use Rattle.ether_filter.specs.declared.node.Operator.{Operator}
 use Rattle.ether_filter.specs.declared.node.Operator.TheVariants as operators
 use Rattle.ether_filter.specs.Expressions.{Expression, Test, Not, Join}
@@ -41,3 +46,31 @@ pub record AreFilled (old new : List Jump) (begin end : ℕ) (x : Expression) (j
   pub at : result ≡ begin
   pub jumps : AreJumps new begin x j
   pub same : (i : ℕ) → end ≤ i → jump_at new i ≡ jump_at old i
+
+-- ---- past primitives that ask for VLAN tags
+
+abbrev pub is_of_tags : Primitive → Bool
+is_of_tags primitives.Vlan = true
+is_of_tags (primitives.VlanId n) = true
+is_of_tags (primitives.OuterVlan n) = true
+is_of_tags (primitives.InnerVlan n) = true
+is_of_tags _ = false
+
+abbrev pub asks_tags : Node → Bool
+asks_tags (nodes.Test p) = is_of_tags p
+asks_tags _ = false
+
+-- from one of them on, if none of them matches
+pub data Passes (ns : List Node) (js : List Jump) : ℕ → ℕ → Type 0 where
+  last : (at : ℕ) → Passes ns js at (jump_at js at).if_false
+  more : (at past : ℕ) → (jump_at js at).if_false < length ns
+      → ((d : Node) → asks_tags (get_or ns (jump_at js at).if_false d) ≡ true)
+      → Passes ns js (jump_at js at).if_false past → Passes ns js at past
+
+abbrev pub ArePassed : List Node → List Jump → List ℕ → Type 0
+ArePassed ns js past = (i : ℕ) → i < length ns → Passes ns js i (get_or past i 0)
+
+-- it is seen that a packet has no VLAN tag
+abbrev pub is_untagged : Option Seen → Bool
+is_untagged None = false
+is_untagged (Some seen) = not (is_some seen.told.outer)

@@ -1,5 +1,5 @@
 -- What one walk shows of all primitives, as far as there is room for it.
-use Rattle.std.specs.Prelude.{◌≡◌, ℕ, List, ◌++◌, Option, Some, None, Bool, true, false, nat_eq, is_some}
+use Rattle.std.specs.Prelude.{◌≡◌, ℕ, List, ◌++◌, Option, Some, None, Bool, true, false, nat_eq, nat_lt, nat_le, is_some}
 use Rattle.std.specs.List.{list_any}
 use Rattle.etherparse.specs.Header.{Header}
 use Rattle.ether_peel.specs.Grammar.Expectation.{Next}
@@ -83,6 +83,13 @@ seen primitives.Macsec t ids types = t.has_sec_tag
 seen (primitives.EtherType n) t ids types = list_any (λ number. nat_eq number n) types
 seen primitives.Refused t ids types = t.is_refused
 seen primitive t ids types = seen_in_link primitive t.link
+
+-- .. of a packet of these lengths
+abbrev pub matches_seen : Primitive → (captured original : ℕ) → Seen → Bool
+matches_seen primitives.Cut captured original s = nat_lt captured original
+matches_seen (primitives.Less n) captured original s = nat_le original n
+matches_seen (primitives.Greater n) captured original s = nat_le n original
+matches_seen p captured original s = seen p s.told s.ids.items s.types.items
 
 -- if there was room, each primitive is seen that is found at the end of the walk
 abbrev pub IsSeen : Next → List Header → Ending → Option Seen → Type 0

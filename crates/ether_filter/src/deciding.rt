@@ -1,6 +1,5 @@
 //! What is known of a primitive if not all bytes of a packet were captured.
 ghost use Rattle.std.specs.Prelude.{◌≡◌, ◌↔◌, ◌≤◌, ◌-◌, List, Some, IsTrue};
-ghost use Rattle.etherparse.specs.Bytes.{IsBytes};
 ghost use Rattle.etherparse.specs.Header.{Header};
 ghost use Rattle.ether_peel.specs.Grammar.Expectation.{has_fcs as has_fcs_of};
 ghost use Rattle.ether_peel.specs.Grammar.Stack.{Ending, Walk};
@@ -30,11 +29,9 @@ pub(crate) struct Opening {
 
 /// The length with which a packet may have more headers, if it may.
 pub(crate) fn find_opening(packet: &Packet<'_>) -> Option<Opening>
-    ensures bytes { IsBytes packet.now.frame.now }
-    ensures opening { (hs : List Header) (e : Ending) → Walk (start_of packet.now.start) packet.now.frame.now hs e
+    ensures { (hs : List Header) (e : Ending) → Walk (start_of packet.now.start) packet.now.frame.now hs e
         → IsOpening packet.now e result }
 {
-    let refused = refused_unit(packet.start, packet.frame);
     let lost = lost(packet);
     if lost == 0 {
         return None;
@@ -45,7 +42,7 @@ pub(crate) fn find_opening(packet: &Packet<'_>) -> Option<Opening>
             layer: None,
         });
     }
-    let (missing, layer) = refused?;
+    let (missing, layer) = refused_unit(packet.start, packet.frame)?;
     if missing > lost {
         return None;
     }
@@ -57,8 +54,7 @@ pub(crate) fn find_opening(packet: &Packet<'_>) -> Option<Opening>
 
 /// How many bytes the unit needs at which a frame ends too early, and the unit's layer. `None` if more bytes would not help.
 fn refused_unit(start: Start, frame: &[u8]) -> Option<(usize, Layer)>
-    ensures bytes { IsBytes frame.now }
-    ensures unit { (hs : List Header) (e : Ending) → Walk (start_of start) frame.now hs e
+    ensures { (hs : List Header) (e : Ending) → Walk (start_of start) frame.now hs e
         → IsRefusedUnit frame.now e result }
 {
     let fault = summary(start, frame).fault?;

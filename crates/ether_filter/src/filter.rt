@@ -18,13 +18,13 @@ ghost use Rattle.ether_filter.specs.Deciding.{AtCompletions, Says, StaysUnknown,
 use crate::deciding::{Opening, find_opening, joined_value, known};
 use crate::decision::Decision;
 use crate::filter_error::{FilterError, FilterErrorKind};
-use crate::jumps::{HOLDS, Jump, jumps_of};
+use crate::jumps::{HOLDS, Jump, is_of_tags, jumps_of, past_tags};
 use crate::matching::matches_primitive;
 use crate::node::Node;
 use crate::packet::Packet;
 use crate::primitive::Primitive;
 use crate::reading::Reading;
-use crate::seen::{Seen, look};
+use crate::seen::{Seen, is_untagged, look};
 use crate::token::token_of;
 use crate::words::next_word;
 use arrayvec::ArrayVec;
@@ -88,12 +88,14 @@ pub struct Filter {
     nodes: ArrayVec<Node, MAX_WORDS>,
     /// Where the evaluation goes on after each primitive, at the index of its node.
     jumps: [Jump; MAX_WORDS],
+    /// .. and where after each that asks for VLAN tags, if there are none.
+    past_tags: [u8; MAX_WORDS],
 }
 
 impl Model for Filter {
     ghost use Rattle.ether_filter.specs.Expressions.{Expression};
     ghost use Rattle.ether_filter.specs.Postfix.{IsPostfix, expression_of, expression_code};
-    ghost use Rattle.ether_filter.specs.Jumps.{AreJumps, first_jump};
+    ghost use Rattle.ether_filter.specs.Jumps.{AreJumps, ArePassed, first_jump};
 
     ghost Value = { Expression };
 
@@ -101,7 +103,8 @@ impl Model for Filter {
 
     ghost view = { λ f. expression_of f.nodes.items };
 
-    ghost invariant = { λ f. IsPostfix f.nodes.items × AreJumps f.jumps 0 (expression_of f.nodes.items) first_jump };
+    ghost invariant = { λ f. IsPostfix f.nodes.items × AreJumps f.jumps 0 (expression_of f.nodes.items) first_jump
+        × ArePassed f.nodes.items f.jumps f.past_tags };
 }
 
 impl Filter {
@@ -119,7 +122,12 @@ impl Filter {
         match read(text) {
             Ok(nodes) => {
                 let jumps = jumps_of(nodes.as_slice());
-                Ok(Filter { nodes, jumps })
+                let past_tags = past_tags(nodes.as_slice(), &jumps);
+                Ok(Filter {
+                    nodes,
+                    jumps,
+                    past_tags,
+                })
             }
             Err(error) => Err(error),
         }
@@ -133,11 +141,16 @@ impl Filter {
     {
         let nodes = self.nodes.as_slice();
         let seen = look_for(nodes, packet.start, packet.frame);
+        let untagged = is_untagged(&seen);
         let mut at = 0;
         while at < nodes.len() {
             let Node::Test(primitive) = &nodes[at] else {
                 return false; // not reached: each jump leads to a primitive
             };
+            if untagged && is_of_tags(primitive) {
+                at = usize::from(self.past_tags[at]);
+                continue;
+            }
             at = self.jumps[at].after(matches_primitive(primitive, packet, &seen));
         }
         at == usize::from(HOLDS)

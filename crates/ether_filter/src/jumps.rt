@@ -1,11 +1,12 @@
 //! Where the evaluation of an expression goes on after each of its primitives.
-ghost use Rattle.std.specs.Prelude.{◌≡◌, ◌≤◌, ◌++◌, List, length, take};
+ghost use Rattle.std.specs.Prelude.{◌≡◌, ◌<◌, ◌≤◌, ◌++◌, ℕ, List, length, take, get_or};
 ghost use Rattle.ether_filter.specs.Expressions.{Expression};
 ghost use Rattle.ether_filter.specs.Postfix.{postfix};
-ghost use Rattle.ether_filter.specs.Jumps.{AreFilled, AreJumps, first_jump, chosen, negated as negated_of, before as before_of};
+ghost use Rattle.ether_filter.specs.Jumps.{jump_at, ArePassed, Passes, asks_tags as asks_tags_of, is_of_tags as is_of_tags_of, AreFilled, AreJumps, first_jump, chosen, negated as negated_of, before as before_of};
 
 use crate::filter::MAX_WORDS;
 use crate::node::{Node, Operator};
+use crate::primitive::Primitive;
 
 /// Where it goes on if the expression holds.
 pub(crate) const HOLDS: u8 = 255;
@@ -42,6 +43,55 @@ pub(crate) fn jumps_of(nodes: &[Node]) -> [Jump; MAX_WORDS]
     let mut jumps = [jump; MAX_WORDS];
     fill(&mut jumps, nodes, nodes.len(), jump);
     jumps
+}
+
+/// Where the evaluation goes on after each primitive that asks for VLAN tags, if there are none: past those that follow it and ask
+/// for VLAN tags too.
+pub(crate) fn past_tags(nodes: &[Node], jumps: &[Jump; MAX_WORDS]) -> [u8; MAX_WORDS]
+    requires { length nodes.now ≤ MAX_WORDS }
+    ensures { ArePassed nodes.now jumps.now result }
+{
+    let mut past = [0; MAX_WORDS];
+    let mut at = nodes.len();
+    while at > 0 {
+        at -= 1;
+        past[at] = past_next(nodes, &past, at, jumps[at].if_false);
+    }
+    past
+}
+
+/// .. after one of them, by where it goes on if it does not match.
+fn past_next(nodes: &[Node], past: &[u8; MAX_WORDS], at: usize, next: u8) -> u8
+    requires { length nodes.now ≤ MAX_WORDS }
+    ensures { (js : List Jump) → (jump_at js at).if_false ≡ next
+        → ((i : ℕ) → at < i → i < length nodes.now → Passes nodes.now js i (get_or past.now i 0)) → Passes nodes.now js at result }
+{
+    let index = usize::from(next);
+    if at < index && index < nodes.len() && asks_tags(nodes[index]) {
+        return past[index];
+    }
+    next
+}
+
+/// Whether a node asks for VLAN tags.
+fn asks_tags(node: Node) -> bool
+    ensures { result ≡ asks_tags_of node }
+{
+    match node {
+        Node::Test(primitive) => is_of_tags(&primitive),
+        _ => false,
+    }
+}
+
+/// Whether a primitive asks for VLAN tags.
+#[inline]
+pub(crate) fn is_of_tags(primitive: &Primitive) -> bool
+    ensures { result ≡ is_of_tags_of primitive.now }
+{
+    matches!(
+        primitive,
+        Primitive::Vlan | Primitive::VlanId(_) | Primitive::OuterVlan(_) | Primitive::InnerVlan(_)
+    )
 }
 
 /// Fills in the jumps of the expression whose nodes end at an index, and returns the index at which they begin.

@@ -1,5 +1,5 @@
 //! Whether a primitive matches a packet.
-ghost use Rattle.std.specs.Prelude.{◌≡◌, ◌↔◌, false, List, Some, IsTrue};
+ghost use Rattle.std.specs.Prelude.{◌≡◌, ◌↔◌, false, List, IsTrue};
 ghost use Rattle.etherparse.specs.Header.{Header};
 ghost use Rattle.ether_peel.specs.Grammar.Stack.{Ending, Walk};
 ghost use Rattle.ether_peel.specs.Walker.Start.{start_of, next_of};
@@ -25,23 +25,8 @@ pub(crate) fn matches_primitive(
         → IsTrue result ↔ Matches primitive.now (walked packet.now hs e) }
 {
     match seen {
-        Some(seen) => matches_seen(primitive, packet, seen),
+        Some(seen) => is_seen(primitive, packet.captured_len, packet.original_len, seen),
         None => matches_walked(primitive, packet),
-    }
-}
-
-/// Whether a primitive matches a packet in which all was seen.
-#[inline]
-fn matches_seen(primitive: &Primitive, packet: &Packet<'_>, seen: &Seen) -> bool
-    ensures { (hs : List Header) (e : Ending) → Walk (start_of packet.now.start) packet.now.frame.now hs e
-        → IsSeen (next_of packet.now.start) hs e (Some seen.now)
-        → IsTrue result ↔ Matches primitive.now (walked packet.now hs e) }
-{
-    match *primitive {
-        Primitive::Cut => packet.captured_len < packet.original_len as usize,
-        Primitive::Less(len) => packet.original_len <= len,
-        Primitive::Greater(len) => packet.original_len >= len,
-        _ => is_seen(primitive, seen),
     }
 }
 

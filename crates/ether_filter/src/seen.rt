@@ -5,7 +5,8 @@ ghost use Rattle.etherparse.specs.Header.{Header};
 ghost use Rattle.ether_peel.specs.Grammar.Stack.{Ending, Walk};
 ghost use Rattle.ether_peel.specs.Walker.Start.{start_of, next_of};
 ghost use Rattle.ether_filter.specs.Primitives.{listed};
-ghost use Rattle.ether_filter.specs.Seen.{told_after as told_after_of, tag_id as tag_id_of, fits as fits_of, seen as seen_of, begun, IsTaken, IsSeen};
+ghost use Rattle.ether_filter.specs.Jumps.{is_untagged as is_untagged_of};
+ghost use Rattle.ether_filter.specs.Seen.{told_after as told_after_of, tag_id as tag_id_of, fits as fits_of, matches_seen, begun, IsTaken, IsSeen};
 
 use crate::fields::{Fields, announced_type, is_shown_by_link, read_fields};
 use crate::primitive::Primitive;
@@ -167,10 +168,15 @@ fn keep(numbers: &mut ArrayVec<u16, ROOM>, number: Option<u16>) -> bool
     true
 }
 
-/// Whether a primitive is seen.
+/// Whether a primitive matches a packet of two lengths in which this was seen.
 #[inline]
-pub(crate) fn is_seen(primitive: &Primitive, seen: &Seen) -> bool
-    ensures { result ≡ seen_of primitive.now seen.now.told seen.now.ids.items seen.now.types.items }
+pub(crate) fn is_seen(
+    primitive: &Primitive,
+    captured_len: usize,
+    original_len: u32,
+    seen: &Seen,
+) -> bool
+    ensures { result ≡ matches_seen primitive.now captured_len original_len seen.now }
 {
     match *primitive {
         Primitive::Vlan => seen.told.outer.is_some(),
@@ -180,7 +186,14 @@ pub(crate) fn is_seen(primitive: &Primitive, seen: &Seen) -> bool
         Primitive::Macsec => seen.told.has_sec_tag,
         Primitive::EtherType(number) => has(seen.types.as_slice(), number),
         Primitive::Refused => seen.told.is_refused,
-        _ => match seen.told.link {
+        Primitive::Cut => captured_len < original_len as usize,
+        Primitive::Less(len) => original_len <= len,
+        Primitive::Greater(len) => original_len >= len,
+        Primitive::Source(_)
+        | Primitive::Destination(_)
+        | Primitive::Host(_)
+        | Primitive::Broadcast
+        | Primitive::Multicast => match seen.told.link {
             Some(link) => is_shown_by_link(*primitive, link.destination, link.source),
             None => false,
         },
@@ -197,4 +210,14 @@ fn has(numbers: &[u16], number: u16) -> bool
         }
     }
     false
+}
+
+/// Whether it is seen that a packet has no VLAN tag.
+pub(crate) fn is_untagged(seen: &Option<Seen>) -> bool
+    ensures { result ≡ is_untagged_of seen.now }
+{
+    match seen {
+        Some(seen) => seen.told.outer.is_none(),
+        None => false,
+    }
 }

@@ -20,7 +20,6 @@ pub(crate) struct Opening {
 /// The length with which a packet may have more headers, if it may.
 #[inline]
 pub(crate) fn find_opening(packet: &Packet<'_>) -> Option<Opening> {
-    let refused = refused_unit(packet.start, packet.frame);
     let lost = lost(packet);
     if lost == 0 {
         return None;
@@ -31,7 +30,7 @@ pub(crate) fn find_opening(packet: &Packet<'_>) -> Option<Opening> {
             layer: None,
         });
     }
-    let (missing, layer) = refused?;
+    let (missing, layer) = refused_unit(packet.start, packet.frame)?;
     if missing > lost {
         return None;
     }

@@ -3,13 +3,13 @@
 use crate::ether_filter::deciding::{Opening, find_opening, joined_value, known};
 use crate::ether_filter::decision::Decision;
 use crate::ether_filter::filter_error::{FilterError, FilterErrorKind};
-use crate::ether_filter::jumps::{HOLDS, Jump, jumps_of};
+use crate::ether_filter::jumps::{HOLDS, Jump, is_of_tags, jumps_of, past_tags};
 use crate::ether_filter::matching::matches_primitive;
 use crate::ether_filter::node::Node;
 use crate::ether_filter::packet::Packet;
 use crate::ether_filter::primitive::Primitive;
 use crate::ether_filter::reading::Reading;
-use crate::ether_filter::seen::{Seen, look};
+use crate::ether_filter::seen::{Seen, is_untagged, look};
 use crate::ether_filter::token::token_of;
 use crate::ether_filter::words::next_word;
 use arrayvec::ArrayVec;
@@ -77,6 +77,8 @@ pub struct Filter {
     nodes: ArrayVec<Node, MAX_WORDS>,
     /// Where the evaluation goes on after each primitive, at the index of its node.
     jumps: [Jump; MAX_WORDS],
+    /// .. and where after each that asks for VLAN tags, if there are none.
+    past_tags: [u8; MAX_WORDS],
 }
 
 impl Filter {
@@ -101,7 +103,12 @@ impl Filter {
         match read(text) {
             Ok(nodes) => {
                 let jumps = jumps_of(nodes.as_slice());
-                Ok(Filter { nodes, jumps })
+                let past_tags = past_tags(nodes.as_slice(), &jumps);
+                Ok(Filter {
+                    nodes,
+                    jumps,
+                    past_tags,
+                })
             }
             Err(error) => Err(error),
         }
@@ -122,11 +129,16 @@ impl Filter {
     pub fn matches(&self, packet: &Packet<'_>) -> bool {
         let nodes = self.nodes.as_slice();
         let seen = look_for(nodes, packet.start, packet.frame);
+        let untagged = is_untagged(&seen);
         let mut at = 0;
         while at < nodes.len() {
             let Node::Test(primitive) = &nodes[at] else {
                 return false; // not reached: each jump leads to a primitive
             };
+            if untagged && is_of_tags(primitive) {
+                at = usize::from(self.past_tags[at]);
+                continue;
+            }
             at = self.jumps[at].after(matches_primitive(primitive, packet, &seen));
         }
         at == usize::from(HOLDS)

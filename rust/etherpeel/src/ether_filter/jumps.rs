@@ -2,6 +2,7 @@
 
 use crate::ether_filter::filter::MAX_WORDS;
 use crate::ether_filter::node::{Node, Operator};
+use crate::ether_filter::primitive::Primitive;
 
 /// Where it goes on if the expression holds.
 pub(crate) const HOLDS: u8 = 255;
@@ -34,6 +35,47 @@ pub(crate) fn jumps_of(nodes: &[Node]) -> [Jump; MAX_WORDS] {
     let mut jumps = [jump; MAX_WORDS];
     fill(&mut jumps, nodes, nodes.len(), jump);
     jumps
+}
+
+/// Where the evaluation goes on after each primitive that asks for VLAN tags, if there are none: past those that follow it and ask
+/// for VLAN tags too.
+#[inline]
+pub(crate) fn past_tags(nodes: &[Node], jumps: &[Jump; MAX_WORDS]) -> [u8; MAX_WORDS] {
+    let mut past = [0; MAX_WORDS];
+    let mut at = nodes.len();
+    while at > 0 {
+        at -= 1;
+        past[at] = past_next(nodes, &past, at, jumps[at].if_false);
+    }
+    past
+}
+
+/// .. after one of them, by where it goes on if it does not match.
+#[inline]
+fn past_next(nodes: &[Node], past: &[u8; MAX_WORDS], at: usize, next: u8) -> u8 {
+    let index = usize::from(next);
+    if at < index && index < nodes.len() && asks_tags(nodes[index]) {
+        return past[index];
+    }
+    next
+}
+
+/// Whether a node asks for VLAN tags.
+#[inline]
+fn asks_tags(node: Node) -> bool {
+    match node {
+        Node::Test(primitive) => is_of_tags(&primitive),
+        _ => false,
+    }
+}
+
+/// Whether a primitive asks for VLAN tags.
+#[inline]
+pub(crate) fn is_of_tags(primitive: &Primitive) -> bool {
+    matches!(
+        primitive,
+        Primitive::Vlan | Primitive::VlanId(_) | Primitive::OuterVlan(_) | Primitive::InnerVlan(_)
+    )
 }
 
 /// Fills in the jumps of the expression whose nodes end at an index, and returns the index at which they begin.

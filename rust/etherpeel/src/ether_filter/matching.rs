@@ -14,19 +14,8 @@ pub(crate) fn matches_primitive(
     seen: &Option<Seen>,
 ) -> bool {
     match seen {
-        Some(seen) => matches_seen(primitive, packet, seen),
+        Some(seen) => is_seen(primitive, packet.captured_len, packet.original_len, seen),
         None => matches_walked(primitive, packet),
-    }
-}
-
-/// Whether a primitive matches a packet in which all was seen.
-#[inline]
-fn matches_seen(primitive: &Primitive, packet: &Packet<'_>, seen: &Seen) -> bool {
-    match *primitive {
-        Primitive::Cut => packet.captured_len < packet.original_len as usize,
-        Primitive::Less(len) => packet.original_len <= len,
-        Primitive::Greater(len) => packet.original_len >= len,
-        _ => is_seen(primitive, seen),
     }
 }
 

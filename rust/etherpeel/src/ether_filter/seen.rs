@@ -150,9 +150,14 @@ fn keep(numbers: &mut ArrayVec<u16, ROOM>, number: Option<u16>) -> bool {
     true
 }
 
-/// Whether a primitive is seen.
+/// Whether a primitive matches a packet of two lengths in which this was seen.
 #[inline]
-pub(crate) fn is_seen(primitive: &Primitive, seen: &Seen) -> bool {
+pub(crate) fn is_seen(
+    primitive: &Primitive,
+    captured_len: usize,
+    original_len: u32,
+    seen: &Seen,
+) -> bool {
     match *primitive {
         Primitive::Vlan => seen.told.outer.is_some(),
         Primitive::VlanId(id) => has(seen.ids.as_slice(), id),
@@ -161,7 +166,14 @@ pub(crate) fn is_seen(primitive: &Primitive, seen: &Seen) -> bool {
         Primitive::Macsec => seen.told.has_sec_tag,
         Primitive::EtherType(number) => has(seen.types.as_slice(), number),
         Primitive::Refused => seen.told.is_refused,
-        _ => match seen.told.link {
+        Primitive::Cut => captured_len < original_len as usize,
+        Primitive::Less(len) => original_len <= len,
+        Primitive::Greater(len) => original_len >= len,
+        Primitive::Source(_)
+        | Primitive::Destination(_)
+        | Primitive::Host(_)
+        | Primitive::Broadcast
+        | Primitive::Multicast => match seen.told.link {
             Some(link) => is_shown_by_link(*primitive, link.destination, link.source),
             None => false,
         },
@@ -177,4 +189,13 @@ fn has(numbers: &[u16], number: u16) -> bool {
         }
     }
     false
+}
+
+/// Whether it is seen that a packet has no VLAN tag.
+#[inline]
+pub(crate) fn is_untagged(seen: &Option<Seen>) -> bool {
+    match seen {
+        Some(seen) => seen.told.outer.is_none(),
+        None => false,
+    }
 }

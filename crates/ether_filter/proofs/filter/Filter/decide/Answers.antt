@@ -32,7 +32,7 @@ says : (c : goal.After-decision) (hs : List Header) (e : Ending)
 says c hs e walk =
     let packet = c.args.packet.now in
     let ns = c.as_slice-node-items.result.now in
-    let at = c.find_opening-opening.ensures.opening hs e walk in
+    let at = c.find_opening-opening.ensures hs e walk in
     let is : expression_of ns ≡ c.args.self.now = ap expression_of c.as_slice-node-items.ensures.value
     ∙ c.self.view_is in
     let value = c.unwrap_or.ensures ∙ ap (λ (o : Option (Option Bool)). unwrap_or o None) c.pop.ensures.value in
@@ -50,7 +50,7 @@ pub returns-clause-matches : goal.returns-clause-matches
 returns-clause-matches c is more ks f completes walk_on =
     let packet = c.args.packet.now in
     let start = start_of packet.start in
-    let ok = c.find_opening-opening.ensures.bytes in
+    let ok = c.look_for-seen.ensures.bytes in
     let s = some_stack packet.frame.now start (whole start packet.frame.now) ok in
     knows_so packet s.0 s.1 (walked packet ks f) c.args.self.now true
     (agrees packet more s.0 ks s.1 f ok completes s.2 walk_on)
@@ -60,7 +60,7 @@ pub returns-clause-fails : goal.returns-clause-fails
 returns-clause-fails c is more ks f completes walk_on =
     let packet = c.args.packet.now in
     let start = start_of packet.start in
-    let ok = c.find_opening-opening.ensures.bytes in
+    let ok = c.look_for-seen.ensures.bytes in
     let s = some_stack packet.frame.now start (whole start packet.frame.now) ok in
     knows_so packet s.0 s.1 (walked packet ks f) c.args.self.now false
     (agrees packet more s.0 ks s.1 f ok completes s.2 walk_on)
@@ -70,7 +70,7 @@ pub returns-clause-needs : goal.returns-clause-needs
 returns-clause-needs c n is longer ks f more lt walk_on =
     let packet = c.args.packet.now in
     let start = start_of packet.start in
-    let ok = c.find_opening-opening.ensures.bytes in
+    let ok = c.look_for-seen.ensures.bytes in
     let s = some_stack packet.frame.now start (whole start packet.frame.now) ok in
     let k = subst (Says packet s.0 s.1 c.args.self.now) is (says c s.0 s.1 s.2) in
     needs_all packet longer s.0 ks s.1 f n c.args.self.now s.2 walk_on more lt k.0 k.1

@@ -1,4 +1,4 @@
-use Rattle.std.proofs.Common.{◌<◌, refl, arith, List}
+use Rattle.std.proofs.Common.{◌<◌, refl, sym, ◌∙◌, arith, List}
 use Rattle.etherparse.specs.Header.{Header}
 use Rattle.ether_peel.specs.Grammar.Stack.{Ending, whole, Walk}
 use Rattle.ether_peel.specs.Walker.Start.{start_of}
@@ -7,12 +7,13 @@ use Rattle.ether_filter.specs.Primitives.{walked}
 use Rattle.ether_filter.specs.Jumps.{chosen, first_jump}
 use Rattle.ether_filter.proofs.JumpsLemmas.{Reaches, truth, reaches_next, reaches_test, reaches_end}
 use Rattle.ether_filter.proofs.Truth.{matching, matching_is, expression_is, one_truth, runs_begin, past_nodes, end_is}
+use Rattle.ether_filter.proofs.PastTags.{runs_past}
 use Rattle.ether_filter.proofs.filter.Filter.matches.Goals as goal
 
 pub loop-at-init : goal.loop-at-init
 loop-at-init c =
     runs_begin c.args.packet.now c.self.inside.nodes.items c.as_slice-nodes.result.now c.self.inside.jumps
-    c.args.self.now c.as_slice-nodes.ensures.value c.self.invariant c.self.view_is
+    c.args.self.now c.as_slice-nodes.ensures.value (c.self.invariant.0, c.self.invariant.1) c.self.view_is
     (omega (arith, c.as_slice-nodes.ensures.fits))
 
 pub returns-in_default : goal.returns-in_default
@@ -53,6 +54,26 @@ loop-at-smaller c =
 
 pub loop-at-preserved : goal.loop-at-preserved
 loop-at-preserved c hs e walk = (after_test c hs e walk).1
+
+pub loop-at-smaller-then-is_of_tags : goal.loop-at-smaller-then-is_of_tags
+loop-at-smaller-then-is_of_tags c =
+    let packet = c.args.packet.now in
+    let start = start_of packet.start in
+    let s = some_stack packet.frame.now start (whole start packet.frame.now) c.look_for-seen.ensures.bytes in
+    let next = (runs_past packet s.0 s.1 c.look_for-seen.result c.args.self.now c.self.inside.nodes.items
+    c.as_slice-nodes.result.now c.self.inside.jumps c.self.inside.past_tags c.loop-at.at c.from-at.result _
+    c.in-Test.primitive s.2 (c.look_for-seen.ensures.seen s.0 s.1 s.2) (sym c.is_untagged-untagged.ensures ∙ c.if-untagged.true)
+    c.as_slice-nodes.ensures.value c.self.invariant.2 c.loop-at-test.true (omega (arith, c.as_slice-nodes.ensures.fits))
+    c.in-Test.is (sym c.if-is_of_tags.ensures) c.from-at.ensures c.loop-at.invariant).0 in
+    omega (arith, c.loop-at-test.true, next)
+
+pub loop-at-preserved-then-is_of_tags : goal.loop-at-preserved-then-is_of_tags
+loop-at-preserved-then-is_of_tags c hs e walk =
+    (runs_past c.args.packet.now hs e c.look_for-seen.result c.args.self.now c.self.inside.nodes.items
+    c.as_slice-nodes.result.now c.self.inside.jumps c.self.inside.past_tags c.loop-at.at c.from-at.result _
+    c.in-Test.primitive walk (c.look_for-seen.ensures.seen hs e walk) (sym c.is_untagged-untagged.ensures ∙ c.if-untagged.true)
+    c.as_slice-nodes.ensures.value c.self.invariant.2 c.loop-at-test.true (omega (arith, c.as_slice-nodes.ensures.fits))
+    c.in-Test.is (sym c.if-is_of_tags.ensures) c.from-at.ensures c.loop-at.invariant).1
 
 pub returns : goal.returns
 returns c hs e walk =

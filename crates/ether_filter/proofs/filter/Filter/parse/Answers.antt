@@ -12,6 +12,7 @@ invariant_of-result c =
     let jumps = c.jumps_of-jumps.ensures x (c.as_slice.ensures.value ∙ found.2) in (
       (x, found.2),
       rw is jumps,
+      rw c.as_slice-in-Ok.ensures.value at c.past_tags-past_tags.ensures,
     )
 
 pub returns-in-Ok-clause-ok : goal.returns-in-Ok-clause-ok

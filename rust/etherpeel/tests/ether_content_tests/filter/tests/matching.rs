@@ -41,7 +41,7 @@ const N: bool = false;
 
 /// An expression, and which of the packets match.
 #[rustfmt::skip]
-static MATCHING: [(&[u8], [bool; 6]); 24] = [
+static MATCHING: [(&[u8], [bool; 6]); 27] = [
     (b"vlan 5 or arp", [Y, Y, Y, Y, N, Y]),
     (b"arp or vlan 5", [Y, Y, Y, Y, N, Y]),
     (b"vlan 7 or vlan 5", [N, Y, Y, Y, N, Y]),
@@ -66,6 +66,9 @@ static MATCHING: [(&[u8], [bool; 6]); 24] = [
     (b"less 64", [Y, Y, Y, N, Y, N]),
     (b"greater 64", [N, Y, Y, Y, N, Y]),
     (b"vlan 5 and (arp or ip) and not outer vlan 100", [N, Y, N, Y, N, N]),
+    (b"not vlan 5 and not vlan 7 and not vlan 100", [Y, N, N, N, Y, N]),
+    (b"not (vlan 5 and not arp) and (ether broadcast or vlan 5)", [Y, Y, Y, N, N, N]),
+    (b"(vlan and (ip or not vlan 7)) or greater 1000", [N, Y, N, Y, N, Y]),
 ];
 
 #[test]
@@ -79,6 +82,10 @@ fn of_six_packets() {
 /// Four VLAN tags, 1 to 4, before IPv4.
 const FOUR_TAGS: &[u8] =
     b"\x02\x00\x5E\x10\x00\x02\x02\x00\x5E\x10\x00\x01\x81\x00\x00\x01\x81\x00\x00\x02\x81\x00\x00\x03\x81\x00\x00\x04\x08\x00";
+
+/// Ten VLAN tags, 1 to 10, before IPv4.
+const TEN_TAGS: &[u8] =
+    b"\x02\x00\x5E\x10\x00\x02\x02\x00\x5E\x10\x00\x01\x81\x00\x00\x01\x81\x00\x00\x02\x81\x00\x00\x03\x81\x00\x00\x04\x81\x00\x00\x05\x81\x00\x00\x06\x81\x00\x00\x07\x81\x00\x00\x08\x81\x00\x00\x09\x81\x00\x00\x0A\x08\x00";
 
 /// VLAN 9 and no more of an ARP packet in a SecTag that leaves its payload readable.
 const IN_SEC_TAG: &[u8] =
@@ -107,12 +114,15 @@ const TAG: Start = Start::EtherType(EtherType::VLAN_TAGGED_FRAME);
 
 /// A start, a frame, an expression, and whether they match.
 #[rustfmt::skip]
-static OTHER: [(Start, &[u8], &[u8], bool); 16] = [
+static OTHER: [(Start, &[u8], &[u8], bool); 19] = [
     (ETH, FOUR_TAGS, b"outer vlan 1 and inner vlan 4", true),
     (ETH, FOUR_TAGS, b"vlan 3 and vlan 2", true),
     (ETH, FOUR_TAGS, b"inner vlan 2 or inner vlan 3", false),
     (ETH, FOUR_TAGS_CUT, b"refused and vlan 3", true),
     (ETH, FOUR_TAGS_CUT, b"vlan 4 or ip", false),
+    (ETH, TEN_TAGS, b"outer vlan 1 and inner vlan 10", true),
+    (ETH, TEN_TAGS, b"vlan 10 and ip and not refused", true),
+    (ETH, TEN_TAGS, b"vlan 11 or inner vlan 9 or arp", false),
     (ETH, IN_SEC_TAG, b"macsec and vlan 9 and arp", true),
     (ETH, IN_SEC_TAG, b"refused", true),
     (ETH, ENCRYPTED, b"macsec", true),
