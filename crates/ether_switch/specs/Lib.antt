@@ -1,0 +1,3 @@
+pub mod VlanSets
+pub mod Kinds
+pub mod Arrivals

@@ -1,0 +1,14 @@
+//! The forwarding of a bridge with VLANs (IEEE 802.1Q), over `ether_peel` and `ether_packet`. No call allocates memory.
+#![tactic(auto)]
+
+mod arrival;
+mod kind;
+mod port;
+mod vlan;
+mod vlan_set;
+
+pub use arrival::Discarded;
+pub use kind::BridgeKind;
+pub use port::{AcceptableFrames, PortConfig};
+pub use vlan::Vlan;
+pub use vlan_set::VlanSet;
