@@ -1,3 +1,4 @@
 pub mod VlanSets
 pub mod Kinds
 pub mod Arrivals
+pub mod Learning

@@ -4,11 +4,13 @@
 mod arrival;
 mod kind;
 mod port;
+mod stations;
 mod vlan;
 mod vlan_set;
 
 pub use arrival::Discarded;
 pub use kind::BridgeKind;
 pub use port::{AcceptableFrames, PortConfig};
+pub use stations::StationTable;
 pub use vlan::Vlan;
 pub use vlan_set::VlanSet;
