@@ -2,3 +2,5 @@ pub mod VlanSets
 pub mod Kinds
 pub mod Arrivals
 pub mod Learning
+pub mod Relaying
+pub mod Leaving

@@ -1,5 +1,5 @@
 //! Frames that come in by a port.
-ghost use Rattle.std.specs.Prelude.{◌≡◌, ◌≤◌, ◌≢◌, List, Some, None, option_map, not, nat_eq};
+ghost use Rattle.std.specs.Prelude.{◌≡◌, ◌<◌, ◌^◌, List, IfOk};
 ghost use Rattle.etherparse.specs.Bytes.{number};
 ghost use Rattle.etherparse.specs.Header.{Header};
 ghost use Rattle.etherparse.specs.Vlan.{vlan_view};
@@ -56,7 +56,8 @@ pub(crate) fn admit(
     port: &PortConfig,
     frame: &[u8],
 ) -> Result<Admitted, Discarded>
-    ensures { (hs : List Header) (e : Ending) → Walk (start_of Start.Ethernet2) frame.now hs e
+    ensures addresses { IfOk result (λ a. (a.source < 2 ^ 48) × (a.destination < 2 ^ 48)) }
+    ensures value { (hs : List Header) (e : Ending) → Walk (start_of Start.Ethernet2) frame.now hs e
         → result ≡ arrival kind port.now hs }
 {
     match read_front(kind, frame) {
@@ -67,7 +68,8 @@ pub(crate) fn admit(
 
 /// What a port makes of a frame that begins like this.
 fn admit_front(port: &PortConfig, front: &EthernetFront) -> Result<Admitted, Discarded>
-    ensures { result ≡ arrival_in port.now (front_view front.now) (vlan_of port.now.pvid (front_view front.now)) }
+    ensures addresses { IfOk result (λ a. (a.source < 2 ^ 48) × (a.destination < 2 ^ 48)) }
+    ensures value { result ≡ arrival_in port.now (front_view front.now) (vlan_of port.now.pvid (front_view front.now)) }
 {
     let Some(vlan) = vlan_for(port.pvid, front) else {
         return Err(Discarded::ReservedIdentifier);
@@ -126,7 +128,8 @@ fn refusal(port: &PortConfig, front: &EthernetFront, vlan: Vlan) -> Option<Disca
 
 /// A frame of a VLAN that a port takes.
 fn taken(port: &PortConfig, front: &EthernetFront, vlan: Vlan) -> Admitted
-    ensures { result ≡ admitted_of port.now (front_view front.now) vlan }
+    ensures addresses { (result.source < 2 ^ 48) × (result.destination < 2 ^ 48) }
+    ensures value { result ≡ admitted_of port.now (front_view front.now) vlan }
 {
     Admitted {
         vlan,
@@ -181,7 +184,8 @@ fn admits(frame_types: AcceptableFrames, tagging: Tagging) -> bool
 
 /// An address as one number.
 fn address(bytes: [u8; 6]) -> u64
-    ensures { result ≡ number bytes }
+    ensures value { result ≡ number bytes }
+    ensures bound { result < 2 ^ 48 }
 {
     let [a, b, c, d, e, f] = bytes;
     u64_of([0, 0, a, b, c, d, e, f])

@@ -1,0 +1,152 @@
+//! Bridges.
+ghost use Rattle.std.specs.Prelude.{◌≡◌, ◌<◌, ◌^◌, ◌+◌, ◌*◌, ℕ, List, ◌∷◌, find, option_map, Option, Ok, Err, IfOk, false, nat_eq};
+ghost use Rattle.etherparse.specs.Bytes.{number};
+ghost use Rattle.etherparse.specs.Header.{Header};
+ghost use Rattle.ether_peel.specs.Grammar.Stack.{Ending, Walk};
+ghost use Rattle.ether_peel.specs.Walker.Start.{start_of};
+ghost use Rattle.ether_switch.specs.declared.arrival.Admitted.{Admitted as Taken};
+ghost use Rattle.ether_switch.specs.Arrivals.{arrival, is_group as is_group_of};
+ghost use Rattle.ether_switch.specs.Learning.{Knows, known_port};
+ghost use Rattle.ether_switch.specs.Relaying.{station as station_of, sighting as sighting_by, static_port as static_port_of, toward as toward_of, decision, decided, relayed};
+ghost use Rattle.ether_switch.specs.Leaving.{includes};
+
+use crate::arrival::{Admitted, admit, is_group};
+use crate::stations::Sighting;
+use crate::{BridgeKind, Decision, Discarded, PortConfig, Received, StationTable, Vlan};
+use ether_peel::Start;
+
+/// Where the frames to an address in a VLAN go, whatever the bridge learns (IEEE 802.1Q, 8.8.1).
+#[derive(Clone, Copy, PartialEq, Eq, Debug)]
+pub struct StaticEntry {
+    /// The VLAN.
+    pub vlan: Vlan,
+    /// The address, of a station or a group, as a number of 48 bits.
+    pub address: u64,
+    /// The port that they leave by; `None` if they leave by none.
+    pub port: Option<u16>,
+}
+
+/// A bridge, but for its ports and what it learns.
+#[derive(Clone, Copy, Debug)]
+pub struct Bridge<'a> {
+    /// Which tags it has.
+    pub kind: BridgeKind,
+    /// For how many seconds a station counts as being where it was last seen (IEEE 802.1Q, 8.8.3: 300).
+    pub ageing_time: u64,
+    /// Where frames to some addresses go.
+    pub static_entries: &'a [StaticEntry],
+}
+
+impl Bridge<'_> {
+    /// Learns the source of a frame that came in by a port, and then returns where the frame goes.
+    pub fn receive<const BUCKETS: usize>(
+        &self,
+        table: &mut StationTable<BUCKETS>,
+        now: u64,
+        from: u16,
+        port: &PortConfig,
+        frame: &[u8],
+    ) -> Result<Received, Discarded>
+        ensures refused { (hs : List Header) (e : Ending)
+            → Walk (start_of Start.Ethernet2) frame.now hs e
+            → (reason : Discarded) → arrival self.now.kind port.now hs ≡ Err reason
+            → (result ≡ Err reason) × (table.new ≡ table.old) }
+        ensures taken { (hs : List Header) (e : Ending)
+            → Walk (start_of Start.Ethernet2) frame.now hs e
+            → (a : Taken) → arrival self.now.kind port.now hs ≡ Ok a
+            → (history : List Sighting) → Knows BUCKETS table.old history
+            → let seen = sighting_by now from a ∷ history in
+            (result ≡ relayed self.now.kind from a
+            (decision self.now.static_entries.now from a.vlan a.destination
+            (known_port BUCKETS self.now.ageing_time now seen (station_of a.vlan a.destination))))
+            × Knows BUCKETS table.new seen }
+        ensures never_back { IfOk result (λ r. includes r.decision from from ≡ false) }
+    {
+        let frame = match admit(self.kind, port, frame) {
+            Ok(frame) => frame,
+            Err(reason) => return Err(reason),
+        };
+        table.learn(Sighting {
+            station: station(frame.vlan, frame.source),
+            port: from,
+            time: now,
+        });
+        let destination = station(frame.vlan, frame.destination);
+        let known = table.port_of(destination, now, self.ageing_time);
+        relay(self.kind, from, &frame, self.decide(from, &frame, known))
+    }
+
+    /// Where a frame goes, by the port at which its destination is known to be.
+    fn decide(&self, from: u16, frame: &Admitted, known: Option<u16>) -> Decision
+        ensures value { result ≡ decision self.now.static_entries.now from frame.now.vlan
+            frame.now.destination known }
+        ensures never_back { includes result from from ≡ false }
+    {
+        if let Some(port) = static_port(self.static_entries, frame.vlan, frame.destination) {
+            return match port {
+                Some(port) => toward(from, port),
+                None => Decision::Discard,
+            };
+        }
+        if is_group(frame.destination) {
+            return Decision::Flood;
+        }
+        match known {
+            Some(port) => toward(from, port),
+            None => Decision::Flood,
+        }
+    }
+}
+
+/// The port of the first entry for an address in a VLAN, if there is an entry.
+fn static_port(entries: &[StaticEntry], vlan: Vlan, address: u64) -> Option<Option<u16>>
+    ensures { result ≡ static_port_of entries.now vlan address }
+{
+    entries
+        .iter()
+        .find(|entry| entry.vlan == vlan && entry.address == address)
+        .map(|entry| entry.port)
+}
+
+/// Where a frame goes that is for a port.
+fn toward(from: u16, port: u16) -> Decision
+    ensures value { result ≡ toward_of from port }
+    ensures never_back { includes result from from ≡ false }
+{
+    if port == from {
+        Decision::Discard
+    } else {
+        Decision::Port(port)
+    }
+}
+
+/// The answer for a frame with a decision, which is not followed if its destination is reserved.
+fn relay(
+    kind: BridgeKind,
+    from: u16,
+    frame: &Admitted,
+    decision: Decision,
+) -> Result<Received, Discarded>
+    ensures value { result ≡ relayed kind from frame.now decision }
+    ensures decision { IfOk result (λ r. r.decision ≡ decision) }
+{
+    if kind.reserves(frame.destination) {
+        return Err(Discarded::ReservedAddress);
+    }
+    Ok(Received {
+        kind,
+        from,
+        vlan: frame.vlan,
+        priority: frame.priority,
+        drop_eligible: frame.drop_eligible,
+        decision,
+    })
+}
+
+/// An address in a VLAN, as one number.
+fn station(vlan: Vlan, address: u64) -> u64
+    requires { address < 2 ^ 48 }
+    ensures { result ≡ station_of vlan address }
+{
+    u64::from(vlan.id().value()) * (1 << 48) + address
+}
