@@ -1,5 +1,5 @@
 -- How a frame leaves, by how it begins.
-use Rattle.std.proofs.Common.{◌≡◌, ℕ, List, [], ◌∷◌, drop, Bool, true, false, if◌then◌else◌, Option, Some, None, Result, Ok, Err, is_ok, is_some, refl, sym, ap}
+use Rattle.std.proofs.Common.{◌≡◌, ℕ, List, [], ◌∷◌, drop, Bool, true, false, if◌then◌else◌, Option, Some, None, Result, Ok, Err, is_ok, is_some, refl}
 use Rattle.etherparse.specs.Ethernet2.{Ethernet2Value}
 use Rattle.etherparse.specs.Header.{Header}
 use Rattle.etherparse.specs.Header as headers

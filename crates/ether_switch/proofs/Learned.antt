@@ -1,5 +1,5 @@
 -- What a bucket holds of the sightings of its stations.
-use Rattle.std.proofs.Common.{◌≡◌, ◌≢◌, ℕ, zero, suc, ◌+◌, ◌<◌, Bool, true, false, not, nat_eq, if◌then◌else◌, List, [], ◌∷◌, length, map, filter, take, get_or, set, inl, inr, refl, sym, ap, subst, ◌∙◌, arith, get_or-set_other, get_or-set_same}
+use Rattle.std.proofs.Common.{◌≡◌, ◌≢◌, ℕ, zero, suc, ◌<◌, Bool, true, false, not, nat_eq, if◌then◌else◌, List, [], ◌∷◌, length, map, filter, take, get_or, set, inl, inr, refl, sym, ap, subst, ◌∙◌, arith, get_or-set_other, get_or-set_same}
 use Rattle.std.proofs.lemmas.Bool.{cases_eq, eqb-true, eq-eqb, ne_eqb}
 use Rattle.std.proofs.lemmas.List.{length-map, length-set, map-set, take-take}
 use Rattle.ether_switch.specs.declared.stations.Sighting.{Sighting}
@@ -51,9 +51,10 @@ distinct_filtered p (f ∷ fs) d =
 
 newest-distinct : (history : List Sighting) → Distinct (newest history)
 newest-distinct [] = tt
-newest-distinct (f ∷ earlier) =
-    (filtered_others f.station (newest earlier),
-    distinct_filtered (is_other f.station) (newest earlier) (newest-distinct earlier))
+newest-distinct (f ∷ earlier) = (
+  filtered_others f.station (newest earlier),
+  distinct_filtered (is_other f.station) (newest earlier) (newest-distinct earlier),
+)
 
 -- ---- of the others the first n are among the first n + 1 of all
 
@@ -129,27 +130,29 @@ known_more n f buckets history within knows =
     record {
       size = length-set buckets at new ∙ knows.size;
       each = λ i small. elim (cases_eq i at) [
-          inl e ↦
-              ap (λ (k : ℕ). get_or (set buckets at new) k []) e
-              ∙ get_or-set_same buckets at new [] lt
-              ∙ ap (with_newest f) (knows.each at within)
-              ∙ here n f history
-              ∙ ap (λ (k : ℕ). held n k (f ∷ history)) (sym e)
-          | inr ne ↦
-              get_or-set_other buckets at i new [] ne ∙ knows.each i small ∙ elsewhere n i f history ne ];
+        | inl e ↦
+            ap (λ (k : ℕ). get_or (set buckets at new) k []) e
+            ∙ get_or-set_same buckets at new [] lt
+            ∙ ap (with_newest f) (knows.each at within)
+            ∙ here n f history
+            ∙ ap (λ (k : ℕ). held n k (f ∷ history)) (sym e)
+        | inr ne ↦
+            get_or-set_other buckets at i new [] ne ∙ knows.each i small ∙ elsewhere n i f history ne
+      ];
     }
 
 pub learned : (n : ℕ) (f : Sighting) (buckets : List (List Sighting)) (history : List Sighting)
     → Knows n buckets history → Knows n (with_sighting f buckets) (f ∷ history)
 learned n f buckets history knows = elim (cases_eq n 0) [
-    inl none ↦
-        subst (λ (l : List (List Sighting)). Knows n l (f ∷ history)) (sym (none_is f buckets (knows.size ∙ none)))
-        (record { size = knows.size; each = λ i small. absurd (omega (arith, none, small)) })
-    | inr some ↦
-        let least : 0 < n = omega (arith, some) in
-        let within : place_of n f.station < n = omega (arith, least) in
-        subst (λ (l : List (List Sighting)). Knows n l (f ∷ history)) (sym (set_is f buckets n knows.size least))
-        (known_more n f buckets history within knows) ]
+  | inl none ↦
+      subst (λ (l : List (List Sighting)). Knows n l (f ∷ history)) (sym (none_is f buckets (knows.size ∙ none)))
+      (record { size = knows.size; each = λ i small. absurd (omega (arith, none, small)) })
+  | inr some ↦
+      let least : 0 < n = omega (arith, some) in
+      let within : place_of n f.station < n = omega (arith, least) in
+      subst (λ (l : List (List Sighting)). Knows n l (f ∷ history)) (sym (set_is f buckets n knows.size least))
+      (known_more n f buckets history within knows)
+]
 
 -- ---- by lists that have more than the sightings
 

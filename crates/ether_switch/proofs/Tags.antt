@@ -1,5 +1,5 @@
 -- The tag directly after the header of a link.
-use Rattle.std.proofs.Common.{◌≡◌, ℕ, ◌+◌, Bool, true, false, if◌then◌else◌, List, [], ◌∷◌, Option, Some, None, Result, Ok, Err, refl, ap, subst}
+use Rattle.std.proofs.Common.{◌≡◌, ◌+◌, Bool, true, false, if◌then◌else◌, List, [], ◌∷◌, Option, Some, None, Result, Ok, Err, refl, ap, subst}
 use Rattle.std.specs.Prelude.{IfErr, IfSome, MatchBool}
 use Rattle.etherparse.specs.Kind.{Kind}
 use Rattle.etherparse.specs.Kind as kinds
@@ -9,7 +9,6 @@ use Rattle.ether_peel.specs.Grammar.Expectation.{is_extension}
 use Rattle.ether_packet.specs.declared.tag_error.TagError.{TagError}
 use Rattle.ether_packet.specs.Front.{first_tag, outer_tag}
 use Rattle.ether_packet.specs.ReplacingLink.{is_link}
-use Rattle.ether_packet.specs.Replacing.{ext_count}
 use Rattle.ether_packet.specs.Setting.{RefusesTag}
 use Rattle.ether_packet.proofs.VlanIds.{never_refused}
 

@@ -1,5 +1,5 @@
 -- Kinds of bridges: the tags that they have, and the addresses to which they forward nothing.
-use Rattle.std.specs.Prelude.{ℕ, ◌+◌, List, [], ◌∷◌, map, Bool, nat_eq}
+use Rattle.std.specs.Prelude.{ℕ, ◌+◌, List, [], ◌∷◌, Bool, nat_eq}
 use Rattle.std.specs.List.{list_any}
 use Rattle.ether_switch.specs.declared.kind.BridgeKind.{BridgeKind}
 use Rattle.ether_switch.specs.declared.kind.BridgeKind.TheVariants.{Customer, Provider}

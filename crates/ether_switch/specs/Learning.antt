@@ -1,5 +1,5 @@
 -- What a bridge has learned from the frames that came in, the newest first (IEEE 802.1Q, 8.7).
-use Rattle.std.specs.Prelude.{◌≡◌, ℕ, ◌+◌, ◌-◌, ◌*◌, ◌/◌, ◌%◌, ◌^◌, ◌<◌, List, [], ◌∷◌, length, take, filter, find, slice_set, slice_index_or, Option, Some, None, option_and_then, Bool, not, nat_eq, nat_le, if◌then◌else◌}
+use Rattle.std.specs.Prelude.{◌≡◌, ℕ, ◌+◌, ◌-◌, ◌/◌, ◌%◌, ◌^◌, ◌<◌, List, [], ◌∷◌, length, take, filter, find, slice_set, slice_index_or, Option, Some, None, option_and_then, Bool, not, nat_eq, nat_le, if◌then◌else◌}
 use Rattle.ether_switch.specs.declared.stations.Sighting.{Sighting}
 
 -- whether a sighting is one of a station

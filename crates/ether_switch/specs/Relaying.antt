@@ -1,5 +1,6 @@
 -- Where a bridge sends a frame (IEEE 802.1Q, 8.6.3 and 8.8).
-use Rattle.std.specs.Prelude.{ℕ, ◌+◌, ◌*◌, ◌^◌, List, ◌∷◌, find, Option, Some, None, option_map, Result, Ok, Err, Bool, ◌&&◌, nat_eq, if◌then◌else◌}
+use Rattle.std.specs.Prelude.{ℕ, ◌+◌, ◌*◌, ◌^◌, List, find, Option, Some, None, option_map, Result, Ok, Err, ◌&&◌, nat_eq, if◌then◌else◌}
+use Rattle.etherparse.specs.Bytes.{number}
 use Rattle.ether_switch.specs.declared.arrival.Admitted.{Admitted}
 use Rattle.ether_switch.specs.declared.arrival.Discarded.{Discarded}
 use Rattle.ether_switch.specs.declared.arrival.Discarded.TheVariants.{ReservedAddress}
@@ -23,7 +24,7 @@ sighting now from a = record { station = station a.vlan a.source; port = from; t
 -- the port of the first entry for an address in a VLAN, if there is an entry (IEEE 802.1Q, 8.8.1)
 abbrev pub static_port : List StaticEntry → (vid address : ℕ) → Option (Option ℕ)
 static_port entries vid address =
-    option_map (λ e. e.port) (find (λ e. nat_eq e.vlan vid && nat_eq e.address address) entries)
+    option_map (λ e. e.port) (find (λ e. nat_eq e.vlan vid && nat_eq (number e.address) address) entries)
 
 -- where a frame from a port goes that is for a port: never back
 abbrev pub toward : (from port : ℕ) → Decision

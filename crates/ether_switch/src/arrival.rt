@@ -22,11 +22,11 @@ pub enum Discarded {
     CutTag,
     /// Its tag has the identifier 4095, which is reserved (IEEE 802.1Q, table 9-2).
     ReservedIdentifier,
-    /// Its source is a group, or has only zeros.
+    /// Its source is the address of a group, or all zeros.
     Source,
-    /// The port takes no frames with such a tag, or without one (IEEE 802.1Q, 6.9).
+    /// The port does not take frames with such a tag, or without one (IEEE 802.1Q, 6.9).
     FrameType,
-    /// The port is not a member of its VLAN, and filters (IEEE 802.1Q, 8.6.2).
+    /// The port is not a member of its VLAN, and has ingress filtering (IEEE 802.1Q, 8.6.2).
     NotAMember,
     /// Its destination is a reserved address (IEEE 802.1Q, 8.6.3).
     ReservedAddress,
@@ -114,7 +114,7 @@ fn vlan_for(pvid: Vlan, front: &EthernetFront) -> Option<Vlan>
 fn refusal(port: &PortConfig, front: &EthernetFront, vlan: Vlan) -> Option<Discarded>
     ensures { result ≡ refusal_of port.now (front_view front.now) vlan }
 {
-    if !is_station(address(front.link.source)) {
+    if !is_station(address_of(front.link.source)) {
         return Some(Discarded::Source);
     }
     if !admits(port.frame_types, tagging_in(front)) {
@@ -135,8 +135,8 @@ fn taken(port: &PortConfig, front: &EthernetFront, vlan: Vlan) -> Admitted
         vlan,
         priority: priority(port.default_priority, front),
         drop_eligible: is_drop_eligible(front),
-        source: address(front.link.source),
-        destination: address(front.link.destination),
+        source: address_of(front.link.source),
+        destination: address_of(front.link.destination),
     }
 }
 
@@ -183,7 +183,7 @@ fn admits(frame_types: AcceptableFrames, tagging: Tagging) -> bool
 }
 
 /// An address as one number.
-fn address(bytes: [u8; 6]) -> u64
+pub(crate) fn address_of(bytes: [u8; 6]) -> u64
     ensures value { result ≡ number bytes }
     ensures bound { result < 2 ^ 48 }
 {

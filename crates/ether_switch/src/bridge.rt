@@ -10,7 +10,7 @@ ghost use Rattle.ether_switch.specs.Learning.{Knows, known_port};
 ghost use Rattle.ether_switch.specs.Relaying.{station as station_of, sighting as sighting_by, static_port as static_port_of, toward as toward_of, decision, decided, relayed};
 ghost use Rattle.ether_switch.specs.Leaving.{includes};
 
-use crate::arrival::{Admitted, admit, is_group};
+use crate::arrival::{Admitted, address_of, admit, is_group};
 use crate::stations::Sighting;
 use crate::{BridgeKind, Decision, Discarded, PortConfig, Received, StationTable, Vlan};
 use ether_peel::Start;
@@ -20,25 +20,63 @@ use ether_peel::Start;
 pub struct StaticEntry {
     /// The VLAN.
     pub vlan: Vlan,
-    /// The address, of a station or a group, as a number of 48 bits.
-    pub address: u64,
+    /// The address, of a station or a group.
+    pub address: [u8; 6],
     /// The port that they leave by; `None` if they leave by none.
     pub port: Option<u16>,
 }
 
-/// A bridge, but for its ports and what it learns.
+/// A bridge, but for its ports, and for what it learns.
 #[derive(Clone, Copy, Debug)]
 pub struct Bridge<'a> {
     /// Which tags it has.
     pub kind: BridgeKind,
-    /// For how many seconds a station counts as being where it was last seen (IEEE 802.1Q, 8.8.3: 300).
+    /// For how many seconds a station counts as being where it was seen last (IEEE 802.1Q, 8.8.3).
     pub ageing_time: u64,
-    /// Where frames to some addresses go.
+    /// Where the frames to some addresses go. The first entry for an address counts, and each frame costs a look at all.
     pub static_entries: &'a [StaticEntry],
 }
 
 impl Bridge<'_> {
-    /// Learns the source of a frame that came in by a port, and then returns where the frame goes.
+    /// The ageing time that the standard recommends: 300 seconds (IEEE 802.1Q, table 8-6).
+    pub const AGEING_TIME: u64 = 300;
+
+    /// Learns the source of a frame that came in by a port, and then returns what was received.
+    ///
+    /// `now` is the time in seconds, by a clock that does not go back, and `from` the number of the port, which no other has.
+    /// The frame begins with an Ethernet II header and has no frame check sequence. What follows its tag is not read.
+    ///
+    /// The VLAN is that of the tag. It is the port's own ([`PortConfig::pvid`]) if there is no tag, or one that has a priority
+    /// alone. A tag of another kind of bridge, as 0x88A8 for one of customers, is payload. The frame goes to the port at which
+    /// its destination was seen last in this VLAN, if that was not longer ago than the ageing time; else, and if its
+    /// destination is a group, to all ports but its own. A static entry has precedence.
+    ///
+    /// The source is learned even if the destination is reserved (IEEE 802.1Q, 8.7), but not with any other error.
+    ///
+    /// # Errors
+    ///
+    /// Why the bridge discards the frame: the first [`Discarded`] that applies.
+    ///
+    /// # Examples
+    ///
+    /// ```
+    /// let vlan = Vlan::new(10).ok_or("1 to 4094")?;
+    /// let port = PortConfig::access(vlan);
+    /// let request = [0xFF, 0xFF, 0xFF, 0xFF, 0xFF, 0xFF, 0x02, 0x00, 0x00, 0x00, 0x00, 0x01, 0x08, 0x06];
+    /// let reply = [0x02, 0x00, 0x00, 0x00, 0x00, 0x01, 0x02, 0x00, 0x00, 0x00, 0x00, 0x02, 0x08, 0x06];
+    /// let bridge = Bridge {
+    ///     kind: BridgeKind::Customer,
+    ///     ageing_time: Bridge::AGEING_TIME,
+    ///     static_entries: &[],
+    /// };
+    /// let mut table = StationTable::<64>::new();
+    /// let first = bridge.receive(&mut table, 0, 1, &port, &request);
+    /// assert_eq!(rt; first.map(|received| received.decision), Ok(Decision::Flood));
+    /// let second = bridge.receive(&mut table, 300, 2, &port, &reply);
+    /// assert_eq!(rt; second.map(|received| received.decision), Ok(Decision::Port(1)));
+    /// let third = bridge.receive(&mut table, 301, 2, &port, &reply);
+    /// assert_eq!(rt; third.map(|received| received.decision), Ok(Decision::Flood));
+    /// ```
     pub fn receive<const BUCKETS: usize>(
         &self,
         table: &mut StationTable<BUCKETS>,
@@ -104,7 +142,7 @@ fn static_port(entries: &[StaticEntry], vlan: Vlan, address: u64) -> Option<Opti
 {
     entries
         .iter()
-        .find(|entry| entry.vlan == vlan && entry.address == address)
+        .find(|entry| entry.vlan == vlan && address_of(entry.address) == address)
         .map(|entry| entry.port)
 }
 

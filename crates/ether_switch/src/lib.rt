@@ -1,4 +1,35 @@
-//! The forwarding of a bridge with VLANs (IEEE 802.1Q), over `ether_peel` and `ether_packet`. No call allocates memory.
+//! The forwarding of a bridge with VLANs (IEEE 802.1Q). No call allocates memory.
+//!
+//! A [`Bridge`] receives a frame by a port: it learns where the frame's source is, in a [`StationTable`], and decides where the
+//! frame goes. The frame then leaves by each of these ports, made ready in place: [`Received::send`].
+//!
+//! ```
+//! let vlan = Vlan::new(10).ok_or("1 to 4094")?;
+//! let (access, trunk) = (PortConfig::access(vlan), PortConfig::trunk());
+//! let bridge = Bridge {
+//!     kind: BridgeKind::Customer,
+//!     ageing_time: Bridge::AGEING_TIME,
+//!     static_entries: &[],
+//! };
+//! let mut table = StationTable::<64>::new();
+//! let mut buffer = [
+//!     0x00, 0x00, 0x00, 0x00, // free
+//!     0xFF, 0xFF, 0xFF, 0xFF, 0xFF, 0xFF, 0x02, 0x00, 0x00, 0x00, 0x00, 0x01, 0x08, 0x06, // Ethernet II
+//!     0x00,
+//! ];
+//! if let Ok(received) = bridge.receive(&mut table, 0, 1, &access, &buffer[4..]) {
+//!     assert_eq!(rt; received.decision, Decision::Flood);
+//!     assert_eq!(rt; received.send(2, &trunk, &mut buffer), Some(0));
+//!     assert_eq!(rt; buffer, [
+//!         0xFF, 0xFF, 0xFF, 0xFF, 0xFF, 0xFF, 0x02, 0x00, 0x00, 0x00, 0x00, 0x01, 0x81, 0x00, // Ethernet II
+//!         0x00, 0x0A, 0x08, 0x06, // VLAN
+//!         0x00,
+//!     ]);
+//! }
+//! ```
+//!
+//! Left out are spanning trees (a port that forwards nothing is one that the caller passes no frames of), the registration of
+//! VLANs and groups (frames to a group go to all members of the VLAN), and shared learning: each VLAN learns for itself.
 #![tactic(auto)]
 
 mod arrival;

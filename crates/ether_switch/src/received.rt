@@ -16,13 +16,13 @@ use etherparse::VlanPcp;
 pub enum Decision {
     /// To one port.
     Port(u16),
-    /// Nowhere.
+    /// Nowhere: its destination is on the port that it came from, or a static entry says so.
     Discard,
     /// To all ports but the one that it came from.
     Flood,
 }
 
-/// A frame that a bridge has received.
+/// What a bridge knows of a frame that it has received.
 #[derive(Clone, Copy, Debug)]
 pub struct Received {
     /// The kind of the bridge.
@@ -31,9 +31,9 @@ pub struct Received {
     pub from: u16,
     /// Its VLAN.
     pub vlan: Vlan,
-    /// Its priority.
+    /// Its priority: that of its tag, or else the port's default.
     pub priority: VlanPcp,
-    /// Whether it may be dropped first.
+    /// Whether it may be dropped first under congestion, by its tag.
     pub drop_eligible: bool,
     /// Where it goes.
     pub decision: Decision,
@@ -41,6 +41,42 @@ pub struct Received {
 
 impl Received {
     /// Makes the frame ready to leave by a port, and returns where it begins then.
+    ///
+    /// The buffer has four bytes that are free, and then the frame, as it was received. It leaves as `buffer[at..]`: without
+    /// its tag if its VLAN is in the port's untagged set, and with the tag of its VLAN else. Only bytes before the frame's
+    /// payload change, so the time does not depend on its length.
+    ///
+    /// `None` if it does not leave by the port: the decision does not include that, or it is not a member of the VLAN. Also if
+    /// the buffer's frame is too short for a header and a tag. The buffer is then unchanged.
+    ///
+    /// For many ports, make the frame ready by [`Received::tagged`] once and let it leave by all ports that want it like this, and
+    /// the same by [`Received::untagged`], each from a copy of the frame.
+    ///
+    /// # Examples
+    ///
+    /// ```
+    /// let vlan = Vlan::new(10).ok_or("1 to 4094")?;
+    /// let received = Received {
+    ///     kind: BridgeKind::Customer,
+    ///     from: 1,
+    ///     vlan,
+    ///     priority: VlanPcp::ZERO,
+    ///     drop_eligible: false,
+    ///     decision: Decision::Flood,
+    /// };
+    /// let mut buffer = [
+    ///     0x00, 0x00, 0x00, 0x00, // free
+    ///     0x02, 0x00, 0x00, 0x00, 0x00, 0x01, 0x02, 0x00, 0x00, 0x00, 0x00, 0x02, 0x81, 0x00, // Ethernet II
+    ///     0x00, 0x0A, 0x08, 0x06, // VLAN
+    ///     0x00,
+    /// ];
+    /// assert_eq!(rt; received.send(1, &PortConfig::access(vlan), &mut buffer), None);
+    /// assert_eq!(rt; received.send(2, &PortConfig::access(vlan), &mut buffer), Some(8));
+    /// assert_eq!(rt; buffer[8..], [
+    ///     0x02, 0x00, 0x00, 0x00, 0x00, 0x01, 0x02, 0x00, 0x00, 0x00, 0x00, 0x02, 0x08, 0x06, // Ethernet II
+    ///     0x00,
+    /// ]);
+    /// ```
     pub fn send(&self, to: u16, port: &PortConfig, buffer: &mut [u8]) -> Option<usize>
         ensures sent { IfSome result (λ at. (hs : List Header) (e : Ending)
             → Walk (start_of Start.Ethernet2) (drop 4 buffer.old) hs e
@@ -59,7 +95,7 @@ impl Received {
         self.tagged(buffer)
     }
 
-    /// Whether the frame leaves by a port.
+    /// Whether the frame leaves by a port with a number.
     pub fn goes_to(&self, to: u16, port: &PortConfig) -> bool
         ensures { result ≡ goes_to_of self.now to port.now }
     {
@@ -67,6 +103,9 @@ impl Received {
     }
 
     /// Makes the frame ready to leave with the tag of its VLAN, and returns where it begins then.
+    ///
+    /// The buffer is that of [`Received::send`]. A tag of the bridge keeps its priority, and gets the identifier of the VLAN; a
+    /// frame without one gets a tag. `None` if the frame is too short for a header and a tag.
     pub fn tagged(&self, buffer: &mut [u8]) -> Option<usize>
         ensures sent { IfSome result (λ at. (hs : List Header) (e : Ending)
             → Walk (start_of Start.Ethernet2) (drop 4 buffer.old) hs e
@@ -90,6 +129,10 @@ impl Received {
     }
 
     /// Makes the frame ready to leave without a tag, and returns where it begins then.
+    ///
+    /// The buffer is that of [`Received::send`]. `None` if the frame is too short for a header and a tag.
+    ///
+    /// A frame that came with two tags of the bridge's kind leaves with the second one.
     pub fn untagged(&self, buffer: &mut [u8]) -> Option<usize>
         ensures sent { IfSome result (λ at. (hs : List Header) (e : Ending)
             → Walk (start_of Start.Ethernet2) (drop 4 buffer.old) hs e

@@ -19,7 +19,15 @@ pub(crate) struct Sighting {
 /// The newest sightings of up to four stations, the newest first.
 type Bucket = ArrayVec<Sighting, WAYS>;
 
-/// The stations that a bridge has learned.
+/// The stations that a bridge has learned (IEEE 802.1Q, 8.7 and 8.8.3).
+///
+/// A station is an address in a VLAN, so the same address in two VLANs is two stations. They are held in `BUCKETS` buckets of four:
+/// in a full bucket the station that was seen last the longest ago leaves. A frame costs a look at two buckets, however many
+/// there are. With none, nothing is learned.
+///
+/// ```
+/// let mut table = StationTable::<1024>::new();
+/// ```
 #[derive(Debug, Drop)]
 pub struct StationTable<const BUCKETS: usize> {
     buckets: ArrayVec<Bucket, BUCKETS>,

@@ -4,6 +4,13 @@ ghost use Rattle.std.specs.Prelude.{◌≡◌, ◌≤◌, ◌<◌, ℕ, true, fa
 use crate::Vlan;
 
 /// A set of VLANs.
+///
+/// ```
+/// let (first, second) = (Vlan::new(1).ok_or("1 to 4094")?, Vlan::new(2).ok_or("1 to 4094")?);
+/// let mut set = VlanSet::new();
+/// set.insert(first);
+/// assert!(rt; set.contains(first) && !set.contains(second));
+/// ```
 #[derive(Clone, Copy, PartialEq, Eq, Debug)]
 pub struct VlanSet {
     words: [u64; 64],

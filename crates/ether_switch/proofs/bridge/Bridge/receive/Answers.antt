@@ -1,4 +1,4 @@
-use Rattle.std.proofs.Common.{◌≡◌, ℕ, List, ◌∷◌, ap, subst, ◌∙◌}
+use Rattle.std.proofs.Common.{◌≡◌, ℕ, ◌∷◌, ap, subst, ◌∙◌}
 use Rattle.ether_switch.specs.declared.arrival.Admitted.{Admitted}
 use Rattle.ether_switch.specs.Arrivals.{arrival}
 use Rattle.ether_switch.specs.Learning.{Knows, known_port}
@@ -15,12 +15,12 @@ returns-clause-taken g c hs e walk a is history knows =
     let frame = c.in-Ok.frame in
     let learned = c.learn.ensures history knows in
     let known : c.port_of-known.result
-        ≡ known_port g.row.BUCKETS ageing c.args.now (sighting c.args.now from frame ∷ history) (station frame.vlan frame.destination) =
+    ≡ known_port g.row.BUCKETS ageing c.args.now (sighting c.args.now from frame ∷ history) (station frame.vlan frame.destination) =
     c.port_of-known.ensures _ learned
     ∙ (λ i. known_port g.row.BUCKETS ageing c.args.now
     (record { station = c.station.ensures i; port = from; time = c.args.now } ∷ history) (c.station-destination.ensures i)) in
     let answers : c.relay.result ≡ relayed kind from frame (decision entries from frame.vlan frame.destination
-        (known_port g.row.BUCKETS ageing c.args.now (sighting c.args.now from frame ∷ history) (station frame.vlan frame.destination))) =
+    (known_port g.row.BUCKETS ageing c.args.now (sighting c.args.now from frame ∷ history) (station frame.vlan frame.destination))) =
     c.relay.ensures.value
     ∙ ap (relayed kind from frame) (c.decide.ensures.value ∙ ap (decision entries from frame.vlan frame.destination) known) in
     let knows_more : Knows g.row.BUCKETS c.learn.new.self (sighting c.args.now from frame ∷ history) =
