@@ -4,3 +4,4 @@ pub mod Arrivals
 pub mod Learning
 pub mod Relaying
 pub mod Leaving
+pub mod Laws

@@ -35,6 +35,7 @@
 mod arrival;
 mod bridge;
 mod kind;
+pub mod laws;
 mod port;
 mod received;
 mod retagging;
