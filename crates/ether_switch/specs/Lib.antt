@@ -5,3 +5,4 @@ pub mod Learning
 pub mod Relaying
 pub mod Leaving
 pub mod Laws
+pub mod Texts

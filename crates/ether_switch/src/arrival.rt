@@ -11,7 +11,9 @@ use crate::{AcceptableFrames, BridgeKind, PortConfig, Vlan};
 use ether_base::big_endian::u64_of;
 use ether_packet::{EthernetFront, ethernet_front};
 use ether_peel::Start;
-use etherparse::{SingleVlanHeader, VlanPcp};
+use etherparse::VlanPcp;
+use std::error::Error;
+use std::fmt;
 
 /// Why a bridge discards a frame. The first that applies is named.
 #[derive(Clone, Copy, PartialEq, Eq, Debug)]
@@ -31,6 +33,28 @@ pub enum Discarded {
     /// Its destination is a reserved address (IEEE 802.1Q, 8.6.3).
     ReservedAddress,
 }
+
+impl fmt::Display for Discarded {
+    ghost use Rattle.std.specs.Prelude.{Some};
+    ghost use Rattle.ether_switch.specs.Texts.{discarded_text};
+
+    ghost output = { λ reason. Some (discarded_text reason) };
+
+    fn fmt<W: fmt::Write>(&self, f: &mut fmt::Formatter<W>) -> fmt::Result {
+        f.write_str(match self {
+            Discarded::NoHeader => "The frame is shorter than its header.",
+            Discarded::CutTag => "The frame's tag is cut short.",
+            Discarded::ReservedIdentifier => "The identifier in the frame's tag is reserved.",
+            Discarded::Source => "The frame's source is not the address of a station.",
+            Discarded::FrameType =>
+                "The port does not take frames with such a tag, or without one.",
+            Discarded::NotAMember => "The port is not a member of the frame's VLAN.",
+            Discarded::ReservedAddress => "The frame's destination is reserved.",
+        })
+    }
+}
+
+impl Error for Discarded {}
 
 /// How a frame names its VLAN (IEEE 802.1Q, 3).
 #[derive(Clone, Copy, PartialEq, Eq, Debug)]
@@ -105,7 +129,7 @@ fn vlan_for(pvid: Vlan, front: &EthernetFront) -> Option<Vlan>
     ensures { result ≡ vlan_of pvid (front_view front.now) }
 {
     match front.vlan {
-        Some(tag) if tag.vlan_id.value() != 0 => Vlan::new(tag.vlan_id.value()),
+        Some(tag) if tag.vlan_id.value() != 0 => Vlan::try_new(tag.vlan_id.value()).ok(),
         _ => Some(pvid),
     }
 }

@@ -4,7 +4,7 @@
 //! frame goes. The frame then leaves by each of these ports, made ready in place: [`Received::send`].
 //!
 //! ```
-//! let vlan = Vlan::new(10).ok_or("1 to 4094")?;
+//! let vlan = Vlan::try_new(10)?;
 //! let (access, trunk) = (PortConfig::access(vlan), PortConfig::trunk());
 //! let bridge = Bridge {
 //!     kind: BridgeKind::Customer,
@@ -49,5 +49,5 @@ pub use kind::BridgeKind;
 pub use port::{AcceptableFrames, PortConfig};
 pub use received::{Decision, Received};
 pub use stations::StationTable;
-pub use vlan::Vlan;
+pub use vlan::{Vlan, VlanError};
 pub use vlan_set::VlanSet;

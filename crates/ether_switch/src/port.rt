@@ -37,7 +37,7 @@ impl PortConfig {
     /// A port for stations of one VLAN, whose frames have no tag, or one that has a priority alone.
     ///
     /// ```
-    /// let vlan = Vlan::new(10).ok_or("1 to 4094")?;
+    /// let vlan = Vlan::try_new(10)?;
     /// let port = PortConfig::access(vlan);
     /// assert!(rt; port.members.contains(vlan) && port.untagged.contains(vlan));
     /// ```
@@ -63,7 +63,7 @@ impl PortConfig {
     /// A port to another bridge: a member of all VLANs, whose frames have the tag of their VLAN.
     ///
     /// ```
-    /// let vlan = Vlan::new(10).ok_or("1 to 4094")?;
+    /// let vlan = Vlan::try_new(10)?;
     /// let port = PortConfig::trunk();
     /// assert!(rt; port.members.contains(vlan) && !port.untagged.contains(vlan));
     /// ```
@@ -99,8 +99,8 @@ fn only(vlan: Vlan) -> VlanSet
 fn default_pvid() -> Vlan
     ensures { result ≡ 1 }
 {
-    match Vlan::new(1) {
-        Some(vlan) => vlan,
-        None => unreachable!(),
+    match Vlan::try_new(1) {
+        Ok(vlan) => vlan,
+        Err(_) => unreachable!(),
     }
 }

@@ -55,7 +55,7 @@ impl Received {
     /// # Examples
     ///
     /// ```
-    /// let vlan = Vlan::new(10).ok_or("1 to 4094")?;
+    /// let vlan = Vlan::try_new(10)?;
     /// let received = Received {
     ///     kind: BridgeKind::Customer,
     ///     from: 1,

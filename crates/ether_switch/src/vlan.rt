@@ -1,7 +1,9 @@
 //! VLANs.
-ghost use Rattle.std.specs.Prelude.{◌≡◌, ◌≤◌, SomeIff};
+ghost use Rattle.std.specs.Prelude.{◌≡◌, ◌≤◌, ◌↔◌, IsOk, IfOk, IfErr};
 
 use etherparse::VlanId;
+use std::error::Error;
+use std::fmt;
 use std::marker::Model;
 
 /// A VLAN, by its identifier: 1 to 4094.
@@ -9,12 +11,17 @@ use std::marker::Model;
 /// In a tag, 0 says that there is a priority and no VLAN, and 4095 is reserved (IEEE 802.1Q, table 9-2).
 ///
 /// ```
-/// assert_eq!(rt; Vlan::new(4094).map(|vlan| vlan.id().value()), Some(4094));
-/// assert_eq!(rt; Vlan::new(0), None);
-/// assert_eq!(rt; Vlan::new(4095), None);
+/// let vlan = Vlan::try_new(4094)?;
+/// assert_eq!(rt; vlan.id().value(), 4094);
+/// assert_eq!(rt; Vlan::try_new(0), Err(VlanError(0)));
+/// assert_eq!(rt; Vlan::try_new(4095), Err(VlanError(4095)));
 /// ```
 #[derive(Clone, Copy, PartialEq, Eq, PartialOrd, Ord, Hash, Debug)]
 pub struct Vlan(VlanId);
+
+/// This number is not the identifier of a VLAN: it is not from 1 to 4094.
+#[derive(Clone, Copy, PartialEq, Eq, Debug)]
+pub struct VlanError(pub u16);
 
 impl Model for Vlan {
     ghost use Rattle.std.specs.Prelude.{ℕ, ◌≤◌};
@@ -29,16 +36,22 @@ impl Model for Vlan {
 }
 
 impl Vlan {
-    /// The VLAN with an identifier, if that is one of a VLAN.
-    pub fn new(id: u16) -> Option<Vlan>
-        ensures { SomeIff result ((1 ≤ id) × (id ≤ 4094)) id }
+    /// The VLAN with an identifier.
+    ///
+    /// # Errors
+    ///
+    /// The number, if it is not the identifier of a VLAN.
+    pub fn try_new(id: u16) -> Result<Vlan, VlanError>
+        ensures variant { IsOk result ↔ ((1 ≤ id) × (id ≤ 4094)) }
+        ensures ok { IfOk result (λ vlan. vlan ≡ id) }
+        ensures err { IfErr result (λ error. error.0 ≡ id) }
     {
         if id == 0 || id > 4094 {
-            return None;
+            return Err(VlanError(id));
         }
         match VlanId::try_new(id) {
-            Ok(id) => Some(Vlan(id)),
-            Err(_) => None,
+            Ok(id) => Ok(Vlan(id)),
+            Err(_) => Err(VlanError(id)),
         }
     }
 
@@ -51,3 +64,20 @@ impl Vlan {
         self.0
     }
 }
+
+impl fmt::Display for VlanError {
+    ghost use Rattle.std.specs.Prelude.{Some};
+    ghost use Rattle.ether_switch.specs.Texts.{vlan_error_text};
+
+    ghost output = { λ error. Some (vlan_error_text error) };
+
+    fn fmt<W: fmt::Write>(&self, f: &mut fmt::Formatter<W>) -> fmt::Result {
+        let number = self.0;
+        write!(
+            f,
+            "The identifier of a VLAN is from 1 to 4094, and not {number}."
+        )
+    }
+}
+
+impl Error for VlanError {}

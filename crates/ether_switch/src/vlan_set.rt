@@ -6,7 +6,7 @@ use crate::Vlan;
 /// A set of VLANs.
 ///
 /// ```
-/// let (first, second) = (Vlan::new(1).ok_or("1 to 4094")?, Vlan::new(2).ok_or("1 to 4094")?);
+/// let (first, second) = (Vlan::try_new(1)?, Vlan::try_new(2)?);
 /// let mut set = VlanSet::new();
 /// set.insert(first);
 /// assert!(rt; set.contains(first) && !set.contains(second));
@@ -32,7 +32,7 @@ impl VlanSet {
     {
         let mut set = VlanSet::new();
         for id in 1..4095 {
-            if let Some(vlan) = Vlan::new(id) {
+            if let Ok(vlan) = Vlan::try_new(id) {
                 set.insert(vlan);
             }
         }

@@ -134,11 +134,11 @@ fn check<R: Abort>(rt: &R, row: &Row, port: &PortConfig) {
 #[test]
 fn of_each_form(rt: HostRuntime) -> Result<(), Fail> {
     let mut members = VlanSet::new();
-    members.insert(Vlan::new(10).ok_or("1 to 4094")?);
-    members.insert(Vlan::new(20).ok_or("1 to 4094")?);
+    members.insert(Vlan::try_new(10)?);
+    members.insert(Vlan::try_new(20)?);
     for row in &ROWS {
         let port = PortConfig {
-            pvid: Vlan::new(10).ok_or("1 to 4094")?,
+            pvid: Vlan::try_new(10)?,
             members,
             untagged: VlanSet::new(),
             frame_types: row.frame_types,

@@ -121,7 +121,7 @@ fn check<R: Abort>(
 
 #[test]
 fn of_stations(rt: HostRuntime) -> Result<(), Fail> {
-    let vlan = Vlan::new(10).ok_or("1 to 4094")?;
+    let vlan = Vlan::try_new(10)?;
     let entries = [StaticEntry {
         vlan,
         address: [2, 0, 0, 0, 0, 9],

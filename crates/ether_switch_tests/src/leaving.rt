@@ -52,7 +52,7 @@ fn check<R: Abort>(
 
 #[test]
 fn of_each_form(rt: HostRuntime) -> Result<(), Fail> {
-    let vlan = Vlan::new(10).ok_or("1 to 4094")?;
+    let vlan = Vlan::try_new(10)?;
     let received = Received {
         kind: BridgeKind::Customer,
         from: 1,
