@@ -38,7 +38,7 @@ pub struct Bridge<'a> {
 }
 
 impl Bridge<'_> {
-    /// The ageing time that the standard recommends: 300 seconds (IEEE 802.1Q, table 8-6).
+    /// The ageing time that the standard recommends: 300 seconds (IEEE 802.1Q, 8.8.3).
     pub const AGEING_TIME: u64 = 300;
 
     /// Learns the source of a frame that came in by a port, and then returns what was received.

@@ -77,6 +77,17 @@ impl<const BUCKETS: usize> StationTable<BUCKETS> {
     }
 }
 
+impl<const BUCKETS: usize> Default for StationTable<BUCKETS> {
+    ghost use Rattle.std.specs.Prelude.{[]};
+    ghost use Rattle.ether_switch.specs.Learning.{Knows};
+
+    ghost is_default = { λ table. Knows BUCKETS table [] };
+
+    fn default() -> StationTable<BUCKETS> {
+        StationTable::new()
+    }
+}
+
 /// Which of so many buckets holds a station.
 fn place(station: u64, buckets: usize) -> usize
     requires { 0 < buckets }

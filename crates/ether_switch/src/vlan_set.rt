@@ -63,3 +63,14 @@ impl VlanSet {
         self.words[id as usize / 64] &= !(1 << (id % 64));
     }
 }
+
+impl Default for VlanSet {
+    ghost use Rattle.std.specs.Prelude.{◌≡◌, ◌<◌, ℕ, false};
+    ghost use Rattle.ether_switch.specs.VlanSets.{has};
+
+    ghost is_default = { λ set. (v : ℕ) → v < 4096 → has set v ≡ false };
+
+    fn default() -> VlanSet {
+        VlanSet::new()
+    }
+}

@@ -8,5 +8,6 @@ pub returns : goal.returns
 returns c =
     let f = c.args.sighting in
     let kept : c.retain.new.self.items ≡ filter (is_other f.station) c.args.bucket.now.items =
-    filter-from_retain _ _ _ (λ x b f' y called. search rules) _ _ c.retain.ensures.filtered in
+    filter-from_retain _ (is_other f.station) _ (λ x b f' y called. search rules) c.args.bucket.now.items c.retain.new.self.items
+    c.retain.ensures.filtered in
     c.insert.ensures.items ∙ ap (λ (l : List Sighting). f ∷ l) (c.truncate.ensures.items ∙ ap (take 3) kept)
