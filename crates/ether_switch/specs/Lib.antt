@@ -4,5 +4,6 @@ pub mod Arrivals
 pub mod Learning
 pub mod Relaying
 pub mod Leaving
+pub mod History
 pub mod Laws
 pub mod Texts

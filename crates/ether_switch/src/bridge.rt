@@ -1,13 +1,12 @@
 //! Bridges.
-ghost use Rattle.std.specs.Prelude.{◌≡◌, ◌<◌, ◌^◌, ◌+◌, ◌*◌, ℕ, List, ◌∷◌, find, option_map, Option, Ok, Err, IfOk, false, nat_eq};
-ghost use Rattle.etherparse.specs.Bytes.{number};
+ghost use Rattle.std.specs.Prelude.{◌≡◌, ◌<◌, ◌^◌, List, ◌∷◌, IfOk, IsErr, false};
 ghost use Rattle.etherparse.specs.Header.{Header};
 ghost use Rattle.ether_peel.specs.Grammar.Stack.{Ending, Walk};
 ghost use Rattle.ether_peel.specs.Walker.Start.{start_of};
-ghost use Rattle.ether_switch.specs.declared.arrival.Admitted.{Admitted as Taken};
-ghost use Rattle.ether_switch.specs.Arrivals.{arrival, is_group as is_group_of};
-ghost use Rattle.ether_switch.specs.Learning.{Knows, known_port};
-ghost use Rattle.ether_switch.specs.Relaying.{station as station_of, sighting as sighting_by, static_port as static_port_of, toward as toward_of, decision, decided, relayed};
+ghost use Rattle.ether_switch.specs.History.{Event, sightings, answer};
+ghost use Rattle.ether_switch.specs.Arrivals.{arrival};
+ghost use Rattle.ether_switch.specs.Learning.{Knows};
+ghost use Rattle.ether_switch.specs.Relaying.{station as station_of, static_port as static_port_of, toward as toward_of, decision, relayed};
 ghost use Rattle.ether_switch.specs.Leaving.{includes};
 
 use crate::arrival::{Admitted, address_of, admit, is_group};
@@ -85,19 +84,15 @@ impl Bridge<'_> {
         port: &PortConfig,
         frame: &[u8],
     ) -> Result<Received, Discarded>
-        ensures refused { (hs : List Header) (e : Ending)
+        ensures history { (hs : List Header) (e : Ending)
             → Walk (start_of Start.Ethernet2) frame.now hs e
-            → (reason : Discarded) → arrival self.now.kind port.now hs ≡ Err reason
-            → (result ≡ Err reason) × (table.new ≡ table.old) }
-        ensures taken { (hs : List Header) (e : Ending)
+            → (earlier : List Event) → Knows BUCKETS table.old (sightings self.now.kind earlier)
+            → let event : Event = record { now = now; from = from; port = port.now; hs = hs } in
+            (result ≡ answer self.now.kind self.now.static_entries.now BUCKETS self.now.ageing_time event earlier)
+            × Knows BUCKETS table.new (sightings self.now.kind (event ∷ earlier)) }
+        ensures kept { (hs : List Header) (e : Ending)
             → Walk (start_of Start.Ethernet2) frame.now hs e
-            → (a : Taken) → arrival self.now.kind port.now hs ≡ Ok a
-            → (history : List Sighting) → Knows BUCKETS table.old history
-            → let seen = sighting_by now from a ∷ history in
-            (result ≡ relayed self.now.kind from a
-            (decision self.now.static_entries.now from a.vlan a.destination
-            (known_port BUCKETS self.now.ageing_time now seen (station_of a.vlan a.destination))))
-            × Knows BUCKETS table.new seen }
+            → IsErr (arrival self.now.kind port.now hs) → table.new ≡ table.old }
         ensures never_back { IfOk result (λ r. includes r.decision from from ≡ false) }
     {
         let frame = match admit(self.kind, port, frame) {
