@@ -31,7 +31,7 @@ use Rattle.ether_switch.specs.declared.arrival.Admitted.{Admitted}
 use Rattle.ether_switch.specs.declared.arrival.Discarded.{Discarded}
 use Rattle.ether_switch.specs.declared.arrival.Discarded.TheVariants.{ReservedAddress}
 use Rattle.ether_switch.specs.declared.kind.BridgeKind.{BridgeKind}
-use Rattle.ether_switch.specs.declared.received.Decision.{Decision}
+use Rattle.ether_switch.specs.declared.received.Forwarding.{Forwarding}
 use Rattle.ether_switch.specs.declared.received.Received.{Received}
 use Rattle.ether_switch.specs.Arrivals.{Front, tagged_front, front_in, front_of}
 use Rattle.ether_switch.specs.Kinds.{tpid_of, is_reserved}
@@ -200,7 +200,7 @@ member : (a b : Bool) → (a && b) ≡ true → b ≡ true
 member true b e = e
 member false b e = absurd cc
 
-same_vlan_by : (kind : BridgeKind) (from : ℕ) (a : Admitted) (d : Decision) (r : Received) (b : Bool)
+same_vlan_by : (kind : BridgeKind) (from : ℕ) (a : Admitted) (d : Forwarding) (r : Received) (b : Bool)
     → (if b then Err ReservedAddress else Ok (record {
       kind = kind;
       from = from;

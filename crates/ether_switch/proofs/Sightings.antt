@@ -2,7 +2,7 @@
 use Rattle.std.proofs.Common.{◌≡◌, ◌≢◌, ℕ, zero, suc, ◌-◌, ◌<◌, ◌≤◌, Bool, true, false, not, nat_eq, nat_le, if◌then◌else◌, List, [], ◌∷◌, ◌++◌, length, filter, find, take, Option, Some, None, refl, sym, ap, subst, ◌∙◌, arith}
 use Rattle.std.specs.Prelude.{option_and_then}
 use Rattle.std.proofs.lemmas.Bool.{eqb-true, eqb-false, eq-eqb, ne_eqb, leb-true}
-use Rattle.ether_switch.specs.declared.received.Decision.TheVariants.{Port, Discard, Flood}
+use Rattle.ether_switch.specs.declared.received.Forwarding.TheVariants.{Port, Discard, Flood}
 use Rattle.ether_switch.specs.declared.stations.Sighting.{Sighting}
 use Rattle.ether_switch.specs.Arrivals.{is_group}
 use Rattle.ether_switch.specs.Learning.{is_of, is_other, newest, place_of, held, known, port_at, known_port}

@@ -10,9 +10,9 @@ use Rattle.ether_switch.specs.declared.arrival.Admitted.{Admitted}
 use Rattle.ether_switch.specs.declared.arrival.Discarded.{Discarded}
 use Rattle.ether_switch.specs.declared.kind.BridgeKind.{BridgeKind}
 use Rattle.ether_switch.specs.declared.port.PortConfig.{PortConfig}
-use Rattle.ether_switch.specs.declared.received.Decision.{Decision}
+use Rattle.ether_switch.specs.declared.received.Forwarding.{Forwarding}
 use Rattle.ether_switch.specs.declared.received.Received.{Received}
-use Rattle.ether_switch.specs.declared.received.Decision.TheVariants.{Port}
+use Rattle.ether_switch.specs.declared.received.Forwarding.TheVariants.{Port}
 use Rattle.ether_switch.specs.declared.stations.Sighting.{Sighting}
 use Rattle.ether_switch.specs.VlanSets.{has}
 use Rattle.ether_switch.specs.Arrivals.{Front, front_of, arrival}
@@ -47,7 +47,7 @@ FramesFollowStations =
 -- ---- VLANs
 
 -- A frame came in by a port, whatever was decided of it, and left by another one.
-pub record Passes (in_port out_port : PortConfig) (kind : BridgeKind) (from to : ℕ) (a : Admitted) (d : Decision)
+pub record Passes (in_port out_port : PortConfig) (kind : BridgeKind) (from to : ℕ) (a : Admitted) (d : Forwarding)
     (frame : List ℕ) (hs : List Header) (e : Ending) (sent : List ℕ) : Type 0 where
   pub received : Received
   pub came : arrival kind in_port hs ≡ Ok a
@@ -64,7 +64,7 @@ SendsIn port vid hs =
 -- No frame crosses VLANs: by each port it leaves in the VLAN in which it came.
 abbrev pub VlansAreIsolated : Type 0
 VlansAreIsolated =
-    (in_port out_port : PortConfig) (kind : BridgeKind) (from to : ℕ) (a : Admitted) (d : Decision)
+    (in_port out_port : PortConfig) (kind : BridgeKind) (from to : ℕ) (a : Admitted) (d : Forwarding)
     (frame sent : List ℕ) (hs ks : List Header) (e f : Ending)
     → IsBytes frame → Walk (start_of starts.Ethernet2) frame hs e
     → Passes in_port out_port kind from to a d frame hs e sent

@@ -14,7 +14,7 @@ abbrev pub newest : List Sighting → List Sighting
 newest [] = []
 newest (f ∷ earlier) = f ∷ filter (is_other f.station) (newest earlier)
 
--- which of n buckets holds a station: VLAN identifier and address share them out
+-- which of n buckets holds a station, by its VLAN identifier and its address
 abbrev pub place_of : (n station : ℕ) → ℕ
 place_of n station = (station / 2 ^ 48 + station % 2 ^ 48) % n
 

@@ -11,15 +11,15 @@ use Rattle.ether_packet.specs.Pushing.{IsPushed}
 use Rattle.ether_packet.specs.Setting.{SetsTag}
 use Rattle.ether_switch.specs.declared.arrival.Discarded.{Discarded}
 use Rattle.ether_switch.specs.declared.port.PortConfig.{PortConfig}
-use Rattle.ether_switch.specs.declared.received.Decision.{Decision}
-use Rattle.ether_switch.specs.declared.received.Decision.TheVariants.{Port, Discard, Flood}
+use Rattle.ether_switch.specs.declared.received.Forwarding.{Forwarding}
+use Rattle.ether_switch.specs.declared.received.Forwarding.TheVariants.{Port, Discard, Flood}
 use Rattle.ether_switch.specs.declared.received.Received.{Received}
 use Rattle.ether_switch.specs.Arrivals.{Front}
 use Rattle.ether_switch.specs.Kinds.{tpid_of}
 use Rattle.ether_switch.specs.VlanSets.{has}
 
 -- whether a frame that came from a port is to go to another by a decision
-abbrev pub includes : Decision → (from to : ℕ) → Bool
+abbrev pub includes : Forwarding → (from to : ℕ) → Bool
 includes (Port n) from to = nat_eq to n
 includes Discard from to = false
 includes Flood from to = if nat_eq to from then false else true

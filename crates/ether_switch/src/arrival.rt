@@ -5,12 +5,12 @@ ghost use Rattle.etherparse.specs.Header.{Header};
 ghost use Rattle.etherparse.specs.Vlan.{vlan_view};
 ghost use Rattle.ether_peel.specs.Grammar.Stack.{Ending, Walk};
 ghost use Rattle.ether_peel.specs.Walker.Start.{start_of};
+ghost use Rattle.ether_peel.specs.declared.start.Start.TheVariants as starts;
 ghost use Rattle.ether_switch.specs.Arrivals.{front_of, read_as, front_view, tagging_of, admits as admits_of, vlan_of, priority_of, is_drop_eligible as drop_eligible_of, is_station as is_station_of, is_group as is_group_of, refusal as refusal_of, admitted as admitted_of, arrival_in, arrival};
 
 use crate::{AcceptableFrames, BridgeKind, PortConfig, Vlan};
 use ether_base::big_endian::u64_of;
 use ether_packet::{EthernetFront, ethernet_front};
-use ether_peel::Start;
 use etherparse::VlanPcp;
 use std::error::Error;
 use std::fmt;
@@ -81,7 +81,7 @@ pub(crate) fn admit(
     frame: &[u8],
 ) -> Result<Admitted, Discarded>
     ensures addresses { IfOk result (λ a. (a.source < 2 ^ 48) × (a.destination < 2 ^ 48)) }
-    ensures value { (hs : List Header) (e : Ending) → Walk (start_of Start.Ethernet2) frame.now hs e
+    ensures value { (hs : List Header) (e : Ending) → Walk (start_of starts.Ethernet2) frame.now hs e
         → result ≡ arrival kind port.now hs }
 {
     match read_front(kind, frame) {
@@ -106,7 +106,7 @@ fn admit_front(port: &PortConfig, front: &EthernetFront) -> Result<Admitted, Dis
 
 /// The header of a frame, and its tag if it has one of the bridge.
 pub(crate) fn read_front(kind: BridgeKind, frame: &[u8]) -> Result<EthernetFront, Discarded>
-    ensures { (hs : List Header) (e : Ending) → Walk (start_of Start.Ethernet2) frame.now hs e
+    ensures { (hs : List Header) (e : Ending) → Walk (start_of starts.Ethernet2) frame.now hs e
         → front_of kind hs ≡ read_as result }
 {
     let Some(front) = ethernet_front(frame) else {

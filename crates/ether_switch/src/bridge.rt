@@ -3,6 +3,7 @@ ghost use Rattle.std.specs.Prelude.{◌≡◌, ◌<◌, ◌^◌, List, ◌∷◌
 ghost use Rattle.etherparse.specs.Header.{Header};
 ghost use Rattle.ether_peel.specs.Grammar.Stack.{Ending, Walk};
 ghost use Rattle.ether_peel.specs.Walker.Start.{start_of};
+ghost use Rattle.ether_peel.specs.declared.start.Start.TheVariants as starts;
 ghost use Rattle.ether_switch.specs.History.{Event, sightings, answer};
 ghost use Rattle.ether_switch.specs.Arrivals.{arrival};
 ghost use Rattle.ether_switch.specs.Learning.{Knows};
@@ -11,8 +12,7 @@ ghost use Rattle.ether_switch.specs.Leaving.{includes};
 
 use crate::arrival::{Admitted, address_of, admit, is_group};
 use crate::stations::Sighting;
-use crate::{BridgeKind, Decision, Discarded, PortConfig, Received, StationTable, Vlan};
-use ether_peel::Start;
+use crate::{BridgeKind, Discarded, Forwarding, PortConfig, Received, StationTable, Vlan};
 
 /// Where the frames to an address in a VLAN go, whatever the bridge learns (IEEE 802.1Q, 8.8.1).
 #[derive(Clone, Copy, PartialEq, Eq, Debug)]
@@ -70,11 +70,11 @@ impl Bridge<'_> {
     /// };
     /// let mut table = StationTable::<64>::new();
     /// let first = bridge.receive(&mut table, 0, 1, &port, &request);
-    /// assert_eq!(rt; first.map(|received| received.decision), Ok(Decision::Flood));
+    /// assert_eq!(rt; first.map(|received| received.decision), Ok(Forwarding::Flood));
     /// let second = bridge.receive(&mut table, 300, 2, &port, &reply);
-    /// assert_eq!(rt; second.map(|received| received.decision), Ok(Decision::Port(1)));
+    /// assert_eq!(rt; second.map(|received| received.decision), Ok(Forwarding::Port(1)));
     /// let third = bridge.receive(&mut table, 301, 2, &port, &reply);
-    /// assert_eq!(rt; third.map(|received| received.decision), Ok(Decision::Flood));
+    /// assert_eq!(rt; third.map(|received| received.decision), Ok(Forwarding::Flood));
     /// ```
     pub fn receive<const BUCKETS: usize>(
         &self,
@@ -85,13 +85,13 @@ impl Bridge<'_> {
         frame: &[u8],
     ) -> Result<Received, Discarded>
         ensures history { (hs : List Header) (e : Ending)
-            → Walk (start_of Start.Ethernet2) frame.now hs e
+            → Walk (start_of starts.Ethernet2) frame.now hs e
             → (earlier : List Event) → Knows BUCKETS table.old (sightings self.now.kind earlier)
             → let event : Event = record { now = now; from = from; port = port.now; hs = hs } in
             (result ≡ answer self.now.kind self.now.static_entries.now BUCKETS self.now.ageing_time event earlier)
             × Knows BUCKETS table.new (sightings self.now.kind (event ∷ earlier)) }
         ensures kept { (hs : List Header) (e : Ending)
-            → Walk (start_of Start.Ethernet2) frame.now hs e
+            → Walk (start_of starts.Ethernet2) frame.now hs e
             → IsErr (arrival self.now.kind port.now hs) → table.new ≡ table.old }
         ensures never_back { IfOk result (λ r. includes r.decision from from ≡ false) }
     {
@@ -110,7 +110,7 @@ impl Bridge<'_> {
     }
 
     /// Where a frame goes, by the port at which its destination is known to be.
-    fn decide(&self, from: u16, frame: &Admitted, known: Option<u16>) -> Decision
+    fn decide(&self, from: u16, frame: &Admitted, known: Option<u16>) -> Forwarding
         ensures value { result ≡ decision self.now.static_entries.now from frame.now.vlan
             frame.now.destination known }
         ensures never_back { includes result from from ≡ false }
@@ -118,15 +118,15 @@ impl Bridge<'_> {
         if let Some(port) = static_port(self.static_entries, frame.vlan, frame.destination) {
             return match port {
                 Some(port) => toward(from, port),
-                None => Decision::Discard,
+                None => Forwarding::Discard,
             };
         }
         if is_group(frame.destination) {
-            return Decision::Flood;
+            return Forwarding::Flood;
         }
         match known {
             Some(port) => toward(from, port),
-            None => Decision::Flood,
+            None => Forwarding::Flood,
         }
     }
 }
@@ -142,14 +142,14 @@ fn static_port(entries: &[StaticEntry], vlan: Vlan, address: u64) -> Option<Opti
 }
 
 /// Where a frame goes that is for a port.
-fn toward(from: u16, port: u16) -> Decision
+fn toward(from: u16, port: u16) -> Forwarding
     ensures value { result ≡ toward_of from port }
     ensures never_back { includes result from from ≡ false }
 {
     if port == from {
-        Decision::Discard
+        Forwarding::Discard
     } else {
-        Decision::Port(port)
+        Forwarding::Port(port)
     }
 }
 
@@ -158,7 +158,7 @@ fn relay(
     kind: BridgeKind,
     from: u16,
     frame: &Admitted,
-    decision: Decision,
+    decision: Forwarding,
 ) -> Result<Received, Discarded>
     ensures value { result ≡ relayed kind from frame.now decision }
     ensures decision { IfOk result (λ r. r.decision ≡ decision) }

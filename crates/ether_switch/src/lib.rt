@@ -18,7 +18,7 @@
 //!     0x00,
 //! ];
 //! if let Ok(received) = bridge.receive(&mut table, 0, 1, &access, &buffer[4..]) {
-//!     assert_eq!(rt; received.decision, Decision::Flood);
+//!     assert_eq!(rt; received.decision, Forwarding::Flood);
 //!     assert_eq!(rt; received.send(2, &trunk, &mut buffer), Some(0));
 //!     assert_eq!(rt; buffer, [
 //!         0xFF, 0xFF, 0xFF, 0xFF, 0xFF, 0xFF, 0x02, 0x00, 0x00, 0x00, 0x00, 0x01, 0x81, 0x00, // Ethernet II
@@ -48,7 +48,7 @@ pub use arrival::Discarded;
 pub use bridge::{Bridge, StaticEntry};
 pub use kind::BridgeKind;
 pub use port::{AcceptableFrames, PortConfig};
-pub use received::{Decision, Received};
+pub use received::{Forwarding, Received};
 pub use stations::StationTable;
 pub use vlan::{Vlan, VlanError};
 pub use vlan_set::VlanSet;

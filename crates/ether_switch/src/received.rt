@@ -3,17 +3,17 @@ ghost use Rattle.std.specs.Prelude.{◌≡◌, ◌≤◌, List, length, drop, is
 ghost use Rattle.etherparse.specs.Header.{Header};
 ghost use Rattle.ether_peel.specs.Grammar.Stack.{Ending, Walk};
 ghost use Rattle.ether_peel.specs.Walker.Start.{start_of};
+ghost use Rattle.ether_peel.specs.declared.start.Start.TheVariants as starts;
 ghost use Rattle.ether_switch.specs.Arrivals.{front_of};
 ghost use Rattle.ether_switch.specs.Leaving.{includes as includes_of, goes_to as goes_to_of, has_tag, LeavesTagged, LeavesUntagged, Leaves};
 
 use crate::arrival::read_front;
 use crate::{BridgeKind, PortConfig, Vlan, retagging};
-use ether_peel::Start;
 use etherparse::VlanPcp;
 
 /// Where a bridge sends a frame.
 #[derive(Clone, Copy, PartialEq, Eq, Debug)]
-pub enum Decision {
+pub enum Forwarding {
     /// To one port.
     Port(u16),
     /// Nowhere: its destination is on the port that it came from, or a static entry says so.
@@ -36,7 +36,7 @@ pub struct Received {
     /// Whether it may be dropped first under congestion, by its tag.
     pub drop_eligible: bool,
     /// Where it goes.
-    pub decision: Decision,
+    pub decision: Forwarding,
 }
 
 impl Received {
@@ -62,7 +62,7 @@ impl Received {
     ///     vlan,
     ///     priority: VlanPcp::ZERO,
     ///     drop_eligible: false,
-    ///     decision: Decision::Flood,
+    ///     decision: Forwarding::Flood,
     /// };
     /// let mut buffer = [
     ///     0x00, 0x00, 0x00, 0x00, // free
@@ -79,10 +79,10 @@ impl Received {
     /// ```
     pub fn send(&self, to: u16, port: &PortConfig, buffer: &mut [u8]) -> Option<usize>
         ensures sent { IfSome result (λ at. (hs : List Header) (e : Ending)
-            → Walk (start_of Start.Ethernet2) (drop 4 buffer.old) hs e
+            → Walk (start_of starts.Ethernet2) (drop 4 buffer.old) hs e
             → Leaves self.now port.now (front_of self.now.kind hs) (drop 4 buffer.old) hs e (drop at buffer.new)) }
         ensures goes { (hs : List Header) (e : Ending)
-            → Walk (start_of Start.Ethernet2) (drop 4 buffer.old) hs e
+            → Walk (start_of starts.Ethernet2) (drop 4 buffer.old) hs e
             → is_some result ≡ (goes_to_of self.now to port.now && is_ok (front_of self.now.kind hs)) }
         ensures kept { IfNone result (buffer.new ≡ buffer.old) }
     {
@@ -108,10 +108,10 @@ impl Received {
     /// frame without one gets a tag. `None` if the frame is too short for a header and a tag.
     pub fn tagged(&self, buffer: &mut [u8]) -> Option<usize>
         ensures sent { IfSome result (λ at. (hs : List Header) (e : Ending)
-            → Walk (start_of Start.Ethernet2) (drop 4 buffer.old) hs e
+            → Walk (start_of starts.Ethernet2) (drop 4 buffer.old) hs e
             → LeavesTagged self.now (front_of self.now.kind hs) (drop 4 buffer.old) hs e (drop at buffer.new)) }
         ensures goes { (hs : List Header) (e : Ending)
-            → Walk (start_of Start.Ethernet2) (drop 4 buffer.old) hs e
+            → Walk (start_of starts.Ethernet2) (drop 4 buffer.old) hs e
             → is_some result ≡ is_ok (front_of self.now.kind hs) }
         ensures kept { IfNone result (buffer.new ≡ buffer.old) }
     {
@@ -135,10 +135,10 @@ impl Received {
     /// A frame that came with two tags of the bridge's kind leaves with the second one.
     pub fn untagged(&self, buffer: &mut [u8]) -> Option<usize>
         ensures sent { IfSome result (λ at. (hs : List Header) (e : Ending)
-            → Walk (start_of Start.Ethernet2) (drop 4 buffer.old) hs e
+            → Walk (start_of starts.Ethernet2) (drop 4 buffer.old) hs e
             → LeavesUntagged (front_of self.now.kind hs) (drop 4 buffer.old) hs e (drop at buffer.new)) }
         ensures goes { (hs : List Header) (e : Ending)
-            → Walk (start_of Start.Ethernet2) (drop 4 buffer.old) hs e
+            → Walk (start_of starts.Ethernet2) (drop 4 buffer.old) hs e
             → is_some result ≡ is_ok (front_of self.now.kind hs) }
         ensures kept { IfNone result (buffer.new ≡ buffer.old) }
     {
@@ -156,7 +156,7 @@ impl Received {
 /// Whether the frame after four bytes of a buffer has a tag of the bridge; `None` if it is cut short.
 fn is_tagged(kind: BridgeKind, buffer: &[u8]) -> Option<bool>
     ensures value { (hs : List Header) (e : Ending)
-        → Walk (start_of Start.Ethernet2) (drop 4 buffer.now) hs e
+        → Walk (start_of starts.Ethernet2) (drop 4 buffer.now) hs e
         → result ≡ has_tag (front_of kind hs) }
     ensures room { OnSome result (4 ≤ length buffer.now) }
 {
@@ -169,15 +169,15 @@ fn is_tagged(kind: BridgeKind, buffer: &[u8]) -> Option<bool>
     }
 }
 
-impl Decision {
+impl Forwarding {
     /// Whether a frame that came from a port is to go to another.
     fn includes(self, from: u16, to: u16) -> bool
         ensures { result ≡ includes_of self from to }
     {
         match self {
-            Decision::Port(number) => to == number,
-            Decision::Discard => false,
-            Decision::Flood => to != from,
+            Forwarding::Port(number) => to == number,
+            Forwarding::Discard => false,
+            Forwarding::Flood => to != from,
         }
     }
 }

@@ -23,7 +23,8 @@ type Bucket = ArrayVec<Sighting, WAYS>;
 ///
 /// A station is an address in a VLAN, so the same address in two VLANs is two stations. They are held in `BUCKETS` buckets of four:
 /// in a full bucket the station that was seen last the longest ago leaves. A frame costs a look at two buckets, however many
-/// there are. With none, nothing is learned.
+/// there are. With none, nothing is learned. Who sends from many addresses of one bucket makes the bridge forget the others in
+/// it: their frames then go to all members of their VLAN, and no further.
 ///
 /// ```
 /// let mut table = StationTable::<1024>::new();

@@ -1,6 +1,6 @@
 //! The examples of the documentation.
 use ether_switch::{
-    Bridge, BridgeKind, Decision, Discarded, PortConfig, Received, StationTable, Vlan, VlanError,
+    Bridge, BridgeKind, Discarded, Forwarding, PortConfig, Received, StationTable, Vlan, VlanError,
     VlanSet,
 };
 use etherparse::VlanPcp;
@@ -17,7 +17,7 @@ fn bridge() -> Bridge<'static> {
 }
 
 /// Fails if a frame goes elsewhere.
-fn check<R: Abort>(rt: &R, name: &str, found: Result<Received, Discarded>, wanted: Decision) {
+fn check<R: Abort>(rt: &R, name: &str, found: Result<Received, Discarded>, wanted: Forwarding) {
     match found {
         Ok(received) => assert!(rt; received.decision == wanted, "{name}"),
         Err(_) => panic!(rt; "{name}"),
@@ -36,7 +36,7 @@ fn of_a_frame_that_passes(rt: HostRuntime) -> Result<(), Fail> {
     };
     let at = received.send(2, &trunk, &mut buffer);
     assert!(rt;
-        received.decision == Decision::Flood && at == Some(0),
+        received.decision == Forwarding::Flood && at == Some(0),
         "to all ports"
     );
     assert!(rt; buffer == tagged, "with a tag");
@@ -50,11 +50,11 @@ fn of_the_ageing_time(rt: HostRuntime) -> Result<(), Fail> {
     let reply = b"\x02\x00\x00\x00\x00\x01\x02\x00\x00\x00\x00\x02\x08\x06";
     let mut table = StationTable::<64>::new();
     let first = bridge().receive(&mut table, 0, 1, &port, request);
-    check(&rt, "a request", first, Decision::Flood);
+    check(&rt, "a request", first, Forwarding::Flood);
     let second = bridge().receive(&mut table, 300, 2, &port, reply);
-    check(&rt, "within it", second, Decision::Port(1));
+    check(&rt, "within it", second, Forwarding::Port(1));
     let third = bridge().receive(&mut table, 301, 2, &port, reply);
-    check(&rt, "after it", third, Decision::Flood);
+    check(&rt, "after it", third, Forwarding::Flood);
     Ok(())
 }
 
@@ -68,7 +68,7 @@ fn of_a_frame_that_leaves(rt: HostRuntime) -> Result<(), Fail> {
         vlan,
         priority: VlanPcp::ZERO,
         drop_eligible: false,
-        decision: Decision::Flood,
+        decision: Forwarding::Flood,
     };
     let mut buffer =
         *b"____\x02\x00\x00\x00\x00\x01\x02\x00\x00\x00\x00\x02\x81\x00\x00\x0A\x08\x06\x00";

@@ -1,5 +1,5 @@
 //! What a bridge makes of frames one after the other.
-use ether_switch::{Bridge, BridgeKind, Decision, PortConfig, StaticEntry, StationTable, Vlan};
+use ether_switch::{Bridge, BridgeKind, Forwarding, PortConfig, StaticEntry, StationTable, Vlan};
 use std::process::Abort;
 use std::test::Fail;
 
@@ -10,7 +10,7 @@ struct Row {
     from: u16,
     source: u8,
     destination: u8,
-    wanted: Decision,
+    wanted: Forwarding,
 }
 
 static ROWS: [Row; 9] = [
@@ -20,7 +20,7 @@ static ROWS: [Row; 9] = [
         from: 1,
         source: 1,
         destination: 2,
-        wanted: Decision::Flood,
+        wanted: Forwarding::Flood,
     },
     Row {
         name: "its answer",
@@ -28,7 +28,7 @@ static ROWS: [Row; 9] = [
         from: 2,
         source: 2,
         destination: 1,
-        wanted: Decision::Port(1),
+        wanted: Forwarding::Port(1),
     },
     Row {
         name: "one more",
@@ -36,7 +36,7 @@ static ROWS: [Row; 9] = [
         from: 1,
         source: 1,
         destination: 2,
-        wanted: Decision::Port(2),
+        wanted: Forwarding::Port(2),
     },
     Row {
         name: "on one port",
@@ -44,7 +44,7 @@ static ROWS: [Row; 9] = [
         from: 1,
         source: 3,
         destination: 1,
-        wanted: Decision::Discard,
+        wanted: Forwarding::Discard,
     },
     Row {
         name: "of a station that moved",
@@ -52,7 +52,7 @@ static ROWS: [Row; 9] = [
         from: 3,
         source: 1,
         destination: 3,
-        wanted: Decision::Port(1),
+        wanted: Forwarding::Port(1),
     },
     Row {
         name: "to where it is now",
@@ -60,7 +60,7 @@ static ROWS: [Row; 9] = [
         from: 2,
         source: 2,
         destination: 1,
-        wanted: Decision::Port(3),
+        wanted: Forwarding::Port(3),
     },
     Row {
         name: "within the ageing time",
@@ -68,7 +68,7 @@ static ROWS: [Row; 9] = [
         from: 2,
         source: 2,
         destination: 1,
-        wanted: Decision::Port(3),
+        wanted: Forwarding::Port(3),
     },
     Row {
         name: "after it",
@@ -76,7 +76,7 @@ static ROWS: [Row; 9] = [
         from: 2,
         source: 2,
         destination: 1,
-        wanted: Decision::Flood,
+        wanted: Forwarding::Flood,
     },
     Row {
         name: "to a static entry",
@@ -84,7 +84,7 @@ static ROWS: [Row; 9] = [
         from: 2,
         source: 2,
         destination: 9,
-        wanted: Decision::Port(4),
+        wanted: Forwarding::Port(4),
     },
 ];
 

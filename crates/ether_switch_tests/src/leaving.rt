@@ -1,5 +1,5 @@
 //! Frames that leave a bridge.
-use ether_switch::{BridgeKind, Decision, PortConfig, Received, Vlan};
+use ether_switch::{BridgeKind, Forwarding, PortConfig, Received, Vlan};
 use etherparse::VlanPcp;
 use std::process::Abort;
 use std::test::Fail;
@@ -59,7 +59,7 @@ fn of_each_form(rt: HostRuntime) -> Result<(), Fail> {
         vlan,
         priority: VlanPcp::try_new(5)?,
         drop_eligible: false,
-        decision: Decision::Flood,
+        decision: Forwarding::Flood,
     };
     let (access, trunk) = (PortConfig::access(vlan), PortConfig::trunk());
     for row in &ROWS {
