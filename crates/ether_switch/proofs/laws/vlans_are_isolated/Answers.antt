@@ -1,0 +1,5 @@
+use Rattle.ether_switch.proofs.Passing.{vlans_are_isolated}
+use Rattle.ether_switch.proofs.laws.vlans_are_isolated.Goals as goal
+
+pub returns : goal.returns
+returns c = vlans_are_isolated

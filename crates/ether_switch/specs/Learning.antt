@@ -1,0 +1,53 @@
+-- What a bridge has learned from the frames that came in, the newest first (IEEE 802.1Q, 8.7).
+use Rattle.std.specs.Prelude.{◌≡◌, ℕ, ◌+◌, ◌-◌, ◌/◌, ◌%◌, ◌^◌, ◌<◌, List, [], ◌∷◌, length, take, filter, find, slice_set, slice_index_or, Option, Some, None, option_and_then, Bool, not, nat_eq, nat_le, if◌then◌else◌}
+use Rattle.ether_switch.specs.declared.stations.Sighting.{Sighting}
+
+-- whether a sighting is one of a station
+abbrev pub is_of : (station : ℕ) → Sighting → Bool
+is_of station f = nat_eq f.station station
+
+abbrev pub is_other : (station : ℕ) → Sighting → Bool
+is_other station f = not (is_of station f)
+
+-- of each station the newest sighting
+abbrev pub newest : List Sighting → List Sighting
+newest [] = []
+newest (f ∷ earlier) = f ∷ filter (is_other f.station) (newest earlier)
+
+-- which of n buckets holds a station, by its VLAN identifier and its address
+abbrev pub place_of : (n station : ℕ) → ℕ
+place_of n station = (station / 2 ^ 48 + station % 2 ^ 48) % n
+
+-- what the bucket at i of n holds: of its stations the four that were seen last
+abbrev pub held : (n i : ℕ) → List Sighting → List Sighting
+held n i history = take 4 (newest (filter (λ f. nat_eq (place_of n f.station) i) history))
+
+-- n buckets hold what is learned from these frames
+pub record Knows (n : ℕ) (buckets : List (List Sighting)) (history : List Sighting) : Type 0 where
+  pub size : length buckets ≡ n
+  pub each : (i : ℕ) → i < n → slice_index_or buckets i [] ≡ held n i history
+
+-- the sighting of a station that n buckets hold
+abbrev pub known : (n : ℕ) → List Sighting → (station : ℕ) → Option Sighting
+known n history station =
+    if nat_eq n 0 then None else find (is_of station) (held n (place_of n station) history)
+
+-- the port of a sighting, if it is not older than the ageing time (IEEE 802.1Q, 8.8.3)
+abbrev pub port_at : (ageing_time now : ℕ) → Sighting → Option ℕ
+port_at ageing_time now f = if nat_le (now - f.time) ageing_time then Some f.port else None
+
+-- the port of a station, by what n buckets hold
+abbrev pub known_port : (n ageing_time now : ℕ) → List Sighting → (station : ℕ) → Option ℕ
+known_port n ageing_time now history station = option_and_then (port_at ageing_time now) (known n history station)
+
+-- ---- how it is learned
+
+-- a bucket after a sighting
+abbrev pub with_newest : Sighting → List Sighting → List Sighting
+with_newest f bucket = f ∷ take 3 (filter (is_other f.station) bucket)
+
+-- buckets after a sighting
+abbrev pub with_sighting : Sighting → List (List Sighting) → List (List Sighting)
+with_sighting f buckets =
+    let at = place_of (length buckets) f.station in
+    if nat_eq (length buckets) 0 then buckets else slice_set buckets at (with_newest f (slice_index_or buckets at []))

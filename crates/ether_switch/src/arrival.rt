@@ -1,0 +1,230 @@
+//! Frames that come in by a port.
+ghost use Rattle.std.specs.Prelude.{◌≡◌, ◌<◌, ◌^◌, List, IfOk};
+ghost use Rattle.etherparse.specs.Bytes.{number};
+ghost use Rattle.etherparse.specs.Header.{Header};
+ghost use Rattle.etherparse.specs.Vlan.{vlan_view};
+ghost use Rattle.ether_peel.specs.Grammar.Stack.{Ending, Walk};
+ghost use Rattle.ether_peel.specs.Walker.Start.{start_of};
+ghost use Rattle.ether_peel.specs.declared.start.Start.TheVariants as starts;
+ghost use Rattle.ether_switch.specs.Arrivals.{front_of, read_as, front_view, tagging_of, admits as admits_of, vlan_of, priority_of, is_drop_eligible as drop_eligible_of, is_station as is_station_of, is_group as is_group_of, refusal as refusal_of, admitted as admitted_of, arrival_in, arrival};
+
+use crate::{AcceptableFrames, BridgeKind, PortConfig, Vlan};
+use ether_base::big_endian::u64_of;
+use ether_packet::{EthernetFront, ethernet_front};
+use etherparse::VlanPcp;
+use std::error::Error;
+use std::fmt;
+
+/// Why a bridge discards a frame. The first that applies is named.
+#[derive(Clone, Copy, PartialEq, Eq, Debug)]
+pub enum Discarded {
+    /// It has fewer than 14 bytes.
+    NoHeader,
+    /// Its tag is cut short.
+    CutTag,
+    /// Its tag has the identifier 4095, which is reserved (IEEE 802.1Q, table 9-2).
+    ReservedIdentifier,
+    /// Its source is the address of a group, or all zeros.
+    Source,
+    /// The port does not take frames with such a tag, or without one (IEEE 802.1Q, 6.9).
+    FrameType,
+    /// The port is not a member of its VLAN, and has ingress filtering (IEEE 802.1Q, 8.6.2).
+    NotAMember,
+    /// Its destination is a reserved address (IEEE 802.1Q, 8.6.3).
+    ReservedAddress,
+}
+
+impl fmt::Display for Discarded {
+    ghost use Rattle.std.specs.Prelude.{Some};
+    ghost use Rattle.ether_switch.specs.Texts.{discarded_text};
+
+    ghost output = { λ reason. Some (discarded_text reason) };
+
+    fn fmt<W: fmt::Write>(&self, f: &mut fmt::Formatter<W>) -> fmt::Result {
+        f.write_str(match self {
+            Discarded::NoHeader => "The frame is shorter than its header.",
+            Discarded::CutTag => "The frame's tag is cut short.",
+            Discarded::ReservedIdentifier => "The identifier in the frame's tag is reserved.",
+            Discarded::Source => "The frame's source is not the address of a station.",
+            Discarded::FrameType =>
+                "The port does not take frames with such a tag, or without one.",
+            Discarded::NotAMember => "The port is not a member of the frame's VLAN.",
+            Discarded::ReservedAddress => "The frame's destination is reserved.",
+        })
+    }
+}
+
+impl Error for Discarded {}
+
+/// How a frame names its VLAN (IEEE 802.1Q, 3).
+#[derive(Clone, Copy, PartialEq, Eq, Debug)]
+pub(crate) enum Tagging {
+    Untagged,
+    PriorityTagged,
+    VlanTagged,
+}
+
+/// A frame that a port takes, its addresses as numbers of 48 bits.
+#[derive(Clone, Copy, Debug)]
+pub(crate) struct Admitted {
+    pub vlan: Vlan,
+    pub priority: VlanPcp,
+    pub drop_eligible: bool,
+    pub source: u64,
+    pub destination: u64,
+}
+
+/// What a port makes of a frame.
+pub(crate) fn admit(
+    kind: BridgeKind,
+    port: &PortConfig,
+    frame: &[u8],
+) -> Result<Admitted, Discarded>
+    ensures addresses { IfOk result (λ a. (a.source < 2 ^ 48) × (a.destination < 2 ^ 48)) }
+    ensures value { (hs : List Header) (e : Ending) → Walk (start_of starts.Ethernet2) frame.now hs e
+        → result ≡ arrival kind port.now hs }
+{
+    match read_front(kind, frame) {
+        Ok(front) => admit_front(port, &front),
+        Err(reason) => Err(reason),
+    }
+}
+
+/// What a port makes of a frame that begins like this.
+fn admit_front(port: &PortConfig, front: &EthernetFront) -> Result<Admitted, Discarded>
+    ensures addresses { IfOk result (λ a. (a.source < 2 ^ 48) × (a.destination < 2 ^ 48)) }
+    ensures value { result ≡ arrival_in port.now (front_view front.now) (vlan_of port.now.pvid (front_view front.now)) }
+{
+    let Some(vlan) = vlan_for(port.pvid, front) else {
+        return Err(Discarded::ReservedIdentifier);
+    };
+    match refusal(port, front, vlan) {
+        Some(reason) => Err(reason),
+        None => Ok(taken(port, front, vlan)),
+    }
+}
+
+/// The header of a frame, and its tag if it has one of the bridge.
+pub(crate) fn read_front(kind: BridgeKind, frame: &[u8]) -> Result<EthernetFront, Discarded>
+    ensures { (hs : List Header) (e : Ending) → Walk (start_of starts.Ethernet2) frame.now hs e
+        → front_of kind hs ≡ read_as result }
+{
+    let Some(front) = ethernet_front(frame) else {
+        return Err(Discarded::NoHeader);
+    };
+    if front.link.ether_type != kind.tpid() {
+        return Ok(EthernetFront {
+            link: front.link,
+            vlan: None,
+        });
+    }
+    match front.vlan {
+        Some(_) => Ok(front),
+        None => Err(Discarded::CutTag),
+    }
+}
+
+/// The VLAN of a frame; `None` if its tag has the reserved identifier.
+fn vlan_for(pvid: Vlan, front: &EthernetFront) -> Option<Vlan>
+    ensures { result ≡ vlan_of pvid (front_view front.now) }
+{
+    match front.vlan {
+        Some(tag) if tag.vlan_id.value() != 0 => Vlan::try_new(tag.vlan_id.value()).ok(),
+        _ => Some(pvid),
+    }
+}
+
+/// Why a port refuses a frame of a VLAN, if it does.
+fn refusal(port: &PortConfig, front: &EthernetFront, vlan: Vlan) -> Option<Discarded>
+    ensures { result ≡ refusal_of port.now (front_view front.now) vlan }
+{
+    if !is_station(address_of(front.link.source)) {
+        return Some(Discarded::Source);
+    }
+    if !admits(port.frame_types, tagging_in(front)) {
+        return Some(Discarded::FrameType);
+    }
+    if port.ingress_filtering && !port.members.contains(vlan) {
+        return Some(Discarded::NotAMember);
+    }
+    None
+}
+
+/// A frame of a VLAN that a port takes.
+fn taken(port: &PortConfig, front: &EthernetFront, vlan: Vlan) -> Admitted
+    ensures addresses { (result.source < 2 ^ 48) × (result.destination < 2 ^ 48) }
+    ensures value { result ≡ admitted_of port.now (front_view front.now) vlan }
+{
+    Admitted {
+        vlan,
+        priority: priority(port.default_priority, front),
+        drop_eligible: is_drop_eligible(front),
+        source: address_of(front.link.source),
+        destination: address_of(front.link.destination),
+    }
+}
+
+/// The priority of a frame.
+fn priority(default_priority: VlanPcp, front: &EthernetFront) -> VlanPcp
+    ensures { result ≡ priority_of default_priority (front_view front.now) }
+{
+    match front.vlan {
+        Some(tag) => tag.pcp,
+        None => default_priority,
+    }
+}
+
+/// Whether a frame may be dropped first.
+fn is_drop_eligible(front: &EthernetFront) -> bool
+    ensures { result ≡ drop_eligible_of (front_view front.now) }
+{
+    match front.vlan {
+        Some(tag) => tag.drop_eligible_indicator,
+        None => false,
+    }
+}
+
+/// How a frame names its VLAN.
+fn tagging_in(front: &EthernetFront) -> Tagging
+    ensures { result ≡ tagging_of (front_view front.now) }
+{
+    match front.vlan {
+        None => Tagging::Untagged,
+        Some(tag) if tag.vlan_id.value() == 0 => Tagging::PriorityTagged,
+        Some(_) => Tagging::VlanTagged,
+    }
+}
+
+/// Whether a port takes frames that name their VLAN like this.
+fn admits(frame_types: AcceptableFrames, tagging: Tagging) -> bool
+    ensures { result ≡ admits_of frame_types tagging }
+{
+    match frame_types {
+        AcceptableFrames::All => true,
+        AcceptableFrames::OnlyVlanTagged => tagging == Tagging::VlanTagged,
+        AcceptableFrames::OnlyUntaggedAndPriorityTagged => tagging != Tagging::VlanTagged,
+    }
+}
+
+/// An address as one number.
+pub(crate) fn address_of(bytes: [u8; 6]) -> u64
+    ensures value { result ≡ number bytes }
+    ensures bound { result < 2 ^ 48 }
+{
+    let [a, b, c, d, e, f] = bytes;
+    u64_of([0, 0, a, b, c, d, e, f])
+}
+
+/// Whether an address is one of a single station.
+fn is_station(address: u64) -> bool
+    ensures { result ≡ is_station_of address }
+{
+    !is_group(address) && address != 0
+}
+
+/// Whether an address is that of a group.
+pub(crate) fn is_group(address: u64) -> bool
+    ensures { result ≡ is_group_of address }
+{
+    address / (1 << 40) % 2 == 1
+}

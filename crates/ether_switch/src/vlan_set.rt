@@ -1,0 +1,76 @@
+//! Sets of VLANs.
+ghost use Rattle.std.specs.Prelude.{◌≡◌, ◌≤◌, ◌<◌, ℕ, true, false, not, ◌&&◌, ◌||◌, nat_eq};
+
+use crate::Vlan;
+
+/// A set of VLANs.
+///
+/// ```
+/// let (first, second) = (Vlan::try_new(1)?, Vlan::try_new(2)?);
+/// let mut set = VlanSet::new();
+/// set.insert(first);
+/// assert!(rt; set.contains(first) && !set.contains(second));
+/// ```
+#[derive(Clone, Copy, PartialEq, Eq, Debug)]
+pub struct VlanSet {
+    words: [u64; 64],
+}
+
+impl VlanSet {
+    ghost use Rattle.ether_switch.specs.VlanSets.{has};
+
+    /// No VLAN.
+    pub fn new() -> VlanSet
+        ensures { (v : ℕ) → v < 4096 → has result v ≡ false }
+    {
+        VlanSet { words: [0; 64] }
+    }
+
+    /// All VLANs.
+    pub fn all() -> VlanSet
+        ensures { (v : ℕ) → 1 ≤ v → v ≤ 4094 → has result v ≡ true }
+    {
+        let mut set = VlanSet::new();
+        for id in 1..4095 {
+            if let Ok(vlan) = Vlan::try_new(id) {
+                set.insert(vlan);
+            }
+        }
+        set
+    }
+
+    /// Whether a VLAN is in the set.
+    pub fn contains(&self, vlan: Vlan) -> bool
+        ensures { result ≡ has self.now vlan }
+    {
+        let id = vlan.id().value();
+        (self.words[id as usize / 64] >> (id % 64)) & 1 == 1
+    }
+
+    /// Puts a VLAN in.
+    pub fn insert(&mut self, vlan: Vlan)
+        ensures { (v : ℕ) → v < 4096 → has self.new v ≡ (nat_eq v vlan || has self.old v) }
+    {
+        let id = vlan.id().value();
+        self.words[id as usize / 64] |= 1 << (id % 64);
+    }
+
+    /// Takes a VLAN out.
+    pub fn remove(&mut self, vlan: Vlan)
+        ensures { (v : ℕ) → v < 4096 → has self.new v ≡ (not (nat_eq v vlan) && has self.old v) }
+    {
+        let id = vlan.id().value();
+        self.words[id as usize / 64] &= !(1 << (id % 64));
+    }
+}
+
+impl Default for VlanSet {
+    ghost use Rattle.std.specs.Prelude.{◌≡◌, ◌<◌, ℕ, false};
+    ghost use Rattle.ether_switch.specs.VlanSets.{has};
+
+    ghost is_default = { λ set. (v : ℕ) → v < 4096 → has set v ≡ false };
+
+    fn default() -> VlanSet {
+        VlanSet::new()
+    }
+}
