@@ -105,6 +105,14 @@ ARTEFACTS = {
         "ether_c/src/replacing.rt": ["etherpeel_replace_link", "etherpeel_replace_link_ext", "etherpeel_replace_arp"],
         "ether_c/src/building.rt": ["etherpeel_build"],
     },
+    "Bridges": {
+        "ether_switch/src/bridge.rt": ["receive"],
+        "ether_switch/src/received.rt": ["send", "goes_to", "tagged", "untagged"],
+        "ether_switch/src/stations.rt": ["new"],
+        "ether_switch/src/vlan_set.rt": ["new", "all", "contains", "insert", "remove"],
+        "ether_switch/src/kind.rt": ["tpid"],
+        "ether_switch/src/laws.rt": ["last_sightings_are_held", "frames_follow_stations", "vlans_are_isolated", "only_tags_change"],
+    },
 }
 
 
@@ -173,6 +181,9 @@ ORDER = {
         ether_c: Calls Packet
         ether_pcap: CaptureTexts
         ether_c: Captured CapturedFrame Tags Library Selection Filters FieldTables Fields CookedV2 Passed Replacing Building
+    """,
+    "Bridges": """
+        ether_switch: Kinds VlanSets Arrivals Learning Relaying History Leaving Laws
     """,
 }
 

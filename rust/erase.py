@@ -24,16 +24,16 @@ BY_HAND = [f"{PROGRAMS_NAME}/src/{path}.rs" for path in (
     "ether_text/noted", *(f"ether_capture/{it}" for it in ("heap_memory", "interface_buffer", "memory", "opening", "options")),
 )] + [f"{PROGRAMS_NAME}/examples/{program}/main.rs" for program in ("example_switch", "example_vlan_rewriter")]
 # The programs among the examples, each with the libraries that are its modules; their `main`s are by hand.
-EXAMPLE_PROGRAMS = {"example_switch": ["example_learning_switch"], "example_vlan_rewriter": []}
+EXAMPLE_PROGRAMS = {"example_switch": [], "example_vlan_rewriter": []}
 FACADE = "etherparse"  # the root of the result
 # A module without documentation: the facade has its names, but for numbers that tests and programs use.
 HIDDEN = ["ether_base"]
 PRIVATE = ["ether_tags", "ether_sll", "ether_arp"]  # private modules: the facade has their public names
 # Public modules.
-OUTER = ["ether_peel", "ether_sll2", "ether_packet", "ether_filter", "ether_pcap", "ether_content"]
+OUTER = ["ether_peel", "ether_sll2", "ether_packet", "ether_filter", "ether_pcap", "ether_content", "ether_switch"]
 LIBRARIES = [*HIDDEN, *PRIVATE, FACADE, *OUTER]
 # The crates of tests, each with the examples that it tests.
-TESTS = {"etherparse_tests": [], "ether_content_tests": ["example_frames", "example_learning_switch"]}
+TESTS = {"etherparse_tests": [], "ether_content_tests": ["example_frames"], "ether_switch_tests": []}
 EXAMPLES = [example for examples in TESTS.values() for example in examples]
 # Modules that are left out: laws, what is proved and never run, and the tests of a crate that is not in the result.
 LEFT_OUT, LEFT_OUT_OF_TESTS = {"laws"}, {"laws", "derived_traits", "text"}

@@ -25,7 +25,7 @@ def captured(interfaces, packets):
 
 
 def address(first, last):
-    return f"{first:02x}00000000{last:02x}"
+    return f"{first:02x}{last:010x}"
 
 
 def tagged(destination, source, vlan_id):
@@ -41,7 +41,8 @@ ON_TRUNKS = [
     ("A was seen on port 1", 2, tagged(A, B, 10), [1]),
     ("a broadcast", 1, tagged(ALL, A, 10), [2, 3]),
     ("a group that is A but for one bit", 2, tagged(GROUP, B, 10), [1, 3]),
-    ("back to where it came from", 2, tagged(B, GROUP, 10), []),
+    ("back to where it came from", 2, tagged(B, (2, 0xC), 10), []),
+    ("from a group", 1, tagged(B, GROUP, 10), []),
     ("A in another VLAN", 2, tagged(A, B, 11), [1, 3]),
     ("B in the other VLAN, on port 2", 3, tagged(B, A, 11), [2]),
     ("A in the other VLAN, on port 3", 2, tagged(A, B, 11), [3]),
@@ -58,12 +59,13 @@ NOT_SWITCHED = [
     ("a header cut short", 1, tagged(B, A, 10)[:26], []),
     ("A is not learned", 2, tagged(A, B, 10), [1, 3]),
 ]
-FULL_TABLE = [(f"station {last}", 1, tagged(ALL, (2, last), 10), [2, 3]) for last in range(70)]
-FULL_TABLE += [(f"to station {last}", 2, tagged((2, last), (2, 200), 10), [1] if last < 64 else [1, 3]) for last in range(70)]
+# Stations of one bucket: the fifth makes the switch forget the first.
+FULL_BUCKET = [(f"station {n}", 1, tagged(ALL, (2, n * 0x100), 10), [2, 3]) for n in range(5)]
+FULL_BUCKET += [(f"to station {n}", 2, tagged((2, n * 0x100), (2, 200), 10), [1] if n else [1, 3]) for n in range(5)]
 
 # From 02::0A to all stations, and from 02::0B to it: without a tag, and with one of VLAN 10, for the second PCP 7 and DEI 1.
 REQUEST, TAGGED_REQUEST = "ffffffffffff02000000000a080645", "ffffffffffff02000000000a8100000a080645"
-REPLY, TAGGED_REPLY = "02000000000a02000000000b080645", "02000000000a02000000000b88a8f00a080645"
+REPLY, TAGGED_REPLY = "02000000000a02000000000b080645", "02000000000a02000000000b8100f00a080645"
 # Ports 1 and 2 are access ports of VLAN 10, 3 and 5 trunks, 4 an access port of VLAN 20: a frame, and those that leave.
 MIXED = ["10", "10", "trunk", "20", "trunk"]
 ON_MIXED = [
@@ -76,7 +78,11 @@ ON_MIXED = [
     ("cut short", 1, REPLY[:26], []),
     ("no byte", 1, "", []),
     ("A moves to port 3", 3, TAGGED_REQUEST, [(1, REQUEST), (2, REQUEST), (5, TAGGED_REQUEST)]),
-    ("to it with a service tag", 5, TAGGED_REPLY, [(3, TAGGED_REPLY)]),
+    ("to it with its tag", 5, TAGGED_REPLY, [(3, TAGGED_REPLY)]),
+    ("a service tag at a trunk", 5, TAGGED_REPLY.replace("8100f00a", "88a8f00a"), []),
+    ("a priority alone", 2, TAGGED_REPLY.replace("f00a", "e000"), [(3, TAGGED_REPLY.replace("f00a", "e00a"))]),
+    ("the identifier 4095", 3, TAGGED_REQUEST.replace("8100000a", "81000fff"), []),
+    ("a bridge protocol data unit", 1, "0180c200000002000000000c0026424203", []),
 ]
 
 MULTICAST_VLAN_5 = "01005e000001020000000001810000050800"
@@ -111,7 +117,7 @@ def refused(program, words, capture):
 def main():
     switch, rewriter = (os.path.realpath(program) for program in sys.argv[1:3])
     trunks = ["trunk"] * 3
-    tried = [*passed(switch, trunks, ON_TRUNKS), *passed(switch, trunks, NOT_SWITCHED), *passed(switch, trunks, FULL_TABLE)]
+    tried = [*passed(switch, trunks, ON_TRUNKS), *passed(switch, trunks, NOT_SWITCHED), *passed(switch, trunks, FULL_BUCKET)]
     tried += passed(switch, MIXED, ON_MIXED)
     for name, link_type, packet, line in REWRITTEN:
         found = run(rewriter, ["5", "7"], captured([link_type], [(0, bytes.fromhex(packet))]))
@@ -121,7 +127,7 @@ def main():
     tried.append(("an interface that is no port", refused(switch, ["10", "10"], request), (sent, True, 1)))
     tried.append(("another link type", refused(switch, ["10"], captured([113], [(0, b"")])), ("", True, 1)))
     tried.append(("a cut capture", refused(switch, ["10", "10", "10"], request[:-1]), (f"2 {REQUEST}\n3 {REQUEST}\n", True, 1)))
-    for words in (["4096"], ["access"], ["10", ""]):
+    for words in (["0"], ["4095"], ["4096"], ["access"], ["10", ""]):
         tried.append((f"ports {words}", refused(switch, words, request), ("", True, 1)))
     for words in ([], ["5"], ["5", "4096"]):
         tried.append((f"identifiers {words}", refused(rewriter, words, request), ("", True, 1)))

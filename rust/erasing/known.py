@@ -41,9 +41,9 @@ PATHS = set(
 GIVEN = set("default from try_from".split())
 METHODS = set(
     """and_then as_mut_slice as_ref as_slice as_str clear clone contains copied copy_from_slice copy_within
-    debug_struct div_ceil field finish first_chunk first_chunk_mut fmt get hash is_empty is_err is_full is_none
-    is_ok is_some iter last_chunk len map max min next ok or overflowing_add pop pow push rev saturating_add
-    saturating_sub split_first split_last then_some to_be_bytes to_digit to_le_bytes truncate try_extend_from_slice
+    debug_struct div_ceil field find finish first_chunk first_chunk_mut fmt get hash insert is_empty is_err is_full
+    is_none is_ok is_some iter last_chunk len map max min next ok or overflowing_add pop pow push retain rev
+    saturating_add saturating_sub split_at_mut split_first split_last then_some to_be_bytes to_digit to_le_bytes truncate try_extend_from_slice
     unwrap unwrap_or write_str""".split()
 )
 
@@ -55,8 +55,8 @@ TEST_PATHS = set(
     Ordering::Less Ordering::Equal Ordering::Greater""".split()
 )
 TEST_METHODS = set(
-    """all alloc any count enumerate err find first_mut get_mut into iter_mut last map_err ok_or skip split_at
-    split_at_mut starts_with zip""".split()
+    """all alloc any count enumerate err first_mut get_mut into iter_mut last map_err ok_or skip split_at starts_with
+    zip""".split()
 )
 
 # What the calls for C use besides.
@@ -84,4 +84,4 @@ PROGRAM_METHODS = set(
 EXAMPLE_PROGRAM_MACROS = {"vec": "["}
 EXAMPLE_NAMES = {"AllocError", "NoMemory", "ether_tools", "ether_capture", "memory"}
 EXAMPLE_PATHS = {"hex::encode", "String::new"}
-EXAMPLE_METHODS = set("any as_str extend_from_slice find map map_err push_str split_at_mut".split())
+EXAMPLE_METHODS = set("as_str extend_from_slice map_err push_str".split())

@@ -1,7 +1,5 @@
 //! Frames that the examples take, and what they make of them.
 mod arp_generator;
-mod derived_traits;
-mod learning_switch;
 mod snap_checker;
 mod vlan_filter;
 

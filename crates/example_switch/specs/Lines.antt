@@ -1,33 +1,40 @@
 -- The lines that a switch writes for a frame.
-use Rattle.std.specs.Prelude.{◌≡◌, ℕ, ◌+◌, List, [], ◌∷◌, ◌++◌, codes, decimal, true, false}
+use Rattle.std.specs.Prelude.{◌≡◌, ℕ, ◌+◌, List, [], ◌∷◌, ◌++◌, codes, decimal, Result, Ok, Err, is_ok, Bool, true, false, ◌&&◌}
 use Rattle.hex.specs.Hex.{encode_lower}
 use Rattle.etherparse.specs.Header.{Header}
 use Rattle.ether_peel.specs.Grammar.Stack.{Ending}
-use Rattle.example_learning_switch.specs.declared.decision.Decision.{Decision}
-use Rattle.example_learning_switch.specs.declared.port.Port.{Port}
-use Rattle.example_learning_switch.specs.declared.port.PortKind.{PortKind}
-use Rattle.example_learning_switch.specs.Ports.{Leaves}
-use Rattle.example_learning_switch.specs.Stations.{goes_out}
+use Rattle.ether_switch.specs.declared.arrival.Discarded.{Discarded}
+use Rattle.ether_switch.specs.declared.port.PortConfig.{PortConfig}
+use Rattle.ether_switch.specs.declared.received.Received.{Received}
+use Rattle.ether_switch.specs.Arrivals.{front_of}
+use Rattle.ether_switch.specs.Leaving.{goes_to, Leaves}
 
 -- the number of a port, a space, and a frame in hexadecimal digits
 abbrev pub line_of : (number : ℕ) (frame : List ℕ) → List ℕ
 line_of number frame = decimal number ++ (codes " " ++ (encode_lower frame ++ codes "\n"))
 
-abbrev pub port_at : (number : ℕ) → PortKind → Port
-port_at number kind = record { number = number; kind = kind }
+-- whether a frame with these headers leaves by a port: it goes there, and is not cut short
+abbrev pub leaves_by : Received → (number : ℕ) → PortConfig → List Header → Bool
+leaves_by r number port hs = goes_to r number port && is_ok (front_of r.kind hs)
 
--- What is written for a port, of a frame that came from another one: its line with the frame as it leaves, if the frame goes there by a
--- decision, and else nothing.
-pub data HasLine (decision : Decision) (from to : Port) (frame : List ℕ) (hs : List Header) (e : Ending) : (text : List ℕ) → Type 0 where
-  sent : (leaving : List ℕ) → goes_out decision from to hs ≡ true → Leaves from.kind to.kind frame hs e leaving
-      → HasLine decision from to frame hs e (line_of to.number leaving)
-  passed : goes_out decision from to hs ≡ false → HasLine decision from to frame hs e []
+-- What is written for a port, of a frame that was received: its line with the frame as it leaves, if it does, and else nothing.
+pub data HasLine (r : Received) (number : ℕ) (port : PortConfig) (frame : List ℕ) (hs : List Header) (e : Ending)
+    : (text : List ℕ) → Type 0 where
+  sent : (leaving : List ℕ) → leaves_by r number port hs ≡ true → Leaves r port (front_of r.kind hs) frame hs e leaving
+      → HasLine r number port frame hs e (line_of number leaving)
+  passed : leaves_by r number port hs ≡ false → HasLine r number port frame hs e []
 
--- .. and for ports of these kinds, numbered from `number` on, in their order
-pub data HasLines (decision : Decision) (from : Port) (frame : List ℕ) (hs : List Header) (e : Ending)
-    : (number : ℕ) → List PortKind → (text : List ℕ) → Type 0 where
-  none : (number : ℕ) → HasLines decision from frame hs e number [] []
-  more : (number : ℕ) (kind : PortKind) (kinds : List PortKind) (text later : List ℕ)
-      → HasLine decision from (port_at number kind) frame hs e text
-      → HasLines decision from frame hs e (number + 1) kinds later
-      → HasLines decision from frame hs e number (kind ∷ kinds) (text ++ later)
+-- .. and for these ports, numbered from `number` on, in their order
+pub data HasLines (r : Received) (frame : List ℕ) (hs : List Header) (e : Ending)
+    : (number : ℕ) → List PortConfig → (text : List ℕ) → Type 0 where
+  none : (number : ℕ) → HasLines r frame hs e number [] []
+  more : (number : ℕ) (port : PortConfig) (ports : List PortConfig) (text later : List ℕ)
+      → HasLine r number port frame hs e text
+      → HasLines r frame hs e (number + 1) ports later
+      → HasLines r frame hs e number (port ∷ ports) (text ++ later)
+
+-- .. by the answer of a bridge: nothing of a frame that it discards
+abbrev pub Answers : Result Received Discarded → (frame : List ℕ) (hs : List Header) (e : Ending) → List PortConfig
+    → (text : List ℕ) → Type 0
+Answers (Ok r) frame hs e ports text = HasLines r frame hs e 1 ports text
+Answers (Err reason) frame hs e ports text = text ≡ []

@@ -1,18 +1,19 @@
-//! A learning switch over a capture, as an example of a program over `example_learning_switch`.
+//! A switch over a capture, as an example of a program over `ether_switch`.
 //!
-//! Each argument is a port, and the ports are numbered from 1 on: `trunk`, or the VLAN identifier of an access port. Standard
-//! input is a capture, pcap or pcapng: a frame of its first interface comes from port 1, and so on. For each port that a
-//! frame goes to a line is written: the number of the port, a space, and the frame as it leaves, in hexadecimal digits.
+//! Each argument is a port, and the ports are numbered from 1 on: `trunk`, or the identifier of the VLAN of an access port.
+//! Standard input is a capture, pcap or pcapng: a frame of its first interface comes from port 1, and so on, and its time is that
+//! of the packet. For each port that a frame goes to a line is written: the number of the port, a space, and the frame as it
+//! leaves, in hexadecimal digits.
 #![tactic(auto)]
 
 mod arguments;
 mod lines;
 mod reading;
 
-use arguments::{SwitchError, kind_of};
+use arguments::{SwitchError, port_of};
 use ether_pcap::CapturePackets;
-use example_learning_switch::Switch;
-use lines::frame_lines;
+use ether_switch::{Bridge, BridgeKind, StationTable};
+use lines::{BUCKETS, frame_lines};
 use reading::read_packet;
 use std::env;
 use std::io::Read;
@@ -21,7 +22,7 @@ fn main(rt: HostRuntime) -> anyhow::Result<()> {
     let alloc = rt.alloc();
     let mut ports = Vec::new(alloc);
     for argument in env::args(&rt)?.skip(1) {
-        ports.push(kind_of(argument.as_str())?)?;
+        ports.push(port_of(argument.as_str())?)?;
     }
     if ports.len() >= 1 << 16 {
         return Err(SwitchError::Count.into());
@@ -29,12 +30,24 @@ fn main(rt: HostRuntime) -> anyhow::Result<()> {
     let ports = ports.as_slice();
     let mut capture = Vec::new(alloc);
     rt.reader().read_to_end(&mut capture)?;
-    let mut switch = Switch::new();
+    let bridge = Bridge {
+        kind: BridgeKind::Customer,
+        ageing_time: Bridge::AGEING_TIME,
+        static_entries: &[],
+    };
+    let mut table = StationTable::<BUCKETS>::new();
     for packet in CapturePackets::from_slice(capture.as_slice()) {
-        let Some(received) = read_packet(ports, &packet?) else {
+        let Some(arrived) = read_packet(ports, &packet?) else {
             return Err(SwitchError::Packet.into());
         };
-        let text = frame_lines(alloc, &mut switch, ports, &received.port, received.frame)?;
+        let text = frame_lines(
+            alloc,
+            &bridge,
+            &mut table,
+            ports,
+            &arrived.arrival,
+            arrived.frame,
+        )?;
         print!(rt; "{text}")?;
     }
     Ok(())

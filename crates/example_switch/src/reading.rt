@@ -1,41 +1,60 @@
 //! Packets that are read.
-ghost use Rattle.std.specs.Prelude.{◌^◌, ◌<◌, ℕ, List, length, IfSome, IfNone};
-ghost use Rattle.ether_pcap.specs.CaptureViews.{captured_packet_view};
-ghost use Rattle.example_learning_switch.specs.declared.port.Port.{Port as SwitchPort};
-ghost use Rattle.example_switch.specs.Reading.{IsReceived};
+ghost use Rattle.std.specs.Prelude.{◌≡◌, ◌^◌, ◌<◌, List, ℕ, length, option_map, IfSome, IfNone};
+ghost use Rattle.ether_pcap.specs.CaptureViews.{captured_packet_view, timestamp_view};
+ghost use Rattle.example_switch.specs.Reading.{IsReceived, seconds_of};
 
 use ether_content::without_fcs;
-use ether_pcap::{CapturedPacket, LinkType};
-use example_learning_switch::{Port, PortKind};
+use ether_pcap::{CapturedPacket, LinkType, Timestamp};
+use ether_switch::PortConfig;
 
-/// A frame, and the port that it came from.
+/// When a frame came, in seconds, by which port, and how that is set up.
 #[derive(Clone, Copy, Debug)]
-pub(crate) struct Received<'a> {
-    pub port: Port,
+pub(crate) struct Arrival {
+    pub time: u64,
+    pub from: u16,
+    pub port: PortConfig,
+}
+
+/// A frame that came.
+#[derive(Clone, Copy, Debug)]
+pub(crate) struct Arrived<'a> {
+    pub arrival: Arrival,
     pub frame: &'a [u8],
 }
 
-/// The frame of a packet, and the port that its interface is. `None` if it is no Ethernet frame, or the interface is no port.
+/// The frame of a packet, and the port that its interface is. `None` if it is not an Ethernet frame, or the interface is not a port.
 pub(crate) fn read_packet<'a>(
-    ports: &[PortKind],
+    ports: &[PortConfig],
     packet: &CapturedPacket<'a>,
-) -> Option<Received<'a>>
+) -> Option<Arrived<'a>>
     requires { length ports.now < 2 ^ 16 }
-    ensures some { IfSome result (λ r. IsReceived ports.now (captured_packet_view packet.now) r.port r.frame.now) }
-    ensures none { IfNone result ((port : SwitchPort) (frame : List ℕ)
-        → IsReceived ports.now (captured_packet_view packet.now) port frame → ⊥) }
+    ensures some { IfSome result (λ r. IsReceived ports.now (captured_packet_view packet.now)
+        r.arrival r.frame.now) }
+    ensures none { IfNone result ((arrival : Arrival) (frame : List ℕ)
+        → IsReceived ports.now (captured_packet_view packet.now) arrival frame → ⊥) }
 {
     if packet.link_type != LinkType::ETHERNET {
         return None;
     }
     let index = packet.interface.unwrap_or(0) as usize;
-    let kind = ports.get(index)?;
-    let port = Port {
-        number: index as u16 + 1,
-        kind: *kind,
+    let port = ports.get(index)?;
+    let arrival = Arrival {
+        time: seconds(packet.time),
+        from: index as u16 + 1,
+        port: *port,
     };
-    Some(Received {
-        port,
+    Some(Arrived {
+        arrival,
         frame: without_fcs(packet),
     })
+}
+
+/// The seconds of a time; 0 without one.
+fn seconds(time: Option<Timestamp>) -> u64
+    ensures { result ≡ seconds_of (option_map timestamp_view time) }
+{
+    match time {
+        Some(time) => time.seconds,
+        None => 0,
+    }
 }

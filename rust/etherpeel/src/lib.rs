@@ -42,6 +42,7 @@ pub mod ether_packet;
 pub mod ether_filter;
 pub mod ether_pcap;
 pub mod ether_content;
+pub mod ether_switch;
 
 pub use crate::ether_arp::{ArpEthIpv4Packet, ArpPacket, ArpPacketSlice};
 pub use crate::ether_base::{

@@ -1,13 +1,12 @@
 //! The ports that the arguments name.
-use etherpeel::VlanId;
-use crate::example_learning_switch::PortKind;
+use etherpeel::ether_switch::{PortConfig, Vlan};
 use thiserror::Error;
 
 /// Why the program ends before its input does.
 #[derive(Debug, Error)]
 pub(crate) enum SwitchError {
     /// An argument is no port.
-    #[error("a port is `trunk` or a VLAN identifier")]
+    #[error("a port is `trunk` or the identifier of a VLAN, 1 to 4094")]
     Argument,
     /// There are more than 65,535.
     #[error("there are at most 65,535 ports")]
@@ -18,13 +17,13 @@ pub(crate) enum SwitchError {
 }
 
 /// The port that an argument names.
-pub(crate) fn kind_of(argument: &str) -> Result<PortKind, SwitchError> {
+pub(crate) fn port_of(argument: &str) -> Result<PortConfig, SwitchError> {
     if argument == "trunk" {
-        return Ok(PortKind::Trunk);
+        return Ok(PortConfig::trunk());
     }
     match argument.parse::<u16>() {
-        Ok(number) => match VlanId::try_new(number) {
-            Ok(vlan_id) => Ok(PortKind::Access(vlan_id)),
+        Ok(number) => match Vlan::try_new(number) {
+            Ok(vlan) => Ok(PortConfig::access(vlan)),
             Err(_) => Err(SwitchError::Argument),
         },
         Err(_) => Err(SwitchError::Argument),

@@ -1,65 +1,65 @@
 //! The lines for a frame.
 
-use crate::example_learning_switch::{Decision, Port, PortKind, Switch};
+use crate::reading::Arrival;
+use etherpeel::ether_switch::{Bridge, PortConfig, Received, StationTable};
 use ether_tools::ether_capture::memory::{Global, NoMemory as AllocError};
 
-/// Passes a frame that came from a port through a switch, and returns the lines for the ports that it leaves by.
+/// How many buckets of stations the switch has.
+pub(crate) const BUCKETS: usize = 256;
+
+/// Passes a frame through a bridge, and returns the lines for the ports that it leaves by.
 pub(crate) fn frame_lines(
     alloc: Global,
-    switch: &mut Switch,
-    ports: &[PortKind],
-    from: &Port,
+    bridge: &Bridge,
+    table: &mut StationTable<BUCKETS>,
+    ports: &[PortConfig],
+    arrival: &Arrival,
     frame: &[u8],
 ) -> Result<String, AllocError> {
-    match switch.forward(from, frame) {
-        Some(decision) => decided_lines(alloc, decision, ports, from, frame),
-        None => Ok(String::new()),
+    match bridge.receive(table, arrival.time, arrival.from, &arrival.port, frame) {
+        Ok(received) => received_lines(alloc, &received, ports, frame),
+        Err(_) => Ok(String::new()),
     }
 }
 
-/// The lines for a frame with a decision, for each port that it goes to.
-fn decided_lines(
+/// The lines for a frame that was received, for each port that it goes to.
+fn received_lines(
     alloc: Global,
-    decision: Decision,
-    ports: &[PortKind],
-    from: &Port,
+    received: &Received,
+    ports: &[PortConfig],
     frame: &[u8],
 ) -> Result<String, AllocError> {
     let mut text = String::new();
     for i in 0..ports.len() {
-        let to = Port {
-            number: i as u16 + 1,
-            kind: ports[i],
-        };
-        let line = line_to(alloc, decision, from, &to, frame)?;
+        let line = line_to(alloc, received, i as u16 + 1, &ports[i], frame)?;
         text.push_str(line.as_str());
     }
     Ok(text)
 }
 
-/// The line for a frame with a decision and a port, if it goes there, and else nothing.
+/// The line for a frame and a port, if it goes there, and else nothing.
 fn line_to(
     alloc: Global,
-    decision: Decision,
-    from: &Port,
-    to: &Port,
+    received: &Received,
+    to: u16,
+    port: &PortConfig,
     frame: &[u8],
 ) -> Result<String, AllocError> {
     let mut buffer = vec![0, 0, 0, 0];
     buffer.extend_from_slice(frame);
-    send_line(alloc, decision, from, to, buffer.as_mut_slice())
+    send_line(alloc, received, to, port, buffer.as_mut_slice())
 }
 
 /// The same for the frame after four bytes of a buffer.
 fn send_line(
     alloc: Global,
-    decision: Decision,
-    from: &Port,
-    to: &Port,
+    received: &Received,
+    to: u16,
+    port: &PortConfig,
     buffer: &mut [u8],
 ) -> Result<String, AllocError> {
-    match decision.send(from, to, buffer) {
-        Some(at) => line(alloc, to.number, rest_from(buffer, at)),
+    match received.send(to, port, buffer) {
+        Some(at) => line(alloc, to, rest_from(buffer, at)),
         None => Ok(String::new()),
     }
 }

@@ -1,4 +1,4 @@
-//! A learning switch over a capture. Each argument is a port: `trunk`, or the VLAN identifier of an access port.
+//! A switch over a capture. Each argument is a port: `trunk`, or the identifier of the VLAN of an access port.
 //!
 //!     cargo run --example example_switch -- 10 10 trunk < capture.pcap
 //!
@@ -7,16 +7,15 @@
 #![allow(clippy::all, dead_code, unused_imports, unused_variables)]
 
 mod arguments;
-mod example_learning_switch;
 mod lines;
 mod reading;
 
-use arguments::{SwitchError, kind_of};
+use arguments::{SwitchError, port_of};
 use ether_tools::ether_capture::memory::Global;
 use ether_tools::streams;
 use etherpeel::ether_pcap::CapturePackets;
-use example_learning_switch::Switch;
-use lines::frame_lines;
+use etherpeel::ether_switch::{Bridge, BridgeKind, StationTable};
+use lines::{BUCKETS, frame_lines};
 use reading::read_packet;
 use std::error::Error;
 use std::io::{Read, Write};
@@ -25,7 +24,7 @@ use std::process::ExitCode;
 fn run() -> Result<(), Box<dyn Error>> {
     let mut ports = Vec::new();
     for argument in streams::arguments()?.skip(1) {
-        ports.push(kind_of(&argument)?);
+        ports.push(port_of(&argument)?);
     }
     if ports.len() >= 1 << 16 {
         return Err(SwitchError::Count.into());
@@ -33,12 +32,17 @@ fn run() -> Result<(), Box<dyn Error>> {
     let mut capture = Vec::new();
     streams::input()?.read_to_end(&mut capture)?;
     let mut output = streams::output()?;
-    let mut switch = Switch::new();
+    let bridge = Bridge {
+        kind: BridgeKind::Customer,
+        ageing_time: Bridge::AGEING_TIME,
+        static_entries: &[],
+    };
+    let mut table = StationTable::<BUCKETS>::new();
     for packet in CapturePackets::from_slice(&capture) {
-        let Some(received) = read_packet(&ports, &packet?) else {
+        let Some(arrived) = read_packet(&ports, &packet?) else {
             return Err(SwitchError::Packet.into());
         };
-        let text = frame_lines(Global, &mut switch, &ports, &received.port, received.frame)?;
+        let text = frame_lines(Global, &bridge, &mut table, &ports, &arrived.arrival, arrived.frame)?;
         output.write_all(text.as_bytes())?;
     }
     Ok(())

@@ -25,6 +25,7 @@ static PAIRS: [[u8; 2]; 100] = [
 /// # use etherpeel::ether_filter::*;
 /// # use etherpeel::ether_pcap::*;
 /// # use etherpeel::ether_content::*;
+/// # use etherpeel::ether_switch::*;
 /// # use ether_tools::ether_text::*;
 /// # use arrayvec::ArrayVec;
 /// let mut written = ArrayVec::<u8, 8>::new();

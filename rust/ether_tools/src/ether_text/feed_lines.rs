@@ -17,6 +17,7 @@ use etherpeel::ether_peel::{Feed, Start, feed, feed_limited};
 /// # use etherpeel::ether_filter::*;
 /// # use etherpeel::ether_pcap::*;
 /// # use etherpeel::ether_content::*;
+/// # use etherpeel::ether_switch::*;
 /// # use ether_tools::ether_text::*;
 /// # use arrayvec::ArrayVec;
 /// let frame = [

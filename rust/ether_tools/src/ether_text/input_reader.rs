@@ -12,6 +12,7 @@ use crate::ether_text::{InputFault, OutputBuffer, Sink, Source};
 /// # use etherpeel::ether_filter::*;
 /// # use etherpeel::ether_pcap::*;
 /// # use etherpeel::ether_content::*;
+/// # use etherpeel::ether_switch::*;
 /// # use ether_tools::ether_text::*;
 /// # use arrayvec::ArrayVec;
 /// let mut bytes = [1, 2, 3].as_slice();

@@ -19,6 +19,7 @@ const ROOM: usize = 65536;
 /// # use etherpeel::ether_filter::*;
 /// # use etherpeel::ether_pcap::*;
 /// # use etherpeel::ether_content::*;
+/// # use etherpeel::ether_switch::*;
 /// # use ether_tools::ether_text::*;
 /// # use arrayvec::ArrayVec;
 /// let mut written = ArrayVec::<u8, 64>::new();

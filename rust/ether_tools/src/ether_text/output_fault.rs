@@ -13,6 +13,7 @@ use std::fmt;
 /// # use etherpeel::ether_filter::*;
 /// # use etherpeel::ether_pcap::*;
 /// # use etherpeel::ether_content::*;
+/// # use etherpeel::ether_switch::*;
 /// # use ether_tools::ether_text::*;
 /// assert_eq!(format!("{OutputFault}").as_str(), "The writer has failed.");
 /// ```

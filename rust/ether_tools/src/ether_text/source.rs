@@ -44,6 +44,7 @@ impl<R: Read> Source for R {
 /// # use etherpeel::ether_filter::*;
 /// # use etherpeel::ether_pcap::*;
 /// # use etherpeel::ether_content::*;
+/// # use etherpeel::ether_switch::*;
 /// # use ether_tools::ether_text::*;
 /// let mut source = SliceSource::new(&[1, 2, 3]);
 /// let mut chunk = [0; 2];

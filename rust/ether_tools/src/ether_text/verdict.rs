@@ -10,6 +10,7 @@
 /// # use etherpeel::ether_filter::*;
 /// # use etherpeel::ether_pcap::*;
 /// # use etherpeel::ether_content::*;
+/// # use etherpeel::ether_switch::*;
 /// # use ether_tools::ether_text::*;
 /// assert_eq!(Verdict::AllAccepted.with(false), Verdict::SomeRefused);
 /// ```

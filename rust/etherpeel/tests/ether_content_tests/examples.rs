@@ -1,6 +1,5 @@
 //! Frames that the examples take, and what they make of them.
 mod arp_generator;
-mod learning_switch;
 mod snap_checker;
 mod vlan_filter;
 

@@ -8,7 +8,6 @@
 #[path = "../kit/mod.rs"]
 mod kit;
 mod example_frames;
-mod example_learning_switch;
 
 mod checks;
 mod content;

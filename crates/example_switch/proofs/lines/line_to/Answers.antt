@@ -13,6 +13,6 @@ returns c =
     let frame : drop 4 c.as_mut_slice.result.now ≡ a.frame.now = search rules in
     if_ok c.send_line.result _ _
     (λ text line hs e walk.
-    subst (λ (l : List ℕ). HasLine a.decision a.from.now a.to.now l hs e (string_bytes text)) frame
+    subst (λ (l : List ℕ). HasLine a.received.now a.to a.port.now l hs e (string_bytes text)) frame
     (line hs e (subst (λ (l : List ℕ). Walk (start_of starts.Ethernet2) l hs e) (sym frame) walk)))
     c.send_line.ensures

@@ -70,6 +70,7 @@ pub fn run_limited<R: Read, W: Write>(
 /// # use etherpeel::ether_filter::*;
 /// # use etherpeel::ether_pcap::*;
 /// # use etherpeel::ether_content::*;
+/// # use etherpeel::ether_switch::*;
 /// # use ether_tools::ether_text::*;
 /// # use ether_tools::ether_text::tool::*;
 /// # use ether_tools::ether_text::tool::run::*;

@@ -29,6 +29,7 @@ pub const REQUEST_LEN: usize = 46;
 /// # use etherpeel::ether_filter::*;
 /// # use etherpeel::ether_pcap::*;
 /// # use etherpeel::ether_content::*;
+/// # use etherpeel::ether_switch::*;
 /// # use etherpeel::example_frames::arp_generator::*;
 /// # fn main() -> Result<(), Box<dyn std::error::Error>> {
 /// let mut frame = [0; REQUEST_LEN];

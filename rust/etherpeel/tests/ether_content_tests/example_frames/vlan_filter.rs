@@ -22,6 +22,7 @@ use etherpeel::{EtherType, VlanId};
 /// # use etherpeel::ether_filter::*;
 /// # use etherpeel::ether_pcap::*;
 /// # use etherpeel::ether_content::*;
+/// # use etherpeel::ether_switch::*;
 /// # use etherpeel::example_frames::vlan_filter::*;
 /// # fn main() -> Result<(), Box<dyn std::error::Error>> {
 /// let frame = [

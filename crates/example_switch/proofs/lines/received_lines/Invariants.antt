@@ -5,11 +5,11 @@ use Rattle.ether_peel.specs.Grammar.Stack.{Ending, Walk}
 use Rattle.ether_peel.specs.Walker.Start.{start_of}
 use Rattle.ether_peel.specs.declared.start.Start.TheVariants as starts
 use Rattle.example_switch.specs.Lines.{HasLines}
-use Rattle.example_switch.proofs.lines.decided_lines.Given as goal
+use Rattle.example_switch.proofs.lines.received_lines.Given as goal
 
 -- the text so far is that of the ports before, whatever the others have
 abbrev pub invariant-loop-i : goal.invariant-loop-i
 invariant-loop-i l =
     (hs : List Header) (e : Ending) → Walk (start_of starts.Ethernet2) l.fn.frame hs e → (later : List ℕ)
-    → HasLines l.fn.decision l.fn.from l.fn.frame hs e (l.i + 1) (drop l.i l.fn.ports) later
-    → HasLines l.fn.decision l.fn.from l.fn.frame hs e 1 l.fn.ports (string_bytes l.text ++ later)
+    → HasLines l.fn.received l.fn.frame hs e (l.i + 1) (drop l.i l.fn.ports) later
+    → HasLines l.fn.received l.fn.frame hs e 1 l.fn.ports (string_bytes l.text ++ later)

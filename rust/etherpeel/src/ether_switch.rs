@@ -1,0 +1,63 @@
+//! The forwarding of a bridge with VLANs (IEEE 802.1Q). No call allocates memory.
+//!
+//! A [`Bridge`] receives a frame by a port: it learns where the frame's source is, in a [`StationTable`], and decides where the
+//! frame goes. The frame then leaves by each of these ports, made ready in place: [`Received::send`].
+//!
+//! ```
+//! # use etherpeel::*;
+//! # use etherpeel::ether_peel::*;
+//! # use etherpeel::ether_sll2::*;
+//! # use etherpeel::ether_packet::*;
+//! # use etherpeel::ether_filter::*;
+//! # use etherpeel::ether_pcap::*;
+//! # use etherpeel::ether_content::*;
+//! # use etherpeel::ether_switch::*;
+//! # fn main() -> Result<(), Box<dyn std::error::Error>> {
+//! let vlan = Vlan::try_new(10)?;
+//! let (access, trunk) = (PortConfig::access(vlan), PortConfig::trunk());
+//! let bridge = Bridge {
+//!     kind: BridgeKind::Customer,
+//!     ageing_time: Bridge::AGEING_TIME,
+//!     static_entries: &[],
+//! };
+//! let mut table = StationTable::<64>::new();
+//! let mut buffer = [
+//!     0x00, 0x00, 0x00, 0x00, // free
+//!     0xFF, 0xFF, 0xFF, 0xFF, 0xFF, 0xFF, 0x02, 0x00, 0x00, 0x00, 0x00, 0x01, 0x08, 0x06, // Ethernet II
+//!     0x00,
+//! ];
+//! if let Ok(received) = bridge.receive(&mut table, 0, 1, &access, &buffer[4..]) {
+//!     assert_eq!(received.decision, Forwarding::Flood);
+//!     assert_eq!(received.send(2, &trunk, &mut buffer), Some(0));
+//!     assert_eq!(buffer, [
+//!         0xFF, 0xFF, 0xFF, 0xFF, 0xFF, 0xFF, 0x02, 0x00, 0x00, 0x00, 0x00, 0x01, 0x81, 0x00, // Ethernet II
+//!         0x00, 0x0A, 0x08, 0x06, // VLAN
+//!         0x00,
+//!     ]);
+//! }
+//! # Ok(())
+//! # }
+//! ```
+//!
+//! Left out are spanning trees (the caller passes no frames of a port that is blocked), the registration of VLANs and groups
+//! (frames to a group go to all members of the VLAN), shared learning (each VLAN learns for itself), and tables that map
+//! priorities. [`laws`] has what is proved of all frames and histories.
+
+mod arrival;
+mod bridge;
+mod kind;
+mod port;
+mod received;
+mod retagging;
+mod stations;
+mod vlan;
+mod vlan_set;
+
+pub use arrival::Discarded;
+pub use bridge::{Bridge, StaticEntry};
+pub use kind::BridgeKind;
+pub use port::{AcceptableFrames, PortConfig};
+pub use received::{Forwarding, Received};
+pub use stations::StationTable;
+pub use vlan::{Vlan, VlanError};
+pub use vlan_set::VlanSet;

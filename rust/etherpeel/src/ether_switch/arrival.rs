@@ -1,0 +1,198 @@
+//! Frames that come in by a port.
+
+use crate::ether_switch::{AcceptableFrames, BridgeKind, PortConfig, Vlan};
+use crate::ether_base::big_endian::u64_of;
+use crate::ether_packet::{EthernetFront, ethernet_front};
+use crate::VlanPcp;
+use core::error::Error;
+use core::fmt;
+
+/// Why a bridge discards a frame. The first that applies is named.
+#[derive(Clone, Copy, PartialEq, Eq, Debug)]
+pub enum Discarded {
+    /// It has fewer than 14 bytes.
+    NoHeader,
+    /// Its tag is cut short.
+    CutTag,
+    /// Its tag has the identifier 4095, which is reserved (IEEE 802.1Q, table 9-2).
+    ReservedIdentifier,
+    /// Its source is the address of a group, or all zeros.
+    Source,
+    /// The port does not take frames with such a tag, or without one (IEEE 802.1Q, 6.9).
+    FrameType,
+    /// The port is not a member of its VLAN, and has ingress filtering (IEEE 802.1Q, 8.6.2).
+    NotAMember,
+    /// Its destination is a reserved address (IEEE 802.1Q, 8.6.3).
+    ReservedAddress,
+}
+
+impl fmt::Display for Discarded {
+    fn fmt(&self, f: &mut fmt::Formatter<'_>) -> fmt::Result {
+        f.write_str(match self {
+            Discarded::NoHeader => "The frame is shorter than its header.",
+            Discarded::CutTag => "The frame's tag is cut short.",
+            Discarded::ReservedIdentifier => "The identifier in the frame's tag is reserved.",
+            Discarded::Source => "The frame's source is not the address of a station.",
+            Discarded::FrameType =>
+                "The port does not take frames with such a tag, or without one.",
+            Discarded::NotAMember => "The port is not a member of the frame's VLAN.",
+            Discarded::ReservedAddress => "The frame's destination is reserved.",
+        })
+    }
+}
+
+impl Error for Discarded {}
+
+/// How a frame names its VLAN (IEEE 802.1Q, 3).
+#[derive(Clone, Copy, PartialEq, Eq, Debug)]
+pub(crate) enum Tagging {
+    Untagged,
+    PriorityTagged,
+    VlanTagged,
+}
+
+/// A frame that a port takes, its addresses as numbers of 48 bits.
+#[derive(Clone, Copy, Debug)]
+pub(crate) struct Admitted {
+    pub vlan: Vlan,
+    pub priority: VlanPcp,
+    pub drop_eligible: bool,
+    pub source: u64,
+    pub destination: u64,
+}
+
+/// What a port makes of a frame.
+#[inline]
+pub(crate) fn admit(
+    kind: BridgeKind,
+    port: &PortConfig,
+    frame: &[u8],
+) -> Result<Admitted, Discarded> {
+    match read_front(kind, frame) {
+        Ok(front) => admit_front(port, &front),
+        Err(reason) => Err(reason),
+    }
+}
+
+/// What a port makes of a frame that begins like this.
+#[inline]
+fn admit_front(port: &PortConfig, front: &EthernetFront) -> Result<Admitted, Discarded> {
+    let Some(vlan) = vlan_for(port.pvid, front) else {
+        return Err(Discarded::ReservedIdentifier);
+    };
+    match refusal(port, front, vlan) {
+        Some(reason) => Err(reason),
+        None => Ok(taken(port, front, vlan)),
+    }
+}
+
+/// The header of a frame, and its tag if it has one of the bridge.
+#[inline]
+pub(crate) fn read_front(kind: BridgeKind, frame: &[u8]) -> Result<EthernetFront, Discarded> {
+    let Some(front) = ethernet_front(frame) else {
+        return Err(Discarded::NoHeader);
+    };
+    if front.link.ether_type != kind.tpid() {
+        return Ok(EthernetFront {
+            link: front.link,
+            vlan: None,
+        });
+    }
+    match front.vlan {
+        Some(_) => Ok(front),
+        None => Err(Discarded::CutTag),
+    }
+}
+
+/// The VLAN of a frame; `None` if its tag has the reserved identifier.
+#[inline]
+fn vlan_for(pvid: Vlan, front: &EthernetFront) -> Option<Vlan> {
+    match front.vlan {
+        Some(tag) if tag.vlan_id.value() != 0 => Vlan::try_new(tag.vlan_id.value()).ok(),
+        _ => Some(pvid),
+    }
+}
+
+/// Why a port refuses a frame of a VLAN, if it does.
+#[inline]
+fn refusal(port: &PortConfig, front: &EthernetFront, vlan: Vlan) -> Option<Discarded> {
+    if !is_station(address_of(front.link.source)) {
+        return Some(Discarded::Source);
+    }
+    if !admits(port.frame_types, tagging_in(front)) {
+        return Some(Discarded::FrameType);
+    }
+    if port.ingress_filtering && !port.members.contains(vlan) {
+        return Some(Discarded::NotAMember);
+    }
+    None
+}
+
+/// A frame of a VLAN that a port takes.
+#[inline]
+fn taken(port: &PortConfig, front: &EthernetFront, vlan: Vlan) -> Admitted {
+    Admitted {
+        vlan,
+        priority: priority(port.default_priority, front),
+        drop_eligible: is_drop_eligible(front),
+        source: address_of(front.link.source),
+        destination: address_of(front.link.destination),
+    }
+}
+
+/// The priority of a frame.
+#[inline]
+fn priority(default_priority: VlanPcp, front: &EthernetFront) -> VlanPcp {
+    match front.vlan {
+        Some(tag) => tag.pcp,
+        None => default_priority,
+    }
+}
+
+/// Whether a frame may be dropped first.
+#[inline]
+fn is_drop_eligible(front: &EthernetFront) -> bool {
+    match front.vlan {
+        Some(tag) => tag.drop_eligible_indicator,
+        None => false,
+    }
+}
+
+/// How a frame names its VLAN.
+#[inline]
+fn tagging_in(front: &EthernetFront) -> Tagging {
+    match front.vlan {
+        None => Tagging::Untagged,
+        Some(tag) if tag.vlan_id.value() == 0 => Tagging::PriorityTagged,
+        Some(_) => Tagging::VlanTagged,
+    }
+}
+
+/// Whether a port takes frames that name their VLAN like this.
+#[inline]
+fn admits(frame_types: AcceptableFrames, tagging: Tagging) -> bool {
+    match frame_types {
+        AcceptableFrames::All => true,
+        AcceptableFrames::OnlyVlanTagged => tagging == Tagging::VlanTagged,
+        AcceptableFrames::OnlyUntaggedAndPriorityTagged => tagging != Tagging::VlanTagged,
+    }
+}
+
+/// An address as one number.
+#[inline]
+pub(crate) fn address_of(bytes: [u8; 6]) -> u64 {
+    let [a, b, c, d, e, f] = bytes;
+    u64_of([0, 0, a, b, c, d, e, f])
+}
+
+/// Whether an address is one of a single station.
+#[inline]
+fn is_station(address: u64) -> bool {
+    !is_group(address) && address != 0
+}
+
+/// Whether an address is that of a group.
+#[inline]
+pub(crate) fn is_group(address: u64) -> bool {
+    address / (1 << 40) % 2 == 1
+}

@@ -1,0 +1,138 @@
+//! How the ports of a bridge are set up.
+
+use crate::ether_switch::{Vlan, VlanSet};
+use crate::VlanPcp;
+
+/// Which frames a port takes (IEEE 802.1Q, 6.9).
+#[derive(Clone, Copy, PartialEq, Eq, Debug)]
+pub enum AcceptableFrames {
+    /// All.
+    All,
+    /// Those with a tag that names a VLAN.
+    OnlyVlanTagged,
+    /// Those without a tag, and those with a tag whose identifier is 0.
+    OnlyUntaggedAndPriorityTagged,
+}
+
+/// How a port of a bridge is set up.
+#[derive(Clone, Copy, Debug)]
+pub struct PortConfig {
+    /// The VLAN of a frame that comes without a tag, or with one that has a priority alone (PVID).
+    pub pvid: Vlan,
+    /// The VLANs whose frames leave by the port (IEEE 802.1Q, 8.8.10).
+    pub members: VlanSet,
+    /// Those whose frames leave without a tag (IEEE 802.1Q, 8.8.2).
+    pub untagged: VlanSet,
+    /// Which frames it takes.
+    pub frame_types: AcceptableFrames,
+    /// Whether it discards frames of a VLAN that it is not a member of (IEEE 802.1Q, 8.6.2).
+    pub ingress_filtering: bool,
+    /// The priority of a frame that comes without a tag (IEEE 802.1Q, 12.6.2).
+    pub default_priority: VlanPcp,
+}
+
+impl PortConfig {
+    /// A port for stations of one VLAN, whose frames have no tag, or one that has a priority alone.
+    ///
+    /// ```
+    /// # use etherpeel::*;
+    /// # use etherpeel::ether_peel::*;
+    /// # use etherpeel::ether_sll2::*;
+    /// # use etherpeel::ether_packet::*;
+    /// # use etherpeel::ether_filter::*;
+    /// # use etherpeel::ether_pcap::*;
+    /// # use etherpeel::ether_content::*;
+    /// # use etherpeel::ether_switch::*;
+    /// # fn main() -> Result<(), Box<dyn std::error::Error>> {
+    /// let vlan = Vlan::try_new(10)?;
+    /// let port = PortConfig::access(vlan);
+    /// assert!(port.members.contains(vlan) && port.untagged.contains(vlan));
+    /// # Ok(())
+    /// # }
+    /// ```
+    ///
+    /// <details><summary>Contract</summary>
+    ///
+    /// ```text
+    /// ensures pvid { result.pvid ≡ vlan }
+    /// ensures members { (v : ℕ) → v < 4096 → has result.members v ≡ nat_eq v vlan }
+    /// ensures untagged { (v : ℕ) → v < 4096 → has result.untagged v ≡ nat_eq v vlan }
+    /// ensures frame_types { result.frame_types ≡ AcceptableFrames.OnlyUntaggedAndPriorityTagged }
+    /// ensures ingress_filtering { result.ingress_filtering ≡ true }
+    /// ensures default_priority { result.default_priority ≡ 0 }
+    /// ```
+    ///
+    /// </details>
+    #[inline]
+    pub fn access(vlan: Vlan) -> PortConfig {
+        let own = only(vlan);
+        PortConfig {
+            pvid: vlan,
+            members: own,
+            untagged: own,
+            frame_types: AcceptableFrames::OnlyUntaggedAndPriorityTagged,
+            ingress_filtering: true,
+            default_priority: VlanPcp::ZERO,
+        }
+    }
+
+    /// A port to another bridge: a member of all VLANs, whose frames have the tag of their VLAN.
+    ///
+    /// ```
+    /// # use etherpeel::*;
+    /// # use etherpeel::ether_peel::*;
+    /// # use etherpeel::ether_sll2::*;
+    /// # use etherpeel::ether_packet::*;
+    /// # use etherpeel::ether_filter::*;
+    /// # use etherpeel::ether_pcap::*;
+    /// # use etherpeel::ether_content::*;
+    /// # use etherpeel::ether_switch::*;
+    /// # fn main() -> Result<(), Box<dyn std::error::Error>> {
+    /// let vlan = Vlan::try_new(10)?;
+    /// let port = PortConfig::trunk();
+    /// assert!(port.members.contains(vlan) && !port.untagged.contains(vlan));
+    /// # Ok(())
+    /// # }
+    /// ```
+    ///
+    /// <details><summary>Contract</summary>
+    ///
+    /// ```text
+    /// ensures pvid { result.pvid ≡ 1 }
+    /// ensures members { (v : ℕ) → 1 ≤ v → v ≤ 4094 → has result.members v ≡ true }
+    /// ensures untagged { (v : ℕ) → v < 4096 → has result.untagged v ≡ false }
+    /// ensures frame_types { result.frame_types ≡ AcceptableFrames.OnlyVlanTagged }
+    /// ensures ingress_filtering { result.ingress_filtering ≡ true }
+    /// ensures default_priority { result.default_priority ≡ 0 }
+    /// ```
+    ///
+    /// </details>
+    #[inline]
+    pub fn trunk() -> PortConfig {
+        PortConfig {
+            pvid: default_pvid(),
+            members: VlanSet::all(),
+            untagged: VlanSet::new(),
+            frame_types: AcceptableFrames::OnlyVlanTagged,
+            ingress_filtering: true,
+            default_priority: VlanPcp::ZERO,
+        }
+    }
+}
+
+/// The set of one VLAN.
+#[inline]
+fn only(vlan: Vlan) -> VlanSet {
+    let mut set = VlanSet::new();
+    set.insert(vlan);
+    set
+}
+
+/// The VLAN that ports have at first (IEEE 802.1Q, table 9-2).
+#[inline]
+fn default_pvid() -> Vlan {
+    match Vlan::try_new(1) {
+        Ok(vlan) => vlan,
+        Err(_) => unreachable!(),
+    }
+}

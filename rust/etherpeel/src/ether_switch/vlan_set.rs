@@ -1,0 +1,115 @@
+//! Sets of VLANs.
+
+use crate::ether_switch::Vlan;
+
+/// A set of VLANs.
+///
+/// ```
+/// # use etherpeel::*;
+/// # use etherpeel::ether_peel::*;
+/// # use etherpeel::ether_sll2::*;
+/// # use etherpeel::ether_packet::*;
+/// # use etherpeel::ether_filter::*;
+/// # use etherpeel::ether_pcap::*;
+/// # use etherpeel::ether_content::*;
+/// # use etherpeel::ether_switch::*;
+/// # fn main() -> Result<(), Box<dyn std::error::Error>> {
+/// let (first, second) = (Vlan::try_new(1)?, Vlan::try_new(2)?);
+/// let mut set = VlanSet::new();
+/// set.insert(first);
+/// assert!(set.contains(first) && !set.contains(second));
+/// # Ok(())
+/// # }
+/// ```
+#[derive(Clone, Copy, PartialEq, Eq, Debug)]
+pub struct VlanSet {
+    words: [u64; 64],
+}
+
+impl VlanSet {
+    /// No VLAN.
+    ///
+    /// <details><summary>Contract</summary>
+    ///
+    /// ```text
+    /// ensures { (v : ℕ) → v < 4096 → has result v ≡ false }
+    /// ```
+    ///
+    /// </details>
+    #[inline]
+    pub fn new() -> VlanSet {
+        VlanSet { words: [0; 64] }
+    }
+
+    /// All VLANs.
+    ///
+    /// <details><summary>Contract</summary>
+    ///
+    /// ```text
+    /// ensures { (v : ℕ) → 1 ≤ v → v ≤ 4094 → has result v ≡ true }
+    /// ```
+    ///
+    /// </details>
+    #[inline]
+    pub fn all() -> VlanSet {
+        let mut set = VlanSet::new();
+        for id in 1..4095 {
+            if let Ok(vlan) = Vlan::try_new(id) {
+                set.insert(vlan);
+            }
+        }
+        set
+    }
+
+    /// Whether a VLAN is in the set.
+    ///
+    /// <details><summary>Contract</summary>
+    ///
+    /// ```text
+    /// ensures { result ≡ has self.now vlan }
+    /// ```
+    ///
+    /// </details>
+    #[inline]
+    pub fn contains(&self, vlan: Vlan) -> bool {
+        let id = vlan.id().value();
+        (self.words[id as usize / 64] >> (id % 64)) & 1 == 1
+    }
+
+    /// Puts a VLAN in.
+    ///
+    /// <details><summary>Contract</summary>
+    ///
+    /// ```text
+    /// ensures { (v : ℕ) → v < 4096 → has self.new v ≡ (nat_eq v vlan || has self.old v) }
+    /// ```
+    ///
+    /// </details>
+    #[inline]
+    pub fn insert(&mut self, vlan: Vlan) {
+        let id = vlan.id().value();
+        self.words[id as usize / 64] |= 1 << (id % 64);
+    }
+
+    /// Takes a VLAN out.
+    ///
+    /// <details><summary>Contract</summary>
+    ///
+    /// ```text
+    /// ensures { (v : ℕ) → v < 4096 → has self.new v ≡ (not (nat_eq v vlan) && has self.old v) }
+    /// ```
+    ///
+    /// </details>
+    #[inline]
+    pub fn remove(&mut self, vlan: Vlan) {
+        let id = vlan.id().value();
+        self.words[id as usize / 64] &= !(1 << (id % 64));
+    }
+}
+
+impl Default for VlanSet {
+    #[inline]
+    fn default() -> VlanSet {
+        VlanSet::new()
+    }
+}
