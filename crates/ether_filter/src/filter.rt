@@ -208,11 +208,14 @@ impl Filter {
     }
 }
 
-/// What the headers of a packet show, if a node asks for them and there is room for it.
+/// What the headers of a packet show, if a node asks for them, there are several, and there is room for it.
 fn look_for(nodes: &[Node], start: Start, frame: &[u8]) -> Option<Seen>
     ensures bytes { IsBytes frame.now }
     ensures seen { (hs : List Header) (e : Ending) → Walk (start_of start) frame.now hs e → IsSeen (next_of start) hs e result }
 {
+    if nodes.len() < 2 {
+        return None; // one primitive takes a walk of its own, which keeps nothing of the others
+    }
     for node in nodes {
         if asks_headers(*node) {
             return look(start, frame);

@@ -208,9 +208,12 @@ impl Filter {
     }
 }
 
-/// What the headers of a packet show, if a node asks for them and there is room for it.
+/// What the headers of a packet show, if a node asks for them, there are several, and there is room for it.
 #[inline]
 fn look_for(nodes: &[Node], start: Start, frame: &[u8]) -> Option<Seen> {
+    if nodes.len() < 2 {
+        return None; // one primitive takes a walk of its own, which keeps nothing of the others
+    }
     for node in nodes {
         if asks_headers(*node) {
             return look(start, frame);
