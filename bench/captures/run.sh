@@ -8,8 +8,9 @@ program=$(realpath "${1:?the built program}")
 work=$(mktemp -d)
 trap 'rm -rf "$work"' EXIT
 python3 "$here/make.py" "$work" "${2:-100}"
+rounds=${3:-7}
 
-set -- "${3:-7}" -- "cat=$(command -v cat)" "plain=$program --plain" "lines=$program" "write=$program --write" \
+set -- "$rounds" -- "cat=$(command -v cat)" "plain=$program --plain" "lines=$program" "write=$program --write" \
     "select=$program --select 'vlan 5' --write" "headers=$program --write --cut-to-headers"
 if gcc -O2 -o "$work/walk" "$here/walk.c" -lpcap 2> /dev/null; then
     set -- "$@" "libpcap=$work/walk"
@@ -26,6 +27,15 @@ for file in mixed small; do
     echo "-- $file"
     python3 "$here/../tool/race.py" "$work/$file.pcap" "$@" 2> /dev/null
 done
+
+if command -v tcpdump > /dev/null 2>&1; then
+    for terms in 1 4 8 16 64; do
+        words="vlan $(seq -s ' or vlan ' 1 "$terms")"
+        echo "-- small, vlan 1 to vlan $terms"
+        python3 "$here/../tool/race.py" "$work/small.pcap" "$rounds" -- "select=$program --select '$words' --write" \
+            "filter=$(command -v tcpdump) -r - -w /dev/null '$words'" 2> /dev/null
+    done
+fi
 
 echo "-- a block of 15 MiB in pieces of 4 KiB"
 set -- "write=$program --write" "plain=$program --plain"

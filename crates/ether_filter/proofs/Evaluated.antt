@@ -1,23 +1,15 @@
 -- The values of the expressions that are read.
 use Rattle.std.proofs.Common.{◌≡◌, ℕ, ◌+◌, ◌-◌, ◌<◌, ◌≤◌, length, drop, add-one, drop-cons, ap, List, [], ◌∷◌, ◌++◌, refl, sym, subst, ◌∙◌, reverse}
 use Rattle.std.specs.Prelude.{unwrap_or, slice_get, slice_index_or}
-use Rattle.ether_filter.specs.declared.primitive.Primitive.{Primitive}
 use Rattle.ether_filter.specs.declared.node.Operator.{Operator}
 use Rattle.ether_filter.specs.declared.node.Node.{Node}
 use Rattle.ether_filter.specs.declared.node.Node.TheVariants as nodes
-use Rattle.ether_filter.specs.Expressions.{Expression, Test, Join}
+use Rattle.ether_filter.specs.Expressions.{Expression, Join}
 use Rattle.ether_filter.specs.Postfix.{trees-postfix, postfix, pushed, trees, first, expression_of}
 use Rattle.ether_filter.specs.Evaluation.{AreValues}
 use Rattle.std.proofs.lemmas.List.{append-nil, reverse-append, reverse-reverse, drop_all}
 
 -- ---- a step, with the last value at the end of the list
-
-pub test_step : {V : Type 0} (Is : V → Expression → Type 0) (old new : List V) (xs : List Expression) (v : V)
-    (p : Primitive) → new ≡ old ++ v ∷ [] → Is v (Test p) → AreValues Is (reverse old) xs
-    → AreValues Is (reverse new) (pushed xs (nodes.Test p))
-test_step {V} Is old new xs v p is value are =
-    subst (λ (vs : List V). AreValues Is vs (Test p ∷ xs)) (sym (ap reverse is ∙ reverse-append old (v ∷ [])))
-    (value, are)
 
 joined_values : {V : Type 0} (Is : V → Expression → Type 0) (vs : List V) (xs : List Expression) (operator : Operator)
     (left right v : V) → ((x y : Expression) → Is left x → Is right y → Is v (Join operator x y))

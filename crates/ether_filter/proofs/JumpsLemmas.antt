@@ -84,12 +84,8 @@ filled_test (Test q) ns front old end d p j some inside room is all =
       jumps = get_or-set_at old (end - 1) (length front) j no_jump (sym len) (omega (arith, some, room));
       same = λ i le. get_or-set_other old (end - 1) i j no_jump (λ at. omega (arith, at, le, some));
     }
-filled_test (Not x) ns front old end d p j some inside room is all =
-    let e = at_end (Not x) ns front end d (nodes.Test p) some inside is all in
-    let never = e.1 in absurd cc
-filled_test (Join operator x y) ns front old end d p j some inside room is all =
-    let e = at_end (Join operator x y) ns front end d (nodes.Test p) some inside is all in
-    let never = e.1 in absurd cc
+filled_test x ns front old end d p j some inside room is all =
+    let never = (at_end x ns front end d (nodes.Test p) some inside is all).1 in absurd cc
 
 -- what a call fills in of nodes up to an end
 abbrev Fills : List Node → List Jump → List Jump → ℕ → Jump → ℕ → Type 0
@@ -101,16 +97,12 @@ pub filled_not : (x : Expression) (ns front : List Node) (old new : List Jump) (
     (result : ℕ) → 0 < end → end ≤ length ns → get_or ns (end - 1) d ≡ nodes.Not
     → take end ns ≡ front ++ postfix x → Fills ns old new (end - 1) (negated j) result
     → AreFilled old new (length front) end x j result
-filled_not (Test q) ns front old new end d j result some inside is all fills =
-    let e = at_end (Test q) ns front end d nodes.Not some inside is all in
-    let never = e.1 in absurd cc
 filled_not (Not x) ns front old new end d j result some inside is all fills =
     let e = at_end (Not x) ns front end d nodes.Not some inside is all in
     let f = fills x front (sym e.0) in
     record { at = f.at; jumps = f.jumps; same = λ i le. f.same i (omega (arith, le)) }
-filled_not (Join operator x y) ns front old new end d j result some inside is all fills =
-    let e = at_end (Join operator x y) ns front end d nodes.Not some inside is all in
-    let never = e.1 in absurd cc
+filled_not x ns front old new end d j result some inside is all fills =
+    let never = (at_end x ns front end d nodes.Not some inside is all).1 in absurd cc
 
 take_front : (ns a b : List Node) (n m : ℕ) → m ≡ length a → take n ns ≡ a ++ b → take m ns ≡ a
 take_front ns a b n m len is =
@@ -123,12 +115,6 @@ pub filled_join : (x : Expression) (ns front : List Node) (old between new : Lis
     → get_or ns (end - 1) d ≡ nodes.Join operator → take end ns ≡ front ++ postfix x
     → Fills ns old between (end - 1) j middle → Fills ns between new middle (before operator middle j) result
     → AreFilled old new (length front) end x j result
-filled_join (Test q) ns front old between new end d operator j middle result some inside below is all right left =
-    let e = at_end (Test q) ns front end d (nodes.Join operator) some inside is all in
-    let never = e.1 in absurd cc
-filled_join (Not x) ns front old between new end d operator j middle result some inside below is all right left =
-    let e = at_end (Not x) ns front end d (nodes.Join operator) some inside is all in
-    let never = e.1 in absurd cc
 filled_join (Join op x y) ns front old between new end d operator j middle result some inside below is all right left =
     let e = at_end (Join op x y) ns front end d (nodes.Join operator) some inside is all in
     let whole = e.1 in
@@ -144,6 +130,8 @@ filled_join (Join op x y) ns front old between new end d operator j middle resul
       );
       same = λ i le. first.same i (omega (arith, le, below)) ∙ last.same i (omega (arith, le));
     }
+filled_join x ns front old between new end d operator j middle result some inside below is all right left =
+    let never = (at_end x ns front end d (nodes.Join operator) some inside is all).1 in absurd cc
 
 -- ---- where the jumps lead
 

@@ -24,9 +24,6 @@ AreValues Is _ _ = ⊥
 abbrev pub IsTruth : Walked → Bool → Expression → Type 0
 IsTruth p b x = IsTrue b ↔ Holds x p
 
-abbrev pub AreTruths : Walked → List Bool → List Expression → Type 0
-AreTruths p bs xs = AreValues (IsTruth p) bs xs
-
 abbrev pub joined_truth : Operator → (left right : Bool) → Bool
 joined_truth operators.And left right = left && right
 joined_truth operators.Or left right = left || right

@@ -1,5 +1,5 @@
 -- What one walk shows of all primitives, as far as there is room for it.
-use Rattle.std.specs.Prelude.{◌≡◌, ℕ, List, ◌++◌, Option, Some, None, Bool, true, false, nat_eq, nat_lt, nat_le, is_some}
+use Rattle.std.specs.Prelude.{◌≡◌, ℕ, List, ◌++◌, Option, Some, None, Bool, true, false, nat_eq, nat_lt, nat_le, is_some, ◌&&◌, length}
 use Rattle.std.specs.List.{list_any}
 use Rattle.etherparse.specs.Header.{Header}
 use Rattle.ether_peel.specs.Grammar.Expectation.{Next}
@@ -57,6 +57,15 @@ tag_id _ = None
 abbrev pub fits : Option Addresses → Fields → Bool
 fits (Some link) (Link destination source) = false
 fits link _ = true
+
+-- eight identifiers and eight ether types are kept
+abbrev pub has_room : ℕ → Option ℕ → Bool
+has_room count None = true
+has_room count (Some number) = nat_lt count 8
+
+abbrev pub takes : Seen → Fields → Option ℕ → Bool
+takes s fields announced =
+    fits s.told.link fields && (has_room (length s.ids.items) (tag_id fields) && has_room (length s.types.items) announced)
 
 pub record IsTaken (s : Seen) (fields : Fields) (announced : Option ℕ) (t : Seen) : Type 0 where
   pub fitting : fits s.told.link fields ≡ true

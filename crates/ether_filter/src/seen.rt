@@ -1,12 +1,12 @@
 //! What one walk through a packet shows of all primitives.
-ghost use Rattle.std.specs.Prelude.{◌≡◌, ◌++◌, ℕ, List, IsTrue, nat_eq, []};
+ghost use Rattle.std.specs.Prelude.{◌≡◌, ◌++◌, ℕ, List, IsTrue, nat_eq, [], length};
 ghost use Rattle.std.specs.List.{list_any};
 ghost use Rattle.etherparse.specs.Header.{Header};
 ghost use Rattle.ether_peel.specs.Grammar.Stack.{Ending, Walk};
 ghost use Rattle.ether_peel.specs.Walker.Start.{start_of, next_of};
 ghost use Rattle.ether_filter.specs.Primitives.{listed};
 ghost use Rattle.ether_filter.specs.Jumps.{is_untagged as is_untagged_of};
-ghost use Rattle.ether_filter.specs.Seen.{told_after as told_after_of, tag_id as tag_id_of, fits as fits_of, matches_seen, begun, IsTaken, IsSeen};
+ghost use Rattle.ether_filter.specs.Seen.{told_after as told_after_of, tag_id as tag_id_of, fits as fits_of, has_room, takes, matches_seen, begun, IsTaken, IsSeen};
 
 use crate::fields::{Fields, announced_type, is_shown_by_link, read_fields};
 use crate::primitive::Primitive;
@@ -92,7 +92,8 @@ fn begin(announced: Option<u16>) -> Seen
 
 /// Takes one header more. Returns `false` if there is no room for what it shows.
 fn take(seen: &mut Seen, fields: Fields, announced: Option<u16>) -> bool
-    ensures { IsTrue result → IsTaken seen.old fields announced seen.new }
+    ensures room { result ≡ takes seen.old fields announced }
+    ensures taken { IsTrue result → IsTaken seen.old fields announced seen.new }
 {
     if !fits(seen.told.link, fields) {
         return false;
@@ -157,7 +158,8 @@ fn tag_id(fields: Fields) -> Option<u16>
 
 /// Keeps a number, if there is one. Returns `false` if there is no room for it.
 fn keep(numbers: &mut ArrayVec<u16, ROOM>, number: Option<u16>) -> bool
-    ensures { IsTrue result → numbers.new.items ≡ numbers.old.items ++ listed number }
+    ensures room { result ≡ has_room (length numbers.old.items) number }
+    ensures kept { IsTrue result → numbers.new.items ≡ numbers.old.items ++ listed number }
 {
     if let Some(number) = number {
         if numbers.is_full() {
