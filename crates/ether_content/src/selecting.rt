@@ -75,12 +75,18 @@ fn holds(filter: &Filter, start: Start, frame: &[u8], packet: &CapturedPacket<'_
 /// assert!(rt; is_undecided(&Filter::parse(b"vlan 291")?, &packet));
 /// assert!(rt; !is_undecided(&Filter::parse(b"vlan 291 or greater 60")?, &packet));
 /// ```
+#[inline(always)]
 pub fn is_undecided(filter: &Filter, packet: &CapturedPacket<'_>) -> bool
     ensures { IsTrue result ↔ IsUndecided filter.now (captured_packet_view packet.now) }
 {
-    if !is_cut(packet) {
-        return false;
-    }
+    is_cut(packet) && leaves_open(filter, packet)
+}
+
+/// Whether the captured bytes of a packet don't decide whether a filter selects it.
+#[inline(never)]
+fn leaves_open(filter: &Filter, packet: &CapturedPacket<'_>) -> bool
+    ensures { IsTrue result ↔ IsUndecided filter.now (captured_packet_view packet.now) }
+{
     let content = Content::of(packet);
     if let Content::LinuxSll2(bytes) = content {
         if bytes.len() < LinuxSll2Header::LEN {

@@ -209,6 +209,7 @@ impl Filter {
 }
 
 /// What the headers of a packet show, if a node asks for them, there are several, and there is room for it.
+#[inline]
 fn look_for(nodes: &[Node], start: Start, frame: &[u8]) -> Option<Seen>
     ensures bytes { IsBytes frame.now }
     ensures seen { (hs : List Header) (e : Ending) → Walk (start_of start) frame.now hs e → IsSeen (next_of start) hs e result }

@@ -51,6 +51,7 @@ impl Selection {
     }
 
     /// Tests that the captured bytes of a packet don't decide whether the filter selects it.
+    #[inline(always)]
     pub fn leaves_open(&self, packet: &CapturedPacket<'_>) -> bool
         ensures { IsTrue result ↔ IsOpen (Some self.now) (captured_packet_view packet.now) }
     {

@@ -60,6 +60,7 @@ impl Selection {
     /// ```
     ///
     /// </details>
+    #[inline(always)]
     pub fn leaves_open(&self, packet: &CapturedPacket<'_>) -> bool {
         is_undecided(&self.filter, packet)
     }

@@ -104,11 +104,14 @@ fn holds(filter: &Filter, start: Start, frame: &[u8], packet: &CapturedPacket<'_
 /// ```
 ///
 /// </details>
-#[inline]
+#[inline(always)]
 pub fn is_undecided(filter: &Filter, packet: &CapturedPacket<'_>) -> bool {
-    if !is_cut(packet) {
-        return false;
-    }
+    is_cut(packet) && leaves_open(filter, packet)
+}
+
+/// Whether the captured bytes of a packet don't decide whether a filter selects it.
+#[inline(never)]
+fn leaves_open(filter: &Filter, packet: &CapturedPacket<'_>) -> bool {
     let content = Content::of(packet);
     if let Content::LinuxSll2(bytes) = content {
         if bytes.len() < LinuxSll2Header::LEN {

@@ -6,7 +6,7 @@ use Rattle.ether_content.specs.Content.{ContentValue, IsWalked}
 use Rattle.ether_content.specs.ContentViews.{content_view}
 use Rattle.ether_content.specs.Selecting.{asked_of}
 use Rattle.ether_content.proofs.UndecidedLemmas.{asked_undecided, header_undecided}
-use Rattle.ether_content.proofs.selecting.is_undecided.Goals as goal
+use Rattle.ether_content.proofs.selecting.leaves_open.Goals as goal
 
 pub returns-then-bytes-lt-LEN : goal.returns-then-bytes-lt-LEN
 returns-then-bytes-lt-LEN c =
