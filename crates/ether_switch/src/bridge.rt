@@ -95,10 +95,7 @@ impl Bridge<'_> {
             → IsErr (arrival self.now.kind port.now hs) → table.new ≡ table.old }
         ensures never_back { IfOk result (λ r. includes r.decision from from ≡ false) }
     {
-        let frame = match admit(self.kind, port, frame) {
-            Ok(frame) => frame,
-            Err(reason) => return Err(reason),
-        };
+        let frame = admit(self.kind, port, frame)?;
         table.learn(Sighting {
             station: station(frame.vlan, frame.source),
             port: from,

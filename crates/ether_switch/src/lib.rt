@@ -30,7 +30,7 @@
 //!
 //! Left out are spanning trees (the caller passes no frames of a port that is blocked), the registration of VLANs and groups
 //! (frames to a group go to all members of the VLAN), shared learning (each VLAN learns for itself), and tables that map
-//! priorities. [`laws`] has what is proved of all frames and histories.
+//! priorities.
 #![tactic(auto)]
 
 mod arrival;

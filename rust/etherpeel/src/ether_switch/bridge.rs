@@ -103,10 +103,7 @@ impl Bridge<'_> {
         port: &PortConfig,
         frame: &[u8],
     ) -> Result<Received, Discarded> {
-        let frame = match admit(self.kind, port, frame) {
-            Ok(frame) => frame,
-            Err(reason) => return Err(reason),
-        };
+        let frame = admit(self.kind, port, frame)?;
         table.learn(Sighting {
             station: station(frame.vlan, frame.source),
             port: from,

@@ -14,7 +14,7 @@ returns-clause-history g c hs e walk earlier knows =
     let ageing = c.args.self.now.ageing_time in
     let now = c.args.now in
     let from = c.args.from in
-    let frame = c.in-Ok.frame in
+    let frame = c.in_ok-frame.frame in
     let history = sightings kind earlier in
     let seen = sighting now from frame ∷ history in
     let learned = c.learn.ensures history knows in
@@ -33,4 +33,4 @@ returns-clause-history g c hs e walk earlier knows =
     subst (λ (x : Result Admitted Discarded).
     (c.relay.result ≡ answer_by kind entries from (known_port n ageing now (seen_with now from x history)) x)
     × Knows n c.learn.new.self (seen_with now from x history))
-    (c.in-Ok.ensures.value hs e walk) (answers, knows_more)
+    (c.in_ok-frame.ensures.value hs e walk) (answers, knows_more)
