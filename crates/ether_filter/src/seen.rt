@@ -106,10 +106,7 @@ fn take(seen: &mut Seen, fields: Fields, announced: Option<u16>) -> bool
 fn fits(link: Option<Addresses>, fields: Fields) -> bool
     ensures { result ≡ fits_of link fields }
 {
-    match (link, fields) {
-        (Some(_), Fields::Link { .. }) => false,
-        _ => true,
-    }
+    !matches!((link, fields), (Some(_), Fields::Link { .. }))
 }
 
 /// What is told after one header more.

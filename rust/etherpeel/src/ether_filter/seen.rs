@@ -90,10 +90,7 @@ fn take(seen: &mut Seen, fields: Fields, announced: Option<u16>) -> bool {
 /// Whether no link is seen twice.
 #[inline]
 fn fits(link: Option<Addresses>, fields: Fields) -> bool {
-    match (link, fields) {
-        (Some(_), Fields::Link { .. }) => false,
-        _ => true,
-    }
+    !matches!((link, fields), (Some(_), Fields::Link { .. }))
 }
 
 /// What is told after one header more.
