@@ -28,6 +28,7 @@ COMMANDS = {
     "captures": [sys.executable, "tests/ether_capture.py", "crates/ether_capture/out/ether_capture"],
     "other programs": [sys.executable, "tests/other_programs.py", "crates/ether_capture/out/ether_capture"],
     "examples": [sys.executable, "tests/examples.py", *(f"crates/{name}/out/{name}" for name in ("example_switch", "example_vlan_rewriter"))],
+    "bridges": [sys.executable, "tests/bridges.py", "crates/example_switch/out/example_switch"],
     "C": ["sh", "c/test.sh", "proved"],
     "C by cargo": ["sh", "c/test.sh", "cargo"],
     "programs by cargo": [sys.executable, "rust/programs.py"],
