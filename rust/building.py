@@ -7,6 +7,7 @@ says why they can't be built here, if they can't.
 import os
 import re
 import shutil
+import signal
 import subprocess
 import sys
 
@@ -24,14 +25,19 @@ def debian():
     return ["--offline", *(word for it in source for word in ("--config", it))]
 
 
-def cargo(*words, folder=CRATE, **environment):
-    """What cargo printed, and its status."""
+def cargo(*words, folder=CRATE, seconds=None, **environment):
+    """What cargo printed, and its status. A call of more than so many seconds, if they are given, is ended, with status 1."""
     name, *others = words
     at = others.index("--") if "--" in others else len(others)
     said = ["cargo", name, *others[:at], *debian(), *others[at:]]
     given = {**os.environ, "CARGO_TERM_COLOR": "never", **environment}
-    ran = subprocess.run(said, cwd=folder, env=given, stdin=subprocess.DEVNULL, capture_output=True, errors="replace")
-    return ran.stdout + ran.stderr, ran.returncode
+    with subprocess.Popen(said, cwd=folder, env=given, stdin=subprocess.DEVNULL, stdout=subprocess.PIPE, stderr=subprocess.PIPE, text=True,
+                          errors="replace", start_new_session=True) as ran:
+        try:
+            return "".join(ran.communicate(timeout=seconds)), ran.wait()
+        except subprocess.TimeoutExpired:
+            os.killpg(ran.pid, signal.SIGKILL)  # cargo, and the test that it runs
+            return "".join(ran.communicate()), 1
 
 
 def missing(folder=CRATE):

@@ -20,6 +20,7 @@ import building  # noqa: E402
 import drawn  # noqa: E402
 
 COUNT, FRAMES, WORKERS = 60, 20_000, 2
+SECONDS = 600  # a fault may make a test loop for ever
 SKIPPED = re.compile(r'//[^\n]*|"(?:\\.|[^"\\])*"|#!?\[[^\]]*\]|^ *(?:pub )?(?:use|mod) [^;]*;', re.M | re.S)
 CHANGES = [
     (r" \+ ", " - "), (r" - ", " + "), (r" \* ", " + "), (r" < ", " <= "), (r" <= ", " < "), (r" > ", " >= "),
@@ -85,7 +86,7 @@ def outcome(folder):
     crate = os.path.join(folder, "etherpeel")
     if building.cargo("build", "--tests", folder=crate)[1]:
         return "does not compile"
-    if building.cargo("test", "--no-fail-fast", folder=crate, RUST_TEST_THREADS="2")[1]:
+    if building.cargo("test", "--no-fail-fast", folder=crate, seconds=SECONDS, RUST_TEST_THREADS="2")[1]:
         return "caught by the tests"
     if building.cargo("build", "--release", folder=os.path.join(folder, "drawn"))[1]:
         return "does not compile"
