@@ -19,7 +19,7 @@ use crate::deciding::{Opening, find_opening, joined_value, known};
 use crate::decision::Decision;
 use crate::filter_error::{FilterError, FilterErrorKind};
 use crate::jumps::{HOLDS, Jump, is_of_tags, jumps_of, past_tags};
-use crate::matching::matches_primitive;
+use crate::matching::{matches_primitive, matches_walked};
 use crate::node::Node;
 use crate::packet::Packet;
 use crate::primitive::Primitive;
@@ -139,6 +139,17 @@ impl Filter {
         ensures { (hs : List Header) (e : Ending) → Walk (start_of packet.now.start) packet.now.frame.now hs e
             → IsTrue result ↔ Holds self.now (walked packet.now hs e) }
     {
+        if let [Node::Test(primitive)] = self.nodes.as_slice() {
+            return matches_walked(primitive, packet);
+        }
+        self.matches_by_jumps(packet)
+    }
+
+    /// Whether a packet matches, by what one walk shows of all primitives.
+    fn matches_by_jumps(&self, packet: &Packet<'_>) -> bool
+        ensures { (hs : List Header) (e : Ending) → Walk (start_of packet.now.start) packet.now.frame.now hs e
+            → IsTrue result ↔ Holds self.now (walked packet.now hs e) }
+    {
         let nodes = self.nodes.as_slice();
         let seen = look_for(nodes, packet.start, packet.frame);
         let untagged = is_untagged(&seen);
@@ -208,15 +219,12 @@ impl Filter {
     }
 }
 
-/// What the headers of a packet show, if a node asks for them, there are several, and there is room for it.
+/// What the headers of a packet show, if a node asks for them, and there is room for it.
 #[inline]
 fn look_for(nodes: &[Node], start: Start, frame: &[u8]) -> Option<Seen>
     ensures bytes { IsBytes frame.now }
     ensures seen { (hs : List Header) (e : Ending) → Walk (start_of start) frame.now hs e → IsSeen (next_of start) hs e result }
 {
-    if nodes.len() < 2 {
-        return None; // one primitive takes a walk of its own, which keeps nothing of the others
-    }
     for node in nodes {
         if asks_headers(*node) {
             return look(start, frame);

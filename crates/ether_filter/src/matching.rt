@@ -32,7 +32,7 @@ pub(crate) fn matches_primitive(
 
 /// Whether a primitive matches a packet, by a walk of its own.
 #[inline(never)]
-fn matches_walked(primitive: &Primitive, packet: &Packet<'_>) -> bool
+pub(crate) fn matches_walked(primitive: &Primitive, packet: &Packet<'_>) -> bool
     ensures { (hs : List Header) (e : Ending) → Walk (start_of packet.now.start) packet.now.frame.now hs e
         → IsTrue result ↔ Matches primitive.now (walked packet.now hs e) }
 {

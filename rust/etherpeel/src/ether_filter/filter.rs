@@ -4,7 +4,7 @@ use crate::ether_filter::deciding::{Opening, find_opening, joined_value, known};
 use crate::ether_filter::decision::Decision;
 use crate::ether_filter::filter_error::{FilterError, FilterErrorKind};
 use crate::ether_filter::jumps::{HOLDS, Jump, is_of_tags, jumps_of, past_tags};
-use crate::ether_filter::matching::matches_primitive;
+use crate::ether_filter::matching::{matches_primitive, matches_walked};
 use crate::ether_filter::node::Node;
 use crate::ether_filter::packet::Packet;
 use crate::ether_filter::primitive::Primitive;
@@ -127,6 +127,15 @@ impl Filter {
     /// </details>
     #[inline]
     pub fn matches(&self, packet: &Packet<'_>) -> bool {
+        if let [Node::Test(primitive)] = self.nodes.as_slice() {
+            return matches_walked(primitive, packet);
+        }
+        self.matches_by_jumps(packet)
+    }
+
+    /// Whether a packet matches, by what one walk shows of all primitives.
+    #[inline]
+    fn matches_by_jumps(&self, packet: &Packet<'_>) -> bool {
         let nodes = self.nodes.as_slice();
         let seen = look_for(nodes, packet.start, packet.frame);
         let untagged = is_untagged(&seen);
@@ -208,12 +217,9 @@ impl Filter {
     }
 }
 
-/// What the headers of a packet show, if a node asks for them, there are several, and there is room for it.
+/// What the headers of a packet show, if a node asks for them, and there is room for it.
 #[inline]
 fn look_for(nodes: &[Node], start: Start, frame: &[u8]) -> Option<Seen> {
-    if nodes.len() < 2 {
-        return None; // one primitive takes a walk of its own, which keeps nothing of the others
-    }
     for node in nodes {
         if asks_headers(*node) {
             return look(start, frame);

@@ -21,7 +21,7 @@ pub(crate) fn matches_primitive(
 
 /// Whether a primitive matches a packet, by a walk of its own.
 #[inline(never)]
-fn matches_walked(primitive: &Primitive, packet: &Packet<'_>) -> bool {
+pub(crate) fn matches_walked(primitive: &Primitive, packet: &Packet<'_>) -> bool {
     match *primitive {
         Primitive::Cut => packet.captured_len < packet.original_len as usize,
         Primitive::Less(len) => packet.original_len <= len,
