@@ -257,6 +257,16 @@ enum etherpeel_filter_error_kind {
     ETHERPEEL_FILTER_VLAN_ID_OR_OPERATOR = 11
 };
 
+/* What etherpeel_filter_decide returns. */
+enum etherpeel_decision {
+    /* The filter does not select the packet. */
+    ETHERPEEL_FAILS = 0,
+    /* The filter selects the packet. */
+    ETHERPEEL_MATCHES = 1,
+    /* The packet was cut, and the bytes that were captured do not decide it. */
+    ETHERPEEL_UNDECIDED = 2
+};
+
 /* The name of a field, in the words of the standard of its header. */
 enum etherpeel_field_name {
     /* Ethernet II (IEEE 802.3, 3.2). */
@@ -492,6 +502,12 @@ typedef struct etherpeel_filter_error {
     uint32_t greatest; /* the greatest number that fits, 0 if none does */
 } etherpeel_filter_error;
 
+/* A filter that was read. etherpeel_filter_parse writes it and the other calls read it; it holds no
+ * pointer, so a copy of it is a filter, too. What its numbers mean may change with the version. */
+typedef struct etherpeel_filter {
+    uint64_t numbers[385];
+} etherpeel_filter;
+
 /* Why a header is not replaced. */
 typedef struct etherpeel_replace_error {
     size_t tags;         /* how many VLAN tags and SecTags there are, of ETHERPEEL_NO_TAG, else 0 */
@@ -522,7 +538,8 @@ enum etherpeel_struct {
     ETHERPEEL_STRUCT_FRAME = 14,
     ETHERPEEL_STRUCT_FIELD = 15,
     ETHERPEEL_STRUCT_LINUX_SLL2_HEADER = 16,
-    ETHERPEEL_STRUCT_REPLACE_ERROR = 17
+    ETHERPEEL_STRUCT_REPLACE_ERROR = 17,
+    ETHERPEEL_STRUCT_FILTER = 18
 };
 
 /* etherpeel_version - the version of the library, as ETHERPEEL_VERSION is that of this header
@@ -563,7 +580,8 @@ static inline int etherpeel_fits(void) {
            etherpeel_sizeof(ETHERPEEL_STRUCT_FIELD) == sizeof(etherpeel_field) &&
            etherpeel_sizeof(ETHERPEEL_STRUCT_LINUX_SLL2_HEADER) ==
                sizeof(etherpeel_linux_sll2_header) &&
-           etherpeel_sizeof(ETHERPEEL_STRUCT_REPLACE_ERROR) == sizeof(etherpeel_replace_error);
+           etherpeel_sizeof(ETHERPEEL_STRUCT_REPLACE_ERROR) == sizeof(etherpeel_replace_error) &&
+           etherpeel_sizeof(ETHERPEEL_STRUCT_FILTER) == sizeof(etherpeel_filter);
 }
 
 /* etherpeel_start_of_link_type - the number of enum etherpeel_start for packets of a link type, 0
@@ -1003,6 +1021,52 @@ uint32_t etherpeel_linux_sll2_fields(const uint8_t *bytes, size_t len, etherpeel
 uint32_t etherpeel_select(const char *expression, size_t len, const etherpeel_captured *packets,
                           size_t count, uint8_t *matches, size_t room,
                           etherpeel_filter_error *error);
+
+/* etherpeel_filter_parse - a filter that is read once and asked about many packets
+ *
+ * Reads the expression into *filter. The memory is the caller's, and no call releases it.
+ * Returns ETHERPEEL_DONE; or ETHERPEEL_BAD_FILTER if the text is no expression, and then sets
+ * *error and leaves *filter as it was.
+ * Overlap: expression, *filter and *error must not overlap. Every number is in host byte order.
+ * Thread-safe; takes no memory, and some 40 KB of stack.
+ */
+uint32_t etherpeel_filter_parse(const char *expression, size_t len, etherpeel_filter *filter,
+                                etherpeel_filter_error *error);
+
+/* etherpeel_filter_matches - 1 if a filter selects a packet, else 0
+ *
+ * The packet is one that etherpeel_capture gave, or one that the caller has filled in; its time is
+ * not read. The expression is asked of what etherpeel_captured_frame gives. A packet for which it
+ * gives nothing is never selected, not even by `not`. Of a filter that etherpeel_filter_parse did
+ * not write, the result says nothing.
+ * Every number is in host byte order. Thread-safe, also with one filter in several threads; takes
+ * no memory.
+ */
+uint32_t etherpeel_filter_matches(const etherpeel_filter *filter, const etherpeel_captured *packet);
+
+/* etherpeel_filter_decide - whether a filter selects a packet, as far as its captured bytes say
+ *
+ * Returns a number of enum etherpeel_decision. ETHERPEEL_FAILS and ETHERPEEL_MATCHES hold whatever
+ * the bytes are that were cut off, those up to `original_len`. A packet that was not cut is never
+ * ETHERPEEL_UNDECIDED, nor one of a link type that the walk does not know. Of a filter that
+ * etherpeel_filter_parse did not write, the result says nothing.
+ * Every number is in host byte order. Thread-safe, also with one filter in several threads; takes
+ * no memory.
+ */
+uint32_t etherpeel_filter_decide(const etherpeel_filter *filter, const etherpeel_captured *packet);
+
+/* etherpeel_filter_select - the packets that a filter selects
+ *
+ * Sets matches[i] to what etherpeel_filter_matches returns for packets[i], for each of the `count`
+ * packets; NULL is allowed if `count` is 0. Elements of `matches` from `count` on stay as they
+ * were.
+ * Returns ETHERPEEL_DONE, or ETHERPEEL_NO_ROOM if `room` is smaller than `count`; then nothing is
+ * written.
+ * Overlap: `matches` must overlap neither the filter nor the packets and their bytes. Every number
+ * is in host byte order. Thread-safe, also with one filter in several threads; takes no memory.
+ */
+uint32_t etherpeel_filter_select(const etherpeel_filter *filter, const etherpeel_captured *packets,
+                                 size_t count, uint8_t *matches, size_t room);
 
 /* etherpeel_filter_error_text - why a text is no expression of a filter, in English
  *

@@ -37,6 +37,11 @@ ARTEFACTS = {
         "ether_filter/src/filter.rt": ["parse", "matches", "decide"],
         "ether_filter/src/laws.rt": ["texts_mean_one"],
     },
+    "Filters in memory of the caller": {
+        "ether_filter/src/filter.rt": ["instructions"],
+        "ether_filter/src/instruction.rt": ["node"],
+        "ether_filter/src/program.rt": ["matches", "decide"],
+    },
     "Packets": {
         "ether_packet/src/packet_units.rt": ["ghost"],
         "ether_packet/src/packet_slice.rt": ["from_slice", "link", "link_ext_count", "link_ext", "link_exts", "arp", "vlan", "vlan_ids",
@@ -71,6 +76,7 @@ ARTEFACTS = {
     "Captured packets": {
         "ether_content/src/content.rt": ["of", "is_unknown", "frame", "is_cut"],
         "ether_content/src/selecting.rt": ["selects", "is_undecided"],
+        "ether_content/src/program.rt": ["selects", "is_undecided"],
         "ether_content/src/headers.rt": ["headers_len"],
         "ether_content/src/editing.rt": ["edit_packet"],
         "ether_content/src/laws.rt": ["edits_are_one", "edits_are_some", "edits_grow", "popped_after_pushed",
@@ -98,6 +104,7 @@ ARTEFACTS = {
         "ether_c/src/library.rt": ["etherpeel_version", "etherpeel_sizeof"],
         "ether_c/src/link_types.rt": ["etherpeel_start_of_link_type"],
         "ether_c/src/selecting.rt": ["etherpeel_select"],
+        "ether_c/src/filtering.rt": ["etherpeel_filter_parse", "etherpeel_filter_matches", "etherpeel_filter_decide", "etherpeel_filter_select"],
         "ether_c/src/filter_error_text.rt": ["etherpeel_filter_error_text"],
         "ether_c/src/captured_frame.rt": ["etherpeel_captured_frame"],
         "ether_c/src/fields.rt": ["etherpeel_fields"],
@@ -141,6 +148,9 @@ ORDER = {
     """,
     "Filters": """
         ether_filter: Primitives Expressions Deciding Words Numerals Tokens Grammar Texts Refusals
+    """,
+    "Filters in memory of the caller": """
+        ether_filter: Postfix Jumps Programs
     """,
     "Packets": """
         ether_base: Bytes Formats/Ethernet2 Formats/Vlan Formats/Macsec Formats/LinuxSll Formats/LinuxSllProtocolType Formats/Arp

@@ -68,6 +68,7 @@ static void layout(void) {
           offsetof(etherpeel_headers, min_snap_len) == 808);
     CHECK(offsetof(etherpeel_headers, vlan_ids) == 816 &&
           offsetof(etherpeel_headers, vlan_count) == 822);
+    CHECK(sizeof(etherpeel_filter) == 3080);
     CHECK(sizeof(etherpeel_filter_error) == 16 && offsetof(etherpeel_filter_error, kind) == 8 &&
           offsetof(etherpeel_filter_error, greatest) == 12);
     CHECK(sizeof(etherpeel_replace_error) == 16 &&
@@ -698,6 +699,70 @@ static int selects(const char *expression, const char *marks) {
     for (size_t i = 0; i < 5; i++)
         if (matches[i] != marks[i] - '0') return 0;
     return matches[5] == 0xA5 && all_are(&error, sizeof error, 0xA5);
+}
+
+/* whether a filter that is read once selects just these of the same packets, one by one and in one
+ * call, and is decided on them, since none was cut */
+static int selects_again(const char *expression, const char *marks) {
+    const etherpeel_captured p[5] = {
+        captured_of(TAGGED, sizeof TAGGED, 1), captured_of(ARP, sizeof ARP, 1),
+        captured_of(COOKED_V2, sizeof COOKED_V2, 276),
+        captured_of(COOKED_V2_GRE, sizeof COOKED_V2_GRE, 276), captured_of(TAGGED, 4, 105)};
+    etherpeel_filter read, filter;
+    etherpeel_filter_error error;
+    uint8_t matches[6];
+    memset(matches, 0xA5, sizeof matches), memset(&error, 0xA5, sizeof error);
+    memset(&read, 0xA5, sizeof read);
+    if (etherpeel_filter_parse(expression, strlen(expression), &read, &error)) return 0;
+    memcpy(&filter, &read, sizeof filter), memset(&read, 0xA5, sizeof read);
+    if (etherpeel_filter_select(&filter, p, 5, matches, 6) != ETHERPEEL_DONE) return 0;
+    for (size_t i = 0; i < 5; i++)
+        if (matches[i] != marks[i] - '0' ||
+            etherpeel_filter_matches(&filter, &p[i]) != (uint32_t)(marks[i] - '0') ||
+            etherpeel_filter_decide(&filter, &p[i]) != (uint32_t)(marks[i] - '0'))
+            return 0;
+    return matches[5] == 0xA5 && all_are(&error, sizeof error, 0xA5);
+}
+
+/* what is decided of the tagged frame of 60 bytes if only its first ones were captured */
+static uint32_t decided(const char *expression, size_t captured_len) {
+    etherpeel_captured p = captured_of(TAGGED, captured_len, 1);
+    etherpeel_filter filter;
+    etherpeel_filter_error error;
+    p.original_len = 60;
+    if (etherpeel_filter_parse(expression, strlen(expression), &filter, &error)) return 99;
+    return etherpeel_filter_decide(&filter, &p);
+}
+
+/* filters that are read once */
+static void filtering(void) {
+    etherpeel_captured p = captured_of(TAGGED, sizeof TAGGED, 1);
+    etherpeel_filter filter;
+    etherpeel_filter_error error = {99, 99, 99};
+    uint8_t matches[1] = {9};
+    CHECK(selects_again("vlan 291", "10100") && selects_again("not vlan", "01000"));
+    CHECK(selects_again("vlan 291 and (ip or cut)", "10100") && selects_again("arp", "01000"));
+    CHECK(selects_again("not refused", "11100") && selects_again("greater 20", "01100"));
+    memset(&filter, 0xA5, sizeof filter);
+    CHECK(etherpeel_filter_parse("vlan 4096", 9, &filter, &error) == ETHERPEEL_BAD_FILTER);
+    CHECK(error.offset == 5 && error.kind == ETHERPEEL_FILTER_NUMBER && error.greatest == 4095);
+    CHECK(all_are(&filter, sizeof filter, 0xA5));
+    CHECK(etherpeel_filter_parse("vlan", 4, &filter, &error) == ETHERPEEL_DONE);
+    CHECK(etherpeel_filter_select(&filter, &p, 1, matches, 0) == ETHERPEEL_NO_ROOM);
+    CHECK(etherpeel_filter_select(&filter, NULL, 0, NULL, 0) == ETHERPEEL_DONE && matches[0] == 9);
+    /* the tag control information is the bytes 14 and 15 */
+    CHECK(decided("vlan 291", 15) == ETHERPEEL_UNDECIDED);
+    CHECK(decided("vlan 291", 18) == ETHERPEEL_MATCHES);
+    CHECK(decided("vlan 290", 18) == ETHERPEEL_FAILS);
+    CHECK(decided("not vlan", 15) == ETHERPEEL_UNDECIDED);
+    CHECK(decided("vlan 291 and greater 61", 15) == ETHERPEEL_FAILS);
+    CHECK(decided("vlan 291 or less 60", 15) == ETHERPEEL_MATCHES);
+    /* memory that holds no filter: any result, but one */
+    for (unsigned byte = 0; byte < 256; byte++) {
+        memset(&filter, (int)byte, sizeof filter);
+        CHECK(etherpeel_filter_matches(&filter, &p) <= 1);
+        CHECK(etherpeel_filter_decide(&filter, &p) <= 2);
+    }
 }
 
 static void selecting(void) {
@@ -1502,6 +1567,7 @@ int main(void) {
     captures_that_end_early();
     captured_frames();
     selecting();
+    filtering();
     fields();
     fields_of_addresses();
     fields_without_room();

@@ -18,7 +18,7 @@ from etherpeel import Difference, FaultKind, FieldName, FilterErrorKind, Layer, 
 
 def layout():
     sizes = [C.sizeof(t) for t in _library.STRUCTS]
-    check("sizes", sizes, [56, 88, 72, 16, 16, 6, 24, 40, 144, 824, 40, 16, 16, 32, 32, 32, 16])
+    check("sizes", sizes, [56, 88, 72, 16, 16, 6, 24, 40, 144, 824, 40, 16, 16, 32, 32, 32, 16, 3080])
     check("offsets", [getattr(_library.Unit, f).offset for f in
                       ("kind", "closed", "ethernet2", "linux_sll", "vlan", "macsec", "arp")], [32, 36, 38, 54, 70, 80, 104])
     check("version", _library.lib.etherpeel_version(), 0x030000)

@@ -20,7 +20,7 @@ NUMBER = r"(?:0x[0-9A-Fa-f_]+|0b[01_]+|[0-9][0-9_]*)(?:u8|u16|u32|u64|u128|usize
 # A macro, and how its call begins; those of examples and tests; those that tests declare are known there, too.
 MACROS = {"matches": "(", "unreachable": "()", "write": "(f,"}
 EXAMPLE_MACROS = {"assert": "(", "assert_eq": "(", "panic": "(", "format": "("}
-ATTRIBUTES = ["#[inline]", "#[inline(always)]", "#[inline(never)]", "#[rustfmt::skip]", "#[test]"]
+ATTRIBUTES = ["#[inline]", "#[inline(always)]", "#[inline(never)]", "#[repr(C)]", "#[rustfmt::skip]", "#[test]"]
 DERIVES = set("Clone Copy PartialEq Eq PartialOrd Ord Hash Debug Default Error".split())
 
 # Names of Rust that need no path.
@@ -41,7 +41,7 @@ PATHS = set(
 GIVEN = set("default from try_from".split())
 METHODS = set(
     """and_then as_mut_slice as_ref as_slice as_str clear clone contains copied copy_from_slice copy_within
-    debug_struct div_ceil field find finish first_chunk first_chunk_mut fmt get hash insert is_empty is_err is_full
+    debug_struct div_ceil enumerate field find finish first_chunk first_chunk_mut fmt get hash insert is_empty is_err is_full
     is_none is_ok is_some iter last_chunk len map max min next ok or overflowing_add pop pow push retain rev
     saturating_add saturating_sub split_at_mut split_first split_last then_some to_be_bytes to_digit to_le_bytes truncate try_extend_from_slice
     unwrap unwrap_or write_str""".split()
@@ -55,16 +55,16 @@ TEST_PATHS = set(
     Ordering::Less Ordering::Equal Ordering::Greater""".split()
 )
 TEST_METHODS = set(
-    """all alloc any count enumerate err first_mut get_mut into iter_mut last map_err ok_or skip split_at starts_with
+    """all alloc any count err first_mut get_mut into iter_mut last map_err ok_or skip split_at starts_with
     zip""".split()
 )
 
 # What the calls for C use besides.
-CALL_ATTRIBUTES = ["#[repr(C)]", "#[unsafe(no_mangle)]"]
+CALL_ATTRIBUTES = ["#[unsafe(no_mangle)]"]
 CALL_MACROS = {"assert": "(size_of", "write": "(text,"}
 CALL_NAMES = set("ArrayString size_of".split())
 CALL_PATHS = set("arrayvec::ArrayString ArrayString::new u8::from".split())
-CALL_METHODS = set("as_bytes enumerate split_at wrapping_add wrapping_mul".split())
+CALL_METHODS = set("as_bytes split_at wrapping_add wrapping_mul".split())
 
 # What the libraries of the programs use besides.
 PROGRAM_ATTRIBUTES = ["#[cold]"]
@@ -77,7 +77,7 @@ PROGRAM_PATHS = set(
     io::Result io::Write hex::decode_to_slice hex::encode_to_slice thiserror::Error u64::MAX""".split()
 )
 PROGRAM_METHODS = set(
-    """as_bytes collect into_iter wrapping_add wrapping_mul enumerate flush iter_mut kind parse position read split_at starts_with write write_all""".split()
+    """as_bytes collect into_iter wrapping_add wrapping_mul flush iter_mut kind parse position read split_at starts_with write write_all""".split()
 )
 
 # What the programs among the examples use besides.

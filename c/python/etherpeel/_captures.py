@@ -5,10 +5,12 @@ import ctypes as C
 import io
 import mmap
 import os
+from functools import lru_cache
+from struct import Struct as PackingStruct, error as PackingError
 from typing import Iterable, Iterator, List, NamedTuple, Optional, Protocol, Union
 
 from . import _library
-from ._library import Error, Status, filled, lent, lib, number, reader, required, text
+from ._library import READ, Error, Status, filled, get_buffer, lent, lib, number, reader, release_buffer, required, text
 from ._types import Buffer, Field, FieldName, FilterError, FilterErrorKind, LinuxSll2, LinuxSll2Error, Start
 
 
@@ -149,15 +151,14 @@ class _Packets:
             raise CaptureError(said, end.offset, end.needed)
         raise StopIteration
 
-    def selected(self, words):
+    def selected(self, read):
         """Those of the packets that are left which a filter selects."""
-        error = _library.FilterError()
         while self.next < len(self.structs):
             first = self.next
             count = min(_AT_ONCE, len(self.structs) - first)
             packets = C.cast(C.byref(self.structs, first * _SIZE), C.POINTER(_library.Captured))
             marks = (C.c_uint8 * count)()
-            required(lib.etherpeel_select(words, len(words), packets, count, marks, count, C.byref(error)))
+            required(lib.etherpeel_filter_select(read, packets, count, marks, count))
             found = bytes(marks)
             at = found.find(1)
             while at >= 0:
@@ -245,22 +246,43 @@ def select(expression: str, packets: Iterable[Captured]) -> Iterator[Captured]:
 
     Raises `FilterError`, at once, if the text is no expression.
     """
-    words, error = expression.encode(), _library.FilterError()
-    if lib.etherpeel_select(words, len(words), None, 0, None, 0, C.byref(error)) == Status.BAD_FILTER:
+    read = _read(expression)
+    if isinstance(packets, _Packets):
+        return packets.selected(read)
+    return _selected(read, packets)
+
+
+@lru_cache(maxsize=64)
+def _read(expression):
+    """The filter that a text means. Calls only read it, so that threads may share it."""
+    words, read, error = expression.encode(), _library.Filter(), _library.FilterError()
+    if lib.etherpeel_filter_parse(words, len(words), C.byref(read), C.byref(error)) == Status.BAD_FILTER:
         kind = FilterErrorKind(error.kind)
         raise FilterError(text(lib.etherpeel_filter_error_text, words, len(words)), error.offset, kind,
                           error.greatest if kind in (FilterErrorKind.NUMBER, FilterErrorKind.VLAN_ID_OR_OPERATOR) else None)
-    if isinstance(packets, _Packets):
-        return packets.selected(words)
-    return filter(lambda packet: _is_selected(words, packet), packets)
+    return read
 
 
-def _is_selected(words, packet):
-    mark, error = C.c_uint8(), _library.FilterError()
-    with lent(packet.packet) as (at, length):
-        told = _told(packet, at, length)
-        required(lib.etherpeel_select(words, len(words), C.byref(told), 1, C.byref(mark), 1, C.byref(error)))
-    return mark.value == 1
+def _selected(read, packets):
+    """The packets that a filter selects, of any. One struct, whose bytes are written at once, and one loan serve for all."""
+    told, loan, matches = _library.Captured(), _library.Lent(), lib.etherpeel_filter_matches
+    target, read, passed, lends = memoryview(told).cast("B"), C.byref(read), C.byref(told), C.byref(loan)
+    for packet in packets:
+        get_buffer(packet.packet, lends, READ)
+        try:
+            _pack(target, 0, loan.buf or 0, loan.len, packet.original_len, packet.link_type, packet.fcs_len is not None,
+                  packet.fcs_len or 0)
+            is_selected = matches(read, passed)
+        except PackingError:
+            _told(packet, loan.buf, loan.len)  # says which number has too many bits
+            raise
+        finally:
+            release_buffer(lends)
+        if is_selected:
+            yield packet
+
+
+_pack = PackingStruct("=QQ12xIH1xBB").pack_into  # a packet without its time
 
 
 # ---- Linux cooked capture v2

@@ -83,10 +83,11 @@ Field = struct("Field", bit_offset=size, bit_len=size, value=u64, unit=u32, name
 LinuxSll2Header = struct("LinuxSll2Header", payload_start=size, interface_index=u32, start=u32, protocol=u16, ether_type=u16,
                          hardware_type=u16, packet_type=u8, address_len=u8, address=u8 * 8)
 ReplaceError = struct("ReplaceError", tags=size, difference=u32)
+Filter = struct("Filter", numbers=u64 * 385)
 
 # the structs in the order of enum etherpeel_struct, from 1 on
 STRUCTS = [Fault, Found, Fed, Ethernet2, LinuxSll, Vlan, Macsec, Arp, Unit, Headers, Captured, CaptureEnd, FilterError, Frame,
-           Field, LinuxSll2Header, ReplaceError]
+           Field, LinuxSll2Header, ReplaceError, Filter]
 
 # what each call takes after the frame, and after the limit of its form with one
 WALKS = {
@@ -123,7 +124,9 @@ def load(path):
     declare(lib, "capture", [C.c_void_p, size, C.POINTER(Captured), size, C.POINTER(size), C.POINTER(CaptureEnd)])
     declare(lib, "capture_fault_text", [C.c_void_p, size, C.c_void_p, size, C.POINTER(size)])
     declare(lib, "captured_frame", [C.POINTER(Captured), C.POINTER(Frame)])
-    declare(lib, "select", [C.c_char_p, size, C.POINTER(Captured), size, C.POINTER(u8), size, C.POINTER(FilterError)])
+    declare(lib, "filter_parse", [C.c_char_p, size, C.POINTER(Filter), C.POINTER(FilterError)])
+    declare(lib, "filter_matches", [C.POINTER(Filter), C.POINTER(Captured)])
+    declare(lib, "filter_select", [C.POINTER(Filter), C.POINTER(Captured), size, C.POINTER(u8), size])
     declare(lib, "filter_error_text", [C.c_char_p, size, C.c_void_p, size, C.POINTER(size)])
     declare(lib, "pop_vlan", [u32, u16, C.c_void_p, size, C.POINTER(Vlan)])
     declare(lib, "push_vlan", [u32, u16, C.c_void_p, size, C.POINTER(Vlan), u16])

@@ -1,6 +1,7 @@
 -- What the calls do that read the text of a filter.
-use Rattle.std.specs.Prelude.{◌≡◌, ◌⊎◌, ℕ, ◌<◌, ◌≤◌, List, ◌++◌, length, drop, Result, IfOk, IfErr}
+use Rattle.std.specs.Prelude.{◌≡◌, ◌⊎◌, ℕ, ◌<◌, ◌≤◌, List, ◌++◌, length, take, drop, Result, IfOk, IfErr}
 use Rattle.ether_filter.specs.Expressions.{Expression}
+use Rattle.ether_filter.specs.Programs.{IsProgramOf}
 use Rattle.ether_filter.specs.Texts.{IsExpressionOf}
 use Rattle.ether_filter.specs.Refusals.{RefusesText}
 use Rattle.ether_filter.specs.ErrorTexts.{filter_error_text}
@@ -8,6 +9,7 @@ use Rattle.ether_filter.specs.declared.filter_error.FilterError.{FilterError}
 use Rattle.ether_filter.specs.declared.filter_error.FilterErrorKind.{FilterErrorKind}
 use Rattle.ether_filter.specs.declared.filter_error.FilterErrorKind.TheVariants as kinds
 use Rattle.ether_c.specs.declared.ether_captured.EtherCaptured.{EtherCaptured}
+use Rattle.ether_c.specs.declared.filter.EtherFilter.{EtherFilter}
 use Rattle.ether_c.specs.declared.ether_filter_error.EtherFilterError.{EtherFilterError}
 use Rattle.ether_c.specs.Numbers.{done, no_room, no_text}
 use Rattle.ether_c.specs.Calls.{PutsBytes}
@@ -59,6 +61,20 @@ pub record GivesSelection (text : List ℕ) (packets : List EtherCaptured) (old 
     (error_old error_new : EtherFilterError) (status : ℕ) : Type 0 where
   pub parsed : Result Expression FilterError
   pub ok : IfOk parsed (λ x. IsExpressionOf text x × PutsMarks x packets old new status × (error_new ≡ error_old))
+  pub refused : IfErr parsed (λ e. RefusesText text e
+      × (new ≡ old) × (error_new ≡ c_filter_error e) × (status ≡ bad_filter))
+
+-- ---- filters in memory of the caller
+
+-- the instructions that there are are those of an expression
+abbrev pub IsFilterOf : EtherFilter → Expression → Type 0
+IsFilterOf filter x = IsProgramOf (take filter.len filter.instructions) x
+
+-- the text means an expression, and the filter becomes one of it; or it means none, and the filter stays
+pub record GivesFilter (text : List ℕ) (old new : EtherFilter) (error_old error_new : EtherFilterError)
+    (status : ℕ) : Type 0 where
+  pub parsed : Result Expression FilterError
+  pub ok : IfOk parsed (λ x. IsExpressionOf text x × IsFilterOf new x × (error_new ≡ error_old) × (status ≡ done))
   pub refused : IfErr parsed (λ e. RefusesText text e
       × (new ≡ old) × (error_new ≡ c_filter_error e) × (status ≡ bad_filter))
 

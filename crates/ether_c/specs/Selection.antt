@@ -2,7 +2,7 @@
 use Rattle.std.specs.Prelude.{◌≡◌, ◌⊎◌, ℕ, List, [], ◌∷◌, nat_eq, Option, Some, None, if◌then◌else◌}
 use Rattle.ether_filter.specs.Expressions.{Expression}
 use Rattle.ether_pcap.specs.Capture.{TimeValue, PacketValue}
-use Rattle.ether_content.specs.Selecting.{Selects}
+use Rattle.ether_content.specs.Selecting.{IsUndecided, Selects}
 use Rattle.ether_c.specs.declared.ether_captured.EtherCaptured.{EtherCaptured}
 
 -- ---- the packet that is passed
@@ -30,6 +30,11 @@ packet_value c = record {
 -- 1 for a packet that is selected, 0 for another
 abbrev pub IsMark : Expression → EtherCaptured → (mark : ℕ) → Type 0
 IsMark x c mark = (Selects x (packet_value c) × (mark ≡ 1)) ⊎ ((Selects x (packet_value c) → ⊥) × (mark ≡ 0))
+
+-- 2 for one whose captured bytes don't decide that
+abbrev pub IsDecision : Expression → EtherCaptured → (number : ℕ) → Type 0
+IsDecision x c number =
+    (IsUndecided x (packet_value c) × (number ≡ 2)) ⊎ ((IsUndecided x (packet_value c) → ⊥) × IsMark x c number)
 
 -- for each packet
 abbrev pub AreMarks : Expression → List EtherCaptured → (marks : List ℕ) → Type 0

@@ -4,8 +4,8 @@ ghost use Rattle.ether_c.specs.Library.{version_number, struct_size};
 
 use crate::{
     EtherArp, EtherCaptureEnd, EtherCaptured, EtherEthernet2, EtherFault, EtherFed, EtherField,
-    EtherFilterError, EtherFound, EtherFrame, EtherHeaders, EtherLinuxSll, EtherLinuxSll2,
-    EtherMacsec, EtherReplaceError, EtherUnit, EtherVlan,
+    EtherFilter, EtherFilterError, EtherFound, EtherFrame, EtherHeaders, EtherLinuxSll,
+    EtherLinuxSll2, EtherMacsec, EtherReplaceError, EtherUnit, EtherVlan,
 };
 
 /// The version of the library: 0x10000 times the first number, 0x100 times the second, and the third.
@@ -39,6 +39,7 @@ pub extern "C" fn etherpeel_sizeof(number: u32) -> usize
         15 => size_of::<EtherField>(),
         16 => size_of::<EtherLinuxSll2>(),
         17 => size_of::<EtherReplaceError>(),
+        18 => size_of::<EtherFilter>(),
         _ => 0,
     }
 }

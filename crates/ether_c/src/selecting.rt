@@ -1,11 +1,13 @@
 //! The packets that a filter selects.
+ghost use Rattle.ether_filter.specs.Expressions.{Expression};
+ghost use Rattle.ether_filter.specs.Programs.{IsProgramOf};
 ghost use Rattle.ether_c.specs.Selection.{IsMark};
 ghost use Rattle.ether_c.specs.Filters.{GivesSelection, PutsMarks};
 
 use crate::numbers::{BAD_FILTER, DONE, NO_ROOM};
 use crate::{EtherCaptured, EtherFilterError};
-use ether_content::selects;
-use ether_filter::Filter;
+use ether_content::program::selects;
+use ether_filter::{Filter, Instruction};
 
 /// Writes for each packet 1 if a filter's expression holds of it, else 0.
 ///
@@ -21,7 +23,7 @@ pub extern "C" fn etherpeel_select(
     ensures { GivesSelection expression.now packets.now matches.old matches.new error.old error.new result }
 {
     match Filter::parse(expression) {
-        Ok(filter) => put_marks(&filter, packets, matches),
+        Ok(filter) => put_marks(filter.instructions(), packets, matches),
         Err(refusal) => {
             *error = EtherFilterError::of(&refusal);
             BAD_FILTER
@@ -30,23 +32,27 @@ pub extern "C" fn etherpeel_select(
 }
 
 /// Writes the mark of each packet to the front of an array if it has room for all of them.
-fn put_marks(filter: &Filter, packets: &[EtherCaptured<'_>], matches: &mut [u8]) -> u32
-    ensures { PutsMarks filter.now packets.now matches.old matches.new result }
+pub(crate) fn put_marks(
+    instructions: &[Instruction],
+    packets: &[EtherCaptured<'_>],
+    matches: &mut [u8],
+) -> u32
+    ensures { (x : Expression) → IsProgramOf instructions.now x → PutsMarks x packets.now matches.old matches.new result }
 {
     if matches.len() < packets.len() {
         return NO_ROOM;
     }
     for (at, packet) in packets.iter().enumerate() {
-        matches[at] = mark(filter, packet);
+        matches[at] = mark(instructions, packet);
     }
     DONE
 }
 
 /// 1 if a filter selects a packet, else 0.
-fn mark(filter: &Filter, packet: &EtherCaptured<'_>) -> u8
-    ensures { IsMark filter.now packet.now result }
+pub(crate) fn mark(instructions: &[Instruction], packet: &EtherCaptured<'_>) -> u8
+    ensures { (x : Expression) → IsProgramOf instructions.now x → IsMark x packet.now result }
 {
-    if selects(filter, &packet.to_packet()) {
+    if selects(instructions, &packet.to_packet()) {
         1
     } else {
         0

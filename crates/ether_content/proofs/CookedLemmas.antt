@@ -1,6 +1,6 @@
 -- A frame of cooked capture v1 has a hardware type whose protocol numbers have a meaning, if its walk has a header.
-use Rattle.std.proofs.Common.{◌≡◌, ℕ, ◌+◌, ◌≤◌, List, [], ◌∷◌, ◌++◌, length, take, drop, Bool, true, false, None, refl, sym, ap, subst, ◌∙◌, arith}
-use Rattle.std.specs.Prelude.{Option, Some, slice_range, nat_le, not, ◌&&◌}
+use Rattle.std.proofs.Common.{◌≡◌, ℕ, ◌+◌, List, [], ◌∷◌, ◌++◌, length, take, drop, Bool, true, false, refl, sym, subst}
+use Rattle.std.specs.Prelude.{Some, slice_range, nat_le, not, ◌&&◌}
 use Rattle.std.proofs.lemmas.Bool.{leb-true}
 use Rattle.ether_base.specs.Bytes.{IsBytes}
 use Rattle.ether_base.proofs.Numbers.{IsBytes-append}

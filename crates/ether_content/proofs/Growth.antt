@@ -1,5 +1,5 @@
 -- A packet that is edited has four bytes more at most, and only with another VLAN tag.
-use Rattle.std.proofs.Common.{◌≡◌, ℕ, ◌+◌, ◌-◌, ◌≤◌, List, [], ◌∷◌, ◌++◌, length, take, drop, Some, refl, sym, ap, subst, ◌∙◌, arith}
+use Rattle.std.proofs.Common.{◌≡◌, ℕ, ◌+◌, ◌-◌, ◌≤◌, List, ◌++◌, length, take, drop, Some, refl, sym, subst, arith}
 use Rattle.std.specs.Prelude.{Option, slice_range}
 use Rattle.std.proofs.lemmas.List.{length-append, length-drop, length-take}
 use Rattle.ether_base.proofs.SubLists.{length-part-is}
@@ -9,7 +9,7 @@ use Rattle.etherparse.specs.Header.{Header, header_len}
 use Rattle.etherparse.specs.Header as headers
 use Rattle.etherparse.specs.Vlan.{VlanValue, vlan_bytes}
 use Rattle.ether_peel.specs.Grammar.Places.{place}
-use Rattle.ether_peel.specs.Grammar.Stack.{Ending, Walk}
+use Rattle.ether_peel.specs.Grammar.Stack.{Walk}
 use Rattle.ether_packet.specs.Pushing.{pushed_bytes}
 use Rattle.ether_packet.proofs.Replaced.{header_inside}
 use Rattle.ether_pcap.specs.Capture.{PacketValue}

@@ -7,6 +7,7 @@ mod cooked;
 mod editing;
 mod headers;
 pub mod laws;
+pub mod program;
 mod selecting;
 
 pub use content::{Content, is_cut, without_fcs};

@@ -1,14 +1,11 @@
 //! Which packets of a capture a filter selects.
-ghost use Rattle.std.specs.Prelude.{◌≡◌, ◌↔◌, length, IsTrue};
+ghost use Rattle.std.specs.Prelude.{◌≡◌, ◌↔◌, IsTrue};
 ghost use Rattle.ether_pcap.specs.CaptureViews.{captured_packet_view};
-ghost use Rattle.ether_peel.specs.Walker.Start.{next_of};
-ghost use Rattle.ether_content.specs.Selecting.{HoldsOf, IsUndecided, NeedsBytes, Selects, asked_of};
+ghost use Rattle.ether_content.specs.Selecting.{IsUndecided, Selects};
 
-use crate::content::{Content, is_cut, whole_len};
-use ether_filter::{Decision, Filter, Packet};
+use crate::program;
+use ether_filter::Filter;
 use ether_pcap::CapturedPacket;
-use ether_peel::Start;
-use ether_sll2::LinuxSll2Header;
 
 /// Returns `true` if a filter selects a packet: its expression holds of what is walked of the packet.
 ///
@@ -34,23 +31,7 @@ use ether_sll2::LinuxSll2Header;
 pub fn selects(filter: &Filter, packet: &CapturedPacket<'_>) -> bool
     ensures { IsTrue result ↔ Selects filter.now (captured_packet_view packet.now) }
 {
-    match Content::of(packet).frame() {
-        Some((start, frame)) => holds(filter, start, frame, packet),
-        None => false,
-    }
-}
-
-/// Whether a filter's expression holds of the walk of a packet.
-fn holds(filter: &Filter, start: Start, frame: &[u8], packet: &CapturedPacket<'_>) -> bool
-    ensures { IsTrue result ↔ HoldsOf filter.now (next_of start) frame.now
-        (length packet.now.packet.now) packet.now.original_len }
-{
-    filter.matches(&Packet {
-        start,
-        frame,
-        captured_len: packet.packet.len(),
-        original_len: packet.original_len,
-    })
+    program::selects(filter.instructions(), packet)
 }
 
 /// Returns `true` if a packet was cut so that its captured bytes don't decide whether a filter selects it.
@@ -79,35 +60,5 @@ fn holds(filter: &Filter, start: Start, frame: &[u8], packet: &CapturedPacket<'_
 pub fn is_undecided(filter: &Filter, packet: &CapturedPacket<'_>) -> bool
     ensures { IsTrue result ↔ IsUndecided filter.now (captured_packet_view packet.now) }
 {
-    is_cut(packet) && leaves_open(filter, packet)
-}
-
-/// Whether the captured bytes of a packet don't decide whether a filter selects it.
-#[inline(never)]
-fn leaves_open(filter: &Filter, packet: &CapturedPacket<'_>) -> bool
-    ensures { IsTrue result ↔ IsUndecided filter.now (captured_packet_view packet.now) }
-{
-    let content = Content::of(packet);
-    if let Content::LinuxSll2(bytes) = content {
-        if bytes.len() < LinuxSll2Header::LEN {
-            return whole_len(packet) >= LinuxSll2Header::LEN;
-        }
-    }
-    match content.frame() {
-        Some((start, frame)) => needs_bytes(filter, start, frame, packet),
-        None => false,
-    }
-}
-
-/// Whether more bytes of a packet's walk are needed to decide whether a filter's expression holds of it.
-fn needs_bytes(filter: &Filter, start: Start, frame: &[u8], packet: &CapturedPacket<'_>) -> bool
-    ensures { IsTrue result ↔ NeedsBytes filter.now (asked_of start frame.entry packet.now) }
-{
-    let decision = filter.decide(&Packet {
-        start,
-        frame,
-        captured_len: packet.packet.len(),
-        original_len: packet.original_len,
-    });
-    matches!(decision, Decision::Needs(_))
+    program::is_undecided(filter.instructions(), packet)
 }

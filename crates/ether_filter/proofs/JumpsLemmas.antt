@@ -13,7 +13,7 @@ use Rattle.ether_filter.specs.Expressions.{Expression, Test, Not, Join}
 use Rattle.ether_filter.specs.Postfix.{postfix}
 use Rattle.ether_filter.specs.declared.node.Operator.TheVariants as operators
 use Rattle.ether_filter.specs.Evaluation.{joined_truth}
-use Rattle.ether_filter.specs.Jumps.{chosen, no_jump, jump_at, negated, before, AreJumps, AreFilled}
+use Rattle.ether_filter.specs.Jumps.{chosen, no_jump, jump_at, negated, before, AreJumps, AreFilled, Reaches, here, step}
 
 -- ---- the last node of an expression
 
@@ -140,13 +140,6 @@ abbrev pub truth : (Primitive → Bool) → Expression → Bool
 truth t (Test p) = t p
 truth t (Not x) = not (truth t x)
 truth t (Join operator x y) = joined_truth operator (truth t x) (truth t y)
-
--- from one index of the nodes the jumps lead forward to another, or to an end
-pub data Reaches (ns : List Node) (js : List Jump) (t : Primitive → Bool) : ℕ → ℕ → Type 0 where
-  here : (at : ℕ) → Reaches ns js t at at
-  step : (at end : ℕ) (p : Primitive) → at < length ns → ((d : Node) → get_or ns at d ≡ nodes.Test p)
-      → at < chosen (t p) (jump_at js at) → Reaches ns js t (chosen (t p) (jump_at js at)) end
-      → Reaches ns js t at end
 
 reaches_on : (ns : List Node) (js : List Jump) (t : Primitive → Bool) (at middle end : ℕ) → Reaches ns js t at middle
     → Reaches ns js t middle end → Reaches ns js t at end

@@ -5,6 +5,7 @@ pub mod JumpsLemmas
 pub mod Truth
 pub mod PastTags
 pub mod PassedTags
+pub mod ProgramLemmas
 pub mod Evaluated
 pub mod Kleene
 pub mod Longer

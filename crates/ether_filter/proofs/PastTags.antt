@@ -1,8 +1,8 @@
 -- Primitives that ask for VLAN tags, of a packet that has none.
-use Rattle.std.proofs.Common.{◌≡◌, ℕ, ◌<◌, ◌≤◌, List, [], ◌∷◌, length, refl, subst, ◌∙◌, sym, arith, Bool, true, false, IsTrue}
-use Rattle.std.specs.Prelude.{get_or, Option, Some, None, is_some}
+use Rattle.std.proofs.Common.{◌≡◌, ℕ, ◌<◌, ◌≤◌, List, [], ◌∷◌, length, refl, ap, ◌∙◌, sym, arith, nat_eq, Bool, true, false, IsTrue}
+use Rattle.std.specs.Prelude.{get_or, Option, Some, None, is_some, ◌||◌, if◌then◌else◌}
 use Rattle.std.specs.List.{list_any}
-use Rattle.std.proofs.lemmas.Bool.{false_from_ne_true, not-true}
+use Rattle.std.proofs.lemmas.Bool.{false_from_ne_true, ne_eqb, eq-eqb}
 use Rattle.etherparse.specs.Header.{Header}
 use Rattle.etherparse.specs.Header as headers
 use Rattle.ether_peel.specs.Grammar.Stack.{Ending, whole, Walk}
@@ -14,12 +14,17 @@ use Rattle.ether_filter.specs.declared.packet.Packet.{Packet}
 use Rattle.ether_filter.specs.declared.primitive.Primitive.{Primitive}
 use Rattle.ether_filter.specs.declared.primitive.Primitive.TheVariants as primitives
 use Rattle.ether_filter.specs.declared.seen.Seen.{Seen}
+use Rattle.ether_filter.specs.declared.seen.Tags.TheVariants as tags
+use Rattle.ether_filter.specs.declared.instruction.Instruction.{Instruction}
 use Rattle.ether_filter.specs.Primitives.{is_tag, vlan_ids, Walked, walked, Matches}
-use Rattle.ether_filter.specs.Jumps.{jump_at, is_of_tags, asks_tags, Passes, last, more, ArePassed, chosen, first_jump, is_untagged}
+use Rattle.ether_filter.specs.Jumps.{jump_at, is_of_tags, asks_tags, Passes, last, more, Reaches, Misses, tags_of, tags_seen, is_tag_test, is_other_id}
 use Rattle.ether_filter.specs.Expressions.{Expression}
+use Rattle.ether_filter.specs.Postfix.{postfix}
+use Rattle.ether_filter.specs.Programs.{IsProgramOf, primitive_numbered}
 use Rattle.ether_filter.specs.Seen.{IsSeen}
-use Rattle.ether_filter.proofs.JumpsLemmas.{Reaches, reaches_next, truth}
-use Rattle.ether_filter.proofs.Truth.{matching, matching_is, Runs, past_nodes}
+use Rattle.ether_filter.proofs.JumpsLemmas.{reaches_next}
+use Rattle.ether_filter.proofs.Truth.{matching, matching_is}
+use Rattle.ether_filter.proofs.ProgramLemmas.{no_instruction, is_test}
 
 no_ids : (hs : List Header) → list_any is_tag hs ≡ false → vlan_ids hs ≡ []
 no_ids [] none = refl
@@ -37,18 +42,37 @@ fails_untagged w none (primitives.InnerVlan id) of (outer, between, is) =
     let ids = no_ids w.headers none in cc
 fails_untagged w none p of m = cc
 
-pub untagged : (packet : Packet) (hs : List Header) (e : Ending) (s : Option Seen)
-    → Walk (start_of packet.start) packet.frame.now hs e → IsSeen (next_of packet.start) hs e s → is_untagged s ≡ true
-    → (p : Primitive) → is_of_tags p ≡ true → matching (walked packet hs e) p ≡ false
-untagged packet hs e None walk seen is p of = absurd cc
-untagged packet hs e (Some s) walk seen is p of =
+untagged : (packet : Packet) (hs : List Header) (e : Ending) (s : Seen)
+    → Walk (start_of packet.start) packet.frame.now hs e → IsSeen (next_of packet.start) hs e (Some s)
+    → is_some s.told.outer ≡ false → Misses tags.Untagged (matching (walked packet hs e))
+untagged packet hs e s walk seen is p of =
     let w = walked packet hs e in
     let start = start_of packet.start in
     let are = matching_is w packet.frame.now start (whole start packet.frame.now) walk in
-    let never : matching w primitives.Vlan ≡ false = sym (seen primitives.Vlan) ∙ not-true (is_some s.told.outer) is in
+    let never : matching w primitives.Vlan ≡ false = sym (seen primitives.Vlan) ∙ is in
     let none : list_any is_tag hs ≡ false =
     false_from_ne_true (list_any is_tag hs) (λ t. let yes = (are primitives.Vlan).1 t in cc) in
     false_from_ne_true (matching w p) (λ t. fails_untagged w none p of ((are p).0 t))
+
+others : (packet : Packet) (hs : List Header) (e : Ending) (s : Seen) (ids : List ℕ)
+    → IsSeen (next_of packet.start) hs e (Some s) → s.ids.items ≡ ids → Misses (tags_of ids) (matching (walked packet hs e))
+others packet hs e s [] seen is = tt
+others packet hs e s (id ∷ []) seen is =
+    λ n not. sym (seen (primitives.VlanId n)) ∙ ap (list_any (λ m. nat_eq m n)) is
+    ∙ ap (λ (b : Bool). b || false) (ne_eqb id n (λ same. not (sym same)))
+others packet hs e s (id ∷ second ∷ ids) seen is = tt
+
+-- what is seen of a packet's tags
+pub misses : (packet : Packet) (hs : List Header) (e : Ending) (s : Option Seen)
+    → Walk (start_of packet.start) packet.frame.now hs e → IsSeen (next_of packet.start) hs e s
+    → Misses (tags_seen s) (matching (walked packet hs e))
+misses packet hs e None walk seen = tt
+misses packet hs e (Some s) walk seen = by_outer (is_some s.told.outer) refl
+  where
+    by_outer : (b : Bool) → is_some s.told.outer ≡ b
+        → Misses (if b then tags_of s.ids.items else tags.Untagged) (matching (walked packet hs e))
+    by_outer true is = others packet hs e s s.ids.items seen refl
+    by_outer false is = untagged packet hs e s walk seen is
 
 -- ---- the jumps
 
@@ -61,8 +85,31 @@ tag_test : (n : Node) → asks_tags n ≡ true → IsTagTest n
 tag_test (nodes.Test p) asks = record { primitive = p; is = refl; of = asks }
 tag_test n asks = absurd cc
 
+record IsTagPrimitive (o : Option Primitive) : Type 0 where
+  primitive : Primitive
+  is : o ≡ Some primitive
+  of : is_of_tags primitive ≡ true
+
+asked : (o : Option Primitive) → is_tag_test o ≡ true → IsTagPrimitive o
+asked (Some p) asks = record { primitive = p; is = refl; of = asks }
+asked None asks = absurd cc
+
+record IsOtherId (id : ℕ) (o : Option Primitive) : Type 0 where
+  asked : ℕ
+  is : o ≡ Some (primitives.VlanId asked)
+  not : asked ≡ id → ⊥
+
+other : (id : ℕ) (o : Option Primitive) → is_other_id id o ≡ true → IsOtherId id o
+other id (Some (primitives.VlanId n)) asks = record {
+  asked = n;
+  is = refl;
+  not = λ same. let equal : nat_eq n id ≡ true = eq-eqb n id same in absurd cc;
+}
+other id (Some p) asks = absurd cc
+other id None asks = absurd cc
+
 pub passes : (ns : List Node) (js : List Jump) (t : Primitive → Bool) (at past end : ℕ) (d : Node) (p : Primitive)
-    → ((p : Primitive) → is_of_tags p ≡ true → t p ≡ false) → Passes ns js at past → at < length ns → length ns ≤ end
+    → Misses tags.Untagged t → Passes ns js at past → at < length ns → length ns ≤ end
     → get_or ns at d ≡ nodes.Test p → is_of_tags p ≡ true → Reaches ns js t at end
     → (at < past) × Reaches ns js t past end
 passes ns js t at past end d p fails (last _) inside few is of r =
@@ -73,15 +120,30 @@ passes ns js t at past end d p fails (more _ _ within asks on) inside few is of 
     let later = passes ns js t (jump_at js at).if_false past end d test.primitive fails on within few test.is test.of n.1 in
     (omega (arith, n.0, later.0), later.1)
 
-pub runs_past : (packet : Packet) (hs : List Header) (e : Ending) (s : Option Seen) (x : Expression) (items ns : List Node)
-    (js : List Jump) (past : List ℕ) (at next : ℕ) (d : Node) (p : Primitive)
-    → Walk (start_of packet.start) packet.frame.now hs e → IsSeen (next_of packet.start) hs e s → is_untagged s ≡ true
-    → ns ≡ items → ArePassed items js past → at < length ns → length ns ≤ 192 → get_or ns at d ≡ nodes.Test p
-    → is_of_tags p ≡ true → next ≡ get_or past at 0 → Runs packet ns js x at
-    → (at < next)
-    × Reaches ns js (matching (walked packet hs e)) next (chosen (truth (matching (walked packet hs e)) x) first_jump)
-runs_past packet hs e s x items ns js past at next d p walk seen none same passed inside few is of to runs =
-    let t = matching (walked packet hs e) in
-    let all = subst (λ l. ArePassed l js past) (sym same) passed in
-    rw to (passes ns js t at (get_or past at 0) (chosen (truth t x) first_jump) d p (untagged packet hs e s walk seen none)
-    (all at inside) inside (past_nodes ns (truth t x) few) is of (runs hs e walk))
+-- ---- the instructions
+
+-- past one that asks for VLAN tags, where there are none
+pub past_tag : (is : List Instruction) (x : Expression) (p : IsProgramOf is x) (t : Primitive → Bool) (at next end : ℕ)
+    → at < length is → is_tag_test (primitive_numbered (get_or is at no_instruction).kind (get_or is at no_instruction).operand) ≡ true
+    → next ≡ (get_or is at no_instruction).past_tags → Misses tags.Untagged t → length (postfix x) ≤ end
+    → Reaches (postfix x) p.jumps t at end → (at < next) × Reaches (postfix x) p.jumps t next end
+past_tag is x p t at next end inside asks to fails few r =
+    let i = get_or is at no_instruction in
+    let each = p.each at inside nodes.Not no_instruction in
+    let q = asked (primitive_numbered i.kind i.operand) asks in
+    rw (to, each.past_tags) (passes (postfix x) p.jumps t at (get_or p.past at 0) end nodes.Not q.primitive fails
+    (p.are_passed at (omega (arith, inside, p.count))) (omega (arith, inside, p.count)) few
+    (is_test i.kind i.operand _ q.primitive each.node (sym q.is)) q.of r)
+
+-- past one that asks for an identifier, where the only tag has another one
+pub past_other : (is : List Instruction) (x : Expression) (p : IsProgramOf is x) (t : Primitive → Bool)
+    (id at next end : ℕ) → at < length is
+    → is_other_id id (primitive_numbered (get_or is at no_instruction).kind (get_or is at no_instruction).operand) ≡ true
+    → next ≡ (get_or is at no_instruction).jump.if_false → Misses (tags.One id) t → length (postfix x) ≤ end
+    → Reaches (postfix x) p.jumps t at end → (at < next) × Reaches (postfix x) p.jumps t next end
+past_other is x p t id at next end inside asks to fails few r =
+    let i = get_or is at no_instruction in
+    let each = p.each at inside nodes.Not no_instruction in
+    let q = other id (primitive_numbered i.kind i.operand) asks in
+    rw (to, each.jump) (rw (fails q.asked q.not) at (reaches_next (postfix x) p.jumps t at end nodes.Not (primitives.VlanId q.asked) (omega (arith, inside, p.count)) few
+    (is_test i.kind i.operand _ (primitives.VlanId q.asked) each.node (sym q.is)) r))

@@ -1,5 +1,5 @@
 -- The truth of an expression of a packet.
-use Rattle.std.proofs.Common.{◌≡◌, ℕ, ◌≤◌, List, [], length, refl, sym, ap, subst, ◌∙◌, arith, nat_eq, Bool, true, false, ◌↔◌, IsTrue, inl, inr}
+use Rattle.std.proofs.Common.{◌≡◌, ℕ, ◌≤◌, List, [], length, refl, sym, arith, nat_eq, Bool, true, false, ◌↔◌, IsTrue, inl, inr}
 use Rattle.std.proofs.lemmas.List.{append-nil}
 use Rattle.std.specs.Prelude.{Some, not, nat_lt, nat_le}
 use Rattle.std.proofs.lemmas.Bool.{ltb-true, lt-ltb, leb-true, le-leb}
@@ -16,15 +16,15 @@ use Rattle.ether_filter.specs.declared.primitive.Primitive.TheVariants as primit
 use Rattle.ether_filter.specs.declared.node.Operator.{Operator}
 use Rattle.ether_filter.specs.declared.node.Operator.TheVariants as operators
 use Rattle.ether_filter.specs.Primitives.{Walked, walked, ether_type_of}
-use Rattle.ether_filter.specs.Postfix.{IsPostfix, postfix, expression_of, expression_of-postfix}
-use Rattle.ether_filter.specs.Jumps.{chosen, first_jump, AreJumps}
+use Rattle.ether_filter.specs.Postfix.{postfix}
+use Rattle.ether_filter.specs.Jumps.{chosen, first_jump, AreJumps, Reaches}
 use Rattle.ether_filter.specs.Expressions.{Expression, Test, Not, Join}
 use Rattle.ether_filter.specs.declared.seen.Seen.{Seen}
 use Rattle.ether_filter.specs.Seen.{IsSeen, matches_seen}
 use Rattle.ether_filter.specs.Following.{found_at_end, found_first}
 use Rattle.ether_filter.specs.Evaluation.{IsTruth, joined_truth}
 use Rattle.ether_filter.proofs.Found.{found_matches}
-use Rattle.ether_filter.proofs.JumpsLemmas.{Reaches, reaches, truth}
+use Rattle.ether_filter.proofs.JumpsLemmas.{reaches, truth}
 
 -- whether a primitive matches
 abbrev pub matching : Walked → Primitive → Bool
@@ -92,16 +92,11 @@ Runs packet ns js x at =
     (hs : List Header) (e : Ending) → Walk (start_of packet.start) packet.frame.now hs e
     → Reaches ns js (matching (walked packet hs e)) at (chosen (truth (matching (walked packet hs e)) x) first_jump)
 
-pub runs_begin : (packet : Packet) (items ns : List Node) (js : List Jump) (x : Expression) → ns ≡ items
-    → IsPostfix items × AreJumps js 0 (expression_of items) first_jump → expression_of items ≡ x → length ns ≤ 192
-    → Runs packet ns js x 0
-runs_begin packet items ns js x same are view few hs e walk =
-    let y = are.0.0 in
-    let is : y ≡ x = sym (expression_of-postfix y) ∙ sym (ap expression_of are.0.1) ∙ view in
-    let nodes_are : ns ≡ postfix x = same ∙ are.0.1 ∙ ap postfix is in
-    let few_nodes : length (postfix x) ≤ 192 = rw (sym nodes_are) few in
-    reaches x ns [] [] js (matching (walked packet hs e)) 0 first_jump (nodes_are ∙ sym (append-nil (postfix x))) refl
-    (subst (λ y. AreJumps js 0 y first_jump) view are.1) (omega (arith, few_nodes)) (omega (arith, few_nodes))
+pub runs_begin : (packet : Packet) (js : List Jump) (x : Expression) → AreJumps js 0 x first_jump
+    → length (postfix x) ≤ 192 → Runs packet (postfix x) js x 0
+runs_begin packet js x are few hs e walk =
+    reaches x (postfix x) [] [] js (matching (walked packet hs e)) 0 first_jump (sym (append-nil (postfix x))) refl are
+    (omega (arith, few)) (omega (arith, few))
 
 pub past_nodes : (ns : List Node) (b : Bool) → length ns ≤ 192 → length ns ≤ chosen b first_jump
 past_nodes ns true few = omega (arith, few)

@@ -1,9 +1,11 @@
 -- Where the evaluation of an expression goes on after each of its primitives, which are asked from the left to the right.
-use Rattle.std.specs.Prelude.{◌≡◌, ℕ, ◌+◌, ◌<◌, ◌≤◌, List, length, get_or, Bool, true, false, not, Option, Some, None, is_some}
+use Rattle.std.specs.Prelude.{◌≡◌, ℕ, ◌+◌, ◌<◌, ◌≤◌, List, [], ◌∷◌, length, get_or, nat_eq, Bool, true, false, not, Option, Some, None, is_some, if◌then◌else◌}
 use Rattle.ether_filter.specs.declared.jumps.Jump.{Jump}
 use Rattle.ether_filter.specs.declared.primitive.Primitive.{Primitive}
 use Rattle.ether_filter.specs.declared.primitive.Primitive.TheVariants as primitives
 use Rattle.ether_filter.specs.declared.seen.Seen.{Seen}
+use Rattle.ether_filter.specs.declared.seen.Tags.{Tags}
+use Rattle.ether_filter.specs.declared.seen.Tags.TheVariants as tags
 use Rattle.ether_filter.specs.declared.node.Node.{Node}
 use Rattle.ether_filter.specs.declared.node.Node.TheVariants as nodes
 use Rattle.ether_filter.specs.declared.node.Operator.{Operator}
@@ -70,7 +72,43 @@ pub data Passes (ns : List Node) (js : List Jump) : ℕ → ℕ → Type 0 where
 abbrev pub ArePassed : List Node → List Jump → List ℕ → Type 0
 ArePassed ns js past = (i : ℕ) → i < length ns → Passes ns js i (get_or past i 0)
 
--- it is seen that a packet has no VLAN tag
-abbrev pub is_untagged : Option Seen → Bool
-is_untagged None = false
-is_untagged (Some seen) = not (is_some seen.told.outer)
+-- ---- from one primitive to another
+
+-- from one index of the nodes the jumps lead forward to another, or to an end, if the primitives match so
+pub data Reaches (ns : List Node) (js : List Jump) (t : Primitive → Bool) : ℕ → ℕ → Type 0 where
+  here : (at : ℕ) → Reaches ns js t at at
+  step : (at end : ℕ) (p : Primitive) → at < length ns → ((d : Node) → get_or ns at d ≡ nodes.Test p)
+      → at < chosen (t p) (jump_at js at) → Reaches ns js t (chosen (t p) (jump_at js at)) end
+      → Reaches ns js t at end
+
+-- ---- past what no VLAN tag matches
+
+-- the tags that are seen, by the identifier of the first and those of all
+abbrev pub tags_of : List ℕ → Tags
+tags_of (id ∷ []) = tags.One id
+tags_of _ = tags.Any
+
+abbrev pub tags_seen : Option Seen → Tags
+tags_seen None = tags.Any
+tags_seen (Some seen) = if is_some seen.told.outer then tags_of seen.ids.items else tags.Untagged
+
+-- primitives that ask for other tags don't match
+abbrev pub Misses : Tags → (Primitive → Bool) → Type 0
+Misses tags.Untagged t = (p : Primitive) → is_of_tags p ≡ true → t p ≡ false
+Misses (tags.One id) t = (n : ℕ) → (n ≡ id → ⊥) → t (primitives.VlanId n) ≡ false
+Misses tags.Any t = Unit {0}
+
+-- an expression's evaluation leads from one index to another, if there are these tags
+abbrev pub LeadsOn : Expression → List Jump → Tags → (from to : ℕ) → Type 0
+LeadsOn x js tags from to =
+    (t : Primitive → Bool) (end : ℕ) → Misses tags t → length (postfix x) ≤ end
+    → Reaches (postfix x) js t from end → Reaches (postfix x) js t to end
+
+-- whether a primitive asks for VLAN tags, or for another identifier
+abbrev pub is_tag_test : Option Primitive → Bool
+is_tag_test (Some p) = is_of_tags p
+is_tag_test None = false
+
+abbrev pub is_other_id : ℕ → Option Primitive → Bool
+is_other_id id (Some (primitives.VlanId n)) = not (nat_eq n id)
+is_other_id id _ = false

@@ -8,8 +8,6 @@ use Rattle.ether_filter.specs.declared.fields.Fields.{Fields}
 use Rattle.ether_filter.specs.declared.fields.Fields.TheVariants.{Link, Tag, SecTag}
 use Rattle.ether_filter.specs.declared.primitive.Primitive.{Primitive}
 use Rattle.ether_filter.specs.declared.primitive.Primitive.TheVariants as primitives
-use Rattle.ether_filter.specs.declared.node.Node.{Node}
-use Rattle.ether_filter.specs.declared.node.Node.TheVariants as nodes
 use Rattle.ether_filter.specs.declared.seen.Addresses.{Addresses}
 use Rattle.ether_filter.specs.declared.seen.Told.{Told}
 use Rattle.ether_filter.specs.declared.seen.Seen.{Seen}
@@ -107,9 +105,8 @@ IsSeen start hs e (Some s) =
     (p : Primitive) → seen p s.told s.ids.items s.types.items ≡ found_at_end p (found_first p (ether_type_of start)) false hs e
 
 -- a node that speaks of headers
-abbrev pub asks_headers : Node → Bool
-asks_headers (nodes.Test primitives.Cut) = false
-asks_headers (nodes.Test (primitives.Less n)) = false
-asks_headers (nodes.Test (primitives.Greater n)) = false
-asks_headers (nodes.Test primitive) = true
-asks_headers _ = false
+abbrev pub asks_headers : Primitive → Bool
+asks_headers primitives.Cut = false
+asks_headers (primitives.Less n) = false
+asks_headers (primitives.Greater n) = false
+asks_headers primitive = true

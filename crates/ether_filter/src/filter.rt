@@ -1,34 +1,26 @@
 //! A filter.
 ghost use Rattle.std.specs.Prelude.{◌≡◌, ◌↔◌, ◌++◌, ◌+◌, ◌<◌, ◌≤◌, ℕ, List, Bool, false, IsTrue, Ok, Err, IfOk, IfErr, MatchResult, length, reverse};
-ghost use Rattle.arrayvec.specs.ArrayVec.{array_vec_len};
-ghost use Rattle.etherparse.specs.Bytes.{IsBytes};
 ghost use Rattle.etherparse.specs.Header.{Header};
 ghost use Rattle.ether_peel.specs.Grammar.Stack.{Ending, Walk};
-ghost use Rattle.ether_peel.specs.Walker.Start.{start_of, next_of};
+ghost use Rattle.ether_peel.specs.Walker.Start.{start_of};
 ghost use Rattle.ether_filter.specs.Primitives.{walked};
 ghost use Rattle.ether_filter.specs.Expressions.{Expression, Holds};
-ghost use Rattle.ether_filter.specs.Postfix.{pushed, expression_of};
 ghost use Rattle.ether_filter.specs.Reading.{read_text};
 ghost use Rattle.ether_filter.specs.Texts.{IsExpressionOf};
 ghost use Rattle.ether_filter.specs.Refusals.{RefusesText};
-ghost use Rattle.ether_filter.specs.Evaluation.{AreValues, IsOpening, IsValue};
-ghost use Rattle.ether_filter.specs.Seen.{IsSeen, asks_headers as asks_headers_of};
+ghost use Rattle.ether_filter.specs.Programs.{IsProgramOf};
 ghost use Rattle.ether_filter.specs.Deciding.{AtCompletions, Says, StaysUnknown, WaitsUntil};
 
-use crate::deciding::{Opening, find_opening, joined_value, known};
 use crate::decision::Decision;
 use crate::filter_error::{FilterError, FilterErrorKind};
-use crate::jumps::{HOLDS, Jump, is_of_tags, jumps_of, past_tags};
-use crate::matching::{matches_primitive, matches_walked};
+use crate::instruction::Instruction;
 use crate::node::Node;
 use crate::packet::Packet;
-use crate::primitive::Primitive;
+use crate::program;
 use crate::reading::Reading;
-use crate::seen::{Seen, is_untagged, look};
 use crate::token::token_of;
 use crate::words::next_word;
 use arrayvec::ArrayVec;
-use ether_peel::Start;
 use std::marker::Model;
 
 /// The greatest number of words of an expression.
@@ -84,27 +76,22 @@ pub(crate) const MAX_WORDS: usize = 192;
 /// ```
 #[derive(Debug, Drop)]
 pub struct Filter {
-    /// The nodes of the expression, each after its operands.
-    nodes: ArrayVec<Node, MAX_WORDS>,
-    /// Where the evaluation goes on after each primitive, at the index of its node.
-    jumps: [Jump; MAX_WORDS],
-    /// .. and where after each that asks for VLAN tags, if there are none.
-    past_tags: [u8; MAX_WORDS],
+    /// The instructions of the expression's nodes, each after those of its operands.
+    instructions: ArrayVec<Instruction, MAX_WORDS>,
 }
 
 impl Model for Filter {
     ghost use Rattle.ether_filter.specs.Expressions.{Expression};
-    ghost use Rattle.ether_filter.specs.Postfix.{IsPostfix, expression_of, expression_code};
-    ghost use Rattle.ether_filter.specs.Jumps.{AreJumps, ArePassed, first_jump};
+    ghost use Rattle.ether_filter.specs.Postfix.{expression_of, expression_code};
+    ghost use Rattle.ether_filter.specs.Programs.{IsProgramOf, nodes_of};
 
     ghost Value = { Expression };
 
     ghost coded = { expression_code };
 
-    ghost view = { λ f. expression_of f.nodes.items };
+    ghost view = { λ f. expression_of (nodes_of f.instructions.items) };
 
-    ghost invariant = { λ f. IsPostfix f.nodes.items × AreJumps f.jumps 0 (expression_of f.nodes.items) first_jump
-        × ArePassed f.nodes.items f.jumps f.past_tags };
+    ghost invariant = { λ f. IsProgramOf f.instructions.items (expression_of (nodes_of f.instructions.items)) };
 }
 
 impl Filter {
@@ -120,17 +107,18 @@ impl Filter {
         ensures err { IfErr result (RefusesText text.now) }
     {
         match read(text) {
-            Ok(nodes) => {
-                let jumps = jumps_of(nodes.as_slice());
-                let past_tags = past_tags(nodes.as_slice(), &jumps);
-                Ok(Filter {
-                    nodes,
-                    jumps,
-                    past_tags,
-                })
-            }
+            Ok(nodes) => Ok(Filter {
+                instructions: program::instructions_of(nodes.as_slice()),
+            }),
             Err(error) => Err(error),
         }
+    }
+
+    /// The instructions of the filter, for memory of the caller: the module [`program`](crate::program) runs them on packets.
+    pub fn instructions(&self) -> &[Instruction]
+        ensures { IsProgramOf result.now self.now }
+    {
+        self.instructions.as_slice()
     }
 
     /// Returns `true` if a packet matches, by the bytes that were captured. Of a packet that was cut, [`decide`](Self::decide)
@@ -139,32 +127,7 @@ impl Filter {
         ensures { (hs : List Header) (e : Ending) → Walk (start_of packet.now.start) packet.now.frame.now hs e
             → IsTrue result ↔ Holds self.now (walked packet.now hs e) }
     {
-        if let [Node::Test(primitive)] = self.nodes.as_slice() {
-            return matches_walked(primitive, packet);
-        }
-        self.matches_by_jumps(packet)
-    }
-
-    /// Whether a packet matches, by what one walk shows of all primitives.
-    fn matches_by_jumps(&self, packet: &Packet<'_>) -> bool
-        ensures { (hs : List Header) (e : Ending) → Walk (start_of packet.now.start) packet.now.frame.now hs e
-            → IsTrue result ↔ Holds self.now (walked packet.now hs e) }
-    {
-        let nodes = self.nodes.as_slice();
-        let seen = look_for(nodes, packet.start, packet.frame);
-        let untagged = is_untagged(&seen);
-        let mut at = 0;
-        while at < nodes.len() {
-            let Node::Test(primitive) = &nodes[at] else {
-                return false; // not reached: each jump leads to a primitive
-            };
-            if untagged && is_of_tags(primitive) {
-                at = usize::from(self.past_tags[at]);
-                continue;
-            }
-            at = self.jumps[at].after(matches_primitive(primitive, packet, &seen));
-        }
-        at == usize::from(HOLDS)
+        program::matches(self.instructions.as_slice(), packet)
     }
 
     /// What is known of whether a packet matches, if not all of its bytes were captured.
@@ -209,85 +172,7 @@ impl Filter {
         ensures needs { (n : ℕ) → result ≡ Decision.Needs n → StaysUnknown packet.now n self.now }
         ensures waits { (n : ℕ) → result ≡ Decision.Needs n → WaitsUntil packet.now n }
     {
-        let opening = find_opening(packet);
-        let seen = look_for(self.nodes.as_slice(), packet.start, packet.frame);
-        let mut values = ArrayVec::new();
-        for node in self.nodes.as_slice() {
-            decide_node(&mut values, *node, packet, &seen, opening);
-        }
-        decision(values.pop().unwrap_or(None), opening)
-    }
-}
-
-/// What the headers of a packet show, if a node asks for them, and there is room for it.
-#[inline]
-fn look_for(nodes: &[Node], start: Start, frame: &[u8]) -> Option<Seen>
-    ensures bytes { IsBytes frame.now }
-    ensures seen { (hs : List Header) (e : Ending) → Walk (start_of start) frame.now hs e → IsSeen (next_of start) hs e result }
-{
-    for node in nodes {
-        if asks_headers(*node) {
-            return look(start, frame);
-        }
-    }
-    None
-}
-
-/// Whether a node is a primitive that asks for headers.
-fn asks_headers(node: Node) -> bool
-    ensures { result ≡ asks_headers_of node }
-{
-    match node {
-        Node::Test(primitive) => !matches!(
-            primitive,
-            Primitive::Cut | Primitive::Less(_) | Primitive::Greater(_)
-        ),
-        _ => false,
-    }
-}
-
-/// The decision on an expression of this value.
-fn decision(value: Option<bool>, opening: Option<Opening>) -> Decision
-    ensures { (packet : Packet) (hs : List Header) (e : Ending) (x : Expression) → IsOpening packet e opening → IsValue packet hs e value x
-        → Says packet hs e x result }
-{
-    match (value, opening) {
-        (Some(true), _) => Decision::Matches,
-        (Some(false), _) => Decision::Fails,
-        (None, Some(opening)) => Decision::Needs(opening.needed),
-        (None, None) => Decision::Fails, // not reached: of a packet that can have no more headers all is known
-    }
-}
-
-/// Puts the value of an expression in the place of those of its operands.
-fn decide_node(
-    values: &mut ArrayVec<Option<bool>, MAX_WORDS>,
-    node: Node,
-    packet: &Packet<'_>,
-    seen: &Option<Seen>,
-    opening: Option<Opening>,
-)
-    requires { array_vec_len values.old < MAX_WORDS }
-    ensures len { array_vec_len values.new ≤ array_vec_len values.old + 1 }
-    ensures values { (hs : List Header) (e : Ending) → Walk (start_of packet.now.start) packet.now.frame.now hs e
-        → IsSeen (next_of packet.now.start) hs e seen.now → IsOpening packet.now e opening
-        → (xs : List Expression) → AreValues (IsValue packet.now hs e) (reverse values.old.items) xs
-        → AreValues (IsValue packet.now hs e) (reverse values.new.items) (pushed xs node) }
-{
-    match node {
-        Node::Test(primitive) => values.push(known(primitive, packet, seen, opening)),
-        Node::Not => {
-            if let Some(value) = values.pop() {
-                values.push(value.map(|truth| !truth));
-            }
-        }
-        Node::Join(operator) => {
-            let right = values.pop();
-            let left = values.pop();
-            if let (Some(left), Some(right)) = (left, right) {
-                values.push(joined_value(operator, left, right));
-            }
-        }
+        program::decide(self.instructions.as_slice(), packet)
     }
 }
 

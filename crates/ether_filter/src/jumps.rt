@@ -15,8 +15,9 @@ pub(crate) const HOLDS: u8 = 255;
 const FAILS: u8 = 254;
 
 /// Where the evaluation goes on after a primitive: at which node, or an end.
-#[derive(Clone, Copy, Debug)]
-pub(crate) struct Jump {
+#[repr(C)]
+#[derive(Clone, Copy, Debug, Default)]
+pub struct Jump {
     if_true: u8,
     if_false: u8,
 }

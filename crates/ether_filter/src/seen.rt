@@ -5,7 +5,7 @@ ghost use Rattle.etherparse.specs.Header.{Header};
 ghost use Rattle.ether_peel.specs.Grammar.Stack.{Ending, Walk};
 ghost use Rattle.ether_peel.specs.Walker.Start.{start_of, next_of};
 ghost use Rattle.ether_filter.specs.Primitives.{listed};
-ghost use Rattle.ether_filter.specs.Jumps.{is_untagged as is_untagged_of};
+ghost use Rattle.ether_filter.specs.Jumps.{tags_seen as tags_seen_of};
 ghost use Rattle.ether_filter.specs.Seen.{told_after as told_after_of, tag_id as tag_id_of, fits as fits_of, has_room, takes, matches_seen, begun, IsTaken, IsSeen};
 
 use crate::fields::{Fields, announced_type, is_shown_by_link, read_fields};
@@ -211,12 +211,29 @@ fn has(numbers: &[u16], number: u16) -> bool
     false
 }
 
-/// Whether it is seen that a packet has no VLAN tag.
-pub(crate) fn is_untagged(seen: &Option<Seen>) -> bool
-    ensures { result ≡ is_untagged_of seen.now }
+/// The VLAN tags that are seen.
+#[derive(Clone, Copy)]
+pub(crate) enum Tags {
+    /// There is none.
+    Untagged,
+    /// There is one, with this identifier.
+    One(u16),
+    /// There are several, or it is not seen how many there are.
+    Any,
+}
+
+/// The VLAN tags that are seen of a packet.
+pub(crate) fn tags_seen(seen: &Option<Seen>) -> Tags
+    ensures { result ≡ tags_seen_of seen.now }
 {
-    match seen {
-        Some(seen) => seen.told.outer.is_none(),
-        None => false,
+    let Some(seen) = seen else {
+        return Tags::Any;
+    };
+    if seen.told.outer.is_none() {
+        return Tags::Untagged;
+    }
+    match seen.ids.as_slice() {
+        [id] => Tags::One(*id),
+        _ => Tags::Any,
     }
 }

@@ -5,6 +5,7 @@ mod content;
 mod cooked;
 mod editing;
 mod headers;
+pub mod program;
 mod selecting;
 
 pub use content::{Content, is_cut, without_fcs};

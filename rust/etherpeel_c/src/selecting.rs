@@ -2,8 +2,8 @@
 
 use crate::numbers::{BAD_FILTER, DONE, NO_ROOM};
 use crate::{EtherCaptured, EtherFilterError};
-use etherpeel::ether_content::selects;
-use etherpeel::ether_filter::Filter;
+use etherpeel::ether_content::program::selects;
+use etherpeel::ether_filter::{Filter, Instruction};
 
 /// Writes for each packet 1 if a filter's expression holds of it, else 0.
 ///
@@ -31,7 +31,7 @@ pub unsafe extern "C" fn etherpeel_select(
     let packets = unsafe { crate::by_hand::shared(packets, packets_len) };
     let matches = unsafe { crate::by_hand::mutable(matches, matches_len) };
     match Filter::parse(expression) {
-        Ok(filter) => put_marks(&filter, packets, matches),
+        Ok(filter) => put_marks(filter.instructions(), packets, matches),
         Err(refusal) => {
             *error = EtherFilterError::of(&refusal);
             BAD_FILTER
@@ -40,19 +40,23 @@ pub unsafe extern "C" fn etherpeel_select(
 }
 
 /// Writes the mark of each packet to the front of an array if it has room for all of them.
-fn put_marks(filter: &Filter, packets: &[EtherCaptured<'_>], matches: &mut [u8]) -> u32 {
+pub(crate) fn put_marks(
+    instructions: &[Instruction],
+    packets: &[EtherCaptured<'_>],
+    matches: &mut [u8],
+) -> u32 {
     if matches.len() < packets.len() {
         return NO_ROOM;
     }
     for (at, packet) in packets.iter().enumerate() {
-        matches[at] = mark(filter, packet);
+        matches[at] = mark(instructions, packet);
     }
     DONE
 }
 
 /// 1 if a filter selects a packet, else 0.
-fn mark(filter: &Filter, packet: &EtherCaptured<'_>) -> u8 {
-    if selects(filter, &packet.to_packet()) {
+pub(crate) fn mark(instructions: &[Instruction], packet: &EtherCaptured<'_>) -> u8 {
+    if selects(instructions, &packet.to_packet()) {
         1
     } else {
         0

@@ -1,10 +1,8 @@
 //! Which packets of a capture a filter selects.
 
-use crate::ether_content::content::{Content, is_cut, whole_len};
-use crate::ether_filter::{Decision, Filter, Packet};
+use crate::ether_content::program;
+use crate::ether_filter::Filter;
 use crate::ether_pcap::CapturedPacket;
-use crate::ether_peel::Start;
-use crate::ether_sll2::LinuxSll2Header;
 
 /// Returns `true` if a filter selects a packet: its expression holds of what is walked of the packet.
 ///
@@ -47,21 +45,7 @@ use crate::ether_sll2::LinuxSll2Header;
 /// </details>
 #[inline]
 pub fn selects(filter: &Filter, packet: &CapturedPacket<'_>) -> bool {
-    match Content::of(packet).frame() {
-        Some((start, frame)) => holds(filter, start, frame, packet),
-        None => false,
-    }
-}
-
-/// Whether a filter's expression holds of the walk of a packet.
-#[inline]
-fn holds(filter: &Filter, start: Start, frame: &[u8], packet: &CapturedPacket<'_>) -> bool {
-    filter.matches(&Packet {
-        start,
-        frame,
-        captured_len: packet.packet.len(),
-        original_len: packet.original_len,
-    })
+    program::selects(filter.instructions(), packet)
 }
 
 /// Returns `true` if a packet was cut so that its captured bytes don't decide whether a filter selects it.
@@ -106,32 +90,5 @@ fn holds(filter: &Filter, start: Start, frame: &[u8], packet: &CapturedPacket<'_
 /// </details>
 #[inline(always)]
 pub fn is_undecided(filter: &Filter, packet: &CapturedPacket<'_>) -> bool {
-    is_cut(packet) && leaves_open(filter, packet)
-}
-
-/// Whether the captured bytes of a packet don't decide whether a filter selects it.
-#[inline(never)]
-fn leaves_open(filter: &Filter, packet: &CapturedPacket<'_>) -> bool {
-    let content = Content::of(packet);
-    if let Content::LinuxSll2(bytes) = content {
-        if bytes.len() < LinuxSll2Header::LEN {
-            return whole_len(packet) >= LinuxSll2Header::LEN;
-        }
-    }
-    match content.frame() {
-        Some((start, frame)) => needs_bytes(filter, start, frame, packet),
-        None => false,
-    }
-}
-
-/// Whether more bytes of a packet's walk are needed to decide whether a filter's expression holds of it.
-#[inline]
-fn needs_bytes(filter: &Filter, start: Start, frame: &[u8], packet: &CapturedPacket<'_>) -> bool {
-    let decision = filter.decide(&Packet {
-        start,
-        frame,
-        captured_len: packet.packet.len(),
-        original_len: packet.original_len,
-    });
-    matches!(decision, Decision::Needs(_))
+    program::is_undecided(filter.instructions(), packet)
 }

@@ -1,19 +1,15 @@
 //! A filter.
 
-use crate::ether_filter::deciding::{Opening, find_opening, joined_value, known};
 use crate::ether_filter::decision::Decision;
 use crate::ether_filter::filter_error::{FilterError, FilterErrorKind};
-use crate::ether_filter::jumps::{HOLDS, Jump, is_of_tags, jumps_of, past_tags};
-use crate::ether_filter::matching::{matches_primitive, matches_walked};
+use crate::ether_filter::instruction::Instruction;
 use crate::ether_filter::node::Node;
 use crate::ether_filter::packet::Packet;
-use crate::ether_filter::primitive::Primitive;
+use crate::ether_filter::program;
 use crate::ether_filter::reading::Reading;
-use crate::ether_filter::seen::{Seen, is_untagged, look};
 use crate::ether_filter::token::token_of;
 use crate::ether_filter::words::next_word;
 use arrayvec::ArrayVec;
-use crate::ether_peel::Start;
 
 /// The greatest number of words of an expression.
 pub(crate) const MAX_WORDS: usize = 192;
@@ -73,12 +69,8 @@ pub(crate) const MAX_WORDS: usize = 192;
 /// ```
 #[derive(Debug)]
 pub struct Filter {
-    /// The nodes of the expression, each after its operands.
-    nodes: ArrayVec<Node, MAX_WORDS>,
-    /// Where the evaluation goes on after each primitive, at the index of its node.
-    jumps: [Jump; MAX_WORDS],
-    /// .. and where after each that asks for VLAN tags, if there are none.
-    past_tags: [u8; MAX_WORDS],
+    /// The instructions of the expression's nodes, each after those of its operands.
+    instructions: ArrayVec<Instruction, MAX_WORDS>,
 }
 
 impl Filter {
@@ -101,17 +93,25 @@ impl Filter {
     #[inline]
     pub fn parse(text: &[u8]) -> Result<Filter, FilterError> {
         match read(text) {
-            Ok(nodes) => {
-                let jumps = jumps_of(nodes.as_slice());
-                let past_tags = past_tags(nodes.as_slice(), &jumps);
-                Ok(Filter {
-                    nodes,
-                    jumps,
-                    past_tags,
-                })
-            }
+            Ok(nodes) => Ok(Filter {
+                instructions: program::instructions_of(nodes.as_slice()),
+            }),
             Err(error) => Err(error),
         }
+    }
+
+    /// The instructions of the filter, for memory of the caller: the module [`program`](crate::ether_filter::program) runs them on packets.
+    ///
+    /// <details><summary>Contract</summary>
+    ///
+    /// ```text
+    /// ensures { IsProgramOf result.now self.now }
+    /// ```
+    ///
+    /// </details>
+    #[inline]
+    pub fn instructions(&self) -> &[Instruction] {
+        self.instructions.as_slice()
     }
 
     /// Returns `true` if a packet matches, by the bytes that were captured. Of a packet that was cut, [`decide`](Self::decide)
@@ -127,30 +127,7 @@ impl Filter {
     /// </details>
     #[inline]
     pub fn matches(&self, packet: &Packet<'_>) -> bool {
-        if let [Node::Test(primitive)] = self.nodes.as_slice() {
-            return matches_walked(primitive, packet);
-        }
-        self.matches_by_jumps(packet)
-    }
-
-    /// Whether a packet matches, by what one walk shows of all primitives.
-    #[inline]
-    fn matches_by_jumps(&self, packet: &Packet<'_>) -> bool {
-        let nodes = self.nodes.as_slice();
-        let seen = look_for(nodes, packet.start, packet.frame);
-        let untagged = is_untagged(&seen);
-        let mut at = 0;
-        while at < nodes.len() {
-            let Node::Test(primitive) = &nodes[at] else {
-                return false; // not reached: each jump leads to a primitive
-            };
-            if untagged && is_of_tags(primitive) {
-                at = usize::from(self.past_tags[at]);
-                continue;
-            }
-            at = self.jumps[at].after(matches_primitive(primitive, packet, &seen));
-        }
-        at == usize::from(HOLDS)
+        program::matches(self.instructions.as_slice(), packet)
     }
 
     /// What is known of whether a packet matches, if not all of its bytes were captured.
@@ -207,73 +184,7 @@ impl Filter {
     /// </details>
     #[inline]
     pub fn decide(&self, packet: &Packet<'_>) -> Decision {
-        let opening = find_opening(packet);
-        let seen = look_for(self.nodes.as_slice(), packet.start, packet.frame);
-        let mut values = ArrayVec::new();
-        for node in self.nodes.as_slice() {
-            decide_node(&mut values, *node, packet, &seen, opening);
-        }
-        decision(values.pop().unwrap_or(None), opening)
-    }
-}
-
-/// What the headers of a packet show, if a node asks for them, and there is room for it.
-#[inline]
-fn look_for(nodes: &[Node], start: Start, frame: &[u8]) -> Option<Seen> {
-    for node in nodes {
-        if asks_headers(*node) {
-            return look(start, frame);
-        }
-    }
-    None
-}
-
-/// Whether a node is a primitive that asks for headers.
-#[inline]
-fn asks_headers(node: Node) -> bool {
-    match node {
-        Node::Test(primitive) => !matches!(
-            primitive,
-            Primitive::Cut | Primitive::Less(_) | Primitive::Greater(_)
-        ),
-        _ => false,
-    }
-}
-
-/// The decision on an expression of this value.
-#[inline]
-fn decision(value: Option<bool>, opening: Option<Opening>) -> Decision {
-    match (value, opening) {
-        (Some(true), _) => Decision::Matches,
-        (Some(false), _) => Decision::Fails,
-        (None, Some(opening)) => Decision::Needs(opening.needed),
-        (None, None) => Decision::Fails, // not reached: of a packet that can have no more headers all is known
-    }
-}
-
-/// Puts the value of an expression in the place of those of its operands.
-#[inline]
-fn decide_node(
-    values: &mut ArrayVec<Option<bool>, MAX_WORDS>,
-    node: Node,
-    packet: &Packet<'_>,
-    seen: &Option<Seen>,
-    opening: Option<Opening>,
-) {
-    match node {
-        Node::Test(primitive) => values.push(known(primitive, packet, seen, opening)),
-        Node::Not => {
-            if let Some(value) = values.pop() {
-                values.push(value.map(|truth| !truth));
-            }
-        }
-        Node::Join(operator) => {
-            let right = values.pop();
-            let left = values.pop();
-            if let (Some(left), Some(right)) = (left, right) {
-                values.push(joined_value(operator, left, right));
-            }
-        }
+        program::decide(self.instructions.as_slice(), packet)
     }
 }
 

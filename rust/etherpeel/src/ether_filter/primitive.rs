@@ -1,24 +1,39 @@
 //! The primitives of an expression.
 
-/// What an expression asks of a packet, in one primitive of pcap-filter(7).
+/// What an expression asks of a packet in one primitive, as the table of [`Filter`](crate::ether_filter::Filter) says.
 ///
 /// An address is one number, whose first byte is the most significant one.
 #[derive(Clone, Copy, Debug)]
-pub(crate) enum Primitive {
+pub enum Primitive {
+    /// `vlan`
     Vlan,
+    /// `vlan N`
     VlanId(u16),
+    /// `outer vlan N`
     OuterVlan(u16),
+    /// `inner vlan N`
     InnerVlan(u16),
+    /// `macsec`
     Macsec,
+    /// `ether proto N`
     EtherType(u16),
+    /// `ether src A`
     Source(u64),
+    /// `ether dst A`
     Destination(u64),
+    /// `ether host A`
     Host(u64),
+    /// `ether broadcast`
     Broadcast,
+    /// `ether multicast`
     Multicast,
+    /// `refused`
     Refused,
+    /// `cut`
     Cut,
+    /// `less N`
     Less(u32),
+    /// `greater N`
     Greater(u32),
 }
 

@@ -188,11 +188,28 @@ fn has(numbers: &[u16], number: u16) -> bool {
     false
 }
 
-/// Whether it is seen that a packet has no VLAN tag.
+/// The VLAN tags that are seen.
+#[derive(Clone, Copy)]
+pub(crate) enum Tags {
+    /// There is none.
+    Untagged,
+    /// There is one, with this identifier.
+    One(u16),
+    /// There are several, or it is not seen how many there are.
+    Any,
+}
+
+/// The VLAN tags that are seen of a packet.
 #[inline]
-pub(crate) fn is_untagged(seen: &Option<Seen>) -> bool {
-    match seen {
-        Some(seen) => seen.told.outer.is_none(),
-        None => false,
+pub(crate) fn tags_seen(seen: &Option<Seen>) -> Tags {
+    let Some(seen) = seen else {
+        return Tags::Any;
+    };
+    if seen.told.outer.is_none() {
+        return Tags::Untagged;
+    }
+    match seen.ids.as_slice() {
+        [id] => Tags::One(*id),
+        _ => Tags::Any,
     }
 }

@@ -1,14 +1,4 @@
-use Rattle.std.proofs.Common.{subst}
-use Rattle.ether_pcap.specs.CaptureViews.{captured_packet_view}
-use Rattle.ether_peel.specs.Walker.Start.{next_of}
-use Rattle.ether_content.specs.Content.{ContentValue, IsWalked}
-use Rattle.ether_content.proofs.SelectingLemmas.{selected}
 use Rattle.ether_content.proofs.selecting.selects.Goals as goal
 
-pub returns-in-Some : goal.returns-in-Some
-returns-in-Some c =
-    selected c.args.filter.now (captured_packet_view c.args.packet.now) (next_of c.in-Some.start) c.in-Some.frame.now
-    c.holds.result
-    (subst (λ (content : ContentValue). IsWalked content (next_of c.in-Some.start) c.in-Some.frame.now) c.of.ensures
-    c.in-Some.ensures.some)
-    c.holds.ensures
+pub returns : goal.returns
+returns c = c.selects.ensures c.args.filter.now c.instructions.ensures

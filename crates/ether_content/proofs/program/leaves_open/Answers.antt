@@ -6,21 +6,21 @@ use Rattle.ether_content.specs.Content.{ContentValue, IsWalked}
 use Rattle.ether_content.specs.ContentViews.{content_view}
 use Rattle.ether_content.specs.Selecting.{asked_of}
 use Rattle.ether_content.proofs.UndecidedLemmas.{asked_undecided, header_undecided}
-use Rattle.ether_content.proofs.selecting.leaves_open.Goals as goal
+use Rattle.ether_content.proofs.program.leaves_open.Goals as goal
 
 pub returns-then-bytes-lt-LEN : goal.returns-then-bytes-lt-LEN
-returns-then-bytes-lt-LEN c =
+returns-then-bytes-lt-LEN c x program =
     let is = sym c.of-content.ensures ∙ ap content_view c.in-LinuxSll2.is in
     let long = c.whole_len.ensures in
-    header_undecided c.args.filter.now (captured_packet_view c.args.packet.now) c.in-LinuxSll2.bytes.now _ is
+    header_undecided x (captured_packet_view c.args.packet.now) c.in-LinuxSll2.bytes.now _ is
     c.if-bytes-lt-LEN.true (
       λ true. let le = leb-true 20 c.whole_len.result true in omega (arith, le, long),
       λ le. le-leb 20 c.whole_len.result (omega (arith, le, long)),
     )
 
 pub returns-in-Some : goal.returns-in-Some
-returns-in-Some c =
-    asked_undecided c.args.filter.now (captured_packet_view c.args.packet.now)
+returns-in-Some c x program =
+    asked_undecided x (captured_packet_view c.args.packet.now)
     (asked_of c.in-Some.start c.in-Some.frame c.args.packet.now) c.needs_bytes.result
     (record {
       walked =
@@ -29,4 +29,4 @@ returns-in-Some c =
       captured = refl;
       original = refl;
     })
-    c.needs_bytes.ensures
+    (c.needs_bytes.ensures x program)

@@ -1,0 +1,102 @@
+/* Times etherpeel_filter_matches next to the compiled filter of libpcap (pcap_offline_filter), one packet a call.
+ *
+ *     calls TERMS tagged|untagged own|libpcap|both
+ *
+ * The packets are 4,096 of 64 bytes, with a VLAN tag or none; the filter selects those that one of some VLAN identifiers has. With
+ * `both`, the two are asked in turn, must agree on each packet, and the nanoseconds of a packet are printed, the least of 25 turns. With one
+ * of them, each packet is asked once, for callgrind. */
+#include <pcap/pcap.h>
+#include <stdio.h>
+#include <stdlib.h>
+#include <string.h>
+#include <time.h>
+
+#include "../../c/etherpeel.h"
+
+enum { PACKETS = 4096, LEN = 64, TURNS = 25 };
+
+static uint8_t bytes[PACKETS][LEN];
+static etherpeel_captured packets[PACKETS];
+static uint8_t own_marks[PACKETS], other_marks[PACKETS];
+static etherpeel_filter filter;
+static struct bpf_program program;
+
+static void fail(const char *what) {
+    fprintf(stderr, "%s\n", what);
+    exit(1);
+}
+
+static uint32_t drawn(void) {
+    static uint32_t state = 1;
+    state = state * 1664525u + 1013904223u;
+    return state >> 16;
+}
+
+static void make_packets(int tagged) {
+    static const uint8_t ethernet[12] = {255, 255, 255, 255, 255, 255, 2, 0, 0, 0, 0, 1};
+    for (int i = 0; i < PACKETS; i++) {
+        uint8_t *p = bytes[i];
+        memcpy(p, ethernet, 12);
+        if (tagged) {
+            uint32_t id = drawn() % 4094 + 1;
+            uint8_t tag[4] = {0x81, 0, (uint8_t)(id >> 8), (uint8_t)id};
+            memcpy(p + 12, tag, 4);
+        }
+        p[tagged ? 16 : 12] = 8;
+        packets[i].packet = p, packets[i].packet_len = LEN;
+        packets[i].original_len = LEN, packets[i].link_type = 1;
+    }
+}
+
+static void make_filters(int terms) {
+    static char own[4096], other[8192];
+    size_t own_len = 0, other_len = (size_t)sprintf(other, "vlan and (");
+    for (int i = 0; i < terms; i++) {
+        uint32_t id = drawn() % 4094 + 1;
+        own_len += (size_t)sprintf(own + own_len, "%svlan %u", i ? " or " : "", id);
+        other_len += (size_t)sprintf(other + other_len, "%sether[14:2] & 0xfff = %u", i ? " or " : "", id);
+    }
+    strcpy(other + other_len, ")");
+    etherpeel_filter_error error;
+    if (etherpeel_filter_parse(own, own_len, &filter, &error) != ETHERPEEL_DONE) fail("no filter");
+    pcap_t *dead = pcap_open_dead(DLT_EN10MB, 262144);
+    if (pcap_compile(dead, &program, other, 1, PCAP_NETMASK_UNKNOWN)) fail(pcap_geterr(dead));
+    pcap_close(dead);
+}
+
+__attribute__((noinline)) static void ask_own(void) {
+    for (int i = 0; i < PACKETS; i++)
+        own_marks[i] = (uint8_t)etherpeel_filter_matches(&filter, &packets[i]);
+}
+
+__attribute__((noinline)) static void ask_libpcap(void) {
+    struct pcap_pkthdr header;
+    memset(&header, 0, sizeof header);
+    header.caplen = header.len = LEN;
+    for (int i = 0; i < PACKETS; i++)
+        other_marks[i] = pcap_offline_filter(&program, &header, bytes[i]) != 0;
+}
+
+static double nanoseconds(void (*ask)(void)) {
+    struct timespec begun, ended;
+    clock_gettime(CLOCK_PROCESS_CPUTIME_ID, &begun);
+    ask();
+    clock_gettime(CLOCK_PROCESS_CPUTIME_ID, &ended);
+    return ((double)(ended.tv_sec - begun.tv_sec) * 1e9 + (double)(ended.tv_nsec - begun.tv_nsec)) / PACKETS;
+}
+
+int main(int argc, char **argv) {
+    if (argc != 4) fail("calls TERMS tagged|untagged own|libpcap|both");
+    make_packets(strcmp(argv[2], "tagged") == 0);
+    make_filters(atoi(argv[1]));
+    if (strcmp(argv[3], "own") == 0) return ask_own(), 0;
+    if (strcmp(argv[3], "libpcap") == 0) return ask_libpcap(), 0;
+    double own = 1e9, other = 1e9;
+    for (int i = 0; i < TURNS; i++) {
+        double a = nanoseconds(ask_own), b = nanoseconds(ask_libpcap);
+        own = a < own ? a : own, other = b < other ? b : other;
+    }
+    if (memcmp(own_marks, other_marks, PACKETS) != 0) fail("the two do not agree");
+    printf("%.1f %.1f %.2f\n", own, other, own / other);
+    return 0;
+}

@@ -1,0 +1,95 @@
+-- The instructions of a filter are those of its expression.
+use Rattle.std.proofs.Common.{◌≡◌, ℕ, suc, ◌+◌, ◌<◌, List, [], ◌∷◌, ◌++◌, length, refl, ap, subst, sym, ◌∙◌, arith, Bool, true, false, inl, inr}
+use Rattle.std.specs.Prelude.{get_or, Some, None, nat_eq, if◌then◌else◌}
+use Rattle.std.proofs.lemmas.Bool.{cases_lt}
+use Rattle.std.proofs.lemmas.List.{get_or_append_left, get_or_default}
+use Rattle.std.proofs.Math.Seq.{get_or-append_seam}
+use Rattle.ether_filter.specs.declared.jumps.Jump.{Jump}
+use Rattle.ether_filter.specs.declared.node.Node.{Node}
+use Rattle.ether_filter.specs.declared.node.Node.TheVariants as nodes
+use Rattle.ether_filter.specs.declared.node.Operator.TheVariants as operators
+use Rattle.ether_filter.specs.declared.primitive.Primitive.{Primitive}
+use Rattle.ether_filter.specs.declared.instruction.Instruction.{Instruction}
+use Rattle.ether_filter.specs.Expressions.{Expression, Test}
+use Rattle.ether_filter.specs.Postfix.{postfix, expression_of, expression_of-postfix}
+use Rattle.ether_filter.specs.Jumps.{no_jump, jump_at}
+use Rattle.ether_filter.specs.Programs.{primitive_numbered, operator_numbered, test_or, node_numbered, IsInstruction, IsProgramOf, with_node, nodes_of}
+
+-- ---- an instruction
+
+-- what is read past the end
+abbrev pub no_instruction : Instruction
+no_instruction = record { operand = 0; kind = 0; jump = no_jump; past_tags = 0 }
+
+pub is_test : (kind operand : ℕ) (n : Node) (p : Primitive) → node_numbered kind operand ≡ Some n
+    → Some p ≡ primitive_numbered kind operand → n ≡ nodes.Test p
+is_test kind operand n p node is =
+    let all : test_or (Some p) (operator_numbered kind) ≡ Some n = subst (λ q. test_or q (operator_numbered kind) ≡ Some n) (sym is) node in
+    cc
+
+no_operator : (a b c : Bool) (p : Primitive)
+    → (if a then Some nodes.Not else (if b then Some (nodes.Join operators.And) else (if c then Some (nodes.Join operators.Or) else None)))
+    ≡ Some (nodes.Test p) → ⊥
+no_operator true b c p is = cc
+no_operator false true c p is = cc
+no_operator false false true p is = cc
+no_operator false false false p is = cc
+
+pub never_test : (kind operand : ℕ) (n : Node) → node_numbered kind operand ≡ Some n
+    → primitive_numbered kind operand ≡ None → (p : Primitive) → n ≡ nodes.Test p → ⊥
+never_test kind operand n node none p is =
+    let all : operator_numbered kind ≡ Some n = subst (λ q. test_or q (operator_numbered kind) ≡ Some n) none node in
+    no_operator (nat_eq kind 15) (nat_eq kind 16) (nat_eq kind 17) p (all ∙ ap Some is)
+
+-- ---- the instructions of nodes
+
+pub instructed : (ns : List Node) (js : List Jump) (past : List ℕ) (old new : List Instruction) (at : ℕ) (d n : Node) (s : Instruction)
+    → length old ≡ at → at < length ns → get_or ns at d ≡ n → new ≡ old ++ s ∷ []
+    → IsInstruction n (jump_at js at) (get_or past at 0) s
+    → ((i : ℕ) → i < at → (d : Node) (e : Instruction) → IsInstruction (get_or ns i d) (jump_at js i) (get_or past i 0) (get_or old i e))
+    → (i : ℕ) → i < at + 1 → (d : Node) (e : Instruction)
+    → IsInstruction (get_or ns i d) (jump_at js i) (get_or past i 0) (get_or new i e)
+instructed ns js past old new at d n s len inside is more instruction instructions i lt f e = elim (cases_lt i at) [
+  | inl before ↦
+      let same : get_or new i e ≡ get_or old i e =
+      ap (λ l. get_or l i e) more ∙ get_or_append_left old (s ∷ []) e i (omega (arith, before, len)) in
+      rw same (instructions i before f e)
+  | inr past_it ↦
+      let here : i ≡ at = omega (arith, lt, past_it) in
+      let last : get_or new at e ≡ s =
+      ap (λ l. get_or l at e) more ∙ ap (λ k. get_or (old ++ s ∷ []) k e) (sym len) ∙ get_or-append_seam old s [] e in
+      let node : get_or ns at f ≡ n = get_or_default ns at f d inside ∙ is in
+      rw (here, node, last) instruction
+]
+
+-- ---- the nodes of instructions
+
+nodes_same : (instructions : List Instruction) (ns : List Node) → length instructions ≡ length ns
+    → ((i : ℕ) → i < length instructions → (d : Node) (e : Instruction)
+    → node_numbered (get_or instructions i e).kind (get_or instructions i e).operand ≡ Some (get_or ns i d)) → nodes_of instructions ≡ ns
+nodes_same [] [] len are = refl
+nodes_same [] (n ∷ ns) len are = absurd (omega (arith, len))
+nodes_same (s ∷ instructions) [] len are = absurd (omega (arith, len))
+nodes_same (s ∷ instructions) (n ∷ ns) len are =
+    ap (λ m. with_node m (nodes_of instructions)) (are 0 (omega arith) n s)
+    ∙ ap (λ l. n ∷ l) (nodes_same instructions ns (omega (arith, len)) (λ i lt d e. are (suc i) (omega (arith, lt)) d e))
+
+pub nodes_are : (instructions : List Instruction) (x : Expression) → IsProgramOf instructions x → nodes_of instructions ≡ postfix x
+nodes_are instructions x p = nodes_same instructions (postfix x) p.count (λ i lt d e. (p.each i lt d e).node)
+
+only : (ns : List Node) (p : Primitive) → length ns ≡ 1 → get_or ns 0 nodes.Not ≡ nodes.Test p → ns ≡ nodes.Test p ∷ []
+only [] p one is = absurd (omega (arith, one))
+only (n ∷ []) p one is = ap (λ m. m ∷ []) is
+only (n ∷ m ∷ ns) p one is = absurd (omega (arith, one))
+
+-- one instruction with a primitive is that of an expression which is the primitive
+only_node : (x : Expression) (p : Primitive) → length (postfix x) ≡ 1 → get_or (postfix x) 0 nodes.Not ≡ nodes.Test p
+    → x ≡ Test p
+only_node x p one is = sym (expression_of-postfix x) ∙ ap expression_of (only (postfix x) p one is)
+
+pub only_primitive : (instructions : List Instruction) (x : Expression) (p : Primitive) → IsProgramOf instructions x → length instructions ≡ 1
+    → Some p ≡ primitive_numbered (get_or instructions 0 no_instruction).kind (get_or instructions 0 no_instruction).operand → x ≡ Test p
+only_primitive instructions x p program one is =
+    let s = get_or instructions 0 no_instruction in
+    let each = program.each 0 (omega (arith, one)) nodes.Not no_instruction in
+    only_node x p (sym program.count ∙ one) (is_test s.kind s.operand _ p each.node is)

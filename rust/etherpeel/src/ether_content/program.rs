@@ -1,0 +1,97 @@
+//! Filters in memory of the caller: which packets of a capture they select.
+
+use crate::ether_content::content::{Content, is_cut, whole_len};
+use crate::ether_filter::{Decision, Instruction, Packet, program};
+use crate::ether_pcap::CapturedPacket;
+use crate::ether_peel::Start;
+use crate::ether_sll2::LinuxSll2Header;
+
+/// Returns `true` if the filter that gave the instructions selects a packet, as [`selects`](crate::ether_content::selects) says.
+///
+/// If no filter gave them, the result says nothing.
+///
+/// <details><summary>Contract</summary>
+///
+/// ```text
+/// ensures { (x : Expression) → IsProgramOf instructions.now x → IsTrue result ↔ Selects x (captured_packet_view packet.now) }
+/// ```
+///
+/// </details>
+#[inline]
+pub fn selects(instructions: &[Instruction], packet: &CapturedPacket<'_>) -> bool {
+    match Content::of(packet).frame() {
+        Some((start, frame)) => holds(instructions, start, frame, packet),
+        None => false,
+    }
+}
+
+/// Whether a filter's expression holds of the walk of a packet.
+#[inline]
+fn holds(
+    instructions: &[Instruction],
+    start: Start,
+    frame: &[u8],
+    packet: &CapturedPacket<'_>,
+) -> bool {
+    program::matches(
+        instructions,
+        &Packet {
+            start,
+            frame,
+            captured_len: packet.packet.len(),
+            original_len: packet.original_len,
+        },
+    )
+}
+
+/// Returns `true` if the captured bytes of a packet don't decide whether the filter that gave the instructions selects it, as
+/// [`is_undecided`](crate::ether_content::is_undecided) says.
+///
+/// If no filter gave them, the result says nothing.
+///
+/// <details><summary>Contract</summary>
+///
+/// ```text
+/// ensures { (x : Expression) → IsProgramOf instructions.now x → IsTrue result ↔ IsUndecided x (captured_packet_view packet.now) }
+/// ```
+///
+/// </details>
+#[inline(always)]
+pub fn is_undecided(instructions: &[Instruction], packet: &CapturedPacket<'_>) -> bool {
+    is_cut(packet) && leaves_open(instructions, packet)
+}
+
+/// Whether the captured bytes of a packet don't decide whether a filter selects it.
+#[inline(never)]
+fn leaves_open(instructions: &[Instruction], packet: &CapturedPacket<'_>) -> bool {
+    let content = Content::of(packet);
+    if let Content::LinuxSll2(bytes) = content {
+        if bytes.len() < LinuxSll2Header::LEN {
+            return whole_len(packet) >= LinuxSll2Header::LEN;
+        }
+    }
+    match content.frame() {
+        Some((start, frame)) => needs_bytes(instructions, start, frame, packet),
+        None => false,
+    }
+}
+
+/// Whether more bytes of a packet's walk are needed to decide whether a filter's expression holds of it.
+#[inline]
+fn needs_bytes(
+    instructions: &[Instruction],
+    start: Start,
+    frame: &[u8],
+    packet: &CapturedPacket<'_>,
+) -> bool {
+    let decision = program::decide(
+        instructions,
+        &Packet {
+            start,
+            frame,
+            captured_len: packet.packet.len(),
+            original_len: packet.original_len,
+        },
+    );
+    matches!(decision, Decision::Needs(_))
+}

@@ -1,0 +1,133 @@
+//! The instructions of a filter, as numbers alone.
+
+use crate::ether_filter::jumps::{Jump, is_of_tags};
+use crate::ether_filter::node::{Node, Operator};
+use crate::ether_filter::primitive::Primitive;
+
+/// An instruction of a filter: a node of its expression, and where the evaluation goes on after it.
+///
+/// It is numbers alone, so that a filter can lie in memory of any kind: [`Filter::instructions`](crate::ether_filter::Filter::instructions) gives
+/// them, and the module [`program`](crate::ether_filter::program) runs them on packets. Each bit pattern is a value. What the numbers mean may
+/// change with the version.
+#[repr(C)]
+#[derive(Clone, Copy, Debug, Default)]
+pub struct Instruction {
+    /// The number or the address that a primitive names.
+    operand: u64,
+    /// Which node it is.
+    kind: u32,
+    pub(crate) jump: Jump,
+    /// Where the evaluation goes on if there are no VLAN tags.
+    pub(crate) past_tags: u8,
+}
+
+impl Instruction {
+    /// The instruction of a node.
+    #[inline]
+    pub(crate) fn of(node: Node, jump: Jump, past_tags: u8) -> Instruction {
+        let (kind, operand) = match node {
+            Node::Test(primitive) => numbers_of(primitive),
+            Node::Not => (15, 0),
+            Node::Join(Operator::And) => (16, 0),
+            Node::Join(Operator::Or) => (17, 0),
+        };
+        Instruction {
+            operand,
+            kind,
+            jump,
+            past_tags,
+        }
+    }
+
+    /// The primitive that it asks, if it asks one.
+    #[inline(always)]
+    pub(crate) fn primitive(&self) -> Option<Primitive> {
+        let operand = self.operand;
+        Some(match self.kind {
+            0 => Primitive::Vlan,
+            1 => Primitive::VlanId((operand % (1 << 16)) as u16),
+            2 => Primitive::OuterVlan((operand % (1 << 16)) as u16),
+            3 => Primitive::InnerVlan((operand % (1 << 16)) as u16),
+            4 => Primitive::Macsec,
+            5 => Primitive::EtherType((operand % (1 << 16)) as u16),
+            6 => Primitive::Source(operand),
+            7 => Primitive::Destination(operand),
+            8 => Primitive::Host(operand),
+            9 => Primitive::Broadcast,
+            10 => Primitive::Multicast,
+            11 => Primitive::Refused,
+            12 => Primitive::Cut,
+            13 => Primitive::Less((operand % (1 << 32)) as u32),
+            14 => Primitive::Greater((operand % (1 << 32)) as u32),
+            _ => return None,
+        })
+    }
+
+    /// Whether it asks for VLAN tags.
+    #[inline(always)]
+    pub(crate) fn asks_tags(&self) -> bool {
+        match self.primitive() {
+            Some(primitive) => is_of_tags(&primitive),
+            None => false,
+        }
+    }
+
+    /// Whether it asks for another identifier of VLAN tags than this.
+    #[inline(always)]
+    pub(crate) fn asks_other_id(&self, id: u16) -> bool {
+        match self.primitive() {
+            Some(Primitive::VlanId(wanted)) => wanted != id,
+            _ => false,
+        }
+    }
+
+    /// The node of the expression. Each instruction that a filter gives has one.
+    ///
+    /// <details><summary>Contract</summary>
+    ///
+    /// ```text
+    /// ensures { result ≡ node_numbered self.now.kind self.now.operand }
+    /// ```
+    ///
+    /// </details>
+    #[inline]
+    pub fn node(&self) -> Option<Node> {
+        match self.primitive() {
+            Some(primitive) => Some(Node::Test(primitive)),
+            None => operator(self.kind),
+        }
+    }
+}
+
+/// The numbers of a primitive.
+#[inline]
+fn numbers_of(primitive: Primitive) -> (u32, u64) {
+    match primitive {
+        Primitive::Vlan => (0, 0),
+        Primitive::VlanId(id) => (1, u64::from(id)),
+        Primitive::OuterVlan(id) => (2, u64::from(id)),
+        Primitive::InnerVlan(id) => (3, u64::from(id)),
+        Primitive::Macsec => (4, 0),
+        Primitive::EtherType(number) => (5, u64::from(number)),
+        Primitive::Source(address) => (6, address),
+        Primitive::Destination(address) => (7, address),
+        Primitive::Host(address) => (8, address),
+        Primitive::Broadcast => (9, 0),
+        Primitive::Multicast => (10, 0),
+        Primitive::Refused => (11, 0),
+        Primitive::Cut => (12, 0),
+        Primitive::Less(len) => (13, u64::from(len)),
+        Primitive::Greater(len) => (14, u64::from(len)),
+    }
+}
+
+/// The operator with a number.
+#[inline]
+fn operator(kind: u32) -> Option<Node> {
+    match kind {
+        15 => Some(Node::Not),
+        16 => Some(Node::Join(Operator::And)),
+        17 => Some(Node::Join(Operator::Or)),
+        _ => None,
+    }
+}

@@ -1,0 +1,92 @@
+//! Filters that are read once and asked about many packets.
+
+use crate::numbers::{BAD_FILTER, DONE};
+use crate::selecting::{mark, put_marks};
+use crate::{EtherCaptured, EtherFilter, EtherFilterError};
+use etherpeel::ether_content::program::is_undecided;
+use etherpeel::ether_filter::Filter;
+
+/// What `etherpeel_filter_decide` returns of a packet whose captured bytes don't decide whether the filter selects it.
+const UNDECIDED: u32 = 2;
+
+/// Reads the text of a filter into memory of the caller.
+///
+/// <details><summary>Contract</summary>
+///
+/// ```text
+/// ensures { GivesFilter expression.now filter.old filter.new error.old error.new result }
+/// ```
+///
+/// </details>
+#[unsafe(no_mangle)]
+pub unsafe extern "C" fn etherpeel_filter_parse(
+    expression: *const u8,
+    expression_len: usize,
+    filter: &mut EtherFilter,
+    error: &mut EtherFilterError,
+) -> u32 {
+    let expression = unsafe { crate::by_hand::shared(expression, expression_len) };
+    match Filter::parse(expression) {
+        Ok(parsed) => {
+            filter.put(&parsed);
+            DONE
+        }
+        Err(refusal) => {
+            *error = EtherFilterError::of(&refusal);
+            BAD_FILTER
+        }
+    }
+}
+
+/// 1 if a filter selects a packet, else 0.
+///
+/// <details><summary>Contract</summary>
+///
+/// ```text
+/// ensures { (x : Expression) → IsFilterOf filter.now x → IsMark x packet.now result }
+/// ```
+///
+/// </details>
+#[unsafe(no_mangle)]
+pub extern "C" fn etherpeel_filter_matches(filter: &EtherFilter, packet: &EtherCaptured<'_>) -> u32 {
+    u32::from(mark(filter.program(), packet))
+}
+
+/// 1 if a filter selects a packet, 0 if it doesn't, 2 if the captured bytes don't decide that.
+///
+/// <details><summary>Contract</summary>
+///
+/// ```text
+/// ensures { (x : Expression) → IsFilterOf filter.now x → IsDecision x packet.now result }
+/// ```
+///
+/// </details>
+#[unsafe(no_mangle)]
+pub extern "C" fn etherpeel_filter_decide(filter: &EtherFilter, packet: &EtherCaptured<'_>) -> u32 {
+    if is_undecided(filter.program(), &packet.to_packet()) {
+        return UNDECIDED;
+    }
+    u32::from(mark(filter.program(), packet))
+}
+
+/// Writes for each packet 1 if a filter selects it, else 0.
+///
+/// <details><summary>Contract</summary>
+///
+/// ```text
+/// ensures { (x : Expression) → IsFilterOf filter.now x → PutsMarks x packets.now matches.old matches.new result }
+/// ```
+///
+/// </details>
+#[unsafe(no_mangle)]
+pub unsafe extern "C" fn etherpeel_filter_select(
+    filter: &EtherFilter,
+    packets: *const EtherCaptured<'_>,
+    packets_len: usize,
+    matches: *mut u8,
+    matches_len: usize,
+) -> u32 {
+    let packets = unsafe { crate::by_hand::shared(packets, packets_len) };
+    let matches = unsafe { crate::by_hand::mutable(matches, matches_len) };
+    put_marks(filter.program(), packets, matches)
+}
