@@ -20,7 +20,7 @@ NUMBER = r"(?:0x[0-9A-Fa-f_]+|0b[01_]+|[0-9][0-9_]*)(?:u8|u16|u32|u64|u128|usize
 # A macro, and how its call begins; those of examples and tests; those that tests declare are known there, too.
 MACROS = {"matches": "(", "unreachable": "()", "write": "(f,"}
 EXAMPLE_MACROS = {"assert": "(", "assert_eq": "(", "panic": "(", "format": "("}
-ATTRIBUTES = ["#[inline]", "#[inline(always)]", "#[inline(never)]", "#[rustfmt::skip]", "#[test]"]
+ATTRIBUTES = ["#[repr(C)]", "#[inline]", "#[inline(always)]", "#[inline(never)]", "#[rustfmt::skip]", "#[test]"]
 DERIVES = set("Clone Copy PartialEq Eq PartialOrd Ord Hash Debug Default Error".split())
 
 # Names of Rust that need no path.
@@ -60,7 +60,7 @@ TEST_METHODS = set(
 )
 
 # What the calls for C use besides.
-CALL_ATTRIBUTES = ["#[repr(C)]", "#[unsafe(no_mangle)]"]
+CALL_ATTRIBUTES = ["#[unsafe(no_mangle)]"]
 CALL_MACROS = {"assert": "(size_of", "write": "(text,"}
 CALL_NAMES = set("ArrayString size_of".split())
 CALL_PATHS = set("arrayvec::ArrayString ArrayString::new u8::from".split())

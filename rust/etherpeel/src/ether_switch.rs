@@ -58,6 +58,6 @@ pub use bridge::{Bridge, StaticEntry};
 pub use kind::BridgeKind;
 pub use port::{AcceptableFrames, PortConfig};
 pub use received::{Forwarding, Received};
-pub use stations::StationTable;
+pub use stations::{Sighting, StationBucket, StationTable};
 pub use vlan::{Vlan, VlanError};
 pub use vlan_set::VlanSet;
