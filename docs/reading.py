@@ -113,6 +113,7 @@ ARTEFACTS = {
         "ether_c/src/cooked_v2.rt": ["etherpeel_linux_sll2", "etherpeel_linux_sll2_fields"],
         "ether_c/src/replacing.rt": ["etherpeel_replace_link", "etherpeel_replace_link_ext", "etherpeel_replace_arp"],
         "ether_c/src/building.rt": ["etherpeel_build"],
+        "ether_c/src/switching.rt": ["etherpeel_switch_receive", "etherpeel_switch_form", "etherpeel_switch_send"],
     },
 }
 
@@ -184,7 +185,7 @@ ORDER = {
         ether_peel: Walker/Texts
         ether_c: Calls Packet
         ether_pcap: CaptureTexts
-        ether_c: Captured CapturedFrame Tags Library Selection Filters FieldTables Fields CookedV2 Passed Replacing Building
+        ether_c: Captured CapturedFrame Tags Library Selection Filters FieldTables Fields CookedV2 Passed Replacing Building Switching
     """,
 }
 
