@@ -29,7 +29,7 @@
  *   Memory   No call allocates, blocks, or stores anything between calls, so each is thread-safe.
  *            etherpeel_completion and etherpeel_fault_text take some 2.5 KB of stack,
  *            etherpeel_fields 5 KB, etherpeel_replace_arp 14 KB, etherpeel_build 18 KB, those of
- *            filters 40 KB, those of capture files 300 KB, those of a switch 5 KB, and the others less
+ *            filters 40 KB, those of capture files 300 KB, those of a switch 3 KB, and the others less
  *            than 1 KB.
  *   Time     Linear in the number of headers, at most len / 4 in a frame;
  *            etherpeel_write_back also copies the frame, etherpeel_build the payload. Of capture

@@ -149,6 +149,7 @@ pub record GivesReceived (kind : BridgeKind) (config : PortConfig) (ageing_time 
   pub kept : IsErr (arrival kind config hs) → new ≡ old
   pub never_back : IfOk found (λ r. includes r.decision from from ≡ false)
   pub given : received ≡ c_answer found
+  pub read_back : IfOk found (λ r. received_of received ≡ Some r)
   pub status_is : status ≡ done
 
 -- whether it leaves by a port, and how: 0 not at all, 1 without a tag, 2 with the tag of its VLAN

@@ -1,5 +1,5 @@
 //! A frame that a bridge has received, as a struct of C.
-ghost use Rattle.std.specs.Prelude.{◌≡◌};
+ghost use Rattle.std.specs.Prelude.{◌≡◌, Some, IfOk};
 ghost use Rattle.ether_c.specs.Switching.{kind_numbered, kind_number, reason_number, forwarding_number, forwarding_port, forwarding_numbered, c_answer, received_of};
 
 use ether_switch::{BridgeKind, Discarded, Forwarding, Received, Vlan};
@@ -35,7 +35,8 @@ const _: () = prove!(size_of::<EtherReceived>() == 20);
 impl EtherReceived {
     /// What a bridge makes of a frame.
     pub(crate) fn of(answer: &Result<Received, Discarded>) -> EtherReceived
-        ensures { result ≡ c_answer answer.now }
+        ensures given { result ≡ c_answer answer.now }
+        ensures read_back { IfOk answer.now (λ r. received_of result ≡ Some r) }
     {
         match answer {
             Ok(received) => EtherReceived {

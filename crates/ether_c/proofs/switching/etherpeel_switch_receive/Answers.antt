@@ -27,6 +27,7 @@ returns-clause-given c =
       history = answer.ensures.history hs e walk;
       kept = answer.ensures.kept hs e walk;
       never_back = answer.ensures.never_back;
-      given = c.of.ensures;
+      given = c.of.ensures.given;
+      read_back = c.of.ensures.read_back;
       status_is = refl;
     }))
