@@ -108,6 +108,21 @@ impl Bridge<'_> {
     /// # Errors
     ///
     /// As [`Bridge::receive`].
+    ///
+    /// # Examples
+    ///
+    /// ```
+    /// let port = PortConfig::access(Vlan::try_new(10)?);
+    /// let request = [0xFF, 0xFF, 0xFF, 0xFF, 0xFF, 0xFF, 0x02, 0x00, 0x00, 0x00, 0x00, 0x01, 0x08, 0x06];
+    /// let bridge = Bridge {
+    ///     kind: BridgeKind::Customer,
+    ///     ageing_time: Bridge::AGEING_TIME,
+    ///     static_entries: &[],
+    /// };
+    /// let mut buckets = [StationBucket::EMPTY; 64];
+    /// let received = bridge.receive_in(&mut buckets, 0, 1, &port, &request);
+    /// assert_eq!(rt; received.map(|received| received.decision), Ok(Forwarding::Flood));
+    /// ```
     pub fn receive_in(
         &self,
         buckets: &mut [StationBucket],

@@ -117,6 +117,32 @@ impl Bridge<'_> {
     ///
     /// As [`Bridge::receive`].
     ///
+    /// # Examples
+    ///
+    /// ```
+    /// # use etherpeel::*;
+    /// # use etherpeel::ether_peel::*;
+    /// # use etherpeel::ether_sll2::*;
+    /// # use etherpeel::ether_packet::*;
+    /// # use etherpeel::ether_filter::*;
+    /// # use etherpeel::ether_pcap::*;
+    /// # use etherpeel::ether_content::*;
+    /// # use etherpeel::ether_switch::*;
+    /// # fn main() -> Result<(), Box<dyn std::error::Error>> {
+    /// let port = PortConfig::access(Vlan::try_new(10)?);
+    /// let request = [0xFF, 0xFF, 0xFF, 0xFF, 0xFF, 0xFF, 0x02, 0x00, 0x00, 0x00, 0x00, 0x01, 0x08, 0x06];
+    /// let bridge = Bridge {
+    ///     kind: BridgeKind::Customer,
+    ///     ageing_time: Bridge::AGEING_TIME,
+    ///     static_entries: &[],
+    /// };
+    /// let mut buckets = [StationBucket::EMPTY; 64];
+    /// let received = bridge.receive_in(&mut buckets, 0, 1, &port, &request);
+    /// assert_eq!(received.map(|received| received.decision), Ok(Forwarding::Flood));
+    /// # Ok(())
+    /// # }
+    /// ```
+    ///
     /// <details><summary>Contract</summary>
     ///
     /// ```text
