@@ -1,9 +1,10 @@
-"""Runs the switch c/examples/switch.c on real interfaces: hosts in network namespaces, in two VLANs, and a trunk between two switches.
+"""Runs the switch c/examples/switch.c on real interfaces: hosts in network namespaces, in two VLANs, and a trunk between two switches. Then
+compares it with the example switch, which reads captures: the same drawn frames leave by the same ports, with the same bytes.
 
-    python3 tests/network.py LIBRARY
+    python3 tests/network.py LIBRARY EXAMPLE
 
-LIBRARY is the static library. Needs root, a C compiler with headers, ip (iproute2) and ping; where one is missing, or no namespaces can be made,
-nothing is run. The last line is 'N passed, M failed'.
+LIBRARY is the static library, EXAMPLE the built program. Needs root, a C compiler with headers, ip (iproute2) and ping; where one is missing,
+or no namespaces can be made, nothing is run. The last line is 'N passed, M failed'.
 
     h1 (VLAN 5) --- left (switch) === trunk === right (switch) --- h3 (VLAN 5)
     h2 (VLAN 6) ---                                            --- h4 (VLAN 5), to which the station of h1 moves
@@ -11,6 +12,7 @@ nothing is run. The last line is 'N passed, M failed'.
 
 import ctypes
 import os
+import random
 import shutil
 import signal
 import socket
@@ -21,6 +23,7 @@ import tempfile
 import threading
 import time
 
+from bridges import by_number, plain_frames, switched
 from programs import count
 
 TOP = os.path.dirname(os.path.dirname(os.path.abspath(__file__)))
@@ -31,6 +34,9 @@ LINKS = [("h1", "eth", "left", "p1"), ("h2", "eth", "left", "p2"), ("h3", "eth",
 WORDS = {"left": ["p1:pvid=5", "p2:pvid=6", "trunk:tagged=5,6"], "right": ["p3:pvid=5", "p4:pvid=5", "trunk:tagged=5,6"]}
 # The last digit of a host's addresses. h4 is the station of h1, at another port.
 DIGITS = {"h1": 1, "h2": 2, "h3": 3, "h4": 1}
+# The ports of the example switch, each with a link to one namespace.
+COMPARED = {1: "pvid=10", 2: "pvid=10", 3: "tagged=10,20,30", 4: "pvid=20", 5: "tagged=10,20,30"}
+FRAMES = 300
 EVERYBODY, RESERVED = b"\xff" * 6, bytes.fromhex("0180c2000000")
 TYPE = b"\x88\xb5"  # for experiments (IEEE 802)
 
@@ -79,9 +85,9 @@ class Network:
         for space in SPACES:
             run("ip", "netns", "delete", self.name(space))
 
-    def start(self, space, switch):
+    def start(self, space, switch, ports):
         """Starts a switch, and waits until it has its sockets."""
-        words = ["ip", "netns", "exec", self.name(space), switch, *WORDS[space]]
+        words = ["ip", "netns", "exec", self.name(space), switch, *ports]
         self.programs[space] = subprocess.Popen(words, stdout=subprocess.PIPE, text=True)
         return self.programs[space].stdout.readline()
 
@@ -102,16 +108,16 @@ class Network:
         thread = threading.Thread(target=enter)
         thread.start()
         thread.join()
-        opened[0].settimeout(1)
         return opened[0]
 
 
 def frames_at(one, last=None):
     """The frames that wait at a socket and did not leave by it; waits for one that ends in the bytes `last`."""
+    one.settimeout(1 if last else 0)
     found, end = [], time.monotonic() + 1
     while time.monotonic() < end:
         try:
-            frame, (_, _, kind, *_) = one.recvfrom(65_536, 0 if last else socket.MSG_DONTWAIT)
+            frame, (_, _, kind, *_) = one.recvfrom(65_536)
         except OSError:
             break
         if kind != socket.PACKET_OUTGOING:
@@ -125,11 +131,11 @@ def frame(destination, source, text):
     return (destination + source + TYPE).ljust(60, b"\0") + text
 
 
-def numbers(network, space):
+def numbers(network, space, ports=3):
     """What a switch prints when it is asked, by port."""
     program = network.programs[space]
     found = {}
-    while len(found) < len(WORDS[space]):
+    while len(found) < ports:
         name, _, rest = program.stdout.readline().strip().partition(": ")
         found[name] = {words.rpartition(" ")[0]: int(words.rpartition(" ")[2]) for words in rest.split(", ")}
     return found
@@ -169,6 +175,54 @@ def tried_in(network):
     yield "the status at the end", network.programs["left"].wait(5), 0
 
 
+def tagged_frames(one):
+    """The frames that wait at a socket, with the tags that the kernel took off (packet(7), PACKET_AUXDATA)."""
+    one.settimeout(0)
+    found = []
+    while True:
+        try:
+            frame, parts, _, (_, _, kind, *_) = one.recvmsg(65_536, 64)
+        except OSError:
+            return found
+        status, _, _, _, _, tci, tpid = struct.unpack("=IIIHHHH", parts[0][2][:20])
+        if kind != socket.PACKET_OUTGOING:
+            found.append((frame[:12] + struct.pack(">HH", tpid, tci) * (status >> 4 & 1) + frame[12:]).hex())
+
+
+def sent_by_ports(network, frames):
+    """The frames that leave by each port of a switch, each sent when the one before has been passed on."""
+    program, found = network.programs["left"], {port: [] for port in COMPARED}
+    ends = {port: network.socket("right", f"h{port}") for port in COMPARED}
+    for one in ends.values():
+        one.setsockopt(263, 8, 1)  # SOL_PACKET, PACKET_AUXDATA
+    for total, (port, it) in enumerate(frames, 1):
+        ends[port].send(it)
+        received = 0
+        while received < total:
+            program.send_signal(signal.SIGUSR1)
+            received = sum(it["received"] for it in numbers(network, "left", len(COMPARED)).values())
+        for port, one in ends.items():
+            found[port] += tagged_frames(one)
+    time.sleep(0.2)
+    for port, one in ends.items():
+        found[port] += tagged_frames(one)
+    return found
+
+
+def compared(network, switch, example):
+    """For each of the drawn frames what leaves by each port of the switch, and of the example."""
+    for port in COMPARED:
+        run("ip", "link", "add", f"q{port}", "netns", network.name("left"), "type", "veth", "peer", "name", f"h{port}", "netns", network.name("right"))
+        for space, link in (("left", f"q{port}"), ("right", f"h{port}")):
+            network.do(space, "ip", "link", "set", link, "addrgenmode", "none", "up")
+    said = network.start("left", switch, [f"q{port}:{vlans}" for port, vlans in COMPARED.items()])
+    yield "the switch with five ports starts", said, "switch: 5 ports\n"
+    frames = plain_frames(random.Random(2), FRAMES)
+    ours, theirs = by_number(sent_by_ports(network, frames)), by_number(switched(example, frames))
+    for number, (port, it) in enumerate(frames):
+        yield f"frame {number} at port {port}: {it.hex()}", ours[number], theirs[number]
+
+
 def built(library, folder):
     """The switch, built with a library; None if there is no compiler that does."""
     path = os.path.join(folder, "switch")
@@ -194,8 +248,9 @@ def main():
             switch = built(os.path.realpath(sys.argv[1]), folder)
             if not switch:
                 return count([("the switch is built", False, True)])
-            started = [(f"the switch {space} starts", network.start(space, switch), "switch: 3 ports\n") for space in WORDS]
-            return count([*started, *tried_in(network)])
+            started = [(f"the switch {space} starts", network.start(space, switch, WORDS[space]), "switch: 3 ports\n") for space in WORDS]
+            tried = [*started, *tried_in(network)]
+            return count([*tried, *compared(network, switch, os.path.realpath(sys.argv[2]))])
     finally:
         network.remove()
 

@@ -18,8 +18,10 @@
 #include <stdio.h>
 #include <stdlib.h>
 #include <string.h>
+#include <sys/signalfd.h>
 #include <sys/socket.h>
 #include <time.h>
+#include <unistd.h>
 
 enum { PORTS = 64, BATCH = 64, BUCKETS = 4096, AGEING_TIME = 300, TAG = 4, ROOM = 9232 };
 
@@ -40,11 +42,6 @@ static port ports[PORTS];
 static unsigned count;
 static etherpeel_bucket table[BUCKETS];
 static frames came, copies;
-static volatile sig_atomic_t ended, asked;
-
-static void on_signal(int signal) {
-    *(signal == SIGUSR1 ? &asked : &ended) = 1;
-}
 
 static void fail(const char *name, const char *what) {
     fprintf(stderr, "switch: %s: %s\n", name, what);
@@ -220,31 +217,33 @@ static void print_numbers(void) {
 }
 
 int main(int argc, char **argv) {
-    struct pollfd waits[PORTS];
-    const struct sigaction action = {.sa_handler = on_signal};
+    static const int numbers[] = {SIGUSR1, SIGINT, SIGTERM};
+    struct pollfd waits[PORTS + 1];
+    struct signalfd_siginfo came_in = {0};
+    sigset_t signals;
     if (argc < 2 || argc - 1 > PORTS || !etherpeel_fits())
         fail("usage", "switch NAME:pvid=N .. NAME:tagged=N,N .., at most 64");
-    sigaction(SIGUSR1, &action, NULL);
-    sigaction(SIGINT, &action, NULL);
-    sigaction(SIGTERM, &action, NULL);
     for (; count < (unsigned)argc - 1; count++) {
         set_up(&ports[count], argv[count + 1]);
         open_socket(&ports[count]);
         waits[count] = (struct pollfd){.fd = ports[count].socket, .events = POLLIN};
     }
+    sigemptyset(&signals);
+    for (int i = 0; i < 3; i++) sigaddset(&signals, numbers[i]);
+    sigprocmask(SIG_BLOCK, &signals, NULL);
+    waits[count] = (struct pollfd){.fd = signalfd(-1, &signals, 0), .events = POLLIN};
     printf("switch: %u ports\n", count);
     fflush(stdout);
-    while (!ended) {
-        const int found = poll(waits, count, 200); /* a signal before it waits no longer */
+    while (came_in.ssi_signo == 0 || came_in.ssi_signo == SIGUSR1) {
         struct timespec now;
+        const int found = poll(waits, count + 1, -1);
         clock_gettime(CLOCK_MONOTONIC, &now);
         for (unsigned i = 0; found > 0 && i < count; i++)
             if (waits[i].revents)
                 serve(i, (uint64_t)now.tv_sec);
-        if (asked)
+        if (found > 0 && waits[count].revents &&
+            read(waits[count].fd, &came_in, sizeof came_in) == sizeof came_in)
             print_numbers();
-        asked = 0;
     }
-    print_numbers();
     return 0;
 }
