@@ -29,7 +29,8 @@
  *   Memory   No call allocates, blocks, or stores anything between calls, so each is thread-safe.
  *            etherpeel_completion and etherpeel_fault_text take some 2.5 KB of stack,
  *            etherpeel_fields 5 KB, etherpeel_replace_arp 14 KB, etherpeel_build 18 KB, those of
- *            filters 40 KB, those of capture files 300 KB, and the others less than 1 KB.
+ *            filters 40 KB, those of capture files 300 KB, those of a switch 3 KB, and the others less
+ *            than 1 KB.
  *   Time     Linear in the number of headers, at most len / 4 in a frame;
  *            etherpeel_write_back also copies the frame, etherpeel_build the payload. Of capture
  *            files linear in that of their units.
@@ -118,7 +119,10 @@ enum etherpeel_status {
     /* There are more than eight VLAN tags and SecTags. */
     ETHERPEEL_TOO_MANY_TAGS = 19,
     /* A unit follows a SecTag whose payload is encrypted or changed. */
-    ETHERPEEL_SEALED = 20
+    ETHERPEEL_SEALED = 20,
+
+    /* The frame does not leave by the port; only etherpeel_switch_send returns it. */
+    ETHERPEEL_STAYS = 21
 };
 
 /* What a frame begins with: the parameter `start` of each call. The parameter `ether_type` is read
@@ -329,6 +333,62 @@ enum etherpeel_field_name {
     ETHERPEEL_FIELD_LINUX_SLL2_ADDRESS = 41
 };
 
+/* The kind of a bridge: the tags that it reads and writes. A tag of the other kind is payload. */
+enum etherpeel_bridge {
+    /* Customer tags, which 0x8100 announces. */
+    ETHERPEEL_BRIDGE_CUSTOMER = 1,
+    /* Service tags, which 0x88A8 announces. */
+    ETHERPEEL_BRIDGE_PROVIDER = 2
+};
+
+/* Which frames a port takes (IEEE 802.1Q, 6.9). */
+enum etherpeel_frame_types {
+    ETHERPEEL_FRAMES_ALL = 0,
+    /* Those with a tag that names a VLAN. */
+    ETHERPEEL_FRAMES_VLAN_TAGGED = 1,
+    /* Those without a tag, and those with a tag whose identifier is 0. */
+    ETHERPEEL_FRAMES_UNTAGGED = 2
+};
+
+/* Why a bridge discards a frame: the first that applies. */
+enum etherpeel_discarded {
+    ETHERPEEL_DISCARDED_NOT = 0,
+    /* It has fewer than 14 bytes. */
+    ETHERPEEL_DISCARDED_NO_HEADER = 1,
+    /* Its tag is cut short. */
+    ETHERPEEL_DISCARDED_CUT_TAG = 2,
+    /* Its tag has the identifier 4095, which is reserved. */
+    ETHERPEEL_DISCARDED_RESERVED_IDENTIFIER = 3,
+    /* Its source is the address of a group, or all zeros. */
+    ETHERPEEL_DISCARDED_SOURCE = 4,
+    /* The port does not take frames with such a tag, or without one. */
+    ETHERPEEL_DISCARDED_FRAME_TYPE = 5,
+    /* The port is not a member of its VLAN, and has ingress filtering. */
+    ETHERPEEL_DISCARDED_NOT_A_MEMBER = 6,
+    /* Its destination is a reserved address, as 01-80-C2-00-00-00. */
+    ETHERPEEL_DISCARDED_RESERVED_ADDRESS = 7
+};
+
+/* Where a bridge sends a frame. */
+enum etherpeel_forwarding {
+    /* Nowhere: its destination is on the port that it came from. */
+    ETHERPEEL_FORWARDING_NONE = 0,
+    /* To one port. */
+    ETHERPEEL_FORWARDING_PORT = 1,
+    /* To all ports but the one that it came from. */
+    ETHERPEEL_FORWARDING_FLOOD = 2
+};
+
+/* How a frame leaves by a port. */
+enum etherpeel_form {
+    /* Not at all. */
+    ETHERPEEL_FORM_NONE = 0,
+    /* Without a tag of the bridge's kind. */
+    ETHERPEEL_FORM_UNTAGGED = 1,
+    /* With the tag of its VLAN. */
+    ETHERPEEL_FORM_TAGGED = 2
+};
+
 /* ---- Structs ----
  *
  * Numbers are in the byte order of the machine, whatever their order in the frame; addresses are
@@ -514,6 +574,40 @@ typedef struct etherpeel_replace_error {
     uint32_t difference; /* enum etherpeel_difference, of ETHERPEEL_DIFFERS, else 0 */
 } etherpeel_replace_error;
 
+/* How a port of a bridge is set up. The VLAN `vid` is in a set if set[vid / 64] >> vid % 64 & 1. */
+typedef struct etherpeel_port {
+    uint64_t members[64];      /* the VLANs whose frames leave by the port */
+    uint64_t untagged[64];     /* those whose frames leave without a tag */
+    uint16_t pvid;             /* the VLAN of a frame without a VLAN identifier, 1 to 4094 */
+    uint8_t frame_types;       /* enum etherpeel_frame_types */
+    uint8_t ingress_filtering; /* 0 if it takes frames of VLANs that it is not a member of */
+    uint8_t default_priority;  /* the priority of a frame that comes without a tag, 0 to 7 */
+} etherpeel_port;
+
+/* What a bridge makes of a frame. If it is discarded, all other numbers are 0. */
+typedef struct etherpeel_received {
+    uint32_t discarded;    /* enum etherpeel_discarded */
+    uint32_t kind;         /* enum etherpeel_bridge */
+    uint32_t forwarding;   /* enum etherpeel_forwarding */
+    uint16_t port;         /* of ETHERPEEL_FORWARDING_PORT, else 0 */
+    uint16_t from;         /* the port that it came from */
+    uint16_t vlan;         /* the identifier of its VLAN, 1 to 4094 */
+    uint8_t priority;      /* of its tag, else the port's default */
+    uint8_t drop_eligible; /* 1 if it may be dropped first under congestion, else 0 */
+} etherpeel_received;
+
+/* A frame of a station, by when and by which port it came. */
+typedef struct etherpeel_sighting {
+    uint64_t station; /* VLAN identifier << 48 | address; 0 if the place is free */
+    uint64_t time;
+    uint16_t port;
+} etherpeel_sighting;
+
+/* The newest sightings of up to four stations, the newest first. All 0 it knows none. */
+typedef struct etherpeel_bucket {
+    etherpeel_sighting sightings[4];
+} etherpeel_bucket;
+
 /* ---- The library ----
  *
  * A program that takes the shared library, or that declares the structs in another language, finds
@@ -539,7 +633,11 @@ enum etherpeel_struct {
     ETHERPEEL_STRUCT_FIELD = 15,
     ETHERPEEL_STRUCT_LINUX_SLL2_HEADER = 16,
     ETHERPEEL_STRUCT_REPLACE_ERROR = 17,
-    ETHERPEEL_STRUCT_FILTER = 18
+    ETHERPEEL_STRUCT_FILTER = 18,
+    ETHERPEEL_STRUCT_PORT = 19,
+    ETHERPEEL_STRUCT_RECEIVED = 20,
+    ETHERPEEL_STRUCT_SIGHTING = 21,
+    ETHERPEEL_STRUCT_BUCKET = 22
 };
 
 /* etherpeel_version - the version of the library, as ETHERPEEL_VERSION is that of this header
@@ -581,7 +679,11 @@ static inline int etherpeel_fits(void) {
            etherpeel_sizeof(ETHERPEEL_STRUCT_LINUX_SLL2_HEADER) ==
                sizeof(etherpeel_linux_sll2_header) &&
            etherpeel_sizeof(ETHERPEEL_STRUCT_REPLACE_ERROR) == sizeof(etherpeel_replace_error) &&
-           etherpeel_sizeof(ETHERPEEL_STRUCT_FILTER) == sizeof(etherpeel_filter);
+           etherpeel_sizeof(ETHERPEEL_STRUCT_FILTER) == sizeof(etherpeel_filter) &&
+           etherpeel_sizeof(ETHERPEEL_STRUCT_PORT) == sizeof(etherpeel_port) &&
+           etherpeel_sizeof(ETHERPEEL_STRUCT_RECEIVED) == sizeof(etherpeel_received) &&
+           etherpeel_sizeof(ETHERPEEL_STRUCT_SIGHTING) == sizeof(etherpeel_sighting) &&
+           etherpeel_sizeof(ETHERPEEL_STRUCT_BUCKET) == sizeof(etherpeel_bucket);
 }
 
 /* etherpeel_start_of_link_type - the number of enum etherpeel_start for packets of a link type, 0
@@ -1081,6 +1183,66 @@ uint32_t etherpeel_filter_select(const etherpeel_filter *filter, const etherpeel
  */
 uint32_t etherpeel_filter_error_text(const char *expression, size_t len, char *text, size_t room,
                                      size_t *text_len);
+
+/* ---- A switch ----
+ *
+ * The forwarding of a bridge with VLANs (IEEE 802.1Q). The caller has the ports, by numbers, and
+ * the table of stations: an array of etherpeel_bucket, all 0 at first, which nothing else writes
+ * to. A station is an address in a VLAN; each bucket holds the four of its stations that were seen
+ * last. No frame crosses VLANs, and only its tag changes. There are no static entries; spanning
+ * trees are left to the caller, who passes no frames of a port that is blocked.
+ */
+
+/* etherpeel_switch_receive - learns where the source of a frame is, and says where the frame goes
+ *
+ * The frame is the `len` bytes at `bytes`: from its Ethernet II header on, without a frame check
+ * sequence. It came in by the port with the number `from`, set up as *port says, at the time `now`,
+ * by a clock that does not go back. `kind` is one of enum etherpeel_bridge. A station counts as
+ * being where it was seen last for `ageing_time` (IEEE 802.1Q recommends 300 seconds), in the unit
+ * of `now`. `buckets` points to the `bucket_count` buckets of the table; NULL is allowed if that is
+ * 0, and nothing is learned then.
+ * Sets *received. The source is learned unless the frame is discarded, but also if that is for a
+ * reserved destination. The frame goes to the port at which its destination was seen last in its
+ * VLAN; if that is not known, and if its destination is a group, to all ports but its own.
+ * Returns ETHERPEEL_DONE, also for a frame that is discarded; or ETHERPEEL_BAD_FIELD if `kind` or a
+ * number of *port does not fit, and then nothing is written.
+ * Overlap: neither the table nor *received may overlap *port, the frame or one another. Every
+ * number is in host byte order. Thread-safe, but for the table; takes no memory.
+ */
+uint32_t etherpeel_switch_receive(uint32_t kind, uint64_t ageing_time, etherpeel_bucket *buckets,
+                                  size_t bucket_count, uint64_t now, uint16_t from,
+                                  const etherpeel_port *port, const uint8_t *bytes, size_t len,
+                                  etherpeel_received *received);
+
+/* etherpeel_switch_form - whether a frame leaves by a port, and whether with the tag of its VLAN
+ *
+ * *received is what etherpeel_switch_receive has set, `to` the number of the port. Sets *form to
+ * one of enum etherpeel_form. A frame leaves by the ports to which it goes and that are members of
+ * its VLAN: without a tag if the VLAN is in the port's untagged set, else with the tag of its VLAN.
+ * Returns ETHERPEEL_DONE; or ETHERPEEL_BAD_FIELD if the frame was discarded, or a number of
+ * *received or *port does not fit, and then *form stays as it was.
+ * Overlap: *form must not overlap *received or *port. Every number is in host byte order.
+ * Thread-safe; takes no memory.
+ */
+uint32_t etherpeel_switch_form(const etherpeel_received *received, uint16_t to,
+                               const etherpeel_port *port, uint32_t *form);
+
+/* etherpeel_switch_send - makes a frame ready to leave by a port, in place
+ *
+ * The frame is buffer[4] .. buffer[len - 1], as it came in; the first four bytes are free. It
+ * leaves as buffer[*begin] .. buffer[len - 1]: *begin is 8 if its tag was taken off, 0 if one was
+ * put in, else 4. A tag of the bridge's kind keeps its priority, and gets the identifier of the
+ * VLAN.
+ * For many ports, make the frame ready once for those of each form, each from a copy of the frame.
+ * Returns ETHERPEEL_DONE, or the first of these that applies, and then nothing is written:
+ * ETHERPEEL_BAD_FIELD as etherpeel_switch_form; ETHERPEEL_STAYS if its form is
+ * ETHERPEEL_FORM_NONE, or the frame is too short for its header and a tag.
+ * Overlap: neither the buffer nor *begin may overlap *received, *port or one another. Every number
+ * is in host byte order. Thread-safe; takes no memory.
+ */
+uint32_t etherpeel_switch_send(const etherpeel_received *received, uint16_t to,
+                               const etherpeel_port *port, uint8_t *buffer, size_t len,
+                               size_t *begin);
 
 #ifdef __cplusplus
 }

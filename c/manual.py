@@ -17,6 +17,7 @@ GROUPS = {
     "Capture files": ("etherpeel_captures", "the packets of capture files"),
     "Linux cooked capture v2": ("etherpeel_cooked_v2", "headers of Linux cooked capture v2"),
     "Filters": ("etherpeel_filters", "filters of packets"),
+    "A switch": ("etherpeel_switch", "the forwarding of a bridge with VLANs"),
 }
 CALL = re.compile(r"/\* (etherpeel_\w+) - (.*?)\*/\n((?:(?:static inline )?[\w ]+\*?\w+\([^;{]*[;{].*?\n)+)", re.S)
 

@@ -87,6 +87,15 @@ ARTEFACTS = {
         "ether_stream/src/laws.rt": ["runs_compose"],
         "ether_capture/src/program.rt": ["program"],
     },
+    "Bridges": {
+        "ether_switch/src/bridge.rt": ["receive", "receive_in"],
+        "ether_switch/src/received.rt": ["send", "goes_to", "tagged", "untagged"],
+        "ether_switch/src/stations.rt": ["new"],
+        "ether_switch/src/vlan_set.rt": ["new", "all", "contains", "insert", "remove"],
+        "ether_switch/src/kind.rt": ["tpid"],
+        "ether_switch/src/laws.rt": ["free_tables_know_nothing", "last_sightings_are_held", "frames_follow_stations", "vlans_are_isolated",
+                                     "only_tags_change"],
+    },
     "C": {
         "ether_c/src/walking.rt": ["etherpeel_walk", "etherpeel_walk_limited"],
         "ether_c/src/summarizing.rt": ["etherpeel_summary", "etherpeel_summary_limited"],
@@ -111,14 +120,7 @@ ARTEFACTS = {
         "ether_c/src/cooked_v2.rt": ["etherpeel_linux_sll2", "etherpeel_linux_sll2_fields"],
         "ether_c/src/replacing.rt": ["etherpeel_replace_link", "etherpeel_replace_link_ext", "etherpeel_replace_arp"],
         "ether_c/src/building.rt": ["etherpeel_build"],
-    },
-    "Bridges": {
-        "ether_switch/src/bridge.rt": ["receive"],
-        "ether_switch/src/received.rt": ["send", "goes_to", "tagged", "untagged"],
-        "ether_switch/src/stations.rt": ["new"],
-        "ether_switch/src/vlan_set.rt": ["new", "all", "contains", "insert", "remove"],
-        "ether_switch/src/kind.rt": ["tpid"],
-        "ether_switch/src/laws.rt": ["last_sightings_are_held", "frames_follow_stations", "vlans_are_isolated", "only_tags_change"],
+        "ether_c/src/switching.rt": ["etherpeel_switch_receive", "etherpeel_switch_form", "etherpeel_switch_send"],
     },
 }
 
@@ -183,6 +185,9 @@ ORDER = {
         ether_stream: Outcome
         ether_capture: Files Program
     """,
+    "Bridges": """
+        ether_switch: Kinds VlanSets Arrivals Learning Relaying History Leaving Laws
+    """,
     "C": """
         ether_c: Numbers Starts Found Units Walk
         ether_base: Enumerations/Layer Enumerations/LenSource Texts/NumberText Enumerations/ArpHardwareId Texts/LengthErrors
@@ -190,10 +195,7 @@ ORDER = {
         ether_peel: Walker/Texts
         ether_c: Calls Packet
         ether_pcap: CaptureTexts
-        ether_c: Captured CapturedFrame Tags Library Selection Filters FieldTables Fields CookedV2 Passed Replacing Building
-    """,
-    "Bridges": """
-        ether_switch: Kinds VlanSets Arrivals Learning Relaying History Leaving Laws
+        ether_c: Captured CapturedFrame Tags Library Selection Filters FieldTables Fields CookedV2 Passed Replacing Building Switching
     """,
 }
 

@@ -2,6 +2,7 @@
  * "N passed, M failed". */
 #define _DEFAULT_SOURCE
 #include "check.h"
+#include "switching.h"
 
 /* ---- frames: the two addresses are to all stations, from 02:00:00:00:00:01 ---- */
 
@@ -1586,6 +1587,11 @@ int main(void) {
     unknown_starts();
     no_frame();
     drawn_frames();
+    layout_of_a_switch();
+    learning();
+    leaving();
+    discarding();
+    unfit_ports();
     printf("%u passed, %u failed\n", passed, failed);
     return failed ? 1 : 0;
 }

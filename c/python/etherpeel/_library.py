@@ -33,6 +33,7 @@ class Status(IntEnum):
     BAD_KIND = 18
     TOO_MANY_TAGS = 19
     SEALED = 20
+    STAYS = 21  # of the calls for a switch, which only C has
 
 
 class Error(ValueError):

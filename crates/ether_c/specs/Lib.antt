@@ -19,3 +19,4 @@ pub mod CookedV2
 pub mod Passed
 pub mod Replacing
 pub mod Building
+pub mod Switching

@@ -25,7 +25,11 @@ struct_size number =
     else (if nat_eq number 15 then 32
     else (if nat_eq number 16 then 32
     else (if nat_eq number 17 then 16
-    else (if nat_eq number 18 then 3080 else 0)))))))))))))))))
+    else (if nat_eq number 18 then 3080
+    else (if nat_eq number 19 then 1032
+    else (if nat_eq number 20 then 20
+    else (if nat_eq number 21 then 24
+    else (if nat_eq number 22 then 96 else 0)))))))))))))))))))))
 
 -- The starts for the link types LINKTYPE_ETHERNET and LINKTYPE_LINUX_SLL (www.tcpdump.org/linktypes.html), by their
 -- numbers; 0 is none. libpcap has the same numbers for its DLT_EN10MB and DLT_LINUX_SLL.

@@ -5,8 +5,9 @@ ghost use Rattle.ether_c.specs.Library.{version_number, struct_size};
 use crate::{
     EtherArp, EtherCaptureEnd, EtherCaptured, EtherEthernet2, EtherFault, EtherFed, EtherField,
     EtherFilter, EtherFilterError, EtherFound, EtherFrame, EtherHeaders, EtherLinuxSll,
-    EtherLinuxSll2, EtherMacsec, EtherReplaceError, EtherUnit, EtherVlan,
+    EtherLinuxSll2, EtherMacsec, EtherPort, EtherReceived, EtherReplaceError, EtherUnit, EtherVlan,
 };
+use ether_switch::{Sighting, StationBucket};
 
 /// The version of the library: 0x10000 times the first number, 0x100 times the second, and the third.
 #[unsafe(no_mangle)]
@@ -40,6 +41,10 @@ pub extern "C" fn etherpeel_sizeof(number: u32) -> usize
         16 => size_of::<EtherLinuxSll2>(),
         17 => size_of::<EtherReplaceError>(),
         18 => size_of::<EtherFilter>(),
+        19 => size_of::<EtherPort>(),
+        20 => size_of::<EtherReceived>(),
+        21 => size_of::<Sighting>(),
+        22 => size_of::<StationBucket>(),
         _ => 0,
     }
 }

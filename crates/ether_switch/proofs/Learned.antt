@@ -1,9 +1,10 @@
 -- What a bucket holds of the sightings of its stations.
-use Rattle.std.proofs.Common.{◌≡◌, ◌≢◌, ℕ, zero, suc, ◌<◌, Bool, true, false, not, nat_eq, if◌then◌else◌, List, [], ◌∷◌, length, map, filter, take, get_or, set, inl, inr, refl, sym, ap, subst, ◌∙◌, arith, get_or-set_other, get_or-set_same}
+use Rattle.std.proofs.Common.{◌≡◌, ◌≢◌, ℕ, zero, suc, ◌<◌, Bool, true, false, not, nat_eq, if◌then◌else◌, List, [], ◌∷◌, length, map, replicate, filter, take, get_or, set, inl, inr, refl, sym, ap, subst, ◌∙◌, arith, get_or-set_other, get_or-set_same}
 use Rattle.std.proofs.lemmas.Bool.{cases_eq, eqb-true, eq-eqb, ne_eqb}
-use Rattle.std.proofs.lemmas.List.{length-map, length-set, map-set, take-take}
+use Rattle.std.proofs.lemmas.List.{length-map, length-set, length-replicate, get_or-replicate, map-set, take-take, get_or-map}
 use Rattle.ether_switch.specs.declared.stations.Sighting.{Sighting}
-use Rattle.ether_switch.specs.Learning.{is_of, is_other, newest, place_of, held, Knows, with_newest, with_sighting}
+use Rattle.ether_switch.specs.Laws.{FreeTablesKnowNothing}
+use Rattle.ether_switch.specs.Learning.{is_of, is_other, newest, place_of, held, sightings_in, no_sightings, Knows, with_newest, with_sighting}
 
 -- ---- each station is held once
 
@@ -154,9 +155,9 @@ learned n f buckets history knows = elim (cases_eq n 0) [
       (known_more n f buckets history within knows)
 ]
 
--- ---- by lists that have more than the sightings
+-- ---- all buckets, by what has more than the sightings
 
-pub seen_in : {B : Type 0} (sightings : B → List Sighting) (buckets : List B) (f : Sighting) (at : ℕ) (b : B)
+seen_in : {B : Type 0} (sightings : B → List Sighting) (buckets : List B) (f : Sighting) (at : ℕ) (b : B)
     → 0 < length buckets → at ≡ place_of (length buckets) f.station
     → sightings b ≡ with_newest f (get_or (map sightings buckets) at [])
     → map sightings (set buckets at b) ≡ with_sighting f (map sightings buckets)
@@ -166,3 +167,27 @@ seen_in sightings buckets f at b some place is =
     ∙ ap (set lists at) is
     ∙ ap (λ (k : ℕ). set lists k (with_newest f (get_or lists k []))) place
     ∙ sym (set_is f lists (length buckets) (length-map buckets sightings) some)
+
+-- what is known after a bucket is changed
+pub learned_in : {B : Type 0} (sightings : B → List Sighting) (buckets : List B) (f : Sighting) (at : ℕ) (b d : B)
+    → 0 < length buckets → at ≡ place_of (length buckets) f.station → at < length buckets
+    → sightings b ≡ with_newest f (sightings (get_or buckets at d)) → (history : List Sighting)
+    → Knows (length buckets) (map sightings buckets) history → Knows (length buckets) (map sightings (set buckets at b)) (f ∷ history)
+learned_in sightings buckets f at b d some place within is history knows =
+    let read = get_or-map sightings buckets at d [] within in
+    subst (λ (l : List (List Sighting)). Knows (length buckets) l (f ∷ history))
+    (sym (seen_in sightings buckets f at b some place (is ∙ ap (with_newest f) (sym read))))
+    (learned (length buckets) f (map sightings buckets) history knows)
+
+-- ---- before the first frame
+
+pub free_tables_know_nothing : FreeTablesKnowNothing
+free_tables_know_nothing n =
+    let buckets = replicate n no_sightings in
+    let size : length buckets ≡ n = length-replicate n no_sightings in
+    record {
+      size = length-map buckets sightings_in ∙ size;
+      each = λ i small.
+          get_or-map sightings_in buckets i no_sightings [] (subst (λ (m : ℕ). i < m) (sym size) small)
+          ∙ ap sightings_in (get_or-replicate n i no_sightings no_sightings small);
+    }

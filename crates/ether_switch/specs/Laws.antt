@@ -1,5 +1,5 @@
 -- Laws of a bridge.
-use Rattle.std.specs.Prelude.{◌≡◌, ℕ, ◌+◌, ◌-◌, ◌<◌, ◌≤◌, List, [], ◌∷◌, ◌++◌, length, take, drop, filter, find, Some, is_some, IsSomeAnd, Result, Ok, Err, true, nat_eq, if◌then◌else◌, MatchBool}
+use Rattle.std.specs.Prelude.{◌≡◌, ℕ, ◌+◌, ◌-◌, ◌<◌, ◌≤◌, List, [], ◌∷◌, ◌++◌, length, map, replicate, take, drop, filter, find, Some, is_some, IsSomeAnd, Result, Ok, Err, true, nat_eq, if◌then◌else◌, MatchBool}
 use Rattle.etherparse.specs.Bytes.{IsBytes}
 use Rattle.etherparse.specs.Header.{Header}
 use Rattle.ether_peel.specs.Grammar.Stack.{Ending, Walk}
@@ -16,7 +16,7 @@ use Rattle.ether_switch.specs.declared.received.Forwarding.TheVariants.{Port}
 use Rattle.ether_switch.specs.declared.stations.Sighting.{Sighting}
 use Rattle.ether_switch.specs.VlanSets.{has}
 use Rattle.ether_switch.specs.Arrivals.{Front, front_of, arrival}
-use Rattle.ether_switch.specs.Learning.{is_of, newest, place_of, known, known_port}
+use Rattle.ether_switch.specs.Learning.{is_of, newest, place_of, sightings_in, no_sightings, Knows, known, known_port}
 use Rattle.ether_switch.specs.Relaying.{station, decision, relayed}
 use Rattle.ether_switch.specs.Leaving.{goes_to, Leaves}
 
@@ -36,6 +36,10 @@ pub record LastSightingsAreHeld : Type 0 where
       → 0 < n → find (is_of s) history ≡ Some f
       → length (newest (filter (λ g. nat_eq (place_of n g.station) (place_of n s)) (since s history))) < 4
       → known n history s ≡ Some f
+
+-- A table whose places are free is one that has learned from no frame.
+abbrev pub FreeTablesKnowNothing : Type 0
+FreeTablesKnowNothing = (n : ℕ) → Knows n (map sightings_in (replicate n no_sightings)) []
 
 -- A frame with no static entry that goes to one port goes where its destination was seen last, not longer ago than the ageing time.
 abbrev pub FramesFollowStations : Type 0

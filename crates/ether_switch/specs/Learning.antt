@@ -1,6 +1,7 @@
 -- What a bridge has learned from the frames that came in, the newest first (IEEE 802.1Q, 8.7).
 use Rattle.std.specs.Prelude.{◌≡◌, ℕ, ◌+◌, ◌-◌, ◌/◌, ◌%◌, ◌^◌, ◌<◌, List, [], ◌∷◌, length, take, filter, find, slice_set, slice_index_or, Option, Some, None, option_and_then, Bool, not, nat_eq, nat_le, if◌then◌else◌}
 use Rattle.ether_switch.specs.declared.stations.Sighting.{Sighting}
+use Rattle.ether_switch.specs.declared.stations.StationBucket.{StationBucket}
 
 -- whether a sighting is one of a station
 abbrev pub is_of : (station : ℕ) → Sighting → Bool
@@ -22,6 +23,22 @@ place_of n station = (station / 2 ^ 48 + station % 2 ^ 48) % n
 abbrev pub held : (n i : ℕ) → List Sighting → List Sighting
 held n i history = take 4 (newest (filter (λ f. nat_eq (place_of n f.station) i) history))
 
+-- the places of a bucket
+abbrev pub places : StationBucket → List Sighting
+places b = b.first ∷ b.second ∷ b.third ∷ b.fourth ∷ []
+
+-- the sightings in them: the station of a free place is 0, which is no station
+abbrev pub sightings_in : StationBucket → List Sighting
+sightings_in b = filter (is_other 0) (places b)
+
+-- a free place
+abbrev pub no_sighting : Sighting
+no_sighting = record { station = 0; time = 0; port = 0 }
+
+-- a bucket whose places are free
+abbrev pub no_sightings : StationBucket
+no_sightings = record { first = no_sighting; second = no_sighting; third = no_sighting; fourth = no_sighting }
+
 -- n buckets hold what is learned from these frames
 pub record Knows (n : ℕ) (buckets : List (List Sighting)) (history : List Sighting) : Type 0 where
   pub size : length buckets ≡ n
@@ -41,6 +58,10 @@ abbrev pub known_port : (n ageing_time now : ℕ) → List Sighting → (station
 known_port n ageing_time now history station = option_and_then (port_at ageing_time now) (known n history station)
 
 -- ---- how it is learned
+
+-- a place that is made free if it has a station
+abbrev pub unless_of : (station : ℕ) → Sighting → Sighting
+unless_of s f = if is_of s f then no_sighting else f
 
 -- a bucket after a sighting
 abbrev pub with_newest : Sighting → List Sighting → List Sighting

@@ -1,18 +1,20 @@
 //! Bridges.
-ghost use Rattle.std.specs.Prelude.{◌≡◌, ◌<◌, ◌^◌, List, ◌∷◌, IfOk, IsErr, false};
+ghost use Rattle.std.specs.Prelude.{◌≡◌, ◌≢◌, ◌<◌, ◌^◌, List, ◌∷◌, length, map, IfOk, IsErr, false};
 ghost use Rattle.etherparse.specs.Header.{Header};
 ghost use Rattle.ether_peel.specs.Grammar.Stack.{Ending, Walk};
 ghost use Rattle.ether_peel.specs.Walker.Start.{start_of};
 ghost use Rattle.ether_peel.specs.declared.start.Start.TheVariants as starts;
 ghost use Rattle.ether_switch.specs.History.{Event, sightings, answer};
 ghost use Rattle.ether_switch.specs.Arrivals.{arrival};
-ghost use Rattle.ether_switch.specs.Learning.{Knows};
+ghost use Rattle.ether_switch.specs.Learning.{Knows, sightings_in};
 ghost use Rattle.ether_switch.specs.Relaying.{station as station_of, static_port as static_port_of, toward as toward_of, decision, relayed};
 ghost use Rattle.ether_switch.specs.Leaving.{includes};
 
 use crate::arrival::{Admitted, address_of, admit, is_group};
-use crate::stations::Sighting;
-use crate::{BridgeKind, Discarded, Forwarding, PortConfig, Received, StationTable, Vlan};
+use crate::stations::{Sighting, learn_in, port_in};
+use crate::{
+    BridgeKind, Discarded, Forwarding, PortConfig, Received, StationBucket, StationTable, Vlan,
+};
 
 /// Where the frames to an address in a VLAN go, whatever the bridge learns (IEEE 802.1Q, 8.8.1).
 #[derive(Clone, Copy, PartialEq, Eq, Debug)]
@@ -95,14 +97,63 @@ impl Bridge<'_> {
             → IsErr (arrival self.now.kind port.now hs) → table.new ≡ table.old }
         ensures never_back { IfOk result (λ r. includes r.decision from from ≡ false) }
     {
+        self.receive_in(table.buckets.as_mut_slice(), now, from, port, frame)
+    }
+
+    /// As [`Bridge::receive`], with a table that is a slice of the caller's.
+    ///
+    /// Buckets that are 0 throughout, as [`StationBucket::EMPTY`], know no station. Nothing is said of buckets that something else
+    /// wrote to.
+    ///
+    /// # Errors
+    ///
+    /// As [`Bridge::receive`].
+    ///
+    /// # Examples
+    ///
+    /// ```
+    /// let port = PortConfig::access(Vlan::try_new(10)?);
+    /// let request = [0xFF, 0xFF, 0xFF, 0xFF, 0xFF, 0xFF, 0x02, 0x00, 0x00, 0x00, 0x00, 0x01, 0x08, 0x06];
+    /// let bridge = Bridge {
+    ///     kind: BridgeKind::Customer,
+    ///     ageing_time: Bridge::AGEING_TIME,
+    ///     static_entries: &[],
+    /// };
+    /// let mut buckets = [StationBucket::EMPTY; 64];
+    /// let received = bridge.receive_in(&mut buckets, 0, 1, &port, &request);
+    /// assert_eq!(rt; received.map(|received| received.decision), Ok(Forwarding::Flood));
+    /// ```
+    pub fn receive_in(
+        &self,
+        buckets: &mut [StationBucket],
+        now: u64,
+        from: u16,
+        port: &PortConfig,
+        frame: &[u8],
+    ) -> Result<Received, Discarded>
+        ensures history { (hs : List Header) (e : Ending)
+            → Walk (start_of starts.Ethernet2) frame.now hs e
+            → (earlier : List Event)
+            → Knows (length buckets.old) (map sightings_in buckets.old) (sightings self.now.kind earlier)
+            → let event : Event = record { now = now; from = from; port = port.now; hs = hs } in
+            (result ≡ answer self.now.kind self.now.static_entries.now (length buckets.old)
+            self.now.ageing_time event earlier)
+            × Knows (length buckets.old) (map sightings_in buckets.new)
+            (sightings self.now.kind (event ∷ earlier)) }
+        ensures kept { (hs : List Header) (e : Ending)
+            → Walk (start_of starts.Ethernet2) frame.now hs e
+            → IsErr (arrival self.now.kind port.now hs) → buckets.new ≡ buckets.old }
+        ensures never_back { IfOk result (λ r. includes r.decision from from ≡ false) }
+    {
         let frame = admit(self.kind, port, frame)?;
-        table.learn(Sighting {
+        let sighting = Sighting {
             station: station(frame.vlan, frame.source),
-            port: from,
             time: now,
-        });
+            port: from,
+        };
+        learn_in(buckets, sighting);
         let destination = station(frame.vlan, frame.destination);
-        let known = table.port_of(destination, now, self.ageing_time);
+        let known = port_in(buckets, destination, now, self.ageing_time);
         relay(self.kind, from, &frame, self.decide(from, &frame, known))
     }
 
@@ -176,7 +227,8 @@ fn relay(
 /// An address in a VLAN, as one number.
 fn station(vlan: Vlan, address: u64) -> u64
     requires { address < 2 ^ 48 }
-    ensures { result ≡ station_of vlan address }
+    ensures value { result ≡ station_of vlan address }
+    ensures some { result ≢ 0 }
 {
     u64::from(vlan.id().value()) * (1 << 48) + address
 }

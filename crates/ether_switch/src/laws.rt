@@ -1,5 +1,10 @@
 //! The laws of a bridge. Each is the contract of a function that does nothing.
-ghost use Rattle.ether_switch.specs.Laws.{LastSightingsAreHeld, FramesFollowStations, VlansAreIsolated, OnlyTagsChange};
+ghost use Rattle.ether_switch.specs.Laws.{FreeTablesKnowNothing, LastSightingsAreHeld, FramesFollowStations, VlansAreIsolated, OnlyTagsChange};
+
+/// A table of buckets that are [`StationBucket::EMPTY`](crate::StationBucket::EMPTY) has learned from no frame.
+pub fn free_tables_know_nothing()
+    ensures { FreeTablesKnowNothing }
+{}
 
 /// What a table holds of a station is its last sighting. It holds that unless four other stations of its bucket were seen since.
 pub fn last_sightings_are_held()

@@ -1,4 +1,4 @@
-//! The forwarding of a bridge with VLANs (IEEE 802.1Q). No call allocates memory.
+//! The forwarding of a bridge with VLANs (IEEE 802.1Q, in the edition of 2018). No call allocates memory.
 //!
 //! A [`Bridge`] receives a frame by a port: it learns where the frame's source is, in a [`StationTable`], and decides where the
 //! frame goes. The frame then leaves by each of these ports, made ready in place: [`Received::send`].
@@ -49,6 +49,6 @@ pub use bridge::{Bridge, StaticEntry};
 pub use kind::BridgeKind;
 pub use port::{AcceptableFrames, PortConfig};
 pub use received::{Forwarding, Received};
-pub use stations::StationTable;
+pub use stations::{Sighting, StationBucket, StationTable};
 pub use vlan::{Vlan, VlanError};
 pub use vlan_set::VlanSet;

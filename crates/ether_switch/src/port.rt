@@ -21,7 +21,7 @@ pub enum AcceptableFrames {
 pub struct PortConfig {
     /// The VLAN of a frame that comes without a tag, or with one that has a priority alone (PVID).
     pub pvid: Vlan,
-    /// The VLANs whose frames leave by the port (IEEE 802.1Q, 8.8.10).
+    /// The VLANs whose frames leave by the port (IEEE 802.1Q, 8.8).
     pub members: VlanSet,
     /// Those whose frames leave without a tag (IEEE 802.1Q, 8.8.2).
     pub untagged: VlanSet,
@@ -29,7 +29,7 @@ pub struct PortConfig {
     pub frame_types: AcceptableFrames,
     /// Whether it discards frames of a VLAN that it is not a member of (IEEE 802.1Q, 8.6.2).
     pub ingress_filtering: bool,
-    /// The priority of a frame that comes without a tag (IEEE 802.1Q, 12.6.2).
+    /// The priority of a frame that comes without a tag (IEEE 802.1Q, 12.6).
     pub default_priority: VlanPcp,
 }
 

@@ -1,23 +1,39 @@
 //! The stations that a bridge has learned.
-ghost use Rattle.std.specs.Prelude.{◌≡◌, ◌<◌, ℕ, List, [], ◌∷◌, length, map, slice_set, slice_index_or, find, nat_eq};
-ghost use Rattle.ether_switch.specs.Learning.{Knows, place_of, with_newest, with_sighting, known_port, is_of, port_at};
+ghost use Rattle.std.specs.Prelude.{◌≡◌, ◌≢◌, ◌<◌, List, [], ◌∷◌, length, map, find};
+ghost use Rattle.ether_switch.specs.Learning.{Knows, place_of, places, sightings_in, with_newest, known_port, is_of, port_at, unless_of};
 
 use arrayvec::ArrayVec;
 use std::marker::Model;
 
-/// How many stations a bucket holds.
-const WAYS: usize = 4;
-
 /// A frame of a station, by when and by which port it came.
+///
+/// Each bit pattern is a value.
+#[repr(C)]
 #[derive(Clone, Copy, Debug, Default)]
-pub(crate) struct Sighting {
+pub struct Sighting {
+    /// The identifier of the VLAN, 1 to 4094, times 2^48, plus the address, a number of 48 bits. 0 is no station.
     pub station: u64,
-    pub port: u16,
+    /// The time, as the caller gave it.
     pub time: u64,
+    /// The port.
+    pub port: u16,
 }
 
-/// The newest sightings of up to four stations, the newest first.
-type Bucket = ArrayVec<Sighting, WAYS>;
+/// The newest sightings of up to four stations, the newest first; in a place that is free the station is 0.
+///
+/// Each bit pattern is a value, so a table may be any memory that is 0 at first.
+#[repr(C)]
+#[derive(Clone, Copy, Debug, Default)]
+pub struct StationBucket {
+    /// The newest one.
+    pub first: Sighting,
+    /// The one before.
+    pub second: Sighting,
+    /// The third.
+    pub third: Sighting,
+    /// The oldest one.
+    pub fourth: Sighting,
+}
 
 /// The stations that a bridge has learned (IEEE 802.1Q, 8.7 and 8.8.3).
 ///
@@ -31,16 +47,36 @@ type Bucket = ArrayVec<Sighting, WAYS>;
 /// ```
 #[derive(Debug, Drop)]
 pub struct StationTable<const BUCKETS: usize> {
-    buckets: ArrayVec<Bucket, BUCKETS>,
+    pub(crate) buckets: ArrayVec<StationBucket, BUCKETS>,
 }
 
 impl<const BUCKETS: usize> Model for StationTable<BUCKETS> {
     ghost use Rattle.std.specs.Prelude.{List, map};
+    ghost use Rattle.ether_switch.specs.Learning.{sightings_in};
     ghost use Rattle.ether_switch.specs.declared.stations.Sighting.{Sighting as Seen};
 
     ghost Value = { List (List Seen) };
 
-    ghost view = { λ t. map (λ b. b.items) t.buckets.items };
+    ghost view = { λ t. map sightings_in t.buckets.items };
+}
+
+impl StationBucket {
+    /// A bucket of no station.
+    pub const EMPTY: StationBucket = StationBucket {
+        first: Sighting::NONE,
+        second: Sighting::NONE,
+        third: Sighting::NONE,
+        fourth: Sighting::NONE,
+    };
+}
+
+impl Sighting {
+    /// No sighting.
+    const NONE: Sighting = Sighting {
+        station: 0,
+        time: 0,
+        port: 0,
+    };
 }
 
 impl<const BUCKETS: usize> StationTable<BUCKETS> {
@@ -50,31 +86,9 @@ impl<const BUCKETS: usize> StationTable<BUCKETS> {
     {
         let mut buckets = ArrayVec::new();
         for _ in 0..BUCKETS {
-            buckets.push(ArrayVec::new());
+            buckets.push(StationBucket::EMPTY);
         }
         StationTable { buckets }
-    }
-
-    /// Learns from a sighting of a station.
-    pub(crate) fn learn(&mut self, sighting: Sighting)
-        ensures { (history : List _) → Knows BUCKETS self.old history
-            → Knows BUCKETS self.new (sighting ∷ history) }
-    {
-        learn_in(self.buckets.as_mut_slice(), sighting);
-    }
-
-    /// The port of a station, if it was seen not longer ago than the ageing time.
-    pub(crate) fn port_of(&self, station: u64, now: u64, ageing_time: u64) -> Option<u16>
-        ensures { (history : List _) → Knows BUCKETS self.now history
-            → result ≡ known_port BUCKETS ageing_time now history station }
-    {
-        let buckets = self.buckets.as_slice();
-        if buckets.is_empty() {
-            return None;
-        }
-        let bucket = &buckets[place(station, buckets.len())];
-        let sighting = sighting_of(bucket.as_slice(), station)?;
-        port_now(sighting, now, ageing_time)
     }
 }
 
@@ -101,34 +115,109 @@ fn place(station: u64, buckets: usize) -> usize
 }
 
 /// Learns from a sighting of a station.
-fn learn_in(buckets: &mut [Bucket], sighting: Sighting)
-    ensures { map (λ b. b.items) buckets.new
-        ≡ with_sighting sighting (map (λ b. b.items) buckets.old) }
+pub(crate) fn learn_in(buckets: &mut [StationBucket], sighting: Sighting)
+    requires { sighting.station ≢ 0 }
+    ensures { (history : List _) → Knows (length buckets.old) (map sightings_in buckets.old) history
+        → Knows (length buckets.old) (map sightings_in buckets.new) (sighting ∷ history) }
 {
     if buckets.is_empty() {
         return;
     }
     let at = place(sighting.station, buckets.len());
-    see(&mut buckets[at], sighting);
+    buckets[at] = seen(&buckets[at], sighting);
 }
 
-/// Puts a sighting of a station first, in place of an older one.
-fn see(bucket: &mut Bucket, sighting: Sighting)
-    ensures { bucket.new.items ≡ with_newest sighting bucket.old.items }
+/// A bucket with a sighting of a station first, in place of an older one.
+fn seen(bucket: &StationBucket, sighting: Sighting) -> StationBucket
+    requires { sighting.station ≢ 0 }
+    ensures { sightings_in result ≡ with_newest sighting (sightings_in bucket.now) }
 {
-    bucket.retain(|known| known.station != sighting.station);
-    bucket.truncate(WAYS - 1);
-    bucket.insert(0, sighting);
+    let station = sighting.station;
+    let first = other(bucket.first, station);
+    let second = other(bucket.second, station);
+    let third = other(bucket.third, station);
+    let fourth = other(bucket.fourth, station);
+    if first.station == 0 {
+        return StationBucket {
+            first: sighting,
+            second,
+            third,
+            fourth,
+        };
+    }
+    if second.station == 0 {
+        return StationBucket {
+            first: sighting,
+            second: first,
+            third,
+            fourth,
+        };
+    }
+    if third.station == 0 {
+        return StationBucket {
+            first: sighting,
+            second: first,
+            third: second,
+            fourth,
+        };
+    }
+    StationBucket {
+        first: sighting,
+        second: first,
+        third: second,
+        fourth: third,
+    }
 }
 
-/// The sighting of a station among these.
-fn sighting_of(sightings: &[Sighting], station: u64) -> Option<Sighting>
-    ensures { result ≡ find (is_of station) sightings.now }
+/// A sighting of another station; a free place if it is one of this station.
+fn other(sighting: Sighting, station: u64) -> Sighting
+    ensures { result ≡ unless_of station sighting }
 {
-    sightings
-        .iter()
-        .copied()
-        .find(|known| known.station == station)
+    if sighting.station == station {
+        Sighting::NONE
+    } else {
+        sighting
+    }
+}
+
+/// The port of a station, if it was seen not longer ago than the ageing time.
+pub(crate) fn port_in(
+    buckets: &[StationBucket],
+    station: u64,
+    now: u64,
+    ageing_time: u64,
+) -> Option<u16>
+    requires { station ≢ 0 }
+    ensures { (history : List _) → Knows (length buckets.now) (map sightings_in buckets.now) history
+        → result ≡ known_port (length buckets.now) ageing_time now history station }
+{
+    if buckets.is_empty() {
+        return None;
+    }
+    let bucket = &buckets[place(station, buckets.len())];
+    match sighting_of(bucket, station) {
+        Some(sighting) => port_now(sighting, now, ageing_time),
+        None => None,
+    }
+}
+
+/// The sighting of a station in a bucket.
+fn sighting_of(bucket: &StationBucket, station: u64) -> Option<Sighting>
+    ensures { result ≡ find (is_of station) (places bucket.now) }
+{
+    if bucket.first.station == station {
+        return Some(bucket.first);
+    }
+    if bucket.second.station == station {
+        return Some(bucket.second);
+    }
+    if bucket.third.station == station {
+        return Some(bucket.third);
+    }
+    if bucket.fourth.station == station {
+        return Some(bucket.fourth);
+    }
+    None
 }
 
 /// The port of a sighting, if it is not older than the ageing time.

@@ -3,7 +3,7 @@ ghost use Rattle.std.specs.Prelude.{◌≡◌, ◌≤◌, ◌<◌, ℕ, true, fa
 
 use crate::Vlan;
 
-/// A set of VLANs.
+/// A set of VLANs: that with the identifier `i` is in it if bit `i % 64` of the number `i / 64` is 1, the lowest bit being 0.
 ///
 /// ```
 /// let (first, second) = (Vlan::try_new(1)?, Vlan::try_new(2)?);
@@ -11,6 +11,7 @@ use crate::Vlan;
 /// set.insert(first);
 /// assert!(rt; set.contains(first) && !set.contains(second));
 /// ```
+#[repr(C)]
 #[derive(Clone, Copy, PartialEq, Eq, Debug)]
 pub struct VlanSet {
     words: [u64; 64],

@@ -1,7 +1,7 @@
 //! The examples of the documentation.
 use ether_switch::{
-    Bridge, BridgeKind, Discarded, Forwarding, PortConfig, Received, StationTable, Vlan, VlanError,
-    VlanSet,
+    Bridge, BridgeKind, Discarded, Forwarding, PortConfig, Received, StationBucket, StationTable,
+    Vlan, VlanError, VlanSet,
 };
 use etherparse::VlanPcp;
 use std::process::Abort;
@@ -55,6 +55,19 @@ fn of_the_ageing_time(rt: HostRuntime) -> Result<(), Fail> {
     check(&rt, "within it", second, Forwarding::Port(1));
     let third = bridge().receive(&mut table, 301, 2, &port, reply);
     check(&rt, "after it", third, Forwarding::Flood);
+    Ok(())
+}
+
+#[test]
+fn of_a_table_of_the_callers(rt: HostRuntime) -> Result<(), Fail> {
+    let port = PortConfig::access(Vlan::try_new(10)?);
+    let request = b"\xFF\xFF\xFF\xFF\xFF\xFF\x02\x00\x00\x00\x00\x01\x08\x06";
+    let reply = b"\x02\x00\x00\x00\x00\x01\x02\x00\x00\x00\x00\x02\x08\x06";
+    let mut buckets = [StationBucket::EMPTY; 64];
+    let first = bridge().receive_in(&mut buckets, 0, 1, &port, request);
+    check(&rt, "a request", first, Forwarding::Flood);
+    let second = bridge().receive_in(&mut buckets, 300, 2, &port, reply);
+    check(&rt, "its answer", second, Forwarding::Port(1));
     Ok(())
 }
 

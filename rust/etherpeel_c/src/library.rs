@@ -3,8 +3,9 @@
 use crate::{
     EtherArp, EtherCaptureEnd, EtherCaptured, EtherEthernet2, EtherFault, EtherFed, EtherField,
     EtherFilter, EtherFilterError, EtherFound, EtherFrame, EtherHeaders, EtherLinuxSll,
-    EtherLinuxSll2, EtherMacsec, EtherReplaceError, EtherUnit, EtherVlan,
+    EtherLinuxSll2, EtherMacsec, EtherPort, EtherReceived, EtherReplaceError, EtherUnit, EtherVlan,
 };
+use etherpeel::ether_switch::{Sighting, StationBucket};
 
 /// The version of the library: 0x10000 times the first number, 0x100 times the second, and the third.
 ///
@@ -50,6 +51,10 @@ pub extern "C" fn etherpeel_sizeof(number: u32) -> usize {
         16 => size_of::<EtherLinuxSll2>(),
         17 => size_of::<EtherReplaceError>(),
         18 => size_of::<EtherFilter>(),
+        19 => size_of::<EtherPort>(),
+        20 => size_of::<EtherReceived>(),
+        21 => size_of::<Sighting>(),
+        22 => size_of::<StationBucket>(),
         _ => 0,
     }
 }

@@ -56,6 +56,9 @@ pub(crate) const TOO_MANY_TAGS: u32 = 19;
 /// A header follows a SecTag whose payload is encrypted or changed.
 pub(crate) const SEALED: u32 = 20;
 
+/// The frame does not leave by the port.
+pub(crate) const STAYS: u32 = 21;
+
 /// The start with a number, if there is one. Only the fourth has the ether type.
 #[inline(always)]
 pub(crate) fn start_of(number: u32, ether_type: u16) -> Option<Start> {

@@ -1,8 +1,10 @@
 //! Bridges.
 
 use crate::ether_switch::arrival::{Admitted, address_of, admit, is_group};
-use crate::ether_switch::stations::Sighting;
-use crate::ether_switch::{BridgeKind, Discarded, Forwarding, PortConfig, Received, StationTable, Vlan};
+use crate::ether_switch::stations::{Sighting, learn_in, port_in};
+use crate::ether_switch::{
+    BridgeKind, Discarded, Forwarding, PortConfig, Received, StationBucket, StationTable, Vlan,
+};
 
 /// Where the frames to an address in a VLAN go, whatever the bridge learns (IEEE 802.1Q, 8.8.1).
 #[derive(Clone, Copy, PartialEq, Eq, Debug)]
@@ -103,14 +105,81 @@ impl Bridge<'_> {
         port: &PortConfig,
         frame: &[u8],
     ) -> Result<Received, Discarded> {
+        self.receive_in(table.buckets.as_mut_slice(), now, from, port, frame)
+    }
+
+    /// As [`Bridge::receive`], with a table that is a slice of the caller's.
+    ///
+    /// Buckets that are 0 throughout, as [`StationBucket::EMPTY`], know no station. Nothing is said of buckets that something else
+    /// wrote to.
+    ///
+    /// # Errors
+    ///
+    /// As [`Bridge::receive`].
+    ///
+    /// # Examples
+    ///
+    /// ```
+    /// # use etherpeel::*;
+    /// # use etherpeel::ether_peel::*;
+    /// # use etherpeel::ether_sll2::*;
+    /// # use etherpeel::ether_packet::*;
+    /// # use etherpeel::ether_filter::*;
+    /// # use etherpeel::ether_pcap::*;
+    /// # use etherpeel::ether_content::*;
+    /// # use etherpeel::ether_switch::*;
+    /// # fn main() -> Result<(), Box<dyn std::error::Error>> {
+    /// let port = PortConfig::access(Vlan::try_new(10)?);
+    /// let request = [0xFF, 0xFF, 0xFF, 0xFF, 0xFF, 0xFF, 0x02, 0x00, 0x00, 0x00, 0x00, 0x01, 0x08, 0x06];
+    /// let bridge = Bridge {
+    ///     kind: BridgeKind::Customer,
+    ///     ageing_time: Bridge::AGEING_TIME,
+    ///     static_entries: &[],
+    /// };
+    /// let mut buckets = [StationBucket::EMPTY; 64];
+    /// let received = bridge.receive_in(&mut buckets, 0, 1, &port, &request);
+    /// assert_eq!(received.map(|received| received.decision), Ok(Forwarding::Flood));
+    /// # Ok(())
+    /// # }
+    /// ```
+    ///
+    /// <details><summary>Contract</summary>
+    ///
+    /// ```text
+    /// ensures history { (hs : List Header) (e : Ending)
+    ///     → Walk (start_of starts.Ethernet2) frame.now hs e
+    ///     → (earlier : List Event)
+    ///     → Knows (length buckets.old) (map sightings_in buckets.old) (sightings self.now.kind earlier)
+    ///     → let event : Event = record { now = now; from = from; port = port.now; hs = hs } in
+    ///     (result ≡ answer self.now.kind self.now.static_entries.now (length buckets.old)
+    ///     self.now.ageing_time event earlier)
+    ///     × Knows (length buckets.old) (map sightings_in buckets.new)
+    ///     (sightings self.now.kind (event ∷ earlier)) }
+    /// ensures kept { (hs : List Header) (e : Ending)
+    ///     → Walk (start_of starts.Ethernet2) frame.now hs e
+    ///     → IsErr (arrival self.now.kind port.now hs) → buckets.new ≡ buckets.old }
+    /// ensures never_back { IfOk result (λ r. includes r.decision from from ≡ false) }
+    /// ```
+    ///
+    /// </details>
+    #[inline]
+    pub fn receive_in(
+        &self,
+        buckets: &mut [StationBucket],
+        now: u64,
+        from: u16,
+        port: &PortConfig,
+        frame: &[u8],
+    ) -> Result<Received, Discarded> {
         let frame = admit(self.kind, port, frame)?;
-        table.learn(Sighting {
+        let sighting = Sighting {
             station: station(frame.vlan, frame.source),
-            port: from,
             time: now,
-        });
+            port: from,
+        };
+        learn_in(buckets, sighting);
         let destination = station(frame.vlan, frame.destination);
-        let known = table.port_of(destination, now, self.ageing_time);
+        let known = port_in(buckets, destination, now, self.ageing_time);
         relay(self.kind, from, &frame, self.decide(from, &frame, known))
     }
 

@@ -2,19 +2,35 @@
 
 use arrayvec::ArrayVec;
 
-/// How many stations a bucket holds.
-const WAYS: usize = 4;
-
 /// A frame of a station, by when and by which port it came.
+///
+/// Each bit pattern is a value.
+#[repr(C)]
 #[derive(Clone, Copy, Debug, Default)]
-pub(crate) struct Sighting {
+pub struct Sighting {
+    /// The identifier of the VLAN, 1 to 4094, times 2^48, plus the address, a number of 48 bits. 0 is no station.
     pub station: u64,
-    pub port: u16,
+    /// The time, as the caller gave it.
     pub time: u64,
+    /// The port.
+    pub port: u16,
 }
 
-/// The newest sightings of up to four stations, the newest first.
-type Bucket = ArrayVec<Sighting, WAYS>;
+/// The newest sightings of up to four stations, the newest first; in a place that is free the station is 0.
+///
+/// Each bit pattern is a value, so a table may be any memory that is 0 at first.
+#[repr(C)]
+#[derive(Clone, Copy, Debug, Default)]
+pub struct StationBucket {
+    /// The newest one.
+    pub first: Sighting,
+    /// The one before.
+    pub second: Sighting,
+    /// The third.
+    pub third: Sighting,
+    /// The oldest one.
+    pub fourth: Sighting,
+}
 
 /// The stations that a bridge has learned (IEEE 802.1Q, 8.7 and 8.8.3).
 ///
@@ -36,7 +52,26 @@ type Bucket = ArrayVec<Sighting, WAYS>;
 /// ```
 #[derive(Debug)]
 pub struct StationTable<const BUCKETS: usize> {
-    buckets: ArrayVec<Bucket, BUCKETS>,
+    pub(crate) buckets: ArrayVec<StationBucket, BUCKETS>,
+}
+
+impl StationBucket {
+    /// A bucket of no station.
+    pub const EMPTY: StationBucket = StationBucket {
+        first: Sighting::NONE,
+        second: Sighting::NONE,
+        third: Sighting::NONE,
+        fourth: Sighting::NONE,
+    };
+}
+
+impl Sighting {
+    /// No sighting.
+    const NONE: Sighting = Sighting {
+        station: 0,
+        time: 0,
+        port: 0,
+    };
 }
 
 impl<const BUCKETS: usize> StationTable<BUCKETS> {
@@ -53,27 +88,9 @@ impl<const BUCKETS: usize> StationTable<BUCKETS> {
     pub fn new() -> StationTable<BUCKETS> {
         let mut buckets = ArrayVec::new();
         for _ in 0..BUCKETS {
-            buckets.push(ArrayVec::new());
+            buckets.push(StationBucket::EMPTY);
         }
         StationTable { buckets }
-    }
-
-    /// Learns from a sighting of a station.
-    #[inline]
-    pub(crate) fn learn(&mut self, sighting: Sighting) {
-        learn_in(self.buckets.as_mut_slice(), sighting);
-    }
-
-    /// The port of a station, if it was seen not longer ago than the ageing time.
-    #[inline]
-    pub(crate) fn port_of(&self, station: u64, now: u64, ageing_time: u64) -> Option<u16> {
-        let buckets = self.buckets.as_slice();
-        if buckets.is_empty() {
-            return None;
-        }
-        let bucket = &buckets[place(station, buckets.len())];
-        let sighting = sighting_of(bucket.as_slice(), station)?;
-        port_now(sighting, now, ageing_time)
     }
 }
 
@@ -94,29 +111,98 @@ fn place(station: u64, buckets: usize) -> usize {
 
 /// Learns from a sighting of a station.
 #[inline]
-fn learn_in(buckets: &mut [Bucket], sighting: Sighting) {
+pub(crate) fn learn_in(buckets: &mut [StationBucket], sighting: Sighting) {
     if buckets.is_empty() {
         return;
     }
     let at = place(sighting.station, buckets.len());
-    see(&mut buckets[at], sighting);
+    buckets[at] = seen(&buckets[at], sighting);
 }
 
-/// Puts a sighting of a station first, in place of an older one.
+/// A bucket with a sighting of a station first, in place of an older one.
 #[inline]
-fn see(bucket: &mut Bucket, sighting: Sighting) {
-    bucket.retain(|known| known.station != sighting.station);
-    bucket.truncate(WAYS - 1);
-    bucket.insert(0, sighting);
+fn seen(bucket: &StationBucket, sighting: Sighting) -> StationBucket {
+    let station = sighting.station;
+    let first = other(bucket.first, station);
+    let second = other(bucket.second, station);
+    let third = other(bucket.third, station);
+    let fourth = other(bucket.fourth, station);
+    if first.station == 0 {
+        return StationBucket {
+            first: sighting,
+            second,
+            third,
+            fourth,
+        };
+    }
+    if second.station == 0 {
+        return StationBucket {
+            first: sighting,
+            second: first,
+            third,
+            fourth,
+        };
+    }
+    if third.station == 0 {
+        return StationBucket {
+            first: sighting,
+            second: first,
+            third: second,
+            fourth,
+        };
+    }
+    StationBucket {
+        first: sighting,
+        second: first,
+        third: second,
+        fourth: third,
+    }
 }
 
-/// The sighting of a station among these.
+/// A sighting of another station; a free place if it is one of this station.
 #[inline]
-fn sighting_of(sightings: &[Sighting], station: u64) -> Option<Sighting> {
-    sightings
-        .iter()
-        .copied()
-        .find(|known| known.station == station)
+fn other(sighting: Sighting, station: u64) -> Sighting {
+    if sighting.station == station {
+        Sighting::NONE
+    } else {
+        sighting
+    }
+}
+
+/// The port of a station, if it was seen not longer ago than the ageing time.
+#[inline]
+pub(crate) fn port_in(
+    buckets: &[StationBucket],
+    station: u64,
+    now: u64,
+    ageing_time: u64,
+) -> Option<u16> {
+    if buckets.is_empty() {
+        return None;
+    }
+    let bucket = &buckets[place(station, buckets.len())];
+    match sighting_of(bucket, station) {
+        Some(sighting) => port_now(sighting, now, ageing_time),
+        None => None,
+    }
+}
+
+/// The sighting of a station in a bucket.
+#[inline]
+fn sighting_of(bucket: &StationBucket, station: u64) -> Option<Sighting> {
+    if bucket.first.station == station {
+        return Some(bucket.first);
+    }
+    if bucket.second.station == station {
+        return Some(bucket.second);
+    }
+    if bucket.third.station == station {
+        return Some(bucket.third);
+    }
+    if bucket.fourth.station == station {
+        return Some(bucket.fourth);
+    }
+    None
 }
 
 /// The port of a sighting, if it is not older than the ageing time.

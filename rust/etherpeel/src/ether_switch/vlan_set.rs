@@ -2,7 +2,7 @@
 
 use crate::ether_switch::Vlan;
 
-/// A set of VLANs.
+/// A set of VLANs: that with the identifier `i` is in it if bit `i % 64` of the number `i / 64` is 1, the lowest bit being 0.
 ///
 /// ```
 /// # use etherpeel::*;
@@ -21,6 +21,7 @@ use crate::ether_switch::Vlan;
 /// # Ok(())
 /// # }
 /// ```
+#[repr(C)]
 #[derive(Clone, Copy, PartialEq, Eq, Debug)]
 pub struct VlanSet {
     words: [u64; 64],

@@ -1,9 +1,9 @@
-use Rattle.std.proofs.Common.{◌≡◌, ℕ, ◌∷◌, Result, ap, subst, ◌∙◌}
-use Rattle.ether_switch.specs.declared.arrival.Admitted.{Admitted}
-use Rattle.ether_switch.specs.declared.arrival.Discarded.{Discarded}
-use Rattle.ether_switch.specs.History.{seen_with, sightings, answer_by}
-use Rattle.ether_switch.specs.Learning.{Knows, known_port}
-use Rattle.ether_switch.specs.Relaying.{station, sighting, decision, relayed}
+use Rattle.std.proofs.Common.{rules, ◌≡◌, ℕ, ◌∷◌, List, length, map, sym, ap, subst, ◌∙◌}
+use Rattle.std.proofs.lemmas.List.{length-map}
+use Rattle.arrayvec.proofs.ArrayVecLemmas.{items-with_items}
+use Rattle.ether_switch.specs.declared.stations.Sighting.{Sighting}
+use Rattle.ether_switch.specs.History.{Event, sightings, answer}
+use Rattle.ether_switch.specs.Learning.{Knows, sightings_in}
 use Rattle.ether_switch.proofs.bridge.Bridge.receive.Goals as goal
 
 pub returns-clause-history : goal.returns-clause-history
@@ -11,26 +11,27 @@ returns-clause-history g c hs e walk earlier knows =
     let n = g.row.BUCKETS in
     let kind = c.args.self.now.kind in
     let entries = c.args.self.now.static_entries.now in
-    let ageing = c.args.self.now.ageing_time in
-    let now = c.args.now in
-    let from = c.args.from in
-    let frame = c.in_ok-frame.frame in
-    let history = sightings kind earlier in
-    let seen = sighting now from frame ∷ history in
-    let learned = c.learn.ensures history knows in
-    let known : c.port_of-known.result ≡ known_port n ageing now seen (station frame.vlan frame.destination) =
-    c.port_of-known.ensures _ learned
-    ∙ (λ i. known_port n ageing now (record { station = c.station.ensures i; port = from; time = now } ∷ history)
-    (c.station-destination.ensures i)) in
-    let answers : c.relay.result
-    ≡ relayed kind from frame (decision entries from frame.vlan frame.destination
-    (known_port n ageing now seen (station frame.vlan frame.destination))) =
-    c.relay.ensures.value
-    ∙ ap (relayed kind from frame) (c.decide.ensures.value ∙ ap (decision entries from frame.vlan frame.destination) known) in
-    let knows_more : Knows n c.learn.new.self seen =
-    subst (λ (s : ℕ). Knows n c.learn.new.self (record { station = s; port = from; time = now } ∷ history))
-    c.station.ensures learned in
-    subst (λ (x : Result Admitted Discarded).
-    (c.relay.result ≡ answer_by kind entries from (known_port n ageing now (seen_with now from x history)) x)
-    × Knows n c.learn.new.self (seen_with now from x history))
-    (c.in_ok-frame.ensures.value hs e walk) (answers, knows_more)
+    let event : Event = record { now = c.args.now; from = c.args.from; port = c.args.port.now; hs = hs } in
+    let slice = c.as_mut_slice.result.now in
+    let left = c.receive_in.new.buckets in
+    let old = c.table.inside.buckets in
+    let same : length left ≡ length old.items = search rules in
+    let view : map sightings_in slice ≡ c.args.table.now = ap (map sightings_in) c.as_mut_slice.ensures.value ∙ c.table.view_is in
+    let size : length slice ≡ n = sym (length-map slice sightings_in) ∙ ap (λ (l : List (List Sighting)). length l) view ∙ knows.size in
+    let told = c.receive_in.ensures.history hs e walk earlier
+    (subst (λ (m : ℕ). Knows m (map sightings_in slice) (sightings kind earlier)) (sym size)
+    (subst (λ (l : List (List Sighting)). Knows n l (sightings kind earlier)) (sym view) knows)) in (
+      told.0 ∙ ap (λ (m : ℕ). answer kind entries m c.args.self.now.ageing_time event earlier) size,
+      subst (λ (l : List (List Sighting)). Knows n l (sightings kind (event ∷ earlier)))
+          (sym (ap (map sightings_in) (items-with_items old left same)))
+          (subst (λ (m : ℕ). Knows m (map sightings_in left) (sightings kind (event ∷ earlier))) size told.1),
+    )
+
+pub returns-clause-kept : goal.returns-clause-kept
+returns-clause-kept g c hs e walk refused =
+    let left = c.receive_in.new.buckets in
+    let old = c.table.inside.buckets in
+    let same : length left ≡ length old.items = search rules in
+    ap (map sightings_in)
+    (items-with_items old left same ∙ c.receive_in.ensures.kept hs e walk refused ∙ c.as_mut_slice.ensures.value)
+    ∙ c.table.view_is

@@ -1,0 +1,62 @@
+//! How a port of a bridge is set up, as a struct of C.
+ghost use Rattle.std.specs.Prelude.{◌≡◌};
+ghost use Rattle.ether_c.specs.Switching.{config_of, frame_types_numbered};
+
+use ether_switch::{AcceptableFrames, PortConfig, Vlan, VlanSet};
+use etherparse::VlanPcp;
+
+/// How a port of a bridge is set up: `etherpeel_port` in C.
+#[repr(C)]
+#[derive(Clone, Copy)]
+pub struct EtherPort {
+    /// The VLANs whose frames leave by the port.
+    pub members: VlanSet,
+    /// Those whose frames leave without a tag.
+    pub untagged: VlanSet,
+    /// The VLAN of a frame that comes without a tag, or with one that has a priority alone: 1 to 4094.
+    pub pvid: u16,
+    /// Which frames it takes: 0 all, 1 those with a tag that names a VLAN, 2 the others.
+    pub frame_types: u8,
+    /// Whether it discards frames of a VLAN that it is not a member of: 0 if not.
+    pub ingress_filtering: u8,
+    /// The priority of a frame that comes without a tag: 0 to 7.
+    pub default_priority: u8,
+}
+
+// as c/etherpeel.h lays it out
+const _: () = prove!(size_of::<EtherPort>() == 1032);
+
+impl EtherPort {
+    /// How the port is set up, if its numbers fit their fields.
+    pub(crate) fn to_config(&self) -> Option<PortConfig>
+        ensures { result ≡ config_of self.now }
+    {
+        let Ok(pvid) = Vlan::try_new(self.pvid) else {
+            return None;
+        };
+        let Ok(default_priority) = VlanPcp::try_new(self.default_priority) else {
+            return None;
+        };
+        let frame_types = frame_types(self.frame_types)?;
+        Some(PortConfig {
+            pvid,
+            members: self.members,
+            untagged: self.untagged,
+            frame_types,
+            ingress_filtering: self.ingress_filtering != 0,
+            default_priority,
+        })
+    }
+}
+
+/// The frames that a port takes, by their number.
+fn frame_types(number: u8) -> Option<AcceptableFrames>
+    ensures { result ≡ frame_types_numbered number }
+{
+    match number {
+        0 => Some(AcceptableFrames::All),
+        1 => Some(AcceptableFrames::OnlyVlanTagged),
+        2 => Some(AcceptableFrames::OnlyUntaggedAndPriorityTagged),
+        _ => None,
+    }
+}

@@ -1,0 +1,128 @@
+//! A bridge with VLANs.
+
+use crate::ether_received::bridge_kind;
+use crate::numbers::{BAD_FIELD, DONE, STAYS};
+use crate::{EtherPort, EtherReceived};
+use etherpeel::ether_switch::{Bridge, PortConfig, Received, StationBucket};
+
+/// Learns the source of a frame that came in by a port, and says what the bridge makes of the frame.
+///
+/// <details><summary>Contract</summary>
+///
+/// ```text
+/// ensures unfit { (kind_numbered kind ≡ None) ⊎ (config_of port.now ≡ None)
+///     → (result ≡ bad_field) × (buckets.new ≡ buckets.old) × (received.new ≡ received.old) }
+/// ensures given { IfSome (kind_numbered kind) (λ k. IfSome (config_of port.now) (λ p.
+///     (hs : List Header) (e : Ending) → Walk (start_of starts.Ethernet2) frame.now hs e
+///     → GivesReceived k p ageing_time now from hs buckets.old buckets.new received.new result)) }
+/// ```
+///
+/// </details>
+#[unsafe(no_mangle)]
+pub unsafe extern "C" fn etherpeel_switch_receive(
+    kind: u32,
+    ageing_time: u64,
+    buckets: *mut StationBucket,
+    buckets_len: usize,
+    now: u64,
+    from: u16,
+    port: &EtherPort,
+    frame: *const u8,
+    frame_len: usize,
+    received: &mut EtherReceived,
+) -> u32 {
+    let buckets = unsafe { crate::by_hand::mutable(buckets, buckets_len) };
+    let frame = unsafe { crate::by_hand::shared(frame, frame_len) };
+    let Some(kind) = bridge_kind(kind) else {
+        return BAD_FIELD;
+    };
+    let Some(port) = port.to_config() else {
+        return BAD_FIELD;
+    };
+    let bridge = Bridge {
+        kind,
+        ageing_time,
+        static_entries: &[],
+    };
+    let answer = bridge.receive_in(buckets, now, from, &port, frame);
+    *received = EtherReceived::of(&answer);
+    DONE
+}
+
+/// Whether a frame leaves by a port, and with the tag of its VLAN or without one.
+///
+/// <details><summary>Contract</summary>
+///
+/// ```text
+/// ensures unfit { (received_of received.now ≡ None) ⊎ (config_of port.now ≡ None)
+///     → (result ≡ bad_field) × (form.new ≡ form.old) }
+/// ensures given { IfSome (received_of received.now) (λ r. IfSome (config_of port.now) (λ p.
+///     (form.new ≡ form_number r to p) × (result ≡ done))) }
+/// ```
+///
+/// </details>
+#[unsafe(no_mangle)]
+pub extern "C" fn etherpeel_switch_form(
+    received: &EtherReceived,
+    to: u16,
+    port: &EtherPort,
+    form: &mut u32,
+) -> u32 {
+    let Some(received) = received.to_received() else {
+        return BAD_FIELD;
+    };
+    let Some(port) = port.to_config() else {
+        return BAD_FIELD;
+    };
+    *form = form_of(&received, to, &port);
+    DONE
+}
+
+/// The number of how a frame leaves by a port.
+fn form_of(received: &Received, to: u16, port: &PortConfig) -> u32 {
+    if !received.goes_to(to, port) {
+        return 0;
+    }
+    if port.untagged.contains(received.vlan) {
+        1
+    } else {
+        2
+    }
+}
+
+/// Makes a frame ready to leave by a port, after four bytes of a buffer that are free, and says where it begins then.
+///
+/// <details><summary>Contract</summary>
+///
+/// ```text
+/// ensures unfit { (received_of received.now ≡ None) ⊎ (config_of port.now ≡ None)
+///     → (result ≡ bad_field) × (buffer.new ≡ buffer.old) × (at.new ≡ at.old) }
+/// ensures given { IfSome (received_of received.now) (λ r. IfSome (config_of port.now) (λ p.
+///     GivesSent r to p buffer.old buffer.new at.old at.new result)) }
+/// ```
+///
+/// </details>
+#[unsafe(no_mangle)]
+pub unsafe extern "C" fn etherpeel_switch_send(
+    received: &EtherReceived,
+    to: u16,
+    port: &EtherPort,
+    buffer: *mut u8,
+    buffer_len: usize,
+    at: &mut usize,
+) -> u32 {
+    let buffer = unsafe { crate::by_hand::mutable(buffer, buffer_len) };
+    let Some(received) = received.to_received() else {
+        return BAD_FIELD;
+    };
+    let Some(port) = port.to_config() else {
+        return BAD_FIELD;
+    };
+    match received.send(to, &port, buffer) {
+        Some(begin) => {
+            *at = begin;
+            DONE
+        }
+        None => STAYS,
+    }
+}
