@@ -5,7 +5,6 @@ use crate::ether_headers::vlan_ids;
 use crate::numbers::{DONE, UNKNOWN_START, start_of};
 use crate::walking::walked;
 use etherpeel::ether_packet::PacketSlice;
-use etherpeel::ether_peel::summary_limited;
 
 /// The headers of a packet with no more than three VLAN tags and SecTags, what is left after them,
 /// and what is asked of a packet.
@@ -37,7 +36,7 @@ pub unsafe extern "C" fn etherpeel_packet(
     headers.vlan_count = ids.len() as u16;
     headers.min_snap_len = packet.min_snap_len();
     let limit = PacketSlice::LINK_EXTS_CAP;
-    headers.found.set(&summary_limited(start, bytes, limit));
-    walked(start, bytes, Some(limit), &mut headers.units);
+    let found = walked(start, bytes, Some(limit), &mut headers.units);
+    headers.found.set(&found);
     DONE
 }
