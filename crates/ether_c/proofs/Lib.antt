@@ -7,3 +7,4 @@ pub mod Marks
 pub mod BitNumbers
 pub mod FieldLists
 pub mod FieldsGiven
+pub mod PacketGiven

@@ -82,7 +82,7 @@ starts Sealed kind e first = absurd cc
 starts AfterArp kind e first = absurd cc
 
 -- an extension is announced only if one may still be read
-may_read : (x : Expectation) (kind : Kind) (free : ℕ) → x.limit ≡ Some free → is_extension kind ≡ true
+pub may_read : (x : Expectation) (kind : Kind) (free : ℕ) → x.limit ≡ Some free → is_extension kind ≡ true
     → announced x ≡ Some kind → 0 < free
 may_read x kind (suc free) limit ext e = omega arith
 may_read x kind zero limit ext e =
@@ -325,7 +325,7 @@ no_start (headers.Vlan v) kind is = cc
 no_start (headers.Macsec t) kind is = no_start_payload t.payload_type kind is
 no_start (headers.Arp a) kind is = cc
 
-lowered_limit : (b : Bool) (limit : Option ℕ) (free : ℕ) → limit ≡ Some free
+pub lowered_limit : (b : Bool) (limit : Option ℕ) (free : ℕ) → limit ≡ Some free
     → lowered b limit ≡ Some (cond b (free - 1) free)
 lowered_limit true limit free e = ap (lowered true) e
 lowered_limit false limit free e = e
@@ -429,7 +429,7 @@ fewer_after_ext x h free limit known extends one =
     (λ i. unwrap_or (lowered (extends i) (limit i)) 0) in
     omega (arith, some, more, is, less, one)
 
-fewer_left : (x : Expectation) (h : Header) (free : ℕ) → x.limit ≡ Some free → announced x ≡ Some (kind_of h)
+pub fewer_left : (x : Expectation) (h : Header) (free : ℕ) → x.limit ≡ Some free → announced x ≡ Some (kind_of h)
     → headers_left (after x h) + 1 ≤ headers_left x
 fewer_left x (headers.Ethernet2 e) free limit known = fewer_after_first x (headers.Ethernet2 e) known refl refl refl
 fewer_left x (headers.Ethernet2Fcs e) free limit known =
