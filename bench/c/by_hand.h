@@ -4,7 +4,8 @@
 #include "../../c/etherpeel.h"
 
 /* A length that is required at a place of the frame. */
-static void needs(etherpeel_found *f, size_t at, size_t end, int closed, size_t required, size_t have, u32 layer, u32 source) {
+static void needs(etherpeel_found *f, size_t at, size_t end, int closed, size_t required, size_t have, u32 layer,
+                  u32 source) {
   f->rest_start = at;
   f->rest_end = end;
   f->fault.offset = at;
@@ -27,50 +28,65 @@ static void refuses(etherpeel_found *f, size_t at, size_t end, int closed, u32 k
 }
 
 /* What a frame begins with, by hand: where what follows it is, and its ether type. Says whether the walk goes on. */
-static inline int begins(u32 start, const u8 *p, size_t n, etherpeel_found *f, size_t *at, size_t *end, int *closed, u32 *type) {
+static inline int begins(u32 start, const u8 *p, size_t n, etherpeel_found *f, size_t *at, size_t *end, int *closed,
+                         u32 *type) {
   u32 hardware;
   switch (start) {
-    case ETHERPEEL_START_ETHERNET2:
-      if (n < 14) { needs(f, 0, n, 0, 14, n, ETHERPEEL_LAYER_ETHERNET2_HEADER, ETHERPEEL_LEN_SLICE); return 0; }
-      *at = 14;
-      *type = be16(p + 12);
-      break;
-    case ETHERPEEL_START_ETHERNET2_FCS:
-      *closed = 1;
-      if (n < 18) { needs(f, 0, n, 1, 18, n, ETHERPEEL_LAYER_ETHERNET2_HEADER, ETHERPEEL_LEN_SLICE); return 0; }
-      *at = 14;
-      *end = n - 4;
-      *type = be16(p + 12);
-      break;
-    case ETHERPEEL_START_LINUX_SLL:
-      if (n < 16) { needs(f, 0, n, 0, 16, n, ETHERPEEL_LAYER_LINUX_SLL_HEADER, ETHERPEEL_LEN_SLICE); return 0; }
-      hardware = be16(p + 2);
-      if (be16(p) > 7) { refuses(f, 0, n, 0, ETHERPEEL_FAULT_PACKET_TYPE); f->fault.packet_type = (uint16_t)be16(p); return 0; }
-      *at = 16;
-      *type = be16(p + 14);
-      f->units = 1;
-      f->rest_start = 16;
-      f->rest_end = n;
-      f->rest_protocol = (uint16_t)*type;
-      switch (hardware) {
-        case 1: return 1;
-        case 824: f->rest_kind = ETHERPEEL_REST_NETLINK; return 0;
-        case 778: f->rest_kind = ETHERPEEL_REST_GRE; return 0;
-        case 770: case 803: f->rest_kind = ETHERPEEL_REST_IGNORED; return 0;
-      }
-      memset(f, 0, sizeof *f);
-      refuses(f, 0, n, 0, ETHERPEEL_FAULT_HARDWARE_TYPE);
-      f->fault.hardware_type = (uint16_t)hardware;
+  case ETHERPEEL_START_ETHERNET2:
+    if (n < 14) {
+      needs(f, 0, n, 0, 14, n, ETHERPEEL_LAYER_ETHERNET2_HEADER, ETHERPEEL_LEN_SLICE);
       return 0;
-    default:
-      return 1;
+    }
+    *at = 14;
+    *type = be16(p + 12);
+    break;
+  case ETHERPEEL_START_ETHERNET2_FCS:
+    *closed = 1;
+    if (n < 18) {
+      needs(f, 0, n, 1, 18, n, ETHERPEEL_LAYER_ETHERNET2_HEADER, ETHERPEEL_LEN_SLICE);
+      return 0;
+    }
+    *at = 14;
+    *end = n - 4;
+    *type = be16(p + 12);
+    break;
+  case ETHERPEEL_START_LINUX_SLL:
+    if (n < 16) {
+      needs(f, 0, n, 0, 16, n, ETHERPEEL_LAYER_LINUX_SLL_HEADER, ETHERPEEL_LEN_SLICE);
+      return 0;
+    }
+    hardware = be16(p + 2);
+    if (be16(p) > 7) {
+      refuses(f, 0, n, 0, ETHERPEEL_FAULT_PACKET_TYPE);
+      f->fault.packet_type = (uint16_t)be16(p);
+      return 0;
+    }
+    *at = 16;
+    *type = be16(p + 14);
+    f->units = 1;
+    f->rest_start = 16;
+    f->rest_end = n;
+    f->rest_protocol = (uint16_t)*type;
+    switch (hardware) {
+    case 1: return 1;
+    case 824: f->rest_kind = ETHERPEEL_REST_NETLINK; return 0;
+    case 778: f->rest_kind = ETHERPEEL_REST_GRE; return 0;
+    case 770:
+    case 803: f->rest_kind = ETHERPEEL_REST_IGNORED; return 0;
+    }
+    memset(f, 0, sizeof *f);
+    refuses(f, 0, n, 0, ETHERPEEL_FAULT_HARDWARE_TYPE);
+    f->fault.hardware_type = (uint16_t)hardware;
+    return 0;
+  default: return 1;
   }
   f->units = 1;
   return 1;
 }
 
 /* What etherpeel_summary fills, by hand. */
-__attribute__((noinline, noclone)) static u32 by_hand(u32 start, uint16_t ether_type, const u8 *p, size_t n, etherpeel_found *f) {
+__attribute__((noinline, noclone)) static u32 by_hand(u32 start, uint16_t ether_type, const u8 *p, size_t n,
+                                                      etherpeel_found *f) {
   size_t at = 0, end = n;
   int closed = 0;
   u32 type = ether_type, bound = ETHERPEEL_LEN_SLICE;
@@ -82,35 +98,63 @@ __attribute__((noinline, noclone)) static u32 by_hand(u32 start, uint16_t ether_
     f->rest_kind = ETHERPEEL_REST_ETHER_TYPE;
     f->rest_protocol = (uint16_t)type;
     if (type == 0x8100 || type == 0x88A8 || type == 0x9100) {
-      if (have < 4) { needs(f, at, end, closed, 4, have, ETHERPEEL_LAYER_VLAN_HEADER, bound); return ETHERPEEL_DONE; }
+      if (have < 4) {
+        needs(f, at, end, closed, 4, have, ETHERPEEL_LAYER_VLAN_HEADER, bound);
+        return ETHERPEEL_DONE;
+      }
       type = be16(p + at + 2);
       at += 4;
     } else if (type == 0x88E5) {
       u32 plain, header, named;
-      if (have < 6) { needs(f, at, end, closed, 6, have, ETHERPEEL_LAYER_MACSEC_HEADER, bound); return ETHERPEEL_DONE; }
-      if (p[at] & 0x80) { refuses(f, at, end, closed, ETHERPEEL_FAULT_MACSEC_VERSION); return ETHERPEEL_DONE; }
+      if (have < 6) {
+        needs(f, at, end, closed, 6, have, ETHERPEEL_LAYER_MACSEC_HEADER, bound);
+        return ETHERPEEL_DONE;
+      }
+      if (p[at] & 0x80) {
+        refuses(f, at, end, closed, ETHERPEEL_FAULT_MACSEC_VERSION);
+        return ETHERPEEL_DONE;
+      }
       plain = !(p[at] & 0x0C);
       named = p[at + 1] & 0x3F;
-      if (plain && named == 1) { refuses(f, at, end, closed, ETHERPEEL_FAULT_MACSEC_SHORT_LEN); return ETHERPEEL_DONE; }
+      if (plain && named == 1) {
+        refuses(f, at, end, closed, ETHERPEEL_FAULT_MACSEC_SHORT_LEN);
+        return ETHERPEEL_DONE;
+      }
       header = 6 + (p[at] & 0x20 ? 8 : 0) + (plain ? 2 : 0);
-      if (have < header) { needs(f, at, end, closed, header, have, ETHERPEEL_LAYER_MACSEC_HEADER, bound); return ETHERPEEL_DONE; }
+      if (have < header) {
+        needs(f, at, end, closed, header, have, ETHERPEEL_LAYER_MACSEC_HEADER, bound);
+        return ETHERPEEL_DONE;
+      }
       if (named) {
         size_t whole = header + named - (plain ? 2 : 0);
-        if (have < whole) { needs(f, at, end, closed, whole, have, ETHERPEEL_LAYER_MACSEC_PACKET, ETHERPEEL_LEN_MACSEC_SHORT_LENGTH); return ETHERPEEL_DONE; }
+        if (have < whole) {
+          needs(f, at, end, closed, whole, have, ETHERPEEL_LAYER_MACSEC_PACKET, ETHERPEEL_LEN_MACSEC_SHORT_LENGTH);
+          return ETHERPEEL_DONE;
+        }
         end = at + whole;
         closed = 1;
         bound = ETHERPEEL_LEN_MACSEC_SHORT_LENGTH;
       }
       at += header;
       f->units++;
-      if (!plain) { f->rest_kind = ETHERPEEL_REST_SEALED; f->rest_protocol = 0; break; }
+      if (!plain) {
+        f->rest_kind = ETHERPEEL_REST_SEALED;
+        f->rest_protocol = 0;
+        break;
+      }
       type = be16(p + at - 2);
       continue;
     } else if (type == 0x0806) {
       size_t whole;
-      if (have < 8) { needs(f, at, end, closed, 8, have, ETHERPEEL_LAYER_ARP, bound); return ETHERPEEL_DONE; }
+      if (have < 8) {
+        needs(f, at, end, closed, 8, have, ETHERPEEL_LAYER_ARP, bound);
+        return ETHERPEEL_DONE;
+      }
       whole = 8 + 2 * (size_t)p[at + 4] + 2 * (size_t)p[at + 5];
-      if (have < whole) { needs(f, at, end, closed, whole, have, ETHERPEEL_LAYER_ARP, ETHERPEEL_LEN_ARP_ADDRESSES); return ETHERPEEL_DONE; }
+      if (have < whole) {
+        needs(f, at, end, closed, whole, have, ETHERPEEL_LAYER_ARP, ETHERPEEL_LEN_ARP_ADDRESSES);
+        return ETHERPEEL_DONE;
+      }
       at += whole;
       f->units++;
       f->rest_kind = ETHERPEEL_REST_AFTER_ARP;
@@ -129,7 +173,8 @@ __attribute__((noinline, noclone)) static u32 by_hand(u32 start, uint16_t ether_
 /* ---- the units, by hand */
 
 /* The place of the next unit, all of it 0 but where it is, or none if there is no room. */
-static inline etherpeel_unit *put(etherpeel_unit *units, size_t room, size_t count, u32 kind, size_t at, size_t header, size_t end, int closed) {
+static inline etherpeel_unit *put(etherpeel_unit *units, size_t room, size_t count, u32 kind, size_t at, size_t header,
+                                  size_t end, int closed) {
   etherpeel_unit *u = units + count;
   if (count >= room) return 0;
   memset(u, 0, sizeof *u);
@@ -194,15 +239,21 @@ static inline void put_arp(etherpeel_unit *u, const u8 *p, size_t at) {
   u->arp.protocol_size = p[5];
 }
 
-/* The units, what etherpeel_summary fills, and what a packet has besides, if it is asked for, in one walk that reads no more than so many tags. */
-static inline __attribute__((always_inline)) void
-fill(u32 start, uint16_t ether_type, const u8 *p, size_t n, etherpeel_unit *units, size_t room, size_t limit, etherpeel_found *f, etherpeel_headers *h) {
+/* The units, what etherpeel_summary fills, and what a packet has besides, if it is asked for, in one walk that reads no
+ * more than so many tags. */
+static inline __attribute__((always_inline)) void fill(u32 start, uint16_t ether_type, const u8 *p, size_t n,
+                                                       etherpeel_unit *units, size_t room, size_t limit,
+                                                       etherpeel_found *f, etherpeel_headers *h) {
   size_t at = 0, end = n, reach = 0;
   int closed = 0;
   u32 type = ether_type, bound = ETHERPEEL_LEN_SLICE;
   if (start != ETHERPEEL_START_ETHER_TYPE) {
     int goes_on = begins(start, p, n, f, &at, &end, &closed, &type);
-    if (f->units) put_first(put(units, room, 0, start == ETHERPEEL_START_LINUX_SLL ? ETHERPEEL_UNIT_LINUX_SLL : ETHERPEEL_UNIT_ETHERNET2, 0, at, end, closed), p);
+    if (f->units)
+      put_first(put(units, room, 0,
+                    start == ETHERPEEL_START_LINUX_SLL ? ETHERPEEL_UNIT_LINUX_SLL : ETHERPEEL_UNIT_ETHERNET2, 0, at,
+                    end, closed),
+                p);
     reach = at;
     if (h) h->min_snap_len = reach;
     if (!goes_on) return;
@@ -214,7 +265,10 @@ fill(u32 start, uint16_t ether_type, const u8 *p, size_t n, etherpeel_unit *unit
     if (h) h->min_snap_len = reach;
     if (type == 0x8100 || type == 0x88A8 || type == 0x9100) {
       if (!limit) break;
-      if (have < 4) { needs(f, at, end, closed, 4, have, ETHERPEEL_LAYER_VLAN_HEADER, bound); return; }
+      if (have < 4) {
+        needs(f, at, end, closed, 4, have, ETHERPEEL_LAYER_VLAN_HEADER, bound);
+        return;
+      }
       put_tag(put(units, room, f->units, ETHERPEEL_UNIT_VLAN, at, 4, end, closed), p + at);
       if (h) h->vlan_ids[h->vlan_count++] = be16(p + at) & 0xFFF;
       type = be16(p + at + 2);
@@ -224,16 +278,31 @@ fill(u32 start, uint16_t ether_type, const u8 *p, size_t n, etherpeel_unit *unit
     } else if (type == 0x88E5) {
       u32 plain, header, named;
       if (!limit) break;
-      if (have < 6) { needs(f, at, end, closed, 6, have, ETHERPEEL_LAYER_MACSEC_HEADER, bound); return; }
-      if (p[at] & 0x80) { refuses(f, at, end, closed, ETHERPEEL_FAULT_MACSEC_VERSION); return; }
+      if (have < 6) {
+        needs(f, at, end, closed, 6, have, ETHERPEEL_LAYER_MACSEC_HEADER, bound);
+        return;
+      }
+      if (p[at] & 0x80) {
+        refuses(f, at, end, closed, ETHERPEEL_FAULT_MACSEC_VERSION);
+        return;
+      }
       plain = !(p[at] & 0x0C);
       named = p[at + 1] & 0x3F;
-      if (plain && named == 1) { refuses(f, at, end, closed, ETHERPEEL_FAULT_MACSEC_SHORT_LEN); return; }
+      if (plain && named == 1) {
+        refuses(f, at, end, closed, ETHERPEEL_FAULT_MACSEC_SHORT_LEN);
+        return;
+      }
       header = 6 + (p[at] & 0x20 ? 8 : 0) + (plain ? 2 : 0);
-      if (have < header) { needs(f, at, end, closed, header, have, ETHERPEEL_LAYER_MACSEC_HEADER, bound); return; }
+      if (have < header) {
+        needs(f, at, end, closed, header, have, ETHERPEEL_LAYER_MACSEC_HEADER, bound);
+        return;
+      }
       if (named) {
         size_t whole = header + named - (plain ? 2 : 0);
-        if (have < whole) { needs(f, at, end, closed, whole, have, ETHERPEEL_LAYER_MACSEC_PACKET, ETHERPEEL_LEN_MACSEC_SHORT_LENGTH); return; }
+        if (have < whole) {
+          needs(f, at, end, closed, whole, have, ETHERPEEL_LAYER_MACSEC_PACKET, ETHERPEEL_LEN_MACSEC_SHORT_LENGTH);
+          return;
+        }
         end = at + whole;
         closed = 1;
         bound = ETHERPEEL_LEN_MACSEC_SHORT_LENGTH;
@@ -252,9 +321,15 @@ fill(u32 start, uint16_t ether_type, const u8 *p, size_t n, etherpeel_unit *unit
       type = be16(p + at - 2);
     } else if (type == 0x0806) {
       size_t whole;
-      if (have < 8) { needs(f, at, end, closed, 8, have, ETHERPEEL_LAYER_ARP, bound); return; }
+      if (have < 8) {
+        needs(f, at, end, closed, 8, have, ETHERPEEL_LAYER_ARP, bound);
+        return;
+      }
       whole = 8 + 2 * (size_t)p[at + 4] + 2 * (size_t)p[at + 5];
-      if (have < whole) { needs(f, at, end, closed, whole, have, ETHERPEEL_LAYER_ARP, ETHERPEEL_LEN_ARP_ADDRESSES); return; }
+      if (have < whole) {
+        needs(f, at, end, closed, whole, have, ETHERPEEL_LAYER_ARP, ETHERPEEL_LEN_ARP_ADDRESSES);
+        return;
+      }
       put_arp(put(units, room, f->units, ETHERPEEL_UNIT_ARP, at, whole, end, closed), p + at, at);
       at += whole;
       if (at > reach) reach = at;
@@ -273,7 +348,8 @@ fill(u32 start, uint16_t ether_type, const u8 *p, size_t n, etherpeel_unit *unit
 }
 
 /* What etherpeel_walk fills, by hand. */
-__attribute__((noinline, noclone)) static u32 walk_by_hand(u32 start, uint16_t ether_type, const u8 *p, size_t n, etherpeel_unit *units, size_t room, size_t *count) {
+__attribute__((noinline, noclone)) static u32 walk_by_hand(u32 start, uint16_t ether_type, const u8 *p, size_t n,
+                                                           etherpeel_unit *units, size_t room, size_t *count) {
   etherpeel_found found;
   if (start < ETHERPEEL_START_ETHERNET2 || start > ETHERPEEL_START_ETHER_TYPE) return ETHERPEEL_UNKNOWN_START;
   memset(&found, 0, sizeof found);
@@ -283,7 +359,8 @@ __attribute__((noinline, noclone)) static u32 walk_by_hand(u32 start, uint16_t e
 }
 
 /* What etherpeel_packet fills, by hand. */
-__attribute__((noinline, noclone)) static u32 packet_by_hand(u32 start, uint16_t ether_type, const u8 *p, size_t n, etherpeel_headers *headers) {
+__attribute__((noinline, noclone)) static u32 packet_by_hand(u32 start, uint16_t ether_type, const u8 *p, size_t n,
+                                                             etherpeel_headers *headers) {
   if (start < ETHERPEEL_START_ETHERNET2 || start > ETHERPEEL_START_ETHER_TYPE) return ETHERPEEL_UNKNOWN_START;
   memset(&headers->found, 0, sizeof *headers - offsetof(etherpeel_headers, found));
   fill(start, ether_type, p, n, headers->units, 5, 3, &headers->found, headers);

@@ -1,8 +1,9 @@
 /* The calls from C over made frames, beside a C function that fills the same struct.
  *
- *   calls compare     compares the structs of etherpeel_summary, etherpeel_walk and etherpeel_packet with those of the functions by hand
- *   calls SET CALL    one call for each frame of a set, for callgrind: 0 the summary by hand, 1 etherpeel_summary, 2 etherpeel_walk,
- *                     3 etherpeel_write_back, 4 etherpeel_feed, 5 etherpeel_packet, 6 the walk by hand, 7 the packet by hand */
+ *   calls compare     compares the structs of etherpeel_summary, etherpeel_walk and etherpeel_packet with those of the
+ * functions by hand calls SET CALL    one call for each frame of a set, for callgrind: 0 the summary by hand, 1
+ * etherpeel_summary, 2 etherpeel_walk, 3 etherpeel_write_back, 4 etherpeel_feed, 5 etherpeel_packet, 6 the walk by
+ * hand, 7 the packet by hand */
 #include "by_hand.h"
 
 enum { COUNT = 4096, SETS = 6 };
@@ -17,33 +18,36 @@ static void call(int which, const u8 *frame, size_t len) {
   static etherpeel_headers headers;
   size_t count;
   switch (which) {
-    case 0: by_hand(ETHERPEEL_START_ETHERNET2, 0, frame, len, &found); break;
-    case 1: etherpeel_summary(ETHERPEEL_START_ETHERNET2, 0, frame, len, &found); break;
-    case 2: etherpeel_walk(ETHERPEEL_START_ETHERNET2, 0, frame, len, units, 8, &count); break;
-    case 3: etherpeel_write_back(ETHERPEEL_START_ETHERNET2, 0, frame, len, target, sizeof target, &count); break;
-    case 4: etherpeel_feed(ETHERPEEL_START_ETHERNET2, 0, frame, len, &fed); break;
-    case 5: etherpeel_packet(ETHERPEEL_START_ETHERNET2, 0, frame, len, &headers); break;
-    case 6: walk_by_hand(ETHERPEEL_START_ETHERNET2, 0, frame, len, units, 8, &count); break;
-    case 7: packet_by_hand(ETHERPEEL_START_ETHERNET2, 0, frame, len, &headers); break;
+  case 0: by_hand(ETHERPEEL_START_ETHERNET2, 0, frame, len, &found); break;
+  case 1: etherpeel_summary(ETHERPEEL_START_ETHERNET2, 0, frame, len, &found); break;
+  case 2: etherpeel_walk(ETHERPEEL_START_ETHERNET2, 0, frame, len, units, 8, &count); break;
+  case 3: etherpeel_write_back(ETHERPEEL_START_ETHERNET2, 0, frame, len, target, sizeof target, &count); break;
+  case 4: etherpeel_feed(ETHERPEEL_START_ETHERNET2, 0, frame, len, &fed); break;
+  case 5: etherpeel_packet(ETHERPEEL_START_ETHERNET2, 0, frame, len, &headers); break;
+  case 6: walk_by_hand(ETHERPEEL_START_ETHERNET2, 0, frame, len, units, 8, &count); break;
+  case 7: packet_by_hand(ETHERPEEL_START_ETHERNET2, 0, frame, len, &headers); break;
   }
 }
 
 static int same(const etherpeel_found *a, const etherpeel_found *b) {
   const etherpeel_fault *f = &a->fault, *g = &b->fault;
-  return a->units == b->units && a->rest_start == b->rest_start && a->rest_end == b->rest_end && a->rest_kind == b->rest_kind &&
-         a->rest_protocol == b->rest_protocol && f->offset == g->offset && f->required_len == g->required_len && f->len == g->len &&
-         f->missing == g->missing && f->kind == g->kind && f->layer == g->layer && f->len_source == g->len_source && f->closed == g->closed &&
+  return a->units == b->units && a->rest_start == b->rest_start && a->rest_end == b->rest_end &&
+         a->rest_kind == b->rest_kind && a->rest_protocol == b->rest_protocol && f->offset == g->offset &&
+         f->required_len == g->required_len && f->len == g->len && f->missing == g->missing && f->kind == g->kind &&
+         f->layer == g->layer && f->len_source == g->len_source && f->closed == g->closed &&
          f->packet_type == g->packet_type && f->hardware_type == g->hardware_type;
 }
 
 static int same_unit(const etherpeel_unit *a, const etherpeel_unit *b) {
   const etherpeel_macsec *m = &a->macsec, *k = &b->macsec;
   const etherpeel_ethernet2 *e = &a->ethernet2, *d = &b->ethernet2;
-  return a->offset == b->offset && a->header_len == b->header_len && a->payload_start == b->payload_start && a->payload_end == b->payload_end &&
-         a->kind == b->kind && a->closed == b->closed && !memcmp(e->destination, d->destination, 12) && e->ether_type == d->ether_type &&
-         e->has_fcs == d->has_fcs && !memcmp(&a->linux_sll, &b->linux_sll, sizeof a->linux_sll) && !memcmp(&a->vlan, &b->vlan, sizeof a->vlan) &&
-         m->sci == k->sci && m->packet_number == k->packet_number && m->ether_type == k->ether_type && m->end_station == k->end_station &&
-         m->sci_present == k->sci_present && m->single_copy_broadcast == k->single_copy_broadcast && m->encrypted == k->encrypted &&
+  return a->offset == b->offset && a->header_len == b->header_len && a->payload_start == b->payload_start &&
+         a->payload_end == b->payload_end && a->kind == b->kind && a->closed == b->closed &&
+         !memcmp(e->destination, d->destination, 12) && e->ether_type == d->ether_type && e->has_fcs == d->has_fcs &&
+         !memcmp(&a->linux_sll, &b->linux_sll, sizeof a->linux_sll) && !memcmp(&a->vlan, &b->vlan, sizeof a->vlan) &&
+         m->sci == k->sci && m->packet_number == k->packet_number && m->ether_type == k->ether_type &&
+         m->end_station == k->end_station && m->sci_present == k->sci_present &&
+         m->single_copy_broadcast == k->single_copy_broadcast && m->encrypted == k->encrypted &&
          m->changed == k->changed && m->association_number == k->association_number && m->short_len == k->short_len &&
          !memcmp(&a->arp, &b->arp, sizeof a->arp);
 }
@@ -64,8 +68,8 @@ static int same_units(u32 start, const u8 *one, size_t len) {
     if (!same_unit(&units[0][i], &units[1][i])) return 0;
   for (int i = 0; i < 5; i++)
     if (!same_unit(&a.units[i], &b.units[i])) return 0;
-  return count[0] == count[1] && same(&a.found, &b.found) && a.min_snap_len == b.min_snap_len && !memcmp(a.vlan_ids, b.vlan_ids, sizeof a.vlan_ids) &&
-         a.vlan_count == b.vlan_count;
+  return count[0] == count[1] && same(&a.found, &b.found) && a.min_snap_len == b.min_snap_len &&
+         !memcmp(a.vlan_ids, b.vlan_ids, sizeof a.vlan_ids) && a.vlan_count == b.vlan_count;
 }
 
 static int compare(void) {
@@ -78,7 +82,8 @@ static int compare(void) {
       for (u32 start = 0; start <= ETHERPEEL_START_ETHER_TYPE; start++) {
         memset(&a, 0, sizeof a);
         memset(&b, 0, sizeof b);
-        failed += by_hand(start, 0x88E5, one, len, &a) != etherpeel_summary(start, 0x88E5, one, len, &b) || !same(&a, &b) || !same_units(start, one, len);
+        failed += by_hand(start, 0x88E5, one, len, &a) != etherpeel_summary(start, 0x88E5, one, len, &b) ||
+                  !same(&a, &b) || !same_units(start, one, len);
       }
     }
   printf("%d of %d differ\n", failed, SETS * COUNT * 5);

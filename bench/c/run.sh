@@ -1,6 +1,7 @@
 #!/bin/sh
-# sh bench/c/run.sh [LIBRARY]: instructions per call from C by callgrind, for six sets of made frames, and their ratio to C functions by
-# hand that fill the structs of etherpeel_summary, etherpeel_walk and etherpeel_packet. LIBRARY is libether_c.a, which `rt lib` leaves in crates/ether_c/out. Needs gcc and valgrind.
+# sh bench/c/run.sh [LIBRARY]: instructions per call from C by callgrind, for six sets of made frames, and their ratio to
+# C functions by hand that fill the structs of etherpeel_summary, etherpeel_walk and etherpeel_packet. LIBRARY is
+# libether_c.a, which `rt lib` leaves in crates/ether_c/out. Needs gcc and valgrind.
 set -eu
 here=$(cd "$(dirname "$0")" && pwd)
 library=${1:-$here/../../crates/ether_c/out/libether_c.a}
