@@ -8,3 +8,4 @@ pub mod BitNumbers
 pub mod FieldLists
 pub mod FieldsGiven
 pub mod ReceivedGiven
+pub mod PacketGiven

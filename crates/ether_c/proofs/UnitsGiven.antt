@@ -192,7 +192,7 @@ gives_unit start list s t u count old mid new given a n is put =
 
 -- ---- the end
 
-length-given : (w : Window) (hs : List Header) → length (c_units w hs) ≡ length hs
+pub length-given : (w : Window) (hs : List Header) → length (c_units w hs) ≡ length hs
 length-given w [] = refl
 length-given w (h ∷ hs) = ap suc (length-given (payload w h) hs)
 

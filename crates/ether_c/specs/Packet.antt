@@ -1,5 +1,7 @@
 -- All headers of a packet, by a call from C.
-use Rattle.std.specs.Prelude.{◌≡◌, ℕ, List, [], ◌∷◌, length, slice_get, unwrap_or}
+use Rattle.std.specs.Prelude.{◌≡◌, ℕ, List, [], ◌∷◌, length, max, slice_get, unwrap_or, nat_eq, nat_lt, Option, Some, None, if◌then◌else◌}
+use Rattle.std.specs.List.{filter_map}
+use Rattle.etherparse.specs.Macsec.{ether_type_len}
 use Rattle.ether_peel.specs.Grammar.Cuts.{reach}
 use Rattle.ether_peel.specs.declared.start.Start.{Start}
 use Rattle.ether_packet.specs.declared.packet_slice.PacketSlice.{PacketSlice}
@@ -14,6 +16,25 @@ use Rattle.ether_c.specs.Walk.{GivesUnits}
 abbrev pub c_ids : List ℕ → List ℕ
 c_ids ids =
     unwrap_or (slice_get ids 0) 0 ∷ unwrap_or (slice_get ids 1) 0 ∷ unwrap_or (slice_get ids 2) 0 ∷ []
+
+-- the identifier of a unit that is a VLAN tag
+abbrev pub unit_id : EtherUnit → Option ℕ
+unit_id u = if nat_eq u.kind 3 then Some u.vlan.vid else None
+
+-- those of all of them, in order
+abbrev pub unit_ids : List EtherUnit → List ℕ
+unit_ids us = filter_map unit_id us
+
+-- where a unit ends: with its payload, if it is a SecTag whose short length counts more than an ether type
+abbrev pub unit_reach : EtherUnit → ℕ
+unit_reach u =
+    if nat_lt (ether_type_len u.macsec.encrypted u.macsec.changed) u.macsec.short_len then u.payload_end
+    else u.payload_start
+
+-- the greatest end of a unit, 0 without units
+abbrev pub units_reach : List EtherUnit → ℕ
+units_reach [] = 0
+units_reach (u ∷ us) = max (unit_reach u) (units_reach us)
 
 -- The packet of a list: its headers as units, with what the array held before after them; what is
 -- left of it; the identifiers of its VLAN tags; and the least cut that keeps its headers.

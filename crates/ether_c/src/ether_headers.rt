@@ -1,10 +1,6 @@
 //! All headers of a packet, as a struct of C.
-ghost use Rattle.std.specs.Prelude.{◌≡◌, unwrap_or, slice_get};
-ghost use Rattle.ether_c.specs.Packet.{c_ids};
 
 use crate::{EtherFound, EtherUnit};
-use arrayvec::ArrayVec;
-use etherparse::VlanId;
 
 /// All headers of a packet: `etherpeel_headers` in C.
 ///
@@ -26,20 +22,3 @@ pub struct EtherHeaders {
 
 // as c/etherpeel.h lays it out
 const _: () = prove!(size_of::<EtherHeaders>() == 824);
-
-/// The numbers of up to three VLAN identifiers, with 0 in the place of those that are not there.
-pub(crate) fn vlan_ids(ids: &ArrayVec<VlanId, 3>) -> [u16; 3]
-    ensures { result ≡ c_ids ids.now.items }
-{
-    [vlan_id(ids, 0), vlan_id(ids, 1), vlan_id(ids, 2)]
-}
-
-/// The number of a VLAN identifier, 0 if it is not there.
-fn vlan_id(ids: &ArrayVec<VlanId, 3>, index: usize) -> u16
-    ensures { result ≡ unwrap_or (slice_get ids.now.items index) 0 }
-{
-    match ids.get(index) {
-        Some(id) => id.value(),
-        None => 0,
-    }
-}

@@ -4,11 +4,10 @@ ghost use Rattle.ether_c.specs.Starts.{IsUnknown, IsRefused, OfStart};
 ghost use Rattle.ether_c.specs.Packet.{GivesPacket};
 
 use crate::EtherHeaders;
-use crate::ether_headers::vlan_ids;
 use crate::numbers::{DONE, UNKNOWN_START, start_of};
+use crate::packet_facts::packet_facts;
 use crate::walking::walked;
 use ether_packet::PacketSlice;
-use ether_peel::summary_limited;
 
 /// The headers of a packet with no more than three VLAN tags and SecTags, what is left after them,
 /// and what is asked of a packet.
@@ -26,13 +25,17 @@ pub extern "C" fn etherpeel_packet(
     let Some(start) = start_of(start, ether_type) else {
         return UNKNOWN_START;
     };
-    let packet = PacketSlice::from_slice(start, bytes);
-    let ids = packet.vlan_ids();
-    headers.vlan_ids = vlan_ids(&ids);
-    headers.vlan_count = ids.len() as u16;
-    headers.min_snap_len = packet.min_snap_len();
-    let limit = PacketSlice::LINK_EXTS_CAP;
-    headers.found.set(&summary_limited(start, bytes, limit));
-    walked(start, bytes, Some(limit), &mut headers.units);
+    let found = walked(
+        start,
+        bytes,
+        Some(PacketSlice::LINK_EXTS_CAP),
+        &mut headers.units,
+    );
+    headers.found.set(&found);
+    let facts = packet_facts(&headers.units[..found.units]);
+    let vlan_ids = facts.vlan_ids;
+    headers.vlan_ids = vlan_ids;
+    headers.vlan_count = facts.vlan_count;
+    headers.min_snap_len = facts.min_snap_len;
     DONE
 }

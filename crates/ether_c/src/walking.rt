@@ -1,14 +1,17 @@
 //! The units of a frame in an array.
-ghost use Rattle.std.specs.Prelude.{◌≡◌, slice_set};
+ghost use Rattle.std.specs.Prelude.{◌≡◌, ◌+◌, slice_set};
+ghost use Rattle.etherparse.specs.Header.{header_len};
 ghost use Rattle.ether_peel.specs.Walker.Start.{start_of as start_meant, limited_start, start_with};
 ghost use Rattle.ether_peel.specs.Walker.Next.{begun, FacesWalk};
+ghost use Rattle.ether_peel.specs.Walker.Summary.{IsSummary, summary_at};
 ghost use Rattle.ether_c.specs.Starts.{IsUnknown, IsRefused, OfStart};
+ghost use Rattle.ether_c.specs.Views.{header_of, c_view};
 ghost use Rattle.ether_c.specs.Walk.{GivesWalk, GivesUnits};
 
 use crate::EtherUnit;
 use crate::ether_unit::UnitPlace;
 use crate::numbers::{DONE, UNKNOWN_START, start_of};
-use ether_peel::{Peel, Start};
+use ether_peel::{Peel, PeelFault, PeelUnit, Start, Summary};
 
 /// The units of a frame, as many as the array has room for, and how many there are in all.
 #[unsafe(no_mangle)]
@@ -27,7 +30,7 @@ pub extern "C" fn etherpeel_walk(
     let Some(start) = start_of(start, ether_type) else {
         return UNKNOWN_START;
     };
-    *count = walked(start, bytes, None, units);
+    *count = walked(start, bytes, None, units).units;
     DONE
 }
 
@@ -50,19 +53,20 @@ pub extern "C" fn etherpeel_walk_limited(
     let Some(start) = start_of(start, ether_type) else {
         return UNKNOWN_START;
     };
-    *count = walked(start, bytes, Some(limit), units);
+    *count = walked(start, bytes, Some(limit), units).units;
     DONE
 }
 
-/// The units of a walk with a limit on extensions or without, and how many there are in all.
+/// The units of a walk with a limit on extensions or without, as many as the array has room for, and the result of the walk.
 #[inline(always)]
 pub(crate) fn walked(
     start: Start,
     bytes: &[u8],
     limit: Option<usize>,
     units: &mut [EtherUnit],
-) -> usize
-    ensures { GivesUnits (start_with start limit) bytes.now units.old units.new result }
+) -> Summary
+    ensures units { GivesUnits (start_with start limit) bytes.now units.old units.new result.units }
+    ensures summary { IsSummary (start_with start limit) bytes.now result }
 {
     let mut peel = begun_walk(start, bytes, limit);
     let mut count = 0;
@@ -76,11 +80,11 @@ pub(crate) fn walked(
                     payload_end: peel.offset() + peel.rest().len(),
                     closed: peel.closed(),
                 };
-                put(units, count, EtherUnit::of(&unit, place));
+                put(units, count, &unit, place);
                 count += 1;
             }
-            Some(Err(_)) => return count,
-            None => return count,
+            Some(Err(fault)) => return ended(&peel, count, Some(fault)),
+            None => return ended(&peel, count, None),
         }
     }
 }
@@ -99,10 +103,27 @@ fn begun_walk<'a>(start: Start, bytes: &'a [u8], limit: Option<usize>) -> Peel<'
 
 /// Writes a unit to its place, if the array has it.
 #[inline(always)]
-fn put(units: &mut [EtherUnit], at: usize, unit: EtherUnit)
-    ensures { units.new ≡ slice_set units.old at unit }
+fn put(units: &mut [EtherUnit], at: usize, unit: &PeelUnit<'_>, place: UnitPlace)
+    requires { place.offset + header_len (header_of unit.now) ≡ place.payload_start }
+    ensures { units.new ≡ slice_set units.old at
+        (c_view unit.now place.offset place.payload_start place.payload_end place.closed) }
 {
     if at < units.len() {
-        units[at] = unit;
+        units[at].set(unit, place);
+    }
+}
+
+/// The result of a walk at its end.
+#[inline(always)]
+fn ended(peel: &Peel<'_>, units: usize, fault: Option<PeelFault>) -> Summary
+    ensures { result ≡ summary_at peel.now units fault }
+{
+    let rest_start = peel.offset();
+    Summary {
+        units,
+        rest_start,
+        rest_end: rest_start + peel.rest().len(),
+        kind: peel.kind(),
+        fault,
     }
 }

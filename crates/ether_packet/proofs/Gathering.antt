@@ -1,8 +1,7 @@
 -- A packet that has gathered the headers of a walk so far, and its end.
-use Rattle.std.proofs.Common.{◌≡◌, ℕ, zero, suc, ◌+◌, ◌-◌, ◌/◌, ◌<◌, List, [], ◌∷◌, ◌++◌, length, refl, sym, ap, subst, ◌∙◌, arith, inl, inr, Bool, true, false, cond, ◌⊎◌}
-use Rattle.std.specs.Prelude.{map, slice_get, slice_range, Option, Some, None, Result, Ok, Err, ◌&&◌}
+use Rattle.std.proofs.Common.{◌≡◌, ℕ, zero, suc, ◌+◌, ◌-◌, ◌<◌, ◌≤◌, List, [], ◌∷◌, ◌++◌, length, refl, sym, ap, subst, ◌∙◌, arith, inl, inr, Bool, true, false, cond, ◌⊎◌}
+use Rattle.std.specs.Prelude.{map, slice_get, slice_range, unwrap_or, Option, Some, None, Ok, ◌&&◌}
 use Rattle.std.specs.List.{filter_map, cons_option}
-use Rattle.std.specs.Iterator.{size, at_most}
 use Rattle.std.proofs.lemmas.List.{append_assoc, append-nil, length-append, map-append, take_all}
 use Rattle.std.proofs.lemmas.List.Elements.{filter-append, filter_map-append}
 use Rattle.etherparse.specs.Types.LenSource.{LenSource}
@@ -22,7 +21,7 @@ use Rattle.ether_peel.specs.Grammar.Stack.{Ending, Accepted, Fault, IsUnit, last
 use Rattle.ether_peel.specs.Walker.State.{State}
 use Rattle.ether_peel.specs.Walker.Start.{kind_shown}
 use Rattle.ether_peel.specs.Walker.Fault.{fault_in}
-use Rattle.ether_peel.specs.Walker.Next.{Faces, ShowsUnit, GivesNext, Gives, items_left}
+use Rattle.ether_peel.specs.Walker.Next.{Faces, ShowsUnit, GivesNext, Gives}
 use Rattle.ether_peel.specs.Walker.Summary.{fault_of}
 use Rattle.ether_peel.specs.Walker.UnitHeader.{unit_header}
 use Rattle.ether_peel.specs.declared.peel_unit.PeelUnit.{PeelUnit}
@@ -36,16 +35,13 @@ use Rattle.ether_packet.specs.declared.packet_slice.PacketSlice.{PacketSlice}
 use Rattle.ether_packet.specs.PacketUnit.{PacketUnit, Read}
 use Rattle.ether_packet.specs.Views.{header_in, header_of, exts_of, arp_in, arp_view}
 use Rattle.ether_packet.specs.Packet.{packet_headers, IsUnitAt, AreUnitsAt, IsPacket}
+use Rattle.ether_packet.specs.Gathered.{window_after, Ready, Gathered, item_of, next_left, headers_left, IsUnderWay, GoesBy, EndsAnyhow}
+use Rattle.ether_packet.specs.declared.packet_walk.PacketWalk.{PacketWalk}
 use Rattle.ether_packet.specs.Places.{Reads, IsReadable, kind_read, unit_at, read_with, HasPlace, HasPlaceForExt}
 use Rattle.ether_packet.proofs.HeadersIn.{header_shown}
 use Rattle.ether_packet.proofs.Places.{is_ext, arp_of_unit}
 
 -- ---- one header more
-
--- the window after some headers
-abbrev pub window_after : Window → List Header → Window
-window_after w [] = w
-window_after w (h ∷ hs) = window_after (payload w h) hs
 
 window_after-append : (w : Window) (hs : List Header) (h : Header)
     → window_after w (hs ++ h ∷ []) ≡ payload (window_after w hs) h
@@ -86,7 +82,7 @@ starts Sealed kind e first = absurd cc
 starts AfterArp kind e first = absurd cc
 
 -- an extension is announced only if one may still be read
-may_read : (x : Expectation) (kind : Kind) (free : ℕ) → x.limit ≡ Some free → is_extension kind ≡ true
+pub may_read : (x : Expectation) (kind : Kind) (free : ℕ) → x.limit ≡ Some free → is_extension kind ≡ true
     → announced x ≡ Some kind → 0 < free
 may_read x kind (suc free) limit ext e = omega arith
 may_read x kind zero limit ext e =
@@ -96,13 +92,6 @@ may_read x kind zero limit ext e =
     absurd cc
 
 -- ---- a unit is added
-
--- what is known of the headers that were read before a unit, where x is expected and so many extensions may still be
--- read
-pub record Ready (r : Read) (x : Expectation) (free : ℕ) : Type 0 where
-  pub limit : x.limit ≡ Some free
-  pub first : (kind : Kind) → x.next ≡ Start kind → r.units ≡ []
-  pub arp : (arp_view r.units ≡ None) ⊎ (x.next ≡ AfterArp)
 
 no_arp : (r : Read) (x : Expectation) (kind : Kind) → (arp_view r.units ≡ None) ⊎ (x.next ≡ AfterArp)
     → announced x ≡ Some kind → arp_view r.units ≡ None
@@ -177,31 +166,6 @@ arp_or_over (headers.LinuxSll s) bytes = inl refl
 arp_or_over (headers.Vlan v) bytes = inl refl
 arp_or_over (headers.Macsec t) bytes = inl refl
 arp_or_over (headers.Arp a) bytes = inr refl
-
--- ---- a packet so far
-
-pub record Gathered (start : Expectation) (list : List ℕ) (s : State) (r : Read) : Type 0 where
-  -- the walk of the list, with the headers before the walker and those that it faces
-  pub done : List Header
-  pub left : List Header
-  pub ending : Ending
-  pub window : Window
-  pub walk : Walk start list (done ++ left) ending
-  pub faces : Faces list window s left ending
-  pub going : s.over ≡ false
-  pub comes_after : window ≡ window_after (whole start list) done
-  -- the packet has the former
-  pub values : map header_of r.units ≡ done
-  pub frame : r.frame ≡ list
-  pub units : AreUnitsAt list (whole start list) done r.units
-  -- and there is room for more
-  pub free : ℕ
-  pub room : length (exts_of r.units) + free ≡ 3
-  pub ready : Ready r s.expected free
-
--- the items that are left of a walk that is not over
-pub items_of : (s : State) → s.over ≡ false → size (items_left s) ≡ length s.rest / 4 + 1
-items_of s going = ap (λ (b : Bool). size (at_most (cond b 0 (length s.rest / 4 + 1)))) going
 
 -- a place is the window that is left to read
 pub record IsAt (s : State) (p : FrameWindow) : Type 0 where
@@ -361,7 +325,7 @@ no_start (headers.Vlan v) kind is = cc
 no_start (headers.Macsec t) kind is = no_start_payload t.payload_type kind is
 no_start (headers.Arp a) kind is = cc
 
-lowered_limit : (b : Bool) (limit : Option ℕ) (free : ℕ) → limit ≡ Some free
+pub lowered_limit : (b : Bool) (limit : Option ℕ) (free : ℕ) → limit ≡ Some free
     → lowered b limit ≡ Some (cond b (free - 1) free)
 lowered_limit true limit free e = ap (lowered true) e
 lowered_limit false limit free e = e
@@ -424,12 +388,68 @@ gathered_next start list s t r q p u a ok n here is =
       };
     }
 
--- ---- the end
+-- ---- fewer come after each
 
--- what a walker gives that has no unit more
-abbrev pub item_of : Option PeelFault → Option (Result PeelUnit PeelFault)
-item_of None = None
-item_of (Some f) = Some (Err f)
+some_left : (next : Next) (kind : Kind) → announced_next next ≡ Some kind → 1 ≤ next_left next
+some_left (Start k) kind e = omega arith
+some_left (EtherType t) kind e = omega arith
+some_left (Sll protocol) kind e = absurd cc
+some_left Sealed kind e = absurd cc
+some_left AfterArp kind e = absurd cc
+
+one_after_capture : (b : Bool) (t : ℕ) (protocol : LinuxSllProtocolType)
+    → next_left (cond b (EtherType t) (Sll protocol)) ≡ 1
+one_after_capture true t protocol = refl
+one_after_capture false t protocol = refl
+
+one_after_payload : (payload : PayloadType) → next_left (after_payload payload) ≡ 1
+one_after_payload (payloads.Unmodified t) = refl
+one_after_payload payloads.Modified = refl
+one_after_payload payloads.EncryptedUnmodified = refl
+one_after_payload payloads.Encrypted = refl
+
+-- after a header that only a frame begins with
+fewer_after_first : (x : Expectation) (h : Header) → announced x ≡ Some (kind_of h) → is_first (kind_of h) ≡ true
+    → next_left (next_after h) ≡ 1 → is_extension (kind_of h) ≡ false → headers_left (after x h) + 1 ≤ headers_left x
+fewer_after_first x h known first one other =
+    let start = starts x.next (kind_of h) (announced_is x (kind_of h) known) first in
+    let two : next_left x.next ≡ 2 = ap next_left start.1 in
+    let same : unwrap_or (lowered (is_extension (kind_of h)) x.limit) 0 ≡ unwrap_or x.limit 0 =
+    ap (λ (b : Bool). unwrap_or (lowered b x.limit) 0) other in
+    omega (arith, two, one, same)
+
+-- after an extension
+fewer_after_ext : (x : Expectation) (h : Header) (free : ℕ) → x.limit ≡ Some free → announced x ≡ Some (kind_of h)
+    → is_extension (kind_of h) ≡ true → next_left (next_after h) ≡ 1 → headers_left (after x h) + 1 ≤ headers_left x
+fewer_after_ext x h free limit known extends one =
+    let some = some_left x.next (kind_of h) (announced_is x (kind_of h) known) in
+    let more = may_read x (kind_of h) free limit extends known in
+    let is : unwrap_or x.limit 0 ≡ free = ap (λ (l : Option ℕ). unwrap_or l 0) limit in
+    let less : unwrap_or (lowered (is_extension (kind_of h)) x.limit) 0 ≡ free - 1 =
+    (λ i. unwrap_or (lowered (extends i) (limit i)) 0) in
+    omega (arith, some, more, is, less, one)
+
+pub fewer_left : (x : Expectation) (h : Header) (free : ℕ) → x.limit ≡ Some free → announced x ≡ Some (kind_of h)
+    → headers_left (after x h) + 1 ≤ headers_left x
+fewer_left x (headers.Ethernet2 e) free limit known = fewer_after_first x (headers.Ethernet2 e) known refl refl refl
+fewer_left x (headers.Ethernet2Fcs e) free limit known =
+    fewer_after_first x (headers.Ethernet2Fcs e) known refl refl refl
+fewer_left x (headers.LinuxSll s) free limit known =
+    fewer_after_first x (headers.LinuxSll s) known refl (one_after_capture _ _ _) refl
+fewer_left x (headers.Vlan v) free limit known = fewer_after_ext x (headers.Vlan v) free limit known refl refl
+fewer_left x (headers.Macsec t) free limit known =
+    fewer_after_ext x (headers.Macsec t) free limit known refl (one_after_payload t.payload_type)
+fewer_left x (headers.Arp a) free limit known =
+    let some = some_left x.next kinds.Arp (announced_is x kinds.Arp known) in omega (arith, some)
+
+pub fewer_come : (start : Expectation) (list : List ℕ) (s t : State) (r : Read) (u : PeelUnit)
+    (a : Gathered start list s r)
+    → NextOf start list s t r u a → headers_left t.expected + 1 ≤ headers_left s.expected
+fewer_come start list s t r u a n =
+    subst (λ (x : Expectation). headers_left x + 1 ≤ headers_left s.expected) (sym n.given.expected)
+    (fewer_left s.expected n.given.header a.free a.ready.limit n.unit.announced)
+
+-- ---- the end
 
 record Ended (list : List ℕ) (w : Window) (left : List Header) (e : Ending) (s t : State)
     (met : Option PeelFault) : Type 0 where
@@ -491,3 +511,36 @@ is_packet start list s t r packet met a gives read rest offset kind fault =
       kind = kind ∙ ap kind_shown n.expected;
       fault = fault ∙ n.fault;
     }
+
+-- ---- several headers
+
+-- after as many headers as were asked for, it is still under way
+pub goes_on : (n : ℕ) (old new : PacketWalk) (more : Bool) → more ≡ true → GoesBy n old new more → IsUnderWay old
+    → IsUnderWay new
+goes_on n old new true e goes (start, list, w) = (start, list, (goes start list w).0)
+goes_on n old new false e goes under = absurd cc
+
+-- else it has ended
+pub ends_there : (n : ℕ) (old new : PacketWalk) (more : Bool) → more ≡ false → GoesBy n old new more
+    → EndsAnyhow old new
+ends_there n old new true e goes = absurd cc
+ends_there n old new false e goes = goes
+
+-- and then others
+pub goes_further : (n m : ℕ) (old mid new : PacketWalk) (first more : Bool) → first ≡ true → GoesBy n old mid first
+    → GoesBy m mid new more → GoesBy (n + m) old new more
+goes_further n m old mid new true true e goes later =
+    λ start list w.
+    let one = goes start list w in
+    let two = later start list one.0 in
+    let few = one.1 in
+    let fewer = two.1 in (two.0, omega (arith, few, fewer))
+goes_further n m old mid new true false e goes later = λ start list w. later start list (goes start list w).0
+goes_further n m old mid new false more e goes later = absurd cc
+
+-- there are not so many
+pub ends_within : (n : ℕ) (old new : PacketWalk) (more : Bool) → headers_left old.peel.expected < n
+    → GoesBy n old new more → EndsAnyhow old new
+ends_within n old new true lt goes =
+    λ start list w. let few = (goes start list w).1 in absurd (omega (arith, lt, few))
+ends_within n old new false lt goes = goes

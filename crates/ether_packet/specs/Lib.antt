@@ -4,6 +4,7 @@ pub mod Packet
 pub mod Getters
 pub mod ExtPlaces
 pub mod Places
+pub mod Gathered
 pub mod Building
 pub mod Builder
 pub mod Replacing

@@ -13,6 +13,7 @@ mod packet_ext;
 mod packet_parts;
 mod packet_slice;
 mod packet_units;
+mod packet_walk;
 mod popping;
 mod pushing;
 mod replace_error;

@@ -11,8 +11,8 @@ ghost use Rattle.ether_packet.specs.VlanIds.{IsOutermost};
 ghost use Rattle.ether_packet.specs.Parts.{ArePartsOf};
 ghost use Rattle.ether_packet.specs.ReplacingLink.{has_link};
 
-use crate::ext_places::FrameWindow;
 use crate::packet_units::PacketUnits;
+use crate::packet_walk::PacketWalk;
 use crate::{PacketExt, PacketParts};
 use arrayvec::ArrayVec;
 use ether_peel::{Peel, PeelFault, RestKind, Start};
@@ -73,39 +73,30 @@ impl<'a> PacketSlice<'a> {
         ensures packet { IsPacket (packet_start start) bytes.now result }
         ensures front { IsFrontOfUnlimited start bytes.now link_exts_cap }
     {
-        let mut peel = Peel::with_limit(start, bytes, LINK_EXTS_CAP);
-        let mut read = PacketUnits::new(bytes);
-        let mut fault = None;
-        // The walk ends before the count. With `loop`, and a `return` for each end, this takes a fifth more instructions.
-        for _count in 0..bytes.len() + 1 {
-            let place = place_of(&peel);
-            match peel.next() {
-                Some(Ok(unit)) => read.add(&unit, place),
-                Some(Err(error)) => {
-                    fault = Some(error);
-                    break;
-                }
-                None => break,
-            }
-        }
-        PacketSlice::ended(read, &peel, fault)
+        let mut walk = PacketWalk {
+            peel: Peel::with_limit(start, bytes, LINK_EXTS_CAP),
+            read: PacketUnits::new(bytes),
+            fault: None,
+        };
+        walk.read_all();
+        PacketSlice::ended(walk)
     }
 
     /// The headers that were read, and what the walk leaves.
     #[inline(always)]
-    fn ended(read: PacketUnits<'a>, peel: &Peel<'a>, fault: Option<PeelFault>) -> PacketSlice<'a>
-        ensures read { result.read ≡ read.entry }
-        ensures rest { result.rest.now ≡ peel.now.rest }
-        ensures offset { result.rest_offset ≡ peel.now.offset }
-        ensures kind { result.rest_kind ≡ kind_shown peel.now.expected }
-        ensures fault { result.fault ≡ fault }
+    fn ended(walk: PacketWalk<'a>) -> PacketSlice<'a>
+        ensures read { result.read ≡ walk.entry.read }
+        ensures rest { result.rest.now ≡ walk.entry.peel.rest }
+        ensures offset { result.rest_offset ≡ walk.entry.peel.offset }
+        ensures kind { result.rest_kind ≡ kind_shown walk.entry.peel.expected }
+        ensures fault { result.fault ≡ walk.entry.fault }
     {
         PacketSlice {
-            read,
-            rest: peel.rest(),
-            rest_offset: peel.offset(),
-            rest_kind: peel.kind(),
-            fault,
+            rest: walk.peel.rest(),
+            rest_offset: walk.peel.offset(),
+            rest_kind: walk.peel.kind(),
+            read: walk.read,
+            fault: walk.fault,
         }
     }
 
@@ -313,17 +304,5 @@ impl<'a> PacketSlice<'a> {
         ensures least { SnapsAt self.now result }
     {
         self.read.min_snap_len()
-    }
-}
-
-/// The window left to read.
-#[inline(always)]
-fn place_of<'a>(peel: &Peel<'a>) -> FrameWindow<'a>
-    ensures start { result.start ≡ peel.now.offset }
-    ensures bytes { result.bytes.now ≡ peel.now.rest }
-{
-    FrameWindow {
-        start: peel.offset(),
-        bytes: peel.rest(),
     }
 }

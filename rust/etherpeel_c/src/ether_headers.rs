@@ -1,8 +1,6 @@
 //! All headers of a packet, as a struct of C.
 
 use crate::{EtherFound, EtherUnit};
-use arrayvec::ArrayVec;
-use etherpeel::VlanId;
 
 /// All headers of a packet: `etherpeel_headers` in C.
 ///
@@ -24,16 +22,3 @@ pub struct EtherHeaders {
 
 // as c/etherpeel.h lays it out
 const _: () = assert!(size_of::<EtherHeaders>() == 824);
-
-/// The numbers of up to three VLAN identifiers, with 0 in the place of those that are not there.
-pub(crate) fn vlan_ids(ids: &ArrayVec<VlanId, 3>) -> [u16; 3] {
-    [vlan_id(ids, 0), vlan_id(ids, 1), vlan_id(ids, 2)]
-}
-
-/// The number of a VLAN identifier, 0 if it is not there.
-fn vlan_id(ids: &ArrayVec<VlanId, 3>, index: usize) -> u16 {
-    match ids.get(index) {
-        Some(id) => id.value(),
-        None => 0,
-    }
-}

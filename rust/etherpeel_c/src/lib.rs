@@ -45,6 +45,7 @@ pub mod library;
 pub mod link_types;
 pub mod missing_bytes;
 mod numbers;
+mod packet_facts;
 mod passed;
 pub mod popping;
 pub mod pushing;

@@ -3,7 +3,7 @@
 use crate::EtherUnit;
 use crate::ether_unit::UnitPlace;
 use crate::numbers::{DONE, UNKNOWN_START, start_of};
-use etherpeel::ether_peel::{Peel, Start};
+use etherpeel::ether_peel::{Peel, PeelFault, PeelUnit, Start, Summary};
 
 /// The units of a frame, as many as the array has room for, and how many there are in all.
 ///
@@ -32,7 +32,7 @@ pub unsafe extern "C" fn etherpeel_walk(
     let Some(start) = start_of(start, ether_type) else {
         return UNKNOWN_START;
     };
-    *count = walked(start, bytes, None, units);
+    *count = walked(start, bytes, None, units).units;
     DONE
 }
 
@@ -65,18 +65,18 @@ pub unsafe extern "C" fn etherpeel_walk_limited(
     let Some(start) = start_of(start, ether_type) else {
         return UNKNOWN_START;
     };
-    *count = walked(start, bytes, Some(limit), units);
+    *count = walked(start, bytes, Some(limit), units).units;
     DONE
 }
 
-/// The units of a walk with a limit on extensions or without, and how many there are in all.
+/// The units of a walk with a limit on extensions or without, as many as the array has room for, and the result of the walk.
 #[inline(always)]
 pub(crate) fn walked(
     start: Start,
     bytes: &[u8],
     limit: Option<usize>,
     units: &mut [EtherUnit],
-) -> usize {
+) -> Summary {
     let mut peel = begun_walk(start, bytes, limit);
     let mut count = 0;
     loop {
@@ -89,11 +89,11 @@ pub(crate) fn walked(
                     payload_end: peel.offset() + peel.rest().len(),
                     closed: peel.closed(),
                 };
-                put(units, count, EtherUnit::of(&unit, place));
+                put(units, count, &unit, place);
                 count += 1;
             }
-            Some(Err(_)) => return count,
-            None => return count,
+            Some(Err(fault)) => return ended(&peel, count, Some(fault)),
+            None => return ended(&peel, count, None),
         }
     }
 }
@@ -109,8 +109,21 @@ fn begun_walk<'a>(start: Start, bytes: &'a [u8], limit: Option<usize>) -> Peel<'
 
 /// Writes a unit to its place, if the array has it.
 #[inline(always)]
-fn put(units: &mut [EtherUnit], at: usize, unit: EtherUnit) {
+fn put(units: &mut [EtherUnit], at: usize, unit: &PeelUnit<'_>, place: UnitPlace) {
     if at < units.len() {
-        units[at] = unit;
+        units[at].set(unit, place);
+    }
+}
+
+/// The result of a walk at its end.
+#[inline(always)]
+fn ended(peel: &Peel<'_>, units: usize, fault: Option<PeelFault>) -> Summary {
+    let rest_start = peel.offset();
+    Summary {
+        units,
+        rest_start,
+        rest_end: rest_start + peel.rest().len(),
+        kind: peel.kind(),
+        fault,
     }
 }

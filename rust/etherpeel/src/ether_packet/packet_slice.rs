@@ -1,7 +1,7 @@
 //! The headers of a packet, read in one call.
 
-use crate::ether_packet::ext_places::FrameWindow;
 use crate::ether_packet::packet_units::PacketUnits;
+use crate::ether_packet::packet_walk::PacketWalk;
 use crate::ether_packet::{PacketExt, PacketParts};
 use arrayvec::ArrayVec;
 use crate::ether_peel::{Peel, PeelFault, RestKind, Start};
@@ -72,33 +72,24 @@ impl<'a> PacketSlice<'a> {
     /// </details>
     #[inline(always)]
     pub fn from_slice(start: Start, bytes: &'a [u8]) -> PacketSlice<'a> {
-        let mut peel = Peel::with_limit(start, bytes, LINK_EXTS_CAP);
-        let mut read = PacketUnits::new(bytes);
-        let mut fault = None;
-        // The walk ends before the count. With `loop`, and a `return` for each end, this takes a fifth more instructions.
-        for _count in 0..bytes.len() + 1 {
-            let place = place_of(&peel);
-            match peel.next() {
-                Some(Ok(unit)) => read.add(&unit, place),
-                Some(Err(error)) => {
-                    fault = Some(error);
-                    break;
-                }
-                None => break,
-            }
-        }
-        PacketSlice::ended(read, &peel, fault)
+        let mut walk = PacketWalk {
+            peel: Peel::with_limit(start, bytes, LINK_EXTS_CAP),
+            read: PacketUnits::new(bytes),
+            fault: None,
+        };
+        walk.read_all();
+        PacketSlice::ended(walk)
     }
 
     /// The headers that were read, and what the walk leaves.
     #[inline(always)]
-    fn ended(read: PacketUnits<'a>, peel: &Peel<'a>, fault: Option<PeelFault>) -> PacketSlice<'a> {
+    fn ended(walk: PacketWalk<'a>) -> PacketSlice<'a> {
         PacketSlice {
-            read,
-            rest: peel.rest(),
-            rest_offset: peel.offset(),
-            rest_kind: peel.kind(),
-            fault,
+            rest: walk.peel.rest(),
+            rest_offset: walk.peel.offset(),
+            rest_kind: walk.peel.kind(),
+            read: walk.read,
+            fault: walk.fault,
         }
     }
 
@@ -411,14 +402,5 @@ impl<'a> PacketSlice<'a> {
     #[inline]
     pub fn min_snap_len(&self) -> usize {
         self.read.min_snap_len()
-    }
-}
-
-/// The window left to read.
-#[inline(always)]
-fn place_of<'a>(peel: &Peel<'a>) -> FrameWindow<'a> {
-    FrameWindow {
-        start: peel.offset(),
-        bytes: peel.rest(),
     }
 }

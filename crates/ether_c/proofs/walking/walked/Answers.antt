@@ -1,10 +1,13 @@
-use Rattle.std.proofs.Common.{◌≡◌, ◌+◌, ◌/◌, length, ap, ◌∙◌, arith, rules}
+use Rattle.std.proofs.Common.{◌≡◌, ◌+◌, ◌/◌, length, ap, sym, subst, arith, rules}
 use Rattle.std.specs.Iterator.{size}
 use Rattle.ether_peel.specs.Walker.State.{State}
 use Rattle.ether_peel.specs.Walker.Start.{start_with}
 use Rattle.ether_peel.specs.Walker.Next.{items_left}
-use Rattle.ether_peel.proofs.Walker.Summarizing.{unit_next}
+use Rattle.ether_peel.proofs.Walker.Summarizing.{unit_next, walked_start, walked_unit, walked_fault, walked_none}
+use Rattle.ether_peel.specs.Walker.Summary.{IsSummary}
+use Rattle.ether_peel.specs.declared.walk_summary.Summary.{Summary}
 use Rattle.ether_c.specs.Views.{c_view}
+use Rattle.ether_c.specs.Walk.{GivesUnits}
 use Rattle.ether_c.proofs.UnitsGiven.{UnitGiven, unit_given, gives_first, gives_unit, gives_fault, gives_none}
 use Rattle.ether_c.proofs.walking.walked.Goals as goal
 use Rattle.ether_c.proofs.walking.walked.Goals.{In-Some-Ok}
@@ -19,6 +22,8 @@ loop-unit-init c =
       omega arith,
       gives_first (start_with c.args.start c.args.limit) list c.begun_walk-peel.result c.args.units.now
           walk.headers walk.ending walk.walk walk.faces going,
+      walked_start (start_with c.args.start c.args.limit) list c.begun_walk-peel.result walk.headers walk.ending
+          walk.walk walk.faces going,
     )
 
 -- the unit that is given
@@ -33,9 +38,9 @@ given c =
     unit_given c.args.bytes.now a.window a.left a.ending c.loop-unit.peel c.next.new.self c.in-Some-Ok.unit
     (λ i. omega (arith, c.type_inv.bytes i)) a.faces next
 
-pub of-requires : goal.of-requires
-of-requires c =
-    let after = (given (goal.at.of-requires c).In-Some-Ok).after in
+pub put-requires : goal.put-requires
+put-requires c =
+    let after = (given (goal.at.put-requires c).In-Some-Ok).after in
     let from = c.offset-offset.ensures.value in
     let to = c.offset.ensures.value in
     omega arith
@@ -49,21 +54,45 @@ loop-unit-preserved c =
     let again = c.offset-in-Some-Ok.ensures.value in
     let rest = c.rest.ensures in
     let mark = c.closed.ensures in
-    let shown = c.of.ensures ∙ (λ i. c_view c.in-Some-Ok.unit (from i) (to i) (again i + length (rest i)) (mark i))
-    in (
+    let s = c.loop-unit.peel in
+    let t = c.next.new.self in
+    let u = c.in-Some-Ok.unit in
+    let shown : c_view u c.offset-offset.result c.offset.result (c.offset-in-Some-Ok.result + length c.rest.result.now)
+    c.closed.result ≡ c_view u s.offset t.offset (t.offset + length t.rest) t.closed =
+    λ i. c_view u (from i) (to i) (again i + length (rest i)) (mark i) in
+    let gives = rw c.in-Some-Ok.field-0-is at c.in-Some-Ok.ensures.steps in (
       omega arith,
       gives_unit (start_with c.args.start c.args.limit) c.args.bytes.now c.loop-unit.peel c.next.new.self
-          c.in-Some-Ok.unit c.loop-unit.count c.args.units.now c.loop-unit.units c.put.new.units c.of.result
+          c.in-Some-Ok.unit c.loop-unit.count c.args.units.now c.loop-unit.units c.put.new.units _
           c.loop-unit.invariant.1 (given (goal.at.loop-unit-preserved c).In-Some-Ok) shown c.put.ensures,
+      walked_unit (start_with c.args.start c.args.limit) c.args.bytes.now c.loop-unit.peel c.next.new.self
+          c.loop-unit.count c.in-Some-Ok.unit c.loop-unit.invariant.2 gives,
     )
 
-pub returns-in-Some-Err : goal.returns-in-Some-Err
-returns-in-Some-Err c =
+pub returns-in-Some-Err-clause-units : goal.returns-in-Some-Err-clause-units
+returns-in-Some-Err-clause-units c =
     let gives = rw c.in-Some-Err.field-0-is at c.in-Some-Err.ensures.steps in
-    gives_fault (start_with c.args.start c.args.limit) c.args.bytes.now c.loop-unit.peel c.next.new.self
-    c.loop-unit.count c.in-Some-Err.field-0-0 c.args.units.now c.loop-unit.units c.loop-unit.invariant.1 gives
+    subst (λ (s : Summary). GivesUnits (start_with c.args.start c.args.limit) c.args.bytes.now c.args.units.now c.loop-unit.units s.units) (sym c.ended.ensures)
+    (gives_fault (start_with c.args.start c.args.limit) c.args.bytes.now c.loop-unit.peel c.next.new.self
+    c.loop-unit.count c.in-Some-Err.fault c.args.units.now c.loop-unit.units c.loop-unit.invariant.1 gives)
 
-pub returns-in-None : goal.returns-in-None
-returns-in-None c =
-    gives_none (start_with c.args.start c.args.limit) c.args.bytes.now c.loop-unit.peel c.next.new.self
-    c.loop-unit.count c.args.units.now c.loop-unit.units c.loop-unit.invariant.1 c.in-None.ensures.steps
+pub returns-in-Some-Err-clause-summary : goal.returns-in-Some-Err-clause-summary
+returns-in-Some-Err-clause-summary c =
+    let x = start_with c.args.start c.args.limit in
+    let gives = rw c.in-Some-Err.field-0-is at c.in-Some-Err.ensures.steps in
+    subst (IsSummary x c.args.bytes.now) (sym c.ended.ensures)
+    (walked_fault x c.args.bytes.now c.loop-unit.peel c.next.new.self c.loop-unit.count c.in-Some-Err.fault
+    c.loop-unit.invariant.2 gives)
+
+pub returns-in-None-clause-units : goal.returns-in-None-clause-units
+returns-in-None-clause-units c =
+    subst (λ (s : Summary). GivesUnits (start_with c.args.start c.args.limit) c.args.bytes.now c.args.units.now c.loop-unit.units s.units) (sym c.ended-in-None.ensures)
+    (gives_none (start_with c.args.start c.args.limit) c.args.bytes.now c.loop-unit.peel c.next.new.self
+    c.loop-unit.count c.args.units.now c.loop-unit.units c.loop-unit.invariant.1 c.in-None.ensures.steps)
+
+pub returns-in-None-clause-summary : goal.returns-in-None-clause-summary
+returns-in-None-clause-summary c =
+    let x = start_with c.args.start c.args.limit in
+    subst (IsSummary x c.args.bytes.now) (sym c.ended-in-None.ensures)
+    (walked_none x c.args.bytes.now c.loop-unit.peel c.next.new.self c.loop-unit.count c.loop-unit.invariant.2
+    c.in-None.ensures.steps)

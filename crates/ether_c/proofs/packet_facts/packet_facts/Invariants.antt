@@ -1,0 +1,7 @@
+use Rattle.std.proofs.Common.{◌≡◌, ℕ, ◌++◌, List, length, drop}
+use Rattle.std.specs.Prelude.{max}
+use Rattle.ether_c.proofs.PacketGiven.{FactsSoFar}
+use Rattle.ether_c.proofs.packet_facts.packet_facts.Given as goal
+
+abbrev pub invariant-loop-unit : goal.invariant-loop-unit
+invariant-loop-unit l = FactsSoFar l.fn.units l.unit-index l.vlan_ids l.vlan_count l.min_snap_len

@@ -1,0 +1,62 @@
+use Rattle.std.proofs.Common.{ℕ, List, sym, subst}
+use Rattle.std.specs.Prelude.{Option}
+use Rattle.ether_peel.specs.Grammar.Expectation.{Expectation}
+use Rattle.ether_peel.specs.Walker.Next.{Gives}
+use Rattle.ether_peel.specs.declared.peel_fault.PeelFault.{PeelFault}
+use Rattle.ether_packet.specs.Gathered.{UnderWay, item_of}
+use Rattle.ether_packet.proofs.Gathering.{NextOf, next_of, fits, readable, gathered_next, fewer_come}
+use Rattle.ether_packet.proofs.packet_walk.PacketWalk.read_next.Goals as goal
+use Rattle.ether_packet.proofs.packet_walk.PacketWalk.read_next.Goals.{In-Some-Ok}
+
+-- the unit that is given
+next : (c : In-Some-Ok) (start : Expectation) (list : List ℕ) (w : UnderWay start list c.args.self.now)
+    → NextOf start list c.args.self.now.peel c.next.new.self c.args.self.now.read c.in-Some-Ok.unit w.gathered
+next c start list w =
+    let gives = rw c.in-Some-Ok.field-0-is at c.in-Some-Ok.ensures.steps in
+    next_of start list c.args.self.now.peel c.next.new.self c.args.self.now.read c.in-Some-Ok.unit w.bytes w.gathered gives
+
+pub add-requires-clause-fits : goal.add-requires-clause-fits
+add-requires-clause-fits c =
+    let (start, list, w) = c.requires in
+    fits start list c.args.self.now.peel c.next.new.self c.args.self.now.read
+    (record { start = c.offset.result; bytes = c.rest.result }) c.in-Some-Ok.unit w.gathered
+    (next (goal.at.add-requires-clause-fits c).In-Some-Ok start list w)
+    (record { start = c.offset.ensures.value; bytes = c.rest.ensures })
+
+pub add-requires-clause-readable : goal.add-requires-clause-readable
+add-requires-clause-readable c =
+    let (start, list, w) = c.requires in
+    readable start list c.args.self.now.peel c.next.new.self c.args.self.now.read
+    (record { start = c.offset.result; bytes = c.rest.result }) c.in-Some-Ok.unit w.gathered
+    (next (goal.at.add-requires-clause-readable c).In-Some-Ok start list w)
+    (record { start = c.offset.ensures.value; bytes = c.rest.ensures })
+
+pub returns-in-Some-Ok : goal.returns-in-Some-Ok
+returns-in-Some-Ok c start list w =
+    let n = next (goal.at.returns-in-Some-Ok c).In-Some-Ok start list w in (
+      record {
+        bytes = w.bytes;
+        gathered =
+            gathered_next start list c.args.self.now.peel c.next.new.self c.args.self.now.read c.add.new.self
+            (record { start = c.offset.result; bytes = c.rest.result }) c.in-Some-Ok.unit w.gathered w.bytes n
+            (record { start = c.offset.ensures.value; bytes = c.rest.ensures }) c.add.ensures;
+        no_fault = w.no_fault;
+      },
+      fewer_come start list c.args.self.now.peel c.next.new.self c.args.self.now.read c.in-Some-Ok.unit w.gathered n,
+    )
+
+pub returns-in-Some-Err : goal.returns-in-Some-Err
+returns-in-Some-Err c start list w = record {
+  before = c.args.self.now.peel;
+  gathered = w.gathered;
+  gives = rw c.in-Some-Err.field-0-is at c.in-Some-Err.ensures.steps;
+}
+
+pub returns-in-None : goal.returns-in-None
+returns-in-None c start list w = record {
+  before = c.args.self.now.peel;
+  gathered = w.gathered;
+  gives =
+      subst (λ (met : Option PeelFault). Gives c.args.self.now.peel (item_of met) c.next.new.self) (sym w.no_fault)
+      c.in-None.ensures.steps;
+}

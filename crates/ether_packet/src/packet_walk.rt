@@ -1,0 +1,58 @@
+//! The walk of a packet, header by header.
+ghost use Rattle.std.specs.Prelude.{◌≤◌};
+ghost use Rattle.ether_packet.specs.Gathered.{headers_left, IsUnderWay, GoesBy, EndsAnyhow};
+
+use crate::ext_places::FrameWindow;
+use crate::packet_units::PacketUnits;
+use ether_peel::{Peel, PeelFault};
+
+/// A walk with the headers that it has read, and the fault if it has ended in one.
+#[derive(Drop)]
+pub(crate) struct PacketWalk<'a> {
+    pub peel: Peel<'a>,
+    pub read: PacketUnits<'a>,
+    pub fault: Option<PeelFault>,
+}
+
+impl<'a> PacketWalk<'a> {
+    /// Reads all headers, of which there are at most five. A loop, where a header can be of any kind and at any place, takes a
+    /// third more instructions; functions that read two headers each are too long to be inlined, and take twice those of a loop.
+    #[inline(always)]
+    pub fn read_all(&mut self)
+        requires going { IsUnderWay self.old }
+        requires few { headers_left self.old.peel.expected ≤ 5 }
+        ensures { EndsAnyhow self.old self.new }
+    {
+        if self.read_next()
+            && self.read_next()
+            && self.read_next()
+            && self.read_next()
+            && self.read_next()
+        {
+            self.read_next();
+        }
+    }
+
+    /// Reads the next header, and says whether there was one.
+    #[inline(always)]
+    fn read_next(&mut self) -> bool
+        requires { IsUnderWay self.old }
+        ensures { GoesBy 1 self.old self.new result }
+    {
+        let place = FrameWindow {
+            start: self.peel.offset(),
+            bytes: self.peel.rest(),
+        };
+        match self.peel.next() {
+            Some(Ok(unit)) => {
+                self.read.add(&unit, place);
+                true
+            }
+            Some(Err(error)) => {
+                self.fault = Some(error);
+                false
+            }
+            None => false,
+        }
+    }
+}

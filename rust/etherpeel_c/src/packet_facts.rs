@@ -1,0 +1,49 @@
+//! What is asked of a packet, by its units.
+
+use crate::EtherUnit;
+
+/// What is asked of a packet besides its units.
+#[derive(Clone, Copy)]
+pub(crate) struct PacketFacts {
+    /// The identifiers of the VLAN tags, the outermost first, and 0 after them.
+    pub(crate) vlan_ids: [u16; 3],
+    /// How many VLAN tags there are.
+    pub(crate) vlan_count: u16,
+    /// Where the last byte of a unit ends.
+    pub(crate) min_snap_len: usize,
+}
+
+/// What is asked of a packet with these units, at most three of which are VLAN tags.
+#[inline(always)]
+pub(crate) fn packet_facts(units: &[EtherUnit]) -> PacketFacts {
+    let mut vlan_ids = [0; 3];
+    let mut vlan_count: u16 = 0;
+    let mut min_snap_len = 0;
+    for unit in units {
+        if unit.kind == 3 {
+            vlan_ids[usize::from(vlan_count)] = unit.vlan.vid;
+            vlan_count += 1;
+        }
+        min_snap_len = reach(unit).max(min_snap_len);
+    }
+    PacketFacts {
+        vlan_ids,
+        vlan_count,
+        min_snap_len,
+    }
+}
+
+/// Where a unit ends, with the payload whose length a SecTag names.
+#[inline(always)]
+fn reach(unit: &EtherUnit) -> usize {
+    let ether_type_len = if unit.macsec.encrypted == 0 && unit.macsec.changed == 0 {
+        2
+    } else {
+        0
+    };
+    if unit.macsec.short_len > ether_type_len {
+        unit.payload_end
+    } else {
+        unit.payload_start
+    }
+}
