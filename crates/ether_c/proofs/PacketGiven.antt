@@ -85,7 +85,8 @@ length-cons_option : (o : Option ℕ) (l : List ℕ) → length (cons_option o l
 length-cons_option None l = omega arith
 length-cons_option (Some x) l = omega arith
 
-fewer_ids : (x : Expectation) (h : Header) (hs : List Header) (free : ℕ) (more : is_extension (kind_of h) ≡ true → 0 < free)
+fewer_ids : (x : Expectation) (h : Header) (hs : List Header) (free : ℕ)
+    (more : is_extension (kind_of h) ≡ true → 0 < free)
     → length (vlan_ids_of hs) ≤ cond (is_extension (kind_of h)) (free - 1) free → length (vlan_ids_of (h ∷ hs)) ≤ free
 fewer_ids x (headers.Ethernet2 e) hs free more few = few
 fewer_ids x (headers.Ethernet2Fcs e) hs free more few = few
@@ -178,7 +179,8 @@ pub record FactsSoFar (us : List EtherUnit) (i : ℕ) (vids : List ℕ) (vlans m
 max_turned : (a b c : ℕ) → max (max a b) c ≡ max b (max a c)
 max_turned a b c = grind arith
 
-id_set : (front : List ℕ) (vid : ℕ) → length front < 3 → set (c_ids front) (length front) vid ≡ c_ids (front ++ vid ∷ [])
+id_set : (front : List ℕ) (vid : ℕ) → length front < 3
+    → set (c_ids front) (length front) vid ≡ c_ids (front ++ vid ∷ [])
 id_set [] vid lt = refl
 id_set (a ∷ []) vid lt = refl
 id_set (a ∷ b ∷ []) vid lt = refl

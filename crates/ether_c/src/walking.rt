@@ -57,7 +57,8 @@ pub extern "C" fn etherpeel_walk_limited(
     DONE
 }
 
-/// The units of a walk with a limit on extensions or without, as many as the array has room for, and the result of the walk.
+/// The units of a walk with a limit on extensions or without, as many as the array has room for, and
+/// the result of the walk.
 #[inline(always)]
 pub(crate) fn walked(
     start: Start,

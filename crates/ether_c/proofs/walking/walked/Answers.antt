@@ -72,7 +72,10 @@ loop-unit-preserved c =
 pub returns-in-Some-Err-clause-units : goal.returns-in-Some-Err-clause-units
 returns-in-Some-Err-clause-units c =
     let gives = rw c.in-Some-Err.field-0-is at c.in-Some-Err.ensures.steps in
-    subst (λ (s : Summary). GivesUnits (start_with c.args.start c.args.limit) c.args.bytes.now c.args.units.now c.loop-unit.units s.units) (sym c.ended.ensures)
+    let x = start_with c.args.start c.args.limit in
+    subst
+    (λ (s : Summary). GivesUnits x c.args.bytes.now c.args.units.now c.loop-unit.units s.units)
+    (sym c.ended.ensures)
     (gives_fault (start_with c.args.start c.args.limit) c.args.bytes.now c.loop-unit.peel c.next.new.self
     c.loop-unit.count c.in-Some-Err.fault c.args.units.now c.loop-unit.units c.loop-unit.invariant.1 gives)
 
@@ -86,7 +89,10 @@ returns-in-Some-Err-clause-summary c =
 
 pub returns-in-None-clause-units : goal.returns-in-None-clause-units
 returns-in-None-clause-units c =
-    subst (λ (s : Summary). GivesUnits (start_with c.args.start c.args.limit) c.args.bytes.now c.args.units.now c.loop-unit.units s.units) (sym c.ended-in-None.ensures)
+    let x = start_with c.args.start c.args.limit in
+    subst
+    (λ (s : Summary). GivesUnits x c.args.bytes.now c.args.units.now c.loop-unit.units s.units)
+    (sym c.ended-in-None.ensures)
     (gives_none (start_with c.args.start c.args.limit) c.args.bytes.now c.loop-unit.peel c.next.new.self
     c.loop-unit.count c.args.units.now c.loop-unit.units c.loop-unit.invariant.1 c.in-None.ensures.steps)
 
