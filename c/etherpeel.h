@@ -245,7 +245,7 @@ enum etherpeel_filter_error_kind {
     ETHERPEEL_FILTER_VLAN = 3,
     /* `proto`, `src`, `dst`, `host`, `broadcast` or `multicast` is expected. */
     ETHERPEEL_FILTER_ETHER_WORD = 4,
-    /* An address is expected, in the form `xx:xx:xx:xx:xx:xx`. */
+    /* An address is expected: `xx:xx:xx:xx:xx:xx` or `xxxxxxxxxxxx`. */
     ETHERPEEL_FILTER_ADDRESS = 5,
     /* A number that is not greater than `greatest` is expected. */
     ETHERPEEL_FILTER_NUMBER = 6,

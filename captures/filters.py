@@ -41,6 +41,11 @@ def colons(address):
     return ":".join(f"{it:02x}" for it in address)
 
 
+def written(draw, address):
+    """An address with colons or without."""
+    return draw.choice((colons, bytes.hex))(address)
+
+
 def primitive(draw):
     """A word or words that both programs have."""
     kind = draw.randrange(9)
@@ -49,7 +54,7 @@ def primitive(draw):
     if kind == 2:
         return f"ether proto {draw.choice(TYPES[:4])}"
     if kind < 6:
-        return f"ether {draw.choice(('src', 'dst', 'host'))} {colons(draw.choice(ADDRESSES))}"
+        return f"ether {draw.choice(('src', 'dst', 'host'))} {written(draw, draw.choice(ADDRESSES))}"
     if kind == 6:
         return draw.choice(("ether broadcast", "ether multicast"))
     return f"{draw.choice(('less', 'greater'))} {draw.randrange(40, 240)}"

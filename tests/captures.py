@@ -147,7 +147,8 @@ SIX = [joined(MACS, it) for it in (
     "0806" + 28 * "00", "8100 0005 0806" + 28 * "00", "8100 0007 0806" + 28 * "00", "8100 0005 0800 45", "0800 45", "88a8 0064 8100 0005 0800 45")]
 SELECTED = {
     "vlan 5 or arp": (1, 2, 3, 4, 6), "arp or vlan 5": (1, 2, 3, 4, 6), "vlan 7 or vlan 5": (2, 3, 4, 6), "vlan and arp": (2, 3), "arp": (1, 2, 3),
-    "outer vlan 100": (6,), "inner vlan 5": (6,), "not vlan": (1, 5), "ether src 02:00:00:00:00:01 and ip": (4, 5, 6), "macsec": (), "cut": (),
+    "outer vlan 100": (6,), "inner vlan 5": (6,), "not vlan": (1, 5), "ether src 02:00:00:00:00:01 and ip": (4, 5, 6),
+    "ether src 020000000001 and ip": (4, 5, 6), "macsec": (), "cut": (),
 }
 
 DOUBLE = "frame 1 time 1700000000.000000000 link 1 captured 23 original 23\nethernet2 0 ffffffffffff 020000000001 0x88A8\n"

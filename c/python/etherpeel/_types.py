@@ -114,7 +114,7 @@ class FilterErrorKind(IntEnum):
     ETHER_WORD = 4
     """`proto`, `src`, `dst`, `host`, `broadcast` or `multicast` is expected."""
     ADDRESS = 5
-    """An address is expected, in the form `xx:xx:xx:xx:xx:xx`."""
+    """An address is expected, in the form `xx:xx:xx:xx:xx:xx` or `xxxxxxxxxxxx`."""
     NUMBER = 6
     """A number that is not greater than `greatest` is expected."""
     MIXED = 7

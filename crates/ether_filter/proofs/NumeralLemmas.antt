@@ -1,17 +1,17 @@
 -- Digits, one after the other.
-use Rattle.std.proofs.Common.{◌≡◌, ℕ, ◌+◌, ◌*◌, ◌^◌, ◌<◌, ◌≤◌, List, [], ◌∷◌, length, take, inl, inr, refl, sym, ◌∙◌, Bool, true, false, min, nat_lt, arith}
-use Rattle.std.specs.Prelude.{slice_index, None, Some, Option, ◌&&◌, MatchOption, option_map, ◌⊎◌}
+use Rattle.std.proofs.Common.{◌≡◌, ℕ, ◌+◌, ◌*◌, ◌^◌, ◌<◌, ◌≤◌, List, [], ◌∷◌, length, take, inl, inr, refl, sym, ap, ◌∙◌, Bool, true, false, min, nat_lt, arith}
+use Rattle.std.specs.Prelude.{slice_index, None, Some, Option, ◌&&◌, MatchOption, option_map, ◌⊎◌, if◌then◌else◌}
 use Rattle.std.proofs.Math.Bool.{and-false}
 use Rattle.std.specs.List.{list_all}
 use Rattle.std.specs.Char.{digit_value}
 use Rattle.std.specs.Str.Parse.{digits_value, AllDigits}
 use Rattle.std.proofs.Math.Nat.{mul-le-mul_left}
-use Rattle.std.proofs.lemmas.Bool.{cases_lt, lt-ltb, le-ltb, ltb-true}
+use Rattle.std.proofs.lemmas.Bool.{cases_lt, lt-ltb, le-ltb, ltb-true, eq-eqb}
 use Rattle.std.proofs.lemmas.Int.Digits.{digits_value_more}
 use Rattle.std.proofs.lemmas.List.Folds.{list_all_more, list_all_at}
 use Rattle.std.proofs.lemmas.List.{take_all}
 use Rattle.std.proofs.lemmas.Int.Digits.{digits_value-lt}
-use Rattle.ether_filter.specs.Numerals.{digits_in, IsCapped, within_32_bits}
+use Rattle.ether_filter.specs.Numerals.{digits_in, pairs_in, address_in, IsCapped, within_32_bits}
 
 abbrev pub is_digit : ℕ → ℕ → Bool
 is_digit radix c = nat_lt (digit_value c) radix
@@ -85,6 +85,10 @@ address_read ds (Some v) len capped = elim (decided (list_all (is_digit 16) ds))
   | inr not_all ↦ (let none : digits_in 16 ds ≡ None = rw (not_all, and-false (nat_lt 0 (length ds))) refl in
       let is : Some capped.number ≡ None = sym capped.is ∙ none in absurd cc)
 ]
+
+pub address_of_twelve : (word : List ℕ) → length word ≡ 12 → address_in word ≡ digits_in 16 word
+address_of_twelve word len =
+    ap (λ (b : Bool). if b then digits_in 16 word else pairs_in word) (eq-eqb (length word) 12 len)
 
 -- a number below the cap was read as it is
 pub capped_within : (radix : ℕ) (ds : List ℕ) (v : ℕ) → IsCapped radix ds v

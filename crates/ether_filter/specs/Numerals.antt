@@ -29,10 +29,14 @@ abbrev pub digit_places : List ℕ
 digit_places = 0 ∷ 1 ∷ 3 ∷ 4 ∷ 6 ∷ 7 ∷ 9 ∷ 10 ∷ 12 ∷ 13 ∷ 15 ∷ 16 ∷ []
 
 -- xx:xx:xx:xx:xx:xx, where each x is a hexadecimal digit and 58 is the colon
-abbrev pub address_in : List ℕ → Option ℕ
-address_in word =
+abbrev pub pairs_in : List ℕ → Option ℕ
+pairs_in word =
     if nat_eq (length word) 17 && list_all (λ i. nat_eq (slice_index word i) 58) colon_places
     then digits_in 16 (map (slice_index word) digit_places) else None
+
+-- .. or the twelve digits alone
+abbrev pub address_in : List ℕ → Option ℕ
+address_in word = if nat_eq (length word) 12 then digits_in 16 word else pairs_in word
 
 -- what is read of digits whose number may be great
 pub record IsCapped (radix : ℕ) (ds : List ℕ) (value : ℕ) : Type 0 where

@@ -39,7 +39,7 @@ pub enum FilterErrorKind {
     ExpectedVlan,
     /// `proto`, `src`, `dst`, `host`, `broadcast` or `multicast` is expected.
     ExpectedEtherWord,
-    /// An address is expected, in the form `xx:xx:xx:xx:xx:xx`.
+    /// An address is expected, in the form `xx:xx:xx:xx:xx:xx` or `xxxxxxxxxxxx`.
     ExpectedAddress,
     /// A number that is not greater than this one is expected.
     ExpectedNumber(u32),

@@ -39,7 +39,7 @@ pub(crate) const MAX_WORDS: usize = 192;
 /// encrypted or modified payload.
 ///
 /// A number is decimal, without leading zeros, or hexadecimal after `0x`. An address is six pairs of hexadecimal digits with colons
-/// between them. Blanks, `(`, `)` and `!` separate words.
+/// between them, or twelve digits. Blanks, `(`, `)` and `!` separate words.
 ///
 /// No call allocates memory.
 ///

@@ -40,9 +40,12 @@ pub fn number_of(word: &[u8]) -> Option<Option<u32>> {
     }
 }
 
-/// The address that a word writes, in six pairs of hexadecimal digits with colons between them, as one number.
+/// The address that a word writes, in six pairs of hexadecimal digits with colons between them or without, as one number.
 #[inline]
 pub(crate) fn address_of(word: &[u8]) -> Option<u64> {
+    if word.len() == 12 {
+        return digits_of(word, 16);
+    }
     if word.len() != 17 {
         return None;
     }

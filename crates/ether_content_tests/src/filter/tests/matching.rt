@@ -41,7 +41,7 @@ const N: bool = false;
 
 /// An expression, and which of the packets match.
 #[rattlefmt::skip]
-static MATCHING: [(&[u8], [bool; 6]); 27] = [
+static MATCHING: [(&[u8], [bool; 6]); 28] = [
     (b"vlan 5 or arp", [Y, Y, Y, Y, N, Y]),
     (b"arp or vlan 5", [Y, Y, Y, Y, N, Y]),
     (b"vlan 7 or vlan 5", [N, Y, Y, Y, N, Y]),
@@ -60,6 +60,7 @@ static MATCHING: [(&[u8], [bool; 6]); 27] = [
     (b"ether src 02:00:5e:10:00:01", [Y, Y, Y, Y, Y, Y]),
     (b"ether dst 02:00:5E:10:00:02", [N, N, N, Y, N, Y]),
     (b"ether host 03:00:5e:10:00:02", [N, N, N, N, Y, N]),
+    (b"ether host 03005E100002", [N, N, N, N, Y, N]),
     (b"ether broadcast", [Y, Y, Y, N, N, N]),
     (b"ether multicast", [Y, Y, Y, N, Y, N]),
     (b"cut", [N, Y, Y, Y, N, Y]),

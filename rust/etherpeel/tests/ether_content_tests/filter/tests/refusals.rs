@@ -12,7 +12,7 @@ fn refusal(text: &[u8]) -> Option<(usize, FilterErrorKind)> {
 
 /// A text, and where and why it is refused.
 #[rustfmt::skip]
-static TEXTS: [(&[u8], usize, FilterErrorKind); 28] = [
+static TEXTS: [(&[u8], usize, FilterErrorKind); 29] = [
     (b"", 0, FilterErrorKind::ExpectedOperand),
     (b"  ", 2, FilterErrorKind::ExpectedOperand),
     (b"arp and", 7, FilterErrorKind::ExpectedOperand),
@@ -29,6 +29,7 @@ static TEXTS: [(&[u8], usize, FilterErrorKind); 28] = [
     (b"ether", 5, FilterErrorKind::ExpectedEtherWord),
     (b"ether proto 65536", 12, FilterErrorKind::ExpectedNumber(65535)),
     (b"ether src 02:00:5e:10:00", 10, FilterErrorKind::ExpectedAddress),
+    (b"ether src 02005e1000010", 10, FilterErrorKind::ExpectedAddress),
     (b"ether dst arp", 10, FilterErrorKind::ExpectedAddress),
     (b"less arp", 5, FilterErrorKind::ExpectedNumber(4294967295)),
     (b"less 4294967296", 5, FilterErrorKind::ExpectedNumber(4294967295)),
