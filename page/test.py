@@ -9,8 +9,10 @@ line says so, and nothing is tested.
 """
 
 import argparse
+import bz2
+import gzip
+import lzma
 import os
-import struct
 import subprocess
 import sys
 import tempfile
@@ -19,64 +21,11 @@ import xml.etree.ElementTree as xml
 from shutil import which
 
 from browser import Page, browser
+from examples import (ARP_IN_VLAN, CUT, EXAMPLES, HEADINGS, IPV4, PACKETS, ROWS, SLL, SLL2, classic, digits, pcapng)
 
 TOP = os.path.dirname(os.path.abspath(__file__))
 INDEX = f"file://{TOP}/out/index.html"
 counts = {True: 0, False: 0}
-
-ARP_IN_VLAN = ("ffffffffffff 3aeeb62ff6d7 8100" "b123 0806" "0001 0800 06 04 0001 020000000001 0a090002 ffffffffffff 0a090001").replace(" ", "")
-SEC_TAG = ("ffffffffffff 020000000001 88e5" "2c 00 00000001 0200000000010001" "0800 4500").replace(" ", "")
-SEALED = ("ffffffffffff 020000000001 88e5" "0e 03 00000007" "112233").replace(" ", "")
-CUT = ("ffffffffffff 3aeeb62ff6d7 8100" "b1").replace(" ", "")
-CUT_BY_CAPTURE = ("ffffffffffff 3aeeb62ff6d7 88a8" "0001 8100" "00").replace(" ", "")
-SLL = ("0000 0001 0006 0200000000010000 0806" "0001 0800 06 04 0002 020000000001 c0000201 020000000002 c0000202").replace(" ", "")
-IPV4 = ("020000000001 020000000002 0800" "4500").replace(" ", "")
-
-# Of each frame what its link says that it begins with, its headers with their fields, by the standards, and what is left or the fault.
-EXAMPLES = [
-    ("a VLAN tag and ARP", f"#eth:{ARP_IN_VLAN}", [
-        ["Ethernet II", "0 to 14", {"Destination address": "ff:ff:ff:ff:ff:ff", "Source address": "3a:ee:b6:2f:f6:d7", "EtherType": "0x8100 (VLAN tag)"}],
-        ["VLAN tag", "14 to 18", {"Priority code point PCP": "5", "Drop eligible indicator DEI": "1 (set)", "VLAN identifier VID": "291",
-                                  "EtherType": "0x0806 (ARP)"}],
-        ["ARP", "18 to 46", {
-            "Hardware type ar$hrd": "1 (Ethernet)", "Protocol type ar$pro": "0x0800 (IPv4)", "Hardware address length ar$hln": "6",
-            "Protocol address length ar$pln": "4", "Operation ar$op": "1 (request)", "Sender hardware address ar$sha": "02:00:00:00:00:01",
-            "Sender protocol address ar$spa": "10.9.0.2", "Target hardware address ar$tha": "ff:ff:ff:ff:ff:ff",
-            "Target protocol address ar$tpa": "10.9.0.1"}],
-    ], "Left at 46: what follows the ARP packet"),
-    ("a SecTag with a secure channel", f"#eth:{SEC_TAG}", [
-        ["Ethernet II", "0 to 14", {"Destination address": "ff:ff:ff:ff:ff:ff", "Source address": "02:00:00:00:00:01", "EtherType": "0x88E5 (MACsec)"}],
-        ["MACsec SecTag", "14 to 28", {
-            "Version V": "0", "End station ES": "0", "Secure channel SC": "1 (set)", "Single copy broadcast SCB": "0", "Encryption E": "1 (set)",
-            "Changed text C": "1 (set)", "Association number AN": "0", "Reserved": "0", "Short length SL": "0", "Packet number PN": "1",
-            "Secure channel identifier SCI": "0200000000010001"}],
-    ], "Left 28 to 32: payload that MACsec protects"),
-    ("a short length", f"#eth:{SEALED}", [
-        ["Ethernet II", "0 to 14", {"Destination address": "ff:ff:ff:ff:ff:ff", "Source address": "02:00:00:00:00:01", "EtherType": "0x88E5 (MACsec)"}],
-        ["MACsec SecTag", "14 to 20", {
-            "Version V": "0", "End station ES": "0", "Secure channel SC": "0", "Single copy broadcast SCB": "0", "Encryption E": "1 (set)",
-            "Changed text C": "1 (set)", "Association number AN": "2", "Reserved": "0", "Short length SL": "3", "Packet number PN": "7"}],
-    ], "Left 20 to 23: payload that MACsec protects"),
-    ("a tag cut short", f"#eth:{CUT}", [
-        ["Ethernet II", "0 to 14", {"Destination address": "ff:ff:ff:ff:ff:ff", "Source address": "3a:ee:b6:2f:f6:d7", "EtherType": "0x8100 (VLAN tag)"}],
-    ], "Not read 14 to 15: at offset 14: VLAN Header Error: Not enough data to decode 'VLAN header'. 4 byte(s) would be required, but only 1 byte(s) "
-       "are available based on the slice length ('VLAN header' starts at overall parsed byte 14). At least 3 bytes are missing."),
-    ("a cooked capture", f"#sll:{SLL}", [
-        ["Linux cooked capture v1", "0 to 16", {"Packet type": "0 (to us)", "ARPHRD type": "1 (Ethernet)", "Address length": "6",
-                                                "Address": "02:00:00:00:00:01:00:00", "Protocol": "0x0806 (ARP)"}],
-        ["ARP", "16 to 44", {
-            "Hardware type ar$hrd": "1 (Ethernet)", "Protocol type ar$pro": "0x0800 (IPv4)", "Hardware address length ar$hln": "6",
-            "Protocol address length ar$pln": "4", "Operation ar$op": "2 (reply)", "Sender hardware address ar$sha": "02:00:00:00:00:01",
-            "Sender protocol address ar$spa": "192.0.2.1", "Target hardware address ar$tha": "02:00:00:00:00:02",
-            "Target protocol address ar$tpa": "192.0.2.2"}],
-    ], "Left at 44: what follows the ARP packet"),
-    ("a frame with a check sequence", f"#fcs:{IPV4}e9c0cdc8", [
-        ["Ethernet II", "0 to 14", {"Destination address": "02:00:00:00:00:01", "Source address": "02:00:00:00:00:02", "EtherType": "0x0800 (IPv4)",
-                                    "Frame check sequence FCS": "e9c0cdc8"}],
-    ], "Left 14 to 16: payload of type 0x0800 (IPv4)"),
-    ("what an ether type announces", "#type-0806:" + ARP_IN_VLAN[36:52], [], "Not read 0 to 8: at offset 0: Address Resolution Protocol Packet Error: "
-     "Not enough data to decode 'Address Resolution Protocol packet'. 28 byte(s) would be required, but only 8 byte(s) are available"),
-]
 
 
 def check(what, holds, said=""):
@@ -84,33 +33,6 @@ def check(what, holds, said=""):
     if not holds:
         print(f"page: {what}: {said}")
 
-
-# ---- captures, by the descriptions of their formats
-
-def classic(packets, link=1, order=">"):
-    """A classic file; of each packet seconds, bytes, original length."""
-    header = struct.pack(f"{order}IHHIIII", 0xA1B2C3D4, 2, 4, 0, 0, 262144, link)
-    return header + b"".join(struct.pack(f"{order}IIII", seconds, 5, len(data), length) + data for seconds, data, length in packets)
-
-
-def block(kind, body):
-    body += bytes(-len(body) % 4)
-    length = struct.pack("<I", len(body) + 12)
-    return struct.pack("<I", kind) + length + body + length
-
-
-def pcapng(packets, link=1):
-    start = block(0x0A0D0D0A, struct.pack("<IHHq", 0x1A2B3C4D, 1, 0, -1)) + block(1, struct.pack("<HHI", link, 0, 262144))
-    times = ((seconds * 10**6 + 5, data, length) for seconds, data, length in packets)
-    return start + b"".join(block(6, struct.pack("<IIIII", 0, time >> 32, time % 2**32, len(data), length) + data) for time, data, length in times)
-
-
-PACKETS = [(1700000000, bytes.fromhex(ARP_IN_VLAN), 46), (1700000001, bytes.fromhex(IPV4), 60), (1700000002, bytes.fromhex(CUT_BY_CAPTURE), 60)]
-ROWS = [
-    ["1", "2023-11-14", "22:13:20.000005", "46", "VLAN 291 › ARP"],
-    ["2", "2023-11-14", "22:13:21.000005", "16 of 60", "IPv4"],
-    ["3", "2023-11-14", "22:13:22.000005", "19 of 60", "VLAN 1 › not read further"],
-]
 
 # ---- what the page shows
 
@@ -167,11 +89,40 @@ def test_captures(page, folder):
     check("a chosen file", page.evaluate(LIST) == ROWS, page.evaluate(LIST))
 
 
+CUT_CELLS = """[...document.querySelectorAll('#list th, #list td:not(.line)')]
+    .filter(cell => cell.scrollWidth > cell.clientWidth).map(cell => cell.textContent)"""
+
+
+def test_rows(page, folder):
+    """Addresses, days and times in the rows, none of them cut."""
+    cooked = lambda length, address: bytes.fromhex(digits("0000 0001") + length + address + digits("0800 4500"))
+    ends = [(253402300800, bytes.fromhex(IPV4), 16)]
+    nano = classic(PACKETS[1:2], magic=0xA1B23C4D, fraction=123456789)
+    for name, data, row in [
+            ("sll.pcap", classic([(1700000000, bytes.fromhex(SLL), 44)], link=113), ROWS[0][1:3] + ["02:00:00:00:00:01", ""]),
+            ("sll2.pcap", classic([(1700000000, bytes.fromhex(SLL2), 48)], link=276), ROWS[0][1:3] + ["02:00:00:00:00:01", ""]),
+            ("four.pcap", classic([(1700000000, cooked("0004", "c000020100000000"), 18)], link=113), ROWS[0][1:3] + ["c0:00:02:01", ""]),
+            ("none.pcap", classic([(1700000000, cooked("0000", "0000000000000000"), 18)], link=113), ROWS[0][1:3] + ["", ""]),
+            ("long.pcap", classic([(1700000000, cooked("0014", "0102030405060708"), 18)], link=113),
+             ROWS[0][1:3] + ["01:02:03:04:05:06:07:08", ""]),
+            ("short.pcap", classic([(1700000000, bytes(13), 262144)]), ROWS[0][1:3] + ["", ""]),
+            ("nano.pcap", nano, ["2023-11-14", "22:13:21.123456789"] + ROWS[1][3:5]),
+            ("far.pcapng", pcapng(ends), ["+010000-01-01", "00:00:00.000005"] + ROWS[1][3:5])]:
+        page.open(INDEX)
+        drop(page, folder, name, data)
+        found = page.evaluate(LIST)[0][1:5]
+        check(f"{name}, row", found == row, found)
+        for width in [320, 800, 1024, 1280, 1600]:
+            page.resize(width, 800)
+            cut = page.evaluate(CUT_CELLS)
+            check(f"{name}, nothing is cut at {width} px", not cut, cut)
+    page.resize(1280, 800)
+
+
 def test_links(page, folder):
     """Other links: cooked capture v2, and one that the walk does not know."""
-    sll2 = bytes.fromhex("0806 0000 00000003 0001 00 06 0200000000010000".replace(" ", "") + SLL[32:])
     page.open(INDEX)
-    drop(page, folder, "any.pcap", classic([(1700000000, sll2, 48)], link=276))
+    drop(page, folder, "any.pcap", classic([(1700000000, bytes.fromhex(SLL2), 48)], link=276))
     headers = tree(page)
     names = [header[:2] for header in headers]
     check("cooked capture v2", names == [["Linux cooked capture v2", "0 to 20"], ["ARP", "20 to 48"]], names)
@@ -181,7 +132,7 @@ def test_links(page, folder):
     check("cooked capture v2, fields", fields == expected, fields)
     page.open(INDEX)
     drop(page, folder, "raw.pcap", classic([(1700000000, b"E", 1)], link=101))
-    check("another link", page.evaluate(LIST)[0][4] == "link type 101", page.evaluate(LIST))
+    check("another link", page.evaluate(LIST)[0][3:] == ["", "", "1", "link type 101"], page.evaluate(LIST))
 
 
 def test_keys_and_marks(page, folder):
@@ -192,10 +143,12 @@ def test_keys_and_marks(page, folder):
     for key, row in [("ArrowDown", "1"), ("End", "2"), ("ArrowUp", "1"), ("Home", "0")]:
         page.press(key)
         check(f"key {key}", page.evaluate(chosen) == row, page.evaluate(chosen))
-    marked = "[...document.querySelectorAll('#dump span.marked')].map(cell => Number(cell.dataset.at))"
+    marked = "[...document.querySelectorAll('.hex .marked')].map(cell => Number(cell.dataset.at))"
+    letters = marked.replace("hex", "text")
     page.point("#headers details:nth-child(2) li:nth-child(3)")
     check("a field marks its bytes", page.evaluate(marked) == [14, 15], page.evaluate(marked))
-    page.point("#dump span:nth-child(17)")
+    check("a field marks its text", page.evaluate(letters) == [14, 15], page.evaluate(letters))
+    page.point(".hex [data-at='16']")
     names = page.evaluate("[...document.querySelectorAll('#headers li.marked .name')].map(name => name.innerText)")
     check("a byte marks its fields", names == ["Payload", "EtherType"], names)
     page.point("h1")
@@ -203,7 +156,7 @@ def test_keys_and_marks(page, folder):
     check("a field with the focus marks its bytes", page.evaluate(marked) == [0, 1, 2, 3, 4, 5], page.evaluate(marked))
     page.click(".row:nth-child(2)")
     check("a click", page.evaluate(chosen) == "1", page.evaluate(chosen))
-    colors = page.evaluate("[...document.querySelectorAll('#dump span')].map(cell => cell.className)")
+    colors = page.evaluate("[...document.querySelectorAll('.hex span')].map(cell => cell.className)")
     check("bytes by header", colors == ["kind1"] * 14 + ["left"] * 2, colors)
 
 
@@ -212,12 +165,39 @@ def test_selection(page, folder):
     drop(page, folder, "selection.pcap", classic(PACKETS))
     selected = "document.querySelector('#selected').innerText"
     for expression, numbers, said in [("vlan", ["1", "3"], "2 of 3 packets"), ("vlan 291 and arp", ["1"], "1 of 3 packets"),
-                                      ("cut", ["2", "3"], "2 of 3 packets"), ("ip6", [], "0 of 3 packets"),
-                                      ("vlan and", [], "At byte 8: expected a primitive, `not` or `(`.")]:
+                                      ("cut", ["2", "3"], "2 of 3 packets"), ("ip6", [], "No packet matches: 0 of 3 packets")]:
         page.evaluate("document.querySelector('#expression').value = ''; document.querySelector('#expression').focus()")
         page.write(expression)
         rows = [row[0] for row in page.evaluate(LIST)]
         check(f"select {expression}", (rows, page.evaluate(selected)) == (numbers, said), (rows, page.evaluate(selected)))
+        check(f"select {expression}, in the list", page.evaluate("document.querySelector('#none').hidden") == bool(numbers))
+
+
+def test_wrong_selection(page, folder):
+    """A wrong filter is told of beside it, with the place and the reason, and the list is that of the one before it."""
+    page.open(INDEX)
+    drop(page, folder, "wrong.pcap", classic(PACKETS))
+    for before, expression, reason, word in [
+            ("", "vlan and", "At byte 8: expected a primitive, `not` or `(`.", "…"),
+            ("vlan", " vlan 5000", "At byte 6: expected a number up to 4095.", "5000"),
+            ("cut", "cut or frob 3", "At byte 7: expected a primitive, `not` or `(`.", "frob")]:
+        page.evaluate("document.querySelector('#expression').value = ''; document.querySelector('#expression').focus()")
+        page.write(before)
+        rows = page.evaluate(LIST)
+        page.evaluate("document.querySelector('#expression').value = ''; 0")
+        page.write(expression)
+        said = page.evaluate("document.querySelector('#selected').textContent")
+        check(f"wrong {expression}", said.startswith(reason) and said.endswith("The list is unchanged."), said)
+        marked = page.evaluate("document.querySelector('#selected mark').textContent")
+        check(f"wrong {expression}, place", marked == word, marked)
+        check(f"wrong {expression}, list", page.evaluate(LIST) == rows, page.evaluate(LIST))
+    near = page.evaluate("""(() => {
+        const [field, told] = ['expression', 'selected'].map(id => document.getElementById(id).getBoundingClientRect());
+        return [told.left - field.left, told.top - field.bottom, told.height > 0]; })()""")
+    check("told below the field", abs(near[0]) < 10 and 0 <= near[1] < 20 and near[2], near)
+    page.evaluate("document.querySelector('#expression').value = ''; 0")
+    page.write("arp")
+    check("a filter after a wrong one", page.evaluate("document.querySelector('#selected').innerText") == "1 of 3 packets")
 
 
 def test_input(page):
@@ -297,6 +277,24 @@ def test_beside(page, folder):
     check("Back to the capture", state(page) == third, state(page))
 
 
+def test_back_to_place(page, folder):
+    """Back leads to the list as it was scrolled, also where the packet that was chosen is not seen."""
+    page.open(INDEX)
+    drop(page, folder, "place.pcap", classic(PACKETS * 200))
+    page.click(".row:nth-child(3)")
+    page.evaluate("document.querySelector('#scroll').scrollTop = 2800; 0")
+    page.wait("document.querySelector('.row .number').innerText === '101'")
+    place = """[document.querySelector('#scroll').scrollTop, document.querySelector('.row .number').innerText,
+        document.querySelector('#about').innerText.split(' · ')[0], document.querySelector('#digits').value]"""
+    before = page.evaluate(place)
+    check("a place", before == [2800, "101", "Packet 3", ""], before)
+    for name, action in [("digits", lambda: type_digits(page, CUT)), ("the link", lambda: go(page, page.evaluate, CLICK_LINK))]:
+        action()
+        check(f"{name}, a frame", page.evaluate("document.querySelector('#about').innerText").startswith("Frame"))
+        back(page)
+        check(f"Back to the place from {name}", page.evaluate(place) == before, page.evaluate(place))
+
+
 def test_beside_selection(page, folder):
     """A frame beside packets that are selected, and another capture after it."""
     page.open(f"{INDEX}#eth:{IPV4}")
@@ -355,11 +353,23 @@ def test_accessible(page, folder):
     page.call("Page.setInterceptFileChooserDialog", enabled=False)
     drop(page, folder, "accessible.pcap", classic(PACKETS))
     found = accessible(page)
-    for control in [("RootWebArea", "accessible.pcap, packet 1 · Packet headers"), ("listbox", "Packets"), ("region", "Headers"), ("region", "Bytes"),
+    for control in [("RootWebArea", "accessible.pcap, packet 1 · Packet headers"), ("grid", "Packets"), ("region", "Headers"), ("region", "Bytes"),
                     ("textbox", "An expression that selects packets"), ("link", "link to this frame")]:
         check(f"the {control[0]} {control[1]}", control in found, found)
-    rows = [name for role, name in found if role == "option"][-3:]
-    check("the packets", rows == [" ".join(row[:1] + row[2:]) for row in ROWS], rows)
+    heads = [name for role, name in found if role == "columnheader"]
+    check("the headings", heads == HEADINGS, heads)
+    cells = [name for role, name in found if role == "gridcell"]
+    check("the packets", cells == sum(ROWS, []), cells)
+    scopes = page.evaluate("[...document.querySelectorAll('#list th')].map(head => head.scope)")
+    check("the scopes of the headings", scopes == ["col"] * len(HEADINGS), scopes)
+    counted = page.evaluate("[document.querySelector('#list').ariaRowCount, "
+                            "[...document.querySelectorAll('.row')].map(row => row.ariaRowIndex)]")
+    check("the rows are counted with that of the headings", counted == ["4", ["2", "3", "4"]], counted)
+    page.evaluate("document.querySelector('#list').focus()")
+    page.press("ArrowDown")
+    active = page.evaluate("document.getElementById(document.querySelector('#list').getAttribute('aria-activedescendant'))"
+                           ".children[0].textContent")
+    check("the row that is told of", active == "2", active)
 
 
 def test_many(page, folder):
@@ -377,7 +387,7 @@ def test_many(page, folder):
     page.press("End")
     last = page.evaluate("document.querySelector('.row:last-child').innerText")
     check("100,000 packets, last row", last.startswith("100,000"), last)
-    page.evaluate("document.querySelector('#list').scrollTop = document.querySelector('#height').offsetHeight / 2")
+    page.evaluate("document.querySelector('#scroll').scrollTop = document.querySelector('#height').offsetHeight / 2")
     page.wait("document.querySelector('.row .number').innerText.startsWith('50,') || document.querySelector('.row .number').innerText.startsWith('49,')")
     check("100,000 packets, in the middle", True)
     begin = time.monotonic()
@@ -392,8 +402,87 @@ def test_long(page, folder):
     page.open(INDEX)
     drop(page, folder, "long.pcap", classic([(1700000000, bytes.fromhex(IPV4) + bytes(200_000), 200_016)]))
     page.evaluate("document.querySelector('#dump button').click()")
-    shown = page.evaluate("[document.querySelectorAll('#dump span').length, document.querySelector('#dump button') === null]")
+    shown = page.evaluate("[document.querySelectorAll('.hex span').length, document.querySelector('#dump button') === null]")
     check("a long packet", shown == [200_016, True], shown)
+
+
+LINES = """[...document.querySelectorAll('.bytes')].map(line => [line.querySelector('.offset').innerText,
+    [...line.querySelectorAll('.hex span')].map(byte => byte.innerText).join(' '), line.querySelector('.text').textContent])"""
+
+
+def test_bytes(page):
+    """Offsets and ASCII beside the bytes, as `hexdump -C` lays them out, but for the offsets, which are decimal."""
+    page.open(f"{INDEX}#eth:" + digits("020000000001 020000000002 0800 45 1f 20 7e 7f 80 48692074 68657265 ff"))
+    lines = [["0", "02 00 00 00 00 01 02 00 00 00 00 02 08 00 45 1f", "..............E."],
+             ["16", "20 7e 7f 80 48 69 20 74 68 65 72 65 ff", " ~..Hi there."]]
+    check("bytes", page.evaluate(LINES) == lines, page.evaluate(LINES))
+    edges = "[...new Set([...document.querySelectorAll('.bytes .text')].map(text => text.getBoundingClientRect().left))].length"
+    check("the text is a column", page.evaluate(edges) == 1)
+    copied = page.evaluate("getSelection().selectAllChildren(document.querySelector('#dump')); getSelection().toString()")
+    check("digits alone are copied", "".join(copied.split()) == "".join(line[1].replace(" ", "") for line in lines), copied)
+    page.resize(320, 720)
+    narrow = [["0", "02 00 00 00 00 01 02 00", "........"], ["8", "00 00 00 02 08 00 45 1f", "......E."],
+              ["16", "20 7e 7f 80 48 69 20 74", " ~..Hi t"], ["24", "68 65 72 65 ff", "here."]]
+    page.wait("document.querySelectorAll('.bytes').length === 4")
+    check("bytes, 320 px", page.evaluate(LINES) == narrow, page.evaluate(LINES))
+    check("bytes, 320 px, seen", page.evaluate("document.querySelector('#dump').scrollWidth <= document.querySelector('#dump').clientWidth"))
+    page.resize(1280, 800)
+
+
+def told(page, *paths):
+    """Drops files of which something is told, and returns what."""
+    page.evaluate("window.page.notice('')")
+    page.drop(*paths)
+    page.wait("!document.querySelector('#notice').hidden")
+    return page.evaluate("document.querySelector('#notice').innerText")
+
+
+def save(folder, name, data):
+    with open(f"{folder}/{name}", "wb") as file:
+        file.write(data)
+    return f"{folder}/{name}"
+
+
+def test_compressed(page, folder):
+    """A capture that gzip compressed is decompressed; other ways of compression are named."""
+    data = classic(PACKETS)
+    page.open(INDEX)
+    drop(page, folder, "packed.pcap.gz", gzip.compress(data))
+    check("gzip, list", page.evaluate(LIST) == ROWS, page.evaluate(LIST))
+    check("gzip, nothing is told", page.evaluate("document.querySelector('#notice').hidden"))
+    drop(page, folder, "fault.pcap.gz", gzip.compress(data[:-3]))
+    said = page.evaluate("document.querySelector('#ending').innerText")
+    check("gzip, a fault", said.startswith("At byte 118: ") and said.endswith(" Offsets count bytes of the decompressed file."), said)
+    compressed = gzip.compress(data)
+    for name, data, way, tool in [
+            ("cut.gz", compressed[:-9], "gzip", "gunzip"), ("bad.gz", compressed[:-8] + bytes(8), "gzip", "gunzip"),
+            ("two.gz", compressed * 2, "gzip", "gunzip"), ("head.gz", b"\x1f\x8b", "gzip", "gunzip"),
+            ("other.bz2", bz2.compress(data), "bzip2", "bunzip2"), ("other.xz", lzma.compress(data), "xz", "unxz"),
+            ("other.zst", bytes.fromhex("28b52ffd"), "zstd", "unzstd"), ("other.lz4", bytes.fromhex("04224d18"), "lz4", "unlz4")]:
+        said = told(page, save(folder, name, data))
+        begin, end = f"{name} could not be read: it is compressed with {way}", f"Decompress it first, as {tool} does."
+        check(f"{name}, told", said.startswith(begin) and said.endswith(end), said)
+        check(f"{name}, the capture is kept", page.evaluate("document.title").startswith("fault.pcap.gz"))
+
+
+def test_files(page, folder):
+    """Of several files that are dropped the first is opened, and the page says so; of two in turn the second."""
+    one, two = save(folder, "one.pcap", classic(PACKETS)), save(folder, "two.pcap", classic(PACKETS[:1]))
+    bad = save(folder, "bad.pcap", b"no capture")
+    page.open(INDEX)
+    said = told(page, one, two)
+    check("two files", said == "2 files were dropped; only the first, one.pcap, was opened.", said)
+    check("two files, list", page.evaluate(LIST) == ROWS and page.evaluate("document.title").startswith("one.pcap"))
+    said = told(page, bad, one, two)
+    check("three files", said.startswith("bad.pcap has no packets. At byte 0: ")
+          and said.endswith(" 3 files were dropped; only the first, bad.pcap, was opened."), said)
+    drop(page, folder, "two.pcap", classic(PACKETS[:1]))
+    check("one file, nothing is told", page.evaluate("document.querySelector('#notice').hidden"))
+    page.drop(save(folder, "slow.gz", gzip.compress(classic(PACKETS * 100_000), 1)))
+    page.drop(one)
+    page.wait("document.title.startsWith('one.pcap')")
+    page.evaluate("new Promise(done => setTimeout(done, 1500))")
+    check("a file after one that takes longer", page.evaluate(LIST) == ROWS, page.evaluate("document.title"))
 
 
 def test_old_browser(page):
@@ -492,10 +581,11 @@ def main():
     else:
         with Page() as page, tempfile.TemporaryDirectory() as folder:
             test_examples(page)
-            for test in [test_captures, test_links, test_keys_and_marks, test_selection, test_beside, test_beside_selection, test_accessible,
-                         test_many, test_long, test_narrow, test_against_tshark]:
+            for test in [test_captures, test_rows, test_links, test_keys_and_marks, test_selection, test_wrong_selection,
+                         test_beside, test_back_to_place, test_beside_selection, test_accessible, test_compressed,
+                         test_files, test_many, test_long, test_narrow, test_against_tshark]:
                 test(page, folder)
-            for test in [test_input, test_old_browser, test_silence]:
+            for test in [test_bytes, test_input, test_old_browser, test_silence]:
                 test(page)
             if given.pictures:
                 pictures(page, given.pictures, folder)
