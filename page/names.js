@@ -3,8 +3,8 @@
 const ETHER_TYPES = {
   0x0800: "IPv4", 0x0806: "ARP", 0x0842: "Wake-on-LAN", 0x8035: "RARP", 0x8100: "VLAN tag", 0x86dd: "IPv6",
   0x8808: "flow control", 0x8809: "slow protocols", 0x8847: "MPLS", 0x8848: "MPLS, multicast",
-  0x8863: "PPPoE discovery", 0x8864: "PPPoE session", 0x888e: "EAPOL", 0x88a8: "service VLAN tag", 0x88cc: "LLDP", 0x88e5: "MACsec",
-  0x88f7: "PTP", 0x8906: "FCoE", 0x9100: "VLAN tag",
+  0x8863: "PPPoE discovery", 0x8864: "PPPoE session", 0x888e: "EAPOL", 0x88a8: "service VLAN tag", 0x88cc: "LLDP",
+  0x88e5: "MACsec", 0x88f7: "PTP", 0x8906: "FCoE", 0x9100: "VLAN tag",
 };
 const HARDWARE_TYPES = {
   1: "Ethernet", 512: "PPP", 768: "IP tunnel", 772: "loopback", 776: "IPv6 in IPv4", 778: "GRE over IP",

@@ -3,9 +3,9 @@
 
     python3 page/test.py [--proved] [--pictures FOLDER]
 
-Tests page/out/index.html, which `sh page/build.sh` makes; with --proved it is made first, over crates that are proved. With --pictures its states are
-saved as pictures, light and dark, wide and narrow. The last line is 'N passed, M failed'; without a browser (on Debian `apt-get install chromium`) a
-line says so, and nothing is tested.
+Tests page/out/index.html, which `sh page/build.sh` makes; with --proved it is made first, over crates that are proved.
+With --pictures its states are saved as pictures, light and dark, wide and narrow. The last line is 'N passed, M
+failed'; without a browser (on Debian `apt-get install chromium`) a line says so, and nothing is tested.
 """
 
 import argparse
@@ -22,32 +22,10 @@ from shutil import which
 
 from browser import Page, browser
 from examples import (ARP_IN_VLAN, CUT, EXAMPLES, HEADINGS, IPV4, PACKETS, ROWS, SLL, SLL2, classic, digits, pcapng)
+from user import (ENDING, INDEX, LINES, LIST, accessible, back, check, counts, drop, follow_link, is_hidden, pause, save,
+                  state, text, told, tree, type_digits, write_expression)
 
 TOP = os.path.dirname(os.path.abspath(__file__))
-INDEX = f"file://{TOP}/out/index.html"
-counts = {True: 0, False: 0}
-
-
-def check(what, holds, said=""):
-    counts[bool(holds)] += 1
-    if not holds:
-        print(f"page: {what}: {said}")
-
-
-# ---- what the page shows
-
-TREE = """[...document.querySelectorAll('#headers details')].map(node => [
-    node.querySelector('summary b').innerText, node.querySelector('summary').innerText.slice(node.querySelector('summary b').innerText.length).trim(),
-    Object.fromEntries([...node.querySelectorAll('li')].map(row => [row.querySelector('.name').innerText, row.querySelector('.value').innerText]))])"""
-ENDING = "(document.querySelector('#headers .rest, #headers .fault') ?? {innerText: ''}).innerText"
-LIST = "[...document.querySelectorAll('.row')].map(row => [...row.children].map(cell => cell.textContent))"
-
-
-def tree(page):
-    found = page.evaluate(TREE)
-    for _, _, fields in found:
-        fields.pop("Payload", None)
-    return found
 
 
 def test_examples(page):
@@ -58,33 +36,24 @@ def test_examples(page):
         check(f"{name}, ending", said.startswith(ending) or said == ending, said)
 
 
-def drop(page, folder, name, data):
-    path = f"{folder}/{name}"
-    with open(path, "wb") as file:
-        file.write(data)
-    page.drop(path)
-    page.wait(f"document.title.startsWith({name!r})")
-
-
 def test_captures(page, folder):
-    for name, data in [("classic.pcap", classic(PACKETS)), ("little.pcap", classic(PACKETS, order="<")), ("blocks.pcapng", pcapng(PACKETS))]:
+    for name, data in [("classic.pcap", classic(PACKETS)), ("little.pcap", classic(PACKETS, order="<")),
+                       ("blocks.pcapng", pcapng(PACKETS))]:
         page.open(INDEX)
         drop(page, folder, name, data)
         check(f"{name}, list", page.evaluate(LIST) == ROWS, page.evaluate(LIST))
         check(f"{name}, first packet", tree(page) == EXAMPLES[0][2], tree(page))
-        check(f"{name}, whole", page.evaluate("document.querySelector('#ending').hidden"))
+        check(f"{name}, whole", is_hidden(page, "#ending"))
     page.open(INDEX)
     drop(page, folder, "cut.pcap", classic(PACKETS)[:-3])
     check("cut.pcap, list", page.evaluate(LIST) == ROWS[:2], page.evaluate(LIST))
-    said = page.evaluate("document.querySelector('#ending').innerText")
+    said = text(page, "#ending")
     check("cut.pcap, where it ends", said.startswith("At byte 118: "), said)
     drop(page, folder, "no.pcap", b"no capture")
-    said = page.evaluate("document.querySelector('#notice').innerText")
+    said = text(page, "#notice")
     check("no capture", said.startswith("no.pcap has no packets. At byte 0: "), said)
     page.open(INDEX)
-    with open(f"{folder}/chosen.pcap", "wb") as file:
-        file.write(classic(PACKETS))
-    page.choose("#file", f"{folder}/chosen.pcap")
+    page.choose("#file", save(folder, "chosen.pcap", classic(PACKETS)))
     page.wait("document.title.startsWith('chosen.pcap')")
     check("a chosen file", page.evaluate(LIST) == ROWS, page.evaluate(LIST))
 
@@ -95,19 +64,24 @@ CUT_CELLS = """[...document.querySelectorAll('#list th, #list td:not(.line)')]
 
 def test_rows(page, folder):
     """Addresses, days and times in the rows, none of them cut."""
-    cooked = lambda length, address: bytes.fromhex(digits("0000 0001") + length + address + digits("0800 4500"))
-    ends = [(253402300800, bytes.fromhex(IPV4), 16)]
+    def linked(link, frame, length=262144):
+        return classic([(1700000000, bytes.fromhex(digits(frame)), length)], link=link)
+
+    v2 = "0800 0000 00000003 0001 00"
+    far = pcapng([(253402300800, bytes.fromhex(IPV4), 16)])
     nano = classic(PACKETS[1:2], magic=0xA1B23C4D, fraction=123456789)
+    when = ROWS[0][1:3]
     for name, data, row in [
-            ("sll.pcap", classic([(1700000000, bytes.fromhex(SLL), 44)], link=113), ROWS[0][1:3] + ["02:00:00:00:00:01", ""]),
-            ("sll2.pcap", classic([(1700000000, bytes.fromhex(SLL2), 48)], link=276), ROWS[0][1:3] + ["02:00:00:00:00:01", ""]),
-            ("four.pcap", classic([(1700000000, cooked("0004", "c000020100000000"), 18)], link=113), ROWS[0][1:3] + ["c0:00:02:01", ""]),
-            ("none.pcap", classic([(1700000000, cooked("0000", "0000000000000000"), 18)], link=113), ROWS[0][1:3] + ["", ""]),
-            ("long.pcap", classic([(1700000000, cooked("0014", "0102030405060708"), 18)], link=113),
-             ROWS[0][1:3] + ["01:02:03:04:05:06:07:08", ""]),
-            ("short.pcap", classic([(1700000000, bytes(13), 262144)]), ROWS[0][1:3] + ["", ""]),
-            ("nano.pcap", nano, ["2023-11-14", "22:13:21.123456789"] + ROWS[1][3:5]),
-            ("far.pcapng", pcapng(ends), ["+010000-01-01", "00:00:00.000005"] + ROWS[1][3:5])]:
+            ("six.pcap", linked(113, SLL), [*when, "02:00:00:00:00:01", ""]),
+            ("four.pcap", linked(113, "0000 0001 0004 c000020100000000 0800"), [*when, "c0:00:02:01", ""]),
+            ("none.pcap", linked(113, "0000 0001 0000 0000000000000000 0800"), [*when, "", ""]),
+            ("long.pcap", linked(113, "0000 0001 0014 0102030405060708 0800"), [*when, "01:02:03:04:05:06:07:08", ""]),
+            ("six2.pcap", linked(276, SLL2), [*when, "02:00:00:00:00:01", ""]),
+            ("four2.pcap", linked(276, v2 + "04 c000020100000000"), [*when, "c0:00:02:01", ""]),
+            ("long2.pcap", linked(276, v2 + "14 0102030405060708"), [*when, "01:02:03:04:05:06:07:08", ""]),
+            ("short.pcap", linked(1, IPV4[:26]), [*when, "", ""]),
+            ("nano.pcap", nano, ["2023-11-14", "22:13:21.123456789", *ROWS[1][3:5]]),
+            ("far.pcapng", far, ["+010000-01-01", "00:00:00.000005", *ROWS[1][3:5]])]:
         page.open(INDEX)
         drop(page, folder, name, data)
         found = page.evaluate(LIST)[0][1:5]
@@ -127,8 +101,9 @@ def test_links(page, folder):
     names = [header[:2] for header in headers]
     check("cooked capture v2", names == [["Linux cooked capture v2", "0 to 20"], ["ARP", "20 to 48"]], names)
     fields = headers[0][2] if headers else {}
-    expected = {"Protocol type": "0x0806 (ARP)", "Reserved": "0", "Interface index": "3", "ARPHRD type": "1 (Ethernet)", "Packet type": "0 (to us)",
-                "Address length": "6", "Address": "02:00:00:00:00:01:00:00"}
+    expected = {"Protocol type": "0x0806 (ARP)", "Reserved": "0", "Interface index": "3",
+                "ARPHRD type": "1 (Ethernet)", "Packet type": "0 (to us)", "Address length": "6",
+                "Address": "02:00:00:00:00:01:00:00"}
     check("cooked capture v2, fields", fields == expected, fields)
     page.open(INDEX)
     drop(page, folder, "raw.pcap", classic([(1700000000, b"E", 1)], link=101))
@@ -163,41 +138,42 @@ def test_keys_and_marks(page, folder):
 def test_selection(page, folder):
     page.open(INDEX)
     drop(page, folder, "selection.pcap", classic(PACKETS))
-    selected = "document.querySelector('#selected').innerText"
-    for expression, numbers, said in [("vlan", ["1", "3"], "2 of 3 packets"), ("vlan 291 and arp", ["1"], "1 of 3 packets"),
-                                      ("cut", ["2", "3"], "2 of 3 packets"), ("ip6", [], "No packet matches: 0 of 3 packets")]:
-        page.evaluate("document.querySelector('#expression').value = ''; document.querySelector('#expression').focus()")
-        page.write(expression)
+    for expression, numbers, said in [
+            ("vlan", ["1", "3"], "2 of 3 packets"), ("vlan 291 and arp", ["1"], "1 of 3 packets"),
+            ("cut", ["2", "3"], "2 of 3 packets"), ("ip6", [], "No packet matches: 0 of 3 packets")]:
+        write_expression(page, expression)
         rows = [row[0] for row in page.evaluate(LIST)]
-        check(f"select {expression}", (rows, page.evaluate(selected)) == (numbers, said), (rows, page.evaluate(selected)))
-        check(f"select {expression}, in the list", page.evaluate("document.querySelector('#none').hidden") == bool(numbers))
+        found = (rows, text(page, "#selected"))
+        check(f"select {expression}", found == (numbers, said), found)
+        check(f"select {expression}, in the list", is_hidden(page, "#none") == bool(numbers))
 
 
 def test_wrong_selection(page, folder):
-    """A wrong filter is told of beside it, with the place and the reason, and the list is that of the one before it."""
+    """Why and where a filter is wrong stands below its field, and the list is that of the filter before it."""
     page.open(INDEX)
     drop(page, folder, "wrong.pcap", classic(PACKETS))
     for before, expression, reason, word in [
             ("", "vlan and", "At byte 8: expected a primitive, `not` or `(`.", "…"),
             ("vlan", " vlan 5000", "At byte 6: expected a number up to 4095.", "5000"),
             ("cut", "cut or frob 3", "At byte 7: expected a primitive, `not` or `(`.", "frob")]:
-        page.evaluate("document.querySelector('#expression').value = ''; document.querySelector('#expression').focus()")
-        page.write(before)
+        write_expression(page, before)
         rows = page.evaluate(LIST)
-        page.evaluate("document.querySelector('#expression').value = ''; 0")
-        page.write(expression)
+        write_expression(page, expression)
         said = page.evaluate("document.querySelector('#selected').textContent")
         check(f"wrong {expression}", said.startswith(reason) and said.endswith("The list is unchanged."), said)
         marked = page.evaluate("document.querySelector('#selected mark').textContent")
         check(f"wrong {expression}, place", marked == word, marked)
         check(f"wrong {expression}, list", page.evaluate(LIST) == rows, page.evaluate(LIST))
     near = page.evaluate("""(() => {
-        const [field, told] = ['expression', 'selected'].map(id => document.getElementById(id).getBoundingClientRect());
+        const rectangle = (id) => document.getElementById(id).getBoundingClientRect();
+        const [field, told] = [rectangle('expression'), rectangle('selected')];
         return [told.left - field.left, told.top - field.bottom, told.height > 0]; })()""")
     check("told below the field", abs(near[0]) < 10 and 0 <= near[1] < 20 and near[2], near)
-    page.evaluate("document.querySelector('#expression').value = ''; 0")
-    page.write("arp")
-    check("a filter after a wrong one", page.evaluate("document.querySelector('#selected').innerText") == "1 of 3 packets")
+    [described] = [node["description"]["value"] for node in page.call("Accessibility.getFullAXTree")["nodes"]
+                   if node.get("name", {}).get("value") == "An expression that selects packets"]
+    check("the field is described by it", described.startswith("At byte 7: expected"), described)
+    write_expression(page, "arp")
+    check("a filter after a wrong one", text(page, "#selected") == "1 of 3 packets")
 
 
 def test_input(page):
@@ -207,39 +183,7 @@ def test_input(page):
     check("pasted digits", page.evaluate("document.querySelector('#headers .fault') !== null"))
     check("the address of a frame", page.evaluate("location.hash") == f"#eth:{CUT}", page.evaluate("location.hash"))
     page.write("x")
-    check("no digits", "hexadecimal" in page.evaluate("document.querySelector('#notice').innerText"))
-
-
-ADDRESS = "location.hash"
-CLICK_LINK = "document.querySelector('#about a').click()"
-ROWS_AND_CHOSEN = "[document.querySelectorAll('.row').length, [...document.querySelectorAll('.row[aria-selected=true]')].map(row => row.dataset.row)]"
-
-
-def state(page):
-    """What the page shows: how many rows with those that are selected, the headers' names, the title and the address."""
-    return [page.evaluate(ROWS_AND_CHOSEN), [header[0] for header in tree(page)], page.evaluate("document.title"), page.evaluate(ADDRESS)]
-
-
-def go(page, action, *words):
-    """Does what changes the page's address, and waits until the page has seen it."""
-    page.evaluate("""window.gone = new Promise(done => {
-        addEventListener('hashchange', () => setTimeout(done), {once: true});
-        setTimeout(done, 10000);
-    }); 0""")
-    action(*words)
-    page.evaluate("window.gone")
-
-
-def back(page, steps=-1):
-    """The browser's Back, or Forward."""
-    go(page, page.evaluate, f"history.go({steps})")
-
-
-def type_digits(page, text):
-    """Types into the field for a frame, a digit at a time."""
-    page.evaluate("document.querySelector('#digits').focus()")
-    for digit in text:
-        page.write(digit)
+    check("no digits", "hexadecimal" in text(page, "#notice"))
 
 
 def test_beside(page, folder):
@@ -252,21 +196,24 @@ def test_beside(page, folder):
     type_digits(page, CUT[0])
     check("one digit", state(page) == packet, state(page))
     type_digits(page, CUT[1:])
-    frame = [[3, []], ["Ethernet II"], "Frame of 15 bytes: not read further · beside.pcap · Packet headers", f"#eth:{CUT}"]
+    title = "Frame of 15 bytes: not read further · beside.pcap · Packet headers"
+    frame = [[3, []], ["Ethernet II"], title, f"#eth:{CUT}"]
     check("a typed frame", state(page) == frame, state(page))
     back(page)
     check("Back from a typed frame", state(page) == packet, state(page))
     check("Back empties the field", page.evaluate("document.querySelector('#digits').value") == "")
     back(page, 1)
     check("Forward to it", state(page) == frame, state(page))
-    go(page, page.evaluate, CLICK_LINK)
+    follow_link(page)
     check("back to the capture", state(page) == packet, state(page))
-    check("the list has the focus", page.evaluate("document.activeElement.id") == "list", page.evaluate("document.activeElement.id"))
+    focused = page.evaluate("document.activeElement.id")
+    check("the list has the focus", focused == "list", focused)
     page.press("ArrowUp")
     first = [[3, ["0"]], ["Ethernet II", "VLAN tag", "ARP"], "beside.pcap, packet 1 · Packet headers", ""]
     check("another packet", state(page) == first, state(page))
-    go(page, page.evaluate, CLICK_LINK)
-    linked = [[3, []], first[1], "Frame of 46 bytes: VLAN 291 › ARP · beside.pcap · Packet headers", f"#eth:{ARP_IN_VLAN}"]
+    follow_link(page)
+    title = "Frame of 46 bytes: VLAN 291 › ARP · beside.pcap · Packet headers"
+    linked = [[3, []], first[1], title, f"#eth:{ARP_IN_VLAN}"]
     check("the link to a frame", state(page) == linked, state(page))
     page.click(".row:nth-child(3)")
     third = [[3, ["2"]], ["Ethernet II", "VLAN tag"], "beside.pcap, packet 3 · Packet headers", ""]
@@ -288,9 +235,9 @@ def test_back_to_place(page, folder):
         document.querySelector('#about').innerText.split(' · ')[0], document.querySelector('#digits').value]"""
     before = page.evaluate(place)
     check("a place", before == [2800, "101", "Packet 3", ""], before)
-    for name, action in [("digits", lambda: type_digits(page, CUT)), ("the link", lambda: go(page, page.evaluate, CLICK_LINK))]:
+    for name, action in [("digits", lambda: type_digits(page, CUT)), ("the link", lambda: follow_link(page))]:
         action()
-        check(f"{name}, a frame", page.evaluate("document.querySelector('#about').innerText").startswith("Frame"))
+        check(f"{name}, a frame", text(page, "#about").startswith("Frame"))
         back(page)
         check(f"Back to the place from {name}", page.evaluate(place) == before, page.evaluate(place))
 
@@ -301,60 +248,67 @@ def test_beside_selection(page, folder):
     alone = [[0, []], ["Ethernet II"], "Frame of 16 bytes: IPv4 · Packet headers", f"#eth:{IPV4}"]
     check("a frame alone", state(page) == alone, state(page))
     drop(page, folder, "first.pcap", classic(PACKETS))
-    page.evaluate("document.querySelector('#expression').focus()")
-    page.write("cut")
+    write_expression(page, "cut")
     type_digits(page, CUT)
-    check("beside a selection", page.evaluate("[...document.querySelectorAll('.row .number')].map(cell => cell.textContent)") == ["2", "3"])
+    check("beside a selection", [row[0] for row in page.evaluate(LIST)] == ["2", "3"])
     back(page)
     selected = [[2, ["0"]], ["Ethernet II"], "first.pcap, packet 2 · Packet headers", ""]
     check("Back to a selection", state(page) == selected, state(page))
-    page.evaluate("document.querySelector('#expression').value = ''; document.querySelector('#expression').focus()")
-    page.write("ip6")
-    none, is_hidden = [[0, []], "first.pcap · Packet headers"], "document.querySelector('#frame').hidden"
-    check("none selected", state(page)[0::2] == none and page.evaluate(is_hidden), state(page))
+    write_expression(page, "ip6")
+    none = [[0, []], "first.pcap · Packet headers"]
+    check("none selected", state(page)[0::2] == none and is_hidden(page, "#frame"), state(page))
     type_digits(page, CUT)
-    check("a frame beside none", state(page)[0] == [0, []] and not page.evaluate(is_hidden), state(page))
+    check("a frame beside none", state(page)[0] == [0, []] and not is_hidden(page, "#frame"), state(page))
     back(page)
-    check("Back to none", state(page)[0::2] == none and page.evaluate(is_hidden), state(page))
+    check("Back to none", state(page)[0::2] == none and is_hidden(page, "#frame"), state(page))
     type_digits(page, CUT)
     drop(page, folder, "second.pcap", classic(PACKETS[1:2]))
     second = [[1, ["0"]], ["Ethernet II"], "second.pcap, packet 1 · Packet headers", ""]
     check("another capture", state(page) == second, state(page))
     back(page)
-    before = [[1, []], ["Ethernet II"], "Frame of 15 bytes: not read further · second.pcap · Packet headers", f"#eth:{CUT}"]
+    title = "Frame of 15 bytes: not read further · second.pcap · Packet headers"
+    before = [[1, []], ["Ethernet II"], title, f"#eth:{CUT}"]
     check("Back to the frame before it", state(page) == before, state(page))
-    page.evaluate("document.querySelector('#digits').value = ''; document.querySelector('#digits').dispatchEvent(new Event('input'))")
+    page.evaluate("""{
+        const field = document.querySelector('#digits');
+        field.value = '';
+        field.dispatchEvent(new Event('input'));
+    }""")
     check("an empty field", state(page) == second, state(page))
     drop(page, folder, "none.pcap", b"no capture")
     parts = page.evaluate("[...document.querySelectorAll('main section')].map(part => part.hidden)")
-    check("no capture", state(page)[2:] == ["none.pcap · Packet headers", ""] and parts == [False, True, True], (state(page), parts))
+    found = (state(page)[2:], parts)
+    check("no capture", found == (["none.pcap · Packet headers", ""], [False, True, True]), found)
 
 
-def accessible(page):
-    """The roles and names of what the accessibility tree has."""
-    nodes = page.call("Accessibility.getFullAXTree")["nodes"]
-    return [(node["role"]["value"], node.get("name", {}).get("value", "")) for node in nodes if not node["ignored"]]
-
-
-def test_accessible(page, folder):
+def test_accessible(page):
     """The controls in the accessibility tree, as a screen reader has them."""
     page.open(INDEX)
     found = accessible(page)
-    for control in [("button", "Open a capture"), ("combobox", "What the frame begins with"), ("textbox", "A frame as hexadecimal digits")]:
+    for control in [("button", "Open a capture"), ("combobox", "What the frame begins with"),
+                    ("textbox", "A frame as hexadecimal digits")]:
         check(f"the {control[0]} {control[1]}", control in found, found)
     page.call("Page.setInterceptFileChooserDialog", enabled=True)
-    for what, press in [("the keyboard", lambda: (page.press("Tab"), page.press("Enter"))), ("the mouse", lambda: page.click("#open"))]:
+    for what, press in [("the keyboard", lambda: (page.press("Tab"), page.press("Enter"))),
+                        ("the mouse", lambda: page.click("#open"))]:
         before, is_asked, end = len(page.events), False, time.monotonic() + 10
         press()
         while not is_asked and time.monotonic() < end:
-            page.evaluate("new Promise(done => setTimeout(done, 20))")
+            pause(page, 0.02)
             is_asked = any(event.get("method") == "Page.fileChooserOpened" for event in page.events[before:])
-        check(f"the first control asks for a file by {what}", is_asked, page.evaluate("document.activeElement.outerHTML"))
+        focused = page.evaluate("document.activeElement.outerHTML")
+        check(f"the first control asks for a file by {what}", is_asked, focused)
     page.call("Page.setInterceptFileChooserDialog", enabled=False)
+
+
+def test_accessible_list(page, folder):
+    """A capture in the accessibility tree."""
+    page.open(INDEX)
     drop(page, folder, "accessible.pcap", classic(PACKETS))
     found = accessible(page)
-    for control in [("RootWebArea", "accessible.pcap, packet 1 · Packet headers"), ("grid", "Packets"), ("region", "Headers"), ("region", "Bytes"),
-                    ("textbox", "An expression that selects packets"), ("link", "link to this frame")]:
+    for control in [("RootWebArea", "accessible.pcap, packet 1 · Packet headers"), ("grid", "Packets"),
+                    ("region", "Headers"), ("region", "Bytes"), ("textbox", "An expression that selects packets"),
+                    ("link", "link to this frame")]:
         check(f"the {control[0]} {control[1]}", control in found, found)
     heads = [name for role, name in found if role == "columnheader"]
     check("the headings", heads == HEADINGS, heads)
@@ -367,9 +321,8 @@ def test_accessible(page, folder):
     check("the rows are counted with that of the headings", counted == ["4", ["2", "3", "4"]], counted)
     page.evaluate("document.querySelector('#list').focus()")
     page.press("ArrowDown")
-    active = page.evaluate("document.getElementById(document.querySelector('#list').getAttribute('aria-activedescendant'))"
-                           ".children[0].textContent")
-    check("the row that is told of", active == "2", active)
+    active = text(page, "#" + page.evaluate("document.querySelector('#list').getAttribute('aria-activedescendant')"))
+    check("the row that is told of", active.split() == ROWS[1][:5] + "16 of 60 IPv4".split(), active)
 
 
 def test_many(page, folder):
@@ -385,16 +338,16 @@ def test_many(page, folder):
     check("100,000 packets, first row within a second", took < 1000, f"{took:.0f} ms")
     page.evaluate("document.querySelector('#list').focus()")
     page.press("End")
-    last = page.evaluate("document.querySelector('.row:last-child').innerText")
+    last = text(page, ".row:last-child")
     check("100,000 packets, last row", last.startswith("100,000"), last)
     page.evaluate("document.querySelector('#scroll').scrollTop = document.querySelector('#height').offsetHeight / 2")
-    page.wait("document.querySelector('.row .number').innerText.startsWith('50,') || document.querySelector('.row .number').innerText.startsWith('49,')")
+    page.wait("/^(49|50),/.test(document.querySelector('.row .number').innerText)")
     check("100,000 packets, in the middle", True)
     begin = time.monotonic()
-    page.evaluate("document.querySelector('#expression').value = ''; document.querySelector('#expression').focus()")
-    page.write("vlan 291")
-    check("100,000 packets, selected", page.evaluate("document.querySelector('#selected').innerText") == "50,000 of 100,000 packets")
-    print(f"page: 100,000 packets: first row after {took:.0f} ms, selected after {(time.monotonic() - begin) * 1000:.0f} ms")
+    write_expression(page, "vlan 291")
+    check("100,000 packets, selected", text(page, "#selected") == "50,000 of 100,000 packets")
+    selected = (time.monotonic() - begin) * 1000
+    print(f"page: 100,000 packets: first row after {took:.0f} ms, selected after {selected:.0f} ms")
 
 
 def test_long(page, folder):
@@ -402,12 +355,9 @@ def test_long(page, folder):
     page.open(INDEX)
     drop(page, folder, "long.pcap", classic([(1700000000, bytes.fromhex(IPV4) + bytes(200_000), 200_016)]))
     page.evaluate("document.querySelector('#dump button').click()")
-    shown = page.evaluate("[document.querySelectorAll('.hex span').length, document.querySelector('#dump button') === null]")
+    shown = page.evaluate("""[document.querySelectorAll('.hex span').length,
+        document.querySelector('#dump button') === null]""")
     check("a long packet", shown == [200_016, True], shown)
-
-
-LINES = """[...document.querySelectorAll('.bytes')].map(line => [line.querySelector('.offset').innerText,
-    [...line.querySelectorAll('.hex span')].map(byte => byte.innerText).join(' '), line.querySelector('.text').textContent])"""
 
 
 def test_bytes(page):
@@ -416,31 +366,22 @@ def test_bytes(page):
     lines = [["0", "02 00 00 00 00 01 02 00 00 00 00 02 08 00 45 1f", "..............E."],
              ["16", "20 7e 7f 80 48 69 20 74 68 65 72 65 ff", " ~..Hi there."]]
     check("bytes", page.evaluate(LINES) == lines, page.evaluate(LINES))
-    edges = "[...new Set([...document.querySelectorAll('.bytes .text')].map(text => text.getBoundingClientRect().left))].length"
-    check("the text is a column", page.evaluate(edges) == 1)
-    copied = page.evaluate("getSelection().selectAllChildren(document.querySelector('#dump')); getSelection().toString()")
-    check("digits alone are copied", "".join(copied.split()) == "".join(line[1].replace(" ", "") for line in lines), copied)
+    edges = page.evaluate("""[...document.querySelectorAll('.bytes .text')].map(
+        text => text.getBoundingClientRect().left)""")
+    check("the text is a column", len(edges) == 2 and edges[0] == edges[1], edges)
+    page.evaluate("getSelection().selectAllChildren(document.querySelector('#dump'))")
+    copied = page.evaluate("getSelection().toString()").split()
+    check("digits alone are copied", copied == [line[1].replace(" ", "") for line in lines], copied)
     page.resize(320, 720)
     narrow = [["0", "02 00 00 00 00 01 02 00", "........"], ["8", "00 00 00 02 08 00 45 1f", "......E."],
               ["16", "20 7e 7f 80 48 69 20 74", " ~..Hi t"], ["24", "68 65 72 65 ff", "here."]]
     page.wait("document.querySelectorAll('.bytes').length === 4")
     check("bytes, 320 px", page.evaluate(LINES) == narrow, page.evaluate(LINES))
-    check("bytes, 320 px, seen", page.evaluate("document.querySelector('#dump').scrollWidth <= document.querySelector('#dump').clientWidth"))
+    widths = page.evaluate("""(() => {
+        const dump = document.querySelector('#dump');
+        return [dump.scrollWidth, dump.clientWidth]; })()""")
+    check("bytes, 320 px, seen", widths[0] <= widths[1], widths)
     page.resize(1280, 800)
-
-
-def told(page, *paths):
-    """Drops files of which something is told, and returns what."""
-    page.evaluate("window.page.notice('')")
-    page.drop(*paths)
-    page.wait("!document.querySelector('#notice').hidden")
-    return page.evaluate("document.querySelector('#notice').innerText")
-
-
-def save(folder, name, data):
-    with open(f"{folder}/{name}", "wb") as file:
-        file.write(data)
-    return f"{folder}/{name}"
 
 
 def test_compressed(page, folder):
@@ -449,16 +390,18 @@ def test_compressed(page, folder):
     page.open(INDEX)
     drop(page, folder, "packed.pcap.gz", gzip.compress(data))
     check("gzip, list", page.evaluate(LIST) == ROWS, page.evaluate(LIST))
-    check("gzip, nothing is told", page.evaluate("document.querySelector('#notice').hidden"))
+    check("gzip, nothing is told", is_hidden(page, "#notice"))
     drop(page, folder, "fault.pcap.gz", gzip.compress(data[:-3]))
-    said = page.evaluate("document.querySelector('#ending').innerText")
-    check("gzip, a fault", said.startswith("At byte 118: ") and said.endswith(" Offsets count bytes of the decompressed file."), said)
+    said = text(page, "#ending")
+    end = " Offsets count bytes of the decompressed file."
+    check("gzip, a fault", said.startswith("At byte 118: ") and said.endswith(end), said)
     compressed = gzip.compress(data)
     for name, data, way, tool in [
             ("cut.gz", compressed[:-9], "gzip", "gunzip"), ("bad.gz", compressed[:-8] + bytes(8), "gzip", "gunzip"),
             ("two.gz", compressed * 2, "gzip", "gunzip"), ("head.gz", b"\x1f\x8b", "gzip", "gunzip"),
             ("other.bz2", bz2.compress(data), "bzip2", "bunzip2"), ("other.xz", lzma.compress(data), "xz", "unxz"),
-            ("other.zst", bytes.fromhex("28b52ffd"), "zstd", "unzstd"), ("other.lz4", bytes.fromhex("04224d18"), "lz4", "unlz4")]:
+            ("other.zst", bytes.fromhex("28b52ffd"), "zstd", "unzstd"),
+            ("other.lz4", bytes.fromhex("04224d18"), "lz4", "unlz4")]:
         said = told(page, save(folder, name, data))
         begin, end = f"{name} could not be read: it is compressed with {way}", f"Decompress it first, as {tool} does."
         check(f"{name}, told", said.startswith(begin) and said.endswith(end), said)
@@ -477,21 +420,28 @@ def test_files(page, folder):
     check("three files", said.startswith("bad.pcap has no packets. At byte 0: ")
           and said.endswith(" 3 files were dropped; only the first, bad.pcap, was opened."), said)
     drop(page, folder, "two.pcap", classic(PACKETS[:1]))
-    check("one file, nothing is told", page.evaluate("document.querySelector('#notice').hidden"))
-    page.drop(save(folder, "slow.gz", gzip.compress(classic(PACKETS * 100_000), 1)))
-    page.drop(one)
-    page.wait("document.title.startsWith('one.pcap')")
-    page.evaluate("new Promise(done => setTimeout(done, 1500))")
-    check("a file after one that takes longer", page.evaluate(LIST) == ROWS, page.evaluate("document.title"))
+    check("one file, nothing is told", is_hidden(page, "#notice"))
+    title = page.evaluate("""(async () => {
+        let finish;
+        const slow = new File(['no capture'], 'slow.pcap');
+        slow.slice = () => ({ arrayBuffer: () => new Promise(done => { finish = () => done(new ArrayBuffer(4)); }) });
+        const first = window.page.openFiles([slow]);
+        await window.page.openFiles([new File([Uint8Array.from(%s)], 'quick.pcap')]);
+        finish();
+        await first;
+        return document.title;
+    })()""" % list(classic(PACKETS)))
+    check("a file after one that takes longer", title.startswith("quick.pcap"), title)
+    check("a file after one that takes longer, list", page.evaluate(LIST) == ROWS and is_hidden(page, "#notice"))
 
 
 def test_old_browser(page):
-    told = page.call("Page.addScriptToEvaluateOnNewDocument",
-                     source="WebAssembly.instantiate = () => Promise.reject(new WebAssembly.CompileError('memory64'));")
+    source = "WebAssembly.instantiate = () => Promise.reject(new WebAssembly.CompileError('memory64'));"
+    script = page.call("Page.addScriptToEvaluateOnNewDocument", source=source)
     page.open(INDEX)
-    notice = page.evaluate("document.querySelector('#notice').innerText")
+    notice = text(page, "#notice")
     check("no 64-bit memories", "Chromium" in notice and "Firefox" in notice, notice)
-    page.call("Page.removeScriptToEvaluateOnNewDocument", identifier=told["identifier"])
+    page.call("Page.removeScriptToEvaluateOnNewDocument", identifier=script["identifier"])
 
 
 def test_narrow(page, folder):
@@ -499,12 +449,14 @@ def test_narrow(page, folder):
     page.open(INDEX)
     check("320 px, empty", page.evaluate("document.scrollingElement.scrollWidth") <= 320)
     drop(page, folder, "narrow.pcap", classic(PACKETS))
-    check("320 px, a capture", page.evaluate("document.scrollingElement.scrollWidth") <= 320, page.evaluate("document.scrollingElement.scrollWidth"))
+    width = page.evaluate("document.scrollingElement.scrollWidth")
+    check("320 px, a capture", width <= 320, width)
     page.resize(1280, 800)
 
 
 def test_silence(page):
-    asked = [event["params"]["request"]["url"] for event in page.events if event.get("method") == "Network.requestWillBeSent"]
+    requests = [event for event in page.events if event.get("method") == "Network.requestWillBeSent"]
+    asked = [event["params"]["request"]["url"] for event in requests]
     sent = [url for url in asked if not url.startswith(("file:", "data:", "about:"))]
     check("nothing is sent", not sent, sent)
     refused = page.evaluate("fetch('http://127.0.0.1:9/').then(() => false, () => true)")
@@ -520,20 +472,23 @@ def test_against_tshark(page, folder):
     for number in range(64):
         tags = [f"{0x8100 if number % 2 else 0x88a8:04x}{number * 977 % 65536:04x}"] * (number % 4)
         arp = f"0001080006040001{number:012x}0a0000{number:02x}ffffffffffff0a000001"
-        frames.append(bytes.fromhex(f"ffffffffffff02000000{number:04x}" + "".join(tags) + ("0806" + arp if number % 3 else "0800" + "45" * 20)))
+        payload = "0806" + arp if number % 3 else "0800" + "45" * 20
+        frames.append(bytes.fromhex(f"ffffffffffff02000000{number:04x}" + "".join(tags) + payload))
     path = f"{folder}/frames.pcap"
     with open(path, "wb") as file:
         file.write(classic([(1700000000 + number, frame, len(frame)) for number, frame in enumerate(frames)]))
-    told = xml.fromstring(subprocess.run(["tshark", "-r", path, "-T", "pdml"], capture_output=True, check=True).stdout)
+    ran = subprocess.run(["tshark", "-r", path, "-T", "pdml"], capture_output=True, check=True)
     wanted = {"eth.dst": 1, "eth.src": 2, "vlan.id": 11, "ieee8021ad.svid": 11, "ieee8021ad.cvid": 11,
-              "ieee8021ad.id": 11, "arp.opcode": 29, "arp.src.hw_mac": 30, "arp.src.proto_ipv4": 31, "arp.dst.hw_mac": 32,
-              "arp.dst.proto_ipv4": 33}
+              "ieee8021ad.id": 11, "arp.opcode": 29, "arp.src.hw_mac": 30, "arp.src.proto_ipv4": 31,
+              "arp.dst.hw_mac": 32, "arp.dst.proto_ipv4": 33}
     page.open(INDEX)
     page.drop(path)
     page.wait("document.title.startsWith('frames.pcap')")
-    ours = page.evaluate("""Array.from({length: 64}, (_, index) => page.decoder.fields(page.decoder.frameOf(index)).map(field =>
-        [field.name, Math.floor(field.bit / 8), Math.ceil((field.bit + field.bits) / 8), field.bits <= 16 ? Number(field.value) : 0]))""")
-    for number, packet in enumerate(told.iter("packet")):
+    ours = page.evaluate("""Array.from({length: 64}, (_, index) =>
+        page.decoder.fields(page.decoder.frameOf(index)).map(field => [
+            field.name, Math.floor(field.bit / 8), Math.ceil((field.bit + field.bits) / 8),
+            field.bits <= 16 ? Number(field.value) : 0]))""")
+    for number, packet in enumerate(xml.fromstring(ran.stdout).iter("packet")):
         theirs = []
         for field in packet.iter("field"):
             if field.get("name") in wanted:
@@ -563,7 +518,8 @@ def pictures(page, target, folder):
 
 def build():
     """Makes the page over crates that are proved."""
-    ran = subprocess.run(["sh", f"{TOP}/build.sh", "proved"], stdout=subprocess.PIPE, stderr=subprocess.STDOUT, text=True, errors="replace")
+    ran = subprocess.run(["sh", f"{TOP}/build.sh", "proved"], stdout=subprocess.PIPE, stderr=subprocess.STDOUT,
+                         text=True, errors="replace")
     if ran.returncode:
         print(ran.stdout)
     return ran.returncode == 0
@@ -581,11 +537,12 @@ def main():
     else:
         with Page() as page, tempfile.TemporaryDirectory() as folder:
             test_examples(page)
-            for test in [test_captures, test_rows, test_links, test_keys_and_marks, test_selection, test_wrong_selection,
-                         test_beside, test_back_to_place, test_beside_selection, test_accessible, test_compressed,
-                         test_files, test_many, test_long, test_narrow, test_against_tshark]:
+            for test in [test_captures, test_rows, test_links, test_keys_and_marks, test_selection,
+                         test_wrong_selection, test_beside, test_back_to_place, test_beside_selection,
+                         test_accessible_list, test_compressed, test_files, test_many, test_long, test_narrow,
+                         test_against_tshark]:
                 test(page, folder)
-            for test in [test_bytes, test_input, test_old_browser, test_silence]:
+            for test in [test_bytes, test_accessible, test_input, test_old_browser, test_silence]:
                 test(page)
             if given.pictures:
                 pictures(page, given.pictures, folder)
