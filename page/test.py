@@ -340,6 +340,10 @@ def test_many(page, folder):
     page.press("End")
     last = text(page, ".row:last-child")
     check("100,000 packets, last row", last.startswith("100,000"), last)
+    heights = page.evaluate("""(() => {
+        const rectangle = (selector) => document.querySelector(selector).getBoundingClientRect();
+        return [rectangle('.row').height, rectangle('.row:last-child').bottom <= rectangle('#scroll').bottom]; })()""")
+    check("100,000 packets, the last row is seen whole", heights == [28, True], heights)
     page.evaluate("document.querySelector('#scroll').scrollTop = document.querySelector('#height').offsetHeight / 2")
     page.wait("/^(49|50),/.test(document.querySelector('.row .number').innerText)")
     check("100,000 packets, in the middle", True)
