@@ -136,6 +136,7 @@ class FrameView {
     ]);
     this.cells.forEach((both, at) => both.forEach((cell) => { cell.dataset.at = at; }));
     this.dump.style.setProperty("--per-line", perLine);
+    this.dump.style.setProperty("--offset-len", Math.max(4, String(bytes.length).length));
     this.dump.replaceChildren();
     for (let first = 0; first < bytes.length; first += perLine) this.dump.append(this.lineNode(first, perLine));
     if (this.shownLen < this.read.len) {

@@ -22,8 +22,8 @@ from shutil import which
 
 from browser import Page, browser
 from examples import (ARP_IN_VLAN, CUT, EXAMPLES, HEADINGS, IPV4, PACKETS, ROWS, SLL, SLL2, classic, digits, pcapng)
-from user import (ENDING, INDEX, LINES, LIST, accessible, back, check, counts, drop, follow_link, is_hidden, pause, save,
-                  state, text, told, tree, type_digits, write_expression)
+from user import (ENDING, INDEX, LINES, LIST, accessible, back, check, counts, drop, follow_link, is_hidden, pause,
+                  save, state, text, told, tree, type_digits, write_expression)
 
 TOP = os.path.dirname(os.path.abspath(__file__))
 
@@ -362,6 +362,12 @@ def test_long(page, folder):
     shown = page.evaluate("""[document.querySelectorAll('.hex span').length,
         document.querySelector('#dump button') === null]""")
     check("a long packet", shown == [200_016, True], shown)
+    ends = page.evaluate("""['first', 'last'].map(which => {
+        const line = document.querySelector(`.bytes:${which}-child`);
+        return [line.querySelector('.offset').innerText, line.querySelector('.text').getBoundingClientRect().left];
+    })""")
+    check("a long packet, offsets", [offset for offset, _ in ends] == ["0", "200000"], ends)
+    check("a long packet, the text is a column", ends[0][1] == ends[1][1], ends)
 
 
 def test_bytes(page):
