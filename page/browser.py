@@ -24,10 +24,10 @@ class Page:
         read, self.commands = os.pipe()
         self.answers, write = os.pipe()
         self.folder = tempfile.TemporaryDirectory()
-        words = ["--headless", "--no-sandbox", "--disable-gpu", "--hide-scrollbars", "--remote-debugging-pipe", f"--user-data-dir={self.folder.name}",
-                 "about:blank"]
-        self.process = subprocess.Popen(["sh", "-c", f'exec "$0" "$@" 3<&{read} 4>&{write}', browser(), *words], pass_fds=(read, write),
-                                        stderr=subprocess.DEVNULL)
+        words = ["--headless", "--no-sandbox", "--disable-gpu", "--hide-scrollbars", "--remote-debugging-pipe",
+                 f"--user-data-dir={self.folder.name}", "about:blank"]
+        self.process = subprocess.Popen(["sh", "-c", f'exec "$0" "$@" 3<&{read} 4>&{write}', browser(), *words],
+                                        pass_fds=(read, write), stderr=subprocess.DEVNULL)
         os.close(read)
         os.close(write)
         self.buffer, self.number, self.session, self.events = b"", 0, None, []
@@ -103,8 +103,9 @@ class Page:
 
     def place(self, selector):
         """The middle of an element."""
-        return self.evaluate(f"(() => {{ const r = document.querySelector({json.dumps(selector)}).getBoundingClientRect();"
-                             "return [r.x + r.width / 2, r.y + r.height / 2]; })()")
+        return self.evaluate(f"""(() => {{
+            const r = document.querySelector({json.dumps(selector)}).getBoundingClientRect();
+            return [r.x + r.width / 2, r.y + r.height / 2]; }})()""")
 
     def point(self, selector):
         x, y = self.place(selector)
@@ -124,8 +125,8 @@ class Page:
     def write(self, text):
         self.call("Input.insertText", text=text)
 
-    def drop(self, path):
-        data = {"items": [], "files": [path], "dragOperationsMask": 1}
+    def drop(self, *paths):
+        data = {"items": [], "files": paths, "dragOperationsMask": 1}
         for kind in ["dragEnter", "dragOver", "drop"]:
             self.call("Input.dispatchDragEvent", type=kind, x=200, y=200, data=data)
 

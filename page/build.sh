@@ -1,6 +1,6 @@
 #!/bin/sh
-# Makes page/out/index.html: the page, its script and the module in one file. The module is the library for C, built for WebAssembly: its crate is
-# proved, and those below it unless the word `proved` says that they are.
+# Makes page/out/index.html: the page, its script and the module in one file. The module is the library for C, built
+# for WebAssembly: its crate is proved, and those below it unless the word `proved` says that they are.
 set -eu
 cd "$(dirname "$0")"
 [ "${1:-}" = proved ] || (cd ../crates/ether_c && rt lib)

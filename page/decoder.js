@@ -125,16 +125,17 @@ class Decoder {
     };
   }
 
-  // the indices of the packets that an expression selects, or why it is none
+  // the indices of the packets that an expression selects, or where and why it is none
   select(expression) {
     const text = encodeText(expression);
     const [at, error] = [this.scratch + 4096, this.scratch];
-    if (text.length > TEXT_LEN * 8) return { error: "The expression is too long." };
+    if (text.length > TEXT_LEN * 8) return { error: "The expression is too long.", offset: text.length };
     this.bytes(at, text.length).set(text);
     const words = [BigInt(at), BigInt(text.length)];
     const packets = [BigInt(this.packets), BigInt(this.count), BigInt(this.matches), BigInt(this.count)];
     if (this.calls.etherpeel_select(...words, ...packets, BigInt(error)) !== DONE) {
-      return { error: this.text((...target) => this.calls.etherpeel_filter_error_text(...words, ...target)) };
+      const offset = this.number(error, 8);
+      return { error: this.text((...target) => this.calls.etherpeel_filter_error_text(...words, ...target)), offset };
     }
     const matches = this.bytes(this.matches, this.count);
     const selected = [];
@@ -182,7 +183,8 @@ class Decoder {
   }
 
   fields(frame) {
-    return this.array((...to) => this.calls.etherpeel_fields(...this.words(frame), ...to), SIZES.field, 64, (at) => this.field(at));
+    const call = (...to) => this.calls.etherpeel_fields(...this.words(frame), ...to);
+    return this.array(call, SIZES.field, 64, (at) => this.field(at));
   }
 
   field(at) {
@@ -202,8 +204,11 @@ class Decoder {
     if (this.calls.etherpeel_linux_sll2(...words, BigInt(header)) !== DONE) return null;
     const end = this.number(header, 8);
     const protocol = this.number(header + 16, 2);
-    const fields = this.array((...to) => this.calls.etherpeel_linux_sll2_fields(...words, ...to), SIZES.field, 64, (at) => this.field(at));
-    const unit = { offset: 0, headerLen: end, payloadStart: end, payloadEnd: packet.len, kind: LINUX_SLL2, isClosed: false };
+    const call = (...to) => this.calls.etherpeel_linux_sll2_fields(...words, ...to);
+    const fields = this.array(call, SIZES.field, 64, (at) => this.field(at));
+    const unit = {
+      offset: 0, headerLen: end, payloadStart: end, payloadEnd: packet.len, kind: LINUX_SLL2, isClosed: false,
+    };
     return { unit, fields, protocol };
   }
 

@@ -11,6 +11,9 @@ function element(name, properties = {}, ...children) {
 const places = (start, end) => start === end ? `at ${start}` : `${start} to ${end}`;
 const count = (number, noun) => `${number.toLocaleString("en")} ${noun}${number === 1 ? "" : "s"}`;
 
+// whether a byte is a character of ASCII that is printed (ISO/IEC 646)
+const isPrinted = (byte) => 0x20 <= byte && byte <= 0x7e;
+
 // where a field is, as bytes or as bits of them
 function placeOf(field) {
   const [first, last] = [Math.floor(field.bit / 8), Math.ceil((field.bit + field.bits) / 8)];
@@ -28,16 +31,20 @@ function readFrame(decoder, frame) {
   return { units: decoder.units(frame), fields: decoder.fields(frame), ending: decoder.ending(frame) };
 }
 
-// The headers of a packet, whose places count from its begin: a header of cooked capture v2 if it begins with one, and those of the frame.
+// The headers of a packet, whose places count from its begin: a header of cooked capture v2 if it begins with one,
+// and those of the frame.
 function readHeaders(decoder, frame, packet) {
-  const first = packet.linkType === LINK_LINUX_SLL2 ? decoder.linuxSll2(packet) : null;
-  const text = first ? `protocol ${protocol(first.protocol)}` : packet.linkType === LINK_LINUX_SLL2 ? "no header of cooked capture v2" : "";
+  const isSll2 = packet.linkType === LINK_LINUX_SLL2;
+  const first = isSll2 ? decoder.linuxSll2(packet) : null;
+  const refused = isSll2 ? "no header of cooked capture v2" : "";
+  const text = first ? `protocol ${protocol(first.protocol)}` : refused;
   const read = frame ? readFrame(decoder, frame) : notWalked(packet, first ? first.unit.headerLen : 0, text);
   const by = frame ? frame.offset : 0;
   const units = read.units.map((unit) => ({
     ...unit, offset: unit.offset + by, payloadStart: unit.payloadStart + by, payloadEnd: unit.payloadEnd + by,
   }));
-  const fields = read.fields.map((field) => ({ ...field, bit: field.bit + 8 * by, unit: field.unit + (first ? 1 : 0) }));
+  const before = first ? 1 : 0;
+  const fields = read.fields.map((field) => ({ ...field, bit: field.bit + 8 * by, unit: field.unit + before }));
   const ending = { ...read.ending, restStart: read.ending.restStart + by, restEnd: read.ending.restEnd + by };
   return {
     units: first ? [first.unit, ...units] : units,
@@ -51,13 +58,16 @@ class FrameView {
     this.decoder = decoder;
     this.headers = document.getElementById("headers");
     this.dump = document.getElementById("dump");
+    // as page.css has it
+    this.isNarrow = matchMedia("(max-width: 800px)");
     this.listen();
   }
 
   show(read) {
     this.read = read;
     this.marks = [];
-    this.headers.replaceChildren(...read.units.map((unit, index) => this.unitNode(unit, index)), ...this.endingNodes());
+    const nodes = read.units.map((unit, index) => this.unitNode(unit, index));
+    this.headers.replaceChildren(...nodes, ...this.endingNodes());
     this.shownLen = Math.min(read.len, SHOWN_LEN);
     this.showBytes();
   }
@@ -79,10 +89,12 @@ class FrameView {
     const [name, short, text] = FIELDS[field.name];
     const first = this.read.at + Math.floor(field.bit / 8);
     const bytes = this.decoder.bytes(first, Math.ceil(field.bits / 8));
-    const value = text(text === digits || text === address || text === protocolAddress ? 0 : Number(field.value), bytes);
+    const isOfBytes = [digits, address, protocolAddress].includes(text);
+    const value = text(isOfBytes ? 0 : Number(field.value), bytes);
     const label = element("span", { className: "name" }, name);
     if (short) label.append(" ", element("small", { textContent: short }));
-    const node = element("li", { tabIndex: 0, title: placeOf(field) }, label, element("span", { className: "value", textContent: value }));
+    const node = element("li", { tabIndex: 0, title: placeOf(field) },
+      label, element("span", { className: "value", textContent: value }));
     this.target(node, field.bit, field.bit + field.bits);
     return node;
   }
@@ -98,34 +110,49 @@ class FrameView {
   endingNodes() {
     const { ending } = this.read;
     const rest = element("div", { className: "rest", tabIndex: 0 });
+    const where = places(ending.restStart, ending.restEnd);
     this.target(rest, ending.restStart * 8, ending.restEnd * 8);
     if (!ending.isFault) {
       const text = ending.text ?? restName(ending.restKind, ending.restProtocol);
-      rest.append(element("b", { textContent: "Left" }), ` ${places(ending.restStart, ending.restEnd)}${text ? `: ${text}` : ""}`);
+      rest.append(element("b", { textContent: "Left" }), ` ${where}${text ? `: ${text}` : ""}`);
       return [rest];
     }
-    const missing = ending.missing ? ` At least ${count(ending.missing, "byte")} ${ending.missing === 1 ? "is" : "are"} missing.` : "";
+    const are = ending.missing === 1 ? "is" : "are";
+    const missing = ending.missing ? ` At least ${count(ending.missing, "byte")} ${are} missing.` : "";
     rest.className = "fault";
-    rest.append(element("b", { textContent: "Not read" }), ` ${places(ending.restStart, ending.restEnd)}: ${ending.fault}${missing}`);
+    rest.append(element("b", { textContent: "Not read" }), ` ${where}: ${ending.fault}${missing}`);
     return [rest];
   }
 
   // ---- the bytes
 
   showBytes() {
+    const perLine = this.isNarrow.matches ? 8 : 16;
     const bytes = this.decoder.bytes(this.read.at, this.shownLen);
     const kinds = this.kindsOf(this.shownLen);
-    this.cells = Array.from(bytes, (byte, index) => element("span", {
-      className: kinds[index], textContent: byte.toString(16).padStart(2, "0"),
-    }));
-    this.cells.forEach((cell, index) => { cell.dataset.at = index; });
+    this.cells = Array.from(bytes, (byte, at) => [
+      element("span", { className: kinds[at], textContent: pair(byte) }),
+      element("span", { className: kinds[at], textContent: isPrinted(byte) ? String.fromCharCode(byte) : "." }),
+    ]);
+    this.cells.forEach((both, at) => both.forEach((cell) => { cell.dataset.at = at; }));
+    this.dump.style.setProperty("--per-line", perLine);
+    this.dump.style.setProperty("--offset-len", Math.max(4, String(bytes.length).length));
     this.dump.replaceChildren();
-    this.cells.forEach((cell) => this.dump.append(cell));
+    for (let first = 0; first < bytes.length; first += perLine) this.dump.append(this.lineNode(first, perLine));
     if (this.shownLen < this.read.len) {
       const more = element("button", { type: "button", textContent: `Show all ${count(this.read.len, "byte")}` });
       more.addEventListener("click", () => { this.shownLen = this.read.len; this.showBytes(); });
       this.dump.append(more);
     }
+  }
+
+  // a line of bytes: the offset of the first one, all in hexadecimal, and all as ASCII
+  lineNode(first, perLine) {
+    const cells = this.cells.slice(first, first + perLine);
+    return element("div", { className: "bytes" },
+      element("span", { className: "offset", textContent: first, title: hex(first, 4) }),
+      element("span", { className: "hex" }, ...cells.map(([byte]) => byte)),
+      element("span", { className: "text" }, ...cells.map(([, letter]) => letter)));
   }
 
   // the class of each byte: that of the header that it is of, of what is left, or of what is not read
@@ -135,7 +162,8 @@ class FrameView {
     const paint = (start, end, name) => kinds.fill(name, Math.min(start, len), Math.min(end, len));
     paint(ending.restStart, ending.restEnd, ending.isFault ? "unread" : "left");
     units.forEach((unit) => paint(unit.offset, unit.offset + unit.headerLen, `kind${unit.kind}`));
-    this.read.fields.filter((field) => field.name === 34).forEach((field) => paint(field.bit / 8, (field.bit + field.bits) / 8, "kind1"));
+    const sequences = this.read.fields.filter((field) => field.name === 34);
+    sequences.forEach((field) => paint(field.bit / 8, (field.bit + field.bits) / 8, "kind1"));
     return kinds;
   }
 
@@ -152,7 +180,11 @@ class FrameView {
 
   mark(mark, isOn) {
     mark.node.classList.toggle("marked", isOn);
-    for (let at = mark.first; at < Math.min(mark.end, this.cells.length); at++) this.cells[at].classList.toggle("marked", isOn);
+    for (let at = mark.first; at < Math.min(mark.end, this.cells.length); at++) this.markByte(at, isOn);
+  }
+
+  markByte(at, isOn) {
+    this.cells[at].forEach((cell) => cell.classList.toggle("marked", isOn));
   }
 
   listen() {
@@ -161,10 +193,11 @@ class FrameView {
       if (at === undefined) return;
       const marks = this.marks.filter((mark) => mark.first <= Number(at) && Number(at) < mark.end);
       marks.forEach((mark) => mark.node.classList.toggle("marked", isOn));
-      event.target.classList.toggle("marked", isOn);
+      this.markByte(at, isOn);
       event.target.title = `byte ${at}`;
     };
     this.dump.addEventListener("mouseover", (event) => pass(event, true));
     this.dump.addEventListener("mouseout", (event) => pass(event, false));
+    this.isNarrow.addEventListener("change", () => { if (this.read) this.showBytes(); });
   }
 }

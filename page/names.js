@@ -2,13 +2,13 @@
 
 const ETHER_TYPES = {
   0x0800: "IPv4", 0x0806: "ARP", 0x0842: "Wake-on-LAN", 0x8035: "RARP", 0x8100: "VLAN tag", 0x86dd: "IPv6",
-  0x8808: "flow control", 0x8809: "slow protocols", 0x8847: "MPLS", 0x8848: "MPLS, multicast", 0x8863: "PPPoE discovery",
-  0x8864: "PPPoE session", 0x888e: "EAPOL", 0x88a8: "service VLAN tag", 0x88cc: "LLDP", 0x88e5: "MACsec",
-  0x88f7: "PTP", 0x8906: "FCoE", 0x9100: "VLAN tag",
+  0x8808: "flow control", 0x8809: "slow protocols", 0x8847: "MPLS", 0x8848: "MPLS, multicast",
+  0x8863: "PPPoE discovery", 0x8864: "PPPoE session", 0x888e: "EAPOL", 0x88a8: "service VLAN tag", 0x88cc: "LLDP",
+  0x88e5: "MACsec", 0x88f7: "PTP", 0x8906: "FCoE", 0x9100: "VLAN tag",
 };
 const HARDWARE_TYPES = {
-  1: "Ethernet", 512: "PPP", 768: "IP tunnel", 772: "loopback", 776: "IPv6 in IPv4", 778: "GRE over IP", 801: "IEEE 802.11",
-  803: "IEEE 802.11 with radiotap", 824: "netlink",
+  1: "Ethernet", 512: "PPP", 768: "IP tunnel", 772: "loopback", 776: "IPv6 in IPv4", 778: "GRE over IP",
+  801: "IEEE 802.11", 803: "IEEE 802.11 with radiotap", 824: "netlink",
 };
 const PACKET_TYPES = { 0: "to us", 1: "broadcast", 2: "multicast", 3: "to someone else", 4: "sent by us" };
 const OPERATIONS = { 1: "request", 2: "reply" };
@@ -16,7 +16,8 @@ const LINK_LINUX_SLL2 = 276;
 const LINK_TYPES = { 1: "Ethernet", 113: "Linux cooked capture v1", 276: "Linux cooked capture v2" };
 
 const HEADERS = {
-  1: "Ethernet II", 2: "Linux cooked capture v1", 3: "VLAN tag", 4: "MACsec SecTag", 5: "ARP", 6: "Linux cooked capture v2",
+  1: "Ethernet II", 2: "Linux cooked capture v1", 3: "VLAN tag", 4: "MACsec SecTag", 5: "ARP",
+  6: "Linux cooked capture v2",
 };
 
 const hex = (number, digits) => "0x" + number.toString(16).toUpperCase().padStart(digits, "0");
@@ -27,7 +28,8 @@ const etherType = named(ETHER_TYPES, (number) => hex(Number(number), 4));
 const protocol = (number) => number < 0x600 ? `${hex(Number(number), 4)} (a number below 0x0600)` : etherType(number);
 const protocolName = (number) => ETHER_TYPES[number] ?? hex(number, 4);
 const hardwareType = named(HARDWARE_TYPES, decimal);
-const pairs = (separator) => (number, bytes) => Array.from(bytes, (byte) => byte.toString(16).padStart(2, "0")).join(separator);
+const pair = (byte) => byte.toString(16).padStart(2, "0");
+const pairs = (separator) => (number, bytes) => Array.from(bytes, pair).join(separator);
 const address = pairs(":");
 const digits = pairs("");
 // an address of four bytes is nearly always one of IPv4
@@ -77,6 +79,11 @@ const FIELDS = {
   40: ["Address length", "", decimal],
   41: ["Address", "", address],
 };
+
+// the fields that are the addresses of a first header, and those that are the length of a cooked capture's
+const SOURCES = [2, 7, 41];
+const DESTINATIONS = [1];
+const ADDRESS_LENGTHS = [6, 40];
 
 // what the bytes that are left are announced as, by enum etherpeel_rest_kind
 function restName(kind, number) {

@@ -1,117 +1,17 @@
 // The page: a capture or a frame comes in, its packets are listed, and one of them is shown.
 
-const ROW_HEIGHT = 28;
-const MOST_HEIGHT = 8_000_000;
+// how many characters are shown before and after the place where an expression is wrong
+const AROUND_LEN = 40;
 // `#eth:` and digits, as the words of the page's links
 const FRAME_ADDRESS = /^#(eth|fcs|sll|type-[0-9a-fA-F]{4}):([0-9a-fA-F]*)$/;
 
-const $ = (id) => document.getElementById(id);
-
-// the day and the time of a packet, UTC
-function dayAndTime(packet) {
-  if (!packet.hasTime) return ["", "no time"];
-  const date = new Date(packet.seconds * 1000);
-  if (isNaN(date)) return ["", `${packet.seconds} s`];
-  const [day, time] = date.toISOString().slice(0, 19).split("T");
-  return [day, `${time}.${String(packet.nanoseconds).padStart(9, "0").slice(0, 6)}`];
-}
-
-// what a packet has after its first header, in a line
-function line(read) {
-  const parts = read.units.map((unit, index) => {
-    if (unit.kind !== 3) return HEADERS[unit.kind];
-    return `VLAN ${read.fields.find((field) => field.unit === index && field.name === 11).value}`;
-  });
-  if (read.ending.isFault) parts.push("not read further");
-  else if (read.ending.restKind === 1) parts.push(protocolName(read.ending.restProtocol));
-  else if (read.ending.text) parts.push(read.ending.text);
-  return parts.slice(parts.length > 1 ? 1 : 0).join(" › ");
-}
-
-class PacketList {
-  constructor(decoder, onChosen) {
-    this.decoder = decoder;
-    this.onChosen = onChosen;
-    this.list = $("list");
-    this.indices = [];
-    this.chosen = 0;
-    this.isMarked = true;
-    this.list.addEventListener("scroll", () => this.draw());
-    this.list.addEventListener("keydown", (event) => this.key(event));
-    this.list.addEventListener("click", (event) => {
-      const row = event.target.closest("[data-row]");
-      if (row) this.choose(Number(row.dataset.row));
-    });
-    new ResizeObserver(() => this.draw()).observe(this.list);
-  }
-
-  show(indices) {
-    this.indices = indices;
-    this.chosen = 0;
-    this.list.scrollTop = 0;
-    $("height").style.height = `${Math.min(indices.length * ROW_HEIGHT, MOST_HEIGHT)}px`;
-    this.draw();
-  }
-
-  visible() {
-    return Math.max(1, Math.floor(this.list.clientHeight / ROW_HEIGHT));
-  }
-
-  // the rows between the first one that is seen and the last; of very long lists the place of the scroll bar is a share of the rows
-  draw() {
-    const seen = this.visible();
-    const hidden = Math.max(0, this.indices.length - seen);
-    const way = Math.max(1, $("height").offsetHeight - this.list.clientHeight);
-    this.first = Math.min(hidden, Math.round(this.list.scrollTop / way * hidden));
-    const rows = this.indices.slice(this.first, this.first + seen + 1);
-    $("rows").replaceChildren(...rows.map((index, at) => this.row(index, this.first + at)));
-    const active = $(`row${this.chosen}`);
-    if (active) this.list.setAttribute("aria-activedescendant", active.id);
-    else this.list.removeAttribute("aria-activedescendant");
-  }
-
-  row(index, at) {
-    const packet = this.decoder.packet(index);
-    const frame = this.decoder.frameOf(index);
-    const text = packet.linkType in LINK_TYPES ? line(readHeaders(this.decoder, frame, packet)) : `link type ${packet.linkType}`;
-    const [day, time] = dayAndTime(packet);
-    const isCut = packet.len < packet.originalLen;
-    const node = element("div", { className: "row", id: `row${at}`, role: "option" },
-      element("span", { className: "number", textContent: (index + 1).toLocaleString("en") }),
-      element("span", { className: "day", textContent: day }),
-      element("span", { className: "time", textContent: time }),
-      element("span", { className: "length", textContent: isCut ? `${packet.len} of ${packet.originalLen}` : packet.len }),
-      element("span", { className: "line", textContent: text }));
-    node.dataset.row = at;
-    node.setAttribute("aria-selected", this.isMarked && at === this.chosen);
-    return node;
-  }
-
-  choose(at) {
-    if (!this.indices.length) return;
-    this.chosen = Math.max(0, Math.min(at, this.indices.length - 1));
-    this.isMarked = true;
-    const seen = this.visible();
-    const hidden = Math.max(1, this.indices.length - seen);
-    const way = $("height").offsetHeight - this.list.clientHeight;
-    if (this.chosen < this.first) this.list.scrollTop = this.chosen / hidden * way;
-    if (this.chosen >= this.first + seen) this.list.scrollTop = (this.chosen - seen + 1) / hidden * way;
-    this.draw();
-    this.onChosen(this.indices[this.chosen]);
-  }
-
-  // while a frame alone is shown, no packet is selected
-  unmark() {
-    this.isMarked = false;
-    this.draw();
-  }
-
-  key(event) {
-    const steps = { ArrowUp: -1, ArrowDown: 1, PageUp: -this.visible(), PageDown: this.visible(), Home: -Infinity, End: Infinity };
-    if (!(event.key in steps)) return;
-    event.preventDefault();
-    this.choose(this.chosen + steps[event.key]);
-  }
+// what an expression has around a place, with the word there marked
+function around(expression, offset) {
+  const bytes = encodeText(expression);
+  const [before, rest] = [decodeText(bytes.slice(0, offset)), decodeText(bytes.slice(offset))];
+  const word = /^\S*/.exec(rest)[0];
+  const mark = element("mark", { textContent: word.slice(0, AROUND_LEN) || "…" });
+  return element("code", {}, before.slice(-AROUND_LEN), mark, rest.slice(word.length).slice(0, AROUND_LEN));
 }
 
 class Page {
@@ -120,6 +20,7 @@ class Page {
     this.frame = new FrameView(decoder);
     this.list = new PacketList(decoder, (index) => this.choosePacket(index));
     this.name = "";
+    this.turns = 0;
     this.listen();
     this.readAddress();
   }
@@ -128,17 +29,25 @@ class Page {
 
   listen() {
     $("open").addEventListener("click", () => $("file").click());
-    $("file").addEventListener("change", () => this.openFile($("file").files[0]));
+    $("file").addEventListener("change", () => {
+      const files = [...$("file").files];
+      // so that the same file can be opened again
+      $("file").value = "";
+      this.openFiles(files);
+    });
     $("input").addEventListener("submit", (event) => { event.preventDefault(); this.openDigits(); });
     $("digits").addEventListener("input", () => this.openDigits());
     $("start").addEventListener("change", () => { if ($("digits").value) this.openDigits(); });
     $("selection").addEventListener("submit", (event) => { event.preventDefault(); this.select(); });
     $("expression").addEventListener("input", () => this.select());
-    window.addEventListener("hashchange", () => { this.readAddress(); if (!location.hash) $("list").focus(); });
+    window.addEventListener("hashchange", () => {
+      this.readAddress();
+      if (!location.hash) $("list").focus({ preventScroll: true });
+    });
     document.addEventListener("dragover", (event) => event.preventDefault());
     document.addEventListener("drop", (event) => {
       event.preventDefault();
-      if (event.dataTransfer.files.length) this.openFile(event.dataTransfer.files[0]);
+      this.openFiles([...event.dataTransfer.files]);
     });
   }
 
@@ -150,12 +59,13 @@ class Page {
     this.openFrame(told[1].toLowerCase(), told[2]);
   }
 
-  // Sets the address: that of a frame, or "". The browser's Back leads from a frame to the capture, and from the capture to a frame,
-  // but not through each digit of a frame that is typed.
+  // Sets the address: that of a frame, or "". The browser's Back leads from a frame to the capture, and from the
+  // capture to a frame, but not through each digit of a frame that is typed.
   setAddress(address) {
     const isFrame = FRAME_ADDRESS.test(location.hash);
     if (location.hash === address || !(isFrame || address)) return;
-    history[isFrame && address ? "replaceState" : "pushState"](null, "", address || location.pathname + location.search);
+    const step = isFrame && address ? "replaceState" : "pushState";
+    history[step](null, "", address || location.pathname + location.search);
   }
 
   openDigits() {
@@ -169,7 +79,8 @@ class Page {
       return this.notice("A frame is written as pairs of hexadecimal digits.");
     }
     const bytes = Uint8Array.from(text.match(/../g) ?? [], (pair) => parseInt(pair, 16));
-    const [start, etherType] = word.startsWith("type-") ? [STARTS.type, parseInt(word.slice(5), 16)] : [STARTS[word], 0];
+    const isType = word.startsWith("type-");
+    const [start, etherType] = isType ? [STARTS.type, parseInt(word.slice(5), 16)] : [STARTS[word], 0];
     const frame = this.decoder.openFrame(bytes, start, etherType);
     this.setAddress(`#${word}:${text}`);
     if ([...$("start").options].some((option) => option.value === word)) $("start").value = word;
@@ -182,38 +93,52 @@ class Page {
     if (this.name) $("about").append(" · ", element("a", { href: "#", textContent: `back to ${this.name}` }));
   }
 
-  async openFile(file) {
+  // the first of these files
+  async openFiles(files) {
+    const [file] = files;
     if (!file) return;
-    const tell = (error) => this.notice(`${file.name} could not be read: ${error.message}`);
-    const buffer = await file.arrayBuffer().catch(tell);
-    if (!buffer) return;
+    this.turns += 1;
+    const turn = this.turns;
+    const read = await readFile(file).catch((error) => ({ error }));
+    // another file was opened in the meantime
+    if (turn !== this.turns) return;
+    const { name } = file;
+    const words = [read.error ? `${name} could not be read: ${read.error.message}` : this.openCapture(name, read)];
+    if (files.length > 1) words.push(`${files.length} files were dropped; only the first, ${name}, was opened.`);
+    this.notice(words.filter(Boolean).join(" "));
+  }
+
+  // shows the packets of a file; returns why it has none, or ""
+  openCapture(name, { bytes, isUnpacked }) {
     this.name = "";
     this.list.show([]);
     let found;
     try {
-      found = this.decoder.openCapture(new Uint8Array(buffer));
+      found = this.decoder.openCapture(bytes);
     } catch (error) {
       this.showCapture();
-      return tell(error);
+      return `${name} could not be read: ${error.message}`;
     }
     $("expression").value = "";
+    const fault = found.fault + (found.fault && isUnpacked ? " Offsets count bytes of the decompressed file." : "");
     $("ending").hidden = found.isWhole;
-    $("ending").textContent = found.fault;
+    $("ending").textContent = fault;
     if (found.count) {
-      this.name = file.name;
+      this.name = name;
       this.toggle("frame");
-      return this.select();
+      this.select();
+      return "";
     }
     this.showCapture();
-    this.title(file.name);
-    this.notice(`${file.name} has no packets. ${found.fault}`);
+    this.title(name);
+    return `${name} has no packets. ${fault}`.trim();
   }
 
   // ---- what is shown
 
   // the capture that is open, with the packet that was chosen last; without one what the page is for
   showCapture() {
-    if (this.list.indices.length) return this.list.choose(this.list.chosen);
+    if (this.list.indices.length) return this.list.resume();
     this.leaveFrame();
     this.toggle(this.name ? "" : "empty");
     this.title(this.name);
@@ -242,15 +167,20 @@ class Page {
   }
 
   select() {
-    const expression = $("expression").value.trim();
-    const found = expression ? this.decoder.select(expression) : { selected: [...Array(this.decoder.count).keys()] };
-    $("expression").setAttribute("aria-invalid", Boolean(found.error));
-    if (found.error) {
-      $("selected").textContent = found.error;
+    const expression = $("expression").value;
+    const isGiven = expression.trim() !== "";
+    const found = isGiven ? this.decoder.select(expression) : { selected: [...Array(this.decoder.count).keys()] };
+    const isWrong = Boolean(found.error);
+    $("expression").setAttribute("aria-invalid", isWrong);
+    $("selection").classList.toggle("wrong", isWrong);
+    if (isWrong) {
+      $("selected").replaceChildren(found.error, " ", around(expression, found.offset), " The list is unchanged.");
       return;
     }
-    const all = count(this.decoder.count, "packet");
-    $("selected").textContent = expression ? `${found.selected.length.toLocaleString("en")} of ${all}` : all;
+    const [all, some] = [count(this.decoder.count, "packet"), found.selected.length];
+    const told = isGiven ? `${some.toLocaleString("en")} of ${all}` : all;
+    $("none").hidden = some > 0;
+    $("selected").textContent = some ? told : `No packet matches: ${told}`;
     this.list.show(found.selected);
     this.showCapture();
   }
@@ -274,14 +204,17 @@ class Page {
     const read = readHeaders(this.decoder, frame, packet);
     $("about").replaceChildren(about.join(" · "));
     this.frame.show(read);
-    if (packet.linkType !== undefined && !(packet.linkType in LINK_TYPES)) $("about").append(" · headers of this link type are not read");
+    const isUnknown = packet.linkType !== undefined && !(packet.linkType in LINK_TYPES);
+    if (isUnknown) $("about").append(" · headers of this link type are not read");
     return read;
   }
 
   // the frame's own address
   link(frame) {
-    const word = { 1: "eth", 2: "fcs", 3: "sll", 4: `type-${frame.etherType.toString(16).padStart(4, "0")}` }[frame.start];
-    return element("a", { href: `#${word}:${digits(0, this.decoder.bytes(frame.at, frame.len))}`, textContent: "link to this frame" });
+    const type = `type-${frame.etherType.toString(16).padStart(4, "0")}`;
+    const word = { 1: "eth", 2: "fcs", 3: "sll", 4: type }[frame.start];
+    const text = digits(0, this.decoder.bytes(frame.at, frame.len));
+    return element("a", { href: `#${word}:${text}`, textContent: "link to this frame" });
   }
 }
 
@@ -293,7 +226,8 @@ async function begin() {
     const notice = $("notice");
     notice.hidden = false;
     notice.textContent = isMissing
-      ? "This browser has no 64-bit memories for WebAssembly. Chromium, Chrome and Edge have them from version 133 on, Firefox from 134 on."
+      ? "This browser has no 64-bit memories for WebAssembly. Chromium, Chrome and Edge have them from version 133 on,"
+        + " Firefox from 134 on."
       : `The page could not start: ${error.message}`;
     $("input").hidden = true;
   }

@@ -3,14 +3,16 @@
 
     python3 page/test.py [--proved] [--pictures FOLDER]
 
-Tests page/out/index.html, which `sh page/build.sh` makes; with --proved it is made first, over crates that are proved. With --pictures its states are
-saved as pictures, light and dark, wide and narrow. The last line is 'N passed, M failed'; without a browser (on Debian `apt-get install chromium`) a
-line says so, and nothing is tested.
+Tests page/out/index.html, which `sh page/build.sh` makes; with --proved it is made first, over crates that are proved.
+With --pictures its states are saved as pictures, light and dark, wide and narrow. The last line is 'N passed, M
+failed'; without a browser (on Debian `apt-get install chromium`) a line says so, and nothing is tested.
 """
 
 import argparse
+import bz2
+import gzip
+import lzma
 import os
-import struct
 import subprocess
 import sys
 import tempfile
@@ -19,113 +21,11 @@ import xml.etree.ElementTree as xml
 from shutil import which
 
 from browser import Page, browser
+from examples import (ARP_IN_VLAN, CUT, EXAMPLES, HEADINGS, IPV4, PACKETS, ROWS, SLL, SLL2, classic, digits, pcapng)
+from user import (ENDING, INDEX, LINES, LIST, accessible, back, check, counts, drop, follow_link, is_hidden, pause,
+                  save, state, text, told, tree, type_digits, write_expression)
 
 TOP = os.path.dirname(os.path.abspath(__file__))
-INDEX = f"file://{TOP}/out/index.html"
-counts = {True: 0, False: 0}
-
-ARP_IN_VLAN = ("ffffffffffff 3aeeb62ff6d7 8100" "b123 0806" "0001 0800 06 04 0001 020000000001 0a090002 ffffffffffff 0a090001").replace(" ", "")
-SEC_TAG = ("ffffffffffff 020000000001 88e5" "2c 00 00000001 0200000000010001" "0800 4500").replace(" ", "")
-SEALED = ("ffffffffffff 020000000001 88e5" "0e 03 00000007" "112233").replace(" ", "")
-CUT = ("ffffffffffff 3aeeb62ff6d7 8100" "b1").replace(" ", "")
-CUT_BY_CAPTURE = ("ffffffffffff 3aeeb62ff6d7 88a8" "0001 8100" "00").replace(" ", "")
-SLL = ("0000 0001 0006 0200000000010000 0806" "0001 0800 06 04 0002 020000000001 c0000201 020000000002 c0000202").replace(" ", "")
-IPV4 = ("020000000001 020000000002 0800" "4500").replace(" ", "")
-
-# Of each frame what its link says that it begins with, its headers with their fields, by the standards, and what is left or the fault.
-EXAMPLES = [
-    ("a VLAN tag and ARP", f"#eth:{ARP_IN_VLAN}", [
-        ["Ethernet II", "0 to 14", {"Destination address": "ff:ff:ff:ff:ff:ff", "Source address": "3a:ee:b6:2f:f6:d7", "EtherType": "0x8100 (VLAN tag)"}],
-        ["VLAN tag", "14 to 18", {"Priority code point PCP": "5", "Drop eligible indicator DEI": "1 (set)", "VLAN identifier VID": "291",
-                                  "EtherType": "0x0806 (ARP)"}],
-        ["ARP", "18 to 46", {
-            "Hardware type ar$hrd": "1 (Ethernet)", "Protocol type ar$pro": "0x0800 (IPv4)", "Hardware address length ar$hln": "6",
-            "Protocol address length ar$pln": "4", "Operation ar$op": "1 (request)", "Sender hardware address ar$sha": "02:00:00:00:00:01",
-            "Sender protocol address ar$spa": "10.9.0.2", "Target hardware address ar$tha": "ff:ff:ff:ff:ff:ff",
-            "Target protocol address ar$tpa": "10.9.0.1"}],
-    ], "Left at 46: what follows the ARP packet"),
-    ("a SecTag with a secure channel", f"#eth:{SEC_TAG}", [
-        ["Ethernet II", "0 to 14", {"Destination address": "ff:ff:ff:ff:ff:ff", "Source address": "02:00:00:00:00:01", "EtherType": "0x88E5 (MACsec)"}],
-        ["MACsec SecTag", "14 to 28", {
-            "Version V": "0", "End station ES": "0", "Secure channel SC": "1 (set)", "Single copy broadcast SCB": "0", "Encryption E": "1 (set)",
-            "Changed text C": "1 (set)", "Association number AN": "0", "Reserved": "0", "Short length SL": "0", "Packet number PN": "1",
-            "Secure channel identifier SCI": "0200000000010001"}],
-    ], "Left 28 to 32: payload that MACsec protects"),
-    ("a short length", f"#eth:{SEALED}", [
-        ["Ethernet II", "0 to 14", {"Destination address": "ff:ff:ff:ff:ff:ff", "Source address": "02:00:00:00:00:01", "EtherType": "0x88E5 (MACsec)"}],
-        ["MACsec SecTag", "14 to 20", {
-            "Version V": "0", "End station ES": "0", "Secure channel SC": "0", "Single copy broadcast SCB": "0", "Encryption E": "1 (set)",
-            "Changed text C": "1 (set)", "Association number AN": "2", "Reserved": "0", "Short length SL": "3", "Packet number PN": "7"}],
-    ], "Left 20 to 23: payload that MACsec protects"),
-    ("a tag cut short", f"#eth:{CUT}", [
-        ["Ethernet II", "0 to 14", {"Destination address": "ff:ff:ff:ff:ff:ff", "Source address": "3a:ee:b6:2f:f6:d7", "EtherType": "0x8100 (VLAN tag)"}],
-    ], "Not read 14 to 15: at offset 14: VLAN Header Error: Not enough data to decode 'VLAN header'. 4 byte(s) would be required, but only 1 byte(s) "
-       "are available based on the slice length ('VLAN header' starts at overall parsed byte 14). At least 3 bytes are missing."),
-    ("a cooked capture", f"#sll:{SLL}", [
-        ["Linux cooked capture v1", "0 to 16", {"Packet type": "0 (to us)", "ARPHRD type": "1 (Ethernet)", "Address length": "6",
-                                                "Address": "02:00:00:00:00:01:00:00", "Protocol": "0x0806 (ARP)"}],
-        ["ARP", "16 to 44", {
-            "Hardware type ar$hrd": "1 (Ethernet)", "Protocol type ar$pro": "0x0800 (IPv4)", "Hardware address length ar$hln": "6",
-            "Protocol address length ar$pln": "4", "Operation ar$op": "2 (reply)", "Sender hardware address ar$sha": "02:00:00:00:00:01",
-            "Sender protocol address ar$spa": "192.0.2.1", "Target hardware address ar$tha": "02:00:00:00:00:02",
-            "Target protocol address ar$tpa": "192.0.2.2"}],
-    ], "Left at 44: what follows the ARP packet"),
-    ("a frame with a check sequence", f"#fcs:{IPV4}e9c0cdc8", [
-        ["Ethernet II", "0 to 14", {"Destination address": "02:00:00:00:00:01", "Source address": "02:00:00:00:00:02", "EtherType": "0x0800 (IPv4)",
-                                    "Frame check sequence FCS": "e9c0cdc8"}],
-    ], "Left 14 to 16: payload of type 0x0800 (IPv4)"),
-    ("what an ether type announces", "#type-0806:" + ARP_IN_VLAN[36:52], [], "Not read 0 to 8: at offset 0: Address Resolution Protocol Packet Error: "
-     "Not enough data to decode 'Address Resolution Protocol packet'. 28 byte(s) would be required, but only 8 byte(s) are available"),
-]
-
-
-def check(what, holds, said=""):
-    counts[bool(holds)] += 1
-    if not holds:
-        print(f"page: {what}: {said}")
-
-
-# ---- captures, by the descriptions of their formats
-
-def classic(packets, link=1, order=">"):
-    """A classic file; of each packet seconds, bytes, original length."""
-    header = struct.pack(f"{order}IHHIIII", 0xA1B2C3D4, 2, 4, 0, 0, 262144, link)
-    return header + b"".join(struct.pack(f"{order}IIII", seconds, 5, len(data), length) + data for seconds, data, length in packets)
-
-
-def block(kind, body):
-    body += bytes(-len(body) % 4)
-    length = struct.pack("<I", len(body) + 12)
-    return struct.pack("<I", kind) + length + body + length
-
-
-def pcapng(packets, link=1):
-    start = block(0x0A0D0D0A, struct.pack("<IHHq", 0x1A2B3C4D, 1, 0, -1)) + block(1, struct.pack("<HHI", link, 0, 262144))
-    times = ((seconds * 10**6 + 5, data, length) for seconds, data, length in packets)
-    return start + b"".join(block(6, struct.pack("<IIIII", 0, time >> 32, time % 2**32, len(data), length) + data) for time, data, length in times)
-
-
-PACKETS = [(1700000000, bytes.fromhex(ARP_IN_VLAN), 46), (1700000001, bytes.fromhex(IPV4), 60), (1700000002, bytes.fromhex(CUT_BY_CAPTURE), 60)]
-ROWS = [
-    ["1", "2023-11-14", "22:13:20.000005", "46", "VLAN 291 › ARP"],
-    ["2", "2023-11-14", "22:13:21.000005", "16 of 60", "IPv4"],
-    ["3", "2023-11-14", "22:13:22.000005", "19 of 60", "VLAN 1 › not read further"],
-]
-
-# ---- what the page shows
-
-TREE = """[...document.querySelectorAll('#headers details')].map(node => [
-    node.querySelector('summary b').innerText, node.querySelector('summary').innerText.slice(node.querySelector('summary b').innerText.length).trim(),
-    Object.fromEntries([...node.querySelectorAll('li')].map(row => [row.querySelector('.name').innerText, row.querySelector('.value').innerText]))])"""
-ENDING = "(document.querySelector('#headers .rest, #headers .fault') ?? {innerText: ''}).innerText"
-LIST = "[...document.querySelectorAll('.row')].map(row => [...row.children].map(cell => cell.textContent))"
-
-
-def tree(page):
-    found = page.evaluate(TREE)
-    for _, _, fields in found:
-        fields.pop("Payload", None)
-    return found
 
 
 def test_examples(page):
@@ -136,52 +36,78 @@ def test_examples(page):
         check(f"{name}, ending", said.startswith(ending) or said == ending, said)
 
 
-def drop(page, folder, name, data):
-    path = f"{folder}/{name}"
-    with open(path, "wb") as file:
-        file.write(data)
-    page.drop(path)
-    page.wait(f"document.title.startsWith({name!r})")
-
-
 def test_captures(page, folder):
-    for name, data in [("classic.pcap", classic(PACKETS)), ("little.pcap", classic(PACKETS, order="<")), ("blocks.pcapng", pcapng(PACKETS))]:
+    for name, data in [("classic.pcap", classic(PACKETS)), ("little.pcap", classic(PACKETS, order="<")),
+                       ("blocks.pcapng", pcapng(PACKETS))]:
         page.open(INDEX)
         drop(page, folder, name, data)
         check(f"{name}, list", page.evaluate(LIST) == ROWS, page.evaluate(LIST))
         check(f"{name}, first packet", tree(page) == EXAMPLES[0][2], tree(page))
-        check(f"{name}, whole", page.evaluate("document.querySelector('#ending').hidden"))
+        check(f"{name}, whole", is_hidden(page, "#ending"))
     page.open(INDEX)
     drop(page, folder, "cut.pcap", classic(PACKETS)[:-3])
     check("cut.pcap, list", page.evaluate(LIST) == ROWS[:2], page.evaluate(LIST))
-    said = page.evaluate("document.querySelector('#ending').innerText")
+    said = text(page, "#ending")
     check("cut.pcap, where it ends", said.startswith("At byte 118: "), said)
     drop(page, folder, "no.pcap", b"no capture")
-    said = page.evaluate("document.querySelector('#notice').innerText")
+    said = text(page, "#notice")
     check("no capture", said.startswith("no.pcap has no packets. At byte 0: "), said)
     page.open(INDEX)
-    with open(f"{folder}/chosen.pcap", "wb") as file:
-        file.write(classic(PACKETS))
-    page.choose("#file", f"{folder}/chosen.pcap")
+    page.choose("#file", save(folder, "chosen.pcap", classic(PACKETS)))
     page.wait("document.title.startsWith('chosen.pcap')")
     check("a chosen file", page.evaluate(LIST) == ROWS, page.evaluate(LIST))
 
 
+CUT_CELLS = """[...document.querySelectorAll('#list th, #list td:not(.line)')]
+    .filter(cell => cell.scrollWidth > cell.clientWidth).map(cell => cell.textContent)"""
+
+
+def test_rows(page, folder):
+    """Addresses, days and times in the rows, none of them cut."""
+    def linked(link, frame, length=262144):
+        return classic([(1700000000, bytes.fromhex(digits(frame)), length)], link=link)
+
+    v2 = "0800 0000 00000003 0001 00"
+    far = pcapng([(253402300800, bytes.fromhex(IPV4), 16)])
+    nano = classic(PACKETS[1:2], magic=0xA1B23C4D, fraction=123456789)
+    when = ROWS[0][1:3]
+    for name, data, row in [
+            ("six.pcap", linked(113, SLL), [*when, "02:00:00:00:00:01", ""]),
+            ("four.pcap", linked(113, "0000 0001 0004 c000020100000000 0800"), [*when, "c0:00:02:01", ""]),
+            ("none.pcap", linked(113, "0000 0001 0000 0000000000000000 0800"), [*when, "", ""]),
+            ("long.pcap", linked(113, "0000 0001 0014 0102030405060708 0800"), [*when, "01:02:03:04:05:06:07:08", ""]),
+            ("six2.pcap", linked(276, SLL2), [*when, "02:00:00:00:00:01", ""]),
+            ("four2.pcap", linked(276, v2 + "04 c000020100000000"), [*when, "c0:00:02:01", ""]),
+            ("long2.pcap", linked(276, v2 + "14 0102030405060708"), [*when, "01:02:03:04:05:06:07:08", ""]),
+            ("short.pcap", linked(1, IPV4[:26]), [*when, "", ""]),
+            ("nano.pcap", nano, ["2023-11-14", "22:13:21.123456789", *ROWS[1][3:5]]),
+            ("far.pcapng", far, ["+010000-01-01", "00:00:00.000005", *ROWS[1][3:5]])]:
+        page.open(INDEX)
+        drop(page, folder, name, data)
+        found = page.evaluate(LIST)[0][1:5]
+        check(f"{name}, row", found == row, found)
+        for width in [320, 800, 1024, 1280, 1600]:
+            page.resize(width, 800)
+            cut = page.evaluate(CUT_CELLS)
+            check(f"{name}, nothing is cut at {width} px", not cut, cut)
+    page.resize(1280, 800)
+
+
 def test_links(page, folder):
     """Other links: cooked capture v2, and one that the walk does not know."""
-    sll2 = bytes.fromhex("0806 0000 00000003 0001 00 06 0200000000010000".replace(" ", "") + SLL[32:])
     page.open(INDEX)
-    drop(page, folder, "any.pcap", classic([(1700000000, sll2, 48)], link=276))
+    drop(page, folder, "any.pcap", classic([(1700000000, bytes.fromhex(SLL2), 48)], link=276))
     headers = tree(page)
     names = [header[:2] for header in headers]
     check("cooked capture v2", names == [["Linux cooked capture v2", "0 to 20"], ["ARP", "20 to 48"]], names)
     fields = headers[0][2] if headers else {}
-    expected = {"Protocol type": "0x0806 (ARP)", "Reserved": "0", "Interface index": "3", "ARPHRD type": "1 (Ethernet)", "Packet type": "0 (to us)",
-                "Address length": "6", "Address": "02:00:00:00:00:01:00:00"}
+    expected = {"Protocol type": "0x0806 (ARP)", "Reserved": "0", "Interface index": "3",
+                "ARPHRD type": "1 (Ethernet)", "Packet type": "0 (to us)", "Address length": "6",
+                "Address": "02:00:00:00:00:01:00:00"}
     check("cooked capture v2, fields", fields == expected, fields)
     page.open(INDEX)
     drop(page, folder, "raw.pcap", classic([(1700000000, b"E", 1)], link=101))
-    check("another link", page.evaluate(LIST)[0][4] == "link type 101", page.evaluate(LIST))
+    check("another link", page.evaluate(LIST)[0][3:] == ["", "", "1", "link type 101"], page.evaluate(LIST))
 
 
 def test_keys_and_marks(page, folder):
@@ -192,10 +118,12 @@ def test_keys_and_marks(page, folder):
     for key, row in [("ArrowDown", "1"), ("End", "2"), ("ArrowUp", "1"), ("Home", "0")]:
         page.press(key)
         check(f"key {key}", page.evaluate(chosen) == row, page.evaluate(chosen))
-    marked = "[...document.querySelectorAll('#dump span.marked')].map(cell => Number(cell.dataset.at))"
+    marked = "[...document.querySelectorAll('.hex .marked')].map(cell => Number(cell.dataset.at))"
+    letters = marked.replace("hex", "text")
     page.point("#headers details:nth-child(2) li:nth-child(3)")
     check("a field marks its bytes", page.evaluate(marked) == [14, 15], page.evaluate(marked))
-    page.point("#dump span:nth-child(17)")
+    check("a field marks its text", page.evaluate(letters) == [14, 15], page.evaluate(letters))
+    page.point(".hex [data-at='16']")
     names = page.evaluate("[...document.querySelectorAll('#headers li.marked .name')].map(name => name.innerText)")
     check("a byte marks its fields", names == ["Payload", "EtherType"], names)
     page.point("h1")
@@ -203,21 +131,49 @@ def test_keys_and_marks(page, folder):
     check("a field with the focus marks its bytes", page.evaluate(marked) == [0, 1, 2, 3, 4, 5], page.evaluate(marked))
     page.click(".row:nth-child(2)")
     check("a click", page.evaluate(chosen) == "1", page.evaluate(chosen))
-    colors = page.evaluate("[...document.querySelectorAll('#dump span')].map(cell => cell.className)")
+    colors = page.evaluate("[...document.querySelectorAll('.hex span')].map(cell => cell.className)")
     check("bytes by header", colors == ["kind1"] * 14 + ["left"] * 2, colors)
 
 
 def test_selection(page, folder):
     page.open(INDEX)
     drop(page, folder, "selection.pcap", classic(PACKETS))
-    selected = "document.querySelector('#selected').innerText"
-    for expression, numbers, said in [("vlan", ["1", "3"], "2 of 3 packets"), ("vlan 291 and arp", ["1"], "1 of 3 packets"),
-                                      ("cut", ["2", "3"], "2 of 3 packets"), ("ip6", [], "0 of 3 packets"),
-                                      ("vlan and", [], "At byte 8: expected a primitive, `not` or `(`.")]:
-        page.evaluate("document.querySelector('#expression').value = ''; document.querySelector('#expression').focus()")
-        page.write(expression)
+    for expression, numbers, said in [
+            ("vlan", ["1", "3"], "2 of 3 packets"), ("vlan 291 and arp", ["1"], "1 of 3 packets"),
+            ("cut", ["2", "3"], "2 of 3 packets"), ("ip6", [], "No packet matches: 0 of 3 packets")]:
+        write_expression(page, expression)
         rows = [row[0] for row in page.evaluate(LIST)]
-        check(f"select {expression}", (rows, page.evaluate(selected)) == (numbers, said), (rows, page.evaluate(selected)))
+        found = (rows, text(page, "#selected"))
+        check(f"select {expression}", found == (numbers, said), found)
+        check(f"select {expression}, in the list", is_hidden(page, "#none") == bool(numbers))
+
+
+def test_wrong_selection(page, folder):
+    """Why and where a filter is wrong stands below its field, and the list is that of the filter before it."""
+    page.open(INDEX)
+    drop(page, folder, "wrong.pcap", classic(PACKETS))
+    for before, expression, reason, word in [
+            ("", "vlan and", "At byte 8: expected a primitive, `not` or `(`.", "…"),
+            ("vlan", " vlan 5000", "At byte 6: expected a number up to 4095.", "5000"),
+            ("cut", "cut or frob 3", "At byte 7: expected a primitive, `not` or `(`.", "frob")]:
+        write_expression(page, before)
+        rows = page.evaluate(LIST)
+        write_expression(page, expression)
+        said = page.evaluate("document.querySelector('#selected').textContent")
+        check(f"wrong {expression}", said.startswith(reason) and said.endswith("The list is unchanged."), said)
+        marked = page.evaluate("document.querySelector('#selected mark').textContent")
+        check(f"wrong {expression}, place", marked == word, marked)
+        check(f"wrong {expression}, list", page.evaluate(LIST) == rows, page.evaluate(LIST))
+    near = page.evaluate("""(() => {
+        const rectangle = (id) => document.getElementById(id).getBoundingClientRect();
+        const [field, told] = [rectangle('expression'), rectangle('selected')];
+        return [told.left - field.left, told.top - field.bottom, told.height > 0]; })()""")
+    check("told below the field", abs(near[0]) < 10 and 0 <= near[1] < 20 and near[2], near)
+    [described] = [node["description"]["value"] for node in page.call("Accessibility.getFullAXTree")["nodes"]
+                   if node.get("name", {}).get("value") == "An expression that selects packets"]
+    check("the field is described by it", described.startswith("At byte 7: expected"), described)
+    write_expression(page, "arp")
+    check("a filter after a wrong one", text(page, "#selected") == "1 of 3 packets")
 
 
 def test_input(page):
@@ -227,39 +183,7 @@ def test_input(page):
     check("pasted digits", page.evaluate("document.querySelector('#headers .fault') !== null"))
     check("the address of a frame", page.evaluate("location.hash") == f"#eth:{CUT}", page.evaluate("location.hash"))
     page.write("x")
-    check("no digits", "hexadecimal" in page.evaluate("document.querySelector('#notice').innerText"))
-
-
-ADDRESS = "location.hash"
-CLICK_LINK = "document.querySelector('#about a').click()"
-ROWS_AND_CHOSEN = "[document.querySelectorAll('.row').length, [...document.querySelectorAll('.row[aria-selected=true]')].map(row => row.dataset.row)]"
-
-
-def state(page):
-    """What the page shows: how many rows with those that are selected, the headers' names, the title and the address."""
-    return [page.evaluate(ROWS_AND_CHOSEN), [header[0] for header in tree(page)], page.evaluate("document.title"), page.evaluate(ADDRESS)]
-
-
-def go(page, action, *words):
-    """Does what changes the page's address, and waits until the page has seen it."""
-    page.evaluate("""window.gone = new Promise(done => {
-        addEventListener('hashchange', () => setTimeout(done), {once: true});
-        setTimeout(done, 10000);
-    }); 0""")
-    action(*words)
-    page.evaluate("window.gone")
-
-
-def back(page, steps=-1):
-    """The browser's Back, or Forward."""
-    go(page, page.evaluate, f"history.go({steps})")
-
-
-def type_digits(page, text):
-    """Types into the field for a frame, a digit at a time."""
-    page.evaluate("document.querySelector('#digits').focus()")
-    for digit in text:
-        page.write(digit)
+    check("no digits", "hexadecimal" in text(page, "#notice"))
 
 
 def test_beside(page, folder):
@@ -272,21 +196,24 @@ def test_beside(page, folder):
     type_digits(page, CUT[0])
     check("one digit", state(page) == packet, state(page))
     type_digits(page, CUT[1:])
-    frame = [[3, []], ["Ethernet II"], "Frame of 15 bytes: not read further · beside.pcap · Packet headers", f"#eth:{CUT}"]
+    title = "Frame of 15 bytes: not read further · beside.pcap · Packet headers"
+    frame = [[3, []], ["Ethernet II"], title, f"#eth:{CUT}"]
     check("a typed frame", state(page) == frame, state(page))
     back(page)
     check("Back from a typed frame", state(page) == packet, state(page))
     check("Back empties the field", page.evaluate("document.querySelector('#digits').value") == "")
     back(page, 1)
     check("Forward to it", state(page) == frame, state(page))
-    go(page, page.evaluate, CLICK_LINK)
+    follow_link(page)
     check("back to the capture", state(page) == packet, state(page))
-    check("the list has the focus", page.evaluate("document.activeElement.id") == "list", page.evaluate("document.activeElement.id"))
+    focused = page.evaluate("document.activeElement.id")
+    check("the list has the focus", focused == "list", focused)
     page.press("ArrowUp")
     first = [[3, ["0"]], ["Ethernet II", "VLAN tag", "ARP"], "beside.pcap, packet 1 · Packet headers", ""]
     check("another packet", state(page) == first, state(page))
-    go(page, page.evaluate, CLICK_LINK)
-    linked = [[3, []], first[1], "Frame of 46 bytes: VLAN 291 › ARP · beside.pcap · Packet headers", f"#eth:{ARP_IN_VLAN}"]
+    follow_link(page)
+    title = "Frame of 46 bytes: VLAN 291 › ARP · beside.pcap · Packet headers"
+    linked = [[3, []], first[1], title, f"#eth:{ARP_IN_VLAN}"]
     check("the link to a frame", state(page) == linked, state(page))
     page.click(".row:nth-child(3)")
     third = [[3, ["2"]], ["Ethernet II", "VLAN tag"], "beside.pcap, packet 3 · Packet headers", ""]
@@ -297,69 +224,105 @@ def test_beside(page, folder):
     check("Back to the capture", state(page) == third, state(page))
 
 
+def test_back_to_place(page, folder):
+    """Back leads to the list as it was scrolled, also where the packet that was chosen is not seen."""
+    page.open(INDEX)
+    drop(page, folder, "place.pcap", classic(PACKETS * 200))
+    page.click(".row:nth-child(3)")
+    page.evaluate("document.querySelector('#scroll').scrollTop = 2800; 0")
+    page.wait("document.querySelector('.row .number').innerText === '101'")
+    place = """[document.querySelector('#scroll').scrollTop, document.querySelector('.row .number').innerText,
+        document.querySelector('#about').innerText.split(' · ')[0], document.querySelector('#digits').value]"""
+    before = page.evaluate(place)
+    check("a place", before == [2800, "101", "Packet 3", ""], before)
+    for name, action in [("digits", lambda: type_digits(page, CUT)), ("the link", lambda: follow_link(page))]:
+        action()
+        check(f"{name}, a frame", text(page, "#about").startswith("Frame"))
+        back(page)
+        check(f"Back to the place from {name}", page.evaluate(place) == before, page.evaluate(place))
+
+
 def test_beside_selection(page, folder):
     """A frame beside packets that are selected, and another capture after it."""
     page.open(f"{INDEX}#eth:{IPV4}")
     alone = [[0, []], ["Ethernet II"], "Frame of 16 bytes: IPv4 · Packet headers", f"#eth:{IPV4}"]
     check("a frame alone", state(page) == alone, state(page))
     drop(page, folder, "first.pcap", classic(PACKETS))
-    page.evaluate("document.querySelector('#expression').focus()")
-    page.write("cut")
+    write_expression(page, "cut")
     type_digits(page, CUT)
-    check("beside a selection", page.evaluate("[...document.querySelectorAll('.row .number')].map(cell => cell.textContent)") == ["2", "3"])
+    check("beside a selection", [row[0] for row in page.evaluate(LIST)] == ["2", "3"])
     back(page)
     selected = [[2, ["0"]], ["Ethernet II"], "first.pcap, packet 2 · Packet headers", ""]
     check("Back to a selection", state(page) == selected, state(page))
-    page.evaluate("document.querySelector('#expression').value = ''; document.querySelector('#expression').focus()")
-    page.write("ip6")
-    none, is_hidden = [[0, []], "first.pcap · Packet headers"], "document.querySelector('#frame').hidden"
-    check("none selected", state(page)[0::2] == none and page.evaluate(is_hidden), state(page))
+    write_expression(page, "ip6")
+    none = [[0, []], "first.pcap · Packet headers"]
+    check("none selected", state(page)[0::2] == none and is_hidden(page, "#frame"), state(page))
     type_digits(page, CUT)
-    check("a frame beside none", state(page)[0] == [0, []] and not page.evaluate(is_hidden), state(page))
+    check("a frame beside none", state(page)[0] == [0, []] and not is_hidden(page, "#frame"), state(page))
     back(page)
-    check("Back to none", state(page)[0::2] == none and page.evaluate(is_hidden), state(page))
+    check("Back to none", state(page)[0::2] == none and is_hidden(page, "#frame"), state(page))
     type_digits(page, CUT)
     drop(page, folder, "second.pcap", classic(PACKETS[1:2]))
     second = [[1, ["0"]], ["Ethernet II"], "second.pcap, packet 1 · Packet headers", ""]
     check("another capture", state(page) == second, state(page))
     back(page)
-    before = [[1, []], ["Ethernet II"], "Frame of 15 bytes: not read further · second.pcap · Packet headers", f"#eth:{CUT}"]
+    title = "Frame of 15 bytes: not read further · second.pcap · Packet headers"
+    before = [[1, []], ["Ethernet II"], title, f"#eth:{CUT}"]
     check("Back to the frame before it", state(page) == before, state(page))
-    page.evaluate("document.querySelector('#digits').value = ''; document.querySelector('#digits').dispatchEvent(new Event('input'))")
+    page.evaluate("""{
+        const field = document.querySelector('#digits');
+        field.value = '';
+        field.dispatchEvent(new Event('input'));
+    }""")
     check("an empty field", state(page) == second, state(page))
     drop(page, folder, "none.pcap", b"no capture")
     parts = page.evaluate("[...document.querySelectorAll('main section')].map(part => part.hidden)")
-    check("no capture", state(page)[2:] == ["none.pcap · Packet headers", ""] and parts == [False, True, True], (state(page), parts))
+    found = (state(page)[2:], parts)
+    check("no capture", found == (["none.pcap · Packet headers", ""], [False, True, True]), found)
 
 
-def accessible(page):
-    """The roles and names of what the accessibility tree has."""
-    nodes = page.call("Accessibility.getFullAXTree")["nodes"]
-    return [(node["role"]["value"], node.get("name", {}).get("value", "")) for node in nodes if not node["ignored"]]
-
-
-def test_accessible(page, folder):
+def test_accessible(page):
     """The controls in the accessibility tree, as a screen reader has them."""
     page.open(INDEX)
     found = accessible(page)
-    for control in [("button", "Open a capture"), ("combobox", "What the frame begins with"), ("textbox", "A frame as hexadecimal digits")]:
+    for control in [("button", "Open a capture"), ("combobox", "What the frame begins with"),
+                    ("textbox", "A frame as hexadecimal digits")]:
         check(f"the {control[0]} {control[1]}", control in found, found)
     page.call("Page.setInterceptFileChooserDialog", enabled=True)
-    for what, press in [("the keyboard", lambda: (page.press("Tab"), page.press("Enter"))), ("the mouse", lambda: page.click("#open"))]:
+    for what, press in [("the keyboard", lambda: (page.press("Tab"), page.press("Enter"))),
+                        ("the mouse", lambda: page.click("#open"))]:
         before, is_asked, end = len(page.events), False, time.monotonic() + 10
         press()
         while not is_asked and time.monotonic() < end:
-            page.evaluate("new Promise(done => setTimeout(done, 20))")
+            pause(page, 0.02)
             is_asked = any(event.get("method") == "Page.fileChooserOpened" for event in page.events[before:])
-        check(f"the first control asks for a file by {what}", is_asked, page.evaluate("document.activeElement.outerHTML"))
+        focused = page.evaluate("document.activeElement.outerHTML")
+        check(f"the first control asks for a file by {what}", is_asked, focused)
     page.call("Page.setInterceptFileChooserDialog", enabled=False)
+
+
+def test_accessible_list(page, folder):
+    """A capture in the accessibility tree."""
+    page.open(INDEX)
     drop(page, folder, "accessible.pcap", classic(PACKETS))
     found = accessible(page)
-    for control in [("RootWebArea", "accessible.pcap, packet 1 · Packet headers"), ("listbox", "Packets"), ("region", "Headers"), ("region", "Bytes"),
-                    ("textbox", "An expression that selects packets"), ("link", "link to this frame")]:
+    for control in [("RootWebArea", "accessible.pcap, packet 1 · Packet headers"), ("grid", "Packets"),
+                    ("region", "Headers"), ("region", "Bytes"), ("textbox", "An expression that selects packets"),
+                    ("link", "link to this frame")]:
         check(f"the {control[0]} {control[1]}", control in found, found)
-    rows = [name for role, name in found if role == "option"][-3:]
-    check("the packets", rows == [" ".join(row[:1] + row[2:]) for row in ROWS], rows)
+    heads = [name for role, name in found if role == "columnheader"]
+    check("the headings", heads == HEADINGS, heads)
+    cells = [name for role, name in found if role == "gridcell"]
+    check("the packets", cells == sum(ROWS, []), cells)
+    scopes = page.evaluate("[...document.querySelectorAll('#list th')].map(head => head.scope)")
+    check("the scopes of the headings", scopes == ["col"] * len(HEADINGS), scopes)
+    counted = page.evaluate("[document.querySelector('#list').ariaRowCount, "
+                            "[...document.querySelectorAll('.row')].map(row => row.ariaRowIndex)]")
+    check("the rows are counted with that of the headings", counted == ["4", ["2", "3", "4"]], counted)
+    page.evaluate("document.querySelector('#list').focus()")
+    page.press("ArrowDown")
+    active = text(page, "#" + page.evaluate("document.querySelector('#list').getAttribute('aria-activedescendant')"))
+    check("the row that is told of", active.split() == ROWS[1][:5] + "16 of 60 IPv4".split(), active)
 
 
 def test_many(page, folder):
@@ -375,16 +338,20 @@ def test_many(page, folder):
     check("100,000 packets, first row within a second", took < 1000, f"{took:.0f} ms")
     page.evaluate("document.querySelector('#list').focus()")
     page.press("End")
-    last = page.evaluate("document.querySelector('.row:last-child').innerText")
+    last = text(page, ".row:last-child")
     check("100,000 packets, last row", last.startswith("100,000"), last)
-    page.evaluate("document.querySelector('#list').scrollTop = document.querySelector('#height').offsetHeight / 2")
-    page.wait("document.querySelector('.row .number').innerText.startsWith('50,') || document.querySelector('.row .number').innerText.startsWith('49,')")
+    heights = page.evaluate("""(() => {
+        const rectangle = (selector) => document.querySelector(selector).getBoundingClientRect();
+        return [rectangle('.row').height, rectangle('.row:last-child').bottom <= rectangle('#scroll').bottom]; })()""")
+    check("100,000 packets, the last row is seen whole", heights == [28, True], heights)
+    page.evaluate("document.querySelector('#scroll').scrollTop = document.querySelector('#height').offsetHeight / 2")
+    page.wait("/^(49|50),/.test(document.querySelector('.row .number').innerText)")
     check("100,000 packets, in the middle", True)
     begin = time.monotonic()
-    page.evaluate("document.querySelector('#expression').value = ''; document.querySelector('#expression').focus()")
-    page.write("vlan 291")
-    check("100,000 packets, selected", page.evaluate("document.querySelector('#selected').innerText") == "50,000 of 100,000 packets")
-    print(f"page: 100,000 packets: first row after {took:.0f} ms, selected after {(time.monotonic() - begin) * 1000:.0f} ms")
+    write_expression(page, "vlan 291")
+    check("100,000 packets, selected", text(page, "#selected") == "50,000 of 100,000 packets")
+    selected = (time.monotonic() - begin) * 1000
+    print(f"page: 100,000 packets: first row after {took:.0f} ms, selected after {selected:.0f} ms")
 
 
 def test_long(page, folder):
@@ -392,17 +359,99 @@ def test_long(page, folder):
     page.open(INDEX)
     drop(page, folder, "long.pcap", classic([(1700000000, bytes.fromhex(IPV4) + bytes(200_000), 200_016)]))
     page.evaluate("document.querySelector('#dump button').click()")
-    shown = page.evaluate("[document.querySelectorAll('#dump span').length, document.querySelector('#dump button') === null]")
+    shown = page.evaluate("""[document.querySelectorAll('.hex span').length,
+        document.querySelector('#dump button') === null]""")
     check("a long packet", shown == [200_016, True], shown)
+    ends = page.evaluate("""['first', 'last'].map(which => {
+        const line = document.querySelector(`.bytes:${which}-child`);
+        return [line.querySelector('.offset').innerText, line.querySelector('.text').getBoundingClientRect().left];
+    })""")
+    check("a long packet, offsets", [offset for offset, _ in ends] == ["0", "200000"], ends)
+    check("a long packet, the text is a column", ends[0][1] == ends[1][1], ends)
+
+
+def test_bytes(page):
+    """Offsets and ASCII beside the bytes, as `hexdump -C` lays them out, but for the offsets, which are decimal."""
+    page.open(f"{INDEX}#eth:" + digits("020000000001 020000000002 0800 45 1f 20 7e 7f 80 48692074 68657265 ff"))
+    lines = [["0", "02 00 00 00 00 01 02 00 00 00 00 02 08 00 45 1f", "..............E."],
+             ["16", "20 7e 7f 80 48 69 20 74 68 65 72 65 ff", " ~..Hi there."]]
+    check("bytes", page.evaluate(LINES) == lines, page.evaluate(LINES))
+    edges = page.evaluate("""[...document.querySelectorAll('.bytes .text')].map(
+        text => text.getBoundingClientRect().left)""")
+    check("the text is a column", len(edges) == 2 and edges[0] == edges[1], edges)
+    page.evaluate("getSelection().selectAllChildren(document.querySelector('#dump'))")
+    copied = page.evaluate("getSelection().toString()").split()
+    check("digits alone are copied", copied == [line[1].replace(" ", "") for line in lines], copied)
+    page.resize(320, 720)
+    narrow = [["0", "02 00 00 00 00 01 02 00", "........"], ["8", "00 00 00 02 08 00 45 1f", "......E."],
+              ["16", "20 7e 7f 80 48 69 20 74", " ~..Hi t"], ["24", "68 65 72 65 ff", "here."]]
+    page.wait("document.querySelectorAll('.bytes').length === 4")
+    check("bytes, 320 px", page.evaluate(LINES) == narrow, page.evaluate(LINES))
+    widths = page.evaluate("""(() => {
+        const dump = document.querySelector('#dump');
+        return [dump.scrollWidth, dump.clientWidth]; })()""")
+    check("bytes, 320 px, seen", widths[0] <= widths[1], widths)
+    page.resize(1280, 800)
+
+
+def test_compressed(page, folder):
+    """A capture that gzip compressed is decompressed; other ways of compression are named."""
+    data = classic(PACKETS)
+    page.open(INDEX)
+    drop(page, folder, "packed.pcap.gz", gzip.compress(data))
+    check("gzip, list", page.evaluate(LIST) == ROWS, page.evaluate(LIST))
+    check("gzip, nothing is told", is_hidden(page, "#notice"))
+    drop(page, folder, "fault.pcap.gz", gzip.compress(data[:-3]))
+    said = text(page, "#ending")
+    end = " Offsets count bytes of the decompressed file."
+    check("gzip, a fault", said.startswith("At byte 118: ") and said.endswith(end), said)
+    compressed = gzip.compress(data)
+    for name, data, way, tool in [
+            ("cut.gz", compressed[:-9], "gzip", "gunzip"), ("bad.gz", compressed[:-8] + bytes(8), "gzip", "gunzip"),
+            ("two.gz", compressed * 2, "gzip", "gunzip"), ("head.gz", b"\x1f\x8b", "gzip", "gunzip"),
+            ("other.bz2", bz2.compress(data), "bzip2", "bunzip2"), ("other.xz", lzma.compress(data), "xz", "unxz"),
+            ("other.zst", bytes.fromhex("28b52ffd"), "zstd", "unzstd"),
+            ("other.lz4", bytes.fromhex("04224d18"), "lz4", "unlz4")]:
+        said = told(page, save(folder, name, data))
+        begin, end = f"{name} could not be read: it is compressed with {way}", f"Decompress it first, as {tool} does."
+        check(f"{name}, told", said.startswith(begin) and said.endswith(end), said)
+        check(f"{name}, the capture is kept", page.evaluate("document.title").startswith("fault.pcap.gz"))
+
+
+def test_files(page, folder):
+    """Of several files that are dropped the first is opened, and the page says so; of two in turn the second."""
+    one, two = save(folder, "one.pcap", classic(PACKETS)), save(folder, "two.pcap", classic(PACKETS[:1]))
+    bad = save(folder, "bad.pcap", b"no capture")
+    page.open(INDEX)
+    said = told(page, one, two)
+    check("two files", said == "2 files were dropped; only the first, one.pcap, was opened.", said)
+    check("two files, list", page.evaluate(LIST) == ROWS and page.evaluate("document.title").startswith("one.pcap"))
+    said = told(page, bad, one, two)
+    check("three files", said.startswith("bad.pcap has no packets. At byte 0: ")
+          and said.endswith(" 3 files were dropped; only the first, bad.pcap, was opened."), said)
+    drop(page, folder, "two.pcap", classic(PACKETS[:1]))
+    check("one file, nothing is told", is_hidden(page, "#notice"))
+    title = page.evaluate("""(async () => {
+        let finish;
+        const slow = new File(['no capture'], 'slow.pcap');
+        slow.slice = () => ({ arrayBuffer: () => new Promise(done => { finish = () => done(new ArrayBuffer(4)); }) });
+        const first = window.page.openFiles([slow]);
+        await window.page.openFiles([new File([Uint8Array.from(%s)], 'quick.pcap')]);
+        finish();
+        await first;
+        return document.title;
+    })()""" % list(classic(PACKETS)))
+    check("a file after one that takes longer", title.startswith("quick.pcap"), title)
+    check("a file after one that takes longer, list", page.evaluate(LIST) == ROWS and is_hidden(page, "#notice"))
 
 
 def test_old_browser(page):
-    told = page.call("Page.addScriptToEvaluateOnNewDocument",
-                     source="WebAssembly.instantiate = () => Promise.reject(new WebAssembly.CompileError('memory64'));")
+    source = "WebAssembly.instantiate = () => Promise.reject(new WebAssembly.CompileError('memory64'));"
+    script = page.call("Page.addScriptToEvaluateOnNewDocument", source=source)
     page.open(INDEX)
-    notice = page.evaluate("document.querySelector('#notice').innerText")
+    notice = text(page, "#notice")
     check("no 64-bit memories", "Chromium" in notice and "Firefox" in notice, notice)
-    page.call("Page.removeScriptToEvaluateOnNewDocument", identifier=told["identifier"])
+    page.call("Page.removeScriptToEvaluateOnNewDocument", identifier=script["identifier"])
 
 
 def test_narrow(page, folder):
@@ -410,12 +459,14 @@ def test_narrow(page, folder):
     page.open(INDEX)
     check("320 px, empty", page.evaluate("document.scrollingElement.scrollWidth") <= 320)
     drop(page, folder, "narrow.pcap", classic(PACKETS))
-    check("320 px, a capture", page.evaluate("document.scrollingElement.scrollWidth") <= 320, page.evaluate("document.scrollingElement.scrollWidth"))
+    width = page.evaluate("document.scrollingElement.scrollWidth")
+    check("320 px, a capture", width <= 320, width)
     page.resize(1280, 800)
 
 
 def test_silence(page):
-    asked = [event["params"]["request"]["url"] for event in page.events if event.get("method") == "Network.requestWillBeSent"]
+    requests = [event for event in page.events if event.get("method") == "Network.requestWillBeSent"]
+    asked = [event["params"]["request"]["url"] for event in requests]
     sent = [url for url in asked if not url.startswith(("file:", "data:", "about:"))]
     check("nothing is sent", not sent, sent)
     refused = page.evaluate("fetch('http://127.0.0.1:9/').then(() => false, () => true)")
@@ -431,20 +482,23 @@ def test_against_tshark(page, folder):
     for number in range(64):
         tags = [f"{0x8100 if number % 2 else 0x88a8:04x}{number * 977 % 65536:04x}"] * (number % 4)
         arp = f"0001080006040001{number:012x}0a0000{number:02x}ffffffffffff0a000001"
-        frames.append(bytes.fromhex(f"ffffffffffff02000000{number:04x}" + "".join(tags) + ("0806" + arp if number % 3 else "0800" + "45" * 20)))
+        payload = "0806" + arp if number % 3 else "0800" + "45" * 20
+        frames.append(bytes.fromhex(f"ffffffffffff02000000{number:04x}" + "".join(tags) + payload))
     path = f"{folder}/frames.pcap"
     with open(path, "wb") as file:
         file.write(classic([(1700000000 + number, frame, len(frame)) for number, frame in enumerate(frames)]))
-    told = xml.fromstring(subprocess.run(["tshark", "-r", path, "-T", "pdml"], capture_output=True, check=True).stdout)
+    ran = subprocess.run(["tshark", "-r", path, "-T", "pdml"], capture_output=True, check=True)
     wanted = {"eth.dst": 1, "eth.src": 2, "vlan.id": 11, "ieee8021ad.svid": 11, "ieee8021ad.cvid": 11,
-              "ieee8021ad.id": 11, "arp.opcode": 29, "arp.src.hw_mac": 30, "arp.src.proto_ipv4": 31, "arp.dst.hw_mac": 32,
-              "arp.dst.proto_ipv4": 33}
+              "ieee8021ad.id": 11, "arp.opcode": 29, "arp.src.hw_mac": 30, "arp.src.proto_ipv4": 31,
+              "arp.dst.hw_mac": 32, "arp.dst.proto_ipv4": 33}
     page.open(INDEX)
     page.drop(path)
     page.wait("document.title.startsWith('frames.pcap')")
-    ours = page.evaluate("""Array.from({length: 64}, (_, index) => page.decoder.fields(page.decoder.frameOf(index)).map(field =>
-        [field.name, Math.floor(field.bit / 8), Math.ceil((field.bit + field.bits) / 8), field.bits <= 16 ? Number(field.value) : 0]))""")
-    for number, packet in enumerate(told.iter("packet")):
+    ours = page.evaluate("""Array.from({length: 64}, (_, index) =>
+        page.decoder.fields(page.decoder.frameOf(index)).map(field => [
+            field.name, Math.floor(field.bit / 8), Math.ceil((field.bit + field.bits) / 8),
+            field.bits <= 16 ? Number(field.value) : 0]))""")
+    for number, packet in enumerate(xml.fromstring(ran.stdout).iter("packet")):
         theirs = []
         for field in packet.iter("field"):
             if field.get("name") in wanted:
@@ -474,7 +528,8 @@ def pictures(page, target, folder):
 
 def build():
     """Makes the page over crates that are proved."""
-    ran = subprocess.run(["sh", f"{TOP}/build.sh", "proved"], stdout=subprocess.PIPE, stderr=subprocess.STDOUT, text=True, errors="replace")
+    ran = subprocess.run(["sh", f"{TOP}/build.sh", "proved"], stdout=subprocess.PIPE, stderr=subprocess.STDOUT,
+                         text=True, errors="replace")
     if ran.returncode:
         print(ran.stdout)
     return ran.returncode == 0
@@ -492,10 +547,12 @@ def main():
     else:
         with Page() as page, tempfile.TemporaryDirectory() as folder:
             test_examples(page)
-            for test in [test_captures, test_links, test_keys_and_marks, test_selection, test_beside, test_beside_selection, test_accessible,
-                         test_many, test_long, test_narrow, test_against_tshark]:
+            for test in [test_captures, test_rows, test_links, test_keys_and_marks, test_selection,
+                         test_wrong_selection, test_beside, test_back_to_place, test_beside_selection,
+                         test_accessible_list, test_compressed, test_files, test_many, test_long, test_narrow,
+                         test_against_tshark]:
                 test(page, folder)
-            for test in [test_input, test_old_browser, test_silence]:
+            for test in [test_bytes, test_accessible, test_input, test_old_browser, test_silence]:
                 test(page)
             if given.pictures:
                 pictures(page, given.pictures, folder)
