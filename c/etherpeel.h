@@ -1149,9 +1149,10 @@ uint32_t etherpeel_filter_matches(const etherpeel_filter *filter, const etherpee
 /* etherpeel_filter_decide - whether a filter selects a packet, as far as its captured bytes say
  *
  * Returns a number of enum etherpeel_decision. ETHERPEEL_FAILS and ETHERPEEL_MATCHES hold whatever
- * the bytes are that were cut off, those up to `original_len`. A packet that was not cut is never
- * ETHERPEEL_UNDECIDED, nor one of a link type that the walk does not know. Of a filter that
- * etherpeel_filter_parse did not write, the result says nothing.
+ * bytes of the frame were cut off, up to `original_len`; those of a frame check sequence count as
+ * bytes of the frame. A packet that was not cut is never ETHERPEEL_UNDECIDED, nor one of a link
+ * type that the walk does not know. Of a filter that etherpeel_filter_parse did not write, the
+ * result says nothing.
  * Every number is in host byte order. Thread-safe, also with one filter in several threads; takes
  * no memory.
  */

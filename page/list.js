@@ -1,4 +1,4 @@
-// The packets of a capture: a table, of which only the rows that are seen are made.
+// The packets of a capture: a table that makes only the rows in view.
 
 // as page.css has it, also of the headings
 const ROW_HEIGHT = 28;
