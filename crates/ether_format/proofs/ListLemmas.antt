@@ -1,0 +1,47 @@
+-- Text that is written for each element of a list.
+use Rattle.std.proofs.Common.{◌≡◌, ℕ, zero, suc, ◌+◌, ◌<◌, ◌≤◌, List, [], ◌∷◌, ◌++◌, length, drop, Option, refl, sym, ap, ◌∙◌, append_assoc, append-nil, arith}
+use Rattle.std.specs.Prelude.{slice_index_or}
+use Rattle.std.specs.List.{flat_map}
+use Rattle.ether_text.specs.OutputBuffer.{Takes}
+use Rattle.ether_text.specs.declared.output_buffer.OutputBuffer.{OutputBuffer}
+use Rattle.ether_text.proofs.OutputBufferLemmas.{Takes-none, Takes-then, Takes-same}
+
+-- the text so far is that of the first elements
+pub record WritesFirst {W X : Type 0} (contents : W → Option (List ℕ)) (can_fail : Type 0) (f : X → List ℕ) (list : List X) (count : ℕ)
+    (old new : OutputBuffer W) : Type 0 where
+  pub text : List ℕ
+  pub taken : Takes contents can_fail old text new
+  pub parts : text ++ flat_map f (drop count list) ≡ flat_map f list
+
+next_text : {X : Type 0} (f : X → List ℕ) (list : List X) (n : ℕ) (x : X) → n < length list
+    → flat_map f (drop n list) ≡ f (slice_index_or list n x) ++ flat_map f (drop (suc n) list)
+next_text f [] n x lt = absurd (omega (arith, lt))
+next_text f (y ∷ l) zero x lt = refl
+next_text f (y ∷ l) (suc n) x lt = next_text f l n x (omega (arith, lt))
+
+none_after : {X : Type 0} (f : X → List ℕ) (list : List X) (n : ℕ) → length list ≤ n → flat_map f (drop n list) ≡ []
+none_after f [] zero le = refl
+none_after f [] (suc n) le = refl
+none_after f (y ∷ l) zero le = absurd (omega (arith, le))
+none_after f (y ∷ l) (suc n) le = none_after f l n (omega (arith, le))
+
+module _ {W X : Type 0} (contents : W → Option (List ℕ)) (can_fail : Type 0) (f : X → List ℕ) (list : List X) where
+  pub first_none : (out : OutputBuffer W) → WritesFirst contents can_fail f list 0 out out
+  first_none out = record { text = []; taken = Takes-none contents can_fail out; parts = refl }
+
+  pub first_next : (n : ℕ) (x : X) (old mid new : OutputBuffer W) → n < length list
+      → WritesFirst contents can_fail f list n old mid → Takes contents can_fail mid (f (slice_index_or list n x)) new
+      → WritesFirst contents can_fail f list (n + 1) old new
+  first_next n x old mid new lt a taken = record {
+    text = a.text ++ f (slice_index_or list n x);
+    taken = Takes-then a.taken taken;
+    parts =
+        (let e : n + 1 ≡ suc n = omega arith in ap (λ (k : ℕ). (a.text ++ f (slice_index_or list n x)) ++ flat_map f (drop k list)) e)
+        ∙ append_assoc a.text (f (slice_index_or list n x)) (flat_map f (drop (suc n) list))
+        ∙ ap (λ (l : List ℕ). a.text ++ l) (sym (next_text f list n x lt)) ∙ a.parts;
+  }
+
+  pub first_all : (n : ℕ) (old new : OutputBuffer W) → length list ≤ n → WritesFirst contents can_fail f list n old new
+      → Takes contents can_fail old (flat_map f list) new
+  first_all n old new le a =
+      Takes-same (sym (append-nil a.text) ∙ ap (λ (l : List ℕ). a.text ++ l) (sym (none_after f list n le)) ∙ a.parts) a.taken

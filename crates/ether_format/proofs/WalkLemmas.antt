@@ -1,0 +1,276 @@
+-- A frame whose headers are written one by one.
+use Rattle.std.proofs.Common.{◌≡◌, ℕ, ◌+◌, ◌-◌, ◌≤◌, List, [], ◌∷◌, ◌++◌, length, Bool, true, false, refl, sym, ap, subst, ◌∙◌, append_assoc, arith, inl, inr}
+use Rattle.std.specs.Prelude.{Option, Some, None, Ok, Err, codes, slice_range, if◌then◌else◌}
+use Rattle.std.proofs.lemmas.Bool.{cases_lt}
+use Rattle.etherparse.specs.Bytes.{IsBytes}
+use Rattle.etherparse.specs.Ethernet2.{Frame, ethernet2_of, fcs_of}
+use Rattle.etherparse.specs.Macsec.{sec_tag_of}
+use Rattle.etherparse.specs.Kind as kinds
+use Rattle.etherparse.specs.Header.{Header, Means}
+use Rattle.etherparse.specs.Header as headers
+use Rattle.etherparse.specs.Refusal.{Refusal, Length, UnsupportedPacketType, UnsupportedHardwareType, UnexpectedVersion, InvalidShortLen, Accepts}
+use Rattle.etherparse.specs.Refusal as rows
+use Rattle.etherparse.proofs.SubLists.{length-part, part_of_part, IsBytes-part}
+use Rattle.ether_peel.specs.Grammar.Window.{Window, within, IsIn, payload}
+use Rattle.ether_peel.specs.Grammar.Expectation.{Expectation}
+use Rattle.ether_peel.specs.Grammar.Stack.{Ending, IsUnit, whole, Walk}
+use Rattle.ether_peel.specs.Grammar.Stack as endings
+use Rattle.ether_peel.specs.Walker.State.{State}
+use Rattle.ether_peel.specs.Walker.Start.{kind_shown}
+use Rattle.ether_peel.specs.Walker.Fault.{fault_in}
+use Rattle.ether_peel.specs.Walker.Next.{Faces, ShowsUnit, Gives}
+use Rattle.ether_peel.proofs.Walker.ViewValues.{ethernet2_shown, linux_sll_shown, vlan_shown, macsec_shown, arp_shown}
+use Rattle.ether_peel.proofs.Walker.Summarizing.{unit_next, fault_next, none_next}
+use Rattle.ether_peel.specs.declared.peel_unit.PeelUnit.{PeelUnit}
+use Rattle.ether_peel.specs.declared.peel_unit.PeelUnit.TheVariants as units
+use Rattle.ether_peel.specs.declared.peel_fault.PeelFault.{PeelFault}
+use Rattle.ether_peel.specs.declared.rest_kind.RestKind.{RestKind}
+use Rattle.ether_text.specs.Lines.{is_accepted}
+use Rattle.ether_text.specs.OutputBuffer.{Takes, TakesAnswer}
+use Rattle.ether_text.specs.declared.output_buffer.OutputBuffer.{OutputBuffer}
+use Rattle.ether_text.proofs.OutputBufferLemmas.{Takes-none, Takes-then}
+use Rattle.ether_format.specs.declared.format.Format.{Format}
+use Rattle.ether_format.specs.declared.place.Place.{Place as DeclaredPlace}
+use Rattle.ether_format.specs.Members.{ethernet2_members}
+use Rattle.ether_format.specs.Told.{Place, Told, Walked, ToldEnd, Rest, fcs_in, place_of, placed_members, told_in, told_stack, told_end, told_members, TellsPayload, TellsWalk}
+use Rattle.ether_format.specs.Json.{json_object}
+use Rattle.ether_format.specs.Walking.{header_of, fcs_shown, place_view, told_view, fault_shown, header_text, end_text, told_text, AnswersTold}
+
+-- ---- what a walker gives tells what it faces
+
+-- a header of Ethernet II is written alike with a frame check sequence and without
+pub ethernet2_object : (place : DeclaredPlace) (f : Frame)
+    → json_object (placed_members (codes "eth") (place_view place) (ethernet2_members (ethernet2_of f.bytes) (fcs_of f)))
+    ≡ json_object (told_members (told_view place (units.Ethernet2 f)))
+ethernet2_object place f = by_mark f.has_fcs
+  where
+    by_mark : (b : Bool)
+        → json_object (placed_members (codes "eth") (place_view place) (ethernet2_members (ethernet2_of f.bytes) (fcs_of f)))
+        ≡ json_object (told_members (Walked (place_view place)
+        (if b then headers.Ethernet2Fcs (ethernet2_of f.bytes) else headers.Ethernet2 (ethernet2_of f.bytes)) (fcs_of f)))
+    by_mark true = refl
+    by_mark false = refl
+
+-- the header of a view
+header_shown : (bytes rest : List ℕ) (h : Header) (u : PeelUnit) → IsBytes bytes → Means bytes h → ShowsUnit bytes rest h u
+    → header_of u ≡ h
+header_shown bytes rest (headers.Ethernet2 e) u ok m shows = ap header_of shows
+    ∙ ap headers.Ethernet2 (ethernet2_shown bytes e ok m)
+header_shown bytes rest (headers.Ethernet2Fcs e) u ok m shows =
+    let plain : Means bytes (headers.Ethernet2 e) = record { whole = m.whole; spells = m.spells } in
+    ap header_of shows ∙ ap headers.Ethernet2Fcs (ethernet2_shown bytes e ok plain)
+header_shown bytes rest (headers.LinuxSll s) u ok m shows = ap header_of shows
+    ∙ ap headers.LinuxSll (linux_sll_shown bytes s ok m)
+header_shown bytes rest (headers.Vlan v) u ok m shows = ap header_of shows ∙ ap headers.Vlan (vlan_shown bytes v ok m)
+header_shown bytes rest (headers.Macsec t) u ok m shows =
+    ap header_of shows.1 ∙ ap (λ (l : List ℕ). headers.Macsec (sec_tag_of l)) shows.2.header
+    ∙ ap headers.Macsec (macsec_shown bytes t ok m)
+header_shown bytes rest (headers.Arp a) u ok m shows = ap header_of shows ∙ ap headers.Arp (arp_shown bytes a ok m)
+
+-- its frame check sequence, the last four bytes of the window
+fcs_is : (list : List ℕ) (w : Window) → IsIn list w → Accepts w.bound (within list w) kinds.Ethernet2Fcs
+    → slice_range (within list w) (length (within list w) - 4) (length (within list w))
+    ≡ slice_range list (w.finish - 4) w.finish
+fcs_is list w inside accepted =
+    let n = length (within list w) in
+    let ordered = inside.ordered in
+    let len : n ≡ w.finish - w.start = length-part list w.start w.finish inside.inside in
+    let long : 18 ≤ n = elim (cases_lt n 18) [ inl lt ↦ absurd (accepted _ (rows.ethernet2_fcs lt)) | inr le ↦ le ] in
+    let from : w.start + (n - 4) ≡ w.finish - 4 = omega arith in
+    let to : w.start + n ≡ w.finish = omega arith in
+    part_of_part list w.start w.finish (n - 4) n (omega arith) (omega arith)
+    ∙ ap (λ (k : ℕ). slice_range list k (w.start + n)) from ∙ ap (slice_range list (w.finish - 4)) to
+
+fcs_of_unit : (list rest : List ℕ) (x : Expectation) (w : Window) (h : Header) (u : PeelUnit) → IsIn list w → IsUnit list x w h
+    → ShowsUnit (within list w) rest h u → fcs_shown u ≡ fcs_in list w h
+fcs_of_unit list rest x w (headers.Ethernet2 e) u inside unit shows = ap fcs_shown shows
+fcs_of_unit list rest x w (headers.Ethernet2Fcs e) u inside unit shows = ap fcs_shown shows
+    ∙ ap Some (fcs_is list w inside unit.accepted)
+fcs_of_unit list rest x w (headers.LinuxSll s) u inside unit shows = ap fcs_shown shows
+fcs_of_unit list rest x w (headers.Vlan v) u inside unit shows = ap fcs_shown shows
+fcs_of_unit list rest x w (headers.Macsec t) u inside unit shows = ap fcs_shown shows.1
+fcs_of_unit list rest x w (headers.Arp a) u inside unit shows = ap fcs_shown shows
+
+-- where a window ends
+same_end : (list : List ℕ) (w : Window) (s : State) (hs : List Header) (e : Ending) → Faces list w s hs e
+    → s.offset + length s.rest ≡ w.finish
+same_end list w s hs e faces =
+    let ordered = faces.inside.ordered in
+    let at = faces.offset in
+    let len : length s.rest ≡ w.finish - w.start = ap length faces.rest
+    ∙ length-part list w.start w.finish faces.inside.inside in
+    omega arith
+
+pub fault_is : (at : ℕ) (w : Window) (x : Expectation) (r : Refusal)
+    → fault_shown at (fault_in w r) ≡ told_end at (endings.Fault w x r)
+fault_is at w x (Length required len source layer) = refl
+fault_is at w x (UnsupportedPacketType n) = refl
+fault_is at w x (UnsupportedHardwareType n) = refl
+fault_is at w x UnexpectedVersion = refl
+fault_is at w x InvalidShortLen = refl
+
+-- ---- the text so far, and that which is left
+
+pub record WritesTold {W : Type 0} (contents : W → Option (List ℕ)) (can_fail : Type 0) (format : Format) (first : Bool) (at : ℕ)
+    (x : Expectation) (frame : List ℕ) (is_first : Bool) (s : State) (old new : OutputBuffer W) : Type 0 where
+  pub all : List Header
+  pub ending : Ending
+  pub walk : Walk x frame all ending
+  pub window : Window
+  pub left : List Header
+  pub faces : Faces frame window s left ending
+  pub going : s.over ≡ false
+  pub text : List ℕ
+  pub taken : Takes contents can_fail old text new
+  pub parts : told_text format first (told_stack at frame (whole x frame) all) (told_end at ending)
+      ≡ text ++ told_text format is_first (told_stack at frame window left) (told_end at ending)
+
+module _ {W : Type 0} (contents : W → Option (List ℕ)) (can_fail : Type 0) (format : Format) (first : Bool) (at : ℕ) (x : Expectation)
+  (frame : List ℕ) where
+
+  pub walk_starts : (s : State) (out : OutputBuffer W) (all : List Header) (ending : Ending) → Walk x frame all ending
+      → Faces frame (whole x frame) s all ending → s.over ≡ false
+      → WritesTold contents can_fail format first at x frame first s out out
+  walk_starts s out all ending walk faces going = record {
+    all = all;
+    ending = ending;
+    walk = walk;
+    window = whole x frame;
+    left = all;
+    faces = faces;
+    going = going;
+    text = [];
+    taken = Takes-none contents can_fail out;
+    parts = refl;
+  }
+
+  -- a header
+  pub walk_unit : (is_first : Bool) (s t : State) (old mid new : OutputBuffer W) (u : PeelUnit) (place : DeclaredPlace)
+      → IsBytes frame → WritesTold contents can_fail format first at x frame is_first s old mid → Gives s (Some (Ok u)) t
+      → place.start ≡ at + s.offset → place.header_end ≡ at + t.offset → place.payload_end ≡ at + (t.offset + length t.rest)
+      → place.closed ≡ t.closed
+      → Takes contents can_fail mid (header_text format is_first (told_view place u)) new
+      → WritesTold contents can_fail format first at x frame false t old new
+  walk_unit is_first s t old mid new u place ok a gives from to end mark taken =
+      let n =
+      unit_next frame a.window a.left a.ending s t u (gives.next a.going frame a.window a.left a.ending a.faces) in
+      let h = n.header in
+      let hs = n.later in
+      let inner = payload a.window h in
+      let faces = subst (λ (l : List Header). Faces frame a.window s l a.ending) n.parts a.faces in
+      let shows = subst (λ (l : List ℕ). ShowsUnit l t.rest h u) faces.rest n.shows in
+      let bytes = IsBytes-part a.window.start a.window.finish frame ok in
+      let header = header_shown (within frame a.window) t.rest h u bytes faces.stack.0.means shows in
+      let fcs = fcs_of_unit frame t.rest s.expected a.window h u faces.inside faces.stack.0 shows in
+      let begin : place.start ≡ at + a.window.start = from ∙ ap (λ (n : ℕ). at + n) faces.offset in
+      let middle : place.header_end ≡ at + inner.start = to ∙ ap (λ (n : ℕ). at + n) n.faces.offset in
+      let last : place.payload_end ≡ at + inner.finish =
+      end ∙ ap (λ (n : ℕ). at + n) (same_end frame inner t hs a.ending n.faces) in
+      let closed : place.closed ≡ inner.closed = mark ∙ n.faces.closed in
+      let is : told_view place u ≡ told_in at frame a.window h =
+      λ i. Walked (record { start = begin i; header_end = middle i; payload_end = last i; closed = closed i }) (header i) (fcs i) in
+      let later = told_text format false (told_stack at frame inner hs) (told_end at a.ending) in
+      let written = header_text format is_first (told_in at frame a.window h) in
+      record {
+        all = a.all;
+        ending = a.ending;
+        walk = a.walk;
+        window = inner;
+        left = hs;
+        faces = n.faces;
+        going = n.going;
+        text = a.text ++ written;
+        taken = Takes-then a.taken (subst (λ (k : Told). Takes contents can_fail mid (header_text format is_first k) new) is taken);
+        parts =
+            a.parts
+            ∙ ap (λ (l : List Header). a.text ++ told_text format is_first (told_stack at frame a.window l) (told_end at a.ending))
+            n.parts
+            ∙ sym (append_assoc a.text written later);
+      }
+
+  answered : (is_first : Bool) (s : State) (old mid new : OutputBuffer W) (accepted : Bool) (end : ToldEnd)
+      → (a : WritesTold contents can_fail format first at x frame is_first s old mid) → a.left ≡ [] → end ≡ told_end at a.ending
+      → accepted ≡ is_accepted a.ending
+      → Takes contents can_fail mid (end_text format end) new
+      → TakesAnswer contents can_fail (AnswersTold format first at x frame) old new accepted
+  answered is_first s old mid new accepted end a none is verdict taken = record {
+    text = a.text ++ end_text format end;
+    answers = record {
+      headers = told_stack at frame (whole x frame) a.all;
+      end = told_end at a.ending;
+      tells = record { headers = a.all; ending = a.ending; walk = a.walk; is_told = refl; is_end = refl; verdict = verdict };
+      is_text =
+          ap (λ (k : ToldEnd). a.text ++ end_text format k) is
+          ∙ sym
+          (a.parts
+          ∙ ap (λ (l : List Header). a.text ++ told_text format is_first (told_stack at frame a.window l) (told_end at a.ending))
+          none);
+    };
+    taken = Takes-then a.taken taken;
+  }
+
+  -- a fault
+  pub walk_fault : (is_first : Bool) (s t : State) (old mid new : OutputBuffer W) (f : PeelFault)
+      → WritesTold contents can_fail format first at x frame is_first s old mid → Gives s (Some (Err f)) t
+      → Takes contents can_fail mid (end_text format (fault_shown at f)) new
+      → TakesAnswer contents can_fail (AnswersTold format first at x frame) old new false
+  walk_fault is_first s t old mid new f a gives taken =
+      let n =
+      fault_next frame a.window a.left a.ending s t f (gives.next a.going frame a.window a.left a.ending a.faces) in
+      let stack =
+      (subst (λ (e : Ending). Faces frame a.window s [] e) n.ending
+      (subst (λ (l : List Header). Faces frame a.window s l a.ending) n.none_left a.faces)).stack in
+      let is : fault_shown at f ≡ told_end at a.ending =
+      ap (fault_shown at) n.fault ∙ fault_is at a.window n.expected n.refusal
+      ∙ ap (λ (w : Window). told_end at (endings.Fault w n.expected n.refusal)) (sym stack.0) ∙ ap (told_end at) (sym n.ending) in
+      answered is_first s old mid new false (fault_shown at f) a n.none_left is (ap is_accepted (sym n.ending)) taken
+
+  -- what is left
+  pub walk_rest : (is_first : Bool) (s t : State) (old mid new : OutputBuffer W) (start end : ℕ) (k : RestKind)
+      → WritesTold contents can_fail format first at x frame is_first s old mid → Gives s None t
+      → start ≡ at + s.offset → end ≡ at + (s.offset + length t.rest) → k ≡ kind_shown t.expected
+      → Takes contents can_fail mid (end_text format (Rest start end k)) new
+      → TakesAnswer contents can_fail (AnswersTold format first at x frame) old new true
+  walk_rest is_first s t old mid new start end k a gives from to kind taken =
+      let n =
+      none_next frame a.window a.left a.ending s t (gives.next a.going frame a.window a.left a.ending a.faces) in
+      let v = n.window in
+      let faces =
+      subst (λ (e : Ending). Faces frame a.window s [] e) n.ending
+      (subst (λ (l : List Header). Faces frame a.window s l a.ending) n.none_left a.faces) in
+      let same : t ≡ s = n.state in
+      let begin : start ≡ at + a.window.start = from ∙ ap (λ (n : ℕ). at + n) faces.offset in
+      let until : end ≡ at + a.window.finish =
+      to ∙ ap (λ (u : State). at + (s.offset + length u.rest)) same
+      ∙ ap (λ (n : ℕ). at + n) (same_end frame a.window s [] _ faces) in
+      let shown : k ≡ kind_shown s.expected = kind ∙ ap (λ (u : State). kind_shown u.expected) same in
+      let is : Rest start end k ≡ told_end at a.ending =
+      (λ i. Rest (begin i) (until i) (shown i))
+      ∙ ap (λ (w : Window). told_end at (endings.Accepted w s.expected)) (sym faces.stack.0)
+      ∙ ap (λ (y : Expectation). told_end at (endings.Accepted v y)) (sym faces.stack.1) ∙ ap (told_end at) (sym n.ending) in
+      answered is_first s old mid new true (Rest start end k) a n.none_left is (ap is_accepted (sym n.ending)) taken
+
+-- ---- a cooked header, and the walk of its payload
+
+pub record AnswersPayload (format : Format) (at : ℕ) (first : Told) (x : Expectation) (payload text : List ℕ) (accepted : Bool) : Type 0
+  where
+    pub headers : List Told
+    pub end : ToldEnd
+    pub tells : TellsPayload at first x payload headers end accepted
+    pub is_text : text ≡ told_text format true headers end
+
+pub payload_told : {W : Type 0} {contents : W → Option (List ℕ)} {can_fail : Type 0} {format : Format} {at : ℕ} {x : Expectation}
+    {payload : List ℕ} {old mid new : OutputBuffer W} {accepted : Bool} (first : Told)
+    → Takes contents can_fail old (header_text format true first) mid
+    → TakesAnswer contents can_fail (AnswersTold format false at x payload) mid new accepted
+    → TakesAnswer contents can_fail (AnswersPayload format at first x payload) old new accepted
+payload_told {format = format} first taken walk = record {
+  text = header_text format true first ++ walk.text;
+  answers = record {
+    headers = first ∷ walk.answers.headers;
+    end = walk.answers.end;
+    tells = record { later = walk.answers.headers; walk = walk.answers.tells; whole = refl };
+    is_text = ap (λ t. header_text format true first ++ t) walk.answers.is_text;
+  };
+  taken = Takes-then taken walk.taken;
+}

@@ -1,0 +1,18 @@
+use Rattle.ether_text.proofs.OutputBufferLemmas.{Takes-then, Takes-same}
+use Rattle.ether_format.specs.Walking.{member_text}
+use Rattle.ether_format.proofs.ListLemmas.{first_none, first_next, first_all}
+use Rattle.ether_format.proofs.json.write_members.Goals as goal
+
+pub loop-member-init : goal.loop-member-init
+loop-member-init g c = first_none g.W.Sink.contents g.W.Sink.can_fail member_text c.args.members.now c.args.out.now
+
+pub loop-member-preserved : goal.loop-member-preserved
+loop-member-preserved g c =
+    first_next g.W.Sink.contents g.W.Sink.can_fail member_text c.args.members.now c.loop-member.member-index _ c.args.out.now
+    c.loop-member.out c.write_json_value.new.out c.loop-member-test.true c.loop-member.invariant
+    (Takes-then (Takes-same c.as_bytes.ensures.value c.append.ensures) c.write_json_value.ensures)
+
+pub returns : goal.returns
+returns g c =
+    first_all g.W.Sink.contents g.W.Sink.can_fail member_text c.args.members.now c.loop-member.member-index c.args.out.now
+    c.loop-member.out c.loop-member-test.false c.loop-member.invariant

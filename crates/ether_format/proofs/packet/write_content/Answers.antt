@@ -1,0 +1,50 @@
+use Rattle.std.proofs.Common.{List, ℕ, [], ◌∷◌, ◌+◌, length, None, true, refl, subst}
+use Rattle.etherparse.specs.Header as headers
+use Rattle.ether_pcap.specs.CaptureViews.{captured_packet_view}
+use Rattle.ether_content.specs.Content.{ContentValue}
+use Rattle.ether_content.specs.ContentViews.{cooked_view}
+use Rattle.ether_text.proofs.OutputBufferLemmas.{Takes-same}
+use Rattle.ether_format.specs.declared.format.Format.TheVariants.{Json}
+use Rattle.ether_format.specs.Told.{Place, Skipped, Tells, Walked, cooked_place}
+use Rattle.ether_format.specs.Walking.{header_text}
+use Rattle.ether_format.proofs.WalkLemmas.{payload_told}
+use Rattle.std.proofs.Common.{ap}
+use Rattle.ether_format.proofs.packet.write_content.Goals as goal
+
+pub returns-in-LinuxSll : goal.returns-in-LinuxSll
+returns-in-LinuxSll g c =
+    let p = captured_packet_view c.args.packet.now in
+    let s = cooked_view c.in-LinuxSll.header in
+    let is = rw c.in-LinuxSll.is at c.of.ensures in
+    let first = Walked (cooked_place 16 (16 + length c.in-LinuxSll.payload.now)) (headers.LinuxSll s) None in
+    let header =
+    Takes-same (ap (λ (q : Place). header_text Json true (Walked q (headers.LinuxSll s) None)) c.cooked_place.ensures)
+    c.write_cooked.ensures in
+    let told = payload_told first header c.write_walk-in-LinuxSll.ensures in
+    record {
+      text = told.text;
+      answers = record {
+        headers = told.answers.headers;
+        end = told.answers.end;
+        tells = subst (λ (f : ContentValue). Tells c.args.limit (length p.packet) f told.answers.headers told.answers.end
+            c.write_walk-in-LinuxSll.result) is told.answers.tells;
+        is_text = told.answers.is_text;
+      };
+      taken = told.taken;
+    }
+
+pub returns-in-Unknown : goal.returns-in-Unknown
+returns-in-Unknown g c =
+    let p = captured_packet_view c.args.packet.now in
+    let is = rw c.in-Unknown.is at c.of.ensures in
+    record {
+      text = _;
+      answers = record {
+        headers = [];
+        end = Skipped (length p.packet);
+        tells = subst (λ (f : ContentValue). Tells c.args.limit (length p.packet) f [] (Skipped (length p.packet)) true) is
+            (refl, refl, refl);
+        is_text = refl;
+      };
+      taken = c.write_skipped.ensures;
+    }

@@ -1,0 +1,7 @@
+use Rattle.ether_text.proofs.OutputBufferLemmas.{Takes-then, Takes-same}
+use Rattle.ether_format.specs.Spelling.{moment_text}
+use Rattle.ether_format.proofs.spelling.write_moment.Goals as goal
+
+pub returns : goal.returns
+unfolding moment_text
+returns g c = Takes-then c.write_decimal.ensures (Takes-same c.after_year.ensures c.append_array.ensures)

@@ -1,0 +1,36 @@
+-- A packet as a line of JSON (RFC 8259).
+use Rattle.std.specs.Prelude.{ℕ, List, [], ◌∷◌, ◌++◌, codes, Option}
+use Rattle.std.specs.List.{flat_map}
+use Rattle.ether_pcap.specs.Capture.{PacketValue}
+use Rattle.ether_format.specs.declared.moment.Moment.{Moment}
+use Rattle.ether_format.specs.Members.{Member, packet_members}
+use Rattle.ether_format.specs.Told.{Told, ToldEnd, told_members, end_name, end_members}
+use Rattle.ether_format.specs.Spelling.{json_value, quoted}
+
+-- a name and a value
+abbrev pub json_member : Member → List ℕ
+json_member m = quoted m.name ++ (codes ":" ++ json_value m.value)
+
+-- members with a comma between two
+abbrev pub json_members : List Member → List ℕ
+json_members [] = []
+json_members (m ∷ ms) = json_member m ++ flat_map (λ n. codes "," ++ json_member n) ms
+
+unfoldable pub json_object : List Member → List ℕ
+json_object members = codes "{" ++ (json_members members ++ codes "}")
+
+-- objects with a comma between two
+abbrev pub json_objects : List Told → List ℕ
+json_objects [] = []
+json_objects (h ∷ hs) = json_object (told_members h) ++ flat_map (λ k. codes "," ++ json_object (told_members k)) hs
+
+-- the members of the packet, and the name of its list of headers
+abbrev pub json_front : ℕ → PacketValue → Option Moment → List ℕ
+json_front number p moment = codes "{" ++ (json_members (packet_members number p moment) ++ codes ",\"headers\":[")
+
+-- the end of that list, and how the walk ends, under its name
+abbrev pub json_end : ToldEnd → List ℕ
+json_end end = codes "]," ++ (quoted (end_name end) ++ (codes ":" ++ (json_object (end_members end) ++ codes "}\n")))
+
+abbrev pub json_line : ℕ → PacketValue → Option Moment → List Told → ToldEnd → List ℕ
+json_line number p moment headers end = json_front number p moment ++ (json_objects headers ++ json_end end)

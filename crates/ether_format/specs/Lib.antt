@@ -1,0 +1,7 @@
+pub mod Calendar
+pub mod Members
+pub mod Told
+pub mod Spelling
+pub mod Json
+pub mod Texts
+pub mod Walking

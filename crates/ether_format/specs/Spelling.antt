@@ -1,0 +1,63 @@
+-- How values are spelled.
+use Rattle.std.specs.Prelude.{ℕ, ◌/◌, ◌%◌, ◌^◌, ◌+◌, List, [], ◌∷◌, ◌++◌, codes, Bool, true, false}
+use Rattle.std.specs.List.{flat_map}
+use Rattle.std.specs.Fmt.{decimal}
+use Rattle.etherparse.specs.NumberText.{hex_number}
+use Rattle.ether_base.specs.Texts.NumberText.{hex_byte}
+use Rattle.ether_text.specs.Decimals.{two_digits}
+use Rattle.ether_format.specs.declared.moment.Moment.{Moment}
+use Rattle.ether_format.specs.Members.{Value, Nothing, Number, Protocol, Flag, Bytes, Dotted, Word, Time}
+
+-- bytes in two hexadecimal digits each, with a colon between two
+unfoldable pub colon_text : List ℕ → List ℕ
+colon_text [] = []
+colon_text (b ∷ bs) = hex_byte false b ++ flat_map (λ c. codes ":" ++ hex_byte false c) bs
+
+-- bytes in decimal digits, with a dot between two (RFC 1123, 2.1)
+unfoldable pub dotted_text : List ℕ → List ℕ
+dotted_text [] = []
+dotted_text (b ∷ bs) = decimal b ++ flat_map (λ c. codes "." ++ decimal c) bs
+
+-- a number below a thousand million as nine decimal digits
+unfoldable pub nine_digits : ℕ → List ℕ
+nine_digits n =
+    (48 + n / 10 ^ 8 % 10) ∷ (48 + n / 10 ^ 7 % 10) ∷ (48 + n / 10 ^ 6 % 10) ∷ (48 + n / 10 ^ 5 % 10) ∷ (48 + n / 10 ^ 4 % 10)
+    ∷ (48 + n / 10 ^ 3 % 10) ∷ (48 + n / 10 ^ 2 % 10) ∷ (48 + n / 10 % 10) ∷ (48 + n % 10) ∷ []
+
+-- a moment as in ISO 8601 (RFC 3339, 5.6), with nine decimals
+unfoldable pub moment_text : Moment → List ℕ
+moment_text m =
+    decimal m.year
+    ++ (codes "-" ++ two_digits m.month ++ codes "-" ++ two_digits m.day ++ codes "T" ++ two_digits m.hour ++ codes ":"
+    ++ two_digits m.minute ++ codes ":" ++ two_digits m.second ++ codes "." ++ nine_digits m.nanoseconds ++ codes "Z")
+
+-- ---- in JSON (RFC 8259, 3)
+
+abbrev pub quoted : List ℕ → List ℕ
+quoted text = codes "\"" ++ (text ++ codes "\"")
+
+abbrev pub flag_text : Bool → List ℕ
+flag_text true = codes "true"
+flag_text false = codes "false"
+
+abbrev pub json_value : Value → List ℕ
+json_value Nothing = codes "null"
+json_value (Number n) = decimal n
+json_value (Protocol n) = decimal n
+json_value (Flag b) = flag_text b
+json_value (Bytes bytes) = quoted (colon_text bytes)
+json_value (Dotted bytes) = quoted (dotted_text bytes)
+json_value (Word word) = quoted word
+json_value (Time m) = quoted (moment_text m)
+
+-- ---- in a column; what a header does not have is empty
+
+abbrev pub column_value : Value → List ℕ
+column_value Nothing = []
+column_value (Number n) = decimal n
+column_value (Protocol n) = hex_number n
+column_value (Flag b) = flag_text b
+column_value (Bytes bytes) = colon_text bytes
+column_value (Dotted bytes) = dotted_text bytes
+column_value (Word word) = word
+column_value (Time m) = moment_text m

@@ -1,0 +1,22 @@
+-- The text of a captured packet in a format.
+use Rattle.std.specs.Prelude.{◌≡◌, ℕ, length, List, Bool, Option}
+use Rattle.ether_pcap.specs.Capture.{PacketValue}
+use Rattle.ether_content.specs.Content.{content_of}
+use Rattle.ether_format.specs.declared.moment.Moment.{Moment}
+use Rattle.ether_format.specs.declared.format.Format.{Format}
+use Rattle.ether_format.specs.declared.format.Format.TheVariants.{Json}
+use Rattle.ether_format.specs.Calendar.{AreMoments}
+use Rattle.ether_format.specs.Told.{Told, ToldEnd, Tells}
+use Rattle.ether_format.specs.Json.{json_line}
+
+abbrev pub format_text : Format → ℕ → PacketValue → Option Moment → List Told → ToldEnd → List ℕ
+format_text Json number p moment headers end = json_line number p moment headers end
+
+-- The text of a packet with a number, of what it tells; and whether no header is refused.
+pub record HasText (format : Format) (limit : Option ℕ) (number : ℕ) (p : PacketValue) (text : List ℕ) (accepted : Bool) : Type 0 where
+  pub moment : Option Moment
+  pub is_moment : AreMoments p.time moment
+  pub headers : List Told
+  pub end : ToldEnd
+  pub tells : Tells limit (length p.packet) (content_of p) headers end accepted
+  pub is_text : text ≡ format_text format number p moment headers end

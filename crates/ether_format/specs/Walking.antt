@@ -1,0 +1,155 @@
+-- Text as it is written along a walk: for the contracts of private functions.
+use Rattle.std.specs.Prelude.{◌≡◌, ℕ, ◌+◌, List, [], ◌∷◌, ◌++◌, length, take, codes, Bool, true, false, Option, Some, None, if◌then◌else◌, map}
+use Rattle.etherparse.specs.Ethernet2.{ethernet2_of, fcs_of}
+use Rattle.etherparse.specs.LinuxSll.{linux_sll_of}
+use Rattle.etherparse.specs.Vlan.{vlan_of}
+use Rattle.etherparse.specs.Macsec.{sec_tag_of, tag_bytes}
+use Rattle.etherparse.specs.Arp.{arp_of}
+use Rattle.etherparse.specs.Header.{Header}
+use Rattle.etherparse.specs.Header as headers
+use Rattle.etherparse.specs.Types.LinuxSllHeaderError.{HeaderError as LinuxSllHeaderError}
+use Rattle.etherparse.specs.Types.LinuxSllHeaderError.TheVariants as linux_sll
+use Rattle.etherparse.specs.Types.MacsecHeaderError.{HeaderError as MacsecHeaderError}
+use Rattle.etherparse.specs.Types.MacsecHeaderError.TheVariants as macsec
+use Rattle.ether_peel.specs.Grammar.Expectation.{Expectation}
+use Rattle.ether_peel.specs.declared.peel_unit.PeelUnit.{PeelUnit}
+use Rattle.ether_peel.specs.declared.peel_unit.PeelUnit.TheVariants as units
+use Rattle.ether_peel.specs.declared.peel_error.PeelError.{PeelError}
+use Rattle.ether_peel.specs.declared.peel_error.PeelError.TheVariants as errors
+use Rattle.ether_peel.specs.declared.peel_fault.PeelFault.{PeelFault}
+use Rattle.ether_pcap.specs.Capture.{PacketValue}
+use Rattle.ether_content.specs.Content.{content_of}
+use Rattle.ether_format.specs.declared.format.Format.{Format}
+use Rattle.ether_format.specs.declared.format.Format.TheVariants.{Json}
+use Rattle.ether_format.specs.declared.place.Place.{Place as DeclaredPlace}
+use Rattle.ether_format.specs.declared.value.Value.{Value as DeclaredValue}
+use Rattle.ether_format.specs.declared.value.Value.TheVariants as values
+use Rattle.ether_format.specs.declared.value.Member.{Member as DeclaredMember}
+use Rattle.ether_format.specs.Members.{Value, Nothing, Number, Protocol, Flag, Bytes, Dotted, Word, Time, Member}
+use Rattle.ether_format.specs.Told.{Place, Told, Walked, Cause, Length, UnknownPacketType, UnknownHardwareType, Version, ShortLength, ToldEnd, Fault, Tells, TellsCookedV2, TellsWalk, told_members}
+use Rattle.ether_format.specs.Spelling.{json_value, quoted}
+use Rattle.ether_format.specs.Json.{json_end, json_object}
+
+-- ---- values and members
+
+abbrev pub value_view : DeclaredValue → Value
+value_view values.Nothing = Nothing
+value_view (values.Number n) = Number n
+value_view (values.Protocol n) = Protocol n
+value_view (values.Flag b) = Flag b
+value_view (values.Mac bytes) = Bytes bytes
+value_view (values.Four bytes) = Bytes bytes
+value_view (values.Eight bytes) = Bytes bytes
+value_view (values.Short bytes len) = Bytes (take len bytes)
+value_view (values.Bytes bytes) = Bytes bytes.now
+value_view (values.Dotted bytes) = Dotted bytes.now
+value_view (values.Word word) = Word word.now
+value_view (values.Time m) = Time m
+
+-- a value after the text of its name
+pub record Keyed : Type 0 where
+  pub key : List ℕ
+  pub value : Value
+
+abbrev pub keyed_view : DeclaredMember → Keyed
+keyed_view m = record { key = m.key.now; value = value_view m.value }
+
+abbrev pub key_of : (before : List ℕ) → Member → Keyed
+key_of before m = record { key = before ++ (quoted m.name ++ codes ":"); value = m.value }
+
+-- the first after a brace, each other after a comma
+abbrev pub keyed : List Member → List Keyed
+keyed [] = []
+keyed (m ∷ ms) = key_of (codes "{") m ∷ map (key_of (codes ",")) ms
+
+-- members that others precede
+abbrev pub others : List Member → List Keyed
+others members = map (key_of (codes ",")) members
+
+abbrev pub keyed_text : Keyed → List ℕ
+keyed_text k = k.key ++ json_value k.value
+
+-- a member as it is written
+abbrev pub member_text : DeclaredMember → List ℕ
+member_text m = keyed_text (keyed_view m)
+
+-- ---- headers
+
+-- the header that the bytes of a view mean
+abbrev pub header_of : PeelUnit → Header
+header_of (units.Ethernet2 frame) =
+    if frame.has_fcs then headers.Ethernet2Fcs (ethernet2_of frame.bytes) else headers.Ethernet2 (ethernet2_of frame.bytes)
+header_of (units.LinuxSll bytes) = headers.LinuxSll (linux_sll_of bytes)
+header_of (units.Vlan bytes) = headers.Vlan (vlan_of bytes)
+header_of (units.Macsec packet) = headers.Macsec (sec_tag_of (tag_bytes packet.header))
+header_of (units.Arp bytes) = headers.Arp (arp_of bytes)
+
+abbrev pub fcs_shown : PeelUnit → Option (List ℕ)
+fcs_shown (units.Ethernet2 frame) = fcs_of frame
+fcs_shown _ = None
+
+abbrev pub place_view : DeclaredPlace → Place
+place_view p = record { start = p.start; header_end = p.header_end; payload_end = p.payload_end; closed = p.closed }
+
+-- a view in its place
+abbrev pub told_view : DeclaredPlace → PeelUnit → Told
+told_view place u = Walked (place_view place) (header_of u) (fcs_shown u)
+
+-- ---- the end
+
+abbrev pub linux_sll_cause : LinuxSllHeaderError → Cause
+linux_sll_cause (linux_sll.UnsupportedPacketTypeField n) = UnknownPacketType n
+linux_sll_cause (linux_sll.UnsupportedArpHardwareId hardware) = UnknownHardwareType hardware.0
+
+abbrev pub macsec_cause : MacsecHeaderError → Cause
+macsec_cause macsec.UnexpectedVersion = Version
+macsec_cause macsec.InvalidUnmodifiedShortLen = ShortLength
+
+abbrev pub cause_shown : PeelError → Cause
+cause_shown (errors.Len e) = Length e.required_len e.len e.len_source
+cause_shown (errors.LinuxSll e) = linux_sll_cause e
+cause_shown (errors.Macsec e) = macsec_cause e
+
+-- a fault whose place is counted from so many bytes before the frame
+abbrev pub fault_shown : (at : ℕ) → PeelFault → ToldEnd
+fault_shown at f = Fault (at + f.offset) f.closed (cause_shown f.error)
+
+-- ---- in a format
+
+-- nothing before the first header
+abbrev pub comma_if : (first : Bool) → List ℕ
+comma_if true = []
+comma_if false = codes ","
+
+-- a header, if it is the first or not
+abbrev pub header_text : Format → (first : Bool) → Told → List ℕ
+header_text Json first h = comma_if first ++ json_object (told_members h)
+
+abbrev pub end_text : Format → ToldEnd → List ℕ
+end_text Json end = json_end end
+
+-- headers, of which the first is the packet's first or not, and the end
+abbrev pub told_text : Format → (first : Bool) → List Told → ToldEnd → List ℕ
+told_text format first [] end = end_text format end
+told_text format first (h ∷ hs) end = header_text format first h ++ told_text format false hs end
+
+-- what is told of a walk is the text
+pub record AnswersTold (format : Format) (first : Bool) (at : ℕ) (start : Expectation) (frame text : List ℕ) (accepted : Bool) : Type 0 where
+  pub headers : List Told
+  pub end : ToldEnd
+  pub tells : TellsWalk at start frame headers end accepted
+  pub is_text : text ≡ told_text format first headers end
+
+-- what is told of a packet of cooked capture v2
+pub record AnswersCookedV2 (limit : Option ℕ) (bytes text : List ℕ) (accepted : Bool) : Type 0 where
+  pub headers : List Told
+  pub end : ToldEnd
+  pub tells : TellsCookedV2 limit bytes headers end accepted
+  pub is_text : text ≡ told_text Json true headers end
+
+-- .. of any packet
+pub record AnswersContent (limit : Option ℕ) (p : PacketValue) (text : List ℕ) (accepted : Bool) : Type 0 where
+  pub headers : List Told
+  pub end : ToldEnd
+  pub tells : Tells limit (length p.packet) (content_of p) headers end accepted
+  pub is_text : text ≡ told_text Json true headers end

@@ -1,0 +1,67 @@
+//! Writes how the walk through a packet ends, as JSON has it.
+ghost use Rattle.std.specs.Prelude.{false};
+ghost use Rattle.ether_sll2.specs.Views.{refusal_view};
+ghost use Rattle.ether_text.specs.OutputBuffer.{Takes};
+ghost use Rattle.ether_format.specs.declared.format.Format.TheVariants.{Json};
+ghost use Rattle.ether_format.specs.Told.{Fault, Rest, Skipped, cause_of_v2};
+ghost use Rattle.ether_format.specs.Walking.{cause_shown, end_text};
+
+use crate::endings;
+use crate::json::write_object;
+use ether_peel::{PeelError, RestKind};
+use ether_sll2::LinuxSll2Error;
+use ether_text::{OutputBuffer, Sink};
+
+/// Writes what is left, from a place to a place.
+#[inline(always)]
+pub(crate) fn write_rest<W: Sink>(
+    start: usize,
+    end: usize,
+    kind: RestKind,
+    out: &mut OutputBuffer<'_, W>,
+)
+    ensures { Takes W.contents W.can_fail out.old (end_text Json (Rest start end kind)) out.new }
+{
+        out.append(b"],\"rest\":");
+        write_object(&endings::rest(start, end, kind), &[], out);
+        out.append(b"}\n");
+}
+
+/// Writes that a packet of so many bytes is of a link type that the walk does not know.
+pub(crate) fn write_skipped<W: Sink>(len: usize, out: &mut OutputBuffer<'_, W>)
+    ensures { Takes W.contents W.can_fail out.old (end_text Json (Skipped len)) out.new }
+{
+        out.append(b"],\"rest\":");
+        write_object(&endings::skipped(len), &[], out);
+        out.append(b"}\n");
+}
+
+/// Writes a fault.
+pub(crate) fn write_fault<W: Sink>(
+    start: usize,
+    closed: bool,
+    error: &PeelError,
+    out: &mut OutputBuffer<'_, W>,
+)
+    ensures { Takes W.contents W.can_fail out.old (end_text Json (Fault start closed (cause_shown error.now))) out.new }
+{
+        out.append(b"],\"fault\":");
+        write_object(&endings::fault(start, closed), &endings::cause(error), out);
+        out.append(b"}\n");
+}
+
+/// Writes the fault of a header of cooked capture v2.
+pub(crate) fn write_linux_sll2_fault<W: Sink>(
+    error: &LinuxSll2Error,
+    out: &mut OutputBuffer<'_, W>,
+)
+    ensures { Takes W.contents W.can_fail out.old (end_text Json (Fault 0 false (cause_of_v2 (refusal_view error.now)))) out.new }
+{
+        out.append(b"],\"fault\":");
+        write_object(
+            &endings::fault(0, false),
+            &endings::linux_sll2_cause(error),
+            out,
+        );
+        out.append(b"}\n");
+}

@@ -1,0 +1,96 @@
+//! Writes a header of a walk as JSON has it.
+ghost use Rattle.std.specs.Prelude.{None, true};
+ghost use Rattle.ether_content.specs.ContentViews.{cooked_view};
+ghost use Rattle.ether_sll2.specs.LinuxSll2.{linux_sll2_of};
+ghost use Rattle.etherparse.specs.Header as headers;
+ghost use Rattle.ether_text.specs.OutputBuffer.{Takes};
+ghost use Rattle.ether_format.specs.declared.format.Format.TheVariants.{Json};
+ghost use Rattle.ether_format.specs.Json.{json_object};
+ghost use Rattle.ether_format.specs.Told.{Walked, CookedV2, told_members};
+ghost use Rattle.ether_format.specs.Walking.{comma_if, header_text, place_view, told_view};
+
+use crate::json::write_object;
+use crate::members;
+use crate::place::Place;
+use ether_content::CookedHeader;
+use ether_peel::PeelUnit;
+use ether_sll2::LinuxSll2Slice;
+use ether_text::{OutputBuffer, Sink};
+
+/// Writes a header, which is the first of its packet or not.
+#[inline(always)]
+pub(crate) fn write_header<W: Sink>(
+    is_first: bool,
+    place: Place,
+    unit: &PeelUnit<'_>,
+    out: &mut OutputBuffer<'_, W>,
+)
+    ensures { Takes W.contents W.can_fail out.old (header_text Json is_first (told_view place unit.now)) out.new }
+{
+        write_comma(is_first, out);
+        write_json_header(place, unit, out);
+}
+
+/// Writes a comma, but not before the first header.
+#[inline(always)]
+fn write_comma<W: Sink>(is_first: bool, out: &mut OutputBuffer<'_, W>)
+    ensures { Takes W.contents W.can_fail out.old (comma_if is_first) out.new }
+{
+    if !is_first {
+        out.append(b",");
+    }
+}
+
+/// Writes a header as an object of JSON.
+#[inline(always)]
+fn write_json_header<W: Sink>(place: Place, unit: &PeelUnit<'_>, out: &mut OutputBuffer<'_, W>)
+    ensures { Takes W.contents W.can_fail out.old (json_object (told_members (told_view place unit.now))) out.new }
+{
+    match unit {
+        PeelUnit::Ethernet2(slice) => {
+            let first = members::placed("eth", place);
+            write_object(&first, &members::ethernet2(slice), out);
+        }
+        PeelUnit::LinuxSll(slice) => {
+            let first = members::placed("sll", place);
+            write_object(&first, &members::linux_sll(slice), out);
+        }
+        PeelUnit::Vlan(slice) => {
+            let first = members::placed("vlan", place);
+            write_object(&first, &members::vlan(slice), out);
+        }
+        PeelUnit::Macsec(slice) => {
+            let first = members::placed("macsec", place);
+            write_object(&first, &members::macsec(&slice.header), out);
+        }
+        PeelUnit::Arp(slice) => {
+            let first = members::placed("arp", place);
+            write_object(&first, &members::arp(slice), out);
+        }
+    }
+}
+
+/// Writes the first header of a packet, one of cooked capture v1 that is not walked.
+pub(crate) fn write_cooked<W: Sink>(
+    place: Place,
+    header: &CookedHeader,
+    out: &mut OutputBuffer<'_, W>,
+)
+    ensures { Takes W.contents W.can_fail out.old
+        (header_text Json true (Walked (place_view place) (headers.LinuxSll (cooked_view header.now)) None)) out.new }
+{
+        let first = members::placed("sll", place);
+        write_object(&first, &members::cooked(header), out);
+}
+
+/// Writes the first header of a packet, one of cooked capture v2.
+pub(crate) fn write_linux_sll2<W: Sink>(
+    place: Place,
+    packet: &LinuxSll2Slice<'_>,
+    out: &mut OutputBuffer<'_, W>,
+)
+    ensures { Takes W.contents W.can_fail out.old (header_text Json true (CookedV2 (place_view place) (linux_sll2_of packet.now))) out.new }
+{
+        let first = members::placed("sll2", place);
+        write_object(&first, &members::linux_sll2(packet), out);
+}
