@@ -200,24 +200,24 @@ pub record NamesClash (words : List Text) : Type 0 where
   pub clash : clashes asked ≡ true
 
 -- lines, or a copy, would be asked for, but the text of the filter is refused in this way
-pub record HasNoFilter (a : AskedValue) (copy : Bool) (e : FilterError) : Type 0 where
+pub record HasNoFilter (a : AskedValue) (e : FilterError) : Type 0 where
   pub text : Text
-  pub form : (a.write ≡ copy) × (clashes a ≡ false)
+  pub goes : clashes a ≡ false
   pub is_text : a.text ≡ Some text
   pub refused : RefusesText text e
 
-pub record NamesNoFilter (words : List Text) (copy : Bool) (e : FilterError) : Type 0 where
+pub record NamesNoFilter (words : List Text) (e : FilterError) : Type 0 where
   pub asked : AskedValue
   pub taken : fault_of capture_app words ≡ []
   pub asks : Asks (matches_of capture_app words) asked
-  pub no_filter : HasNoFilter asked copy e
+  pub no_filter : HasNoFilter asked e
 
 -- why arguments ask for nothing, or that memory for them was refused
 abbrev pub RefusesWords : (words : List Text) → RequestError → Type 0
 RefusesWords words (reasons.Usage usages.Words) = IsRefused words
 RefusesWords words (reasons.Usage usages.Clash) = NamesClash words
 RefusesWords words (reasons.Usage usage) = NamesNothing words usage
-RefusesWords words (reasons.Filter copy e) = NamesNoFilter words copy e
+RefusesWords words (reasons.Filter e) = NamesNoFilter words e
 RefusesWords words reasons.Memory = ⊤
 
 -- ---- step by step
@@ -242,18 +242,18 @@ KindNames kind request = ((kind ≡ DisplayHelp) × (request ≡ Help)) ⊎ ((ki
 abbrev pub RefusesKind : ErrorKind → RequestError → Type 0
 RefusesKind kind (reasons.Usage usages.Words) = (kind ≢ DisplayHelp) × (kind ≢ DisplayVersion) × (kind ≢ OutOfMemory)
 RefusesKind kind (reasons.Usage usage) = ⊥
-RefusesKind kind (reasons.Filter copy e) = ⊥
+RefusesKind kind (reasons.Filter e) = ⊥
 RefusesKind kind reasons.Memory = kind ≡ OutOfMemory
 
 -- why values of options ask for nothing
 abbrev pub RefusesRows : List Row → RequestError → Type 0
 RefusesRows rows (reasons.Usage usage) = MeansNothing rows usage
-RefusesRows rows (reasons.Filter copy e) = ⊥
+RefusesRows rows (reasons.Filter e) = ⊥
 RefusesRows rows reasons.Memory = ⊤
 
 -- why what is asked for is no request
 abbrev pub RefusesAsked : AskedValue → RequestError → Type 0
 RefusesAsked a (reasons.Usage usages.Clash) = clashes a ≡ true
 RefusesAsked a (reasons.Usage usage) = ⊥
-RefusesAsked a (reasons.Filter copy e) = HasNoFilter a copy e
+RefusesAsked a (reasons.Filter e) = HasNoFilter a e
 RefusesAsked a reasons.Memory = ⊥

@@ -7,9 +7,9 @@ use Rattle.ether_text.specs.Run.{IsEndless}
 use Rattle.ether_text.specs.declared.verdict.Verdict.{Verdict}
 use Rattle.ether_capture.specs.Options.{RequestValue, Run, Lists, Help, Version, NamesRequest, RefusesWords}
 use Rattle.ether_capture.specs.declared.asked.RequestError.TheVariants as reasons
-use Rattle.ether_capture.specs.Files.{HasListed}
+use Rattle.ether_capture.specs.Files.{HasListed, Settles}
 use Rattle.ether_stream.specs.Run.{HasRun, HasNoMemory, IfSettled, OnStreamFault}
-use Rattle.ether_stream.specs.Task.{TaskValue, is_copy}
+use Rattle.ether_stream.specs.Task.{TaskValue}
 use Rattle.ether_stream.specs.Outcome.{last_bytes, last_text, is_message, status_of_program}
 use Rattle.ether_stream.specs.declared.open_fault.OpenFault.{OpenFault}
 use Rattle.ether_stream.specs.declared.outcome.Outcome.{Outcome}
@@ -32,51 +32,49 @@ pub record HasRead (can_read can_write : Type 0) (task : TaskValue) (before afte
 -- The capture of this name was read; or it can't be opened, and nothing is written.
 abbrev pub HasRunFile : (has : List ℕ → Option (List ℕ) → Type 0) (can_refuse : OpenFault → Type 0) (can_read can_write : Type 0) → (task : TaskValue) → (name : List ℕ)
     → (held holds : Option (List ℕ)) → Outcome → Type 0
-HasRunFile has can_refuse can_read can_write task name held holds (outcomes.File copy named end) =
-    (copy ≡ is_copy task.form) × (named.now ≡ name)
-    × ((before after : Option (List ℕ)) × has name before × HasRead can_read can_write task before after held holds end)
-HasRunFile has can_refuse can_read can_write task name held holds (outcomes.NotOpened copy named fault) =
-    (copy ≡ is_copy task.form) × (named.now ≡ name) × can_refuse fault × (holds ≡ held)
+HasRunFile has can_refuse can_read can_write task name held holds (outcomes.File named end) =
+    (named.now ≡ name) × ((before after : Option (List ℕ)) × has name before × HasRead can_read can_write task before after held holds end)
+HasRunFile has can_refuse can_read can_write task name held holds (outcomes.NotOpened named fault) =
+    (named.now ≡ name) × can_refuse fault × (holds ≡ held)
 HasRunFile has can_refuse can_read can_write task name held holds outcome = ⊥
 
--- What is asked for was done. Standard input is read only if no file is named.
+-- What is asked for was done. Standard input is read only if no file is named, and only reading several files tells anything.
 abbrev pub HasAnswered : (has : List ℕ → Option (List ℕ) → Type 0) (can_fail : Type 0) (can_refuse : OpenFault → Type 0)
-    (can_read can_write : Type 0) → RequestValue
-    → (before after held holds : Option (List ℕ)) → Outcome → Type 0
-HasAnswered has can_fail can_refuse can_read can_write (Run task None) before after held holds (outcomes.Run copy end) =
-    (copy ≡ is_copy task.form) × HasRead can_fail can_write task before after held holds end
-HasAnswered has can_fail can_refuse can_read can_write (Run task (Some name)) before after held holds outcome =
-    HasRunFile has can_refuse can_read can_write task name held holds outcome × (after ≡ before)
-HasAnswered has can_fail can_refuse can_read can_write (Lists l) before after held holds (outcomes.Files end) =
-    HasListed has can_refuse can_read can_write l held holds end × (after ≡ before)
-HasAnswered has can_fail can_refuse can_read can_write Help before after held holds outcomes.Help = (after ≡ before) × (holds ≡ held)
-HasAnswered has can_fail can_refuse can_read can_write Version before after held holds outcomes.Version = (after ≡ before) × (holds ≡ held)
-HasAnswered has can_fail can_refuse can_read can_write request before after held holds outcome = ⊥
+    (can_read can_write can_tell : Type 0) → RequestValue
+    → (before after held holds told tells : Option (List ℕ)) → Outcome → Type 0
+HasAnswered has can_fail can_refuse can_read can_write can_tell (Run task None) before after held holds told tells (outcomes.Run end) =
+    HasRead can_fail can_write task before after held holds end × (tells ≡ told)
+HasAnswered has can_fail can_refuse can_read can_write can_tell (Run task (Some name)) before after held holds told tells outcome =
+    HasRunFile has can_refuse can_read can_write task name held holds outcome × (after ≡ before) × (tells ≡ told)
+HasAnswered has can_fail can_refuse can_read can_write can_tell (Lists l) before after held holds told tells (outcomes.Files end) =
+    HasListed has can_refuse can_read can_write can_tell l held holds told tells end × (after ≡ before)
+HasAnswered has can_fail can_refuse can_read can_write can_tell Help before after held holds told tells outcomes.Help =
+    (after ≡ before) × (holds ≡ held) × (tells ≡ told)
+HasAnswered has can_fail can_refuse can_read can_write can_tell Version before after held holds told tells outcomes.Version =
+    (after ≡ before) × (holds ≡ held) × (tells ≡ told)
+HasAnswered has can_fail can_refuse can_read can_write can_tell request before after held holds told tells outcome = ⊥
 
 -- The arguments ask for something, and it was done. Or they are wrong, or can't be read, which is a fault of the input, or memory for them was
--- refused: then nothing is read or written.
+-- refused: then nothing is read, written or told.
 abbrev pub HasObeyed : (has : List ℕ → Option (List ℕ) → Type 0) (can_fail : Type 0) (can_refuse : OpenFault → Type 0)
-    (can_read can_write : Type 0) → Option (List (List ℕ))
-    → (before after held holds : Option (List ℕ)) → Outcome → Type 0
-HasObeyed has can_fail can_refuse can_read can_write None before after held holds outcome =
-    (outcome ≡ outcomes.Run false (Err Input)) × (after ≡ before) × (holds ≡ held)
-HasObeyed has can_fail can_refuse can_read can_write (Some words) before after held holds (outcomes.Usage usage) =
-    RefusesWords words (reasons.Usage usage) × (after ≡ before) × (holds ≡ held)
-HasObeyed has can_fail can_refuse can_read can_write (Some words) before after held holds (outcomes.NoFilter copy error) =
-    RefusesWords words (reasons.Filter copy error) × (after ≡ before) × (holds ≡ held)
-HasObeyed has can_fail can_refuse can_read can_write (Some words) before after held holds outcomes.NoMemory = (after ≡ before) × (holds ≡ held)
-HasObeyed has can_fail can_refuse can_read can_write (Some words) before after held holds outcome =
+    (can_read can_write can_tell : Type 0) → Option (List (List ℕ))
+    → (before after held holds told tells : Option (List ℕ)) → Outcome → Type 0
+HasObeyed has can_fail can_refuse can_read can_write can_tell None before after held holds told tells outcome =
+    (outcome ≡ outcomes.Run (Err Input)) × (after ≡ before) × (holds ≡ held) × (tells ≡ told)
+HasObeyed has can_fail can_refuse can_read can_write can_tell (Some words) before after held holds told tells (outcomes.Usage usage) =
+    RefusesWords words (reasons.Usage usage) × (after ≡ before) × (holds ≡ held) × (tells ≡ told)
+HasObeyed has can_fail can_refuse can_read can_write can_tell (Some words) before after held holds told tells (outcomes.NoFilter error) =
+    RefusesWords words (reasons.Filter error) × (after ≡ before) × (holds ≡ held) × (tells ≡ told)
+HasObeyed has can_fail can_refuse can_read can_write can_tell (Some words) before after held holds told tells outcomes.NoMemory =
+    (after ≡ before) × (holds ≡ held) × (tells ≡ told)
+HasObeyed has can_fail can_refuse can_read can_write can_tell (Some words) before after held holds told tells outcome =
     (request : RequestValue) × NamesRequest words request
-    × HasAnswered has can_fail can_refuse can_read can_write request before after held holds outcome
-
--- what was written is flushed, or nothing was
-abbrev pub Settles : {W : Type 0} → (is_flushed : W → Type 0) → (old new : W) → Type 0
-Settles is_flushed old new = is_flushed new ⊎ (new ≡ old)
+    × HasAnswered has can_fail can_refuse can_read can_write can_tell request before after held holds told tells outcome
 
 -- if no stream has failed
 abbrev pub IfGone : Outcome → Type 0 → Type 0
-IfGone (outcomes.Run copy end) P = IfSettled end P
-IfGone (outcomes.File copy name end) P = IfSettled end P
+IfGone (outcomes.Run end) P = IfSettled end P
+IfGone (outcomes.File name end) P = IfSettled end P
 IfGone (outcomes.Files end) P = OnOk end P
 IfGone outcome P = P
 
@@ -99,7 +97,8 @@ pub record HasServed (has : List ℕ → Option (List ℕ) → Type 0) (can_fail
     (before after held holds told tells : Option (List ℕ)) (status : ℕ) : Type 0 where
   pub outcome : Outcome
   pub printed : Bool
+  pub mid : Option (List ℕ)
   pub between : Option (List ℕ)
-  pub obeyed : HasObeyed has can_fail can_refuse can_read can_write words before after held between outcome
-  pub ended : PrintsApart can_write can_tell (is_message outcome) outcome between holds told tells printed
+  pub obeyed : HasObeyed has can_fail can_refuse can_read can_write can_tell words before after held mid told between outcome
+  pub ended : PrintsApart can_write can_tell (is_message outcome) outcome mid holds between tells printed
   pub is_status : status ≡ status_of_program outcome printed

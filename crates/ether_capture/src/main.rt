@@ -1,8 +1,8 @@
 //! Reads a capture of the classic pcap format or of pcapng, a file or standard input, and prints the lines of the walk of each
 //! packet, or copies the capture without some of its packets.
 //!
-//! `main` calls [`program::program`] on the arguments, the files and the standard streams. Lines and copies go to standard output;
-//! the usage, the last line of a copy, and that a stream failed, to standard error.
+//! `main` calls [`program::program`] on the arguments, the files and the standard streams. Lines and copies go to standard output,
+//! and why something was not read or written to standard error.
 #![tactic(auto)]
 
 pub mod asked;
@@ -33,12 +33,14 @@ fn main(rt: HostRuntime) -> ExitCode {
         &mut output,
         &mut rt.stderr(),
     );
-    if status == 4 {
+    let (unreadable, unwritable) = (input.error(), output.error());
+    let is_stream = unread.is_some() || unreadable.is_some() || unwritable.is_some();
+    if status == 4 && is_stream {
         tell_failure(
             "ether_capture",
             unread,
-            input.error(),
-            output.error(),
+            unreadable,
+            unwritable,
             &mut rt.stderr(),
         );
     }

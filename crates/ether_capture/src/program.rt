@@ -1,7 +1,8 @@
 //! The program, over any arguments, files, reader and writer.
 ghost use Rattle.std.specs.Prelude.{◌≡◌, ◌≢◌, ◌⊎◌, Bool, true, false, IfErr, Some, map, string_bytes};
 ghost use Rattle.ether_stream.specs.Outcome.{is_message, status_of_program};
-ghost use Rattle.ether_capture.specs.Program.{HasObeyed, HasRunFile, HasServed, IfGone, PrintsApart, PrintsLast, Settles, arguments_of};
+ghost use Rattle.ether_capture.specs.Program.{HasObeyed, HasRunFile, HasServed, IfGone, PrintsApart, PrintsLast, arguments_of};
+ghost use Rattle.ether_capture.specs.Files.{Settles};
 ghost use Rattle.ether_stream.specs.Task.{task_view};
 
 use crate::asked::{Request, RequestError};
@@ -16,8 +17,9 @@ use std::{env, io};
 
 /// Writes the lines of a capture, or a copy of it, as the arguments say, prints the last line if there is one, and returns the exit status.
 ///
-/// The last line is printed to `writer`; but to `messages` if a copy is asked for, since `writer` has that, or if the arguments are wrong or there
-/// is no memory for them. If they are wrong or can't be read, nothing is read. The latter is a fault of the input.
+/// Why something was not read goes to `messages`, as all last lines do, so that `writer` has the lines or the copy alone; but the usage and the
+/// version, if they are asked for, go to `writer`. If the arguments are wrong or can't be read, nothing is read. The latter is a fault of the
+/// input.
 pub fn program<C: Captures, R: Source, W: LineSink, M: LineSink>(
     args: io::Result<env::Args>,
     alloc: Global,
@@ -33,45 +35,43 @@ pub fn program<C: Captures, R: Source, W: LineSink, M: LineSink>(
     ensures told { Settles M.Sink.is_flushed messages.old messages.new ⊎ M.Sink.can_fail }
 {
     let Ok(args) = args else {
-        let outcome = Outcome::Run {
-            is_copy: false,
-            end: Err(RunFault::Input),
-        };
-        return end(&outcome, writer, messages);
+        return end(&Outcome::Run(Err(RunFault::Input)), writer, messages);
     };
     let Ok(words) = args.collect::<Vec<String>>(alloc) else {
         return end(&Outcome::NoMemory, writer, messages);
     };
-    let outcome = obey(words.as_slice(), alloc, captures, reader, writer);
+    let outcome = obey(words.as_slice(), alloc, captures, reader, writer, messages);
     end(&outcome, writer, messages)
 }
 
 /// Writes the lines of a capture, or a copy of it, as the arguments say.
-fn obey<'a, C: Captures, R: Source, W: LineSink>(
+fn obey<'a, C: Captures, R: Source, W: Sink, M: LineSink>(
     words: &'a [String],
     alloc: Global,
     captures: &C,
     reader: &mut R,
     writer: &mut W,
+    messages: &mut M,
 ) -> Outcome<'a>
-    ensures obeyed { HasObeyed (C.has captures.now) R.can_fail C.can_refuse C.Input.Source.can_fail W.Sink.can_fail (Some (map string_bytes words.now))
-        (R.remaining reader.old) (R.remaining reader.new) (W.Sink.contents writer.old) (W.Sink.contents writer.new) result }
-    ensures flushed { IfGone result (Settles W.Sink.is_flushed writer.old writer.new) }
+    ensures obeyed { HasObeyed (C.has captures.now) R.can_fail C.can_refuse C.Input.Source.can_fail W.can_fail M.Sink.can_fail
+        (Some (map string_bytes words.now)) (R.remaining reader.old) (R.remaining reader.new) (W.contents writer.old)
+        (W.contents writer.new) (M.Sink.contents messages.old) (M.Sink.contents messages.new) result }
+    ensures flushed { IfGone result (Settles W.is_flushed writer.old writer.new) }
+    ensures told { Settles M.Sink.is_flushed messages.old messages.new ⊎ M.Sink.can_fail }
 {
     match request_of_words(words, alloc) {
         Ok(Request::Run(task, file)) => match file {
-            None => Outcome::Run {
-                is_copy: task.is_copy(),
-                end: run_input(&task, alloc, reader, writer).0,
-            },
+            None => Outcome::Run(run_input(&task, alloc, reader, writer).0),
             Some(name) => run_file(&task, name, alloc, captures, writer),
         },
-        Ok(Request::List(listing)) => Outcome::Files(run_files(listing, alloc, captures, writer)),
+        Ok(Request::List(listing)) => {
+            Outcome::Files(run_files(listing, alloc, captures, writer, messages))
+        }
         Ok(Request::Help) => Outcome::Help,
         Ok(Request::Version) => Outcome::Version,
         Err(RequestError::Usage(usage)) => Outcome::Usage(usage),
         Err(RequestError::Memory) => Outcome::NoMemory,
-        Err(RequestError::Filter { is_copy, error }) => Outcome::NoFilter { is_copy, error },
+        Err(RequestError::Filter(error)) => Outcome::NoFilter(error),
     }
 }
 
@@ -87,18 +87,12 @@ fn run_file<'a, C: Captures, W: Sink>(
         (W.contents writer.old) (W.contents writer.new) result }
     ensures flushed { IfGone result (Settles W.is_flushed writer.old writer.new) }
 {
-    let is_copy = task.is_copy();
     match captures.open_named(name) {
         Ok(mut input) => Outcome::File {
-            is_copy,
             name,
             end: run_input(task, alloc, &mut input, writer).0,
         },
-        Err(fault) => Outcome::NotOpened {
-            is_copy,
-            name,
-            fault,
-        },
+        Err(fault) => Outcome::NotOpened { name, fault },
     }
 }
 

@@ -15,8 +15,9 @@ fn main() -> io::Result<ExitCode> {
     let mut input = Noted::new(input()?);
     let mut output = Noted::new(output()?);
     let status = program(args, Global, &FileSystem, &mut input, &mut output, &mut io::stderr());
-    if status == 4 {
-        let (input, output) = (input.error(), output.error());
+    let (input, output) = (input.error(), output.error());
+    let is_stream = unread.is_some() || input.is_some() || output.is_some();
+    if status == 4 && is_stream {
         tell_failure("ether_capture", unread.as_ref(), input, output, &mut io::stderr());
     }
     Ok(ExitCode::from(status))

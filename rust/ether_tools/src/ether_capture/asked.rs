@@ -14,12 +14,7 @@ pub enum RequestError {
     /// Memory for them was refused.
     Memory,
     /// The filter is no expression.
-    Filter {
-        /// Whether a copy was asked for.
-        is_copy: bool,
-        /// Why it is none.
-        error: FilterError,
-    },
+    Filter(FilterError),
 }
 
 impl From<Usage> for RequestError {
@@ -105,10 +100,7 @@ impl<'a> Asked<'a> {
                 };
                 Ok(Request::Run(task, self.file()))
             }
-            Err(error) => Err(RequestError::Filter {
-                is_copy: self.is_copy,
-                error,
-            }),
+            Err(error) => Err(RequestError::Filter(error)),
         }
     }
 

@@ -12,8 +12,9 @@ use std::{env, io};
 
 /// Writes the lines of a capture, or a copy of it, as the arguments say, prints the last line if there is one, and returns the exit status.
 ///
-/// The last line is printed to `writer`; but to `messages` if a copy is asked for, since `writer` has that, or if the arguments are wrong or there
-/// is no memory for them. If they are wrong or can't be read, nothing is read. The latter is a fault of the input.
+/// Why something was not read goes to `messages`, as all last lines do, so that `writer` has the lines or the copy alone; but the usage and the
+/// version, if they are asked for, go to `writer`. If the arguments are wrong or can't be read, nothing is read. The latter is a fault of the
+/// input.
 ///
 /// <details><summary>Contract</summary>
 ///
@@ -35,41 +36,37 @@ pub fn program<C: Captures, R: Source, W: LineSink, M: LineSink>(
     messages: &mut M,
 ) -> u8 {
     let Ok(args) = args else {
-        let outcome = Outcome::Run {
-            is_copy: false,
-            end: Err(RunFault::Input),
-        };
-        return end(&outcome, writer, messages);
+        return end(&Outcome::Run(Err(RunFault::Input)), writer, messages);
     };
     let Ok(words) = Ok::<Vec<String>, crate::ether_capture::memory::NoMemory>(args.collect()) else {
         return end(&Outcome::NoMemory, writer, messages);
     };
-    let outcome = obey(words.as_slice(), alloc, captures, reader, writer);
+    let outcome = obey(words.as_slice(), alloc, captures, reader, writer, messages);
     end(&outcome, writer, messages)
 }
 
 /// Writes the lines of a capture, or a copy of it, as the arguments say.
-fn obey<'a, C: Captures, R: Source, W: LineSink>(
+fn obey<'a, C: Captures, R: Source, W: Sink, M: LineSink>(
     words: &'a [String],
     alloc: Global,
     captures: &C,
     reader: &mut R,
     writer: &mut W,
+    messages: &mut M,
 ) -> Outcome<'a> {
     match request_of_words(words, alloc) {
         Ok(Request::Run(task, file)) => match file {
-            None => Outcome::Run {
-                is_copy: task.is_copy(),
-                end: run_input(&task, alloc, reader, writer).0,
-            },
+            None => Outcome::Run(run_input(&task, alloc, reader, writer).0),
             Some(name) => run_file(&task, name, alloc, captures, writer),
         },
-        Ok(Request::List(listing)) => Outcome::Files(run_files(listing, alloc, captures, writer)),
+        Ok(Request::List(listing)) => {
+            Outcome::Files(run_files(listing, alloc, captures, writer, messages))
+        }
         Ok(Request::Help) => Outcome::Help,
         Ok(Request::Version) => Outcome::Version,
         Err(RequestError::Usage(usage)) => Outcome::Usage(usage),
         Err(RequestError::Memory) => Outcome::NoMemory,
-        Err(RequestError::Filter { is_copy, error }) => Outcome::NoFilter { is_copy, error },
+        Err(RequestError::Filter(error)) => Outcome::NoFilter(error),
     }
 }
 
@@ -81,18 +78,12 @@ fn run_file<'a, C: Captures, W: Sink>(
     captures: &C,
     writer: &mut W,
 ) -> Outcome<'a> {
-    let is_copy = task.is_copy();
     match captures.open_named(name) {
         Ok(mut input) => Outcome::File {
-            is_copy,
             name,
             end: run_input(task, alloc, &mut input, writer).0,
         },
-        Err(fault) => Outcome::NotOpened {
-            is_copy,
-            name,
-            fault,
-        },
+        Err(fault) => Outcome::NotOpened { name, fault },
     }
 }
 
