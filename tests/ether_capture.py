@@ -21,9 +21,11 @@ from captures import (
 from capture_copies import copied, copies, copies_of_copies, copies_that_fail, long_copy_in_pieces
 from capture_files import several
 from capture_limits import limits
+from capture_streams import streams
 from programs import count, on_a_full_disk, run, run_apart, run_until_a_fault, without_memory
 
-USAGE = "usage: ether_capture [[--plain] [--limit N] | --write [--cut-to-headers | --pop-vlan | --push-vlan TPID:ID | --set-vlan A:B]] [--select EXPR [--undecided keep|drop]] [-c N] [FILE]..\n"
+USAGE = ("usage: ether_capture [[--plain] [--limit N] | --write [-w COPY] [--cut-to-headers | --pop-vlan | --push-vlan TPID:ID | --set-vlan A:B]] "
+         "[--select EXPR [--undecided keep|drop]] [-c N] [-r FILE | FILE..]\n")
 
 
 @dataclass
@@ -404,6 +406,7 @@ def main():
     tried += several(program)
     tried += limits(program)
     tried += reasons(program)
+    tried += streams(program)
     tried += copies(program)
     tried += copies_of_copies(program)
     tried += copies_that_fail(program)

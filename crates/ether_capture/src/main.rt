@@ -1,5 +1,5 @@
 //! Reads a capture of the classic pcap format or of pcapng, a file or standard input, and prints the lines of the walk of each
-//! packet, or copies the capture without some of its packets.
+//! packet, or copies the capture without some of its packets, to standard output or a file.
 //!
 //! `main` calls [`program::program`] on the arguments, the files and the standard streams. Lines and copies go to standard output,
 //! and why something was not read or written to standard error.
@@ -7,6 +7,9 @@
 
 pub mod asked;
 pub mod captures;
+pub mod copies;
+pub mod copy_files;
+pub mod copy_run;
 pub mod files;
 pub mod heap_memory;
 pub mod interface_buffer;
@@ -29,6 +32,7 @@ fn main(rt: HostRuntime) -> ExitCode {
         args,
         rt.alloc(),
         &rt,
+        &mut copy_files::CopyFiles::new(&rt, rt.alloc()),
         &mut input,
         &mut output,
         &mut rt.stderr(),

@@ -11,6 +11,8 @@ use Rattle.ether_text.specs.declared.verdict.Verdict.{Verdict}
 use Rattle.ether_text.specs.declared.verdict.Verdict.TheVariants.{AllAccepted, SomeRefused}
 use Rattle.ether_stream.specs.declared.open_fault.OpenFault.{OpenFault}
 use Rattle.ether_stream.specs.declared.open_fault.OpenFault.TheVariants as open_faults
+use Rattle.ether_stream.specs.declared.write_fault.WriteFault.{WriteFault}
+use Rattle.ether_stream.specs.declared.write_fault.WriteFault.TheVariants as write_faults
 use Rattle.ether_stream.specs.declared.words.Usage.{Usage}
 use Rattle.ether_stream.specs.declared.words.Usage.TheVariants as usages
 use Rattle.ether_stream.specs.declared.outcome.Outcome.{Outcome}
@@ -79,7 +81,7 @@ not_edited_text offset =
     codes "byte " ++ (decimal offset ++ (codes ": " ++ codes "This packet can't be written: its block has no number of captured bytes, or it would be too long."))
 
 abbrev pub help_text : List ℕ
-help_text = codes "usage: ether_capture [[--plain] [--limit N] | --write [--cut-to-headers | --pop-vlan | --push-vlan TPID:ID | --set-vlan A:B]] [--select EXPR [--undecided keep|drop]] [-c N] [FILE]..\n\nPrints the link-layer headers of each packet of captures, pcap or pcapng: of each FILE, or of standard input, which a FILE of - also names.\n\nWhich packets:\n  --select EXPR     only packets that match EXPR, as 'vlan 5 or arp'\n  --undecided keep|drop\n                    with --select, keep or drop packets that were cut too short to tell, in place of taking them as they are\n  -c N              end with the N-th of these packets, of all files together\n\nLines:\n  --plain           leave out the lines of packets and the totals\n  --limit N         read N VLAN tags and SecTags of each packet at most\n\nCopies:\n  --write           write the capture itself, of one FILE at most, without the other packets; faults go to standard error\n  --cut-to-headers  with --write, cut each packet where its link-layer headers end\n  --pop-vlan        with --write, take the VLAN tag after the link's header off each frame\n  --push-vlan TPID:ID\n                    with --write, put a VLAN tag after the link's header, as 0x8100:5\n  --set-vlan A:B    with --write, give the outermost VLAN tag with identifier A identifier B\n\n  -h, --help        print this text\n  -V, --version     print the version\n\nEXPR has these primitives, with not, and, or and parentheses:\n\n  vlan [ID], outer vlan ID, inner vlan ID, macsec, arp, ip, ip6\n  ether proto TYPE, ether src ADDR, ether dst ADDR, ether host ADDR\n  ether broadcast, ether multicast, less N, greater N, cut, refused\n\nEach says something of all headers of a packet: unlike in pcap-filter(7), arp is true after any tags, too.\n\nExamples:\n\n  ether_capture --select 'vlan 5 or arp' f.pcap\n  tcpdump -U --immediate-mode -w - | ether_capture\n  ether_capture --write --push-vlan 0x8100:5 f.pcap > tagged.pcap"
+help_text = codes "usage: ether_capture [[--plain] [--limit N] | --write [-w COPY] [--cut-to-headers | --pop-vlan | --push-vlan TPID:ID | --set-vlan A:B]] [--select EXPR [--undecided keep|drop]] [-c N] [-r FILE | FILE..]\n\nPrints the link-layer headers of each packet of captures, pcap or pcapng: of each FILE, or of standard input, which a FILE of - also names. What can't be read or written is said on standard error.\n\n  -r FILE           read FILE, as if it was named alone\n\nWhich packets:\n  --select EXPR     only packets that match EXPR, as 'vlan 5 or arp'\n  --undecided keep|drop\n                    with --select, keep or drop packets that were cut too short to tell, in place of taking them as they are\n  -c N              end with the N-th of these packets, of all files together\n\nLines:\n  --plain           leave out the lines of packets and the totals\n  --limit N         read N VLAN tags and SecTags of each packet at most\n\nCopies:\n  --write           write the capture itself to standard output, of one FILE at most, without the other packets\n  -w COPY           write it to the file COPY, which changes only once all is written; without --write, too\n  --cut-to-headers  with --write, cut each packet where its link-layer headers end\n  --pop-vlan        with --write, take the VLAN tag after the link's header off each frame\n  --push-vlan TPID:ID\n                    with --write, put a VLAN tag after the link's header, as 0x8100:5\n  --set-vlan A:B    with --write, give the outermost VLAN tag with identifier A identifier B\n\n  -h, --help        print this text\n  -V, --version     print the version\n\nEXPR has these primitives, with not, and, or and parentheses:\n\n  vlan [ID], outer vlan ID, inner vlan ID, macsec, arp, ip, ip6\n  ether proto TYPE, ether src ADDR, ether dst ADDR, ether host ADDR\n  ether broadcast, ether multicast, less N, greater N, cut, refused\n\nEach says something of all headers of a packet: unlike in pcap-filter(7), arp is true after any tags, too.\n\nExamples:\n\n  ether_capture --select 'vlan 5 or arp' f.pcap\n  tcpdump -U --immediate-mode -w - | ether_capture\n  ether_capture -r f.pcap -w tagged.pcap --push-vlan 0x8100:5"
 
 abbrev pub version_text : List ℕ
 version_text = codes "ether_capture 3.0.0"
@@ -93,6 +95,17 @@ open_fault_text open_faults.Other = []
 
 abbrev pub not_opened_text : (name : List ℕ) → OpenFault → List ℕ
 not_opened_text name fault = name ++ (codes ": can't be opened" ++ open_fault_text fault)
+
+-- why a copy can't be written
+abbrev pub write_fault_text : WriteFault → List ℕ
+write_fault_text write_faults.NotFound = codes ": there is no such folder"
+write_fault_text write_faults.PermissionDenied = codes ": permission denied"
+write_fault_text write_faults.IsADirectory = codes ": it is a folder"
+write_fault_text write_faults.StorageFull = codes ": no space is left"
+write_fault_text write_faults.Other = []
+
+abbrev pub not_written_text : (name : List ℕ) → WriteFault → List ℕ
+not_written_text name fault = name ++ (codes ": can't be written" ++ write_fault_text fault)
 
 -- why the text of a filter is no expression
 abbrev pub no_filter_text : FilterError → List ℕ
@@ -144,6 +157,7 @@ last_text (outcomes.Run end) = text_of_input end
 last_text (outcomes.Files end) = None
 last_text (outcomes.File name end) = text_of_run name.now end
 last_text (outcomes.NotOpened name fault) = Some (not_opened_text name.now fault)
+last_text (outcomes.NotWritten name fault) = Some (not_written_text name.now fault)
 last_text (outcomes.NoFilter error) = Some (no_filter_text error)
 last_text outcomes.Help = Some help_text
 last_text outcomes.Version = Some version_text
@@ -163,6 +177,7 @@ status_of_outcome (outcomes.Files (Ok status)) = status
 status_of_outcome (outcomes.Files (Err fault)) = exit_status (Err Output)
 status_of_outcome (outcomes.File name end) = exit_status end
 status_of_outcome (outcomes.NotOpened name fault) = exit_status (Err Input)
+status_of_outcome (outcomes.NotWritten name fault) = exit_status (Err Output)
 status_of_outcome (outcomes.NoFilter error) = 2
 status_of_outcome outcomes.Help = 0
 status_of_outcome outcomes.Version = 0
@@ -176,6 +191,7 @@ status_of_program outcome printed = if printed || is_message outcome then status
 abbrev pub last_line_text : LastLine → List ℕ
 last_line_text (last_lines.Stopped name reason) = named_text name.now (reason_text reason)
 last_line_text (last_lines.NotOpened name fault) = not_opened_text name.now fault
+last_line_text (last_lines.NotWritten name fault) = not_written_text name.now fault
 last_line_text last_lines.Help = help_text
 last_line_text last_lines.Version = version_text
 last_line_text (last_lines.Usage usage) = usage_line_text usage

@@ -1,6 +1,6 @@
 //! How the program ends: what a run found or why it stopped, the exit status of each, and the last line.
 
-use crate::ether_stream::{NoMemory, OpenFault, Usage};
+use crate::ether_stream::{NoMemory, OpenFault, Usage, WriteFault};
 use etherpeel::ether_filter::FilterError;
 use etherpeel::ether_pcap::{CaptureError, CaptureFault, FileHeaderError};
 use crate::ether_text::{InputFault, OutputFault, Verdict};
@@ -104,6 +104,13 @@ pub enum Outcome<'a> {
         /// Why it can't.
         fault: OpenFault,
     },
+    /// A copy can't be written to the file.
+    NotWritten {
+        /// Its name.
+        name: &'a str,
+        /// Why it can't.
+        fault: WriteFault,
+    },
     /// The text of the filter is no expression.
     NoFilter(FilterError),
     /// The arguments ask how the program is used.
@@ -118,7 +125,7 @@ pub enum Outcome<'a> {
 
 /// What `--help` prints, without its last LF.
 pub const HELP: &str =
-    "usage: ether_capture [[--plain] [--limit N] | --write [--cut-to-headers | --pop-vlan | --push-vlan TPID:ID | --set-vlan A:B]] [--select EXPR [--undecided keep|drop]] [-c N] [FILE]..\n\nPrints the link-layer headers of each packet of captures, pcap or pcapng: of each FILE, or of standard input, which a FILE of - also names.\n\nWhich packets:\n  --select EXPR     only packets that match EXPR, as 'vlan 5 or arp'\n  --undecided keep|drop\n                    with --select, keep or drop packets that were cut too short to tell, in place of taking them as they are\n  -c N              end with the N-th of these packets, of all files together\n\nLines:\n  --plain           leave out the lines of packets and the totals\n  --limit N         read N VLAN tags and SecTags of each packet at most\n\nCopies:\n  --write           write the capture itself, of one FILE at most, without the other packets; faults go to standard error\n  --cut-to-headers  with --write, cut each packet where its link-layer headers end\n  --pop-vlan        with --write, take the VLAN tag after the link's header off each frame\n  --push-vlan TPID:ID\n                    with --write, put a VLAN tag after the link's header, as 0x8100:5\n  --set-vlan A:B    with --write, give the outermost VLAN tag with identifier A identifier B\n\n  -h, --help        print this text\n  -V, --version     print the version\n\nEXPR has these primitives, with not, and, or and parentheses:\n\n  vlan [ID], outer vlan ID, inner vlan ID, macsec, arp, ip, ip6\n  ether proto TYPE, ether src ADDR, ether dst ADDR, ether host ADDR\n  ether broadcast, ether multicast, less N, greater N, cut, refused\n\nEach says something of all headers of a packet: unlike in pcap-filter(7), arp is true after any tags, too.\n\nExamples:\n\n  ether_capture --select 'vlan 5 or arp' f.pcap\n  tcpdump -U --immediate-mode -w - | ether_capture\n  ether_capture --write --push-vlan 0x8100:5 f.pcap > tagged.pcap";
+    "usage: ether_capture [[--plain] [--limit N] | --write [-w COPY] [--cut-to-headers | --pop-vlan | --push-vlan TPID:ID | --set-vlan A:B]] [--select EXPR [--undecided keep|drop]] [-c N] [-r FILE | FILE..]\n\nPrints the link-layer headers of each packet of captures, pcap or pcapng: of each FILE, or of standard input, which a FILE of - also names. What can't be read or written is said on standard error.\n\n  -r FILE           read FILE, as if it was named alone\n\nWhich packets:\n  --select EXPR     only packets that match EXPR, as 'vlan 5 or arp'\n  --undecided keep|drop\n                    with --select, keep or drop packets that were cut too short to tell, in place of taking them as they are\n  -c N              end with the N-th of these packets, of all files together\n\nLines:\n  --plain           leave out the lines of packets and the totals\n  --limit N         read N VLAN tags and SecTags of each packet at most\n\nCopies:\n  --write           write the capture itself to standard output, of one FILE at most, without the other packets\n  -w COPY           write it to the file COPY, which changes only once all is written; without --write, too\n  --cut-to-headers  with --write, cut each packet where its link-layer headers end\n  --pop-vlan        with --write, take the VLAN tag after the link's header off each frame\n  --push-vlan TPID:ID\n                    with --write, put a VLAN tag after the link's header, as 0x8100:5\n  --set-vlan A:B    with --write, give the outermost VLAN tag with identifier A identifier B\n\n  -h, --help        print this text\n  -V, --version     print the version\n\nEXPR has these primitives, with not, and, or and parentheses:\n\n  vlan [ID], outer vlan ID, inner vlan ID, macsec, arp, ip, ip6\n  ether proto TYPE, ether src ADDR, ether dst ADDR, ether host ADDR\n  ether broadcast, ether multicast, less N, greater N, cut, refused\n\nEach says something of all headers of a packet: unlike in pcap-filter(7), arp is true after any tags, too.\n\nExamples:\n\n  ether_capture --select 'vlan 5 or arp' f.pcap\n  tcpdump -U --immediate-mode -w - | ether_capture\n  ether_capture -r f.pcap -w tagged.pcap --push-vlan 0x8100:5";
 
 /// Why a packet can't be edited.
 const NOT_EDITED: &str =
@@ -166,6 +173,17 @@ fn reason_not_opened(fault: OpenFault) -> &'static str {
     }
 }
 
+/// Why a copy can't be written, as it follows the words that say so.
+fn reason_not_written(fault: WriteFault) -> &'static str {
+    match fault {
+        WriteFault::NotFound => ": there is no such folder",
+        WriteFault::PermissionDenied => ": permission denied",
+        WriteFault::IsADirectory => ": it is a folder",
+        WriteFault::StorageFull => ": no space is left",
+        WriteFault::Other => "",
+    }
+}
+
 /// What messages call standard input.
 const STANDARD_INPUT: &str = "standard input";
 
@@ -176,6 +194,8 @@ pub enum LastLine<'a> {
     Stopped(&'a str, Reason<'a>),
     /// The file of this name can't be opened.
     NotOpened(&'a str, OpenFault),
+    /// A copy can't be written to the file of this name.
+    NotWritten(&'a str, WriteFault),
     /// How the program is used.
     Help,
     /// The version.
@@ -195,6 +215,10 @@ impl fmt::Display for LastLine<'_> {
             LastLine::NotOpened(name, fault) => {
                 let reason = reason_not_opened(*fault);
                 write!(f, "{name}: can't be opened{reason}")
+            }
+            LastLine::NotWritten(name, fault) => {
+                let reason = reason_not_written(*fault);
+                write!(f, "{name}: can't be written{reason}")
             }
             LastLine::Help => write!(f, "{HELP}"),
             LastLine::Version => write!(f, "{VERSION}"),
@@ -223,6 +247,7 @@ pub fn last_line<'a>(outcome: &'a Outcome<'_>) -> Option<LastLine<'a>> {
         Outcome::Files(_) => None,
         Outcome::File { name, end } => line_of_run(name, end),
         Outcome::NotOpened { name, fault } => Some(LastLine::NotOpened(name, *fault)),
+        Outcome::NotWritten { name, fault } => Some(LastLine::NotWritten(name, *fault)),
         Outcome::NoFilter(error) => Some(LastLine::NoFilter(error)),
         Outcome::Help => Some(LastLine::Help),
         Outcome::Version => Some(LastLine::Version),
@@ -325,6 +350,7 @@ pub fn program_status(outcome: &Outcome<'_>, is_printed: bool) -> u8 {
         Outcome::Files(Ok(status)) => *status,
         Outcome::Files(Err(_)) => status_of(&Err(RunFault::Output)),
         Outcome::NotOpened { .. } => status_of(&Err(RunFault::Input)),
+        Outcome::NotWritten { .. } => status_of(&Err(RunFault::Output)),
         Outcome::Help | Outcome::Version => 0,
         Outcome::Usage(_) | Outcome::NoFilter(_) => 2,
         Outcome::NoMemory => status_of(&Err(RunFault::Memory)),
