@@ -12,7 +12,7 @@ PROGRAM is `ether_capture`; TOOL, if given, is `ether_tool`. For each capture:
   with anything else;
 - `--plain` prints the lines of the walks alone;
 - a capture below 2,000 bytes is cut at every byte: the lines are those of the packets before the cut, then the totals if the cut
-  is between two units, else `byte N: ..` with the place where the last unit begins, and status 3;
+  is between two units, else `standard input: byte N: ..` on standard error, with the place where the last unit begins, and status 3;
 - a capture below 700 bytes is given through a pipe byte by byte.
 
 Known differences from tshark, which are not counted as failures:
@@ -146,16 +146,17 @@ def compare_cuts(program, capture, packets):
         place, read = place + len(unit), read + (packet is not None)
     for end in range(len(data)):
         start, count = starts[end]
-        status, text = run([program], data[:end])
-        found, ends = packets_of(text)
+        done = subprocess.run([program], input=data[:end], capture_output=True, check=False)
+        status, said = done.returncode, done.stderr.decode()
+        found, ends = packets_of(done.stdout.decode())
         expect(found, packets[:count], f"cut at {end}")
-        expect(len(ends), 1, f"cut at {end}, last lines")
         if end in known and end > 0:
+            expect((len(ends), said), (1, ""), f"cut at {end}, last lines")
             assert ends[0].startswith(f"total frames {count} "), f"cut at {end}: {ends[0]}"
             assert status in (0, 1), f"cut at {end}: status {status}"
         else:
-            assert ends[0].startswith(f"byte {start}: "), f"cut at {end}: {ends[0]}, the unit begins at {start}"
-            expect(status, 3, f"cut at {end}, status")
+            expect((len(ends), status), (0, 3), f"cut at {end}, last lines and status")
+            assert said.startswith(f"standard input: byte {start}: "), f"cut at {end}: {said}, the unit begins at {start}"
     return len(data)
 
 

@@ -65,7 +65,7 @@ def fault_of(program, data, against):
         if done.returncode not in (0, 1, 3):
             return f"status {done.returncode}"
         if done.returncode == 3:
-            told = re.match(r"byte (\d+): ", text.splitlines()[-1])
+            told = re.match(r"standard input: byte (\d+): ", text.splitlines()[-1])
             if not told or int(told[1]) > len(data):
                 return f"last line {text.splitlines()[-1]!r}"
         ours = printed(text)

@@ -19,7 +19,7 @@ _ether_capture() {
 
     case "${cmd}" in
         ether_capture)
-            opts="-c -h -V --plain --write --cut-to-headers --pop-vlan --push-vlan --set-vlan --select --undecided --limit --help --version [file]..."
+            opts="-c -r -w -h -V --plain --write --cut-to-headers --pop-vlan --push-vlan --set-vlan --select --undecided --limit --help --version [file]..."
             if [[ ${cur} == -* || ${COMP_CWORD} -eq 1 ]] ; then
                 COMPREPLY=( $(compgen -W "${opts}" -- "${cur}") )
                 return 0
@@ -46,6 +46,14 @@ _ether_capture() {
                     return 0
                     ;;
                 -c)
+                    COMPREPLY=($(compgen -f "${cur}"))
+                    return 0
+                    ;;
+                -r)
+                    COMPREPLY=($(compgen -f "${cur}"))
+                    return 0
+                    ;;
+                -w)
                     COMPREPLY=($(compgen -f "${cur}"))
                     return 0
                     ;;

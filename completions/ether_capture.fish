@@ -4,6 +4,8 @@ complete -c ether_capture -l select -d 'only packets that match an expression' -
 complete -c ether_capture -l undecided -d 'keep or drop packets that were cut too short to tell' -r
 complete -c ether_capture -l limit -d 'read so many VLAN tags and SecTags of each packet at most' -r
 complete -c ether_capture -s c -d 'end with so many of these packets' -r
+complete -c ether_capture -s r -d 'read this file alone' -r -F
+complete -c ether_capture -s w -d 'write a copy to this file' -r -F
 complete -c ether_capture -l plain -d 'leave out the lines of packets and the totals'
 complete -c ether_capture -l write -d 'write the capture itself'
 complete -c ether_capture -l cut-to-headers -d 'cut each packet where its link-layer headers end'

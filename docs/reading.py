@@ -183,7 +183,7 @@ ORDER = {
         ether_pcap: Texts PcapngTexts CaptureTexts
         ether_filter: ErrorTexts
         ether_stream: Outcome
-        ether_capture: Files Program
+        ether_capture: Copies Files Program
     """,
     "Bridges": """
         ether_switch: Kinds VlanSets Arrivals Learning Relaying History Leaving Laws

@@ -7,7 +7,7 @@ import tempfile
 from dataclasses import dataclass
 
 from captures import (
-    CLASSIC, COOKED, CUT_PACKET, DISK_IS_FULL, ETHERNET, LOOPBACK_V1, NOT_READ, NO_FILE, OBSOLETE, SECTIONS, SECTION_HEADER, SELECTED, SIX,
+    CLASSIC, COOKED, CUT_PACKET, DISK_IS_FULL, ETHERNET, INPUT, LOOPBACK_V1, NO_FILE, OBSOLETE, SECTIONS, SECTION_HEADER, SELECTED, SIX,
     TAGGED_V1, TAGGED_V2, UNKNOWN, WITH_FCS, block, classic, cooked, frame, interface, joined, long_record, record_is_cut, secrets,
 )
 from programs import on_a_full_disk, run_until_a_fault
@@ -46,14 +46,14 @@ COPIES += [
     Copy("those that match for sure", ["--select", "not vlan 5", "--undecided", "drop"], CLASSIC, CLASSIC[:24] + CLASSIC[59:]),
     Copy("a long block between packets", ["--select", "macsec"], secrets(100_000, 100_000), secrets(100_000, 100_000)[:48]
          + secrets(100_000, 100_000)[96:-48]),
-    Copy("a record that is cut", [], CLASSIC[:120], CLASSIC[:59], record_is_cut(59, 62, 61), 3),
-    Copy("one that would be left out", ["--select", "refused"], CLASSIC[:120], CLASSIC[:59], record_is_cut(59, 62, 61), 3),
-    Copy("a packet before it that is left out", ["--select", "not refused"], CLASSIC[:120], CLASSIC[:24], record_is_cut(59, 62, 61), 3),
-    Copy("no byte", [], b"", b"", "byte 0: The header of a pcap file needs 24 byte(s); only 0 are available.\n", 3),
-    Copy("another magic number", [], CLASSIC[4:], b"", "byte 0: The magic number 0x00020004 is not that of a pcap file.\n", 3),
+    Copy("a record that is cut", [], CLASSIC[:120], CLASSIC[:59], INPUT + record_is_cut(59, 62, 61), 3),
+    Copy("one that would be left out", ["--select", "refused"], CLASSIC[:120], CLASSIC[:59], INPUT + record_is_cut(59, 62, 61), 3),
+    Copy("a packet before it that is left out", ["--select", "not refused"], CLASSIC[:120], CLASSIC[:24], INPUT + record_is_cut(59, 62, 61), 3),
+    Copy("no byte", [], b"", b"", INPUT + ": byte 0: The header of a pcap file needs 24 byte(s); only 0 are available.\n", 3),
+    Copy("another magic number", [], CLASSIC[4:], b"", INPUT + ": byte 0: The magic number 0x00020004 is not that of a pcap file.\n", 3),
     Copy("a long block with another length", [], secrets(100_000, 99_996), secrets(100_000, 99_996)[:96],
-         "byte 96: A block of a pcapng file begins with length 100000 and ends with 99996.\n", 3),
-    Copy("a file that is not there", ["no/such.pcap"], CLASSIC, b"", "no/such.pcap" + NO_FILE + NOT_READ, 4),
+         INPUT + ": byte 96: A block of a pcapng file begins with length 100000 and ends with 99996.\n", 3),
+    Copy("a file that is not there", ["no/such.pcap"], CLASSIC, b"", "no/such.pcap" + NO_FILE, 4),
     Copy("no expression", ["--select", "vlan 4096"], CLASSIC, b"", "--select: At byte 5: expected a number up to 4095.\n", 2),
 ]
 
@@ -63,7 +63,7 @@ COPIES += [
     Copy("more packets than there are", ["-c", "5"], CLASSIC, CLASSIC),
     Copy("one packet that matches", ["-c", "1", "--select", "not refused"], CLASSIC, CLASSIC[:24] + CLASSIC[59:]),
     Copy("one packet, and a record that is cut", ["-c", "1"], CLASSIC[:120], CLASSIC[:59]),
-    Copy("two packets, and a record that is cut", ["-c", "2"], CLASSIC[:120], CLASSIC[:59], record_is_cut(59, 62, 61), 3),
+    Copy("two packets, and a record that is cut", ["-c", "2"], CLASSIC[:120], CLASSIC[:59], INPUT + record_is_cut(59, 62, 61), 3),
     Copy("one packet and all blocks before it", ["-c", "1", "--select", "vlan 291"], SECTIONS, NO_PACKETS + SIMPLE),
     Copy("no packet that is asked for", ["-c", "1", "--select", "macsec"], SECTIONS, NO_PACKETS + SECOND_SECTION),
 ]
@@ -95,7 +95,7 @@ COPIES += [
     Copy("headers of the packets that match", [CUT, "--select", "not refused"], CLASSIC, CLASSIC[:24] + CUT_CLASSIC[58:]),
     Copy("a packet with options", [CUT], LONG_PACKET, CUT_LONG_PACKET),
     Copy("a simple packet that can't be cut", [CUT], NO_PACKETS + CUT_PACKET + LONG_SIMPLE + CUT_PACKET, NO_PACKETS + CUT_PACKET,
-         f"byte {len(NO_PACKETS) + 48}: This packet can't be written: its block has no number of captured bytes, or it would be too long.\n", 3),
+         INPUT + f": byte {len(NO_PACKETS) + 48}: This packet can't be written: its block has no number of captured bytes, or it would be too long.\n", 3),
     Copy("one that is left out", [CUT, "--select", "refused"], NO_PACKETS + LONG_SIMPLE + CUT_PACKET, NO_PACKETS + CUT_PACKET),
     Copy("one that is not reached", [CUT, "-c", "1"], NO_PACKETS + CUT_PACKET + LONG_SIMPLE, NO_PACKETS + CUT_PACKET),
 ]
@@ -134,7 +134,7 @@ COPIES += [
     Copy("cooked capture v1 of hardware type 512 stays", [POP], TAGGED_V1, TAGGED_V1),
     Copy("cooked capture v2 stays", [POP], cooked("8100 0000 00000003 0001 04 06 0200000000010000 b123 0800 45"),
          cooked("8100 0000 00000003 0001 04 06 0200000000010000 b123 0800 45")),
-    Copy("a tag of a simple packet", [POP], SECTIONS, BEFORE_SIMPLE, f"byte {len(BEFORE_SIMPLE)}: {NOT_EDITED}", 3),
+    Copy("a tag of a simple packet", [POP], SECTIONS, BEFORE_SIMPLE, INPUT + f": byte {len(BEFORE_SIMPLE)}: {NOT_EDITED}", 3),
     Copy("a simple packet that is left out", [POP, "--select", "not vlan 291"], SECTIONS, BEFORE_SIMPLE + SECOND_SECTION),
 ]
 
@@ -160,12 +160,12 @@ COPIES += [
     Copy("a tag more in a packet with options", [PUSH, "0x9100:0"], LONG_PACKET, PUSHED_LONG_PACKET),
     Copy("the tag that was taken off a cooked capture", [PUSH, "0x8100:291"], POPPED_COOKED, TAGGED_COOKED.replace(b"\xb1\x23", b"\x01\x23")),
     Copy("a tag more in no frame", [PUSH, "0x8100:5"], TAGGED_V2, RAISED_HEADER[:20] + TAGGED_V2[20:]),
-    Copy("a tag more in a simple packet", [PUSH, "0x8100:5"], NO_PACKETS + SIMPLE, NO_PACKETS, f"byte {len(NO_PACKETS)}: {NOT_EDITED}", 3),
-    Copy("a packet that would be too long", [PUSH, "0x8100:5"], FULL, RAISED_HEADER, f"byte 24: {NOT_EDITED}", 3),
+    Copy("a tag more in a simple packet", [PUSH, "0x8100:5"], NO_PACKETS + SIMPLE, NO_PACKETS, INPUT + f": byte {len(NO_PACKETS)}: {NOT_EDITED}", 3),
+    Copy("a packet that would be too long", [PUSH, "0x8100:5"], FULL, RAISED_HEADER, INPUT + f": byte 24: {NOT_EDITED}", 3),
     Copy("a packet that is as long as it may be", [PUSH, "0x8100:5"], classic(FULL[40:-4]),
          RAISED_HEADER + classic(FULL[40:52] + joined("8100 0005") + FULL[52:-4])[24:]),
     Copy("an original length that has no room for four bytes more", [PUSH, "0x8100:5"], CLASSIC[:36] + joined("fffffffc") + CLASSIC[40:59],
-         RAISED_HEADER, f"byte 24: {NOT_EDITED}", 3),
+         RAISED_HEADER, INPUT + f": byte 24: {NOT_EDITED}", 3),
 ]
 
 # The same captures, and frames with several tags, with another identifier in the outermost tag that has the old one.
@@ -208,7 +208,7 @@ COPIES += [
     Copy("an identifier after hardware type 512 stays", [SET, "291:5"], TAGGED_V1, TAGGED_V1),
     Copy("an identifier in cooked capture v2 stays", [SET, "291:5"], cooked("8100 0000 00000003 0001 04 06 0200000000010000 b123 0800 45"),
          cooked("8100 0000 00000003 0001 04 06 0200000000010000 b123 0800 45")),
-    Copy("another identifier in a simple packet", [SET, "291:5"], SECTIONS, BEFORE_SIMPLE, f"byte {len(BEFORE_SIMPLE)}: {NOT_EDITED}", 3),
+    Copy("another identifier in a simple packet", [SET, "291:5"], SECTIONS, BEFORE_SIMPLE, INPUT + f": byte {len(BEFORE_SIMPLE)}: {NOT_EDITED}", 3),
 ]
 
 # A section whose header says its length, with a snap length of 96, 16 and none, and custom blocks that may be copied and that may not; then its
@@ -242,7 +242,7 @@ COPIES += [
     Copy("the greatest snap length", [PUSH, "0x8100:5"], CLASSIC[:16] + joined("fffffffe") + CLASSIC[20:24], CLASSIC[:16] + joined("ffffffff 00000001")),
     Copy("no snap length", [PUSH, "0x8100:5"], CLASSIC[:16] + joined("00000000") + CLASSIC[20:24], CLASSIC[:16] + joined("00000000 00000001")),
     Copy("a simple packet that was cut, where no snap length is raised", [POP], RAW + CUT_SIMPLE, RAW + CUT_SIMPLE),
-    Copy("one where it is", [PUSH, "0x8100:5"], RAW + CUT_SIMPLE, section(-1, block(1, "65000000 14000000")), f"byte {len(RAW)}: {NOT_EDITED}", 3),
+    Copy("one where it is", [PUSH, "0x8100:5"], RAW + CUT_SIMPLE, section(-1, block(1, "65000000 14000000")), INPUT + f": byte {len(RAW)}: {NOT_EDITED}", 3),
     Copy("one that was not cut", [PUSH, "0x8100:5"], RAW + block(3, "08000000 4500000800000000"),
          section(-1, block(1, "65000000 14000000"), block(3, "08000000 4500000800000000"))),
 ]
@@ -325,7 +325,7 @@ def copies_that_fail(program):
         ("a copy to a full disk", on_a_full_disk(program, ["--write"], CLASSIC), DISK_IS_FULL),
         ("a copy that nobody reads", (done.stderr.decode(), done.returncode), ("", 4)),
         ("a copy without standard error", (silent.stdout, silent.returncode), (CLASSIC[:59], 3)),
-        ("a copy without memory", copied(program, ["--write"], large, preexec_fn=limit), (large[:96], "out of memory\n", 5)),
+        ("a copy without memory", copied(program, ["--write"], large, preexec_fn=limit), (large[:96], INPUT + ": out of memory\n", 5)),
         ("a copy of a reader that fails", run_until_a_fault(program, ["--write", "--select", "arp"], SECTION_HEADER + ETHERNET + CUT_PACKET + CUT_PACKET[:20]),
          ((SECTION_HEADER + ETHERNET).decode("latin-1"), 4)),
     ]

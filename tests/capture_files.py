@@ -9,7 +9,7 @@ from captures import (
     CLASSIC, CLASSIC_LINES, DISK_IS_FULL, DOUBLE, FCS_LINES, FIRST_LINES, IS_FOLDER, NO_FILE, ONE_LINES, SECTIONS, SECTION_LINES, SIX, TAGGED_V2,
     V2_LINE, WITH_FCS, classic, plain, record_is_cut, secrets,
 )
-from programs import on_a_full_disk, run, without_memory
+from programs import on_a_full_disk, run_apart, without_memory
 
 
 def part(lines, before):
@@ -28,10 +28,10 @@ def totals(frames, skipped, end=""):
     return f"total frames {frames} skipped {skipped}{end}\n"
 
 
-# Several files: those that are there, and the words, the lines and the status of each run over some of them.
+# Several files: those that are there, and the words, the lines, the status of each run over some of them, and what is said on standard error.
 FILES = {"one.pcap": CLASSIC, "two.pcapng": SECTIONS, "fcs.pcap": WITH_FCS, "cut.pcap": CLASSIC[:120], "none.pcap": CLASSIC[:24], "empty": b"",
          "packed.gz": gzip.compress(CLASSIC, mtime=0), "six.pcap": classic(*SIX), "v2.pcap": TAGGED_V2}
-CUT_FAULT = "cut.pcap: " + record_is_cut(59, 62, 61)
+CUT_FAULT = "cut.pcap" + record_is_cut(59, 62, 61)
 EMPTY_FAULT = "empty: byte 0: The header of a pcap file needs 24 byte(s); only 0 are available.\n"
 ONE_TWO = part(CLASSIC_LINES, 0) + part(SECTION_LINES, 2)
 THIRD = part(SECTION_LINES, 2)[:part(SECTION_LINES, 2).index("frame 4")]
@@ -43,21 +43,21 @@ SEVERAL_FILES = [
     ("no frame that is refused", ["fcs.pcap", "none.pcap", "fcs.pcap"], part(FCS_LINES, 0) + part(FCS_LINES, 2) + totals(4, 0), 0),
     ("no packet", ["none.pcap", "none.pcap"], totals(0, 0), 0),
     ("a file that is not there", ["one.pcap", "no.pcap", "two.pcapng"],
-     part(CLASSIC_LINES, 0) + "no.pcap" + NO_FILE + part(SECTION_LINES, 2) + totals(6, 1), 4),
-    ("no file that is there", ["--plain", "no.pcap", ""], "no.pcap" + NO_FILE + NO_FILE, 4),
-    ("a folder", [os.curdir, "fcs.pcap"], "." + IS_FOLDER + FCS_LINES, 4),
-    ("a fault in the first", ["cut.pcap", "one.pcap"], FIRST_LINES + CUT_FAULT + part(CLASSIC_LINES, 1) + totals(3, 0), 3),
-    ("a fault in the last", ["--plain", "one.pcap", "cut.pcap"], plain(CLASSIC_LINES) + plain(FIRST_LINES) + CUT_FAULT, 3),
+     ONE_TWO + totals(6, 1), 4, "no.pcap" + NO_FILE),
+    ("no file that is there", ["--plain", "no.pcap", ""], "", 4, "no.pcap" + NO_FILE + NO_FILE),
+    ("a folder", [os.curdir, "fcs.pcap"], FCS_LINES, 4, "." + IS_FOLDER),
+    ("a fault in the first", ["cut.pcap", "one.pcap"], FIRST_LINES + part(CLASSIC_LINES, 1) + totals(3, 0), 3, CUT_FAULT),
+    ("a fault in the last", ["--plain", "one.pcap", "cut.pcap"], plain(CLASSIC_LINES) + plain(FIRST_LINES), 3, CUT_FAULT),
     ("faults, and a file that is not there", ["empty", "no.pcap", "cut.pcap"],
-     EMPTY_FAULT + "no.pcap" + NO_FILE + FIRST_LINES + CUT_FAULT + totals(1, 0), 4),
+     FIRST_LINES + totals(1, 0), 4, EMPTY_FAULT + "no.pcap" + NO_FILE + CUT_FAULT),
     ("a packed capture", ["packed.gz", "fcs.pcap"],
-     "packed.gz: byte 0: The magic number 0x1F8B0800 is not that of a pcap file. This looks like gzip: zcat unpacks it.\n" + FCS_LINES, 3),
+     FCS_LINES, 3, "packed.gz: byte 0: The magic number 0x1F8B0800 is not that of a pcap file. This looks like gzip: zcat unpacks it.\n"),
     ("packets of two files", ["-c", "3", "one.pcap", "two.pcapng"], part(CLASSIC_LINES, 0) + THIRD + totals(3, 0), 1),
     ("packets of the first alone", ["-c", "2", "one.pcap", "no.pcap"], CLASSIC_LINES, 1),
     ("all packets there are", ["-c", "6", "one.pcap", "two.pcapng", "no.pcap"], ONE_TWO + totals(6, 1), 1),
     ("more than there are", ["-c", "7", "one.pcap", "two.pcapng"], ONE_TWO + totals(6, 1), 1),
     ("a packet before a fault, and one after it", ["-c", "2", "cut.pcap", "one.pcap", "no.pcap"],
-     FIRST_LINES + CUT_FAULT + part(FIRST_LINES, 1) + totals(2, 0), 3),
+     FIRST_LINES + part(FIRST_LINES, 1) + totals(2, 0), 3, CUT_FAULT),
     ("the second packet that a filter selects", ["-c", "2", "--select", "not refused and vlan 291", "one.pcap", "two.pcapng", "cut.pcap"],
      part(CLASSIC_LINES, 0).replace(FIRST_LINES, "") + part(SECTION_LINES, 2)[part(SECTION_LINES, 2).index("frame 5"):part(SECTION_LINES, 2).index("frame 6")]
      + totals(5, 0, " undecided 2"), 0),
@@ -77,16 +77,18 @@ def several(program):
         here = os.getcwd()
         os.chdir(folder)
         try:
-            tried = [(f"several files: {name}", run(program, words, CLASSIC), (text, status)) for name, words, text, status in SEVERAL_FILES]
+            tried = [(f"several files: {name}", run_apart(program, words, CLASSIC), (text, "".join(said), status))
+                     for name, words, text, status, *said in SEVERAL_FILES]
             found = without_memory(program, b"", ["no", "large", "fcs.pcap"])
-            wanted = "no" + NO_FILE + ONE_LINES + "large: out of memory\n" + part(FCS_LINES, 1) + totals(3, 0), 5
+            wanted = ONE_LINES + part(FCS_LINES, 1) + totals(3, 0), "no" + NO_FILE + "large: out of memory\n", 5
             tried.append(("several files, no memory for a block", found, wanted))
-            for words in (["one.pcap", "two.pcapng"], ["no", "none.pcap"], ["--plain", "no", "none.pcap"]):
-                tried.append((f"several files, a full disk, {words}", on_a_full_disk(program, words, b""), DISK_IS_FULL))
+            tried.append(("several files, a full disk", on_a_full_disk(program, ["one.pcap", "two.pcapng"], b""), DISK_IS_FULL))
+            said, status = on_a_full_disk(program, ["no", "none.pcap"], b"")
+            tried.append(("no file and one without packets, a full disk", (said, status), ("no" + NO_FILE + DISK_IS_FULL[0], 4)))
             gone, end = os.pipe()
             os.close(gone)
             with os.fdopen(end, "wb") as out:
-                done = subprocess.run([program, "one.pcap", "no", "two.pcapng"], stdin=subprocess.DEVNULL, stdout=out, stderr=subprocess.PIPE, check=False)
+                done = subprocess.run([program, "one.pcap", "two.pcapng", "no"], stdin=subprocess.DEVNULL, stdout=out, stderr=subprocess.PIPE, check=False)
             tried.append(("several files that nobody reads", (done.stderr.decode(), done.returncode), ("", 4)))
         finally:
             os.chdir(here)

@@ -7,7 +7,7 @@ import time
 
 from captures import CLASSIC, CLASSIC_LINES, NO_FILE, ONE_LINES, SECTIONS, SECTION_LINES, SIX, classic, plain
 from capture_files import part, totals
-from programs import run
+from programs import run, run_apart
 
 # Words of an expression: 192 are the most.
 MOST = "not refused" + " or refused" * 95
@@ -20,12 +20,12 @@ LONG_NAME = "a/" * 2_000
 def selecting(program):
     """Long expressions: what is said of them, and of the packets."""
     selected = {
-        "192 words": (MOST, (CLASSIC_LINES.replace("skipped 0", "skipped 0 undecided 1"), 1)),
-        "193 words": (MOST + " or refused", (f"--select: At byte {len(MOST) + 1}: an expression has at most 192 words.\n", 2)),
-        "a word that is wrong far behind": (LATE, ("--select: At byte 2005: expected a number up to 4095.\n", 2)),
-        "blanks alone": (" " * 5_000, ("--select: At byte 5000: expected a primitive, `not` or `(`.\n", 2)),
+        "192 words": (MOST, (CLASSIC_LINES.replace("skipped 0", "skipped 0 undecided 1"), "", 1)),
+        "193 words": (MOST + " or refused", ("", f"--select: At byte {len(MOST) + 1}: an expression has at most 192 words.\n", 2)),
+        "a word that is wrong far behind": (LATE, ("", "--select: At byte 2005: expected a number up to 4095.\n", 2)),
+        "blanks alone": (" " * 5_000, ("", "--select: At byte 5000: expected a primitive, `not` or `(`.\n", 2)),
     }
-    return [(name, run(program, ["--select", text], CLASSIC), wanted) for name, (text, wanted) in selected.items()]
+    return [(name, run_apart(program, ["--select", text], CLASSIC), wanted) for name, (text, wanted) in selected.items()]
 
 
 def names(program):
@@ -44,8 +44,8 @@ def names(program):
             ("a long name", run(program, [one], b""), (CLASSIC_LINES, 1)),
             ("another one, longer alike", run(program, [two], b""), (SECTION_LINES, 1)),
             ("both", run(program, [one, two], b""), (both, 1)),
-            ("a name of 4,000 bytes", run(program, [LONG_NAME], b""), (LONG_NAME + NO_FILE, 4)),
-            ("the same before a file", run(program, ["--plain", LONG_NAME, one], b""), (LONG_NAME + NO_FILE + plain(CLASSIC_LINES), 4)),
+            ("a name of 4,000 bytes", run_apart(program, [LONG_NAME], b""), ("", LONG_NAME + NO_FILE, 4)),
+            ("the same before a file", run_apart(program, ["--plain", LONG_NAME, one], b""), (plain(CLASSIC_LINES), LONG_NAME + NO_FILE, 4)),
             ("300 files", run(program, [one] * 300, b""), (many, 1)),
         ]
 

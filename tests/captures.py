@@ -1,9 +1,9 @@
 """Captures that the tests of `ether_capture` read, and what it prints of them. They were written by hand and checked with tshark."""
 
 DISK_IS_FULL = ("ether_capture: standard output: No space left on device (os error 28)\n", 4)
-NOT_READ = "ether_capture: a file can't be read\n"
 NO_FILE = ": can't be opened: there is no such file\n"
 IS_FOLDER = ": can't be opened: it is a folder\n"
+INPUT = "standard input"
 
 
 def joined(*parts):
@@ -78,7 +78,8 @@ def plain(lines):
 
 
 def record_is_cut(place, required, found):
-    return f"byte {place}: A record of a pcap file needs {required} byte(s); only {found} are available.\n"
+    """Why a capture is not read on, after the name of its file."""
+    return f": byte {place}: A record of a pcap file needs {required} byte(s); only {found} are available.\n"
 
 
 ONE_LINES = "frame 1 time 1700000000.123456000 link 1 captured 14 original 46 cut\n" + CUT_WALK

@@ -14,27 +14,30 @@ import tempfile
 from dataclasses import dataclass
 
 from captures import (
-    CLASSIC, CLASSIC_LINES, CUT_PACKET, DISK_IS_FULL, DOUBLE, ENHANCED, FCS_LINES, FIRST_LINES, INNER, IS_FOLDER, LOOPBACK_V1, MACS, NO_FILE,
-    NOT_READ, OBSOLETE, ONE_LINES, OUTER, SECTIONS, SECTION_HEADER, SECTION_LINES, SELECTED, SIX, TAGGED_V1, TAGGED_V2, V1_LINE, V2_LINE, WITH_FCS, block,
+    CLASSIC, CLASSIC_LINES, CUT_PACKET, DISK_IS_FULL, DOUBLE, ENHANCED, FCS_LINES, FIRST_LINES, INNER, INPUT, IS_FOLDER, LOOPBACK_V1, MACS, NO_FILE,
+    OBSOLETE, ONE_LINES, OUTER, SECTIONS, SECTION_HEADER, SECTION_LINES, SELECTED, SIX, TAGGED_V1, TAGGED_V2, V1_LINE, V2_LINE, WITH_FCS, block,
     classic, cooked, cooked_lines, frame, interface, joined, long_record, plain, record_is_cut, secrets,
 )
 from capture_copies import copied, copies, copies_of_copies, copies_that_fail, long_copy_in_pieces
 from capture_files import several
 from capture_limits import limits
-from programs import count, on_a_full_disk, run, run_in_pieces, run_until_a_fault, without_memory
+from capture_streams import streams
+from programs import count, on_a_full_disk, run, run_apart, run_until_a_fault, without_memory
 
-USAGE = "usage: ether_capture [[--plain] [--limit N] | --write [--cut-to-headers | --pop-vlan | --push-vlan TPID:ID | --set-vlan A:B]] [--select EXPR [--undecided keep|drop]] [-c N] [FILE]..\n"
+USAGE = ("usage: ether_capture [[--plain] [--limit N] | --write [-w COPY] [--cut-to-headers | --pop-vlan | --push-vlan TPID:ID | --set-vlan A:B]] "
+         "[--select EXPR [--undecided keep|drop]] [-c N] [-r FILE | FILE..]\n")
 
 
 @dataclass
 class Case:
-    """A capture, the words after the program's name, what is printed and the exit status."""
+    """A capture, the words after the program's name, what is printed, the exit status and what is said on standard error."""
 
     name: str
     words: list
     capture: bytes
     text: str
     status: int
+    said: str = ""
 
 
 UNEQUAL = bytearray(SECTIONS)
@@ -48,54 +51,54 @@ CASES = [
     Case("two sections", [], SECTIONS, SECTION_LINES, 1),
     Case("no packet", [], CLASSIC[:24], "total frames 0 skipped 0\n", 0),
     Case("the walks of no packet", ["--plain"], CLASSIC[:24], "", 0),
-    Case("a file that is not there", ["no/such.pcap"], CLASSIC, "no/such.pcap" + NO_FILE, 4),
-    Case("no name", [""], CLASSIC, NO_FILE, 4),
-    Case("a folder", [os.curdir], CLASSIC, "." + IS_FOLDER, 4),
+    Case("a file that is not there", ["no/such.pcap"], CLASSIC, "", 4, "no/such.pcap" + NO_FILE),
+    Case("no name", [""], CLASSIC, "", 4, NO_FILE),
+    Case("a folder", [os.curdir], CLASSIC, "", 4, "." + IS_FOLDER),
     Case("the version", ["--version"], CLASSIC, "ether_capture 3.0.0\n", 0),
-    Case("a word that is no text", [b"\xff"], CLASSIC, "", 4),
-    Case("a record that is cut", [], CLASSIC[:120], FIRST_LINES + record_is_cut(59, 62, 61), 3),
-    Case("a record's header that is cut", [], CLASSIC[:60], FIRST_LINES + record_is_cut(59, 16, 1), 3),
-    Case("a cut record, its walks alone", ["--plain"], CLASSIC[:58], record_is_cut(24, 35, 34), 3),
-    Case("another magic number", [], CLASSIC[4:], "byte 0: The magic number 0x00020004 is not that of a pcap file.\n", 3),
+    Case("a word that is no text", [b"\xff"], CLASSIC, "", 4, "ether_capture: an argument is not UTF-8\n"),
+    Case("a record that is cut", [], CLASSIC[:120], FIRST_LINES, 3, INPUT + record_is_cut(59, 62, 61)),
+    Case("a record's header that is cut", [], CLASSIC[:60], FIRST_LINES, 3, INPUT + record_is_cut(59, 16, 1)),
+    Case("a cut record, its walks alone", ["--plain"], CLASSIC[:58], "", 3, INPUT + record_is_cut(24, 35, 34)),
+    Case("another magic number", [], CLASSIC[4:], "", 3, INPUT + ": byte 0: The magic number 0x00020004 is not that of a pcap file.\n"),
     Case("a packed capture", [], gzip.compress(CLASSIC, mtime=0),
-         "byte 0: The magic number 0x1F8B0800 is not that of a pcap file. This looks like gzip: zcat unpacks it.\n", 3),
+         "", 3, INPUT + ": byte 0: The magic number 0x1F8B0800 is not that of a pcap file. This looks like gzip: zcat unpacks it.\n"),
     Case("a capture packed by bzip2", [], bz2.compress(CLASSIC),
-         "byte 0: The magic number 0x425A6839 is not that of a pcap file. This looks like bzip2: bzcat unpacks it.\n", 3),
+         "", 3, INPUT + ": byte 0: The magic number 0x425A6839 is not that of a pcap file. This looks like bzip2: bzcat unpacks it.\n"),
     Case("one packed by lz4", [], joined("04224d18") + CLASSIC,
-         "byte 0: The magic number 0x04224D18 is not that of a pcap file. This looks like lz4: lz4cat unpacks it.\n", 3),
+         "", 3, INPUT + ": byte 0: The magic number 0x04224D18 is not that of a pcap file. This looks like lz4: lz4cat unpacks it.\n"),
     Case("a variant of pcap", [], joined("a1b2cd34") + CLASSIC[4:],
-         "byte 0: The magic number 0xA1B2CD34 is not that of a pcap file. This is a variant of pcap: editcap converts it.\n", 3),
+         "", 3, INPUT + ": byte 0: The magic number 0xA1B2CD34 is not that of a pcap file. This is a variant of pcap: editcap converts it.\n"),
     Case("an older version", [], joined("a1b2c3d4 0002 0003") + CLASSIC[8:],
-         "byte 0: Version 2.3 of the pcap format is not supported, only 2.4. editcap converts it.\n", 3),
-    Case("no byte", [], b"", "byte 0: The header of a pcap file needs 24 byte(s); only 0 are available.\n", 3),
+         "", 3, INPUT + ": byte 0: Version 2.3 of the pcap format is not supported, only 2.4. editcap converts it.\n"),
+    Case("no byte", [], b"", "", 3, INPUT + ": byte 0: The header of a pcap file needs 24 byte(s); only 0 are available.\n"),
     Case("lengths that differ", [], bytes(UNEQUAL),
-         "byte 28: A block of a pcapng file begins with length 20 and ends with 24.\n", 3),
+         "", 3, INPUT + ": byte 28: A block of a pcapng file begins with length 20 and ends with 24.\n"),
     Case("a packet of no interface", [], SECTION_HEADER + CUT_PACKET,
-         "byte 28: A packet of a pcapng file names interface 0, which its section does not describe.\n", 3),
+         "", 3, INPUT + ": byte 28: A packet of a pcapng file names interface 0, which its section does not describe.\n"),
     Case("the longest record", [], long_record(262_144, 262_144),
          "frame 1 time 0.000000000 link 1 captured 262144 original 0\n"
          "ethernet2 0 000000000000 000000000000 0x0000\nrest 14 262144 type 0x0000\ntotal frames 1 skipped 0\n", 0),
     Case("a record above the format's greatest length", [], long_record(262_145, 262_145),
-         "byte 24: A record of a pcap file cannot have 262145 captured byte(s), the maximum is 262144.\n", 3),
-    Case("a long record that is cut", [], long_record(73_713, 84), record_is_cut(24, 73_729, 100), 3),
+         "", 3, INPUT + ": byte 24: A record of a pcap file cannot have 262145 captured byte(s), the maximum is 262144.\n"),
+    Case("a long record that is cut", [], long_record(73_713, 84), "", 3, INPUT + record_is_cut(24, 73_729, 100)),
 ]
 
 TWO_LINES = ONE_LINES + ONE_LINES.replace("frame 1", "frame 2") + "total frames 2 skipped 0\n"
 
 
 def block_is_cut(found):
-    return ONE_LINES + f"byte 96: A block of a pcapng file needs 100000 byte(s); only {found} are available.\n"
+    return INPUT + f": byte 96: A block of a pcapng file needs 100000 byte(s); only {found} are available.\n"
 
 
 CASES += [Case(f"a block of {length} bytes", [], secrets(length, length), TWO_LINES, 1)
           for length in (73_728, 73_732, 100_000, 16_777_216)]
-CASES += [Case(f"a block that is cut after {found} bytes", [], secrets(100_000, 100_000, found), block_is_cut(found), 3)
+CASES += [Case(f"a block that is cut after {found} bytes", [], secrets(100_000, 100_000, found), ONE_LINES, 3, block_is_cut(found))
           for found in (73_728, 80_000, 99_998)]
 CASES += [
     Case("a long block with another length", [], secrets(100_000, 99_996),
-         ONE_LINES + "byte 96: A block of a pcapng file begins with length 100000 and ends with 99996.\n", 3),
+         ONE_LINES, 3, INPUT + ": byte 96: A block of a pcapng file begins with length 100000 and ends with 99996.\n"),
     Case("a block above the format's greatest length", [], secrets(16_777_220, 16_777_220),
-         ONE_LINES + "byte 96: A block of a pcapng file cannot have 16777220 byte(s).\n", 3),
+         ONE_LINES, 3, INPUT + ": byte 96: A block of a pcapng file cannot have 16777220 byte(s).\n"),
 ]
 
 
@@ -134,7 +137,7 @@ CASES += [
          one(1_700_000_000, WITHOUT_FOUR), 0),
     Case("65,536 interfaces", [], MANY_INTERFACES + frame(6, "ffff0000"), one(1_700_000_000, WHOLE), 0),
     Case("an interface more", [], MANY_INTERFACES + block(1, "01000000 00000000"),
-         f"byte {28 + 65_536 * 20}: A section of a pcapng file describes more interfaces than this reader keeps.\n", 3),
+         "", 3, INPUT + f": byte {28 + 65_536 * 20}: A section of a pcapng file describes more interfaces than this reader keeps.\n"),
 ]
 
 
@@ -205,12 +208,12 @@ CASES += [
                           "vlan 20 pcp 5 dei 1 vid 291 0x0800\nrest 24 25 type 0x0800\n", end=" undecided 0"), 0),
     Case("netlink, which no filter selects", ["--select", "not arp"], cooked("0010 0000 00000002 0338 04 00 0000000000000000 14000000"),
          "total frames 1 skipped 0 undecided 0\n", 0),
-    Case("no expression", ["--select", "vlan 4096"], CLASSIC, "--select: At byte 5: expected a number up to 4095.\n", 2),
-    Case("a word after vlan", ["--select", "vlan abc"], CLASSIC, "--select: At byte 5: expected a number up to 4095, `and`, `or`, `)` or the end.\n", 2),
-    Case("and beside or", ["--select", "arp and ip or vlan"], CLASSIC,
-         "--select: At byte 11: `and` and `or` can be mixed only with parentheses.\n", 2),
+    Case("no expression", ["--select", "vlan 4096"], CLASSIC, "", 2, "--select: At byte 5: expected a number up to 4095.\n"),
+    Case("a word after vlan", ["--select", "vlan abc"], CLASSIC, "", 2, "--select: At byte 5: expected a number up to 4095, `and`, `or`, `)` or the end.\n"),
+    Case("and beside or", ["--select", "arp and ip or vlan"], CLASSIC, "", 2,
+         "--select: At byte 11: `and` and `or` can be mixed only with parentheses.\n"),
     Case("options in another order", ["--select", "refused", "--plain"], CLASSIC, plain(FIRST_LINES), 1),
-    Case("a filter that looks like an option", ["--select=--plain"], CLASSIC, "--select: At byte 0: expected a primitive, `not` or `(`.\n", 2),
+    Case("a filter that looks like an option", ["--select=--plain"], CLASSIC, "", 2, "--select: At byte 0: expected a primitive, `not` or `(`.\n"),
 ]
 
 # Packets that were cut too short to tell: of the first one the identifier of the first VLAN tag is known, 1, and nothing after it.
@@ -235,7 +238,7 @@ CASES += [
     Case("more packets than there are", ["-c", "3"], CLASSIC, CLASSIC_LINES, 1),
     Case("the walk of one packet", ["--plain", "-c", "1"], CLASSIC, plain(FIRST_LINES), 1),
     Case("one packet, and a record that is cut", ["-c", "1"], CLASSIC[:60], FIRST_LINES + "total frames 1 skipped 0\n", 1),
-    Case("two packets, and a record that is cut", ["-c", "2"], CLASSIC[:60], FIRST_LINES + record_is_cut(59, 16, 1), 3),
+    Case("two packets, and a record that is cut", ["-c", "2"], CLASSIC[:60], FIRST_LINES, 3, INPUT + record_is_cut(59, 16, 1)),
     Case("the second packet, by a filter", ["-c", "0x1", "--plain", "--select", "not refused"], CLASSIC,
          plain(CLASSIC_LINES).replace(plain(FIRST_LINES), ""), 0),
     Case("three packets of two sections", ["-c", "3"], SECTIONS, SECTION_LINES[:SECTION_LINES.index("frame 4")] + "total frames 3 skipped 0\n", 1),
@@ -358,37 +361,30 @@ def run_on_a_folder(program):
 
 
 def run_forbidden(program):
-    """What is printed of a file that may not be read. Root may read each, so the program runs as another there."""
+    """What is said of a file that may not be read. Root may read each, so the program runs as another there."""
     with tempfile.NamedTemporaryFile() as file:
         os.chmod(file.name, 0)
         other = {"user": 65_534} if os.getuid() == 0 else {}
         done = subprocess.run([program, file.name], capture_output=True, check=False, **other)
-        return done.stdout.decode().replace(file.name, "FILE"), done.stderr.decode()
+        return done.stdout.decode(), done.stderr.decode().replace(file.name, "FILE"), done.returncode
 
 
 def reasons(program):
-    """What standard error says of a program with status 4, and the line of a file that is forbidden."""
-    done = {tuple(words): subprocess.run([program, *words], input=CLASSIC, capture_output=True, check=False).stderr.decode()
-            for words in ([b"caf\xe9.pcap"], ["no/such.pcap"], ["no/such.pcap", "no"])}
-    head = subprocess.run(f"'{program}' | head -n 1", shell=True, input=CLASSIC * 2000, capture_output=True, check=False)
+    """What standard error says of streams that fail, and of a file that is forbidden."""
     return [
-        ("a name that is not UTF-8", done[(b"caf\xe9.pcap",)], "ether_capture: an argument is not UTF-8\n"),
-        ("the stream of a file that is not there", done[("no/such.pcap",)], NOT_READ),
-        ("that of two", done[("no/such.pcap", "no")], NOT_READ),
-        ("the first line alone", (head.stdout.decode(), head.stderr.decode()), (CLASSIC_LINES[:CLASSIC_LINES.index("\n") + 1], "")),
         ("a folder as the input", run_on_a_folder(program).stderr.decode(), "ether_capture: standard input: Is a directory (os error 21)\n"),
-        ("a file that may not be read", run_forbidden(program), ("FILE: can't be opened: permission denied\n", NOT_READ)),
+        ("a file that may not be read", run_forbidden(program), ("", "FILE: can't be opened: permission denied\n", 4)),
     ]
 
 
 def main():
     program = os.path.realpath(sys.argv[1])
-    tried = [(case.name, run(program, case.words, case.capture), (case.text, case.status)) for case in CASES]
+    tried = [(case.name, run_apart(program, case.words, case.capture), (case.text, case.said, case.status)) for case in CASES]
     for cases, steps in ((CASES[:6], (1, 2, 3, 7, 16, 59, 64)), (LONG, (1_000, 65_537))):
         for case in cases:
             for step in steps:
-                found = run_in_pieces(program, case.words, case.capture, step)
-                tried.append((f"{case.name} in pieces of {step}", found, (case.text, case.status)))
+                found = run_apart(program, case.words, case.capture, step)
+                tried.append((f"{case.name} in pieces of {step}", found, (case.text, case.said, case.status)))
     one = FIRST_LINES + "total frames 1 skipped 0\n", 1
     tried.append(("one packet of a capture that goes on", before_the_end(program, ["-c", "1"], CLASSIC[:59]), one))
     tried.append(("a reader that fails", run_until_a_fault(program, [], CLASSIC[:59]), (FIRST_LINES, 4)))
@@ -410,6 +406,7 @@ def main():
     tried += several(program)
     tried += limits(program)
     tried += reasons(program)
+    tried += streams(program)
     tried += copies(program)
     tried += copies_of_copies(program)
     tried += copies_that_fail(program)
@@ -420,8 +417,8 @@ def main():
     tried += [(f"help by {words}", run(program, words, CLASSIC), (help_text, 0)) for words in (["-h"], ["--plain", "--help"], ["one", "-h", "two"])]
     tried += [(f"the version by {words}", run(program, words, CLASSIC), ("ether_capture 3.0.0\n", 0)) for words in (["-V"], ["one", "--version"])]
     tried += [(f"one packet by {words}", run(program, words, CLASSIC), one) for words in (["-c1"], ["-c=1"])]
-    tried.append(("no memory for a block", without_memory(program, secrets(16_777_216, 16_777_216)), (ONE_LINES + "out of memory\n", 5)))
-    for words in ([], ["--plain"], ["--help"], ["no/such.pcap"]):
+    tried.append(("no memory for a block", without_memory(program, secrets(16_777_216, 16_777_216)), (ONE_LINES, INPUT + ": out of memory\n", 5)))
+    for words in ([], ["--plain"], ["--help"]):
         tried.append((f"a full disk, {words}", on_a_full_disk(program, words, CLASSIC), DISK_IS_FULL))
     return count(tried)
 

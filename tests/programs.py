@@ -29,6 +29,25 @@ def run_in_pieces(program, words, given, step):
         return written.read().decode(), child.returncode
 
 
+def run_apart(program, words, given, step=None, **how):
+    """What the program prints for this input, what it says on standard error, and its status. The input is a file, or comes some bytes at a time."""
+    with tempfile.TemporaryFile() as file, tempfile.TemporaryFile() as out, tempfile.TemporaryFile() as said:
+        if step is None:
+            file.write(given)
+            file.seek(0)
+        with subprocess.Popen([program, *words], stdin=subprocess.PIPE if step else file, stdout=out, stderr=said, bufsize=0, **how) as child:
+            try:
+                for at in range(0, len(given) if step else 0, step or 1):
+                    child.stdin.write(given[at:at + step])
+                if step:
+                    child.stdin.close()
+            except BrokenPipeError:
+                pass  # the program has ended
+        out.seek(0)
+        said.seek(0)
+        return out.read().decode(), said.read().decode(), child.returncode
+
+
 def run_until_a_fault(program, words, given):
     """The same of a reader that fails after these bytes. Each byte that is printed is one character."""
     ours, theirs = socket.socketpair()
@@ -49,10 +68,8 @@ def on_a_full_disk(program, words, given):
 
 
 def without_memory(program, capture, words=()):
-    """What the program prints, and its status, if it may have 6 MiB."""
-    limit = lambda: resource.setrlimit(resource.RLIMIT_AS, (6 << 20, 6 << 20))  # noqa: E731
-    done = subprocess.run([program, *words], input=capture, stdout=subprocess.PIPE, preexec_fn=limit, check=False)
-    return done.stdout.decode(), done.returncode
+    """What the program prints, what it says on standard error, and its status, if it may have 6 MiB."""
+    return run_apart(program, words, capture, preexec_fn=lambda: resource.setrlimit(resource.RLIMIT_AS, (6 << 20, 6 << 20)))
 
 
 def count(tried):

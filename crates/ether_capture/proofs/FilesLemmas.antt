@@ -4,14 +4,13 @@ use Rattle.std.specs.Prelude.{max}
 use Rattle.std.specs.Borrow.{Bor}
 use Rattle.std.specs.Vec.Iter.{into_iter_items}
 use Rattle.std.specs.declared.vec.IntoIter.{IntoIter}
-use Rattle.std.specs.Io.KnownBytes.{Appends}
 use Rattle.ether_pcap.specs.Capture.{PacketValue}
 use Rattle.ether_text.specs.Run.{IsEndless}
 use Rattle.ether_text.specs.declared.verdict.Verdict.{Verdict}
 use Rattle.ether_stream.specs.Counting.{AreCounted, HasCounted, IfFileRead, IfRead}
-use Rattle.ether_capture.specs.Files.{HasEnded, ReadsFile, next_task}
+use Rattle.ether_capture.specs.Files.{HasEnded, ReadsFile, Settles, Tells, next_task}
 use Rattle.ether_capture.specs.Options.{ListingValue}
-use Rattle.ether_stream.specs.Outcome.{last_bytes, status_of_file, text_of_file}
+use Rattle.ether_stream.specs.Outcome.{status_of_file, text_of_file}
 use Rattle.ether_stream.specs.Packets.{counted, IsLeftOf}
 use Rattle.ether_stream.specs.Run.{HasNoMemory, OnStreamFault}
 use Rattle.ether_stream.specs.Task.{TaskValue}
@@ -26,6 +25,16 @@ use Rattle.ether_stream.specs.declared.outcome.RunFault.TheVariants as faults
 -- the names that are left
 abbrev pub names_in : {A : Type 0} → IntoIter (Bor (List ℕ)) A → List (List ℕ)
 names_in files = map (λ s. s.now) (into_iter_items files)
+
+-- what was flushed, or not written to, twice
+pub settled : {W : Type 0} (is_flushed : W → Type 0) (can_fail : Type 0) (a b c : W)
+    → Settles is_flushed a b ⊎ can_fail → Settles is_flushed b c ⊎ can_fail → Settles is_flushed a c ⊎ can_fail
+settled is_flushed can_fail a b c (inr fails) after = inr fails
+settled is_flushed can_fail a b c (inl first) (inr fails) = inr fails
+settled is_flushed can_fail a b c (inl first) (inl (inl flushed)) = inl (inl flushed)
+settled is_flushed can_fail a b c (inl (inl flushed)) (inl (inr same)) =
+    inl (inl (subst is_flushed (sym same) flushed))
+settled is_flushed can_fail a b c (inl (inr same)) (inl (inr again)) = inl (inr (again ∙ same))
 
 module _ (has : List ℕ → Option (List ℕ) → Type 0) (can_refuse : OpenFault → Type 0) (can_read can_write : Type 0) where
   -- how many packets were read is known of each end but that of a failed output, since lines edit no packet
@@ -44,30 +53,29 @@ module _ (has : List ℕ → Option (List ℕ) → Type 0) (can_refuse : OpenFau
   counts_known l at name packets held holds (ends.Read (Err faults.Output)) ended known going = absurd (going refl)
   counts_known l at name packets held holds (ends.Read (Err faults.Memory)) ended known going = known
 
-  -- a capture was read, and its line is written
-  pub file_read : (l : ListingValue) (task : TaskValue) (name : List ℕ) (at next : Tally)
-      (held mid holds : Option (List ℕ)) (packets : List PacketValue) (end : FileEnd) (counts : PacketCounts)
+  -- a capture was read, and why it was not read to its end is told
+  pub file_read : (can_tell : Type 0) (l : ListingValue) (task : TaskValue) (name : List ℕ) (at next : Tally)
+      (held holds told tells : Option (List ℕ)) (packets : List PacketValue) (end : FileEnd) (counts : PacketCounts)
       → task ≡ next_task l at
-      → HasEnded has can_refuse can_read can_write task name packets held mid end
+      → HasEnded has can_refuse can_read can_write task name packets held holds end
       → IfFileRead end (AreCounted task packets counts) → end ≢ ends.Read (Err faults.Output)
-      → Appends mid holds (last_bytes (text_of_file name end))
+      → Tells can_tell (text_of_file name end) told tells
       → next.packets ≡ counts.number → next.skipped ≡ counted (at.skipped + counts.skipped)
       → next.undecided ≡ counted (at.undecided + counts.undecided)
       → next.left ≡ counts.left → next.status ≡ max at.status (status_of_file end)
-      → ReadsFile has can_refuse can_read can_write l name at held next holds
-  file_read l task name at next held mid holds packets end counts same ended known going told number skipped undecided left
-      status =
+      → ReadsFile has can_refuse can_read can_write can_tell l name at held told next holds tells
+  file_read can_tell l task name at next held holds told tells packets end counts same ended known going is_told number
+      skipped undecided left status =
       let ended_so =
-      subst (λ (t : TaskValue). HasEnded has can_refuse can_read can_write t name packets held mid end) same ended in
+      subst (λ (t : TaskValue). HasEnded has can_refuse can_read can_write t name packets held holds end) same ended in
       let known_so = subst (λ (t : TaskValue). IfFileRead end (AreCounted t packets counts)) same known in
-      let are = counts_known l at name packets held mid end ended_so known_so going in
+      let are = counts_known l at name packets held holds end ended_so known_so going in
       record {
         packets = packets;
         end = end;
-        mid = mid;
         ended = ended_so;
         going = going;
-        told = told;
+        is_told = is_told;
         tallied = record {
           kept = are.kept;
           selected = are.selected;

@@ -49,7 +49,7 @@ module _ (words : List Text) (rows : List Row) (taken : fault_of capture_app wor
   rows_refused (reasons.Usage usages.Count) nothing = means_nothing usages.Count nothing
   rows_refused (reasons.Usage usages.Limit) nothing = means_nothing usages.Limit nothing
   rows_refused (reasons.Usage usages.Undecided) nothing = means_nothing usages.Undecided nothing
-  rows_refused (reasons.Filter copy e) never = absurd never
+  rows_refused (reasons.Filter e) never = absurd never
   rows_refused reasons.Memory no_memory = tt
 
   -- the values of options ask for nothing
@@ -76,7 +76,7 @@ module _ (words : List Text) (rows : List Row) (taken : fault_of capture_app wor
   asked_refused a (Err (reasons.Usage usages.Count)) asks never = absurd never
   asked_refused a (Err (reasons.Usage usages.Limit)) asks never = absurd never
   asked_refused a (Err (reasons.Usage usages.Undecided)) asks never = absurd never
-  asked_refused a (Err (reasons.Filter copy e)) asks no_filter =
+  asked_refused a (Err (reasons.Filter e)) asks no_filter =
       record { asked = a; taken = taken; asks = subst (λ it. Asks it a) is asks; no_filter = no_filter }
   asked_refused a (Err reasons.Memory) asks refused = tt
 
@@ -102,7 +102,7 @@ module _ (words : List Text) (kind : ErrorKind) (e : Error) (fails : HasKind (fa
 
   pub kind_refused : (r : Result Request RequestError) → IfErr r (RefusesKind kind) → IfErr r (RefusesWords words)
   kind_refused (Ok request) refused = tt
-  kind_refused (Err (reasons.Filter copy other)) never = absurd never
+  kind_refused (Err (reasons.Filter other)) never = absurd never
   kind_refused (Err reasons.Memory) refused = tt
   kind_refused (Err (reasons.Usage usages.Clash)) never = absurd never
   kind_refused (Err (reasons.Usage usages.Edit)) never = absurd never

@@ -1,5 +1,5 @@
 -- What is read of several captures, one after the other, and written.
-use Rattle.std.specs.Prelude.{◌≡◌, ◌≢◌, ◌⊎◌, ℕ, ◌+◌, max, List, [], ◌∷◌, length, Option, Some, Result, Ok, Err, IfErr}
+use Rattle.std.specs.Prelude.{◌≡◌, ◌≢◌, ◌⊎◌, ℕ, ◌+◌, max, List, [], ◌∷◌, ◌++◌, codes, length, Option, Some, None, Result, Ok, Err, IfErr}
 use Rattle.std.specs.List.{sum_by}
 use Rattle.std.specs.Io.KnownBytes.{Appends}
 use Rattle.ether_pcap.specs.Capture.{PacketValue}
@@ -8,7 +8,7 @@ use Rattle.ether_text.specs.Run.{IsEndless}
 use Rattle.ether_text.specs.declared.output_fault.OutputFault.{OutputFault}
 use Rattle.ether_stream.specs.FrameLines.{if_selected, skip_count, totals_line_if}
 use Rattle.ether_capture.specs.Options.{ListingValue}
-use Rattle.ether_stream.specs.Outcome.{last_bytes, status_of_file, text_of_file}
+use Rattle.ether_stream.specs.Outcome.{status_of_file, text_of_file}
 use Rattle.ether_stream.specs.Packets.{counted, IsLeftOf}
 use Rattle.ether_stream.specs.Run.{HasRunOver, HasNoMemory, OnStreamFault}
 use Rattle.ether_stream.specs.Task.{TaskValue, Lines, IsChosen, IsOpen}
@@ -49,32 +49,42 @@ HasEnded has can_refuse can_read can_write task name packets held holds (ends.Re
     × (HasRunOver task packets before after held holds end ⊎ ((packets ≡ []) × HasNoMemory before after held holds end))
     × IfErr end (λ fault. OnStreamFault fault (can_read ⊎ IsEndless before after) can_write)
 
--- A capture was read, and the line that says why it was not read to its end is written, if there is one.
-pub record ReadsFile (has : List ℕ → Option (List ℕ) → Type 0) (can_refuse : OpenFault → Type 0) (can_read can_write : Type 0) (l : ListingValue) (name : List ℕ)
-    (at : Tally) (held : Option (List ℕ)) (next : Tally) (holds : Option (List ℕ)) : Type 0 where
+-- what was written is flushed, or nothing was
+abbrev pub Settles : {W : Type 0} → (is_flushed : W → Type 0) → (old new : W) → Type 0
+Settles is_flushed old new = is_flushed new ⊎ (new ≡ old)
+
+-- The line is told, if there is one. Or the writer of messages, which can fail, has failed.
+abbrev pub Tells : (can_tell : Type 0) → (text : Option (List ℕ)) → (told tells : Option (List ℕ)) → Type 0
+Tells can_tell None told tells = tells ≡ told
+Tells can_tell (Some text) told tells = Appends told tells (text ++ codes "\n") ⊎ can_tell
+
+-- A capture was read: its lines are written, and nothing else. The line that says why it was not read to its end, if it was not, is told.
+pub record ReadsFile (has : List ℕ → Option (List ℕ) → Type 0) (can_refuse : OpenFault → Type 0) (can_read can_write can_tell : Type 0)
+    (l : ListingValue) (name : List ℕ)
+    (at : Tally) (held told : Option (List ℕ)) (next : Tally) (holds tells : Option (List ℕ)) : Type 0 where
   pub packets : List PacketValue
   pub end : FileEnd
-  pub mid : Option (List ℕ)
-  pub ended : HasEnded has can_refuse can_read can_write (next_task l at) name packets held mid end
+  pub ended : HasEnded has can_refuse can_read can_write (next_task l at) name packets held holds end
   pub going : end ≢ ends.Read (Err Output)
-  pub told : Appends mid holds (last_bytes (text_of_file name end))
+  pub is_told : Tells can_tell (text_of_file name end) told tells
   pub tallied : IsTallied l.select at packets end next
 
 -- Captures were read one after the other: the last one, too, or until no packet more is asked for.
-pub data ReadsFiles (has : List ℕ → Option (List ℕ) → Type 0) (can_refuse : OpenFault → Type 0) (can_read can_write : Type 0) (l : ListingValue)
-    : (names : List (List ℕ)) → (at : Tally) → (held : Option (List ℕ)) → (last : Tally) → (holds : Option (List ℕ)) → Type 0 where
-  no_more : (at : Tally) (held : Option (List ℕ)) → ReadsFiles has can_refuse can_read can_write l [] at held at held
-  enough : (names : List (List ℕ)) (at : Tally) (held : Option (List ℕ)) → at.left ≡ Some 0
-      → ReadsFiles has can_refuse can_read can_write l names at held at held
-  next : (name : List ℕ) (names : List (List ℕ)) (at then last : Tally) (held mid holds : Option (List ℕ)) → at.left ≢ Some 0
-      → ReadsFile has can_refuse can_read can_write l name at held then mid
-      → ReadsFiles has can_refuse can_read can_write l names then mid last holds
-      → ReadsFiles has can_refuse can_read can_write l (name ∷ names) at held last holds
+pub data ReadsFiles (has : List ℕ → Option (List ℕ) → Type 0) (can_refuse : OpenFault → Type 0) (can_read can_write can_tell : Type 0) (l : ListingValue)
+    : (names : List (List ℕ)) → (at : Tally) → (held told : Option (List ℕ)) → (last : Tally) → (holds tells : Option (List ℕ)) → Type 0 where
+  no_more : (at : Tally) (held told : Option (List ℕ)) → ReadsFiles has can_refuse can_read can_write can_tell l [] at held told at held told
+  enough : (names : List (List ℕ)) (at : Tally) (held told : Option (List ℕ)) → at.left ≡ Some 0
+      → ReadsFiles has can_refuse can_read can_write can_tell l names at held told at held told
+  next : (name : List ℕ) (names : List (List ℕ)) (at then last : Tally) (held told mid between holds tells : Option (List ℕ)) → at.left ≢ Some 0
+      → ReadsFile has can_refuse can_read can_write can_tell l name at held told then mid between
+      → ReadsFiles has can_refuse can_read can_write can_tell l names then mid between last holds tells
+      → ReadsFiles has can_refuse can_read can_write can_tell l (name ∷ names) at held told last holds tells
 
 -- .. and the line of the totals of all of them is written. Of a fault of the writer nothing is said.
-abbrev pub HasListed : (has : List ℕ → Option (List ℕ) → Type 0) (can_refuse : OpenFault → Type 0) (can_read can_write : Type 0) → (l : ListingValue)
-    → (held holds : Option (List ℕ)) → Result ℕ OutputFault → Type 0
-HasListed has can_refuse can_read can_write l held holds (Ok status) =
-    (last : Tally) × (mid : Option (List ℕ)) × ReadsFiles has can_refuse can_read can_write l l.files (nothing_read l.count) held last mid
+abbrev pub HasListed : (has : List ℕ → Option (List ℕ) → Type 0) (can_refuse : OpenFault → Type 0) (can_read can_write can_tell : Type 0) → (l : ListingValue)
+    → (held holds told tells : Option (List ℕ)) → Result ℕ OutputFault → Type 0
+HasListed has can_refuse can_read can_write can_tell l held holds told tells (Ok status) =
+    (last : Tally) × (mid : Option (List ℕ))
+    × ReadsFiles has can_refuse can_read can_write can_tell l l.files (nothing_read l.count) held told last mid tells
     × Appends mid holds (totals_line_if l.options.is_plain last.packets last.skipped (if_selected l.select last.undecided)) × (status ≡ last.status)
-HasListed has can_refuse can_read can_write l held holds (Err fault) = can_write
+HasListed has can_refuse can_read can_write can_tell l held holds told tells (Err fault) = can_write

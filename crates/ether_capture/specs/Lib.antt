@@ -1,4 +1,5 @@
 pub mod Captures
+pub mod Copies
 pub mod Options
 pub mod Program
 pub mod Files

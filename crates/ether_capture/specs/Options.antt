@@ -1,7 +1,7 @@
 -- What the arguments ask for. `clap` defines which options words are, and which values these have.
 use Rattle.std.specs.Prelude.{◌≡◌, ◌≢◌, ◌⊎◌, ℕ, List, [], ◌∷◌, map, codes, Bool, true, false, if◌then◌else◌, ◌&&◌, ◌||◌, not, Option, Some, None, unwrap_or, ⊤}
 use Rattle.std.specs.Int.NonZero.{non_zero_usize_get}
-use Rattle.std.specs.Option.{option_map, option_map_or, is_some}
+use Rattle.std.specs.Option.{option_and_then, option_map, option_map_or, is_some}
 use Rattle.std.specs.Str.{bytes_eq}
 use Rattle.clap.specs.Words.{App, IsAmong, Row, Rule, Text, all_of, fault_of, first_of, matches_of, new_app, new_rule}
 use Rattle.clap.specs.declared.builder.action.ArgAction.TheVariants.{Append, Set, SetTrue}
@@ -43,15 +43,17 @@ listing_view l = record {
   files = map (λ s. s.now) l.files.items;
 }
 
--- this is made of the capture in the file of this name, or of standard input; or lines of several captures; the usage; the version
+-- this is made of the capture in the file of this name, or of standard input, and goes to the file of that name, or to standard output; or
+-- lines of several captures; the usage; the version
 pub data RequestValue : Type 0 where
-  Run : TaskValue → (file : Option Text) → RequestValue
+  Run : TaskValue → (input output : Option Text) → RequestValue
   Lists : ListingValue → RequestValue
   Help : RequestValue
   Version : RequestValue
 
 abbrev pub request_view : Request → RequestValue
-request_view (requests.Run task file) = Run (task_view task) (option_map (λ s. s.now) file)
+request_view (requests.Run job) =
+    Run (task_view job.task) (option_map (λ s. s.now) job.input) (option_map (λ s. s.now) job.output)
 request_view (requests.List listing) = Lists (listing_view listing)
 request_view requests.Help = Help
 request_view requests.Version = Version
@@ -66,9 +68,9 @@ flag_rule name = record (new_rule name) { long = Some name; action = Some SetTru
 abbrev pub option_rule : (name : Text) → Rule
 option_rule name = record (new_rule name) { long = Some name; action = Some Set }
 
--- `-c` (99), with a value
-abbrev pub count_rule : Rule
-count_rule = record (new_rule (codes "count")) { short = Some 99; action = Some Set }
+-- an option that is one letter, with a value
+abbrev pub letter_rule : (name : Text) → (letter : ℕ) → Rule
+letter_rule name letter = record (new_rule name) { short = Some letter; action = Some Set }
 
 -- names of files
 abbrev pub file_rule : Rule
@@ -77,7 +79,8 @@ file_rule = record (new_rule (codes "file")) { action = Some Append }
 abbrev pub capture_rules : List Rule
 capture_rules = flag_rule (codes "plain") ∷ flag_rule (codes "write") ∷ flag_rule (codes "cut-to-headers") ∷ flag_rule (codes "pop-vlan")
     ∷ option_rule (codes "push-vlan") ∷ option_rule (codes "set-vlan") ∷ option_rule (codes "select") ∷ option_rule (codes "undecided")
-    ∷ option_rule (codes "limit") ∷ count_rule ∷ file_rule ∷ []
+    ∷ option_rule (codes "limit") ∷ letter_rule (codes "count") 99 ∷ letter_rule (codes "read") 114 ∷ letter_rule (codes "output") 119
+    ∷ file_rule ∷ []  -- the letters are c, r and w
 
 -- .. with `--help` and `--version`, which `clap` adds
 abbrev pub capture_app : App
@@ -85,7 +88,7 @@ capture_app = let app = new_app (codes "ether_capture") in record app { top = re
 
 -- ---- what is asked for
 
--- which options there are, with the text of a filter, and the names of files
+-- which options there are, with the text of a filter, the names of `-r` and `-w`, and the other names of files
 pub record AskedValue : Type 0 where
   pub plain : Bool
   pub write : Bool
@@ -94,6 +97,8 @@ pub record AskedValue : Type 0 where
   pub undecided : Option Undecided
   pub count : Option ℕ
   pub limit : Option ℕ
+  pub input : Option Text
+  pub output : Option Text
   pub files : List Text
 
 -- an option without a value is there
@@ -114,6 +119,8 @@ pub record Asks (rows : List Row) (a : AskedValue) : Type 0 where
   pub undecided : IsIfAny MeansUndecided (first_of (codes "undecided") rows) a.undecided
   pub count : IsIfAny IsCount (first_of (codes "count") rows) a.count
   pub limit : IsIfAny IsLimit (first_of (codes "limit") rows) a.limit
+  pub input : a.input ≡ first_of (codes "read") rows
+  pub output : a.output ≡ first_of (codes "output") rows
   pub files : a.files ≡ unwrap_or (all_of (codes "file") rows) []
 
 -- ---- requests
@@ -123,11 +130,21 @@ abbrev pub are_several : List Text → Bool
 are_several (name ∷ other ∷ names) = true
 are_several _ = false
 
+-- a copy is asked for: by `-w`, too
+abbrev pub makes_copy : AskedValue → Bool
+makes_copy a = a.write || is_some a.output
+
+-- there is a name
+abbrev pub is_any : List Text → Bool
+is_any [] = false
+is_any (name ∷ names) = true
+
 -- an option is asked for that does not go with the others: no copy is plain, has a limit or is of several files; no packet is edited without
--- a copy; and none is undecided without a filter
+-- a copy; none is undecided without a filter; and with `-r` no other file is named
 abbrev pub clashes : AskedValue → Bool
 clashes a =
-    (if a.write then a.plain || (is_some a.limit || are_several a.files) else is_some a.edit) || (is_some a.undecided && not (is_some a.text))
+    (if makes_copy a then a.plain || (is_some a.limit || are_several a.files) else is_some a.edit)
+    || ((is_some a.undecided && not (is_some a.text)) || (is_some a.input && is_any a.files))
 
 -- which lines are asked for
 abbrev pub options_of : AskedValue → LineOptions
@@ -139,30 +156,43 @@ mode_of a = if is_some a.text || (is_some a.count || is_some a.edit) then Change
 
 -- lines are asked for, or a copy
 abbrev pub form_of : AskedValue → FormValue
-form_of a = if a.write then Copy (mode_of a) a.edit else Lines (options_of a)
+form_of a = if makes_copy a then Copy (mode_of a) a.edit else Lines (options_of a)
 
 -- which packets are selected by an expression, if there is one
 abbrev pub selection_of : AskedValue → Option Expression → Option Selection
 selection_of a = option_map (λ x. record { filter = x; undecided = a.undecided })
 
--- the name of a file, unless standard input is asked for: without a name, or by `-`
-abbrev pub file_of : List Text → Option Text
-file_of [] = None
-file_of (name ∷ names) = if bytes_eq name (codes "-") then None else Some name
+-- the name of a file, unless it is `-`, for a standard stream
+abbrev pub named : Text → Option Text
+named name = if bytes_eq name (codes "-") then None else Some name
 
--- what is asked for, with these files
-abbrev pub request_for : AskedValue → (select : Option Selection) → (files : List Text) → RequestValue
-request_for a s [] = Run (record { select = s; count = a.count; form = form_of a }) None
-request_for a s (name ∷ []) = Run (record { select = s; count = a.count; form = form_of a }) (file_of (name ∷ []))
-request_for a s (name ∷ other ∷ names) =
-    Lists (record { select = s; count = a.count; options = options_of a; files = name ∷ other ∷ names })
+-- the name of the only file, if one is named, by `-r` or without it
+abbrev pub only_name : (read : Option Text) → (files : List Text) → Option Text
+only_name (Some name) files = Some name
+only_name None [] = None
+only_name None (name ∷ names) = Some name
+
+-- .. unless standard input is read: without a name, too
+abbrev pub input_of : AskedValue → Option Text
+input_of a = option_and_then named (only_name a.input a.files)
+
+-- the name of the copy's file, unless what is made goes to standard output
+abbrev pub output_of : AskedValue → Option Text
+output_of a = option_and_then named a.output
+
+-- what is asked for
+abbrev pub request_for : AskedValue → (select : Option Selection) → RequestValue
+request_for a s =
+    if are_several a.files
+    then Lists (record { select = s; count = a.count; options = options_of a; files = a.files })
+    else Run (record { select = s; count = a.count; form = form_of a }) (input_of a) (output_of a)
 
 -- this is what is asked for
 pub record IsRequestOf (a : AskedValue) (request : RequestValue) : Type 0 where
   pub expression : Option Expression
   pub goes : clashes a ≡ false
   pub selects : IsSelection a.text expression
-  pub is : request ≡ request_for a (selection_of a expression) a.files
+  pub is : request ≡ request_for a (selection_of a expression)
 
 -- what arguments ask for; the first of them is the program's name
 pub data NamesRequest : (words : List Text) → RequestValue → Type 0 where
@@ -200,24 +230,24 @@ pub record NamesClash (words : List Text) : Type 0 where
   pub clash : clashes asked ≡ true
 
 -- lines, or a copy, would be asked for, but the text of the filter is refused in this way
-pub record HasNoFilter (a : AskedValue) (copy : Bool) (e : FilterError) : Type 0 where
+pub record HasNoFilter (a : AskedValue) (e : FilterError) : Type 0 where
   pub text : Text
-  pub form : (a.write ≡ copy) × (clashes a ≡ false)
+  pub goes : clashes a ≡ false
   pub is_text : a.text ≡ Some text
   pub refused : RefusesText text e
 
-pub record NamesNoFilter (words : List Text) (copy : Bool) (e : FilterError) : Type 0 where
+pub record NamesNoFilter (words : List Text) (e : FilterError) : Type 0 where
   pub asked : AskedValue
   pub taken : fault_of capture_app words ≡ []
   pub asks : Asks (matches_of capture_app words) asked
-  pub no_filter : HasNoFilter asked copy e
+  pub no_filter : HasNoFilter asked e
 
 -- why arguments ask for nothing, or that memory for them was refused
 abbrev pub RefusesWords : (words : List Text) → RequestError → Type 0
 RefusesWords words (reasons.Usage usages.Words) = IsRefused words
 RefusesWords words (reasons.Usage usages.Clash) = NamesClash words
 RefusesWords words (reasons.Usage usage) = NamesNothing words usage
-RefusesWords words (reasons.Filter copy e) = NamesNoFilter words copy e
+RefusesWords words (reasons.Filter e) = NamesNoFilter words e
 RefusesWords words reasons.Memory = ⊤
 
 -- ---- step by step
@@ -225,12 +255,14 @@ RefusesWords words reasons.Memory = ⊤
 abbrev pub asked_view : Asked → AskedValue
 asked_view asked = record {
   plain = asked.is_plain;
-  write = asked.is_copy;
+  write = asked.is_write;
   edit = option_map edit_view asked.edit;
   text = option_map (λ s. s.now) asked.text;
   undecided = asked.undecided;
   count = option_map non_zero_usize_get asked.count;
   limit = asked.limit;
+  input = option_map (λ s. s.now) asked.input;
+  output = option_map (λ s. s.now) asked.output;
   files = map (λ s. s.now) asked.files.items;
 }
 
@@ -242,18 +274,18 @@ KindNames kind request = ((kind ≡ DisplayHelp) × (request ≡ Help)) ⊎ ((ki
 abbrev pub RefusesKind : ErrorKind → RequestError → Type 0
 RefusesKind kind (reasons.Usage usages.Words) = (kind ≢ DisplayHelp) × (kind ≢ DisplayVersion) × (kind ≢ OutOfMemory)
 RefusesKind kind (reasons.Usage usage) = ⊥
-RefusesKind kind (reasons.Filter copy e) = ⊥
+RefusesKind kind (reasons.Filter e) = ⊥
 RefusesKind kind reasons.Memory = kind ≡ OutOfMemory
 
 -- why values of options ask for nothing
 abbrev pub RefusesRows : List Row → RequestError → Type 0
 RefusesRows rows (reasons.Usage usage) = MeansNothing rows usage
-RefusesRows rows (reasons.Filter copy e) = ⊥
+RefusesRows rows (reasons.Filter e) = ⊥
 RefusesRows rows reasons.Memory = ⊤
 
 -- why what is asked for is no request
 abbrev pub RefusesAsked : AskedValue → RequestError → Type 0
 RefusesAsked a (reasons.Usage usages.Clash) = clashes a ≡ true
 RefusesAsked a (reasons.Usage usage) = ⊥
-RefusesAsked a (reasons.Filter copy e) = HasNoFilter a copy e
+RefusesAsked a (reasons.Filter e) = HasNoFilter a e
 RefusesAsked a reasons.Memory = ⊥

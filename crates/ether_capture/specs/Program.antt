@@ -1,20 +1,19 @@
 -- What the program has read and written, and how it ends.
-use Rattle.std.specs.Prelude.{◌≡◌, ◌⊎◌, ℕ, List, Option, Some, None, Result, Ok, Err, IfNone, OnOk, Bool, true, false, IfErr, map, String, string_bytes}
+use Rattle.std.specs.Prelude.{◌≡◌, ◌⊎◌, ℕ, List, Option, Some, None, Result, Ok, Err, IfNone, OnOk, Bool, true, false, map, String, string_bytes}
 use Rattle.std.specs.Vec.Iter.{into_iter_items}
 use Rattle.std.specs.declared.vec.IntoIter.{IntoIter}
 use Rattle.std.specs.Io.KnownBytes.{Appends}
-use Rattle.ether_text.specs.Run.{IsEndless}
-use Rattle.ether_text.specs.declared.verdict.Verdict.{Verdict}
 use Rattle.ether_capture.specs.Options.{RequestValue, Run, Lists, Help, Version, NamesRequest, RefusesWords}
 use Rattle.ether_capture.specs.declared.asked.RequestError.TheVariants as reasons
+use Rattle.ether_capture.specs.Copies.{HasRead, IsCopied}
 use Rattle.ether_capture.specs.Files.{HasListed}
-use Rattle.ether_stream.specs.Run.{HasRun, HasNoMemory, IfSettled, OnStreamFault}
-use Rattle.ether_stream.specs.Task.{TaskValue, is_copy}
+use Rattle.ether_stream.specs.Run.{IfSettled}
+use Rattle.ether_stream.specs.Task.{TaskValue}
 use Rattle.ether_stream.specs.Outcome.{last_bytes, last_text, is_message, status_of_program}
 use Rattle.ether_stream.specs.declared.open_fault.OpenFault.{OpenFault}
+use Rattle.ether_stream.specs.declared.write_fault.WriteFault.{WriteFault}
 use Rattle.ether_stream.specs.declared.outcome.Outcome.{Outcome}
 use Rattle.ether_stream.specs.declared.outcome.Outcome.TheVariants as outcomes
-use Rattle.ether_stream.specs.declared.outcome.RunFault.{RunFault}
 use Rattle.ether_stream.specs.declared.outcome.RunFault.TheVariants.{Input}
 
 -- the arguments, with the program's name first, if they can be read
@@ -22,61 +21,90 @@ abbrev pub arguments_of : {A E : Type 0} → Result (IntoIter (String A) A) E �
 arguments_of (Ok args) = Some (map string_bytes (into_iter_items args))
 arguments_of (Err error) = None
 
--- A capture was read, from before to after, and what is asked for was made of it. Only a stream that can fail has failed, or one that does not
--- end.
-pub record HasRead (can_read can_write : Type 0) (task : TaskValue) (before after held holds : Option (List ℕ)) (end : Result Verdict RunFault)
-    : Type 0 where
-  pub run : HasRun task before after held holds end ⊎ HasNoMemory before after held holds end
-  pub failed : IfErr end (λ fault. OnStreamFault fault (can_read ⊎ IsEndless before after) can_write)
-
 -- The capture of this name was read; or it can't be opened, and nothing is written.
 abbrev pub HasRunFile : (has : List ℕ → Option (List ℕ) → Type 0) (can_refuse : OpenFault → Type 0) (can_read can_write : Type 0) → (task : TaskValue) → (name : List ℕ)
     → (held holds : Option (List ℕ)) → Outcome → Type 0
-HasRunFile has can_refuse can_read can_write task name held holds (outcomes.File copy named end) =
-    (copy ≡ is_copy task.form) × (named.now ≡ name)
-    × ((before after : Option (List ℕ)) × has name before × HasRead can_read can_write task before after held holds end)
-HasRunFile has can_refuse can_read can_write task name held holds (outcomes.NotOpened copy named fault) =
-    (copy ≡ is_copy task.form) × (named.now ≡ name) × can_refuse fault × (holds ≡ held)
+HasRunFile has can_refuse can_read can_write task name held holds (outcomes.File named end) =
+    (named.now ≡ name) × ((before after : Option (List ℕ)) × has name before × HasRead can_read can_write task before after held holds end)
+HasRunFile has can_refuse can_read can_write task name held holds (outcomes.NotOpened named fault) =
+    (named.now ≡ name) × can_refuse fault × (holds ≡ held)
 HasRunFile has can_refuse can_read can_write task name held holds outcome = ⊥
 
--- What is asked for was done. Standard input is read only if no file is named.
+-- Standard input was copied to the file of this name; or that can't get the copy, and is as it was.
+abbrev pub HasCopiedInput : (can_read can_copy : Type 0) (can_keep : WriteFault → Type 0) → (task : TaskValue) → (output : List ℕ)
+    → (before after had gets : Option (List ℕ)) → Outcome → Type 0
+HasCopiedInput can_read can_copy can_keep task output before after had gets (outcomes.Run end) =
+    IsCopied can_read can_copy can_keep task before after had gets (Ok end)
+HasCopiedInput can_read can_copy can_keep task output before after had gets (outcomes.NotWritten named fault) =
+    (named.now ≡ output) × IsCopied can_read can_copy can_keep task before after had gets (Err fault)
+HasCopiedInput can_read can_copy can_keep task output before after had gets outcome = ⊥
+
+-- .. the capture of this name was; or it can't be opened
+abbrev pub HasCopiedFile : (has : List ℕ → Option (List ℕ) → Type 0) (can_refuse : OpenFault → Type 0) (can_read can_copy : Type 0)
+    (can_keep : WriteFault → Type 0) → (task : TaskValue) → (name output : List ℕ) → (had gets : Option (List ℕ)) → Outcome → Type 0
+HasCopiedFile has can_refuse can_read can_copy can_keep task name output had gets (outcomes.File named end) =
+    (named.now ≡ name)
+    × ((before after : Option (List ℕ)) × has name before × IsCopied can_read can_copy can_keep task before after had gets (Ok end))
+HasCopiedFile has can_refuse can_read can_copy can_keep task name output had gets (outcomes.NotWritten named fault) =
+    (named.now ≡ output) × (can_keep fault ⊎ can_copy) × (gets ≡ had)
+HasCopiedFile has can_refuse can_read can_copy can_keep task name output had gets (outcomes.NotOpened named fault) =
+    (named.now ≡ name) × can_refuse fault × (gets ≡ had)
+HasCopiedFile has can_refuse can_read can_copy can_keep task name output had gets outcome = ⊥
+
+-- What is asked for of one capture was made. Standard input is read only if no file is named, and nothing is written to standard output if a file
+-- gets the copy.
+abbrev pub HasRunJob : (has : List ℕ → Option (List ℕ) → Type 0) (can_fail : Type 0) (can_refuse : OpenFault → Type 0)
+    (can_read can_write : Type 0) (can_keep : WriteFault → Type 0) (can_copy : Type 0) → TaskValue → (input output : Option (List ℕ))
+    → (before after held holds : Option (List ℕ)) → (had gets : List ℕ → Option (List ℕ)) → Outcome → Type 0
+HasRunJob has can_fail can_refuse can_read can_write can_keep can_copy task None None before after held holds had gets (outcomes.Run end) =
+    HasRead can_fail can_write task before after held holds end × (gets ≡ had)
+HasRunJob has can_fail can_refuse can_read can_write can_keep can_copy task (Some name) None before after held holds had gets outcome =
+    HasRunFile has can_refuse can_read can_write task name held holds outcome × (after ≡ before) × (gets ≡ had)
+HasRunJob has can_fail can_refuse can_read can_write can_keep can_copy task None (Some output) before after held holds had gets outcome =
+    HasCopiedInput can_fail can_copy can_keep task output before after (had output) (gets output) outcome × (holds ≡ held)
+HasRunJob has can_fail can_refuse can_read can_write can_keep can_copy task (Some name) (Some output) before after held holds had gets outcome =
+    HasCopiedFile has can_refuse can_read can_copy can_keep task name output (had output) (gets output) outcome
+    × (after ≡ before) × (holds ≡ held)
+HasRunJob has can_fail can_refuse can_read can_write can_keep can_copy task input output before after held holds had gets outcome = ⊥
+
+-- What is asked for was done. Only reading several files tells anything.
 abbrev pub HasAnswered : (has : List ℕ → Option (List ℕ) → Type 0) (can_fail : Type 0) (can_refuse : OpenFault → Type 0)
-    (can_read can_write : Type 0) → RequestValue
-    → (before after held holds : Option (List ℕ)) → Outcome → Type 0
-HasAnswered has can_fail can_refuse can_read can_write (Run task None) before after held holds (outcomes.Run copy end) =
-    (copy ≡ is_copy task.form) × HasRead can_fail can_write task before after held holds end
-HasAnswered has can_fail can_refuse can_read can_write (Run task (Some name)) before after held holds outcome =
-    HasRunFile has can_refuse can_read can_write task name held holds outcome × (after ≡ before)
-HasAnswered has can_fail can_refuse can_read can_write (Lists l) before after held holds (outcomes.Files end) =
-    HasListed has can_refuse can_read can_write l held holds end × (after ≡ before)
-HasAnswered has can_fail can_refuse can_read can_write Help before after held holds outcomes.Help = (after ≡ before) × (holds ≡ held)
-HasAnswered has can_fail can_refuse can_read can_write Version before after held holds outcomes.Version = (after ≡ before) × (holds ≡ held)
-HasAnswered has can_fail can_refuse can_read can_write request before after held holds outcome = ⊥
+    (can_read can_write can_tell : Type 0) (can_keep : WriteFault → Type 0) (can_copy : Type 0) → RequestValue
+    → (before after held holds told tells : Option (List ℕ)) → (had gets : List ℕ → Option (List ℕ)) → Outcome → Type 0
+HasAnswered has can_fail can_refuse can_read can_write can_tell can_keep can_copy (Run task input output) before after held holds told tells had gets
+    outcome =
+    HasRunJob has can_fail can_refuse can_read can_write can_keep can_copy task input output before after held holds had gets outcome
+    × (tells ≡ told)
+HasAnswered has can_fail can_refuse can_read can_write can_tell can_keep can_copy (Lists l) before after held holds told tells had gets
+    (outcomes.Files end) =
+    HasListed has can_refuse can_read can_write can_tell l held holds told tells end × (after ≡ before) × (gets ≡ had)
+HasAnswered has can_fail can_refuse can_read can_write can_tell can_keep can_copy Help before after held holds told tells had gets outcomes.Help =
+    (after ≡ before) × (holds ≡ held) × (tells ≡ told) × (gets ≡ had)
+HasAnswered has can_fail can_refuse can_read can_write can_tell can_keep can_copy Version before after held holds told tells had gets outcomes.Version =
+    (after ≡ before) × (holds ≡ held) × (tells ≡ told) × (gets ≡ had)
+HasAnswered has can_fail can_refuse can_read can_write can_tell can_keep can_copy request before after held holds told tells had gets outcome = ⊥
 
 -- The arguments ask for something, and it was done. Or they are wrong, or can't be read, which is a fault of the input, or memory for them was
--- refused: then nothing is read or written.
+-- refused: then nothing is read, written or told.
 abbrev pub HasObeyed : (has : List ℕ → Option (List ℕ) → Type 0) (can_fail : Type 0) (can_refuse : OpenFault → Type 0)
-    (can_read can_write : Type 0) → Option (List (List ℕ))
-    → (before after held holds : Option (List ℕ)) → Outcome → Type 0
-HasObeyed has can_fail can_refuse can_read can_write None before after held holds outcome =
-    (outcome ≡ outcomes.Run false (Err Input)) × (after ≡ before) × (holds ≡ held)
-HasObeyed has can_fail can_refuse can_read can_write (Some words) before after held holds (outcomes.Usage usage) =
-    RefusesWords words (reasons.Usage usage) × (after ≡ before) × (holds ≡ held)
-HasObeyed has can_fail can_refuse can_read can_write (Some words) before after held holds (outcomes.NoFilter copy error) =
-    RefusesWords words (reasons.Filter copy error) × (after ≡ before) × (holds ≡ held)
-HasObeyed has can_fail can_refuse can_read can_write (Some words) before after held holds outcomes.NoMemory = (after ≡ before) × (holds ≡ held)
-HasObeyed has can_fail can_refuse can_read can_write (Some words) before after held holds outcome =
+    (can_read can_write can_tell : Type 0) (can_keep : WriteFault → Type 0) (can_copy : Type 0) → Option (List (List ℕ))
+    → (before after held holds told tells : Option (List ℕ)) → (had gets : List ℕ → Option (List ℕ)) → Outcome → Type 0
+HasObeyed has can_fail can_refuse can_read can_write can_tell can_keep can_copy None before after held holds told tells had gets outcome =
+    (outcome ≡ outcomes.Run (Err Input)) × (after ≡ before) × (holds ≡ held) × (tells ≡ told) × (gets ≡ had)
+HasObeyed has can_fail can_refuse can_read can_write can_tell can_keep can_copy (Some words) before after held holds told tells had gets (outcomes.Usage usage) =
+    RefusesWords words (reasons.Usage usage) × (after ≡ before) × (holds ≡ held) × (tells ≡ told) × (gets ≡ had)
+HasObeyed has can_fail can_refuse can_read can_write can_tell can_keep can_copy (Some words) before after held holds told tells had gets (outcomes.NoFilter error) =
+    RefusesWords words (reasons.Filter error) × (after ≡ before) × (holds ≡ held) × (tells ≡ told) × (gets ≡ had)
+HasObeyed has can_fail can_refuse can_read can_write can_tell can_keep can_copy (Some words) before after held holds told tells had gets outcomes.NoMemory =
+    (after ≡ before) × (holds ≡ held) × (tells ≡ told) × (gets ≡ had)
+HasObeyed has can_fail can_refuse can_read can_write can_tell can_keep can_copy (Some words) before after held holds told tells had gets outcome =
     (request : RequestValue) × NamesRequest words request
-    × HasAnswered has can_fail can_refuse can_read can_write request before after held holds outcome
-
--- what was written is flushed, or nothing was
-abbrev pub Settles : {W : Type 0} → (is_flushed : W → Type 0) → (old new : W) → Type 0
-Settles is_flushed old new = is_flushed new ⊎ (new ≡ old)
+    × HasAnswered has can_fail can_refuse can_read can_write can_tell can_keep can_copy request before after held holds told tells had gets outcome
 
 -- if no stream has failed
 abbrev pub IfGone : Outcome → Type 0 → Type 0
-IfGone (outcomes.Run copy end) P = IfSettled end P
-IfGone (outcomes.File copy name end) P = IfSettled end P
+IfGone (outcomes.Run end) P = IfSettled end P
+IfGone (outcomes.File name end) P = IfSettled end P
 IfGone (outcomes.Files end) P = OnOk end P
 IfGone outcome P = P
 
@@ -92,14 +120,17 @@ PrintsApart can_write can_tell false outcome held holds told tells printed = Pri
 PrintsApart can_write can_tell true outcome held holds told tells printed = PrintsLast can_tell outcome told tells printed × (holds ≡ held)
 
 -- The program has done what the words ask for, has printed the last line, and ends with the status of its outcome. has relates names to the
--- bytes of their captures; the others hold if reading standard input, opening a capture, reading it, writing, or telling a message fails. The
--- writer of messages told this, and tells that.
-pub record HasServed (has : List ℕ → Option (List ℕ) → Type 0) (can_fail : Type 0) (can_refuse : OpenFault → Type 0) (can_read can_write can_tell : Type 0)
+-- bytes of their captures; the others hold if reading standard input, opening a capture, reading it, writing, telling a message, making a file of
+-- a copy, or writing the copy fails. The writer of messages told this, and tells that; files had these bytes, by their names, and get those.
+pub record HasServed (has : List ℕ → Option (List ℕ) → Type 0) (can_fail : Type 0) (can_refuse : OpenFault → Type 0)
+    (can_read can_write can_tell : Type 0) (can_keep : WriteFault → Type 0) (can_copy : Type 0)
     (words : Option (List (List ℕ)))
-    (before after held holds told tells : Option (List ℕ)) (status : ℕ) : Type 0 where
+    (before after held holds told tells : Option (List ℕ)) (had gets : List ℕ → Option (List ℕ)) (status : ℕ) : Type 0 where
   pub outcome : Outcome
   pub printed : Bool
+  pub mid : Option (List ℕ)
   pub between : Option (List ℕ)
-  pub obeyed : HasObeyed has can_fail can_refuse can_read can_write words before after held between outcome
-  pub ended : PrintsApart can_write can_tell (is_message outcome) outcome between holds told tells printed
+  pub obeyed : HasObeyed has can_fail can_refuse can_read can_write can_tell can_keep can_copy words before after held mid told between had gets
+      outcome
+  pub ended : PrintsApart can_write can_tell (is_message outcome) outcome mid holds between tells printed
   pub is_status : status ≡ status_of_program outcome printed

@@ -1,12 +1,15 @@
 //! Reads a capture of the classic pcap format or of pcapng, a file or standard input, and prints the lines of the walk of each
-//! packet, or copies the capture without some of its packets.
+//! packet, or copies the capture without some of its packets, to standard output or a file.
 //!
-//! `main` calls [`program::program`] on the arguments, the files and the standard streams. Lines and copies go to standard output;
-//! the usage, the last line of a copy, and that a stream failed, to standard error.
+//! `main` calls [`program::program`] on the arguments, the files and the standard streams. Lines and copies go to standard output,
+//! and why something was not read or written to standard error.
 #![tactic(auto)]
 
 pub mod asked;
 pub mod captures;
+pub mod copies;
+pub mod copy_files;
+pub mod copy_run;
 pub mod files;
 pub mod heap_memory;
 pub mod interface_buffer;
@@ -29,16 +32,19 @@ fn main(rt: HostRuntime) -> ExitCode {
         args,
         rt.alloc(),
         &rt,
+        &mut copy_files::CopyFiles::new(&rt, rt.alloc()),
         &mut input,
         &mut output,
         &mut rt.stderr(),
     );
-    if status == 4 {
+    let (unreadable, unwritable) = (input.error(), output.error());
+    let is_stream = unread.is_some() || unreadable.is_some() || unwritable.is_some();
+    if status == 4 && is_stream {
         tell_failure(
             "ether_capture",
             unread,
-            input.error(),
-            output.error(),
+            unreadable,
+            unwritable,
             &mut rt.stderr(),
         );
     }

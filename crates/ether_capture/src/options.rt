@@ -4,7 +4,7 @@ ghost use Rattle.std.specs.Option.{option_map};
 ghost use Rattle.clap.specs.Words.{all_of, app_of, first_of, found_of, rows_of, rule_of};
 ghost use Rattle.ether_content.specs.Editing.{EditValue};
 ghost use Rattle.ether_content.specs.EditingViews.{edit_view};
-ghost use Rattle.ether_capture.specs.Options.{Asks, IsEdit, KindNames, NamesRequest, RefusesKind, RefusesRows, RefusesWords, asked_view, capture_app, count_rule, file_rule, flag_rule, is_set, option_rule, request_view};
+ghost use Rattle.ether_capture.specs.Options.{Asks, IsEdit, KindNames, NamesRequest, RefusesKind, RefusesRows, RefusesWords, asked_view, capture_app, file_rule, flag_rule, is_set, letter_rule, option_rule, request_view};
 
 use crate::asked::{Asked, Request, RequestError};
 use clap::error::ErrorKind;
@@ -38,11 +38,11 @@ fn option<'a>(alloc: Global, name: &'a str) -> Arg<'a>
     Arg::new(alloc, name).long(name).action(ArgAction::Set)
 }
 
-/// `-c`.
-fn count<'a>(alloc: Global) -> Arg<'a>
-    ensures { (rule_of result ≡ count_rule) × (result.global ≡ false) }
+/// An option that is one letter, with a value.
+fn letter<'a>(alloc: Global, name: &'a str, short: char) -> Arg<'a>
+    ensures { (rule_of result ≡ letter_rule name.entry.now short) × (result.global ≡ false) }
 {
-    Arg::new(alloc, "count").short('c').action(ArgAction::Set)
+    Arg::new(alloc, name).short(short).action(ArgAction::Set)
 }
 
 /// The names of files.
@@ -67,16 +67,19 @@ fn command<'a>(alloc: Global) -> Result<Command<'a>, AllocError>
         .arg(option(alloc, "select"))?
         .arg(option(alloc, "undecided"))?
         .arg(option(alloc, "limit"))?
-        .arg(count(alloc))?
+        .arg(letter(alloc, "count", 'c'))?
+        .arg(letter(alloc, "read", 'r'))?
+        .arg(letter(alloc, "output", 'w'))?
         .arg(files(alloc))?;
     Ok(command)
 }
 
 /// What the program's arguments ask for. The first of them is its own name.
 ///
-/// Options go before, between and after the names of files: `--plain` and `--limit` with a number of headers; or `--write`, and with it one of
-/// `--cut-to-headers`, `--pop-vlan`, `--push-vlan` with a tag and `--set-vlan` with two identifiers; `--select` with the text of a filter, and
-/// with it `--undecided` with `keep` or `drop`; and `-c` with a number of packets. `--help` and `--version` need no others.
+/// Options go before, between and after the names of files: `--plain` and `--limit` with a number of headers; or `--write`, or `-w` with the name
+/// of the copy, and with it one of `--cut-to-headers`, `--pop-vlan`, `--push-vlan` with a tag and `--set-vlan` with two identifiers; `--select`
+/// with the text of a filter, and with it `--undecided` with `keep` or `drop`; `-c` with a number of packets; and `-r` with the name of the only
+/// file. `--help` and `--version` need no others.
 pub fn request_of_words<'a>(words: &'a [String], alloc: Global) -> Result<Request<'a>, RequestError>
     ensures ok { IfOk result (λ request. NamesRequest (map string_bytes words.now) (request_view request)) }
     ensures err { IfErr result (RefusesWords (map string_bytes words.now)) }
@@ -114,12 +117,14 @@ impl<'a> Asked<'a> {
         let files = names_of(matches, alloc)?;
         Ok(Asked {
             is_plain: is_set(matches, "plain"),
-            is_copy: is_set(matches, "write"),
+            is_write: is_set(matches, "write"),
             edit,
             text: text_of(matches, "select"),
             undecided,
             count,
             limit,
+            input: text_of(matches, "read"),
+            output: text_of(matches, "output"),
             files,
         })
     }

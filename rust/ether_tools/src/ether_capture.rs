@@ -1,9 +1,12 @@
 //! Reads a capture of the classic pcap format or of pcapng, a file or standard input, and prints the lines of the walk of
-//! each packet, or copies the capture without some of its packets.
+//! each packet, or copies the capture without some of its packets, to standard output or a file.
 //!
 //! This list of modules is written by hand, in the place of `crates/ether_capture/src/main.rt`.
 pub mod asked;
 pub mod captures;
+pub mod copies;
+pub mod copy_files;
+pub mod copy_run;
 pub mod files;
 pub mod heap_memory;
 pub mod interface_buffer;

@@ -24,6 +24,7 @@ mod selection;
 mod tags;
 mod task;
 mod words;
+mod write_fault;
 
 pub use buffers::Buffers;
 pub use counts::PacketCounts;
@@ -42,3 +43,4 @@ pub use section_table::{MAX_INTERFACES, SectionTable};
 pub use selection::{Selection, Undecided};
 pub use task::{Form, LineOptions, Task};
 pub use words::{Usage, count_of, edit_of_words, filter_of, limit_of, undecided_of};
+pub use write_fault::WriteFault;

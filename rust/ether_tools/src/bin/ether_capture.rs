@@ -1,6 +1,7 @@
 //! `ether_capture` on the standard streams and the file system.
 //!
 //! Written by hand, not proved: `crates/ether_capture/src/main.rt` takes them from the runtime of Rattle.
+use ether_tools::ether_capture::copy_files::CopyFiles;
 use ether_tools::ether_capture::opening::FileSystem;
 use ether_tools::ether_capture::program::program;
 use ether_tools::ether_text::{Noted, tell_failure};
@@ -14,9 +15,10 @@ fn main() -> io::Result<ExitCode> {
     let unread = args.as_ref().err().map(|error| error.kind().into());
     let mut input = Noted::new(input()?);
     let mut output = Noted::new(output()?);
-    let status = program(args, Global, &FileSystem, &mut input, &mut output, &mut io::stderr());
-    if status == 4 {
-        let (input, output) = (input.error(), output.error());
+    let status = program(args, Global, &FileSystem, &mut CopyFiles, &mut input, &mut output, &mut io::stderr());
+    let (input, output) = (input.error(), output.error());
+    let is_stream = unread.is_some() || input.is_some() || output.is_some();
+    if status == 4 && is_stream {
         tell_failure("ether_capture", unread.as_ref(), input, output, &mut io::stderr());
     }
     Ok(ExitCode::from(status))

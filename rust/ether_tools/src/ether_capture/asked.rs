@@ -14,12 +14,7 @@ pub enum RequestError {
     /// Memory for them was refused.
     Memory,
     /// The filter is no expression.
-    Filter {
-        /// Whether a copy was asked for.
-        is_copy: bool,
-        /// Why it is none.
-        error: FilterError,
-    },
+    Filter(FilterError),
 }
 
 impl From<Usage> for RequestError {
@@ -31,14 +26,25 @@ impl From<Usage> for RequestError {
 /// What the arguments ask for.
 #[derive(Debug)]
 pub enum Request<'a> {
-    /// What is made of the capture in the file of this name, or of standard input.
-    Run(Task, Option<&'a str>),
+    /// What is made of one capture.
+    Run(Job<'a>),
     /// The lines of several captures.
     List(Listing<'a>),
     /// How the program is used.
     Help,
     /// The program's name and version.
     Version,
+}
+
+/// What is made of one capture.
+#[derive(Debug)]
+pub struct Job<'a> {
+    /// Lines or a copy, of which packets.
+    pub task: Task,
+    /// The name of the capture's file, unless it is read from standard input.
+    pub input: Option<&'a str>,
+    /// The name of the copy's file, unless what is made goes to standard output.
+    pub output: Option<&'a str>,
 }
 
 /// Which lines of several captures.
@@ -57,12 +63,14 @@ pub struct Listing<'a> {
 /// What options ask for.
 pub(crate) struct Asked<'a> {
     pub(crate) is_plain: bool,
-    pub(crate) is_copy: bool,
+    pub(crate) is_write: bool,
     pub(crate) edit: Option<PacketEdit>,
     pub(crate) text: Option<&'a str>,
     pub(crate) undecided: Option<Undecided>,
     pub(crate) count: Option<NonZeroUsize>,
     pub(crate) limit: Option<usize>,
+    pub(crate) input: Option<&'a str>,
+    pub(crate) output: Option<&'a str>,
     pub(crate) files: Vec<&'a str>,
 }
 
@@ -72,12 +80,20 @@ impl<'a> Asked<'a> {
         matches!(self.files.as_slice(), [_, _, ..])
     }
 
+    /// Tests that a copy is asked for.
+    fn is_copy(&self) -> bool {
+        self.is_write || self.output.is_some()
+    }
+
     /// Tests that there is an option that does not go with the others.
     fn clashes(&self) -> bool {
         if self.undecided.is_some() && self.text.is_none() {
             return true;
         }
-        if self.is_copy {
+        if self.input.is_some() && !self.files.is_empty() {
+            return true;
+        }
+        if self.is_copy() {
             self.is_plain || self.limit.is_some() || self.has_several()
         } else {
             self.edit.is_some()
@@ -103,22 +119,27 @@ impl<'a> Asked<'a> {
                     count: self.count,
                     form,
                 };
-                Ok(Request::Run(task, self.file()))
+                Ok(Request::Run(Job {
+                    task,
+                    input: self.input(),
+                    output: self.output(),
+                }))
             }
-            Err(error) => Err(RequestError::Filter {
-                is_copy: self.is_copy,
-                error,
-            }),
+            Err(error) => Err(RequestError::Filter(error)),
         }
     }
 
-    /// The name of a file, unless standard input is asked for.
-    fn file(&self) -> Option<&'a str> {
-        let name = self.files.first().copied()?;
-        if name == "-" {
-            return None;
+    /// The name of the only file, unless standard input is asked for.
+    fn input(&self) -> Option<&'a str> {
+        match self.input {
+            Some(name) => named(name),
+            None => named(self.files.first().copied()?),
         }
-        Some(name)
+    }
+
+    /// The name of the copy's file, unless standard output is asked for.
+    fn output(&self) -> Option<&'a str> {
+        named(self.output?)
     }
 
     /// Which packets a filter selects, if there is one.
@@ -134,7 +155,7 @@ impl<'a> Asked<'a> {
 
     /// Lines are asked for, or a copy.
     fn form(&self) -> Form {
-        if self.is_copy {
+        if self.is_copy() {
             Form::Copy {
                 mode: self.mode(),
                 edit: self.edit,
@@ -171,4 +192,12 @@ impl<'a> Asked<'a> {
             before: None,
         }
     }
+}
+
+/// A name of a file, unless it is that of a standard stream.
+fn named(name: &str) -> Option<&str> {
+    if name == "-" {
+        return None;
+    }
+    Some(name)
 }

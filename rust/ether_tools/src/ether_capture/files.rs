@@ -63,38 +63,42 @@ impl Tally {
     }
 }
 
-/// Writes the lines of several captures, each after those before it, and where one is not read to its end, the line that says why; then
-/// that of the totals of all. Returns the greatest exit status of a capture.
+/// Writes the lines of several captures, each after those before it, and then that of the totals of all. Where a capture is not read to its
+/// end, tells why. Returns the greatest exit status of a capture.
 ///
 /// <details><summary>Contract</summary>
 ///
 /// ```text
-/// ensures listed { HasListed (C.has captures.now) C.can_refuse C.Input.Source.can_fail W.Sink.can_fail (listing_view listing.entry)
-///     (W.Sink.contents writer.old) (W.Sink.contents writer.new) result }
-/// ensures flushed { OnOk result (W.Sink.is_flushed writer.new) }
+/// ensures listed { HasListed (C.has captures.now) C.can_refuse C.Input.Source.can_fail W.can_fail M.Sink.can_fail
+///     (listing_view listing.entry) (W.contents writer.old) (W.contents writer.new) (M.Sink.contents messages.old)
+///     (M.Sink.contents messages.new) result }
+/// ensures flushed { OnOk result (W.is_flushed writer.new) }
+/// ensures told { Settles M.Sink.is_flushed messages.old messages.new ⊎ M.Sink.can_fail }
 /// ```
 ///
 /// </details>
-pub fn run_files<C: Captures, W: LineSink>(
+pub fn run_files<C: Captures, W: Sink, M: LineSink>(
     listing: Listing<'_>,
     alloc: Global,
     captures: &C,
     writer: &mut W,
+    messages: &mut M,
 ) -> Result<u8, OutputFault> {
     let is_plain = listing.options.is_plain;
     let selects = listing.selection.is_some();
-    let tally = read_files(listing, alloc, captures, writer)?;
+    let tally = read_files(listing, alloc, captures, writer, messages)?;
     let undecided = if selects { Some(tally.undecided) } else { None };
     write_last(is_plain, &tally, undecided, writer)?;
     Ok(tally.status)
 }
 
 /// Writes what is made of each capture, until no packet more is asked for.
-fn read_files<C: Captures, W: LineSink>(
+fn read_files<C: Captures, W: Sink, M: LineSink>(
     listing: Listing<'_>,
     alloc: Global,
     captures: &C,
     writer: &mut W,
+    messages: &mut M,
 ) -> Result<Tally, OutputFault> {
     let options = listing.options;
     let mut files = listing.files.into_iter();
@@ -110,25 +114,26 @@ fn read_files<C: Captures, W: LineSink>(
         }
         task.count = tally.count();
         task.form = Form::Lines(options.after(tally.packets));
-        tally = read_file(&task, &tally, name, alloc, captures, writer)?;
+        tally = read_file(&task, &tally, name, alloc, captures, writer, messages)?;
     }
     Ok(tally)
 }
 
-/// Writes what is made of one capture, and the line that says why it was not read to its end, if there is one.
-fn read_file<C: Captures, W: LineSink>(
+/// Writes what is made of one capture, and tells why it was not read to its end, if it was not.
+fn read_file<C: Captures, W: Sink, M: LineSink>(
     task: &Task,
     tally: &Tally,
     name: &str,
     alloc: Global,
     captures: &C,
     writer: &mut W,
+    messages: &mut M,
 ) -> Result<Tally, OutputFault> {
     let (end, counts) = end_of_file(task, name, alloc, captures, writer);
     if is_output_fault(&end) {
         return Err(OutputFault);
     }
-    write_reason(name, &end, writer)?;
+    tell_reason(name, &end, messages);
     Ok(tally.with(counts, &end))
 }
 
@@ -137,11 +142,10 @@ fn is_output_fault(end: &FileEnd) -> bool {
     matches!(end, FileEnd::Read(Err(RunFault::Output)))
 }
 
-/// Writes the line that says why a capture was not read to its end, if there is one.
-fn write_reason<W: LineSink>(name: &str, end: &FileEnd, writer: &mut W) -> Result<(), OutputFault> {
-    match line_of_file(name, end) {
-        Some(line) => writer.put_line(&line),
-        None => Ok(()),
+/// Tells why a capture was not read to its end, if it was not.
+fn tell_reason<M: LineSink>(name: &str, end: &FileEnd, messages: &mut M) {
+    if let Some(line) = line_of_file(name, end) {
+        let _ = messages.put_line(&line);
     }
 }
 

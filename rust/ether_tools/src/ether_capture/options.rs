@@ -25,13 +25,17 @@ const OPTIONS: [(&str, &str); 5] = [
 /// The program's arguments.
 pub fn command() -> Command {
     let option = |(name, help)| Arg::new(name).long(name).help(help);
-    let count = Arg::new("count").short('c').help("end with so many of these packets").action(ArgAction::Set);
+    let letter = |(name, short, help)| Arg::new(name).short(short).help(help).action(ArgAction::Set);
+    let count = letter(("count", 'c', "end with so many of these packets"));
+    let names = [("read", 'r', "read this file alone"), ("output", 'w', "write a copy to this file")];
     let file = Arg::new("file").value_hint(ValueHint::FilePath).action(ArgAction::Append);
     Command::new("ether_capture")
         .version("3.0.0")
         .args(FLAGS.map(|it| option(it).action(ArgAction::SetTrue)))
         .args(OPTIONS.map(|it| option(it).action(ArgAction::Set)))
-        .args([count, file])
+        .arg(count)
+        .args(names.map(|it| letter(it).value_hint(ValueHint::FilePath)))
+        .arg(file)
 }
 
 /// What the program's arguments ask for. The first of them is its own name.
@@ -52,12 +56,14 @@ fn asked<'a>(matches: &ArgMatches, words: &'a [String]) -> Result<Asked<'a>, Usa
     let (push, set) = (text_of(matches, words, "push-vlan"), text_of(matches, words, "set-vlan"));
     Ok(Asked {
         is_plain: matches.get_flag("plain"),
-        is_copy: matches.get_flag("write"),
+        is_write: matches.get_flag("write"),
         edit: edit_of_words(cuts, pops, push, set)?,
         text: text_of(matches, words, "select"),
         undecided: undecided_of(text_of(matches, words, "undecided"))?,
         count: count_of(text_of(matches, words, "count"))?,
         limit: limit_of(text_of(matches, words, "limit"))?,
+        input: text_of(matches, words, "read"),
+        output: text_of(matches, words, "output"),
         files: texts_of(matches, words, "file"),
     })
 }

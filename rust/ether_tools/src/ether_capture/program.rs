@@ -1,7 +1,9 @@
 //! The program, over any arguments, files, reader and writer.
 
-use crate::ether_capture::asked::{Request, RequestError};
+use crate::ether_capture::asked::{Job, Request, RequestError};
 use crate::ether_capture::captures::Captures;
+use crate::ether_capture::copies::Copies;
+use crate::ether_capture::copy_run::{copy_file, copy_input};
 use crate::ether_capture::files::run_files;
 use crate::ether_capture::options::request_of_words;
 use crate::ether_capture::run_input::run_input;
@@ -11,65 +13,88 @@ use crate::ether_capture::memory::Global;
 use std::{env, io};
 
 /// Writes the lines of a capture, or a copy of it, as the arguments say, prints the last line if there is one, and returns the exit status.
+/// Lines go to `writer`, and so does a copy, unless its file is named: then `copies` keeps it.
 ///
-/// The last line is printed to `writer`; but to `messages` if a copy is asked for, since `writer` has that, or if the arguments are wrong or there
-/// is no memory for them. If they are wrong or can't be read, nothing is read. The latter is a fault of the input.
+/// Why something was not read goes to `messages`, as all last lines do, so that `writer` has the lines or the copy alone; but the usage and the
+/// version, if they are asked for, go to `writer`. If the arguments are wrong or can't be read, nothing is read. The latter is a fault of the
+/// input.
 ///
 /// <details><summary>Contract</summary>
 ///
 /// ```text
 /// ensures served { HasServed (C.has captures.now) R.can_fail C.can_refuse C.Input.Source.can_fail W.Sink.can_fail M.Sink.can_fail
-///     (arguments_of args) (R.remaining reader.old) (R.remaining reader.new) (W.Sink.contents writer.old)
-///     (W.Sink.contents writer.new) (M.Sink.contents messages.old) (M.Sink.contents messages.new) result }
+///     K.can_refuse K.Part.Sink.can_fail (arguments_of args) (R.remaining reader.old) (R.remaining reader.new)
+///     (W.Sink.contents writer.old) (W.Sink.contents writer.new) (M.Sink.contents messages.old) (M.Sink.contents messages.new)
+///     (K.file copies.old) (K.file copies.new) result }
 /// ensures flushed { result ≢ 4 → Settles W.Sink.is_flushed writer.old writer.new }
 /// ensures told { Settles M.Sink.is_flushed messages.old messages.new ⊎ M.Sink.can_fail }
 /// ```
 ///
 /// </details>
-pub fn program<C: Captures, R: Source, W: LineSink, M: LineSink>(
+pub fn program<C: Captures, K: Copies, R: Source, W: LineSink, M: LineSink>(
     args: io::Result<env::Args>,
     alloc: Global,
     captures: &C,
+    copies: &mut K,
     reader: &mut R,
     writer: &mut W,
     messages: &mut M,
 ) -> u8 {
     let Ok(args) = args else {
-        let outcome = Outcome::Run {
-            is_copy: false,
-            end: Err(RunFault::Input),
-        };
-        return end(&outcome, writer, messages);
+        return end(&Outcome::Run(Err(RunFault::Input)), writer, messages);
     };
     let Ok(words) = Ok::<Vec<String>, crate::ether_capture::memory::NoMemory>(args.collect()) else {
         return end(&Outcome::NoMemory, writer, messages);
     };
-    let outcome = obey(words.as_slice(), alloc, captures, reader, writer);
+    let outcome = obey(
+        words.as_slice(),
+        alloc,
+        captures,
+        copies,
+        reader,
+        writer,
+        messages,
+    );
     end(&outcome, writer, messages)
 }
 
 /// Writes the lines of a capture, or a copy of it, as the arguments say.
-fn obey<'a, C: Captures, R: Source, W: LineSink>(
+fn obey<'a, C: Captures, K: Copies, R: Source, W: Sink, M: LineSink>(
     words: &'a [String],
     alloc: Global,
     captures: &C,
+    copies: &mut K,
     reader: &mut R,
     writer: &mut W,
+    messages: &mut M,
 ) -> Outcome<'a> {
     match request_of_words(words, alloc) {
-        Ok(Request::Run(task, file)) => match file {
-            None => Outcome::Run {
-                is_copy: task.is_copy(),
-                end: run_input(&task, alloc, reader, writer).0,
-            },
-            Some(name) => run_file(&task, name, alloc, captures, writer),
-        },
-        Ok(Request::List(listing)) => Outcome::Files(run_files(listing, alloc, captures, writer)),
+        Ok(Request::Run(job)) => run_job(&job, alloc, captures, copies, reader, writer),
+        Ok(Request::List(listing)) => {
+            Outcome::Files(run_files(listing, alloc, captures, writer, messages))
+        }
         Ok(Request::Help) => Outcome::Help,
         Ok(Request::Version) => Outcome::Version,
         Err(RequestError::Usage(usage)) => Outcome::Usage(usage),
         Err(RequestError::Memory) => Outcome::NoMemory,
-        Err(RequestError::Filter { is_copy, error }) => Outcome::NoFilter { is_copy, error },
+        Err(RequestError::Filter(error)) => Outcome::NoFilter(error),
+    }
+}
+
+/// Writes what is made of one capture.
+fn run_job<'a, C: Captures, K: Copies, R: Source, W: Sink>(
+    job: &Job<'a>,
+    alloc: Global,
+    captures: &C,
+    copies: &mut K,
+    reader: &mut R,
+    writer: &mut W,
+) -> Outcome<'a> {
+    match (job.input, job.output) {
+        (None, None) => Outcome::Run(run_input(&job.task, alloc, reader, writer).0),
+        (Some(name), None) => run_file(&job.task, name, alloc, captures, writer),
+        (None, Some(output)) => copy_input(&job.task, output, alloc, copies, reader),
+        (Some(name), Some(output)) => copy_file(&job.task, name, output, alloc, captures, copies),
     }
 }
 
@@ -81,18 +106,12 @@ fn run_file<'a, C: Captures, W: Sink>(
     captures: &C,
     writer: &mut W,
 ) -> Outcome<'a> {
-    let is_copy = task.is_copy();
     match captures.open_named(name) {
         Ok(mut input) => Outcome::File {
-            is_copy,
             name,
             end: run_input(task, alloc, &mut input, writer).0,
         },
-        Err(fault) => Outcome::NotOpened {
-            is_copy,
-            name,
-            fault,
-        },
+        Err(fault) => Outcome::NotOpened { name, fault },
     }
 }
 

@@ -1,6 +1,6 @@
 //! How the program ends: what a run found or why it stopped, the exit status of each, and the last line.
 
-use crate::ether_stream::{NoMemory, OpenFault, Usage};
+use crate::ether_stream::{NoMemory, OpenFault, Usage, WriteFault};
 use etherpeel::ether_filter::FilterError;
 use etherpeel::ether_pcap::{CaptureError, CaptureFault, FileHeaderError};
 use crate::ether_text::{InputFault, OutputFault, Verdict};
@@ -86,17 +86,10 @@ pub fn status_of(outcome: &Result<Verdict, RunFault>) -> u8 {
 /// How the program has answered its arguments.
 #[derive(Debug)]
 pub enum Outcome<'a> {
-    /// Standard input was read, or the arguments can't be.
-    Run {
-        /// Whether a copy was asked for.
-        is_copy: bool,
-        /// How it ended.
-        end: Result<Verdict, RunFault>,
-    },
+    /// Standard input was read, or the arguments can't be: how that ended.
+    Run(Result<Verdict, RunFault>),
     /// The only file was read.
     File {
-        /// Whether a copy was asked for.
-        is_copy: bool,
         /// Its name.
         name: &'a str,
         /// How the run ended.
@@ -106,20 +99,20 @@ pub enum Outcome<'a> {
     Files(Result<u8, OutputFault>),
     /// The file can't be opened.
     NotOpened {
-        /// Whether a copy of it was asked for.
-        is_copy: bool,
         /// Its name.
         name: &'a str,
         /// Why it can't.
         fault: OpenFault,
     },
-    /// The text of the filter is no expression.
-    NoFilter {
-        /// Whether a copy was asked for.
-        is_copy: bool,
-        /// Why it is none.
-        error: FilterError,
+    /// A copy can't be written to the file.
+    NotWritten {
+        /// Its name.
+        name: &'a str,
+        /// Why it can't.
+        fault: WriteFault,
     },
+    /// The text of the filter is no expression.
+    NoFilter(FilterError),
     /// The arguments ask how the program is used.
     Help,
     /// The arguments ask for the version.
@@ -132,7 +125,7 @@ pub enum Outcome<'a> {
 
 /// What `--help` prints, without its last LF.
 pub const HELP: &str =
-    "usage: ether_capture [[--plain] [--limit N] | --write [--cut-to-headers | --pop-vlan | --push-vlan TPID:ID | --set-vlan A:B]] [--select EXPR [--undecided keep|drop]] [-c N] [FILE]..\n\nPrints the link-layer headers of each packet of captures, pcap or pcapng: of each FILE, or of standard input, which a FILE of - also names.\n\nWhich packets:\n  --select EXPR     only packets that match EXPR, as 'vlan 5 or arp'\n  --undecided keep|drop\n                    with --select, keep or drop packets that were cut too short to tell, in place of taking them as they are\n  -c N              end with the N-th of these packets, of all files together\n\nLines:\n  --plain           leave out the lines of packets and the totals\n  --limit N         read N VLAN tags and SecTags of each packet at most\n\nCopies:\n  --write           write the capture itself, of one FILE at most, without the other packets; faults go to standard error\n  --cut-to-headers  with --write, cut each packet where its link-layer headers end\n  --pop-vlan        with --write, take the VLAN tag after the link's header off each frame\n  --push-vlan TPID:ID\n                    with --write, put a VLAN tag after the link's header, as 0x8100:5\n  --set-vlan A:B    with --write, give the outermost VLAN tag with identifier A identifier B\n\n  -h, --help        print this text\n  -V, --version     print the version\n\nEXPR has these primitives, with not, and, or and parentheses:\n\n  vlan [ID], outer vlan ID, inner vlan ID, macsec, arp, ip, ip6\n  ether proto TYPE, ether src ADDR, ether dst ADDR, ether host ADDR\n  ether broadcast, ether multicast, less N, greater N, cut, refused\n\nEach says something of all headers of a packet: unlike in pcap-filter(7), arp is true after any tags, too.\n\nExamples:\n\n  ether_capture --select 'vlan 5 or arp' f.pcap\n  tcpdump -U --immediate-mode -w - | ether_capture\n  ether_capture --write --push-vlan 0x8100:5 f.pcap > tagged.pcap";
+    "usage: ether_capture [[--plain] [--limit N] | --write [-w COPY] [--cut-to-headers | --pop-vlan | --push-vlan TPID:ID | --set-vlan A:B]] [--select EXPR [--undecided keep|drop]] [-c N] [-r FILE | FILE..]\n\nPrints the link-layer headers of each packet of captures, pcap or pcapng: of each FILE, or of standard input, which a FILE of - also names. What can't be read or written is said on standard error.\n\n  -r FILE           read FILE, as if it was named alone\n\nWhich packets:\n  --select EXPR     only packets that match EXPR, as 'vlan 5 or arp'\n  --undecided keep|drop\n                    with --select, keep or drop packets that were cut too short to tell, in place of taking them as they are\n  -c N              end with the N-th of these packets, of all files together\n\nLines:\n  --plain           leave out the lines of packets and the totals\n  --limit N         read N VLAN tags and SecTags of each packet at most\n\nCopies:\n  --write           write the capture itself to standard output, of one FILE at most, without the other packets\n  -w COPY           write it to the file COPY, which changes only once all is written; without --write, too\n  --cut-to-headers  with --write, cut each packet where its link-layer headers end\n  --pop-vlan        with --write, take the VLAN tag after the link's header off each frame\n  --push-vlan TPID:ID\n                    with --write, put a VLAN tag after the link's header, as 0x8100:5\n  --set-vlan A:B    with --write, give the outermost VLAN tag with identifier A identifier B\n\n  -h, --help        print this text\n  -V, --version     print the version\n\nEXPR has these primitives, with not, and, or and parentheses:\n\n  vlan [ID], outer vlan ID, inner vlan ID, macsec, arp, ip, ip6\n  ether proto TYPE, ether src ADDR, ether dst ADDR, ether host ADDR\n  ether broadcast, ether multicast, less N, greater N, cut, refused\n\nEach says something of all headers of a packet: unlike in pcap-filter(7), arp is true after any tags, too.\n\nExamples:\n\n  ether_capture --select 'vlan 5 or arp' f.pcap\n  tcpdump -U --immediate-mode -w - | ether_capture\n  ether_capture -r f.pcap -w tagged.pcap --push-vlan 0x8100:5";
 
 /// Why a packet can't be edited.
 const NOT_EDITED: &str =
@@ -180,15 +173,29 @@ fn reason_not_opened(fault: OpenFault) -> &'static str {
     }
 }
 
-/// A line that the program prints after the lines of a capture, or in their place.
+/// Why a copy can't be written, as it follows the words that say so.
+fn reason_not_written(fault: WriteFault) -> &'static str {
+    match fault {
+        WriteFault::NotFound => ": there is no such folder",
+        WriteFault::PermissionDenied => ": permission denied",
+        WriteFault::IsADirectory => ": it is a folder",
+        WriteFault::StorageFull => ": no space is left",
+        WriteFault::Other => "",
+    }
+}
+
+/// What messages call standard input.
+const STANDARD_INPUT: &str = "standard input";
+
+/// A line of the program about a run or its arguments.
 #[derive(Clone, Copy, Debug)]
 pub enum LastLine<'a> {
-    /// The only capture was not read to its end.
-    Stopped(Reason<'a>),
-    /// Nor was that of this name, one of several.
-    Named(&'a str, Reason<'a>),
+    /// The capture of this name was not read to its end.
+    Stopped(&'a str, Reason<'a>),
     /// The file of this name can't be opened.
     NotOpened(&'a str, OpenFault),
+    /// A copy can't be written to the file of this name.
+    NotWritten(&'a str, WriteFault),
     /// How the program is used.
     Help,
     /// The version.
@@ -197,16 +204,21 @@ pub enum LastLine<'a> {
     Usage(Usage),
     /// The text of the filter is no expression.
     NoFilter(&'a FilterError),
+    /// Memory for the arguments was refused.
+    NoMemory,
 }
 
 impl fmt::Display for LastLine<'_> {
     fn fmt(&self, f: &mut fmt::Formatter<'_>) -> fmt::Result {
         match self {
-            LastLine::Stopped(reason) => write!(f, "{reason}"),
-            LastLine::Named(name, reason) => write!(f, "{name}: {reason}"),
+            LastLine::Stopped(name, reason) => write!(f, "{name}: {reason}"),
             LastLine::NotOpened(name, fault) => {
                 let reason = reason_not_opened(*fault);
                 write!(f, "{name}: can't be opened{reason}")
+            }
+            LastLine::NotWritten(name, fault) => {
+                let reason = reason_not_written(*fault);
+                write!(f, "{name}: can't be written{reason}")
             }
             LastLine::Help => write!(f, "{HELP}"),
             LastLine::Version => write!(f, "{VERSION}"),
@@ -215,6 +227,7 @@ impl fmt::Display for LastLine<'_> {
                 write!(f, "ether_capture: {text}; try --help")
             }
             LastLine::NoFilter(error) => write!(f, "--select: {error}"),
+            LastLine::NoMemory => f.write_str("ether_capture: out of memory"),
         }
     }
 }
@@ -230,36 +243,37 @@ impl fmt::Display for LastLine<'_> {
 /// </details>
 pub fn last_line<'a>(outcome: &'a Outcome<'_>) -> Option<LastLine<'a>> {
     match outcome {
-        Outcome::Run { end, .. } => last_line_of_run(end),
+        Outcome::Run(end) => line_of_input(end),
         Outcome::Files(_) => None,
-        Outcome::File { name, end, .. } => last_line_of_named(name, end),
-        Outcome::NotOpened { name, fault, .. } => Some(LastLine::NotOpened(name, *fault)),
-        Outcome::NoFilter { error, .. } => Some(LastLine::NoFilter(error)),
+        Outcome::File { name, end } => line_of_run(name, end),
+        Outcome::NotOpened { name, fault } => Some(LastLine::NotOpened(name, *fault)),
+        Outcome::NotWritten { name, fault } => Some(LastLine::NotWritten(name, *fault)),
+        Outcome::NoFilter(error) => Some(LastLine::NoFilter(error)),
         Outcome::Help => Some(LastLine::Help),
         Outcome::Version => Some(LastLine::Version),
         Outcome::Usage(usage) => Some(LastLine::Usage(*usage)),
-        Outcome::NoMemory => Some(LastLine::Stopped(Reason::Memory)),
+        Outcome::NoMemory => Some(LastLine::NoMemory),
     }
 }
 
-/// The line that is printed after a run, if there is one.
-fn last_line_of_run(outcome: &Result<Verdict, RunFault>) -> Option<LastLine<'_>> {
-    match outcome {
-        Err(RunFault::Capture(fault)) => Some(LastLine::Stopped(Reason::Fault(fault))),
-        Err(RunFault::NotEdited(offset)) => Some(LastLine::Stopped(Reason::NotEdited(*offset))),
-        Err(RunFault::Memory) => Some(LastLine::Stopped(Reason::Memory)),
-        _ => None,
+/// The line that says why standard input was not read to its end, if it was not. The program itself says why the system can't read it.
+fn line_of_input(end: &Result<Verdict, RunFault>) -> Option<LastLine<'_>> {
+    match end {
+        Err(RunFault::Input) => None,
+        _ => line_of_run(STANDARD_INPUT, end),
     }
 }
 
-/// The line that is printed after a run over the only file, if there is one.
-fn last_line_of_named<'a>(
-    name: &'a str,
-    outcome: &'a Result<Verdict, RunFault>,
-) -> Option<LastLine<'a>> {
-    match outcome {
-        Err(RunFault::Input) => Some(LastLine::Named(name, Reason::Input)),
-        _ => last_line_of_run(outcome),
+/// The line that says why the capture of this name was not read to its end, if it was not.
+fn line_of_run<'a>(name: &'a str, end: &'a Result<Verdict, RunFault>) -> Option<LastLine<'a>> {
+    match end {
+        Err(RunFault::Capture(fault)) => Some(LastLine::Stopped(name, Reason::Fault(fault))),
+        Err(RunFault::NotEdited(offset)) => {
+            Some(LastLine::Stopped(name, Reason::NotEdited(*offset)))
+        }
+        Err(RunFault::Input) => Some(LastLine::Stopped(name, Reason::Input)),
+        Err(RunFault::Memory) => Some(LastLine::Stopped(name, Reason::Memory)),
+        Ok(_) | Err(RunFault::Output) => None,
     }
 }
 
@@ -272,7 +286,7 @@ pub enum FileEnd {
     Read(Result<Verdict, RunFault>),
 }
 
-/// The line that is printed after the lines of a capture, one of several, if there is one.
+/// The line that says why a capture, one of several, was not read to its end, if it was not.
 ///
 /// <details><summary>Contract</summary>
 ///
@@ -284,17 +298,7 @@ pub enum FileEnd {
 pub fn line_of_file<'a>(name: &'a str, end: &'a FileEnd) -> Option<LastLine<'a>> {
     match end {
         FileEnd::NotOpened(fault) => Some(LastLine::NotOpened(name, *fault)),
-        FileEnd::Read(Err(RunFault::Capture(fault))) => Some(LastLine::Named(
-            name,
-            Reason::Fault(fault),
-        )),
-        FileEnd::Read(Err(RunFault::NotEdited(offset))) => Some(LastLine::Named(
-            name,
-            Reason::NotEdited(*offset),
-        )),
-        FileEnd::Read(Err(RunFault::Input)) => Some(LastLine::Named(name, Reason::Input)),
-        FileEnd::Read(Err(RunFault::Memory)) => Some(LastLine::Named(name, Reason::Memory)),
-        FileEnd::Read(_) => None,
+        FileEnd::Read(end) => line_of_run(name, end),
     }
 }
 
@@ -314,8 +318,7 @@ pub fn status_of_file(end: &FileEnd) -> u8 {
     }
 }
 
-/// Tests that the last line is a message: nothing was asked for, or a copy. A message is not printed where
-/// the lines or the copy are.
+/// Tests that the last line is a message, which is not printed where lines or a copy are: any but the usage and the version.
 ///
 /// <details><summary>Contract</summary>
 ///
@@ -325,14 +328,7 @@ pub fn status_of_file(end: &FileEnd) -> u8 {
 ///
 /// </details>
 pub fn is_message(outcome: &Outcome<'_>) -> bool {
-    match outcome {
-        Outcome::Run { is_copy, .. }
-        | Outcome::File { is_copy, .. }
-        | Outcome::NotOpened { is_copy, .. }
-        | Outcome::NoFilter { is_copy, .. } => *is_copy,
-        Outcome::Files(_) | Outcome::Help | Outcome::Version => false,
-        Outcome::Usage(_) | Outcome::NoMemory => true,
-    }
+    !matches!(outcome, Outcome::Help | Outcome::Version)
 }
 
 /// The exit status of the program, by its outcome and whether the last line was printed. It is that of failed output if
@@ -350,12 +346,13 @@ pub fn program_status(outcome: &Outcome<'_>, is_printed: bool) -> u8 {
         return status_of(&Err(RunFault::Output));
     }
     match outcome {
-        Outcome::Run { end, .. } | Outcome::File { end, .. } => status_of(end),
+        Outcome::Run(end) | Outcome::File { end, .. } => status_of(end),
         Outcome::Files(Ok(status)) => *status,
         Outcome::Files(Err(_)) => status_of(&Err(RunFault::Output)),
         Outcome::NotOpened { .. } => status_of(&Err(RunFault::Input)),
+        Outcome::NotWritten { .. } => status_of(&Err(RunFault::Output)),
         Outcome::Help | Outcome::Version => 0,
-        Outcome::Usage(_) | Outcome::NoFilter { .. } => 2,
+        Outcome::Usage(_) | Outcome::NoFilter(_) => 2,
         Outcome::NoMemory => status_of(&Err(RunFault::Memory)),
     }
 }

@@ -11,8 +11,9 @@ returns-clause-ok g c = λ l same.
     let going : end ≢ ends.Read (Err Output) =
     λ e. let is = c.is_output_fault.ensures.1 e in absurd (let never = c.if-is_output_fault.false in cc) in
     file_read (g.C.Captures.has c.args.captures.now) g.C.Captures.can_refuse g.C.Input.Source.can_fail
-    g.W.Sink.can_fail l (task_view c.args.task.now) c.args.name.now c.args.tally.now c.with.result
+    g.W.Sink.can_fail g.M.Sink.can_fail l (task_view c.args.task.now) c.args.name.now c.args.tally.now c.with.result
     (g.W.Sink.contents c.args.writer.now) (g.W.Sink.contents c.end_of_file-end.new.writer)
-    (g.W.Sink.contents c.write_reason.new.writer) c.end_of_file-end.ensures.0 end c.end_of_file-end.result.1 same
-    c.end_of_file-end.ensures.1 c.end_of_file-end.ensures.2 going c.in_ok-write_reason.ensures.told c.with.ensures.packets
+    (g.M.Sink.contents c.args.messages.now) (g.M.Sink.contents c.tell_reason.new.messages)
+    c.end_of_file-end.ensures.0 end c.end_of_file-end.result.1 same
+    c.end_of_file-end.ensures.1 c.end_of_file-end.ensures.2 going c.tell_reason.ensures.told c.with.ensures.packets
     c.with.ensures.skipped c.with.ensures.undecided c.with.ensures.left c.with.ensures.status

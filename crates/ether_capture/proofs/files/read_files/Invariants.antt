@@ -1,5 +1,5 @@
-use Rattle.std.proofs.Common.{◌≡◌, ℕ, List, Option, length}
-use Rattle.ether_capture.specs.Files.{ReadsFiles, nothing_read}
+use Rattle.std.proofs.Common.{◌≡◌, ◌⊎◌, ℕ, List, Option, length}
+use Rattle.ether_capture.specs.Files.{ReadsFiles, Settles, nothing_read}
 use Rattle.ether_capture.specs.Options.{listing_view}
 use Rattle.ether_capture.specs.declared.files.Tally.{Tally}
 use Rattle.ether_capture.proofs.FilesLemmas.{names_in}
@@ -11,12 +11,14 @@ invariant-loop-name g l =
     record {
       selection : l.task.selection ≡ l.fn.listing.selection;
       options : l.options ≡ l.fn.listing.options;
-      reads : (last : Tally) (holds : Option (List ℕ))
+      reads : (last : Tally) (holds tells : Option (List ℕ))
           → ReadsFiles (g.C.Captures.has l.fn.captures) g.C.Captures.can_refuse g.C.Input.Source.can_fail
-          g.W.Sink.can_fail listing (names_in l.files) l.tally (g.W.Sink.contents l.writer) last holds
+          g.W.Sink.can_fail g.M.Sink.can_fail listing (names_in l.files) l.tally (g.W.Sink.contents l.writer)
+          (g.M.Sink.contents l.messages) last holds tells
           → ReadsFiles (g.C.Captures.has l.fn.captures) g.C.Captures.can_refuse g.C.Input.Source.can_fail
-          g.W.Sink.can_fail listing listing.files (nothing_read listing.count) (g.W.Sink.contents l.fn.writer) last
-          holds;
+          g.W.Sink.can_fail g.M.Sink.can_fail listing listing.files (nothing_read listing.count)
+          (g.W.Sink.contents l.fn.writer) (g.M.Sink.contents l.fn.messages) last holds tells;
+      settled : Settles g.M.Sink.is_flushed l.fn.messages l.messages ⊎ g.M.Sink.can_fail;
     }
 
 abbrev pub decreases-loop-name : goal.decreases-loop-name

@@ -1,4 +1,4 @@
-use Rattle.std.proofs.Common.{◌≡◌, ◌∙◌, List, ℕ, Some, map, string_bytes, ap, refl, subst, Err, IfOk, false}
+use Rattle.std.proofs.Common.{◌≡◌, ◌∙◌, List, ℕ, Some, map, string_bytes, ap, refl, subst, Err, IfOk}
 use Rattle.std.specs.Vec.{vec_items}
 use Rattle.std.specs.Vec.Iter.{into_iter_items}
 use Rattle.std.proofs.lemmas.Iterator.{items_from_collect}
@@ -12,10 +12,11 @@ pub returns-in_default-clause-served : goal.returns-in_default-clause-served
 returns-in_default-clause-served g c =
     rw c.in_default.is
     (record {
-      outcome = outcomes.Run false (Err Input);
+      outcome = outcomes.Run (Err Input);
       printed = c.end.ensures.printed.0;
-      between = g.W.Sink.contents c.args.writer.now;
-      obeyed = (refl, refl, refl);
+      mid = g.W.Sink.contents c.args.writer.now;
+      between = g.M.Sink.contents c.args.messages.now;
+      obeyed = (refl, refl, refl, refl, refl);
       ended = c.end.ensures.printed.1;
       is_status = c.end.ensures.printed.2;
     })
@@ -26,8 +27,9 @@ returns-in_default-collect-clause-served g c =
     (record {
       outcome = outcomes.NoMemory;
       printed = c.end-in_default-collect.ensures.printed.0;
-      between = g.W.Sink.contents c.args.writer.now;
-      obeyed = (refl, refl);
+      mid = g.W.Sink.contents c.args.writer.now;
+      between = g.M.Sink.contents c.args.messages.now;
+      obeyed = (refl, refl, refl, refl);
       ended = c.end-in_default-collect.ensures.printed.1;
       is_status = c.end-in_default-collect.ensures.printed.2;
     })
@@ -43,13 +45,17 @@ returns-clause-served g c =
     (record {
       outcome = c.obey-outcome.result;
       printed = c.end-2.ensures.printed.0;
-      between = g.W.Sink.contents c.obey-outcome.new.writer;
+      mid = g.W.Sink.contents c.obey-outcome.new.writer;
+      between = g.M.Sink.contents c.obey-outcome.new.messages;
       obeyed = subst
           (λ (it : List (List ℕ)).
           HasObeyed (g.C.Captures.has c.args.captures.now) g.R.Source.can_fail g.C.Captures.can_refuse
-          g.C.Input.Source.can_fail g.W.Sink.can_fail (Some it) (g.R.Source.remaining c.args.reader.now)
-          (g.R.Source.remaining c.obey-outcome.new.reader) (g.W.Sink.contents c.args.writer.now)
-          (g.W.Sink.contents c.obey-outcome.new.writer) c.obey-outcome.result)
+          g.C.Input.Source.can_fail g.W.Sink.can_fail g.M.Sink.can_fail g.K.Copies.can_refuse g.K.Part.Sink.can_fail
+          (Some it)
+          (g.R.Source.remaining c.args.reader.now) (g.R.Source.remaining c.obey-outcome.new.reader)
+          (g.W.Sink.contents c.args.writer.now) (g.W.Sink.contents c.obey-outcome.new.writer)
+          (g.M.Sink.contents c.args.messages.now) (g.M.Sink.contents c.obey-outcome.new.messages)
+          (g.K.Copies.file c.args.copies.now) (g.K.Copies.file c.obey-outcome.new.copies) c.obey-outcome.result)
           words c.obey-outcome.ensures.obeyed;
       ended = c.end-2.ensures.printed.1;
       is_status = c.end-2.ensures.printed.2;

@@ -1,0 +1,39 @@
+//! What keeps copies by their names.
+ghost use Rattle.std.specs.Prelude.{◌≡◌, ℕ, List, Option, IfOk, IfErr, OnOk, OnErr};
+
+use ether_stream::WriteFault;
+use ether_text::Sink;
+
+/// What keeps copies by their names, as files do.
+///
+/// A copy is begun, written and then finished or given up. Only when it is finished does its file get the copy's bytes, all at once; until then,
+/// and for ever if it is given up, the file is as it was.
+pub trait Copies {
+    ghost use Rattle.std.specs.Io.KnownBytes.{IsAtEnd};
+    ghost use Rattle.ether_stream.specs.declared.write_fault.WriteFault.{WriteFault};
+
+    /// A copy that is being written.
+    type Part: Sink + Drop;
+
+    // The bytes of the file of a name, where they are known.
+    ghost file: { Self → (name : List ℕ) → Option (List ℕ) };
+
+    // What holds if a file can't get a copy for this reason.
+    ghost can_refuse: { WriteFault → Type 0 };
+
+    /// Begins a copy, which has no byte yet.
+    fn begin(&mut self, name: &str) -> Result<Self::Part, WriteFault>
+        ensures empty { IfOk result (λ part. IsAtEnd (Self.Part.Sink.contents part)) }
+        ensures kept { file self.new name.now ≡ file self.old name.now }
+        ensures refused { IfErr result can_refuse };
+
+    /// Finishes a copy: the file of this name has its bytes.
+    fn finish(&mut self, name: &str, part: Self::Part) -> Result<(), WriteFault>
+        ensures ok { OnOk result (file self.new name.now ≡ Self.Part.Sink.contents part) }
+        ensures kept { OnErr result (file self.new name.now ≡ file self.old name.now) }
+        ensures refused { IfErr result can_refuse };
+
+    /// Gives a copy up, and returns why it can't be written, if that was the cause.
+    fn give_up(&mut self, name: &str, part: Self::Part) -> WriteFault
+        ensures kept { file self.new name.now ≡ file self.old name.now };
+}

@@ -1,0 +1,84 @@
+//! A run whose copy goes to the file of its name.
+ghost use Rattle.ether_stream.specs.Task.{task_view};
+ghost use Rattle.ether_capture.specs.Copies.{IsCopied};
+ghost use Rattle.ether_capture.specs.Program.{HasCopiedFile, HasCopiedInput};
+
+use crate::captures::Captures;
+use crate::copies::Copies;
+use crate::run_input::run_input;
+use ether_stream::{Outcome, RunFault, Task, WriteFault};
+use ether_text::{Source, Verdict};
+use std::alloc::Global;
+
+/// Copies standard input to the file of a name.
+pub fn copy_input<'a, K: Copies, R: Source>(
+    task: &Task,
+    output: &'a str,
+    alloc: Global,
+    copies: &mut K,
+    reader: &mut R,
+) -> Outcome<'a>
+    ensures { HasCopiedInput R.can_fail K.Part.Sink.can_fail K.can_refuse (task_view task.now) output.entry.now
+        (R.remaining reader.old) (R.remaining reader.new) (K.file copies.old output.entry.now) (K.file copies.new output.entry.now)
+        result }
+{
+    match copy_to(task, output, alloc, copies, reader) {
+        Ok(end) => Outcome::Run(end),
+        Err(fault) => Outcome::NotWritten {
+            name: output,
+            fault,
+        },
+    }
+}
+
+/// Copies the capture of a name to the file of another one, or of the same.
+pub fn copy_file<'a, C: Captures, K: Copies>(
+    task: &Task,
+    name: &'a str,
+    output: &'a str,
+    alloc: Global,
+    captures: &C,
+    copies: &mut K,
+) -> Outcome<'a>
+    ensures { HasCopiedFile (C.has captures.now) C.can_refuse C.Input.Source.can_fail K.Part.Sink.can_fail K.can_refuse
+        (task_view task.now) name.entry.now output.entry.now (K.file copies.old output.entry.now) (K.file copies.new output.entry.now)
+        result }
+{
+    let mut input = match captures.open_named(name) {
+        Ok(input) => input,
+        Err(fault) => return Outcome::NotOpened { name, fault },
+    };
+    match copy_to(task, output, alloc, copies, &mut input) {
+        Ok(end) => Outcome::File { name, end },
+        Err(fault) => Outcome::NotWritten {
+            name: output,
+            fault,
+        },
+    }
+}
+
+/// Copies what a reader gives to the file of a name, which gets the copy once it is whole.
+fn copy_to<K: Copies, R: Source>(
+    task: &Task,
+    output: &str,
+    alloc: Global,
+    copies: &mut K,
+    reader: &mut R,
+) -> Result<Result<Verdict, RunFault>, WriteFault>
+    ensures { IsCopied R.can_fail K.Part.Sink.can_fail K.can_refuse (task_view task.now) (R.remaining reader.old)
+        (R.remaining reader.new) (K.file copies.old output.now) (K.file copies.new output.now) result }
+{
+    let mut part = copies.begin(output)?;
+    let end = run_input(task, alloc, reader, &mut part).0;
+    match end {
+        Ok(verdict) => {
+            copies.finish(output, part)?;
+            Ok(Ok(verdict))
+        }
+        Err(RunFault::Output) => Err(copies.give_up(output, part)),
+        Err(fault) => {
+            let _ = copies.give_up(output, part);
+            Ok(Err(fault))
+        }
+    }
+}

@@ -1,0 +1,50 @@
+//! What keeps copies by their names.
+
+use crate::ether_stream::WriteFault;
+use crate::ether_text::Sink;
+
+/// What keeps copies by their names, as files do.
+///
+/// A copy is begun, written and then finished or given up. Only when it is finished does its file get the copy's bytes, all at once; until then,
+/// and for ever if it is given up, the file is as it was.
+pub trait Copies {
+    /// A copy that is being written.
+    type Part: Sink;
+
+    /// Begins a copy, which has no byte yet.
+    ///
+    /// <details><summary>Contract</summary>
+    ///
+    /// ```text
+    /// ensures empty { IfOk result (λ part. IsAtEnd (Self.Part.Sink.contents part)) }
+    /// ensures kept { file self.new name.now ≡ file self.old name.now }
+    /// ensures refused { IfErr result can_refuse }
+    /// ```
+    ///
+    /// </details>
+    fn begin(&mut self, name: &str) -> Result<Self::Part, WriteFault>;
+
+    /// Finishes a copy: the file of this name has its bytes.
+    ///
+    /// <details><summary>Contract</summary>
+    ///
+    /// ```text
+    /// ensures ok { OnOk result (file self.new name.now ≡ Self.Part.Sink.contents part) }
+    /// ensures kept { OnErr result (file self.new name.now ≡ file self.old name.now) }
+    /// ensures refused { IfErr result can_refuse }
+    /// ```
+    ///
+    /// </details>
+    fn finish(&mut self, name: &str, part: Self::Part) -> Result<(), WriteFault>;
+
+    /// Gives a copy up, and returns why it can't be written, if that was the cause.
+    ///
+    /// <details><summary>Contract</summary>
+    ///
+    /// ```text
+    /// ensures kept { file self.new name.now ≡ file self.old name.now }
+    /// ```
+    ///
+    /// </details>
+    fn give_up(&mut self, name: &str, part: Self::Part) -> WriteFault;
+}

@@ -1,0 +1,165 @@
+"""Tests of `ether_capture` on where things go: lines and copies, and what is said of faults."""
+
+import os
+import resource
+import signal
+import subprocess
+import tempfile
+import time
+
+from captures import CLASSIC, CLASSIC_LINES, INPUT, IS_FOLDER, NO_FILE, SIX, classic, record_is_cut
+from capture_copies import copied
+from programs import run_apart
+
+OLD = b"what the file had before"
+CLASH = "ether_capture: these options do not go together; try --help\n"
+LONG = classic(*SIX) + classic(*SIX)[24:] * 4_000
+
+
+def contents(folder):
+    """The files in a folder, and what they have."""
+    found = {}
+    for name in sorted(os.listdir(folder)):
+        with open(os.path.join(folder, name), "rb") as file:
+            found[name] = file.read()
+    return found
+
+
+def filled(folder, files):
+    for name, text in files.items():
+        with open(os.path.join(folder, name), "wb") as file:
+            file.write(text)
+
+
+def done(program, words, given, files, **how):
+    """What the program prints, says and returns in a folder that has these files, and what this has then."""
+    with tempfile.TemporaryDirectory() as folder:
+        filled(folder, files)
+        return *run_apart(program, words, given, cwd=folder, **how), contents(folder)
+
+
+def not_written(name, reason=""):
+    return f"{name}: can't be written{reason}\n"
+
+
+# The words, standard input, the files; what is printed, said, returned, and how the files have changed.
+COPIES = [
+    ("a new file", ["-w", "new", "one"], b"", {"one": CLASSIC}, "", "", 0, {"new": CLASSIC}),
+    ("a file that is there", ["--write", "-w", "two", "one"], b"", {"one": CLASSIC, "two": OLD}, "", "", 0, {"two": CLASSIC}),
+    ("standard input", ["-w", "new"], CLASSIC, {}, "", "", 0, {"new": CLASSIC}),
+    ("the only file", ["-r", "one", "-w", "one", "-c", "1"], b"", {"one": CLASSIC}, "", "", 0, {"one": CLASSIC[:59]}),
+    ("no packet", ["-wnew", "--select", "macsec", "-r", "one"], b"", {"one": CLASSIC}, "", "", 0, {"new": CLASSIC[:24]}),
+    ("a device", ["-w", "/dev/null", "one"], b"", {"one": CLASSIC}, "", "", 0, {}),
+    ("a full disk", ["-w", "/dev/full", "one"], b"", {"one": CLASSIC}, "", not_written("/dev/full", ": no space is left"), 4, {}),
+    ("a folder", ["-w", ".", "one"], b"", {"one": CLASSIC}, "", not_written(".", ": it is a folder"), 4, {}),
+    ("a folder that is not there", ["-w", "no/new", "one"], b"", {"one": CLASSIC}, "", not_written("no/new", ": there is no such folder"), 4, {}),
+    ("a file in place of a folder", ["-w", "one/new", "one"], b"", {"one": CLASSIC}, "", not_written("one/new", ": there is no such folder"), 4, {}),
+    ("a capture that is cut", ["-w", "two", "one"], b"", {"one": CLASSIC[:120], "two": OLD}, "", "one" + record_is_cut(59, 62, 61), 3, {}),
+    ("standard input that is cut", ["-w", "two"], CLASSIC[:120], {"two": OLD}, "", INPUT + record_is_cut(59, 62, 61), 3, {}),
+    ("a capture that is not there", ["-w", "two", "one"], b"", {"two": OLD}, "", "one" + NO_FILE, 4, {}),
+    ("a capture that is a folder", ["-w", "two", "."], b"", {"two": OLD}, "", "." + IS_FOLDER, 4, {}),
+    ("no expression", ["-w", "two", "--select", "vlan x"], CLASSIC, {"two": OLD}, "",
+     "--select: At byte 5: expected a number up to 4095, `and`, `or`, `)` or the end.\n", 2, {}),
+    ("lines", ["-w", "two", "--plain"], CLASSIC, {"two": OLD}, "", CLASH, 2, {}),
+    ("a limit", ["-w", "two", "--limit", "1"], CLASSIC, {"two": OLD}, "", CLASH, 2, {}),
+    ("two captures", ["-w", "two", "one", "one"], b"", {"one": CLASSIC, "two": OLD}, "", CLASH, 2, {}),
+]
+READS = [
+    ("a file by -r", ["-r", "one"], b"", {"one": CLASSIC}, CLASSIC_LINES, "", 1, {}),
+    ("the same in one word", ["-rone"], b"", {"one": CLASSIC}, CLASSIC_LINES, "", 1, {}),
+    ("standard input by -r", ["-r", "-"], CLASSIC, {}, CLASSIC_LINES, "", 1, {}),
+    ("a file that is not there by -r", ["-r", "one"], CLASSIC, {}, "", "one" + NO_FILE, 4, {}),
+    ("a file by -r and one besides", ["-r", "one", "one"], b"", {"one": CLASSIC}, "", CLASH, 2, {}),
+    ("two files by -r", ["-r", "one", "-r", "one"], b"", {"one": CLASSIC}, "",
+     "ether_capture: an option is unknown, comes twice, or lacks its value; try --help\n", 2, {}),
+]
+
+
+def files_too_large(program):
+    """A copy with more bytes than a file may have."""
+    limit = {"preexec_fn": lambda: resource.setrlimit(resource.RLIMIT_FSIZE, (4_096, 4_096)), "restore_signals": False}
+    files = {"one": LONG, "two": OLD}
+    wanted = "", not_written("two", ": no space is left"), 4, files
+    return [("a copy that is too large for a file", done(program, ["-w", "two", "one"], b"", files, **limit), wanted)]
+
+
+def files_of_others(program):
+    """A copy to a folder that may not be written. Root may write each, so the program runs as another there."""
+    with tempfile.TemporaryDirectory() as folder:
+        filled(folder, {"one": CLASSIC, "two": OLD})
+        os.chmod(folder, 0o555)
+        other = {"user": 65_534} if os.getuid() == 0 else {}
+        found = run_apart(program, ["-w", "two", "one"], b"", cwd=folder, **other)
+        files = contents(folder)
+        os.chmod(folder, 0o755)
+    wanted = ("", not_written("two", ": permission denied"), 4), {"one": CLASSIC, "two": OLD}
+    return [("a copy to a folder of others", (found, files), wanted)]
+
+
+def until(holds):
+    """Waits some seconds until something holds, and says whether it does."""
+    for _ in range(1_000):
+        if holds():
+            return True
+        time.sleep(0.01)
+    return False
+
+
+def killed_runs(program):
+    """A run that is killed amid a copy, and the one after it."""
+    with tempfile.TemporaryDirectory() as folder:
+        filled(folder, {"two": OLD})
+        part = os.path.join(folder, "two.part")
+        with subprocess.Popen([program, "-w", "two"], stdin=subprocess.PIPE, cwd=folder, bufsize=0) as child:
+            child.stdin.write(LONG[:-1])
+            has_begun = until(lambda: os.path.exists(part) and os.path.getsize(part) > 60_000)
+            child.kill()
+            status = child.wait()
+        files = contents(folder)
+        has_part = LONG.startswith(files.pop("two.part", b"none"))
+        again = run_apart(program, ["-w", "two"], LONG, cwd=folder)
+        files_again = contents(folder)
+    return [
+        ("a copy that is killed", (has_begun, status, has_part, files), (True, -signal.SIGKILL, True, {"two": OLD})),
+        ("a copy after it", (again, files_again["two"] == LONG, len(files_again)), (("", "", 0), True, 2)),
+    ]
+
+
+def modes(program):
+    """What may be done with a file before and after it gets a copy."""
+    with tempfile.TemporaryDirectory() as folder:
+        filled(folder, {"two": OLD})
+        os.chmod(os.path.join(folder, "two"), 0o640)
+        run_apart(program, ["-w", "two"], CLASSIC, cwd=folder)
+        return [("who may read a copy", os.stat(os.path.join(folder, "two")).st_mode & 0o777, 0o640)]
+
+
+def to_nobody(program, words, given):
+    """What the program says, and its status, if nobody reads what it prints."""
+    gone, end = os.pipe()
+    os.close(gone)
+    with os.fdopen(end, "wb") as out:
+        ran = subprocess.run([program, *words], input=given, stdout=out, stderr=subprocess.PIPE, check=False)
+    return ran.stderr.decode(), ran.returncode
+
+
+def closed_pipes(program):
+    """Output that nobody reads, from the start or any more."""
+    heads = {}
+    for name, words in (("lines", ""), ("walks", "--plain"), ("selected packets", "--select 'not arp or arp'")):
+        heads[name] = subprocess.run(f"'{program}' {words} | head -n 1", shell=True, input=LONG, capture_output=True, check=False)
+    tried = [(f"the first of the {name}", (ran.stdout.count(b"\n"), ran.stderr), (1, b"")) for name, ran in heads.items()]
+    for words in ([], ["--plain"], ["--write"], ["-w", "-"], ["--help"], ["--version"], ["-r", "-"], ["/dev/stdin", "/dev/stdin"]):
+        tried.append((f"nobody reads {words}", to_nobody(program, words, CLASSIC), ("", 4)))
+    tried.append(("nobody reads, and a file is not there", to_nobody(program, ["no", "/dev/stdin"], CLASSIC), ("no" + NO_FILE, 4)))
+    tried.append(("nobody reads what is not printed", to_nobody(program, ["no"], CLASSIC), ("no" + NO_FILE, 4)))
+    tried.append(("nobody reads lines, and a record is cut", to_nobody(program, [], CLASSIC[:120]), ("", 4)))
+    return tried
+
+
+def streams(program):
+    tried = [("a copy to standard output by its name", copied(program, ["-w", "-"], CLASSIC), (CLASSIC, "", 0))]
+    for name, words, given, files, text, said, status, changed in COPIES + READS:
+        found = done(program, words, given, files)
+        tried.append((f"-w or -r: {name}", found, (text, said, status, {**files, **changed})))
+    return [*tried, *files_too_large(program), *files_of_others(program), *killed_runs(program), *modes(program), *closed_pipes(program)]
