@@ -82,6 +82,9 @@ ARTEFACTS = {
         "ether_content/src/laws.rt": ["edits_are_one", "edits_are_some", "edits_grow", "popped_after_pushed",
                                       "cut_once", "set_back"],
     },
+    "Packets as JSON": {
+        "ether_format/src/packet.rt": ["write_packet"],
+    },
     "Captures": {
         "ether_stream/src/run.rt": ["run"],
         "ether_stream/src/laws.rt": ["runs_compose"],
@@ -173,6 +176,10 @@ ORDER = {
     "Captured packets": """
         ether_sll2: LinuxSll2
         ether_content: Content ContentViews Selecting Headers Editing EditingViews
+    """,
+    "Packets as JSON": """
+        ether_text: OutputBuffer Decimals
+        ether_format: Calendar Members Told Spelling Json Texts
     """,
     "Captures": """
         ether_pcap: Capture

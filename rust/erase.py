@@ -18,7 +18,7 @@ HERE = os.path.dirname(os.path.abspath(__file__))
 CRATES = os.path.join(os.path.dirname(HERE), "crates")
 NAME = "etherpeel"
 CALLS, CALLS_NAME = "ether_c", "etherpeel_c"
-PROGRAMS, PROGRAMS_NAME = ["ether_text", "ether_stream", "ether_capture"], "ether_tools"  # what the programs are made of
+PROGRAMS, PROGRAMS_NAME = ["ether_text", "ether_format", "ether_stream", "ether_capture"], "ether_tools"  # what the programs are made of
 # What stands in the place of sources that take the runtime or an allocator.
 BY_HAND = [f"{PROGRAMS_NAME}/src/{path}.rs" for path in (
     "ether_text/noted", *(f"ether_capture/{it}" for it in ("copy_files", "heap_memory", "interface_buffer", "memory", "opening", "options")),

@@ -22,9 +22,10 @@ from capture_copies import copied, copies, copies_of_copies, copies_that_fail, l
 from capture_files import several
 from capture_limits import limits
 from capture_streams import streams
+from json_lines import examples
 from programs import count, on_a_full_disk, run, run_apart, run_until_a_fault, without_memory
 
-USAGE = ("usage: ether_capture [[--plain] [--limit N] | --write [-w COPY] [--cut-to-headers | --pop-vlan | --push-vlan TPID:ID | --set-vlan A:B]] "
+USAGE = ("usage: ether_capture [[--plain | --format lines|json] [--limit N] | --write [-w COPY] [--cut-to-headers | --pop-vlan | --push-vlan TPID:ID | --set-vlan A:B]] "
          "[--select EXPR [--undecided keep|drop]] [-c N] [-r FILE | FILE..]\n")
 
 
@@ -406,7 +407,7 @@ def main():
     tried += several(program)
     tried += limits(program)
     tried += reasons(program)
-    tried += streams(program)
+    tried += streams(program) + examples(program)
     tried += copies(program)
     tried += copies_of_copies(program)
     tried += copies_that_fail(program)

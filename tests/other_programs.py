@@ -1,4 +1,5 @@
-"""Tests what the programs write with the programs that read it: libpcap by tcpdump, Wireshark's reader by tshark, and captures of dumpcap.
+"""Tests what the programs write with the programs that read it: libpcap by tcpdump, Wireshark's reader by tshark, captures of dumpcap, and
+JSON by jq, Miller and pandas.
 
     python3 tests/other_programs.py PROGRAM
 
@@ -16,6 +17,7 @@ import time
 from shutil import which
 
 from captures import TAGGED_V1, block, classic, cooked, joined
+from json_lines import readers
 from programs import count
 
 PUSH = ["--write", "--push-vlan", "0x8100:5"]
@@ -159,7 +161,7 @@ def live(program):
 def main():
     program = os.path.realpath(sys.argv[1])
     tried = []
-    for needed, tests in (("tcpdump", snap_lengths), ("tshark", sections), ("tshark", cooked_headers), ("dumpcap", live)):
+    for needed, tests in (("tcpdump", snap_lengths), ("tshark", sections), ("tshark", cooked_headers), ("tshark", readers), ("dumpcap", live)):
         missing = [it for it in {needed, "tcpdump"} if not which(it)]
         if missing:
             print(f"left out: {tests.__name__.replace('_', ' ')}, since there is no {' and no '.join(missing)}")

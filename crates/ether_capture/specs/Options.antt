@@ -12,7 +12,8 @@ use Rattle.ether_filter.specs.Refusals.{RefusesText}
 use Rattle.ether_filter.specs.declared.filter_error.FilterError.{FilterError}
 use Rattle.ether_content.specs.Editing.{EditValue}
 use Rattle.ether_content.specs.EditingViews.{edit_view}
-use Rattle.ether_stream.specs.Words.{IsCount, IsIfAny, IsLimit, IsOneEdit, IsSelection, MeansUndecided}
+use Rattle.ether_format.specs.declared.format.Format.{Format}
+use Rattle.ether_stream.specs.Words.{IsCount, IsFormat, IsIfAny, IsLimit, IsOneEdit, IsSelection, MeansUndecided}
 use Rattle.ether_pcap.specs.CopiedUnits.{ModeValue, Exact, Changed}
 use Rattle.ether_stream.specs.Copying.{growth_if}
 use Rattle.ether_stream.specs.declared.selection.Selection.{Selection}
@@ -79,7 +80,7 @@ file_rule = record (new_rule (codes "file")) { action = Some Append }
 abbrev pub capture_rules : List Rule
 capture_rules = flag_rule (codes "plain") ∷ flag_rule (codes "write") ∷ flag_rule (codes "cut-to-headers") ∷ flag_rule (codes "pop-vlan")
     ∷ option_rule (codes "push-vlan") ∷ option_rule (codes "set-vlan") ∷ option_rule (codes "select") ∷ option_rule (codes "undecided")
-    ∷ option_rule (codes "limit") ∷ letter_rule (codes "count") 99 ∷ letter_rule (codes "read") 114 ∷ letter_rule (codes "output") 119
+    ∷ option_rule (codes "limit") ∷ option_rule (codes "format") ∷ letter_rule (codes "count") 99 ∷ letter_rule (codes "read") 114 ∷ letter_rule (codes "output") 119
     ∷ file_rule ∷ []  -- the letters are c, r and w
 
 -- .. with `--help` and `--version`, which `clap` adds
@@ -97,6 +98,7 @@ pub record AskedValue : Type 0 where
   pub undecided : Option Undecided
   pub count : Option ℕ
   pub limit : Option ℕ
+  pub format : Option Format
   pub input : Option Text
   pub output : Option Text
   pub files : List Text
@@ -119,6 +121,7 @@ pub record Asks (rows : List Row) (a : AskedValue) : Type 0 where
   pub undecided : IsIfAny MeansUndecided (first_of (codes "undecided") rows) a.undecided
   pub count : IsIfAny IsCount (first_of (codes "count") rows) a.count
   pub limit : IsIfAny IsLimit (first_of (codes "limit") rows) a.limit
+  pub format : IsFormat (first_of (codes "format") rows) a.format
   pub input : a.input ≡ first_of (codes "read") rows
   pub output : a.output ≡ first_of (codes "output") rows
   pub files : a.files ≡ unwrap_or (all_of (codes "file") rows) []
@@ -139,16 +142,17 @@ abbrev pub is_any : List Text → Bool
 is_any [] = false
 is_any (name ∷ names) = true
 
--- an option is asked for that does not go with the others: no copy is plain, has a limit or is of several files; no packet is edited without
--- a copy; none is undecided without a filter; and with `-r` no other file is named
+-- an option is asked for that does not go with the others: no copy is plain, has a limit or a format, or is of several files; no packet is
+-- edited without a copy; lines alone are plain; none is undecided without a filter; and with `-r` no other file is named
 abbrev pub clashes : AskedValue → Bool
 clashes a =
-    (if makes_copy a then a.plain || (is_some a.limit || are_several a.files) else is_some a.edit)
+    (if makes_copy a then a.plain || (is_some a.limit || (is_some a.format || are_several a.files))
+    else is_some a.edit || (a.plain && is_some a.format))
     || ((is_some a.undecided && not (is_some a.text)) || (is_some a.input && is_any a.files))
 
--- which lines are asked for
+-- which lines are asked for; no totals stand among those of another format
 abbrev pub options_of : AskedValue → LineOptions
-options_of a = record { is_plain = a.plain; limit = a.limit; before = None }
+options_of a = record { is_plain = a.plain || is_some a.format; format = a.format; limit = a.limit; before = None }
 
 -- a copy is exact if all packets are copied, and none is edited; else it is another capture, in which packets may have grown
 abbrev pub mode_of : AskedValue → ModeValue
@@ -214,6 +218,7 @@ MeansNothing rows usages.Edit = (e : Option EditValue) → ¬ (IsEdit rows e)
 MeansNothing rows usages.Count = (n : Option ℕ) → ¬ (IsIfAny IsCount (first_of (codes "count") rows) n)
 MeansNothing rows usages.Limit = (n : Option ℕ) → ¬ (IsIfAny IsLimit (first_of (codes "limit") rows) n)
 MeansNothing rows usages.Undecided = (u : Option Undecided) → ¬ (IsIfAny MeansUndecided (first_of (codes "undecided") rows) u)
+MeansNothing rows usages.Format = (f : Option Format) → ¬ (IsFormat (first_of (codes "format") rows) f)
 MeansNothing rows usages.Words = ⊥
 MeansNothing rows usages.Clash = ⊥
 
@@ -261,6 +266,7 @@ asked_view asked = record {
   undecided = asked.undecided;
   count = option_map non_zero_usize_get asked.count;
   limit = asked.limit;
+  format = asked.format;
   input = option_map (λ s. s.now) asked.input;
   output = option_map (λ s. s.now) asked.output;
   files = map (λ s. s.now) asked.files.items;

@@ -8,6 +8,7 @@ ghost use Rattle.ether_capture.specs.Options.{IsRequestOf, RefusesAsked, are_sev
 
 use ether_content::PacketEdit;
 use ether_filter::{Filter, FilterError};
+use ether_format::Format;
 use ether_pcap::CopyMode;
 use ether_stream::{Form, LineOptions, Selection, Task, Undecided, Usage, filter_of};
 use std::num::NonZeroUsize;
@@ -80,6 +81,7 @@ pub(crate) struct Asked<'a> {
     pub(crate) undecided: Option<Undecided>,
     pub(crate) count: Option<NonZeroUsize>,
     pub(crate) limit: Option<usize>,
+    pub(crate) format: Option<Format>,
     pub(crate) input: Option<&'a str>,
     pub(crate) output: Option<&'a str>,
     pub(crate) files: Vec<&'a str>,
@@ -111,9 +113,9 @@ impl<'a> Asked<'a> {
             return true;
         }
         if self.is_copy() {
-            self.is_plain || self.limit.is_some() || self.has_several()
+            self.is_plain || self.limit.is_some() || self.format.is_some() || self.has_several()
         } else {
-            self.edit.is_some()
+            self.edit.is_some() || self.is_plain && self.format.is_some()
         }
     }
 
@@ -221,7 +223,8 @@ impl<'a> Asked<'a> {
         ensures { result ≡ options_of (asked_view self.now) }
     {
         LineOptions {
-            is_plain: self.is_plain,
+            is_plain: self.is_plain || self.format.is_some(),
+            format: self.format,
             limit: self.limit,
             before: None,
         }

@@ -10,7 +10,7 @@ use crate::asked::{Asked, Request, RequestError};
 use clap::error::ErrorKind;
 use clap::{Arg, ArgAction, ArgMatches, Command};
 use ether_content::PacketEdit;
-use ether_stream::{Usage, count_of, edit_of_words, limit_of, undecided_of};
+use ether_stream::{Usage, count_of, edit_of_words, format_of, limit_of, undecided_of};
 use std::alloc::{AllocError, Global};
 use std::env;
 
@@ -67,6 +67,7 @@ fn command<'a>(alloc: Global) -> Result<Command<'a>, AllocError>
         .arg(option(alloc, "select"))?
         .arg(option(alloc, "undecided"))?
         .arg(option(alloc, "limit"))?
+        .arg(option(alloc, "format"))?
         .arg(letter(alloc, "count", 'c'))?
         .arg(letter(alloc, "read", 'r'))?
         .arg(letter(alloc, "output", 'w'))?
@@ -76,7 +77,7 @@ fn command<'a>(alloc: Global) -> Result<Command<'a>, AllocError>
 
 /// What the program's arguments ask for. The first of them is its own name.
 ///
-/// Options go before, between and after the names of files: `--plain` and `--limit` with a number of headers; or `--write`, or `-w` with the name
+/// Options go before, between and after the names of files: `--plain`, `--limit` with a number of headers and `--format` with `lines` or `json`; or `--write`, or `-w` with the name
 /// of the copy, and with it one of `--cut-to-headers`, `--pop-vlan`, `--push-vlan` with a tag and `--set-vlan` with two identifiers; `--select`
 /// with the text of a filter, and with it `--undecided` with `keep` or `drop`; `-c` with a number of packets; and `-r` with the name of the only
 /// file. `--help` and `--version` need no others.
@@ -113,6 +114,7 @@ impl<'a> Asked<'a> {
         let edit = edit_of(matches)?;
         let count = count_of(text_of(matches, "count"))?;
         let limit = limit_of(text_of(matches, "limit"))?;
+        let format = format_of(text_of(matches, "format"))?;
         let undecided = undecided_of(text_of(matches, "undecided"))?;
         let files = names_of(matches, alloc)?;
         Ok(Asked {
@@ -123,6 +125,7 @@ impl<'a> Asked<'a> {
             undecided,
             count,
             limit,
+            format,
             input: text_of(matches, "read"),
             output: text_of(matches, "output"),
             files,

@@ -126,8 +126,7 @@ pub record WritesTold {W : Type 0} (contents : W → Option (List ℕ)) (can_fai
       ≡ text ++ told_text format is_first (told_stack at frame window left) (told_end at ending)
 
 module _ {W : Type 0} (contents : W → Option (List ℕ)) (can_fail : Type 0) (format : Format) (first : Bool) (at : ℕ) (x : Expectation)
-  (frame : List ℕ) where
-
+    (frame : List ℕ) where
   pub walk_starts : (s : State) (out : OutputBuffer W) (all : List Header) (ending : Ending) → Walk x frame all ending
       → Faces frame (whole x frame) s all ending → s.over ≡ false
       → WritesTold contents can_fail format first at x frame first s out out

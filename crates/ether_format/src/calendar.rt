@@ -11,7 +11,9 @@ const DAYS_BEFORE_1970: u64 = 719_162;
 
 /// The days of four centuries, of one that does not end with a leap year, and of four years with a leap year.
 const DAYS_OF_400_YEARS: u64 = 146_097;
+
 const DAYS_OF_100_YEARS: u64 = 36_524;
+
 const DAYS_OF_4_YEARS: u64 = 1_461;
 
 /// The moment of a time.

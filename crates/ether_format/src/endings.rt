@@ -140,7 +140,10 @@ fn linux_sll_cause(error: &err::linux_sll::HeaderError) -> [Member<'static>; 5]
             valued_cause("sll_packet_type", Value::Number(u64::from(*packet_type)))
         }
         err::linux_sll::HeaderError::UnsupportedArpHardwareId { arp_hardware_type } => {
-            valued_cause("sll_hardware_type", Value::Number(u64::from(arp_hardware_type.0)))
+            valued_cause(
+                "sll_hardware_type",
+                Value::Number(u64::from(arp_hardware_type.0)),
+            )
         }
     }
 }

@@ -13,10 +13,10 @@ ghost use Rattle.ether_format.specs.Members.{Bytes, Number, Time, Protocol, arp_
 ghost use Rattle.ether_format.specs.Told.{placed_members};
 ghost use Rattle.ether_format.specs.Walking.{keyed, keyed_view, others, place_view, value_view};
 
+use crate::Moment;
 use crate::place::Place;
 use crate::spelling::first_of;
 use crate::value::{Member, Value};
-use crate::Moment;
 use ether_content::CookedHeader;
 use ether_pcap::CapturedPacket;
 use ether_sll2::LinuxSll2Slice;
@@ -97,14 +97,8 @@ pub(crate) fn vlan<'a>(slice: &SingleVlanSlice<'_>) -> [Member<'a>; 4]
             ",\"pcp\":",
             usize::from(slice.priority_code_point().value()),
         ),
-        number(
-            ",\"dei\":",
-            usize::from(slice.drop_eligible_indicator()),
-        ),
-        number(
-            ",\"vid\":",
-            usize::from(slice.vlan_identifier().value()),
-        ),
+        number(",\"dei\":", usize::from(slice.drop_eligible_indicator())),
+        number(",\"vid\":", usize::from(slice.vlan_identifier().value())),
         ether_type(",\"type\":", slice.ether_type()),
     ]
 }
@@ -202,10 +196,7 @@ pub(crate) fn linux_sll<'a>(slice: &'a LinuxSllSlice<'_>) -> [Member<'a>; 5]
             ",\"packet_type\":",
             usize::from(u16::from(slice.packet_type())),
         ),
-        number(
-            ",\"hw_type\":",
-            usize::from(slice.arp_hardware_type().0),
-        ),
+        number(",\"hw_type\":", usize::from(slice.arp_hardware_type().0)),
         number(
             ",\"addr_len\":",
             usize::from(slice.sender_address_valid_length()),
@@ -217,7 +208,10 @@ pub(crate) fn linux_sll<'a>(slice: &'a LinuxSllSlice<'_>) -> [Member<'a>; 5]
                 usize::from(slice.sender_address_valid_length()),
             ),
         ),
-        member(",\"protocol\":", Value::Protocol(u16::from(slice.protocol_type()))),
+        member(
+            ",\"protocol\":",
+            Value::Protocol(u16::from(slice.protocol_type())),
+        ),
     ]
 }
 
@@ -229,7 +223,10 @@ pub(crate) fn cooked<'a>(header: &'a CookedHeader) -> [Member<'a>; 5]
         number(",\"packet_type\":", usize::from(header.packet_type)),
         number(",\"hw_type\":", usize::from(header.hardware_type.0)),
         number(",\"addr_len\":", usize::from(header.address_len)),
-        member(",\"addr\":", Value::Bytes(used(&header.address, usize::from(header.address_len)))),
+        member(
+            ",\"addr\":",
+            Value::Bytes(used(&header.address, usize::from(header.address_len))),
+        ),
         ether_type(",\"protocol\":", header.protocol),
     ]
 }
@@ -247,12 +244,12 @@ pub(crate) fn linux_sll2<'a>(packet: &'a LinuxSll2Slice<'_>) -> [Member<'a>; 6]
     ensures { map keyed_view result ≡ others (linux_sll2_members (linux_sll2_of packet.now)) }
 {
     [
-        member(",\"protocol\":", Value::Protocol(u16::from(packet.protocol_type()))),
-        number(",\"if_index\":", packet.interface_index() as usize),
-        number(
-            ",\"hw_type\":",
-            usize::from(packet.arp_hardware_type().0),
+        member(
+            ",\"protocol\":",
+            Value::Protocol(u16::from(packet.protocol_type())),
         ),
+        number(",\"if_index\":", packet.interface_index() as usize),
+        number(",\"hw_type\":", usize::from(packet.arp_hardware_type().0)),
         number(
             ",\"packet_type\":",
             usize::from(u16::from(packet.packet_type())),
@@ -272,7 +269,11 @@ pub(crate) fn linux_sll2<'a>(packet: &'a LinuxSll2Slice<'_>) -> [Member<'a>; 6]
 }
 
 /// The members of a packet.
-pub(crate) fn packet<'a>(number_of: usize, packet: &CapturedPacket<'_>, moment: Option<Moment>) -> [Member<'a>; 5]
+pub(crate) fn packet<'a>(
+    number_of: usize,
+    packet: &CapturedPacket<'_>,
+    moment: Option<Moment>,
+) -> [Member<'a>; 5]
     ensures { map keyed_view result ≡ keyed (packet_members number_of (captured_packet_view packet.now) moment) }
 {
     [

@@ -11,12 +11,11 @@ ghost use Rattle.ether_format.specs.Walking.{AnswersContent, AnswersCookedV2, pl
 
 use crate::calendar::moment_of;
 use crate::json::write_members;
-use crate::members;
 use crate::place::Place;
 use crate::walk::write_walk;
 use crate::write_end::{write_linux_sll2_fault, write_rest, write_skipped};
 use crate::write_header::{write_cooked, write_linux_sll2};
-use crate::{Format, Moment};
+use crate::{Format, Moment, members};
 use ether_content::{Content, CookedHeader};
 use ether_pcap::{CapturedPacket, Timestamp};
 use ether_peel::{RestKind, Start};

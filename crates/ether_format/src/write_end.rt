@@ -22,18 +22,18 @@ pub(crate) fn write_rest<W: Sink>(
 )
     ensures { Takes W.contents W.can_fail out.old (end_text Json (Rest start end kind)) out.new }
 {
-        out.append(b"],\"rest\":");
-        write_object(&endings::rest(start, end, kind), &[], out);
-        out.append(b"}\n");
+    out.append(b"],\"rest\":");
+    write_object(&endings::rest(start, end, kind), &[], out);
+    out.append(b"}\n");
 }
 
 /// Writes that a packet of so many bytes is of a link type that the walk does not know.
 pub(crate) fn write_skipped<W: Sink>(len: usize, out: &mut OutputBuffer<'_, W>)
     ensures { Takes W.contents W.can_fail out.old (end_text Json (Skipped len)) out.new }
 {
-        out.append(b"],\"rest\":");
-        write_object(&endings::skipped(len), &[], out);
-        out.append(b"}\n");
+    out.append(b"],\"rest\":");
+    write_object(&endings::skipped(len), &[], out);
+    out.append(b"}\n");
 }
 
 /// Writes a fault.
@@ -45,23 +45,20 @@ pub(crate) fn write_fault<W: Sink>(
 )
     ensures { Takes W.contents W.can_fail out.old (end_text Json (Fault start closed (cause_shown error.now))) out.new }
 {
-        out.append(b"],\"fault\":");
-        write_object(&endings::fault(start, closed), &endings::cause(error), out);
-        out.append(b"}\n");
+    out.append(b"],\"fault\":");
+    write_object(&endings::fault(start, closed), &endings::cause(error), out);
+    out.append(b"}\n");
 }
 
 /// Writes the fault of a header of cooked capture v2.
-pub(crate) fn write_linux_sll2_fault<W: Sink>(
-    error: &LinuxSll2Error,
-    out: &mut OutputBuffer<'_, W>,
-)
+pub(crate) fn write_linux_sll2_fault<W: Sink>(error: &LinuxSll2Error, out: &mut OutputBuffer<'_, W>)
     ensures { Takes W.contents W.can_fail out.old (end_text Json (Fault 0 false (cause_of_v2 (refusal_view error.now)))) out.new }
 {
-        out.append(b"],\"fault\":");
-        write_object(
-            &endings::fault(0, false),
-            &endings::linux_sll2_cause(error),
-            out,
-        );
-        out.append(b"}\n");
+    out.append(b"],\"fault\":");
+    write_object(
+        &endings::fault(0, false),
+        &endings::linux_sll2_cause(error),
+        out,
+    );
+    out.append(b"}\n");
 }

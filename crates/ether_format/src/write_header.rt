@@ -27,8 +27,8 @@ pub(crate) fn write_header<W: Sink>(
 )
     ensures { Takes W.contents W.can_fail out.old (header_text Json is_first (told_view place unit.now)) out.new }
 {
-        write_comma(is_first, out);
-        write_json_header(place, unit, out);
+    write_comma(is_first, out);
+    write_json_header(place, unit, out);
 }
 
 /// Writes a comma, but not before the first header.
@@ -79,8 +79,8 @@ pub(crate) fn write_cooked<W: Sink>(
     ensures { Takes W.contents W.can_fail out.old
         (header_text Json true (Walked (place_view place) (headers.LinuxSll (cooked_view header.now)) None)) out.new }
 {
-        let first = members::placed("sll", place);
-        write_object(&first, &members::cooked(header), out);
+    let first = members::placed("sll", place);
+    write_object(&first, &members::cooked(header), out);
 }
 
 /// Writes the first header of a packet, one of cooked capture v2.
@@ -91,6 +91,6 @@ pub(crate) fn write_linux_sll2<W: Sink>(
 )
     ensures { Takes W.contents W.can_fail out.old (header_text Json true (CookedV2 (place_view place) (linux_sll2_of packet.now))) out.new }
 {
-        let first = members::placed("sll2", place);
-        write_object(&first, &members::linux_sll2(packet), out);
+    let first = members::placed("sll2", place);
+    write_object(&first, &members::linux_sll2(packet), out);
 }

@@ -8,6 +8,9 @@ use Rattle.ether_stream.specs.declared.selection.Selection.{Selection}
 use Rattle.ether_text.specs.Lines.{spaced, linux_sll_text}
 use Rattle.ether_text.specs.WalkText.{AnswersWalk, AnswersWalkAfter}
 use Rattle.ether_pcap.specs.Capture.{PacketValue, TimeValue}
+use Rattle.ether_format.specs.Spelling.{nine_digits}
+use Rattle.ether_format.specs.Texts.{HasText}
+use Rattle.ether_format.specs.declared.format.Format.{Format}
 use Rattle.ether_stream.specs.LinuxSll2Lines.{AnswersLinuxSll2}
 use Rattle.ether_stream.specs.Task.{IsChosen}
 use Rattle.ether_stream.specs.declared.task.LineOptions.{LineOptions}
@@ -17,11 +20,6 @@ abbrev pub is_skipped : PacketValue → Bool
 is_skipped p = is_unknown (content_of p)
 
 -- ---- the line of the packet
-
--- a number below a thousand million as nine decimal digits
-unfoldable pub nine_digits : ℕ → List ℕ
-nine_digits n =
-    (48 + n / 10 ^ 8 % 10) ∷ (48 + n / 10 ^ 7 % 10) ∷ (48 + n / 10 ^ 6 % 10) ∷ (48 + n / 10 ^ 5 % 10) ∷ (48 + n / 10 ^ 4 % 10) ∷ (48 + n / 10 ^ 3 % 10) ∷ (48 + n / 10 ^ 2 % 10) ∷ (48 + n / 10 % 10) ∷ (48 + n % 10) ∷ []
 
 -- seconds since the beginning of 1970, UTC, with nine decimals
 unfoldable pub time_text : Option TimeValue → List ℕ
@@ -62,11 +60,19 @@ AnswersContent limit (LinuxSll s payload) text accepted = AnswersLinuxSll limit 
 AnswersContent limit (LinuxSll2 bytes) text accepted = AnswersLinuxSll2 limit bytes text accepted
 AnswersContent limit Unknown text accepted = (text ≡ []) × (accepted ≡ true)
 
--- the text for a packet of this number
-pub record HasLines (options : LineOptions) (number : ℕ) (p : PacketValue) (text : List ℕ) (accepted : Bool) : Type 0 where
+-- the lines of a packet of this number, as the walk is told
+pub record HasWalkLines (options : LineOptions) (number : ℕ) (p : PacketValue) (text : List ℕ) (accepted : Bool) : Type 0 where
   pub lines : List ℕ
   pub content : AnswersContent options.limit (content_of p) lines accepted
   pub whole : text ≡ packet_line_if options.is_plain number p ++ lines
+
+-- the text for a packet of this number: these lines, or that of another format
+abbrev pub HasLinesIn : Option Format → (options : LineOptions) → ℕ → PacketValue → (text : List ℕ) → (accepted : Bool) → Type 0
+HasLinesIn None options number p text accepted = HasWalkLines options number p text accepted
+HasLinesIn (Some format) options number p text accepted = HasText format options.limit number p text accepted
+
+abbrev pub HasLines : (options : LineOptions) → ℕ → PacketValue → (text : List ℕ) → (accepted : Bool) → Type 0
+HasLines options = HasLinesIn options.format options
 
 -- .. if it is chosen
 abbrev pub AnswersPacket : (select : Option Selection) → (options : LineOptions) → ℕ → PacketValue → (text : List ℕ) → (accepted : Bool) → Type 0

@@ -6,6 +6,8 @@ use Rattle.ether_filter.specs.Numerals.{number_in}
 use Rattle.ether_filter.specs.Refusals.{RefusesText}
 use Rattle.ether_filter.specs.declared.filter_error.FilterError.{FilterError}
 use Rattle.ether_content.specs.Editing.{EditValue, CutToHeaders, PopVlan}
+use Rattle.ether_format.specs.declared.format.Format.{Format}
+use Rattle.ether_format.specs.declared.format.Format.TheVariants.{Json}
 use Rattle.ether_stream.specs.Tags.{IsTagEdit}
 use Rattle.ether_stream.specs.declared.selection.Undecided.{Undecided}
 use Rattle.ether_stream.specs.declared.selection.Undecided.TheVariants.{Dropped, Kept}
@@ -28,6 +30,12 @@ IsLimit text n = number_in text ≡ Some (Some n)
 abbrev pub MeansUndecided : List ℕ → Undecided → Type 0
 MeansUndecided text Kept = text ≡ codes "keep"
 MeansUndecided text Dropped = text ≡ codes "drop"
+
+-- the format of the text of packets, if it is another than lines
+abbrev pub IsFormat : Option (List ℕ) → Option Format → Type 0
+IsFormat None format = format ≡ None
+IsFormat (Some text) None = text ≡ codes "lines"
+IsFormat (Some text) (Some Json) = text ≡ codes "json"
 
 -- one edit at most
 abbrev pub IsOneEdit : (cuts pops : Bool) → (push set : Option (List ℕ)) → Option EditValue → Type 0

@@ -5,22 +5,22 @@ ghost use Rattle.ether_pcap.specs.CaptureViews.{captured_packet_view, timestamp_
 ghost use Rattle.ether_content.specs.Content.{content_of};
 ghost use Rattle.ether_content.specs.ContentViews.{content_view};
 ghost use Rattle.ether_text.specs.OutputBuffer.{Takes, TakesAnswer};
-ghost use Rattle.ether_stream.specs.FrameLines.{is_skipped, nine_digits, time_text, mark, packet_line_if, HasLines, told, told_if, totals_line_if, totals_line_after};
+ghost use Rattle.ether_stream.specs.FrameLines.{is_skipped, time_text, mark, packet_line_if, HasLines, HasWalkLines, told, told_if, totals_line_if, totals_line_after};
 ghost use Rattle.ether_stream.specs.Packets.{counted};
 
 use crate::LineOptions;
 use crate::linux_sll_lines::write_linux_sll;
 use crate::linux_sll2_lines::write_linux_sll2;
 use ether_content::{Content, CookedHeader, is_cut};
+use ether_format::{nine_digits, write_packet};
 use ether_pcap::{CapturedPacket, Timestamp};
 use ether_peel::Start;
 use ether_text::{OutputBuffer, Sink, eight_digits, write_decimal, write_walk_after};
 
-/// Writes the line of a packet unless only those of walks are asked for, and the lines of the walk through its headers. Returns whether the
-/// walk ends in no fault.
+/// Writes the text of a packet: its lines, or that of the format that is asked for. Returns whether the walk through its headers ends in no
+/// fault.
 ///
-/// The packet has the number after `count`, which is read only if it is written. A packet of another link type than Ethernet and Linux cooked
-/// capture is skipped: it has no lines of a walk.
+/// The packet has the number after `count`, which is read only if it is written.
 pub fn write_lines<W: Sink>(
     options: LineOptions,
     count: &usize,
@@ -28,6 +28,29 @@ pub fn write_lines<W: Sink>(
     out: &mut OutputBuffer<'_, W>,
 ) -> bool
     ensures { TakesAnswer W.contents W.can_fail (HasLines options (counted (count.now + 1)) (captured_packet_view packet.now))
+        out.old out.new result }
+{
+    match options.format {
+        None => write_walk_lines(options, count, packet, out),
+        Some(format) => {
+            let number = count.saturating_add(1);
+            write_packet(format, options.limit, number, packet, out)
+        }
+    }
+}
+
+/// Writes the line of a packet unless only those of walks are asked for, and the lines of the walk through its headers. Returns whether the
+/// walk ends in no fault.
+///
+/// A packet of another link type than Ethernet and Linux cooked capture is skipped: it has no lines of a walk.
+#[inline(always)]
+fn write_walk_lines<W: Sink>(
+    options: LineOptions,
+    count: &usize,
+    packet: &CapturedPacket<'_>,
+    out: &mut OutputBuffer<'_, W>,
+) -> bool
+    ensures { TakesAnswer W.contents W.can_fail (HasWalkLines options (counted (count.now + 1)) (captured_packet_view packet.now))
         out.old out.new result }
 {
     let content = Content::of(packet);
@@ -189,14 +212,4 @@ fn write_other_time<W: Sink>(time: Timestamp, out: &mut OutputBuffer<'_, W>)
     out.append(b".");
     out.append(&nine_digits(time.nanoseconds));
     out.append(b" link ");
-}
-
-/// The nine lowest decimal digits of a number.
-#[inline(always)]
-fn nine_digits(number: u32) -> [u8; 9]
-    ensures { result ≡ nine_digits number }
-{
-    let first = b'0' + (number / 100_000_000 % 10) as u8;
-    let d = eight_digits(u64::from(number));
-    [first, d[0], d[1], d[2], d[3], d[4], d[5], d[6], d[7]]
 }

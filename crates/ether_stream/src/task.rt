@@ -6,6 +6,7 @@ ghost use Rattle.ether_stream.specs.Task.{is_copy, packets_before, task_view, Is
 
 use crate::selection::Selection;
 use ether_content::PacketEdit;
+use ether_format::Format;
 use ether_pcap::{CapturedPacket, CopyMode};
 use std::num::NonZeroUsize;
 
@@ -39,6 +40,8 @@ pub enum Form {
 pub struct LineOptions {
     /// Whether those of packets and of totals are left out.
     pub is_plain: bool,
+    /// The format of its text, if it is another than lines: then the packet has its text in that format, and nothing else.
+    pub format: Option<Format>,
     /// How many VLAN tags and SecTags are read of a packet at most; `None` for all.
     pub limit: Option<usize>,
     /// How many packets were before, if the capture is one of several: then it has no line of totals.
@@ -52,6 +55,7 @@ impl LineOptions {
     {
         LineOptions {
             is_plain: self.is_plain,
+            format: self.format,
             limit: self.limit,
             before: Some(packets),
         }

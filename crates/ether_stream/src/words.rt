@@ -5,14 +5,16 @@ ghost use Rattle.std.specs.Option.{option_map};
 ghost use Rattle.ether_content.specs.Editing.{EditValue};
 ghost use Rattle.ether_content.specs.EditingViews.{edit_view};
 ghost use Rattle.ether_stream.specs.declared.selection.Undecided.{Undecided as UndecidedValue};
+ghost use Rattle.ether_format.specs.declared.format.Format.{Format as FormatValue};
 ghost use Rattle.ether_stream.specs.Outcome.{usage_text};
 ghost use Rattle.ether_stream.specs.Tags.{IsTagEdit, tag_word};
-ghost use Rattle.ether_stream.specs.Words.{IsCount, IsIfAny, IsLimit, IsOneEdit, IsSelection, MeansUndecided, RefusesSelection};
+ghost use Rattle.ether_stream.specs.Words.{IsCount, IsFormat, IsIfAny, IsLimit, IsOneEdit, IsSelection, MeansUndecided, RefusesSelection};
 
 use crate::selection::Undecided;
 use crate::tags::{TagEdit, small_number, tag_edit_of};
 use ether_content::PacketEdit;
 use ether_filter::{Filter, FilterError};
+use ether_format::Format;
 use std::num::NonZeroUsize;
 
 /// What is wrong with the words of a request.
@@ -30,6 +32,8 @@ pub enum Usage {
     Limit,
     /// What is to become of undecided packets is neither of the two.
     Undecided,
+    /// There is no such format.
+    Format,
 }
 
 impl Usage {
@@ -44,6 +48,7 @@ impl Usage {
             Usage::Count => "-c: expected a number from 1 to 4294967295",
             Usage::Limit => "--limit: expected a number up to 4294967295",
             Usage::Undecided => "--undecided: expected keep or drop",
+            Usage::Format => "--format: expected lines or json",
         }
     }
 }
@@ -127,6 +132,19 @@ pub fn undecided_of(text: Option<&str>) -> Result<Option<Undecided>, Usage>
         Some("keep") => Ok(Some(Undecided::Kept)),
         Some("drop") => Ok(Some(Undecided::Dropped)),
         Some(_) => Err(Usage::Undecided),
+    }
+}
+
+/// The format that a text names, if it is another than lines.
+pub fn format_of(text: Option<&str>) -> Result<Option<Format>, Usage>
+    ensures ok { IfOk result (IsFormat (option_map (λ s. s.now) text.entry)) }
+    ensures err { OnErr result ((f : Option FormatValue) → ¬ (IsFormat (option_map (λ s. s.now) text.entry) f)) }
+    ensures usage { IfErr result (λ usage. usage ≡ Usage.Format) }
+{
+    match text {
+        None | Some("lines") => Ok(None),
+        Some("json") => Ok(Some(Format::Json)),
+        Some(_) => Err(Usage::Format),
     }
 }
 

@@ -2,6 +2,7 @@
 
 use etherpeel::ether_content::PacketEdit;
 use etherpeel::ether_filter::{Filter, FilterError};
+use crate::ether_format::Format;
 use etherpeel::ether_pcap::CopyMode;
 use crate::ether_stream::{Form, LineOptions, Selection, Task, Undecided, Usage, filter_of};
 use std::num::NonZeroUsize;
@@ -69,6 +70,7 @@ pub(crate) struct Asked<'a> {
     pub(crate) undecided: Option<Undecided>,
     pub(crate) count: Option<NonZeroUsize>,
     pub(crate) limit: Option<usize>,
+    pub(crate) format: Option<Format>,
     pub(crate) input: Option<&'a str>,
     pub(crate) output: Option<&'a str>,
     pub(crate) files: Vec<&'a str>,
@@ -94,9 +96,9 @@ impl<'a> Asked<'a> {
             return true;
         }
         if self.is_copy() {
-            self.is_plain || self.limit.is_some() || self.has_several()
+            self.is_plain || self.limit.is_some() || self.format.is_some() || self.has_several()
         } else {
-            self.edit.is_some()
+            self.edit.is_some() || self.is_plain && self.format.is_some()
         }
     }
 
@@ -187,7 +189,8 @@ impl<'a> Asked<'a> {
     /// Which lines are asked for.
     fn options(&self) -> LineOptions {
         LineOptions {
-            is_plain: self.is_plain,
+            is_plain: self.is_plain || self.format.is_some(),
+            format: self.format,
             limit: self.limit,
             before: None,
         }

@@ -1,6 +1,6 @@
 //! What the arguments ask for, by their words, which `clap` reads. Written by hand, not proved.
 use crate::ether_capture::asked::{Asked, Request, RequestError};
-use crate::ether_stream::{Usage, count_of, edit_of_words, limit_of, undecided_of};
+use crate::ether_stream::{Usage, count_of, edit_of_words, format_of, limit_of, undecided_of};
 use crate::ether_capture::memory::Global;
 use clap::error::ErrorKind;
 use clap::{Arg, ArgAction, ArgMatches, Command, ValueHint};
@@ -14,12 +14,13 @@ const FLAGS: [(&str, &str); 4] = [
 ];
 
 /// Options with a value.
-const OPTIONS: [(&str, &str); 5] = [
+const OPTIONS: [(&str, &str); 6] = [
     ("push-vlan", "put a VLAN tag after the link's header, as 0x8100:5"),
     ("set-vlan", "give the outermost VLAN tag with identifier A identifier B, as A:B"),
     ("select", "only packets that match an expression"),
     ("undecided", "keep or drop packets that were cut too short to tell"),
     ("limit", "read so many VLAN tags and SecTags of each packet at most"),
+    ("format", "print lines, or each packet as an object of JSON: lines or json"),
 ];
 
 /// The program's arguments.
@@ -62,6 +63,7 @@ fn asked<'a>(matches: &ArgMatches, words: &'a [String]) -> Result<Asked<'a>, Usa
         undecided: undecided_of(text_of(matches, words, "undecided"))?,
         count: count_of(text_of(matches, words, "count"))?,
         limit: limit_of(text_of(matches, words, "limit"))?,
+        format: format_of(text_of(matches, words, "format"))?,
         input: text_of(matches, words, "read"),
         output: text_of(matches, words, "output"),
         files: texts_of(matches, words, "file"),

@@ -4,15 +4,15 @@ use crate::ether_stream::LineOptions;
 use crate::ether_stream::linux_sll_lines::write_linux_sll;
 use crate::ether_stream::linux_sll2_lines::write_linux_sll2;
 use etherpeel::ether_content::{Content, CookedHeader, is_cut};
+use crate::ether_format::{nine_digits, write_packet};
 use etherpeel::ether_pcap::{CapturedPacket, Timestamp};
 use etherpeel::ether_peel::Start;
 use crate::ether_text::{OutputBuffer, Sink, eight_digits, write_decimal, write_walk_after};
 
-/// Writes the line of a packet unless only those of walks are asked for, and the lines of the walk through its headers. Returns whether the
-/// walk ends in no fault.
+/// Writes the text of a packet: its lines, or that of the format that is asked for. Returns whether the walk through its headers ends in no
+/// fault.
 ///
-/// The packet has the number after `count`, which is read only if it is written. A packet of another link type than Ethernet and Linux cooked
-/// capture is skipped: it has no lines of a walk.
+/// The packet has the number after `count`, which is read only if it is written.
 ///
 /// <details><summary>Contract</summary>
 ///
@@ -23,6 +23,26 @@ use crate::ether_text::{OutputBuffer, Sink, eight_digits, write_decimal, write_w
 ///
 /// </details>
 pub fn write_lines<W: Sink>(
+    options: LineOptions,
+    count: &usize,
+    packet: &CapturedPacket<'_>,
+    out: &mut OutputBuffer<'_, W>,
+) -> bool {
+    match options.format {
+        None => write_walk_lines(options, count, packet, out),
+        Some(format) => {
+            let number = count.saturating_add(1);
+            write_packet(format, options.limit, number, packet, out)
+        }
+    }
+}
+
+/// Writes the line of a packet unless only those of walks are asked for, and the lines of the walk through its headers. Returns whether the
+/// walk ends in no fault.
+///
+/// A packet of another link type than Ethernet and Linux cooked capture is skipped: it has no lines of a walk.
+#[inline(always)]
+fn write_walk_lines<W: Sink>(
     options: LineOptions,
     count: &usize,
     packet: &CapturedPacket<'_>,
@@ -186,12 +206,4 @@ fn write_other_time<W: Sink>(time: Timestamp, out: &mut OutputBuffer<'_, W>) {
     out.append(b".");
     out.append(&nine_digits(time.nanoseconds));
     out.append(b" link ");
-}
-
-/// The nine lowest decimal digits of a number.
-#[inline(always)]
-fn nine_digits(number: u32) -> [u8; 9] {
-    let first = b'0' + (number / 100_000_000 % 10) as u8;
-    let d = eight_digits(u64::from(number));
-    [first, d[0], d[1], d[2], d[3], d[4], d[5], d[6], d[7]]
 }

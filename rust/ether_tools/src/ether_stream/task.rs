@@ -2,6 +2,7 @@
 
 use crate::ether_stream::selection::Selection;
 use etherpeel::ether_content::PacketEdit;
+use crate::ether_format::Format;
 use etherpeel::ether_pcap::{CapturedPacket, CopyMode};
 use std::num::NonZeroUsize;
 
@@ -35,6 +36,8 @@ pub enum Form {
 pub struct LineOptions {
     /// Whether those of packets and of totals are left out.
     pub is_plain: bool,
+    /// The format of its text, if it is another than lines: then the packet has its text in that format, and nothing else.
+    pub format: Option<Format>,
     /// How many VLAN tags and SecTags are read of a packet at most; `None` for all.
     pub limit: Option<usize>,
     /// How many packets were before, if the capture is one of several: then it has no line of totals.
@@ -54,6 +57,7 @@ impl LineOptions {
     pub fn after(self, packets: usize) -> LineOptions {
         LineOptions {
             is_plain: self.is_plain,
+            format: self.format,
             limit: self.limit,
             before: Some(packets),
         }

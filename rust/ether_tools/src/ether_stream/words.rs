@@ -4,6 +4,7 @@ use crate::ether_stream::selection::Undecided;
 use crate::ether_stream::tags::{TagEdit, small_number, tag_edit_of};
 use etherpeel::ether_content::PacketEdit;
 use etherpeel::ether_filter::{Filter, FilterError};
+use crate::ether_format::Format;
 use std::num::NonZeroUsize;
 
 /// What is wrong with the words of a request.
@@ -21,6 +22,8 @@ pub enum Usage {
     Limit,
     /// What is to become of undecided packets is neither of the two.
     Undecided,
+    /// There is no such format.
+    Format,
 }
 
 impl Usage {
@@ -33,6 +36,7 @@ impl Usage {
             Usage::Count => "-c: expected a number from 1 to 4294967295",
             Usage::Limit => "--limit: expected a number up to 4294967295",
             Usage::Undecided => "--undecided: expected keep or drop",
+            Usage::Format => "--format: expected lines or json",
         }
     }
 }
@@ -136,6 +140,25 @@ pub fn undecided_of(text: Option<&str>) -> Result<Option<Undecided>, Usage> {
         Some("keep") => Ok(Some(Undecided::Kept)),
         Some("drop") => Ok(Some(Undecided::Dropped)),
         Some(_) => Err(Usage::Undecided),
+    }
+}
+
+/// The format that a text names, if it is another than lines.
+///
+/// <details><summary>Contract</summary>
+///
+/// ```text
+/// ensures ok { IfOk result (IsFormat (option_map (λ s. s.now) text.entry)) }
+/// ensures err { OnErr result ((f : Option FormatValue) → ¬ (IsFormat (option_map (λ s. s.now) text.entry) f)) }
+/// ensures usage { IfErr result (λ usage. usage ≡ Usage.Format) }
+/// ```
+///
+/// </details>
+pub fn format_of(text: Option<&str>) -> Result<Option<Format>, Usage> {
+    match text {
+        None | Some("lines") => Ok(None),
+        Some("json") => Ok(Some(Format::Json)),
+        Some(_) => Err(Usage::Format),
     }
 }
 

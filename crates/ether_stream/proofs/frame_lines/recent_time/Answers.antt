@@ -1,5 +1,6 @@
 use Rattle.ether_text.specs.Decimals.{eight_digits}
-use Rattle.ether_stream.specs.FrameLines.{nine_digits, time_text}
+use Rattle.ether_format.specs.Spelling.{nine_digits}
+use Rattle.ether_stream.specs.FrameLines.{time_text}
 use Rattle.ether_stream.proofs.FrameLinesLemmas.{recent_time}
 use Rattle.ether_stream.proofs.frame_lines.recent_time.Goals as goal
 

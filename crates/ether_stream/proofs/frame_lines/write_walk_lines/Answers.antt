@@ -15,8 +15,8 @@ use Rattle.ether_content.specs.ContentViews.{cooked_view}
 use Rattle.ether_stream.specs.FrameLines.{AnswersContent, packet_line_if}
 use Rattle.ether_stream.specs.Packets.{counted}
 use Rattle.ether_stream.specs.LinuxSll2Lines.{AnswersPayload, linux_sll2_text, read}
-use Rattle.ether_stream.proofs.frame_lines.write_lines.Goals.{in-Frame, in-LinuxSll, in-LinuxSll2+in-Ok}
-use Rattle.ether_stream.proofs.frame_lines.write_lines.Goals as goal
+use Rattle.ether_stream.proofs.frame_lines.write_walk_lines.Goals.{in-Frame, in-LinuxSll, in-LinuxSll2+in-Ok}
+use Rattle.ether_stream.proofs.frame_lines.write_walk_lines.Goals as goal
 
 pub returns-in-Err : goal.returns-in-Err
 returns-in-Err g c =

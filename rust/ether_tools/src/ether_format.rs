@@ -1,0 +1,20 @@
+//! The text of a captured packet for other programs and for people, in one of several formats. No call allocates memory.
+
+mod calendar;
+mod endings;
+mod format;
+mod json;
+mod members;
+mod moment;
+mod packet;
+mod place;
+mod spelling;
+mod value;
+mod walk;
+mod write_end;
+mod write_header;
+
+pub use format::Format;
+pub use moment::Moment;
+pub use packet::write_packet;
+pub use spelling::nine_digits;

@@ -1,0 +1,148 @@
+//! Writes a captured packet in a format.
+
+use crate::ether_format::calendar::moment_of;
+use crate::ether_format::json::write_members;
+use crate::ether_format::place::Place;
+use crate::ether_format::walk::write_walk;
+use crate::ether_format::write_end::{write_linux_sll2_fault, write_rest, write_skipped};
+use crate::ether_format::write_header::{write_cooked, write_linux_sll2};
+use crate::ether_format::{Format, Moment, members};
+use etherpeel::ether_content::{Content, CookedHeader};
+use etherpeel::ether_pcap::{CapturedPacket, Timestamp};
+use etherpeel::ether_peel::{RestKind, Start};
+use etherpeel::ether_sll2::{LinuxSll2Header, LinuxSll2Slice};
+use crate::ether_text::{OutputBuffer, Sink};
+
+/// Writes a packet with its number in a format, and returns whether no header of it is refused.
+///
+/// With a limit no more than so many VLAN tags and SecTags are read.
+///
+/// ```
+/// # use etherpeel::*;
+/// # use etherpeel::ether_peel::*;
+/// # use etherpeel::ether_sll2::*;
+/// # use etherpeel::ether_packet::*;
+/// # use etherpeel::ether_filter::*;
+/// # use etherpeel::ether_pcap::*;
+/// # use etherpeel::ether_content::*;
+/// # use etherpeel::ether_switch::*;
+/// # use ether_tools::ether_format::*;
+/// # use arrayvec::ArrayVec;
+/// let packet = CapturedPacket {
+///     time: Some(Timestamp { seconds: 1_700_000_000, nanoseconds: 1_000 }),
+///     interface: None,
+///     original_len: 60,
+///     link_type: LinkType::ETHERNET,
+///     snap_len: 262_144,
+///     fcs_len: None,
+///     packet: &[0xFF, 0xFF, 0xFF, 0xFF, 0xFF, 0xFF, 2, 0, 0, 0, 0, 1, 0x08, 0x00],
+/// };
+/// let mut written = ArrayVec::<u8, 512>::new();
+/// let mut out = OutputBuffer::new(&mut written);
+/// assert!(write_packet(Format::Json, None, 1, &packet, &mut out));
+/// assert_eq!(out.flush(), Ok(()));
+/// assert_eq!(
+///     written.as_slice(),
+///     b"{\"number\":1,\"time\":\"2023-11-14T22:13:20.000001000Z\",\"link\":1,\"captured\":14,\"original\":60,\"headers\":[{\"header\":\"eth\",\
+/// \"start\":0,\"end\":14,\"payload_end\":14,\"closed\":false,\"dst\":\"ff:ff:ff:ff:ff:ff\",\"src\":\"02:00:00:00:00:01\",\"type\":2048,\
+/// \"fcs\":null}],\"rest\":{\"start\":14,\"end\":14,\"kind\":\"ether_type\",\"type\":2048}}\n".as_slice()
+/// );
+/// ```
+///
+/// <details><summary>Contract</summary>
+///
+/// ```text
+/// ensures { TakesAnswer W.contents W.can_fail (HasText format limit number (captured_packet_view packet.now))
+///     out.old out.new result }
+/// ```
+///
+/// </details>
+pub fn write_packet<W: Sink>(
+    format: Format,
+    limit: Option<usize>,
+    number: usize,
+    packet: &CapturedPacket<'_>,
+    out: &mut OutputBuffer<'_, W>,
+) -> bool {
+    match format {
+        Format::Json => {
+            write_front(number, packet, moment_if(packet.time), out);
+            write_content(limit, packet, out)
+        }
+    }
+}
+
+/// The moment of a time, if there is one.
+fn moment_if(time: Option<Timestamp>) -> Option<Moment> {
+    match time {
+        Some(time) => Some(moment_of(time)),
+        None => None,
+    }
+}
+
+/// Writes what comes before the headers of a packet.
+fn write_front<W: Sink>(
+    number: usize,
+    packet: &CapturedPacket<'_>,
+    moment: Option<Moment>,
+    out: &mut OutputBuffer<'_, W>,
+) {
+    write_members(&members::packet(number, packet, moment), out);
+    out.append(b",\"headers\":[");
+}
+
+/// Writes the headers of a packet, and how the walk through them ends.
+fn write_content<W: Sink>(
+    limit: Option<usize>,
+    packet: &CapturedPacket<'_>,
+    out: &mut OutputBuffer<'_, W>,
+) -> bool {
+    match Content::of(packet) {
+        Content::Frame(start, bytes) => write_walk(true, 0, start, limit, bytes, out),
+        Content::LinuxSll(header, payload) => {
+            let len = CookedHeader::LEN + payload.len();
+            write_cooked(cooked_place(CookedHeader::LEN, len), &header, out);
+            let start = Start::EtherType(header.protocol);
+            write_walk(false, CookedHeader::LEN as u8, start, limit, payload, out)
+        }
+        Content::LinuxSll2(bytes) => write_cooked_v2(limit, bytes, out),
+        Content::Unknown => {
+            write_skipped(packet.packet.len(), out);
+            true
+        }
+    }
+}
+
+/// Writes the headers of a packet of cooked capture v2, and how the walk through them ends.
+fn write_cooked_v2<W: Sink>(
+    limit: Option<usize>,
+    bytes: &[u8],
+    out: &mut OutputBuffer<'_, W>,
+) -> bool {
+    let packet = match LinuxSll2Slice::from_slice(bytes) {
+        Ok(packet) => packet,
+        Err(error) => {
+            write_linux_sll2_fault(&error, out);
+            return false;
+        }
+    };
+    let len = LinuxSll2Header::LEN;
+    write_linux_sll2(cooked_place(len, bytes.len()), &packet, out);
+    match packet.start() {
+        Some(start) => write_walk(false, len as u8, start, limit, packet.payload_slice(), out),
+        None => {
+            write_rest(len, bytes.len(), RestKind::Sll(packet.protocol_type()), out);
+            true
+        }
+    }
+}
+
+/// The place of a cooked header at the front of so many bytes.
+fn cooked_place(header_len: usize, len: usize) -> Place {
+    Place {
+        start: 0,
+        header_end: header_len,
+        payload_end: len,
+        closed: false,
+    }
+}

@@ -1,0 +1,174 @@
+//! Writes values as text.
+
+use crate::ether_format::Moment;
+use crate::ether_format::value::Value;
+use crate::ether_text::{OutputBuffer, Sink, eight_digits, write_decimal};
+
+/// Writes a value as JSON has it.
+#[inline(always)]
+pub(crate) fn write_json_value<W: Sink>(value: &Value<'_>, out: &mut OutputBuffer<'_, W>) {
+    match value {
+        Value::Nothing => out.append(b"null"),
+        Value::Number(number) => write_decimal(out, *number as usize),
+        Value::Protocol(number) => write_decimal(out, usize::from(*number)),
+        Value::Flag(holds) => out.append(flag_text(*holds).as_bytes()),
+        Value::Mac(address) => out.append_array(quoted_mac(*address)),
+        Value::Four(bytes) => write_quoted_bytes(bytes, out),
+        Value::Eight(bytes) => write_quoted_bytes(bytes, out),
+        Value::Short(bytes, len) => write_quoted_bytes(first_of(bytes, *len), out),
+        Value::Bytes(bytes) => write_quoted_bytes(bytes, out),
+        Value::Dotted(bytes) => write_quoted_dotted(bytes, out),
+        Value::Word(word) => write_quoted_word(word, out),
+        Value::Time(moment) => write_quoted_moment(moment, out),
+    }
+}
+
+/// The first bytes, as many as it says, and no more than there are.
+pub(crate) fn first_of(bytes: &[u8], len: usize) -> &[u8] {
+    &bytes[..len.min(bytes.len())]
+}
+
+/// The word for a truth.
+fn flag_text(holds: bool) -> &'static str {
+    if holds { "true" } else { "false" }
+}
+
+/// Writes a word between quotation marks.
+#[inline(always)]
+fn write_quoted_word<W: Sink>(word: &str, out: &mut OutputBuffer<'_, W>) {
+    out.append(b"\"");
+    out.append(word.as_bytes());
+    out.append(b"\"");
+}
+
+/// Writes bytes between quotation marks, with a colon between two.
+#[inline(never)]
+fn write_quoted_bytes<W: Sink>(bytes: &[u8], out: &mut OutputBuffer<'_, W>) {
+    out.append(b"\"");
+    write_colons(bytes, out);
+    out.append(b"\"");
+}
+
+/// Writes the bytes of an address of IPv4 between quotation marks.
+#[inline(never)]
+fn write_quoted_dotted<W: Sink>(bytes: &[u8], out: &mut OutputBuffer<'_, W>) {
+    out.append(b"\"");
+    write_dotted(bytes, out);
+    out.append(b"\"");
+}
+
+/// Writes a moment between quotation marks.
+#[inline(never)]
+fn write_quoted_moment<W: Sink>(moment: &Moment, out: &mut OutputBuffer<'_, W>) {
+    out.append(b"\"");
+    write_moment(moment, out);
+    out.append(b"\"");
+}
+
+/// Writes bytes in two hexadecimal digits each, with a colon between two.
+pub(crate) fn write_colons<W: Sink>(bytes: &[u8], out: &mut OutputBuffer<'_, W>) {
+    if bytes.is_empty() {
+        return;
+    }
+    out.append_array(digit_pair(bytes[0]));
+    write_colons_after(&bytes[1..], out);
+}
+
+/// Writes bytes in two hexadecimal digits each, after a colon each.
+fn write_colons_after<W: Sink>(bytes: &[u8], out: &mut OutputBuffer<'_, W>) {
+    for byte in bytes {
+        let pair = digit_pair(*byte);
+        out.append_array([b':', pair[0], pair[1]]);
+    }
+}
+
+/// Writes bytes in decimal digits, with a dot between two.
+pub(crate) fn write_dotted<W: Sink>(bytes: &[u8], out: &mut OutputBuffer<'_, W>) {
+    if bytes.is_empty() {
+        return;
+    }
+    write_decimal(out, usize::from(bytes[0]));
+    write_dots_after(&bytes[1..], out);
+}
+
+/// Writes bytes in decimal digits, after a dot each.
+fn write_dots_after<W: Sink>(bytes: &[u8], out: &mut OutputBuffer<'_, W>) {
+    for byte in bytes {
+        out.append(b".");
+        write_decimal(out, usize::from(*byte));
+    }
+}
+
+/// A MAC address between quotation marks.
+#[inline(always)]
+fn quoted_mac(address: [u8; 6]) -> [u8; 19] {
+    let a = digit_pair(address[0]);
+    let b = digit_pair(address[1]);
+    let c = digit_pair(address[2]);
+    let d = digit_pair(address[3]);
+    let e = digit_pair(address[4]);
+    let f = digit_pair(address[5]);
+    [
+        b'"', a[0], a[1], b':', b[0], b[1], b':', c[0], c[1], b':', d[0], d[1], b':', e[0], e[1],
+        b':', f[0], f[1], b'"',
+    ]
+}
+
+/// The two digits of a byte, in lower case.
+#[inline(always)]
+fn digit_pair(byte: u8) -> [u8; 2] {
+    [digit(byte / 16), digit(byte % 16)]
+}
+
+/// The hexadecimal digit of a number below 16, in lower case.
+#[inline(always)]
+fn digit(number: u8) -> u8 {
+    if number < 10 {
+        b'0' + number
+    } else {
+        b'a' - 10 + number
+    }
+}
+
+/// Writes a moment as in ISO 8601.
+pub(crate) fn write_moment<W: Sink>(moment: &Moment, out: &mut OutputBuffer<'_, W>) {
+    write_decimal(out, moment.year as usize);
+    out.append_array(after_year(moment));
+}
+
+/// What follows the year of a moment.
+#[inline(always)]
+fn after_year(moment: &Moment) -> [u8; 26] {
+    let m = two_digits(moment.month);
+    let d = two_digits(moment.day);
+    let h = two_digits(moment.hour);
+    let i = two_digits(moment.minute);
+    let s = two_digits(moment.second);
+    let n = nine_digits(moment.nanoseconds);
+    [
+        b'-', m[0], m[1], b'-', d[0], d[1], b'T', h[0], h[1], b':', i[0], i[1], b':', s[0], s[1],
+        b'.', n[0], n[1], n[2], n[3], n[4], n[5], n[6], n[7], n[8], b'Z',
+    ]
+}
+
+/// The two digits of a number below 100.
+#[inline(always)]
+fn two_digits(number: u8) -> [u8; 2] {
+    [b'0' + number / 10, b'0' + number % 10]
+}
+
+/// The nine lowest decimal digits of a number.
+///
+/// <details><summary>Contract</summary>
+///
+/// ```text
+/// ensures { result ≡ nine_digits number }
+/// ```
+///
+/// </details>
+#[inline(always)]
+pub fn nine_digits(number: u32) -> [u8; 9] {
+    let first = b'0' + (number / 100_000_000 % 10) as u8;
+    let d = eight_digits(u64::from(number));
+    [first, d[0], d[1], d[2], d[3], d[4], d[5], d[6], d[7]]
+}

@@ -1,0 +1,40 @@
+//! The members of a header, each with its name and its value.
+use crate::ether_format::Moment;
+
+/// The value of a member.
+#[derive(Clone, Copy)]
+pub(crate) enum Value<'a> {
+    /// The header does not have it.
+    Nothing,
+    /// A number.
+    Number(u64),
+    /// An ether type, or another protocol number.
+    Protocol(u16),
+    /// Whether something holds.
+    Flag(bool),
+    /// The bytes of a MAC address.
+    Mac([u8; 6]),
+    /// The four bytes of a frame check sequence.
+    Four([u8; 4]),
+    /// The eight bytes of a secure channel identifier.
+    Eight([u8; 8]),
+    /// The first of these bytes, as many as it says.
+    Short([u8; 8], usize),
+    /// The bytes of an address of any length.
+    Bytes(&'a [u8]),
+    /// The bytes of an address of IPv4.
+    Dotted(&'a [u8]),
+    /// A word.
+    Word(&'static str),
+    /// A time.
+    Time(Moment),
+}
+
+/// A member of a header.
+#[derive(Clone, Copy)]
+pub(crate) struct Member<'a> {
+    /// Its name as JSON has it, between quotation marks and with a colon: after a brace the first member's, after a comma each other's.
+    pub(crate) key: &'static str,
+    /// Its value.
+    pub(crate) value: Value<'a>,
+}

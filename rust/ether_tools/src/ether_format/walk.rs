@@ -1,0 +1,55 @@
+//! Writes the headers of a walk, and how it ends, as JSON has them.
+
+use crate::ether_format::place::Place;
+use crate::ether_format::write_end::{write_fault, write_rest};
+use crate::ether_format::write_header::write_header;
+use etherpeel::ether_peel::{Peel, Start};
+use crate::ether_text::{OutputBuffer, Sink};
+
+/// Writes the headers of a walk, the first of which is the packet's first or not, and how it ends. Returns whether no header is refused.
+/// Each place is counted from `header_len` bytes before the frame.
+#[inline(always)]
+pub(crate) fn write_walk<W: Sink>(
+    first: bool,
+    header_len: u8,
+    start: Start,
+    limit: Option<usize>,
+    frame: &[u8],
+    out: &mut OutputBuffer<'_, W>,
+) -> bool {
+    let at = usize::from(header_len);
+    let mut peel = walker(start, limit, frame);
+    let mut is_first = first;
+    loop {
+        let start = at + peel.offset();
+        match peel.next() {
+            Some(Ok(unit)) => {
+                let header_end = at + peel.offset();
+                let place = Place {
+                    start,
+                    header_end,
+                    payload_end: header_end + peel.rest().len(),
+                    closed: peel.closed(),
+                };
+                write_header(is_first, place, &unit, out);
+                is_first = false;
+            }
+            Some(Err(fault)) => {
+                write_fault(at + fault.offset, fault.closed, &fault.error, out);
+                return false;
+            }
+            None => {
+                write_rest(start, start + peel.rest().len(), peel.kind(), out);
+                return true;
+            }
+        }
+    }
+}
+
+/// The walk of a frame, with a limit on VLAN tags and SecTags or without.
+fn walker(start: Start, limit: Option<usize>, frame: &[u8]) -> Peel<'_> {
+    match limit {
+        Some(limit) => Peel::with_limit(start, frame, limit),
+        None => Peel::new(start, frame),
+    }
+}

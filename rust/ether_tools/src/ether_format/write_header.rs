@@ -1,0 +1,76 @@
+//! Writes a header of a walk as JSON has it.
+
+use crate::ether_format::json::write_object;
+use crate::ether_format::members;
+use crate::ether_format::place::Place;
+use etherpeel::ether_content::CookedHeader;
+use etherpeel::ether_peel::PeelUnit;
+use etherpeel::ether_sll2::LinuxSll2Slice;
+use crate::ether_text::{OutputBuffer, Sink};
+
+/// Writes a header, which is the first of its packet or not.
+#[inline(always)]
+pub(crate) fn write_header<W: Sink>(
+    is_first: bool,
+    place: Place,
+    unit: &PeelUnit<'_>,
+    out: &mut OutputBuffer<'_, W>,
+) {
+    write_comma(is_first, out);
+    write_json_header(place, unit, out);
+}
+
+/// Writes a comma, but not before the first header.
+#[inline(always)]
+fn write_comma<W: Sink>(is_first: bool, out: &mut OutputBuffer<'_, W>) {
+    if !is_first {
+        out.append(b",");
+    }
+}
+
+/// Writes a header as an object of JSON.
+#[inline(always)]
+fn write_json_header<W: Sink>(place: Place, unit: &PeelUnit<'_>, out: &mut OutputBuffer<'_, W>) {
+    match unit {
+        PeelUnit::Ethernet2(slice) => {
+            let first = members::placed("eth", place);
+            write_object(&first, &members::ethernet2(slice), out);
+        }
+        PeelUnit::LinuxSll(slice) => {
+            let first = members::placed("sll", place);
+            write_object(&first, &members::linux_sll(slice), out);
+        }
+        PeelUnit::Vlan(slice) => {
+            let first = members::placed("vlan", place);
+            write_object(&first, &members::vlan(slice), out);
+        }
+        PeelUnit::Macsec(slice) => {
+            let first = members::placed("macsec", place);
+            write_object(&first, &members::macsec(&slice.header), out);
+        }
+        PeelUnit::Arp(slice) => {
+            let first = members::placed("arp", place);
+            write_object(&first, &members::arp(slice), out);
+        }
+    }
+}
+
+/// Writes the first header of a packet, one of cooked capture v1 that is not walked.
+pub(crate) fn write_cooked<W: Sink>(
+    place: Place,
+    header: &CookedHeader,
+    out: &mut OutputBuffer<'_, W>,
+) {
+    let first = members::placed("sll", place);
+    write_object(&first, &members::cooked(header), out);
+}
+
+/// Writes the first header of a packet, one of cooked capture v2.
+pub(crate) fn write_linux_sll2<W: Sink>(
+    place: Place,
+    packet: &LinuxSll2Slice<'_>,
+    out: &mut OutputBuffer<'_, W>,
+) {
+    let first = members::placed("sll2", place);
+    write_object(&first, &members::linux_sll2(packet), out);
+}

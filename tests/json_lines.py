@@ -1,0 +1,257 @@
+"""Tests `ether_capture --format json`: by worked examples, and with programs that read JSON or captures.
+
+`ether_capture.py` runs `examples`, `other_programs.py` runs `readers`.
+"""
+import datetime
+import json
+import random
+import subprocess
+import tempfile
+from shutil import which
+
+from captures import CLASSIC, INPUT, SECTIONS, SIX, WITH_FCS, classic, cooked, joined, record_is_cut
+from programs import run, run_apart
+
+JSON = ["--format", "json"]
+BROADCAST, STATION = "ff:ff:ff:ff:ff:ff", "3a:ee:b6:2f:f6:d7"
+
+
+def packet(number, time, link, captured, original, headers, **end):
+    return {"number": number, "time": time, "link": link, "captured": captured, "original": original, "headers": headers, **end}
+
+
+def placed(name, start, end, payload_end, closed=False, **members):
+    return {"header": name, "start": start, "end": end, "payload_end": payload_end, "closed": closed, **members}
+
+
+def eth(payload_end, dst, src, ether_type, fcs=None, closed=False):
+    return placed("eth", 0, 14, payload_end, closed, dst=dst, src=src, type=ether_type, fcs=fcs)
+
+
+def vlan(start, payload_end, pcp, dei, vid, ether_type):
+    return placed("vlan", start, start + 4, payload_end, pcp=pcp, dei=dei, vid=vid, type=ether_type)
+
+
+def rest(start, end, kind, number=None):
+    return {"start": start, "end": end, "kind": kind, "type": number}
+
+
+def fault(start, kind, required=None, available=None, source=None, value=None, closed=False):
+    return {"start": start, "closed": closed, "kind": kind, "required": required, "available": available, "source": source, "value": value}
+
+
+# The members of each packet, by hand from the bytes: times with `date -u -d @1700000000`.
+PACKETS = [
+    ("a classic capture", CLASSIC, 1, [
+        packet(1, "2023-11-14T22:13:20.123456000Z", 1, 19, 60, [
+            eth(19, BROADCAST, STATION, 0x88A8), vlan(14, 19, 0, 0, 1, 0x8100)], fault=fault(18, "length", 4, 1, "slice")),
+        packet(2, "2023-11-14T22:13:21.000005000Z", 1, 46, 46, [
+            eth(46, BROADCAST, STATION, 0x8100), vlan(14, 46, 5, 1, 291, 0x0800)], rest=rest(18, 46, "ether_type", 0x0800)),
+    ]),
+    ("check sequences", WITH_FCS, 0, [
+        packet(1, "1970-01-01T00:00:01.000000002Z", 1, 20, 20, [
+            eth(16, "02:00:00:00:00:01", "02:00:00:00:00:02", 0x88B5, "e9:c0:cd:c8", True)], rest=rest(14, 16, "ether_type", 0x88B5)),
+        packet(2, "1970-01-01T00:00:01.999999999Z", 1, 18, 20, [
+            eth(16, "02:00:00:00:00:01", "02:00:00:00:00:02", 0x88B5)], rest=rest(14, 16, "ether_type", 0x88B5)),
+    ]),
+    ("sections", SECTIONS, 1, [
+        packet(1, "2023-11-14T22:13:20.123456000Z", 1, 14, 46, [eth(14, BROADCAST, STATION, 0x8100)],
+               fault=fault(14, "length", 4, 0, "slice")),
+        packet(2, "2023-11-14T22:13:20.123456789Z", 113, 17, 17, [
+            placed("sll", 0, 16, 17, packet_type=4, hw_type=1, addr_len=6, addr="02:00:00:00:00:01", protocol=0x0800)],
+               rest=rest(16, 17, "ether_type", 0x0800)),
+        packet(3, None, 1, 18, 18, [eth(18, BROADCAST, STATION, 0x8100), vlan(14, 18, 5, 1, 291, 0x0800)],
+               rest=rest(18, 18, "ether_type", 0x0800)),
+        packet(4, "1970-01-01T00:00:00.000001000Z", 101, 1, 1, [], rest=rest(0, 1, "skipped")),
+    ]),
+    # RFC 826: who has 10.0.0.2, tell 10.0.0.1; and an answer of a protocol whose addresses have two bytes
+    ("ARP", classic(joined("ffffffffffff 020000000001 0806 0001 0800 06 04 0001 020000000001 0a000001 000000000000 0a000002"),
+                    joined("ffffffffffff 020000000001 0806 0006 809b 06 02 0002 020000000001 0102 000000000000 0304 00")), 0, [
+        packet(1, "2023-11-14T22:13:20.000000000Z", 1, 42, 42, [
+            eth(42, BROADCAST, "02:00:00:00:00:01", 0x0806),
+            placed("arp", 14, 42, 42, hrd=1, pro=0x0800, hln=6, pln=4, op=1, sha="02:00:00:00:00:01", spa="10.0.0.1",
+                   tha="00:00:00:00:00:00", tpa="10.0.0.2")], rest=rest(42, 42, "after_arp")),
+        packet(2, "2023-11-14T22:13:20.000000000Z", 1, 39, 39, [
+            eth(39, BROADCAST, "02:00:00:00:00:01", 0x0806),
+            placed("arp", 14, 38, 39, hrd=6, pro=0x809B, hln=6, pln=2, op=2, sha="02:00:00:00:00:01", spa="01:02",
+                   tha="00:00:00:00:00:00", tpa="03:04")], rest=rest(38, 39, "after_arp")),
+    ]),
+    # IEEE 802.1AE, 9.3 to 9.9: with an SCI and an ether type, in a window of 6 bytes; encrypted; of version 1; of a short length of 1
+    ("SecTags", classic(joined("ffffffffffff 020000000001 88e5 21 08 00000007 0200000000010001 0800 112233445566 77"),
+                        joined("ffffffffffff 020000000001 88e5 0e 00 00000001 aabb"),
+                        joined("ffffffffffff 020000000001 88e5 80 00 00000001 0800"),
+                        joined("ffffffffffff 020000000001 88e5 00 01 00000001 0800")), 1, [
+        packet(1, "2023-11-14T22:13:20.000000000Z", 1, 37, 37, [
+            eth(37, BROADCAST, "02:00:00:00:00:01", 0x88E5),
+            placed("macsec", 14, 30, 36, True, payload="unmodified", es=0, scb=0, an=1, sl=8, pn=7, sci="02:00:00:00:00:01:00:01", type=0x0800)],
+               rest=rest(30, 36, "ether_type", 0x0800)),
+        packet(2, "2023-11-14T22:13:20.000000000Z", 1, 22, 22, [
+            eth(22, BROADCAST, "02:00:00:00:00:01", 0x88E5),
+            placed("macsec", 14, 20, 22, payload="encrypted", es=0, scb=0, an=2, sl=0, pn=1, sci=None, type=None)],
+               rest=rest(20, 22, "sealed")),
+        packet(3, "2023-11-14T22:13:20.000000000Z", 1, 22, 22, [eth(22, BROADCAST, "02:00:00:00:00:01", 0x88E5)],
+               fault=fault(14, "macsec_version")),
+        packet(4, "2023-11-14T22:13:20.000000000Z", 1, 22, 22, [eth(22, BROADCAST, "02:00:00:00:00:01", 0x88E5)],
+               fault=fault(14, "macsec_short_len")),
+    ]),
+    # LINKTYPE_LINUX_SLL: the loopback device, whose protocol number is taken for an ether type; netlink; a packet type without a meaning
+    ("cooked capture v1", cooked("0000 0304 0006 0000000000000000 8100 0005 0800", 1), 0, [
+        packet(1, "2023-11-14T22:13:20.000000000Z", 113, 20, 20, [
+            placed("sll", 0, 16, 20, packet_type=0, hw_type=772, addr_len=6, addr="00:00:00:00:00:00", protocol=0x8100),
+            vlan(16, 20, 0, 0, 5, 0x0800)], rest=rest(20, 20, "ether_type", 0x0800)),
+    ]),
+    ("netlink", cooked("0004 0338 0000 0000000000000000 0010 aa", 1), 0, [
+        packet(1, "2023-11-14T22:13:20.000000000Z", 113, 17, 17, [
+            placed("sll", 0, 16, 17, packet_type=4, hw_type=824, addr_len=0, addr="", protocol=16)],
+               rest=rest(16, 17, "sll_netlink", 16)),
+    ]),
+    ("a packet type without a meaning", cooked("0008 0001 0006 0200000000010000 0800", 1), 1, [
+        packet(1, "2023-11-14T22:13:20.000000000Z", 113, 16, 16, [], fault=fault(0, "sll_packet_type", value=8)),
+    ]),
+    # LINKTYPE_LINUX_SLL2: a VLAN tag, GRE, and a header that is cut
+    ("cooked capture v2", classic()[:20] + joined("00000114") + b"".join(joined("6553f100 00000000", f"{len(it):08x}" * 2) + it for it in (
+        joined("8100 0000 00000003 0001 02 06 0200000000010000 0005 0800"), joined("0800 0000 00000003 030a 04 09 0a00000100000000 45"),
+        joined("8100 0000 0000"))), 1, [
+        packet(1, "2023-11-14T22:13:20.000000000Z", 276, 24, 24, [
+            placed("sll2", 0, 20, 24, protocol=0x8100, if_index=3, hw_type=1, packet_type=2, addr_len=6, addr="02:00:00:00:00:01"),
+            vlan(20, 24, 0, 0, 5, 0x0800)], rest=rest(24, 24, "ether_type", 0x0800)),
+        packet(2, "2023-11-14T22:13:20.000000000Z", 276, 21, 21, [
+            placed("sll2", 0, 20, 21, protocol=0x0800, if_index=3, hw_type=778, packet_type=4, addr_len=9, addr="0a:00:00:01:00:00:00:00")],
+               rest=rest(20, 21, "sll_gre", 0x0800)),
+        packet(3, "2023-11-14T22:13:20.000000000Z", 276, 6, 6, [], fault=fault(0, "length", 20, 6, "slice")),
+    ]),
+]
+
+# Seconds since 1970 at the ends of months and of leap days, as `date -u -d @SECONDS` prints them.
+MOMENTS = [
+    (0, "1970-01-01T00:00:00"), (86399, "1970-01-01T23:59:59"), (68169599, "1972-02-28T23:59:59"), (68169600, "1972-02-29T00:00:00"),
+    (68256000, "1972-03-01T00:00:00"), (94694399, "1972-12-31T23:59:59"), (951782400, "2000-02-29T00:00:00"),
+    (951868800, "2000-03-01T00:00:00"), (978307199, "2000-12-31T23:59:59"), (978307200, "2001-01-01T00:00:00"),
+    (4107542399, "2100-02-28T23:59:59"), (4107542400, "2100-03-01T00:00:00"), (4294967295, "2106-02-07T06:28:15"),
+]
+
+
+def examples(program):
+    """Whole lines, and their members."""
+    tried = []
+    for name, capture, status, packets in PACKETS:
+        text, ended = run(program, JSON, capture)
+        found = [json.loads(line) for line in text.splitlines()]
+        tried.append((f"{name} as JSON", (found, ended), (packets, status)))
+        # keys stand in this order, without spaces, and each object on a line of its own
+        lines = "".join(json.dumps(it, separators=(",", ":")) + "\n" for it in packets)
+        tried.append((f"{name} as JSON, byte for byte", text, lines))
+    for seconds, date in MOMENTS:
+        capture = classic() + seconds.to_bytes(4, "big") + joined("0000002a", "00000001" * 2, "00")
+        tried.append((f"the date of {seconds}", json.loads(run(program, JSON, capture)[0])["time"], f"{date}.000042000Z"))
+    whole = run(program, JSON, CLASSIC)[0]
+    first, second = whole.splitlines(keepends=True)
+    tried += [
+        ("JSON of the lines that --format lines prints", run(program, ["--format", "lines"], CLASSIC), run(program, [], CLASSIC)),
+        ("JSON of a limit", [len(json.loads(it)["headers"]) for it in run(program, [*JSON, "--limit", "0"], CLASSIC)[0].splitlines()], [1, 1]),
+        ("JSON of a filter, with numbers of the capture", run(program, [*JSON, "--select", "not refused"], CLASSIC), (second, 0)),
+        ("JSON of one packet", run(program, [*JSON, "-c", "1"], CLASSIC), (first, 1)),
+        ("JSON of no packet", run(program, JSON, CLASSIC[:24]), ("", 0)),
+        ("JSON of six", [json.loads(it)["number"] for it in run(program, JSON, classic(*SIX))[0].splitlines()], [1, 2, 3, 4, 5, 6]),
+    ]
+    # of a capture that is cut, whole lines alone
+    for end in range(24, len(CLASSIC)):
+        lines = first if end >= 59 else ""
+        at, needed = (24, 35 if end >= 40 else 16) if end < 59 else (59, 62 if end >= 75 else 16)
+        said = INPUT + record_is_cut(at, needed, end - at) if end not in (24, 59) else ""
+        status = 3 if said else (1 if lines else 0)
+        tried.append((f"JSON of {end} bytes", run_apart(program, JSON, CLASSIC[:end]), (lines, said, status)))
+    return tried
+
+
+# ---- the programs of others
+
+def drawn(count):
+    """Frames of Ethernet with up to three VLAN tags, then ARP, a SecTag or IPv4."""
+    draw = random.Random(20231114)
+
+    def tags():
+        types = draw.choice([[], ["8100"], ["8100"], ["88a8", "8100"], ["8100", "8100", "8100"]])
+        return "".join(f"{it} {draw.randrange(1 << 16):04x}" for it in types)
+
+    def addresses(*lengths):
+        return "".join(draw.randbytes(it).hex() for it in lengths)
+
+    frames = []
+    for _ in range(count):
+        front = addresses(6, 6) + tags()
+        kind = draw.randrange(4)
+        if kind == 0:
+            frames.append(joined(front, "0806 0001 0800 06 04", f"{draw.randrange(1, 3):04x}", addresses(6, 4, 6, 4)))
+        elif kind == 1:
+            frames.append(joined(front, f"88e5 {0x2C | draw.randrange(4):02x} 00", addresses(4, 8), draw.randbytes(64).hex()))
+        else:
+            frames.append(joined(front, "88b5", draw.randbytes(draw.randrange(46, 80)).hex()))
+    return frames
+
+
+FIELDS = ["frame.number", "frame.cap_len", "frame.len", "frame.time_epoch", "eth.dst", "eth.src", "vlan.id", "vlan.priority", "vlan.dei",
+          "ieee8021ad.id", "arp.opcode", "arp.src.hw_mac", "arp.src.proto_ipv4", "arp.dst.hw_mac", "arp.dst.proto_ipv4", "macsec.AN", "macsec.PN"]
+
+
+def seconds_of(time):
+    """A time of ISO 8601 with nine decimals as seconds since 1970."""
+    whole = datetime.datetime.strptime(time[:19] + "+0000", "%Y-%m-%dT%H:%M:%S%z")
+    return f"{int(whole.timestamp())}.{time[20:29]}"
+
+
+def as_tshark(packet):
+    """A packet as the row of those fields."""
+    by_name = {}
+    for header in packet["headers"]:
+        by_name.setdefault(header["header"], []).append(header)
+    tags = by_name.get("vlan", [])
+    service = [it for it, before in zip(tags, packet["headers"]) if before["type"] == 0x88A8]
+    customer = [it for it in tags if it not in service]
+    arp, macsec, [link] = by_name.get("arp", []), by_name.get("macsec", []), by_name["eth"]
+
+    def of(headers, member):
+        return ",".join(str(it[member]) for it in headers)
+
+    return [*(str(packet[it]) for it in ("number", "captured", "original")), seconds_of(packet["time"]), link["dst"], link["src"],
+            of(customer, "vid"), of(customer, "pcp"), of(customer, "dei"), of(service, "vid"), of(arp, "op"), of(arp, "sha"), of(arp, "spa"),
+            of(arp, "tha"), of(arp, "tpa"), ",".join(f"0x{it['an']:02x}" for it in macsec), of(macsec, "pn")]
+
+
+def readers(program):
+    """20,000 drawn packets: the fields are those of tshark; jq, Miller and pandas read what json reads."""
+    frames = drawn(20_000)
+    capture = classic(*frames)
+    with tempfile.NamedTemporaryFile(suffix=".jsonl") as file, tempfile.NamedTemporaryFile(suffix=".pcap") as pcap:
+        file.write(subprocess.run([program, *JSON], input=capture, capture_output=True, check=False).stdout)
+        file.flush()
+        pcap.write(capture)
+        pcap.flush()
+        packets = [json.loads(line) for line in open(file.name, encoding="ascii")]
+        rows = [as_tshark(it) for it in packets]
+        tried = [("20,000 objects of JSON", len(packets), 20_000)]
+        words = [word for it in FIELDS for word in ("-e", it)]
+        readers_of = {
+            "tshark": (["tshark", "-n", "-r", pcap.name, "-T", "fields", *words], lambda text: [line.split("\t") for line in text.splitlines()], rows),
+            "jq": (["jq", "-c", "[.number, [.headers[] | select(.header == \"vlan\").vid]]", file.name],
+                   lambda text: [json.loads(line) for line in text.splitlines()],
+                   [[it["number"], [h["vid"] for h in it["headers"] if h["header"] == "vlan"]] for it in packets]),
+            "mlr": (["mlr", "--ijsonl", "--ocsv", "--headerless-csv-output", "flatten", "then", "cut", "-o", "-f", "number,captured,headers.1.src", file.name],
+                    lambda text: text.splitlines(), [f"{it['number']},{it['captured']},{it['headers'][0]['src']}" for it in packets]),
+            PYTHON: ([PYTHON, "-c", PANDAS, file.name], lambda text: text.split(),
+                                 ["20000", str(sum(it["captured"] for it in packets)), str(sum(len(it["headers"]) for it in packets)), "0"]),
+        }
+        for name, (words, read, wanted) in readers_of.items():
+            if not which(name) or (name == PYTHON and subprocess.run([PYTHON, "-c", "import pandas"], stderr=subprocess.DEVNULL, check=False).returncode):
+                print(f"left out: JSON with {'pandas' if name == PYTHON else name}, since it is not there")
+                continue
+            done = subprocess.run(words, capture_output=True, text=True, check=False)
+            tried.append((f"JSON with {name}", (read(done.stdout), done.returncode), (wanted, 0)))
+    return tried
+
+
+PYTHON = "/usr/bin/python3"  # that of Debian, which has its pandas
+PANDAS = """import sys, pandas
+all = pandas.read_json(sys.argv[1], lines=True)
+times = pandas.to_datetime(all.time)
+print(len(all), all.captured.sum(), all.headers.map(len).sum(), times.isna().sum())"""
