@@ -10,5 +10,6 @@ complete -c ether_capture -l plain -d 'leave out the lines of packets and the to
 complete -c ether_capture -l write -d 'write the capture itself'
 complete -c ether_capture -l cut-to-headers -d 'cut each packet where its link-layer headers end'
 complete -c ether_capture -l pop-vlan -d 'take the VLAN tag after the link\'s header off each frame'
+complete -c ether_capture -l progress -d 'show how many bytes are read'
 complete -c ether_capture -s h -l help -d 'Print help information'
 complete -c ether_capture -s V -l version -d 'Print version information'

@@ -25,7 +25,7 @@ from capture_streams import streams
 from programs import count, on_a_full_disk, run, run_apart, run_until_a_fault, without_memory
 
 USAGE = ("usage: ether_capture [[--plain] [--limit N] | --write [-w COPY] [--cut-to-headers | --pop-vlan | --push-vlan TPID:ID | --set-vlan A:B]] "
-         "[--select EXPR [--undecided keep|drop]] [-c N] [-r FILE | FILE..]\n")
+         "[--select EXPR [--undecided keep|drop]] [-c N] [--progress] [-r FILE | FILE..]\n")
 
 
 @dataclass
