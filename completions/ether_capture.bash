@@ -19,7 +19,7 @@ _ether_capture() {
 
     case "${cmd}" in
         ether_capture)
-            opts="-c -r -w -h -V --plain --write --cut-to-headers --pop-vlan --push-vlan --set-vlan --select --undecided --limit --help --version [file]..."
+            opts="-c -r -w -h -V --plain --write --cut-to-headers --pop-vlan --progress --push-vlan --set-vlan --select --undecided --limit --format --help --version [file]..."
             if [[ ${cur} == -* || ${COMP_CWORD} -eq 1 ]] ; then
                 COMPREPLY=( $(compgen -W "${opts}" -- "${cur}") )
                 return 0
@@ -42,6 +42,10 @@ _ether_capture() {
                     return 0
                     ;;
                 --limit)
+                    COMPREPLY=($(compgen -f "${cur}"))
+                    return 0
+                    ;;
+                --format)
                     COMPREPLY=($(compgen -f "${cur}"))
                     return 0
                     ;;

@@ -3,6 +3,7 @@ complete -c ether_capture -l set-vlan -d 'give the outermost VLAN tag with ident
 complete -c ether_capture -l select -d 'only packets that match an expression' -r
 complete -c ether_capture -l undecided -d 'keep or drop packets that were cut too short to tell' -r
 complete -c ether_capture -l limit -d 'read so many VLAN tags and SecTags of each packet at most' -r
+complete -c ether_capture -l format -d 'print lines, or each packet as an object of JSON: lines or json' -r
 complete -c ether_capture -s c -d 'end with so many of these packets' -r
 complete -c ether_capture -s r -d 'read this file alone' -r -F
 complete -c ether_capture -s w -d 'write a copy to this file' -r -F
@@ -10,5 +11,6 @@ complete -c ether_capture -l plain -d 'leave out the lines of packets and the to
 complete -c ether_capture -l write -d 'write the capture itself'
 complete -c ether_capture -l cut-to-headers -d 'cut each packet where its link-layer headers end'
 complete -c ether_capture -l pop-vlan -d 'take the VLAN tag after the link\'s header off each frame'
+complete -c ether_capture -l progress -d 'show how many bytes are read'
 complete -c ether_capture -s h -l help -d 'Print help information'
 complete -c ether_capture -s V -l version -d 'Print version information'

@@ -1,6 +1,7 @@
 """Tests of `ether_capture` on where things go: lines and copies, and what is said of faults."""
 
 import os
+import re
 import resource
 import signal
 import subprocess
@@ -70,6 +71,8 @@ READS = [
     ("standard input by -r", ["-r", "-"], CLASSIC, {}, CLASSIC_LINES, "", 1, {}),
     ("a file that is not there by -r", ["-r", "one"], CLASSIC, {}, "", "one" + NO_FILE, 4, {}),
     ("a file by -r and one besides", ["-r", "one", "one"], b"", {"one": CLASSIC}, "", CLASH, 2, {}),
+    ("nothing shown of no expression", ["--progress", "--select", "vlan x"], b"", {}, "",
+     "--select: At byte 5: expected a number up to 4095, `and`, `or`, `)` or the end.\n", 2, {}),
     ("two files by -r", ["-r", "one", "-r", "one"], b"", {"one": CLASSIC}, "",
      "ether_capture: an option is unknown, comes twice, or lacks its value; try --help\n", 2, {}),
 ]
@@ -157,9 +160,47 @@ def closed_pipes(program):
     return tried
 
 
+def shown(said):
+    """What of the text on standard error is shown of reading: how often, the last bytes and their number in all, and what is said besides."""
+    *others, end = said.split("\r")
+    last, _, rest = end.partition("\n")
+    told = re.fullmatch(r"(\d+)(?: of (\d+))? bytes, \d+ kB/s *", last)
+    return len(others), told and told.groups(), rest
+
+
+def progress(program):
+    """What is shown of reading, on standard error alone."""
+    size = str(len(CLASSIC))
+    tried = []
+    with tempfile.TemporaryDirectory() as folder:
+        filled(folder, {"one": CLASSIC, "cut": CLASSIC[:120]})
+        for words, given, text, status, wanted in (
+            (["one"], b"", CLASSIC_LINES, 1, (1, (size, size), "")),
+            ([], CLASSIC, CLASSIC_LINES, 1, (1, (size, None), "")),
+            (["cut", "-w", "new"], b"", "", 3, (1, ("120", "120"), "cut" + record_is_cut(59, 62, 61))),
+        ):
+            found = run_apart(program, ["--progress", *words], given, cwd=folder)
+            tried.append((f"--progress {words}", (found[0], shown(found[1]), found[2]), (text, wanted, status)))
+        found = run_apart(program, ["--progress", "--plain", "cut", "no", "one"], b"", cwd=folder)
+        lines = [line.rpartition("\r")[2].split(",")[0] for line in found[1].split("\n")]
+        said = ["120 of 120 bytes", *("cut" + record_is_cut(59, 62, 61) + "no" + NO_FILE).splitlines(), f"{size} of {size} bytes", ""]
+        tried.append(("--progress of several files", (lines, found[2]), (said, 4)))
+    begun = time.monotonic()
+    slow = subprocess.Popen([program, "--progress", "--plain"], stdin=subprocess.PIPE, stdout=subprocess.DEVNULL, stderr=subprocess.PIPE, bufsize=0)
+    with slow as child:
+        for place in range(0, len(LONG), len(LONG) // 10):
+            child.stdin.write(LONG[place:place + len(LONG) // 10])
+            time.sleep(0.1)
+        child.stdin.close()
+        said = child.stderr.read().decode()
+    most = 5 * (time.monotonic() - begun) + 2
+    tried.append(("--progress of a second", (2 <= said.count("\r") <= most, shown(said)[1:]), (True, ((str(len(LONG)), None), ""))))
+    return tried
+
+
 def streams(program):
     tried = [("a copy to standard output by its name", copied(program, ["-w", "-"], CLASSIC), (CLASSIC, "", 0))]
     for name, words, given, files, text, said, status, changed in COPIES + READS:
         found = done(program, words, given, files)
         tried.append((f"-w or -r: {name}", found, (text, said, status, {**files, **changed})))
-    return [*tried, *files_too_large(program), *files_of_others(program), *killed_runs(program), *modes(program), *closed_pipes(program)]
+    return [*tried, *files_too_large(program), *files_of_others(program), *killed_runs(program), *modes(program), *closed_pipes(program), *progress(program)]

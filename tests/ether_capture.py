@@ -26,7 +26,7 @@ from json_lines import examples
 from programs import count, on_a_full_disk, run, run_apart, run_until_a_fault, without_memory
 
 USAGE = ("usage: ether_capture [[--plain | --format lines|json] [--limit N] | --write [-w COPY] [--cut-to-headers | --pop-vlan | --push-vlan TPID:ID | --set-vlan A:B]] "
-         "[--select EXPR [--undecided keep|drop]] [-c N] [-r FILE | FILE..]\n")
+         "[--select EXPR [--undecided keep|drop]] [-c N] [--progress] [-r FILE | FILE..]\n")
 
 
 @dataclass
@@ -274,6 +274,7 @@ CLASH = "ether_capture: these options do not go together; try --help\n"
 EDIT = "ether_capture: expected at most one edit, as --push-vlan 0x8100:5 or --set-vlan 5:6; try --help\n"
 COUNT = "ether_capture: -c: expected a number from 1 to 4294967295; try --help\n"
 LIMIT = "ether_capture: --limit: expected a number up to 4294967295; try --help\n"
+FORMAT = "ether_capture: --format: expected lines or json; try --help\n"
 UNDECIDED = "ether_capture: --undecided: expected keep or drop; try --help\n"
 WRONG = [
     ("no number of packets", ["-c"], OPTION),
@@ -291,6 +292,14 @@ WRONG = [
     ("a limit of an edited copy", ["--limit", "0", "--cut-to-headers", "--write"], CLASH),
     ("a copy of two files", ["--write", "one", "two"], CLASH),
     ("an edited copy of three files", ["--pop-vlan", "--write", "one", "two", "three"], CLASH),
+    ("a format that is none", ["--format", "xml"], FORMAT),
+    ("no format", ["--format", ""], FORMAT),
+    ("a format in capitals", ["--format", "JSON"], FORMAT),
+    ("two formats", ["--format", "json", "--format", "json"], OPTION),
+    ("a format without its name", ["--format"], OPTION),
+    ("plain JSON", ["--format", "json", "--plain"], CLASH),
+    ("JSON and a copy", ["--write", "--format", "json"], CLASH),
+    ("JSON and a copy to a file", ["-w", "copy", "--format", "json"], CLASH),
     ("an option that is none", ["--plane"], OPTION),
     ("the beginning of an option", ["--pla"], OPTION),
     ("a letter that is none", ["-p"], OPTION),

@@ -79,6 +79,7 @@ file_rule = record (new_rule (codes "file")) { action = Some Append }
 
 abbrev pub capture_rules : List Rule
 capture_rules = flag_rule (codes "plain") ∷ flag_rule (codes "write") ∷ flag_rule (codes "cut-to-headers") ∷ flag_rule (codes "pop-vlan")
+    ∷ flag_rule (codes "progress")
     ∷ option_rule (codes "push-vlan") ∷ option_rule (codes "set-vlan") ∷ option_rule (codes "select") ∷ option_rule (codes "undecided")
     ∷ option_rule (codes "limit") ∷ option_rule (codes "format") ∷ letter_rule (codes "count") 99 ∷ letter_rule (codes "read") 114 ∷ letter_rule (codes "output") 119
     ∷ file_rule ∷ []  -- the letters are c, r and w

@@ -4,7 +4,7 @@ ghost use Rattle.std.specs.Prelude.{ℕ, List, Option, IfErr, IfOk};
 use ether_stream::OpenFault;
 use ether_text::Source;
 
-/// What opens captures by their names: any `Files` of the runtime.
+/// What opens captures by their names, and can show how far they are read.
 ///
 /// What is proved for all of them is proved for one that can't fail, too. So whoever reports that a capture can't be opened has
 /// tried it.
@@ -24,4 +24,10 @@ pub trait Captures {
     fn open_named(&self, name: &str) -> Result<Self::Input, OpenFault>
         ensures ok { IfOk result (λ input. has self.now name.now (Self.Input.Source.remaining input)) }
         ensures refused { IfErr result (λ fault. can_refuse fault) };
+
+    /// From here on shows how far captures are read, these and standard input.
+    fn show(&self);
+
+    /// Ends the line in which that is shown, if there is one.
+    fn end_line(&self);
 }

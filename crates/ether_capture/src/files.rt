@@ -104,6 +104,9 @@ pub fn run_files<C: Captures, W: Sink, M: LineSink>(
     ensures flushed { OnOk result (W.is_flushed writer.new) }
     ensures told { Settles M.Sink.is_flushed messages.old messages.new ⊎ M.Sink.can_fail }
 {
+    if listing.is_shown {
+        captures.show();
+    }
     let is_plain = listing.options.is_plain;
     let selects = listing.selection.is_some();
     let tally = read_files(listing, alloc, captures, writer, messages)?;
@@ -165,6 +168,7 @@ fn read_file<C: Captures, W: Sink, M: LineSink>(
     if is_output_fault(&end) {
         return Err(OutputFault);
     }
+    captures.end_line();
     tell_reason(name, &end, messages);
     Ok(tally.with(counts, &end))
 }

@@ -13,12 +13,16 @@ pub mod copy_run;
 pub mod files;
 pub mod heap_memory;
 pub mod interface_buffer;
+pub mod meter;
 pub mod opening;
 pub mod options;
 pub mod program;
 pub mod run_input;
 
+use copy_files::CopyFiles;
 use ether_text::{Noted, tell_failure};
+use meter::{Gauge, Meter};
+use opening::CaptureFiles;
 use std::process::ExitCode;
 use std::{env, io};
 
@@ -26,13 +30,14 @@ use std::{env, io};
 fn main(rt: HostRuntime) -> ExitCode {
     let args = env::args(&rt);
     let unread = args.as_ref().err().copied();
-    let mut input = Noted::new(rt.reader());
+    let gauge = Gauge::new(&rt, rt.stderr());
+    let mut input = Noted::new(Meter::new(rt.reader(), None, &gauge));
     let mut output = Noted::new(io::writer(&rt));
     let status = program::program(
         args,
         rt.alloc(),
-        &rt,
-        &mut copy_files::CopyFiles::new(&rt, rt.alloc()),
+        &CaptureFiles::new(&rt, &gauge),
+        &mut CopyFiles::new(&rt, rt.alloc()),
         &mut input,
         &mut output,
         &mut rt.stderr(),

@@ -4,28 +4,54 @@ ghost use Rattle.std.specs.IoError.{error_kind};
 ghost use Rattle.ether_capture.specs.Captures.{open_fault_of};
 
 use crate::captures::Captures;
+use crate::meter::{Gauge, Meter};
 use ether_stream::OpenFault;
 use std::fs::OpenFile;
-use std::io::ErrorKind;
+use std::io::{ErrorKind, Write};
 use std::rt::Files;
+use std::time::Clock;
 use std::{fs, io};
 
-impl<F: Files> Captures for F {
-    type Input = F::File;
+/// Captures in files, and what shows how far they are read.
+#[derive(Drop)]
+pub struct CaptureFiles<'a, H, M> {
+    host: &'a H,
+    gauge: &'a Gauge<'a, H, M>,
+}
+
+impl<'a, H, M> CaptureFiles<'a, H, M> {
+    /// All files.
+    pub fn new(host: &'a H, gauge: &'a Gauge<'a, H, M>) -> Self {
+        CaptureFiles { host, gauge }
+    }
+}
+
+impl<'a, H: Files + Clock, M: Write + Copy> Captures for CaptureFiles<'a, H, M> {
+    type Input = Meter<'a, H::File, H, M>;
 
     ghost has = { λ _ _ _. ⊤ };
 
     ghost can_refuse = { λ _. ⊤ };
 
-    fn open_named(&self, name: &str) -> Result<F::File, OpenFault> {
-        let file = match fs::open(self, name) {
+    fn open_named(&self, name: &str) -> Result<Meter<'a, H::File, H, M>, OpenFault> {
+        let file = match fs::open(self.host, name) {
             Ok(file) => file,
             Err(error) => return Err(open_fault(&error)),
         };
-        match file.metadata() {
-            Ok(metadata) if metadata.is_dir() => Err(OpenFault::IsADirectory),
-            _ => Ok(file),
-        }
+        let size = match file.metadata() {
+            Ok(metadata) if metadata.is_dir() => return Err(OpenFault::IsADirectory),
+            Ok(metadata) if metadata.is_file() => Some(metadata.len()),
+            _ => None,
+        };
+        Ok(Meter::new(file, size, self.gauge))
+    }
+
+    fn show(&self) {
+        self.gauge.show();
+    }
+
+    fn end_line(&self) {
+        self.gauge.end_line();
     }
 }
 

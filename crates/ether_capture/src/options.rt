@@ -62,6 +62,7 @@ fn command<'a>(alloc: Global) -> Result<Command<'a>, AllocError>
         .arg(flag(alloc, "write"))?
         .arg(flag(alloc, "cut-to-headers"))?
         .arg(flag(alloc, "pop-vlan"))?
+        .arg(flag(alloc, "progress"))?
         .arg(option(alloc, "push-vlan"))?
         .arg(option(alloc, "set-vlan"))?
         .arg(option(alloc, "select"))?
@@ -79,8 +80,8 @@ fn command<'a>(alloc: Global) -> Result<Command<'a>, AllocError>
 ///
 /// Options go before, between and after the names of files: `--plain`, `--limit` with a number of headers and `--format` with `lines` or `json`; or `--write`, or `-w` with the name
 /// of the copy, and with it one of `--cut-to-headers`, `--pop-vlan`, `--push-vlan` with a tag and `--set-vlan` with two identifiers; `--select`
-/// with the text of a filter, and with it `--undecided` with `keep` or `drop`; `-c` with a number of packets; and `-r` with the name of the only
-/// file. `--help` and `--version` need no others.
+/// with the text of a filter, and with it `--undecided` with `keep` or `drop`; `-c` with a number of packets; `-r` with the name of the only
+/// file; and `--progress`. `--help` and `--version` need no others.
 pub fn request_of_words<'a>(words: &'a [String], alloc: Global) -> Result<Request<'a>, RequestError>
     ensures ok { IfOk result (λ request. NamesRequest (map string_bytes words.now) (request_view request)) }
     ensures err { IfErr result (RefusesWords (map string_bytes words.now)) }
@@ -120,6 +121,7 @@ impl<'a> Asked<'a> {
         Ok(Asked {
             is_plain: is_set(matches, "plain"),
             is_write: is_set(matches, "write"),
+            is_shown: is_set(matches, "progress"),
             edit,
             text: text_of(matches, "select"),
             undecided,

@@ -55,6 +55,7 @@ pub fn program<C: Captures, K: Copies, R: Source, W: LineSink, M: LineSink>(
         writer,
         messages,
     );
+    captures.end_line();
     end(&outcome, writer, messages)
 }
 
@@ -103,6 +104,9 @@ fn run_job<'a, C: Captures, K: Copies, R: Source, W: Sink>(
         (W.contents writer.new) (K.file copies.old) (K.file copies.new) result }
     ensures flushed { IfGone result (Settles W.is_flushed writer.old writer.new) }
 {
+    if job.is_shown {
+        captures.show();
+    }
     match (job.input, job.output) {
         (None, None) => Outcome::Run(run_input(&job.task, alloc, reader, writer).0),
         (Some(name), None) => run_file(&job.task, name, alloc, captures, writer),

@@ -11,6 +11,7 @@ pub mod files;
 pub mod heap_memory;
 pub mod interface_buffer;
 pub mod memory;
+pub mod meter;
 pub mod opening;
 pub mod options;
 pub mod program;

@@ -2,7 +2,8 @@
 //!
 //! Written by hand, not proved: `crates/ether_capture/src/main.rt` takes them from the runtime of Rattle.
 use ether_tools::ether_capture::copy_files::CopyFiles;
-use ether_tools::ether_capture::opening::FileSystem;
+use ether_tools::ether_capture::meter::{Gauge, Meter};
+use ether_tools::ether_capture::opening::CaptureFiles;
 use ether_tools::ether_capture::program::program;
 use ether_tools::ether_text::{Noted, tell_failure};
 use ether_tools::ether_capture::memory::Global;
@@ -13,9 +14,11 @@ use std::process::ExitCode;
 fn main() -> io::Result<ExitCode> {
     let args = arguments();
     let unread = args.as_ref().err().map(|error| error.kind().into());
-    let mut input = Noted::new(input()?);
+    let gauge = Gauge::default();
+    let mut input = Noted::new(Meter::new(input()?, None, &gauge));
     let mut output = Noted::new(output()?);
-    let status = program(args, Global, &FileSystem, &mut CopyFiles, &mut input, &mut output, &mut io::stderr());
+    let captures = CaptureFiles { gauge: &gauge };
+    let status = program(args, Global, &captures, &mut CopyFiles, &mut input, &mut output, &mut io::stderr());
     let (input, output) = (input.error(), output.error());
     let is_stream = unread.is_some() || input.is_some() || output.is_some();
     if status == 4 && is_stream {

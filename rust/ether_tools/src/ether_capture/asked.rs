@@ -46,6 +46,8 @@ pub struct Job<'a> {
     pub input: Option<&'a str>,
     /// The name of the copy's file, unless what is made goes to standard output.
     pub output: Option<&'a str>,
+    /// Whether is shown how far it is read.
+    pub is_shown: bool,
 }
 
 /// Which lines of several captures.
@@ -59,12 +61,15 @@ pub struct Listing<'a> {
     pub options: LineOptions,
     /// The names of their files, two at least.
     pub files: Vec<&'a str>,
+    /// Whether is shown how far they are read.
+    pub is_shown: bool,
 }
 
 /// What options ask for.
 pub(crate) struct Asked<'a> {
     pub(crate) is_plain: bool,
     pub(crate) is_write: bool,
+    pub(crate) is_shown: bool,
     pub(crate) edit: Option<PacketEdit>,
     pub(crate) text: Option<&'a str>,
     pub(crate) undecided: Option<Undecided>,
@@ -113,6 +118,7 @@ impl<'a> Asked<'a> {
                 count: self.count,
                 options: self.options(),
                 files: self.files,
+                is_shown: self.is_shown,
             })),
             Ok(filter) => {
                 let form = self.form();
@@ -125,6 +131,7 @@ impl<'a> Asked<'a> {
                     task,
                     input: self.input(),
                     output: self.output(),
+                    is_shown: self.is_shown,
                 }))
             }
             Err(error) => Err(RequestError::Filter(error)),

@@ -3,7 +3,7 @@
 use crate::ether_stream::OpenFault;
 use crate::ether_text::Source;
 
-/// What opens captures by their names: any `Files` of the runtime.
+/// What opens captures by their names, and can show how far they are read.
 ///
 /// What is proved for all of them is proved for one that can't fail, too. So whoever reports that a capture can't be opened has
 /// tried it.
@@ -22,4 +22,10 @@ pub trait Captures {
     ///
     /// </details>
     fn open_named(&self, name: &str) -> Result<Self::Input, OpenFault>;
+
+    /// From here on shows how far captures are read, these and standard input.
+    fn show(&self);
+
+    /// Ends the line in which that is shown, if there is one.
+    fn end_line(&self);
 }

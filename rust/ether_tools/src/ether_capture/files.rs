@@ -84,6 +84,9 @@ pub fn run_files<C: Captures, W: Sink, M: LineSink>(
     writer: &mut W,
     messages: &mut M,
 ) -> Result<u8, OutputFault> {
+    if listing.is_shown {
+        captures.show();
+    }
     let is_plain = listing.options.is_plain;
     let selects = listing.selection.is_some();
     let tally = read_files(listing, alloc, captures, writer, messages)?;
@@ -133,6 +136,7 @@ fn read_file<C: Captures, W: Sink, M: LineSink>(
     if is_output_fault(&end) {
         return Err(OutputFault);
     }
+    captures.end_line();
     tell_reason(name, &end, messages);
     Ok(tally.with(counts, &end))
 }

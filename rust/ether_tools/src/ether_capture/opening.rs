@@ -1,21 +1,35 @@
 //! Opens captures in the file system. Written by hand, not proved.
 use crate::ether_capture::captures::Captures;
+use crate::ether_capture::meter::{Gauge, Meter};
 use crate::ether_stream::OpenFault;
 use std::fs::File;
 use std::io::{Error, ErrorKind};
 
-/// The file system.
-pub struct FileSystem;
+/// Captures in files, and what shows how far they are read.
+pub struct CaptureFiles<'a> {
+    /// What shows it.
+    pub gauge: &'a Gauge,
+}
 
-impl Captures for FileSystem {
-    type Input = File;
+impl<'a> Captures for CaptureFiles<'a> {
+    type Input = Meter<'a, File>;
 
-    fn open_named(&self, name: &str) -> Result<File, OpenFault> {
+    fn open_named(&self, name: &str) -> Result<Meter<'a, File>, OpenFault> {
         let file = File::open(name).map_err(|error| open_fault(&error))?;
-        match file.metadata() {
-            Ok(metadata) if metadata.is_dir() => Err(OpenFault::IsADirectory),
-            _ => Ok(file),
-        }
+        let size = match file.metadata() {
+            Ok(metadata) if metadata.is_dir() => return Err(OpenFault::IsADirectory),
+            Ok(metadata) if metadata.is_file() => Some(metadata.len()),
+            _ => None,
+        };
+        Ok(Meter::new(file, size, self.gauge))
+    }
+
+    fn show(&self) {
+        self.gauge.show();
+    }
+
+    fn end_line(&self) {
+        self.gauge.end_line();
     }
 }
 

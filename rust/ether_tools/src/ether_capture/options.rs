@@ -6,11 +6,12 @@ use clap::error::ErrorKind;
 use clap::{Arg, ArgAction, ArgMatches, Command, ValueHint};
 
 /// Options without a value, and what the completions of shells say of them.
-const FLAGS: [(&str, &str); 4] = [
+const FLAGS: [(&str, &str); 5] = [
     ("plain", "leave out the lines of packets and the totals"),
     ("write", "write the capture itself"),
     ("cut-to-headers", "cut each packet where its link-layer headers end"),
     ("pop-vlan", "take the VLAN tag after the link's header off each frame"),
+    ("progress", "show how many bytes are read"),
 ];
 
 /// Options with a value.
@@ -58,6 +59,7 @@ fn asked<'a>(matches: &ArgMatches, words: &'a [String]) -> Result<Asked<'a>, Usa
     Ok(Asked {
         is_plain: matches.get_flag("plain"),
         is_write: matches.get_flag("write"),
+        is_shown: matches.get_flag("progress"),
         edit: edit_of_words(cuts, pops, push, set)?,
         text: text_of(matches, words, "select"),
         undecided: undecided_of(text_of(matches, words, "undecided"))?,

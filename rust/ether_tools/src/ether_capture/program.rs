@@ -55,6 +55,7 @@ pub fn program<C: Captures, K: Copies, R: Source, W: LineSink, M: LineSink>(
         writer,
         messages,
     );
+    captures.end_line();
     end(&outcome, writer, messages)
 }
 
@@ -90,6 +91,9 @@ fn run_job<'a, C: Captures, K: Copies, R: Source, W: Sink>(
     reader: &mut R,
     writer: &mut W,
 ) -> Outcome<'a> {
+    if job.is_shown {
+        captures.show();
+    }
     match (job.input, job.output) {
         (None, None) => Outcome::Run(run_input(&job.task, alloc, reader, writer).0),
         (Some(name), None) => run_file(&job.task, name, alloc, captures, writer),
