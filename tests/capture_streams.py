@@ -99,6 +99,28 @@ def files_of_others(program):
     return [("a copy to a folder of others", (found, files), wanted)]
 
 
+def protected_files(program):
+    """A copy to a file that may not be written, in a folder that may."""
+    with tempfile.TemporaryDirectory() as folder:
+        filled(folder, {"one": CLASSIC, "two": OLD})
+        os.chmod(folder, 0o777)
+        os.chmod(os.path.join(folder, "two"), 0o444)
+        other = {"user": 65_534} if os.getuid() == 0 else {}
+        found = run_apart(program, ["-w", "two", "one"], b"", cwd=folder, **other)
+        wanted = ("", not_written("two", ": permission denied"), 4), {"one": CLASSIC, "two": OLD}
+        return [("a copy to a protected file", (found, contents(folder)), wanted)]
+
+
+def links(program):
+    """A copy by a symbolic link to a file in another folder."""
+    with tempfile.TemporaryDirectory() as folder, tempfile.TemporaryDirectory() as other:
+        filled(other, {"two": OLD})
+        os.symlink(os.path.join(other, "two"), os.path.join(folder, "link"))
+        found = run_apart(program, ["-w", "link"], CLASSIC, cwd=folder)
+        is_link = os.path.islink(os.path.join(folder, "link"))
+        return [("a copy by a link", (found, is_link, os.listdir(folder), contents(other)), (("", "", 0), True, ["link"], {"two": CLASSIC}))]
+
+
 def until(holds):
     """Waits some seconds until something holds, and says whether it does."""
     for _ in range(1_000):
@@ -203,4 +225,4 @@ def streams(program):
     for name, words, given, files, text, said, status, changed in COPIES + READS:
         found = done(program, words, given, files)
         tried.append((f"-w or -r: {name}", found, (text, said, status, {**files, **changed})))
-    return [*tried, *files_too_large(program), *files_of_others(program), *killed_runs(program), *modes(program), *closed_pipes(program), *progress(program)]
+    return [*tried, *files_too_large(program), *files_of_others(program), *protected_files(program), *links(program), *killed_runs(program), *modes(program), *closed_pipes(program), *progress(program)]

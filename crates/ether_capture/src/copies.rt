@@ -6,6 +6,9 @@ use ether_text::Sink;
 
 /// What keeps copies by their names, as files do.
 ///
+/// What is proved for all of them is proved for one whose files are known, and for one that can't fail. So whoever reports that a copy can't be
+/// written has tried it.
+///
 /// A copy is begun, written and then finished or given up. Only when it is finished does its file get the copy's bytes, all at once; until then,
 /// and for ever if it is given up, the file is as it was.
 pub trait Copies {

@@ -75,10 +75,14 @@ impl<F: Files> Copies for CopyFiles<'_, F> {
         if found.is_dir() {
             return Err(WriteFault::IsADirectory);
         }
+        let existing = self.directly(name)?;
         if !found.is_file() {
-            return self.directly(name);
+            return Ok(existing);
         }
-        let part = self.beside(name)?;
+        let part = match self.files.canonicalize(self.alloc, name) {
+            Ok(path) => self.beside(path.to_string_lossy())?,
+            Err(_) => self.beside(name)?,
+        };
         match part.file.set_permissions(found.permissions()) {
             Ok(()) | Err(_) => Ok(part),
         }
@@ -89,7 +93,7 @@ impl<F: Files> Copies for CopyFiles<'_, F> {
             return Ok(());
         };
         let moved = match part.file.sync_all() {
-            Ok(()) => fs::rename(self.files, beside.as_str(), name),
+            Ok(()) => self.rename(beside.as_str(), name),
             Err(error) => Err(error),
         };
         match moved {
@@ -113,7 +117,15 @@ impl<F: Files> Copies for CopyFiles<'_, F> {
 }
 
 impl<F: Files> CopyFiles<'_, F> {
-    /// What a name that is not that of a file stands for.
+    /// Gives a part the name of its file. Where that is a symbolic link, the file gets the part that it leads to.
+    fn rename(&self, part: &str, name: &str) -> io::Result<()> {
+        match self.files.canonicalize(self.alloc, name) {
+            Ok(path) => fs::rename(self.files, part, path.to_string_lossy()),
+            Err(_) => fs::rename(self.files, part, name),
+        }
+    }
+
+    /// What a name stands for that is there already.
     fn directly(&self, name: &str) -> Result<PartFile<F::File>, WriteFault> {
         match OpenOptions::new().write(true).open(self.files, name) {
             Ok(file) => Ok(PartFile {

@@ -51,11 +51,11 @@ impl Copies for CopyFiles {
         if found.is_dir() {
             return Err(WriteFault::IsADirectory);
         }
+        let file = OpenOptions::new().write(true).open(name).map_err(|error| write_fault(&error))?;
         if !found.is_file() {
-            let file = OpenOptions::new().write(true).open(name).map_err(|error| write_fault(&error))?;
             return Ok(PartFile { file, beside: None, error: None });
         }
-        let part = beside(name)?;
+        let part = beside(&followed(name))?;
         let _ = part.file.set_permissions(found.permissions());
         Ok(part)
     }
@@ -64,7 +64,7 @@ impl Copies for CopyFiles {
         let Some(beside) = &part.beside else {
             return Ok(());
         };
-        part.file.sync_all().and_then(|()| fs::rename(beside, name)).map_err(|error| {
+        part.file.sync_all().and_then(|()| fs::rename(beside, followed(name))).map_err(|error| {
             let _ = fs::remove_file(beside);
             write_fault(&error)
         })
@@ -76,6 +76,12 @@ impl Copies for CopyFiles {
         }
         part.error.as_ref().map_or(WriteFault::Other, write_fault)
     }
+}
+
+/// The name of the file to which a symbolic link leads, or the name as it is.
+fn followed(name: &str) -> String {
+    let path = fs::canonicalize(name).ok().and_then(|path| path.into_os_string().into_string().ok());
+    path.unwrap_or(name.to_owned())
 }
 
 /// A new file beside that of a name.
