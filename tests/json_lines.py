@@ -4,6 +4,7 @@
 """
 import datetime
 import json
+import os
 import random
 import subprocess
 import tempfile
@@ -218,6 +219,22 @@ def as_tshark(packet):
             of(arp, "tha"), of(arp, "tpa"), ",".join(f"0x{it['an']:02x}" for it in macsec), of(macsec, "pn")]
 
 
+def schema(program):
+    """The worked examples, and 500 drawn packets, are as the schema says."""
+    if subprocess.run([PYTHON, "-c", "import jsonschema"], stderr=subprocess.DEVNULL, check=False).returncode:
+        print("left out: JSON with its schema, since jsonschema is not there")
+        return []
+    captures = [it[1] for it in PACKETS] + [classic(*drawn(500))]
+    packets = sum(len(it[3]) for it in PACKETS) + 500
+    with tempfile.NamedTemporaryFile() as file:
+        for capture in captures:
+            file.write(subprocess.run([program, *JSON], input=capture, capture_output=True, check=False).stdout)
+        file.flush()
+        path = os.path.join(os.path.dirname(os.path.dirname(os.path.abspath(__file__))), "docs", "packet.schema.json")
+        done = subprocess.run([PYTHON, "-c", SCHEMA, path, file.name], capture_output=True, text=True, check=False)
+    return [("JSON with its schema", (done.stdout.split(), done.stderr), ([str(packets), "0", "False"], ""))]
+
+
 def readers(program):
     """20,000 drawn packets: the fields are those of tshark; jq, Miller and pandas read what json reads."""
     frames = drawn(20_000)
@@ -247,10 +264,18 @@ def readers(program):
                 continue
             done = subprocess.run(words, capture_output=True, text=True, check=False)
             tried.append((f"JSON with {name}", (read(done.stdout), done.returncode), (wanted, 0)))
-    return tried
+    return tried + schema(program)
 
 
 PYTHON = "/usr/bin/python3"  # that of Debian, which has its pandas
+SCHEMA = """import json, sys, jsonschema
+schema, *lines = open(sys.argv[1]), *open(sys.argv[2])
+check = jsonschema.Draft202012Validator(json.load(schema))
+packets = [json.loads(line) for line in lines]
+print(len(packets), sum(not check.is_valid(it) for it in packets))
+wrong = json.loads(lines[0])
+del wrong["headers"][0]["dst"]
+print(check.is_valid(wrong))"""
 PANDAS = """import sys, pandas
 all = pandas.read_json(sys.argv[1], lines=True)
 times = pandas.to_datetime(all.time)
