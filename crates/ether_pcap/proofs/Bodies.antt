@@ -43,17 +43,15 @@ enhanced_apart number_len order body v r h (enhanced_packet le small lt) = omega
 
 pub enhanced_refused : (order : Order) (body : List ℕ) (r s : BodyRefusal) → RefusesEnhancedPacket order body r
     → RefusesEnhancedPacket order body s → r ≡ s
-enhanced_refused order body r s (enhanced lt) (enhanced m) = refl
 enhanced_refused order body r s (enhanced lt) (enhanced_too_long le m) = absurd (omega (arith, lt, le))
 enhanced_refused order body r s (enhanced lt) (enhanced_packet le small m) = absurd (omega (arith, lt, le))
 enhanced_refused order body r s (enhanced_too_long le lt) (enhanced m) = absurd (omega (arith, le, m))
-enhanced_refused order body r s (enhanced_too_long le lt) (enhanced_too_long le2 m) = refl
 enhanced_refused order body r s (enhanced_too_long le lt) (enhanced_packet le2 small m) =
     absurd (omega (arith, lt, small))
 enhanced_refused order body r s (enhanced_packet le small lt) (enhanced m) = absurd (omega (arith, le, m))
 enhanced_refused order body r s (enhanced_packet le small lt) (enhanced_too_long le2 m) =
     absurd (omega (arith, small, m))
-enhanced_refused order body r s (enhanced_packet le small lt) (enhanced_packet le2 small2 m) = refl
+enhanced_refused order body r s h k = refl
 
 -- ---- simple packets
 

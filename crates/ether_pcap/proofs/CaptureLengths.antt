@@ -19,10 +19,7 @@ unit_within bytes x y len p (block m order interfaces after packet b other begin
 pub unit_some : (bytes : List ℕ) (x y : Expectation) (len : ℕ) (p : Option PacketValue) → Begins bytes x len p y
     → 0 < len
 unit_some bytes x y len p (file_header m h other is) = omega arith
-unit_some bytes x y len p (file_record h r is) = omega arith
-unit_some bytes x y len p (first_section m order b is) = omega arith
-unit_some bytes x y len p (section m order next interfaces b is) = omega arith
-unit_some bytes x y len p (block m order interfaces after packet b other begins is) = omega arith
+unit_some bytes x y len p h = omega arith
 
 above : (required n len : ℕ) → Some required ≡ Some n → len < required → len < n
 above required n len e lt = let same : required ≡ n = cc in omega (arith, same, lt)
@@ -30,36 +27,27 @@ above required n len e lt = let same : required ≡ n = cc in omega (arith, same
 block_above : (order : Order) (bytes : List ℕ) (r : block_rows.BlockRefusal) (n : ℕ)
     → block_rows.RefusesBlock order bytes r → required_len (Block r) ≡ Some n → length bytes < n
 block_above order bytes r n (block_rows.front lt) e = above 12 n (length bytes) e lt
-block_above order bytes r n (block_rows.total_len le none) e = absurd cc
 block_above order bytes r n (block_rows.body m le is sound lt) e = above m n (length bytes) e lt
-block_above order bytes r n (block_rows.trailer m k le is sound whole at other) e = absurd cc
+block_above order bytes r n h e = absurd cc
 
 section_block_above : (order : Order) (bytes : List ℕ) (r : block_rows.BlockRefusal) (n : ℕ)
     → block_rows.RefusesBlock order bytes r → required_len (Section (section_rows.Block r)) ≡ Some n → length bytes < n
 section_block_above order bytes r n (block_rows.front lt) e = above 12 n (length bytes) e lt
-section_block_above order bytes r n (block_rows.total_len le none) e = absurd cc
 section_block_above order bytes r n (block_rows.body m le is sound lt) e = above m n (length bytes) e lt
-section_block_above order bytes r n (block_rows.trailer m k le is sound whole at other) e = absurd cc
+section_block_above order bytes r n h e = absurd cc
 
 section_above : (bytes : List ℕ) (r : section_rows.SectionRefusal) (n : ℕ) → section_rows.RefusesSection bytes r
     → required_len (Section r) ≡ Some n → length bytes < n
 section_above bytes r n (section_rows.short lt) e = above 12 n (length bytes) e lt
-section_above bytes r n (section_rows.block_type k le is other) e = absurd cc
-section_above bytes r n (section_rows.magic k le t is none) e = absurd cc
 section_above bytes r n (section_rows.block order s le t is refused) e = section_block_above order bytes s n refused e
-section_above bytes r n (section_rows.body order b t m begins lt) e = absurd cc
-section_above bytes r n (section_rows.version order b major minor t m begins le is are none) e = absurd cc
+section_above bytes r n h e = absurd cc
 
 -- no body is refused because the bytes end
 pub body_final : (most : ℕ) (order : Order) (before : List CaptureInterfaceValue) (body : List ℕ) (kind : BlockKind)
     (r : CaptureRefusal)
     → RefusesBody most order before body kind r → required_len r ≡ None
 body_final most order before body kind r (interface s refused) = refl
-body_final most order before body kind r (too_many i is full) = refl
-body_final most order before body kind r (simple_alone none) = refl
-body_final most order before body kind r (simple i s at refused) = refl
-body_final most order before body kind r (enhanced n s refused) = refl
-body_final most order before body kind r (enhanced_alone n p is none) = refl
+body_final most order before body kind r h = refl
 
 pub required_above : (bytes : List ℕ) (x : Expectation) (r : CaptureRefusal) (n : ℕ) → Refuses bytes x r
     → required_len r ≡ Some n → length bytes < n

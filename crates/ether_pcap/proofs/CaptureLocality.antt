@@ -86,12 +86,11 @@ record_local order bytes more r is =
 
 record_refused_local : (order : Order) (bytes more : List ℕ) (r : RecordRefusal) → RefusesRecord order bytes r
     → required_len (Record r) ≡ None → RefusesRecord order (bytes ++ more) r
-record_refused_local order bytes more r (record_rows.header lt) e = absurd cc
-record_refused_local order bytes more r (record_rows.packet le small lt) e = absurd cc
 record_refused_local order bytes more r (record_rows.too_long le lt) e =
     let n = same order bytes more 8 12 (omega arith) (omega arith) in
     subst (λ (m : ℕ). RefusesRecord order (bytes ++ more) (record_rows.TooLong m)) n
     (record_rows.too_long (longer bytes more 16 le) (omega (arith, n, lt)))
+record_refused_local order bytes more r h e = absurd cc
 
 -- ---- blocks
 
@@ -110,8 +109,6 @@ block_local order bytes more b is =
 
 block_refused_local : (order : Order) (bytes more : List ℕ) (r : BlockRefusal) → RefusesBlock order bytes r
     → required_len (Block r) ≡ None → (12 ≤ length bytes) × RefusesBlock order (bytes ++ more) r
-block_refused_local order bytes more r (block_rows.front lt) e = absurd cc
-block_refused_local order bytes more r (block_rows.body n le is sound lt) e = absurd cc
 block_refused_local order bytes more r (block_rows.total_len le none) e =
     let n = same order bytes more 4 8 (omega arith) (omega arith) in (
       le,
@@ -124,6 +121,7 @@ block_refused_local order bytes more r (block_rows.trailer n m le is sound whole
       (longer bytes more n whole)
       (same order bytes more (n - 4) n (omega arith) whole ∙ at) other,
 )
+block_refused_local order bytes more r h e = absurd cc
 
 -- ---- section headers
 
@@ -150,8 +148,7 @@ section_local bytes more order b is =
 
 same_required : (r : BlockRefusal) → required_len (Block r) ≡ required_len (Section (section_rows.Block r))
 same_required (block_rows.Short required len) = refl
-same_required (block_rows.TotalLen n) = refl
-same_required (block_rows.Trailer n m) = refl
+same_required r = refl
 
 section_refused_local : (bytes more : List ℕ) (r : SectionRefusal) → HasSectionType bytes → RefusesSection bytes r
     → required_len (Section r) ≡ None → HasSectionType (bytes ++ more) × RefusesSection (bytes ++ more) r

@@ -427,10 +427,9 @@ some_unit (Blocks m order interfaces) bytes =
 -- whether a file has ended
 pub at_end : (x : Expectation) (bytes : List ℕ) → IsEnd x bytes ⊎ (IsEnd x bytes → ⊥)
 at_end (Beginning m) bytes = inr (λ e. e.0)
-at_end (Records h) [] = inl (tt, refl)
 at_end (Records h) (b ∷ bytes) = inr (λ e. let n = e.1 in absurd cc)
-at_end (Blocks m order interfaces) [] = inl (tt, refl)
 at_end (Blocks m order interfaces) (b ∷ bytes) = inr (λ e. let n = e.1 in absurd cc)
+at_end x [] = inl (tt, refl)
 
 goes_on : (x y : Expectation) (bytes : List ℕ) (len : ℕ) (p : Option PacketValue) → Begins bytes x len p y
     → Packets y (drop len bytes) → Packets x bytes

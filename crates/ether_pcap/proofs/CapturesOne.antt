@@ -111,8 +111,6 @@ body_refusal_one kind most order before body r s (interface a refused) (too_many
     absurd (interface_apart order body d.interface a d.is_interface refused)
 body_refusal_one kind most order before body r s (too_many i d full) (interface a refused) =
     absurd (interface_apart order body d.interface a d.is_interface refused)
-body_refusal_one kind most order before body r s (too_many i d full) (too_many j d2 full2) = refl
-body_refusal_one kind most order before body r s (simple_alone none) (simple_alone none2) = refl
 body_refusal_one kind most order before body r s (simple_alone none) (simple i a at refused) =
     absurd (omega (arith, at_within before 0 i at, none))
 body_refusal_one kind most order before body r s (simple i a at refused) (simple_alone none) =
@@ -130,6 +128,7 @@ body_refusal_one kind most order before body r s (enhanced_alone n v is none) (e
     absurd (enhanced_apart n order body v a is refused)
 body_refusal_one kind most order before body r s (enhanced_alone n v is none) (enhanced_alone n2 w is2 none2) =
     ap (λ (k : EnhancedPacketValue). NoInterface k.interface) (enhanced_one n order body v w is is2)
+body_refusal_one kind most order before body r s h k = refl
 
 -- ---- units
 

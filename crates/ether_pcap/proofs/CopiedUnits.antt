@@ -31,9 +31,7 @@ interface_room : (kind : BlockKind) (most : ℕ) (order : Order) (before after :
     (body : List ℕ) (p : Option PacketValue) → kind ≡ InterfaceDescription
     → IsBody kind most order before body p after → 8 ≤ length body
 interface_room InterfaceDescription most order before after body p e (i, d, lt, f, g) = d.is_interface.len
-interface_room SimplePacket most order before after body p e is = absurd cc
-interface_room (EnhancedPacket n) most order before after body p e is = absurd cc
-interface_room Other most order before after body p e is = absurd cc
+interface_room kind most order before after body p e is = absurd cc
 
 -- a unit without a packet
 room_if : (bytes : List ℕ) (x y : Expectation) (len : ℕ) (p : Option PacketValue) → p ≡ None
@@ -389,22 +387,18 @@ WhyNot p o =
 simple_if : (kind : BlockKind) (raise m : ℕ) (order : Order) (interfaces : List CaptureInterfaceValue)
     (body : List ℕ) (p : PacketValue)
     → IsBody kind m order interfaces body (Some p) interfaces → is_kept raise kind p ≡ false → p.time ≡ None
-simple_if InterfaceDescription raise m order interfaces body p is e = absurd cc
 simple_if SimplePacket raise m order interfaces body p (i, v, at, is, f, g) e =
     ap (λ (q : PacketValue). q.time) (same_packet p (simple_packet_on i v) f)
-simple_if (EnhancedPacket n) raise m order interfaces body p is e = absurd cc
-simple_if Other raise m order interfaces body p is e = absurd cc
+simple_if kind raise m order interfaces body p is e = absurd cc
 
 left_out : (mode : ModeValue) (x : Expectation) (u : List ℕ) (p : PacketValue) → Begins u x (length u) (Some p) x
     → packet_unit mode x p u ≡ None → p.time ≡ None
-left_out Exact x u p begins is = absurd cc
-left_out (Changed raise) (Beginning m) u p begins is = absurd cc
-left_out (Changed raise) (Records h) u p begins is = absurd cc
 left_out (Changed raise) (Blocks m order interfaces) u p begins is =
     let b = (block_of_unit u (Blocks m order interfaces) (length u) m order interfaces p begins).0 in
     let left = left_if (is_kept raise (kind_of_block (field order u 0 4)) p) u is in
     simple_if (kind_of_block b.value.block_type) raise m order interfaces b.value.body p b.body
     (ap (λ (n : ℕ). is_kept raise (kind_of_block n) p) (sym b.begins.block_type) ∙ left)
+left_out mode x u p begins is = absurd cc
 
 pub why_not_copied : (mode : ModeValue) (x : Expectation) (u : List ℕ) (p : PacketValue) (o : Option EditedValue)
     → Begins u x (length u) (Some p) x → unit_after mode x p o u ≡ None → WhyNot p o

@@ -211,13 +211,11 @@ range_after : (bytes : List ℕ) (x y : Expectation) (len : ℕ) (p : Option Pac
 range_after bytes x y len p ok (file_header m h other is) range =
     subst IsFour is.snap_len (four_field h.order bytes 16 ok (let long : 24 ≤ length bytes = is.len in omega (arith, long)))
 range_after bytes x y len p ok (file_record h r is) range = range
-range_after bytes x y len p ok (first_section m order b is) range =
-    All-nil (λ (j : CaptureInterfaceValue). IsFour j.snap_len)
-range_after bytes x y len p ok (section m order next interfaces b is) range =
-    All-nil (λ (j : CaptureInterfaceValue). IsFour j.snap_len)
 range_after bytes x y len p ok (block m order interfaces after q b other begins body) range =
     body_range (kind_of_block b.block_type) m order interfaces after b.body q
     (subst IsBytes begins.body (IsBytes-part 8 (8 + length b.body) bytes ok)) body range
+range_after bytes x y len p ok h range =
+    All-nil (λ (j : CaptureInterfaceValue). IsFour j.snap_len)
 
 body_packet : (kind : BlockKind) (most : ℕ) (order : Order) (before after : List CaptureInterfaceValue)
     (body : List ℕ) (o : Option PacketValue) (p : PacketValue) → o ≡ Some p
@@ -250,12 +248,9 @@ part_of_take bytes n j le =
 -- a packet has a snap length of four bytes, and its unit is kept
 range_packet : (bytes : List ℕ) (x y : Expectation) (len : ℕ) (o : Option PacketValue) (p : PacketValue) → o ≡ Some p
     → Begins bytes x len o y → InRange x → IsFour p.snap_len × (packet_unit (Changed 0) x p (take len bytes) ≡ Some (take len bytes))
-range_packet bytes x y len o p some (file_header m h other is) range = absurd cc
 range_packet bytes x y len o p some (file_record h r is) range =
     let same = same_packet (packet_of_record h r) p some in
     (subst (λ (v : PacketValue). IsFour v.snap_len) same range, refl)
-range_packet bytes x y len o p some (first_section m order b is) range = absurd cc
-range_packet bytes x y len o p some (section m order next interfaces b is) range = absurd cc
 range_packet bytes x y len o p some (block m order interfaces after q b other begins body) range =
     let found = body_packet (kind_of_block b.block_type) m order interfaces after b.body q p some body range in
     let unit = take len bytes in
@@ -265,6 +260,7 @@ range_packet bytes x y len o p some (block m order interfaces after q b other be
     let kept : is_kept 0 (kind_of_block (field order unit 0 4)) p ≡ true =
     ap (λ (n : ℕ). is_kept 0 (kind_of_block n) p) type_same ∙ found.1 in
     (found.0, ap (λ (z : Bool). if z then Some unit else None) kept)
+range_packet bytes x y len o p some h range = absurd cc
 
 -- ---- a copy of a copy, unit by unit
 

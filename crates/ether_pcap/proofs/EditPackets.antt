@@ -259,7 +259,6 @@ why_block : (kind : BlockKind) (limit : ℕ) (order : Order) (interfaces : List 
     → slice_range u 8 (length u - 4) ≡ body → IsTotalLen (12 + length body)
     → IsBody kind limit order interfaces body (Some p) interfaces → edited_block kind order (length p.packet) e u ≡ None
     → Why p e
-why_block InterfaceDescription limit order interfaces u body p e is_body sound (i, d, lt, f, g) is = absurd cc
 why_block SimplePacket limit order interfaces u body p e is_body sound (i, q, at, v, f, g) is =
     inl (ap (λ (r : PacketValue). r.time) (same_packet p (simple_packet_on i q) f))
 why_block (EnhancedPacket k) limit order interfaces u body p e is_body sound (i, v, options, is_v, at, has, f, g) is =
@@ -277,7 +276,7 @@ why_block (EnhancedPacket k) limit order interfaces u body p e is_body sound (i,
           let bad : Some all ≡ None = subst Is (le-ltb 16777216 (12 + length new) most) is in
           absurd cc
     ]
-why_block Other limit order interfaces u body p e is_body sound (f, g) is = absurd cc
+why_block kind limit order interfaces u body p e is_body sound h is = absurd cc
 
 why_unit : (x : Expectation) (u : List ℕ) (p : PacketValue) (e : EditedValue) → Begins u x (length u) (Some p) x
     → unit_with x (length p.packet) e u ≡ None → Why p e

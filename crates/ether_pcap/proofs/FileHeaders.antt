@@ -24,15 +24,12 @@ ends (a ∷ b ∷ c ∷ d ∷ []) len ok Nanoseconds Nanoseconds p q =
 ends (a ∷ b ∷ c ∷ d ∷ e ∷ l) len ok r s p q = omega arith
 
 one_resolution : (n : ℕ) (r s : Resolution) → n ≡ magic_of r → n ≡ magic_of s → r ≡ s
-one_resolution n Microseconds Microseconds p q = refl
 one_resolution n Microseconds Nanoseconds p q = absurd (omega (arith, p, q))
 one_resolution n Nanoseconds Microseconds p q = absurd (omega (arith, p, q))
-one_resolution n Nanoseconds Nanoseconds p q = refl
+one_resolution n r s p q = refl
 
 magic_one : (bytes : List ℕ) (o p : Order) (r s : Resolution) → IsBytes bytes → 24 ≤ length bytes → HasMagic bytes o r
     → HasMagic bytes p s → (o ≡ p) × (r ≡ s)
-magic_one bytes BigEndian BigEndian r s ok le h k = (refl, one_resolution _ r s h k)
-magic_one bytes LittleEndian LittleEndian r s ok le h k = (refl, one_resolution _ r s h k)
 magic_one bytes BigEndian LittleEndian r s ok le h k =
     absurd
     (ends (slice_range bytes 0 4) (length-part bytes 0 4 (omega arith) ∙ omega arith) (IsBytes-part 0 4 bytes ok) r
@@ -41,6 +38,7 @@ magic_one bytes LittleEndian BigEndian r s ok le h k =
     absurd
     (ends (slice_range bytes 0 4) (length-part bytes 0 4 (omega arith) ∙ omega arith) (IsBytes-part 0 4 bytes ok) s
     r k h)
+magic_one bytes o p r s ok le h k = (refl, one_resolution _ r s h k)
 
 pub one_header : (bytes : List ℕ) (h k : FileHeaderValue) → IsBytes bytes → IsFileHeader bytes h → IsFileHeader bytes k
     → h ≡ k

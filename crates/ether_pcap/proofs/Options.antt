@@ -35,9 +35,6 @@ Agrees order code whole rest =
     (options : List OptionValue) → HasOptions order whole options
     → (left : List OptionValue) × HasOptions order rest left × (value_of code options ≡ value_of code left)
 
-pub agrees_start : (order : Order) (code : ℕ) (whole : List ℕ) → Agrees order code whole whole
-agrees_start order code whole options has = (options, has, refl)
-
 skipped : (order : Order) (code : ℕ) (rest : List ℕ) (o : OptionValue) (found : Option (List ℕ))
     (left : List OptionValue)
     → BeginsOption order rest o → o.code ≢ code → HasOptions order rest left → found ≡ value_of code left

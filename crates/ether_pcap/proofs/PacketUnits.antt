@@ -21,7 +21,6 @@ same_packet p q e = ap (λ (o : Option PacketValue). unwrap_or o p) e
 record_if : (bytes : List ℕ) (x y : Expectation) (len : ℕ) (packet : Option PacketValue) (h : FileHeaderValue)
     (p : PacketValue) → x ≡ Records h → packet ≡ Some p → Begins bytes x len packet y
     → (r : RecordValue) × BeginsRecord h.order bytes r × (len ≡ record_len r) × (p ≡ packet_of_record h r)
-record_if bytes x y len packet h p e f (file_header m g other is) = absurd cc
 record_if bytes x y len packet h p e f (file_record g r is) =
     let same : g ≡ h = cc in (
       r,
@@ -29,9 +28,7 @@ record_if bytes x y len packet h p e f (file_record g r is) =
       refl,
       sym (same_packet (packet_of_record g r) p f) ∙ ap (λ (z : FileHeaderValue). packet_of_record z r) same,
     )
-record_if bytes x y len packet h p e f (first_section m order b is) = absurd cc
-record_if bytes x y len packet h p e f (section m order next interfaces b is) = absurd cc
-record_if bytes x y len packet h p e f (block m order interfaces after q b other begins is) = absurd cc
+record_if bytes x y len packet h p e f k = absurd cc
 
 pub record_of_unit : (bytes : List ℕ) (y : Expectation) (len : ℕ) (h : FileHeaderValue) (p : PacketValue)
     → Begins bytes (Records h) len (Some p) y
@@ -84,12 +81,10 @@ same_interfaces Other most order before after body packet p is (e, f) = f
 
 same_if : (bytes : List ℕ) (x y : Expectation) (len : ℕ) (packet : Option PacketValue) (p : PacketValue)
     → packet ≡ Some p → Begins bytes x len packet y → y ≡ x
-same_if bytes x y len packet p e (file_header m h other is) = absurd cc
 same_if bytes x y len packet p e (file_record h r is) = refl
-same_if bytes x y len packet p e (first_section m order b is) = absurd cc
-same_if bytes x y len packet p e (section m order next interfaces b is) = absurd cc
 same_if bytes x y len packet p e (block m order interfaces after q b other begins is) =
     ap (Blocks m order) (same_interfaces (kind_of_block b.block_type) m order interfaces after b.body q p e is)
+same_if bytes x y len packet p e h = absurd cc
 
 -- after a packet the same is expected as before it
 pub same_after : (bytes : List ℕ) (x y : Expectation) (len : ℕ) (p : PacketValue) → Begins bytes x len (Some p) y
@@ -102,10 +97,7 @@ same_after bytes x y len p begins = same_if bytes x y len (Some p) p refl begins
 pub begun : (bytes : List ℕ) (x y : Expectation) (len : ℕ) (p : Option PacketValue) → Begins bytes x len p y
     → HasBegun y
 begun bytes x y len p (file_header m h other is) = tt
-begun bytes x y len p (file_record h r is) = tt
-begun bytes x y len p (first_section m order b is) = tt
-begun bytes x y len p (section m order next interfaces b is) = tt
-begun bytes x y len p (block m order interfaces after packet b other begins is) = tt
+begun bytes x y len p h = tt
 
 pub begun_before : (bytes : List ℕ) (x y : Expectation) (len : ℕ) (p : PacketValue)
     → Begins bytes x len (Some p) y → HasBegun x
@@ -116,10 +108,6 @@ block_if : (bytes : List ℕ) (x y : Expectation) (len : ℕ) (packet : Option P
     (interfaces : List CaptureInterfaceValue) (p : PacketValue)
     → x ≡ Blocks most order interfaces → packet ≡ Some p → Begins bytes x len packet y
     → (b : PacketBlock most order interfaces bytes p) × (len ≡ 12 + length b.value.body)
-block_if bytes x y len packet most order interfaces p e f (file_header m h other is) = absurd cc
-block_if bytes x y len packet most order interfaces p e f (file_record h r is) = absurd cc
-block_if bytes x y len packet most order interfaces p e f (first_section m o b is) = absurd cc
-block_if bytes x y len packet most order interfaces p e f (section m o next i b is) = absurd cc
 block_if bytes x y len packet most order interfaces p e f (block m o i after q b other begins is) =
     let a : o ≡ order = cc in
     let c : i ≡ interfaces = cc in
@@ -140,6 +128,7 @@ block_if bytes x y len packet most order interfaces p e f (block m o i after q b
       },
       refl,
     )
+block_if bytes x y len packet most order interfaces p e f h = absurd cc
 
 pub block_of_unit : (bytes : List ℕ) (y : Expectation) (len most : ℕ) (order : Order)
     (interfaces : List CaptureInterfaceValue) (p : PacketValue)
@@ -162,7 +151,6 @@ body_of_unit most order interfaces bytes p b len =
 few_in_body : (kind : BlockKind) (most : ℕ) (order : Order) (interfaces : List CaptureInterfaceValue)
     (body : List ℕ) (p : PacketValue) → IsBody kind most order interfaces body (Some p) interfaces
     → length p.packet ≤ 262144
-few_in_body InterfaceDescription most order interfaces body p (i, d, lt, e, f) = absurd cc
 few_in_body SimplePacket most order interfaces body p (i, v, at, is, e, f) =
     let m : length p.packet ≡ length v.packet =
     ap (λ (r : PacketValue). length r.packet) (same_packet p (simple_packet_on i v) e) in
@@ -171,7 +159,7 @@ few_in_body (EnhancedPacket n) most order interfaces body p (i, v, o, is, at, ha
     let m : length p.packet ≡ length v.packet =
     ap (λ (r : PacketValue). length r.packet) (same_packet p (packet_on order i v o) e) in
     omega (arith, m, is.room)
-few_in_body Other most order interfaces body p (e, f) = absurd cc
+few_in_body kind most order interfaces body p h = absurd cc
 
 pub packet_room : (x : Expectation) (u : List ℕ) (p : PacketValue) → Begins u x (length u) (Some p) x
     → length p.packet ≤ 262144
@@ -203,16 +191,14 @@ bytes_in_body Other most order before after body packet p e ok (f, g) =
 
 bytes_if : (bytes : List ℕ) (x y : Expectation) (len : ℕ) (packet : Option PacketValue) (p : PacketValue)
     → packet ≡ Some p → IsBytes bytes → Begins bytes x len packet y → IsBytes p.packet
-bytes_if bytes x y len packet p e ok (file_header m h other is) = absurd cc
 bytes_if bytes x y len packet p e ok (file_record h r is) =
     let same : p ≡ packet_of_record h r = same_packet p (packet_of_record h r) (sym e) in
     subst (λ (q : PacketValue). IsBytes q.packet) (sym same)
     (subst IsBytes is.packet (IsBytes-part 16 (16 + length r.packet) bytes ok))
-bytes_if bytes x y len packet p e ok (first_section m order b is) = absurd cc
-bytes_if bytes x y len packet p e ok (section m order next interfaces b is) = absurd cc
 bytes_if bytes x y len packet p e ok (block m order interfaces after q b other begins is) =
     bytes_in_body (kind_of_block b.block_type) m order interfaces after b.body q p e
     (subst IsBytes begins.body (IsBytes-part 8 (8 + length b.body) bytes ok)) is
+bytes_if bytes x y len packet p e ok h = absurd cc
 
 pub packet_bytes : (bytes : List ℕ) (x y : Expectation) (len : ℕ) (p : PacketValue) → IsBytes bytes
     → Begins bytes x len (Some p) y → IsBytes p.packet

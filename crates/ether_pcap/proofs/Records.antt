@@ -30,15 +30,13 @@ record_apart order bytes r e h (packet le small lt) = omega (arith, h.whole, h.c
 
 pub refusal_one : (order : Order) (bytes : List ℕ) (e f : RecordRefusal) → RefusesRecord order bytes e
     → RefusesRecord order bytes f → e ≡ f
-refusal_one order bytes e f (header lt) (header m) = refl
 refusal_one order bytes e f (header lt) (too_long le m) = absurd (omega (arith, lt, le))
 refusal_one order bytes e f (header lt) (packet le small m) = absurd (omega (arith, lt, le))
 refusal_one order bytes e f (too_long le lt) (header m) = absurd (omega (arith, le, m))
-refusal_one order bytes e f (too_long le lt) (too_long le2 m) = refl
 refusal_one order bytes e f (too_long le lt) (packet le2 small m) = absurd (omega (arith, lt, small))
 refusal_one order bytes e f (packet le small lt) (header m) = absurd (omega (arith, le, m))
 refusal_one order bytes e f (packet le small lt) (too_long le2 m) = absurd (omega (arith, small, m))
-refusal_one order bytes e f (packet le small lt) (packet le2 small2 m) = refl
+refusal_one order bytes e f h k = refl
 
 -- ---- what a reader gives
 

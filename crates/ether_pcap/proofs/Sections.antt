@@ -10,25 +10,20 @@ use Rattle.ether_pcap.proofs.Blocks.{block_one, block_apart, block_refusal_one}
 
 -- no four bytes are the byte-order magic in both orders
 ends : (l : List ℕ) → length l ≡ 4 → IsBytes l → number l ≡ 0x1A2B3C4D → number_from_low l ≡ 0x1A2B3C4D → ⊥
-ends [] len ok p q = omega arith
-ends (a ∷ []) len ok p q = omega arith
-ends (a ∷ b ∷ []) len ok p q = omega arith
-ends (a ∷ b ∷ c ∷ []) len ok p q = omega arith
 ends (a ∷ b ∷ c ∷ d ∷ []) len ok p q =
     let x = ok 0 in let y = ok 1 in let z = ok 2 in let w = ok 3 in omega (arith, x, y, z, w, p, q)
-ends (a ∷ b ∷ c ∷ d ∷ e ∷ l) len ok p q = omega arith
+ends l len ok p q = omega arith
 
 part : (bytes : List ℕ) → 12 ≤ length bytes → length (slice_range bytes 8 12) ≡ 4
 part bytes le = length-part bytes 8 12 le ∙ omega arith
 
 order_one : (bytes : List ℕ) (o p : Order) → IsBytes bytes → 12 ≤ length bytes → HasOrder bytes o → HasOrder bytes p
     → o ≡ p
-order_one bytes BigEndian BigEndian ok le h k = refl
-order_one bytes LittleEndian LittleEndian ok le h k = refl
 order_one bytes BigEndian LittleEndian ok le h k =
     absurd (ends (slice_range bytes 8 12) (part bytes le) (IsBytes-part 8 12 bytes ok) h k)
 order_one bytes LittleEndian BigEndian ok le h k =
     absurd (ends (slice_range bytes 8 12) (part bytes le) (IsBytes-part 8 12 bytes ok) k h)
+order_one bytes o p ok le h k = refl
 
 enough : (bytes : List ℕ) (o : Order) (b : BlockValue) → BeginsBlock o bytes b → 12 ≤ length bytes
 enough bytes o b h = omega (arith, h.whole)

@@ -15,15 +15,11 @@ use Rattle.ether_pcap.proofs.Writing.{file_header_back, record_back}
 -- four bytes that are a magic number in the other order are no type of a section header
 not_from_low : (l : List ℕ) → length l ≡ 4 → IsBytes l → (r : Resolution) → number_from_low l ≡ magic_of r
     → number l ≡ 0x0A0D0D0A → ⊥
-not_from_low [] len ok r p q = omega arith
-not_from_low (a ∷ []) len ok r p q = omega arith
-not_from_low (a ∷ b ∷ []) len ok r p q = omega arith
-not_from_low (a ∷ b ∷ c ∷ []) len ok r p q = omega arith
 not_from_low (a ∷ b ∷ c ∷ d ∷ []) len ok Microseconds p q =
     let x = ok 0 in let y = ok 1 in let z = ok 2 in let w = ok 3 in omega (arith, x, y, z, w, p, q)
 not_from_low (a ∷ b ∷ c ∷ d ∷ []) len ok Nanoseconds p q =
     let x = ok 0 in let y = ok 1 in let z = ok 2 in let w = ok 3 in omega (arith, x, y, z, w, p, q)
-not_from_low (a ∷ b ∷ c ∷ d ∷ e ∷ l) len ok r p q = omega arith
+not_from_low l len ok r p q = omega arith
 
 not_from_high : (n : ℕ) (r : Resolution) → n ≡ magic_of r → n ≡ 0x0A0D0D0A → ⊥
 not_from_high n Microseconds p q = omega (arith, p, q)
