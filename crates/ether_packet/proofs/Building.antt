@@ -33,17 +33,11 @@ ether_type_kept : (p : PayloadType) (t : ℕ)
     → ether_type_len (encrypted_of (retyped p t)) (changed_of (retyped p t))
     ≡ ether_type_len (encrypted_of p) (changed_of p)
 ether_type_kept (payloads.Unmodified old) t = refl
-ether_type_kept payloads.Modified t = refl
-ether_type_kept payloads.EncryptedUnmodified t = refl
-ether_type_kept payloads.Encrypted t = refl
+ether_type_kept p t = refl
 
 pub header_len_before : (h : Header) (t n : ℕ) → header_len (before h t n) ≡ header_len h
-header_len_before (headers.Ethernet2 e) t n = refl
-header_len_before (headers.Ethernet2Fcs e) t n = refl
-header_len_before (headers.LinuxSll s) t n = refl
-header_len_before (headers.Vlan v) t n = refl
 header_len_before (headers.Macsec m) t n = let e = ether_type_kept m.payload_type t in omega (arith, e)
-header_len_before (headers.Arp a) t n = refl
+header_len_before h t n = refl
 
 pub place-built : (at : ℕ) (hs : List Header) (t n : ℕ) → place at (built hs t n) ≡ place at hs
 place-built at [] t n = refl
@@ -68,9 +62,7 @@ named_plain false n k e = absurd cc
 named_for : (p : PayloadType) (n k : ℕ)
     → known_len (ether_type_len (encrypted_of p) (changed_of p)) (short_len_for p n) ≡ Some k → k ≡ n
 named_for (payloads.Unmodified t) n k e = named_by (nat_lt n 62) 2 n k e
-named_for payloads.Modified n k e = named_plain (nat_lt n 64) n k e
-named_for payloads.EncryptedUnmodified n k e = named_plain (nat_lt n 64) n k e
-named_for payloads.Encrypted n k e = named_plain (nat_lt n 64) n k e
+named_for p n k e = named_plain (nat_lt n 64) n k e
 
 not_one : (b : Bool) (n : ℕ) → (if b then n + 2 else 0) ≡ 1 → ⊥
 not_one true n e = omega (arith, e)
@@ -79,8 +71,7 @@ not_one false n e = omega (arith, e)
 long_enough : (p : PayloadType) (n : ℕ) → encrypted_of p ≡ 0 → changed_of p ≡ 0 → short_len_for p n ≡ 1 → ⊥
 long_enough (payloads.Unmodified t) n e c s = not_one (nat_lt n 62) n s
 long_enough payloads.Modified n e c s = omega (arith, c)
-long_enough payloads.EncryptedUnmodified n e c s = omega (arith, e)
-long_enough payloads.Encrypted n e c s = omega (arith, e)
+long_enough p n e c s = omega (arith, e)
 
 -- ---- each header where it is announced
 
@@ -170,11 +161,7 @@ after_tag m (payloads.Unmodified old) own (g ∷ hs) t n k e chain fits =
     (before (headers.Macsec (record m { payload_type = q })) (type_of own (g ∷ hs) t) (place n (g ∷ hs))))
     (built (g ∷ hs) t n) n)
     (sym e) fits
-after_tag m payloads.Modified own (g ∷ hs) t n k e chain fits =
-    let f : true ≡ false = sym chain.0 ∙ ap is_unmodified e in absurd cc
-after_tag m payloads.EncryptedUnmodified own (g ∷ hs) t n k e chain fits =
-    let f : true ≡ false = sym chain.0 ∙ ap is_unmodified e in absurd cc
-after_tag m payloads.Encrypted own (g ∷ hs) t n k e chain fits =
+after_tag m p own (g ∷ hs) t n k e chain fits =
     let f : true ≡ false = sym chain.0 ∙ ap is_unmodified e in absurd cc
 
 pub inner_fits : (own : ℕ) (hs : List Header) (t n : ℕ) → AreInner hs → IsChain hs → AllFit (built hs t n)
@@ -205,9 +192,7 @@ inner_fits own (headers.Arp a ∷ []) t n inner chain fit = (
   tt,
 )
 inner_fits own (headers.Arp a ∷ g ∷ hs) t n inner chain fit = let f : true ≡ false = sym chain.0 in absurd cc
-inner_fits own (headers.Ethernet2 e ∷ hs) t n inner chain fit = absurd inner.0
-inner_fits own (headers.Ethernet2Fcs e ∷ hs) t n inner chain fit = absurd inner.0
-inner_fits own (headers.LinuxSll s ∷ hs) t n inner chain fit = absurd inner.0
+inner_fits own hs t n inner chain fit = absurd inner.0
 
 -- ---- the header of a link
 

@@ -82,12 +82,10 @@ read_next xs followed i d lt so_far is n le few =
 
 -- all but the last one can be read
 pub chain_from : (front back : List Header) → AllReadable front → length back ≤ 1 → IsChain (front ++ back)
-chain_from [] [] all le = tt
-chain_from [] (h ∷ []) all le = tt
 chain_from [] (h ∷ g ∷ hs) all le = absurd (omega (arith, le))
-chain_from (h ∷ []) [] all le = tt
 chain_from (h ∷ []) (g ∷ hs) all le = (all.0, chain_from [] (g ∷ hs) tt le)
 chain_from (h ∷ g ∷ front) back all le = (all.0, chain_from (g ∷ front) back all.1 le)
+chain_from front back all le = tt
 
 pub all_views : (xs : List LinkExtHeader) (i : ℕ) (content : List Header)
     → views xs ++ content ≡ views (take i xs) ++ (views (drop i xs) ++ content)

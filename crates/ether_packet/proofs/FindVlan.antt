@@ -82,41 +82,11 @@ passed_tag list s t hs e vid i u f ok p gives is has at =
       record { front = p.reached.done; later = r.later; found = r.found; begins = begins },
     )
 
--- .. lies in the list
-pub tag_room : (start : Expectation) (list : List ℕ) (hs : List Header) (e : Ending) (i : ℕ) (f : PlacedVlan)
-    → Walk start list hs e → IsPlacedVlan hs i f → f.at + 4 ≤ length list
-tag_room start list hs e i f walk p =
-    let split = subst (λ (l : List Header). Walk start list l e) p.found.parts walk in
-    let inside = header_inside start list p.front (headers.Vlan (vlan_view f.tag)) p.later e split in
-    let begins = p.begins in
-    omega (arith, inside, begins)
-
--- the walk ends
-all_lack : (hs done left : List Header) (vid : ℕ) → hs ≡ done ++ left → left ≡ [] → LacksVlan done vid
-    → LacksVlan hs vid
-all_lack hs done left vid parts none lacks =
-    subst (λ (l : List Header). LacksVlan l vid)
-    (sym (parts ∙ ap (λ (l : List Header). done ++ l) none ∙ append-nil done)) lacks
-
-pub passed_none : (list : List ℕ) (s t : State) (hs : List Header) (e : Ending) (vid i : ℕ)
-    → Passed list s hs e vid i → Gives s None t → LacksVlan hs vid
-passed_none list s t hs e vid i p gives =
-    all_lack hs p.reached.done p.reached.left vid p.reached.parts (left_none list p.reached.window p.reached.left s t e p.reached.faces p.reached.going gives) p.lacks
-
-pub passed_fault : (list : List ℕ) (s t : State) (hs : List Header) (e : Ending) (vid i : ℕ) (fault : PeelFault)
-    → Passed list s hs e vid i → Gives s (Some (Err fault)) t → LacksVlan hs vid
-passed_fault list s t hs e vid i fault p gives =
-    all_lack hs p.reached.done p.reached.left vid p.reached.parts (left_fault list p.reached.window p.reached.left s t e fault p.reached.faces p.reached.going gives) p.lacks
-
 -- ---- there is one
 
 lacks_tail : (h : Header) (hs : List Header) (vid : ℕ) → LacksVlan (h ∷ hs) vid → LacksVlan hs vid
-lacks_tail (headers.Ethernet2 e) hs vid none = none
-lacks_tail (headers.Ethernet2Fcs e) hs vid none = none
-lacks_tail (headers.LinuxSll s) hs vid none = none
 lacks_tail (headers.Vlan v) hs vid none = All-tail (λ (id : ℕ). id ≢ vid) v.vid (vlan_ids_of hs) none
-lacks_tail (headers.Macsec m) hs vid none = none
-lacks_tail (headers.Arp a) hs vid none = none
+lacks_tail h hs vid none = none
 
 -- a tag with the identifier is not among headers without it
 tag_apart : (front : List Header) (v : VlanValue) (later : List Header) (vid : ℕ) → v.vid ≡ vid

@@ -113,11 +113,7 @@ all_written p b old first second new at next same empty link room is w packet_ty
 
 cleared_at_len : (list : List ℕ) (at : ℕ) (h : Header) → length (cleared_at list at h) ≡ length list
 cleared_at_len list at (headers.Macsec t) = length-set list (at + 1) _
-cleared_at_len list at (headers.Ethernet2 e) = refl
-cleared_at_len list at (headers.Ethernet2Fcs e) = refl
-cleared_at_len list at (headers.LinuxSll s) = refl
-cleared_at_len list at (headers.Vlan v) = refl
-cleared_at_len list at (headers.Arp a) = refl
+cleared_at_len list at h = refl
 
 cleared_len : (list : List ℕ) (at : ℕ) (hs : List Header) → length (cleared list at hs) ≡ length list
 cleared_len list at [] = refl
@@ -127,11 +123,7 @@ cleared_len list at (h ∷ hs) =
 cleared_at_after : (list : List ℕ) (at : ℕ) (h : Header) (n : ℕ) → at + header_len h ≤ n
     → drop n (cleared_at list at h) ≡ drop n list
 cleared_at_after list at (headers.Macsec t) n le = drop-set-lt n list (at + 1) _ (omega (arith, le))
-cleared_at_after list at (headers.Ethernet2 e) n le = refl
-cleared_at_after list at (headers.Ethernet2Fcs e) n le = refl
-cleared_at_after list at (headers.LinuxSll s) n le = refl
-cleared_at_after list at (headers.Vlan v) n le = refl
-cleared_at_after list at (headers.Arp a) n le = refl
+cleared_at_after list at h n le = refl
 
 -- nothing after the headers
 cleared_after : (list : List ℕ) (at : ℕ) (hs : List Header) (n : ℕ) → place at hs ≤ n
@@ -223,8 +215,7 @@ same_place : (at : ℕ) (gs hs : List Header) → AllAgree gs hs → place at gs
 same_place at [] [] same = refl
 same_place at (g ∷ gs) (h ∷ hs) same =
     ap (λ (n : ℕ). place (at + n) gs) (same_len g h same.0) ∙ same_place (at + header_len h) gs hs same.1
-same_place at [] (h ∷ hs) same = absurd same
-same_place at (g ∷ gs) [] same = absurd same
+same_place at gs hs same = absurd same
 
 -- the bytes of headers, and after them those of a list
 abbrev laid_over : List ℕ → List Header → List ℕ
@@ -256,8 +247,7 @@ agree_walk start list done (g ∷ gs) (h ∷ hs) e before fit sendable same walk
     subst (λ (l : List Header). Walk start (laid_over list l) l e) split_gs
     (agree_walk start list next gs hs e (fit_append done (g ∷ []) before (fit.0, tt)) fit.1 sendable.1 same.1
     (subst (λ (l : List Header). Walk start (laid_over list next) l e) split_hs moved))
-agree_walk start list done [] (h ∷ hs) e before fit sendable same walk = absurd same
-agree_walk start list done (g ∷ gs) [] e before fit sendable same walk = absurd same
+agree_walk start list done gs hs e before fit sendable same walk = absurd same
 
 -- the headers as a walk finds them are written as they are
 record Found (p : PacketParts) (hs : List Header) : Type 0 where

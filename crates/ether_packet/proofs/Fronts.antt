@@ -71,13 +71,8 @@ tag_read start list hs e at v t spells walk =
 -- none is there if none is announced
 not_first : (list : List ℕ) (x : Expectation) (w : Window) (hs : List Header) (e : Ending)
     → (announced x ≡ Some kinds.Vlan → ⊥) → Stack list x w hs e → first_tag hs ≡ None
-not_first list x w [] e none s = refl
 not_first list x w (headers.Vlan v ∷ hs) e none s = absurd (none s.0.announced)
-not_first list x w (headers.Ethernet2 l ∷ hs) e none s = refl
-not_first list x w (headers.Ethernet2Fcs l ∷ hs) e none s = refl
-not_first list x w (headers.LinuxSll l ∷ hs) e none s = refl
-not_first list x w (headers.Macsec m ∷ hs) e none s = refl
-not_first list x w (headers.Arp a ∷ hs) e none s = refl
+not_first list x w hs e none s = refl
 
 -- ---- what is refused
 

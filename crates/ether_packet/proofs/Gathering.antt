@@ -52,8 +52,7 @@ units-append : (list : List ℕ) (w : Window) (hs : List Header) (us : List Pack
     → AreUnitsAt list w hs us → IsUnitAt list (window_after w hs) h u → AreUnitsAt list w (hs ++ h ∷ []) (us ++ u ∷ [])
 units-append list w [] [] h u are is = (is, tt)
 units-append list w (k ∷ hs) (v ∷ us) h u are is = (are.0, units-append list (payload w k) hs us h u are.1 is)
-units-append list w [] (v ∷ us) h u are is = absurd are
-units-append list w (k ∷ hs) [] h u are is = absurd are
+units-append list w hs us h u are is = absurd are
 
 -- ---- what is announced
 
@@ -77,9 +76,7 @@ starts : (next : Next) (kind : Kind) → announced_next next ≡ Some kind → i
     → (k : Kind) × (next ≡ Start k)
 starts (Start k) kind e first = (k, refl)
 starts (EtherType t) kind e first = let later = chosen _ _ _ kind e in absurd cc
-starts (Sll protocol) kind e first = absurd cc
-starts Sealed kind e first = absurd cc
-starts AfterArp kind e first = absurd cc
+starts next kind e first = absurd cc
 
 -- an extension is announced only if one may still be read
 pub may_read : (x : Expectation) (kind : Kind) (free : ℕ) → x.limit ≡ Some free → is_extension kind ≡ true
@@ -160,12 +157,8 @@ still_no_arp us u none other =
     ∙ (λ i. empty_if (filter_map arp_of_unit us) none i ++ cons_option (other i) []))
 
 arp_or_over : (h : Header) (bytes : List ℕ) → (arp_in (kind_of h) bytes ≡ None) ⊎ (next_after h ≡ AfterArp)
-arp_or_over (headers.Ethernet2 e) bytes = inl refl
-arp_or_over (headers.Ethernet2Fcs e) bytes = inl refl
-arp_or_over (headers.LinuxSll s) bytes = inl refl
-arp_or_over (headers.Vlan v) bytes = inl refl
-arp_or_over (headers.Macsec t) bytes = inl refl
 arp_or_over (headers.Arp a) bytes = inr refl
+arp_or_over h bytes = inl refl
 
 -- a place is the window that is left to read
 pub record IsAt (s : State) (p : FrameWindow) : Type 0 where
@@ -313,17 +306,12 @@ no_start_capture false t protocol kind is = cc
 
 no_start_payload : (payload : PayloadType) (kind : Kind) → after_payload payload ≡ Start kind → ⊥
 no_start_payload (payloads.Unmodified t) kind is = cc
-no_start_payload payloads.Modified kind is = cc
-no_start_payload payloads.EncryptedUnmodified kind is = cc
-no_start_payload payloads.Encrypted kind is = cc
+no_start_payload payload kind is = cc
 
 no_start : (h : Header) (kind : Kind) → next_after h ≡ Start kind → ⊥
-no_start (headers.Ethernet2 e) kind is = cc
-no_start (headers.Ethernet2Fcs e) kind is = cc
 no_start (headers.LinuxSll s) kind is = no_start_capture _ _ _ kind is
-no_start (headers.Vlan v) kind is = cc
 no_start (headers.Macsec t) kind is = no_start_payload t.payload_type kind is
-no_start (headers.Arp a) kind is = cc
+no_start h kind is = cc
 
 pub lowered_limit : (b : Bool) (limit : Option ℕ) (free : ℕ) → limit ≡ Some free
     → lowered b limit ≡ Some (cond b (free - 1) free)
@@ -393,9 +381,7 @@ gathered_next start list s t r q p u a ok n here is =
 some_left : (next : Next) (kind : Kind) → announced_next next ≡ Some kind → 1 ≤ next_left next
 some_left (Start k) kind e = omega arith
 some_left (EtherType t) kind e = omega arith
-some_left (Sll protocol) kind e = absurd cc
-some_left Sealed kind e = absurd cc
-some_left AfterArp kind e = absurd cc
+some_left next kind e = absurd cc
 
 one_after_capture : (b : Bool) (t : ℕ) (protocol : LinuxSllProtocolType)
     → next_left (cond b (EtherType t) (Sll protocol)) ≡ 1
@@ -404,9 +390,7 @@ one_after_capture false t protocol = refl
 
 one_after_payload : (payload : PayloadType) → next_left (after_payload payload) ≡ 1
 one_after_payload (payloads.Unmodified t) = refl
-one_after_payload payloads.Modified = refl
-one_after_payload payloads.EncryptedUnmodified = refl
-one_after_payload payloads.Encrypted = refl
+one_after_payload payload = refl
 
 -- after a header that only a frame begins with
 fewer_after_first : (x : Expectation) (h : Header) → announced x ≡ Some (kind_of h) → is_first (kind_of h) ≡ true

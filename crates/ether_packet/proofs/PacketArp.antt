@@ -63,14 +63,10 @@ same_bytes a b e = cc
 -- the packet that a view means
 arp_header : (k : Kind) (bytes view : List ℕ) → arp_in k bytes ≡ Some view
     → header_in k bytes ≡ headers.Arp (arp_of view)
-arp_header kinds.Ethernet2 bytes view e = absurd cc
-arp_header kinds.Ethernet2Fcs bytes view e = absurd cc
-arp_header kinds.LinuxSll bytes view e = absurd cc
-arp_header kinds.Vlan bytes view e = absurd cc
-arp_header kinds.Macsec bytes view e = absurd cc
 arp_header kinds.Arp bytes view e =
     let n = arp_len (arp_front_in bytes) in
     ap headers.Arp (sym (arp_of_part bytes n (omega arith) (omega arith)) ∙ ap arp_of (same_bytes _ view e))
+arp_header k bytes view e = absurd cc
 
 -- none
 
@@ -80,12 +76,8 @@ none_cons u us None e none = (e, none)
 none_cons u us (Some v) e none = absurd cc
 
 other_kind : (k : Kind) (bytes : List ℕ) → arp_in k bytes ≡ None → is_arp (kind_of (header_in k bytes)) ≡ false
-other_kind kinds.Ethernet2 bytes e = refl
-other_kind kinds.Ethernet2Fcs bytes e = refl
-other_kind kinds.LinuxSll bytes e = refl
-other_kind kinds.Vlan bytes e = refl
-other_kind kinds.Macsec bytes e = refl
 other_kind kinds.Arp bytes e = absurd cc
+other_kind k bytes e = refl
 
 without_arp : (us : List PacketUnit) → arp_view us ≡ None → has_arp (map header_of us) ≡ false
 without_arp [] none = refl

@@ -35,11 +35,7 @@ ext_count-append (h ∷ hs) ks = let more = ext_count-append hs ks in omega (ari
 
 pub kind_kept : (k : Kind) (bytes : List ℕ) → kind_of (header_in k bytes) ≡ k
 kind_kept kinds.Ethernet2 bytes = refl
-kind_kept kinds.Ethernet2Fcs bytes = refl
-kind_kept kinds.LinuxSll bytes = refl
-kind_kept kinds.Vlan bytes = refl
-kind_kept kinds.Macsec bytes = refl
-kind_kept kinds.Arp bytes = refl
+kind_kept k bytes = refl
 
 pub ext_header : (u : PacketUnit) → is_extension (kind_of (header_of u)) ≡ is_ext u
 ext_header u = ap is_extension (kind_kept u.kind u.bytes)
@@ -131,12 +127,6 @@ unit_begins : (list : List ℕ) (w : Window) (front : List PacketUnit) (x : Pack
     → x.offset ≡ place w.start (map header_of front)
 unit_begins list w [] x later are = are.0.offset
 unit_begins list w (u ∷ front) x later are = unit_begins list (payload w (header_of u)) front x later are.1
-
-begins_at : (start : Expectation) (list : List ℕ) (p : PacketSlice) (i : ℕ) (x : PacketUnit) → IsPacket start list p
-    → (s : Split p.read.units i x) → x.offset ≡ place 0 (map header_of s.front)
-begins_at start list p i x is s =
-    unit_begins list (whole start list) s.front x s.later
-    (subst (λ (l : List PacketUnit). AreUnitsAt list (whole start list) (map header_of l) l) s.parts is.units)
 
 -- ---- a header that replaces it
 

@@ -45,23 +45,20 @@ content_is : (arp : Option ArpValue) (t : EtherType) (bytes : List ℕ) (c : Pac
     → content_headers c ≡ arp_headers arp
 content_is None t bytes (contents.Payload u p) has = refl
 content_is (Some a) t bytes (contents.Arp packet) has = ap (λ (v : ArpValue). headers.Arp v ∷ []) has
-content_is None t bytes (contents.Arp packet) has = absurd has
-content_is (Some a) t bytes (contents.Payload u p) has = absurd has
+content_is arp t bytes c has = absurd has
 
 -- what is left begins with the payload
 rest_is : (arp : Option ArpValue) (t : EtherType) (bytes : List ℕ) (c : PacketContent) → HasContent arp t bytes c
     → (more : List ℕ) × (bytes ≡ content_payload c ++ more)
 rest_is None t bytes (contents.Payload u p) has = ([], sym has.1 ∙ sym (append-nil p.now))
 rest_is (Some a) t bytes (contents.Arp packet) has = (bytes, refl)
-rest_is None t bytes (contents.Arp packet) has = absurd has
-rest_is (Some a) t bytes (contents.Payload u p) has = absurd has
+rest_is arp t bytes c has = absurd has
 
 -- ---- the front
 
 most : (n : ℕ) (l : List ℕ) → length (take n l) ≤ n
-most zero l = omega arith
-most (suc n) [] = omega arith
 most (suc n) (x ∷ l) = let le = most n l in omega (arith, le)
+most n l = omega arith
 
 pub parts_go_back : PartsGoBack
 parts_go_back start list packet parts b end old new ok is of builder w =

@@ -33,9 +33,7 @@ arp_of_unit u = arp_in u.kind u.bytes
 link_is : (frame : List ℕ) (link : LinkKind)
     → (filter is_ext (link_units frame link) ≡ []) × (filter_map arp_of_unit (link_units frame link) ≡ [])
 link_is frame places.Missing = (refl, refl)
-link_is frame places.Ethernet2 = (refl, refl)
-link_is frame places.Ethernet2Fcs = (refl, refl)
-link_is frame places.LinuxSll = (refl, refl)
+link_is frame link = (refl, refl)
 
 ext_is : (kind : ExtKind) (at : ℕ) (bytes : List ℕ)
     → (is_extension (ext_kind kind) ≡ true) × (arp_in (ext_kind kind) bytes ≡ None)
@@ -101,9 +99,7 @@ start_of_unit u = arp_start u.kind u.offset
 
 link_starts : (frame : List ℕ) (link : LinkKind) → filter_map start_of_unit (link_units frame link) ≡ []
 link_starts frame places.Missing = refl
-link_starts frame places.Ethernet2 = refl
-link_starts frame places.Ethernet2Fcs = refl
-link_starts frame places.LinuxSll = refl
+link_starts frame link = refl
 
 ext_starts : (kind : ExtKind) (at : ℕ) → arp_start (ext_kind kind) at ≡ None
 ext_starts tags.Vlan at = refl

@@ -166,19 +166,13 @@ popped_walk start old new (headers.LinuxSll l) tag later e ok link typed front r
           (moved_ending 20 16 e))
           (sym (announces_kept h tag.ether_type link typed)) moved,
     )
-popped_walk start old new (headers.Vlan v) tag later e ok link typed front rest s = absurd cc
-popped_walk start old new (headers.Macsec v) tag later e ok link typed front rest s = absurd cc
-popped_walk start old new (headers.Arp v) tag later e ok link typed front rest s = absurd cc
+popped_walk start old new h tag later e ok link typed front rest s = absurd cc
 
 -- ---- how the tag is found
 
 pub vlan_header : (h : Header) → kind_of h ≡ kinds.Vlan → (v : VlanValue) × (h ≡ headers.Vlan v)
-vlan_header (headers.Ethernet2 e) is = absurd cc
-vlan_header (headers.Ethernet2Fcs e) is = absurd cc
-vlan_header (headers.LinuxSll s) is = absurd cc
 vlan_header (headers.Vlan v) is = (v, refl)
-vlan_header (headers.Macsec m) is = absurd cc
-vlan_header (headers.Arp a) is = absurd cc
+vlan_header h is = absurd cc
 
 announces_tag : (start : Start) (list : List ℕ) (hs : List Header) (l : TypedLink) (b : Bool)
     (t : IsTypedLink start list hs l)

@@ -230,9 +230,7 @@ pushed_walk start old new (headers.LinuxSll l) tag tpid later e ok link typed fi
             (omega arith) old_rest,
       ),
     )
-pushed_walk start old new (headers.Vlan v) tag tpid later e ok link typed fits lt announces is s = absurd cc
-pushed_walk start old new (headers.Macsec v) tag tpid later e ok link typed fits lt announces is s = absurd cc
-pushed_walk start old new (headers.Arp v) tag tpid later e ok link typed fits lt announces is s = absurd cc
+pushed_walk start old new h tag tpid later e ok link typed fits lt announces is s = absurd cc
 
 -- ---- what the call leaves
 

@@ -75,12 +75,10 @@ part_after list bytes at i j le past =
 -- ---- headers that say the same
 
 pub same_self : (h : Header) → Agree h h
-same_self (headers.Ethernet2 e) = refl
-same_self (headers.Ethernet2Fcs e) = refl
 same_self (headers.LinuxSll s) = (refl, refl)
-same_self (headers.Vlan v) = refl
 same_self (headers.Macsec t) = (refl, refl, refl)
 same_self (headers.Arp a) = (refl, refl)
+same_self h = refl
 
 -- two headers are of one kind and length, and name the same length of a payload or none
 abbrev pub LookAlike : Header → Header → Type 0
@@ -241,10 +239,7 @@ unit_alike old new x w g h u m len alike sound = record {
 -- a header whose own bytes are the same
 pub sound_kept : (bound : LenSource) (old new : List ℕ) (h : Header) → Accepts bound old (kind_of h) → Means old h
     → slice_range new 0 (header_len h) ≡ slice_range old 0 (header_len h) → IsSound new h
-sound_kept bound old new (headers.Ethernet2 e) ok m part = tt
-sound_kept bound old new (headers.Ethernet2Fcs e) ok m part = tt
 sound_kept bound old new (headers.LinuxSll s) ok m part = packet_type_of bound old s ok m
-sound_kept bound old new (headers.Vlan v) ok m part = tt
 sound_kept bound old new (headers.Macsec t) ok m part =
     let n = header_len (headers.Macsec t) in
     let c = sec_tag_front_of m.spells.version m.spells.reserved t in
@@ -254,7 +249,7 @@ sound_kept bound old new (headers.Macsec t) ok m part =
     let begins =
     begins_whole new n c (omega arith) (subst (λ (l : List ℕ). BeginsSecTag l c) (sym part) m.spells.front) in
     (m.spells.reserved, subst (λ (v : ℕ). BeginsSecTag new (sec_tag_front_of v m.spells.reserved t)) version begins)
-sound_kept bound old new (headers.Arp a) ok m part = tt
+sound_kept bound old new h ok m part = tt
 
 -- a header that a sender may write: of a cooked capture with a packet type that is supported
 abbrev pub IsSendable : Header → Type 0
@@ -263,17 +258,14 @@ IsSendable h = Unit {0}
 
 sound_written : (new : List ℕ) (g : Header) → FitsHeader g → IsSendable g
     → slice_range new 0 (header_len g) ≡ header_bytes g → IsSound new g
-sound_written new (headers.Ethernet2 e) fits sendable part = tt
-sound_written new (headers.Ethernet2Fcs e) fits sendable part = tt
 sound_written new (headers.LinuxSll s) fits sendable part = sendable
-sound_written new (headers.Vlan v) fits sendable part = tt
 sound_written new (headers.Macsec t) fits sendable part =
     let c = sec_tag_front_of 0 0 t in (
       0,
       begins_whole new (header_len (headers.Macsec t)) c (omega arith)
           (subst (λ (l : List ℕ). BeginsSecTag l c) (sym part) (sec_tag_front_back t fits)),
     )
-sound_written new (headers.Arp a) fits sendable part = tt
+sound_written new g fits sendable part = tt
 
 -- ---- stacks
 

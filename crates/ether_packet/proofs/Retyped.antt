@@ -39,17 +39,13 @@ use Rattle.ether_packet.proofs.Pushed.{tpid_fits}
 retyped_bits : (p : PayloadType) (t : ℕ)
     → (encrypted_of (retyped p t) ≡ encrypted_of p) × (changed_of (retyped p t) ≡ changed_of p)
 retyped_bits (payloads.Unmodified u) t = (refl, refl)
-retyped_bits payloads.Modified t = (refl, refl)
-retyped_bits payloads.EncryptedUnmodified t = (refl, refl)
-retyped_bits payloads.Encrypted t = (refl, refl)
+retyped_bits p t = (refl, refl)
 
 retyped_alike : (h : Header) (t : ℕ) → LookAlike (with_type h t) h
-retyped_alike (headers.Ethernet2 e) t = tt
-retyped_alike (headers.Ethernet2Fcs e) t = tt
 retyped_alike (headers.LinuxSll s) t = refl
-retyped_alike (headers.Vlan v) t = tt
 retyped_alike (headers.Macsec m) t = let bits = retyped_bits m.payload_type t in (bits.0, bits.1, refl, refl)
 retyped_alike (headers.Arp a) t = (refl, refl)
+retyped_alike h t = tt
 
 -- the list begins with the header with that type, and no row on its content holds
 record RetypedMeans (new : List ℕ) (h : Header) (t : ℕ) : Type 0 where
@@ -152,19 +148,15 @@ announced_sll s t false e a =
 unmodified : (p : PayloadType) → announced_next (after_payload p) ≡ Some kinds.Vlan
     → (u : ℕ) × (p ≡ payloads.Unmodified u)
 unmodified (payloads.Unmodified u) a = (u, refl)
-unmodified payloads.Modified a = absurd cc
-unmodified payloads.EncryptedUnmodified a = absurd cc
-unmodified payloads.Encrypted a = absurd cc
+unmodified p a = absurd cc
 
 retyped_next : (h : Header) (t : ℕ) → announced_next (next_after h) ≡ Some kinds.Vlan
     → next_after (with_type h t) ≡ EtherType t
-retyped_next (headers.Ethernet2 e) t a = refl
-retyped_next (headers.Ethernet2Fcs e) t a = refl
 retyped_next (headers.LinuxSll s) t a = announced_sll s t (s.hardware_type == 1) refl a
-retyped_next (headers.Vlan v) t a = refl
 retyped_next (headers.Macsec m) t a =
     let u = unmodified m.payload_type a in ap (λ (p : PayloadType). after_payload (retyped p t)) u.1
 retyped_next (headers.Arp r) t a = absurd cc
+retyped_next h t a = refl
 
 retyped_header : (bound : LenSource) (old new : List ℕ) (h : Header) (t : ℕ) → IsBytes old
     → announced_next (next_after h) ≡ Some kinds.Vlan → Accepts bound old (kind_of h) → Means old h

@@ -22,18 +22,6 @@ use Rattle.ether_packet.proofs.Replaced.{replaced_walk}
 
 -- ---- how it is found
 
--- an extension that is a VLAN tag
-pub placed_vlan : (hs : List Header) (i : ℕ) (found : PlacedExt) (f : PlacedVlan)
-    → IsPlacedExt hs i found → f.at ≡ found.at → headers.Vlan (vlan_view f.tag) ≡ ext_header_view found.header
-    → IsPlacedVlan hs i f
-placed_vlan hs i found f p at value =
-    record {
-      front = p.front;
-      later = p.later;
-      found = subst (λ (h : Header). IsExtAt hs i p.front h p.later) (sym value) p.found;
-      begins = at ∙ p.begins;
-    }
-
 -- .. a SecTag
 pub is_sec_tag : (hs : List Header) (i : ℕ) (found : PlacedExt) (m : SecTagValue)
     → IsPlacedExt hs i found → headers.Macsec m ≡ ext_header_view found.header → RefusesTag hs i errors.NoVlan

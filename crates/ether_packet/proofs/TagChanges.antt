@@ -64,7 +64,6 @@ captured_typed s later false is =
     )
 
 typed_or_not : (hs : List Header) → HasTyped hs ⊎ ((error : TagError) × RefusesTyped hs error)
-typed_or_not [] = inr (errors.NoLink, no_link refl)
 typed_or_not (headers.Ethernet2 e ∷ later) =
     inl (record {
       link = headers.Ethernet2 e;
@@ -78,9 +77,7 @@ typed_or_not (headers.Ethernet2Fcs e ∷ later) =
       begins = record { parts = refl; is_link = refl; typed = refl };
     })
 typed_or_not (headers.LinuxSll s ∷ later) = captured_typed s later (s.hardware_type == 1) refl
-typed_or_not (headers.Vlan v ∷ later) = inr (errors.NoLink, no_link refl)
-typed_or_not (headers.Macsec m ∷ later) = inr (errors.NoLink, no_link refl)
-typed_or_not (headers.Arp a ∷ later) = inr (errors.NoLink, no_link refl)
+typed_or_not hs = inr (errors.NoLink, no_link refl)
 
 -- ---- a tag that is taken off
 
@@ -186,11 +183,8 @@ pushed_tag start old hs e tag tpid link later m ok fits announces begins len wal
     }
 
 free_bytes : (old : List ℕ) → IsBytes old → IsBytes (0 ∷ 0 ∷ 0 ∷ 0 ∷ old)
-free_bytes old ok zero = omega arith
-free_bytes old ok (suc zero) = omega arith
-free_bytes old ok (suc (suc zero)) = omega arith
-free_bytes old ok (suc (suc (suc zero))) = omega arith
 free_bytes old ok (suc (suc (suc (suc i)))) = ok i
+free_bytes old ok h = omega arith
 
 pushed_announced : (start : Start) (old : List ℕ) (hs : List Header) (e : Ending) (tag : VlanValue) (tpid : ℕ)
     (b : Bool)

@@ -84,22 +84,6 @@ retyped_linux_sll old new s t ok le len front is lt m =
 -- the number that they have in the list
 pub link_type_read : (list : List ℕ) (h : Header) → IsBytes list → is_link (kind_of h) ≡ true → Means list h
     → number (slice_range list (header_len h - 2) (header_len h)) ≡ type_of_link h
-link_type_read list (headers.Ethernet2 e) ok link m =
-    let a : number (slice_range list 0 14)
-    ≡ number (slice_range list 0 12) * 65536 + number (slice_range list 12 14) =
-    number-part_join list 0 12 14 (omega arith) (omega arith) m.whole in
-    let below : number (slice_range list 12 14) < 65536 = number-part_below list 12 14 ok m.whole in
-    let sum = m.spells.sum in
-    let f = m.spells.fits.ether_type in
-    omega arith
-link_type_read list (headers.Ethernet2Fcs e) ok link m =
-    let a : number (slice_range list 0 14)
-    ≡ number (slice_range list 0 12) * 65536 + number (slice_range list 12 14) =
-    number-part_join list 0 12 14 (omega arith) (omega arith) m.whole in
-    let below : number (slice_range list 12 14) < 65536 = number-part_below list 12 14 ok m.whole in
-    let sum = m.spells.sum in
-    let f = m.spells.fits.ether_type in
-    omega arith
 link_type_read list (headers.LinuxSll s) ok link m =
     let a : number (slice_range list 0 16)
     ≡ number (slice_range list 0 14) * 65536 + number (slice_range list 14 16) =
@@ -111,6 +95,14 @@ link_type_read list (headers.LinuxSll s) ok link m =
 link_type_read list (headers.Vlan v) ok link m = absurd cc
 link_type_read list (headers.Macsec t) ok link m = absurd cc
 link_type_read list (headers.Arp a) ok link m = absurd cc
+link_type_read list h ok link m =
+    let a : number (slice_range list 0 14)
+    ≡ number (slice_range list 0 12) * 65536 + number (slice_range list 12 14) =
+    number-part_join list 0 12 14 (omega arith) (omega arith) m.whole in
+    let below : number (slice_range list 12 14) < 65536 = number-part_below list 12 14 ok m.whole in
+    let sum = m.spells.sum in
+    let f = m.spells.fits.ether_type in
+    omega arith
 
 -- the first bytes of a list are those of a link's header, and the two after them are others
 pub record IsRetyped (old new : List ℕ) (n t : ℕ) : Type 0 where
@@ -132,9 +124,7 @@ retyped_means old new (headers.LinuxSll s) t ok link m len r = record {
   whole = len;
   spells = retyped_linux_sll old new s t ok m.whole len r.front r.number r.fits m.spells;
 }
-retyped_means old new (headers.Vlan v) t ok link m len r = absurd cc
-retyped_means old new (headers.Macsec m) t ok link n len r = absurd cc
-retyped_means old new (headers.Arp a) t ok link m len r = absurd cc
+retyped_means old new h t ok link k len r = absurd cc
 
 retyped_accepts : (bound : LenSource) (old new : List ℕ) (h : Header) (t : ℕ) → is_link (kind_of h) ≡ true
     → Accepts bound old (kind_of h) → Means old h → Means new (with_type h t)
@@ -144,33 +134,23 @@ retyped_accepts bound old new (headers.Ethernet2Fcs e) t link ok m n len = accep
 retyped_accepts bound old new (headers.LinuxSll s) t link ok m n len =
     accepts_linux_sll bound new (record s { protocol = t }) n.whole n.spells (packet_type_of bound old s ok m)
     (supported bound old s _ refl ok m)
-retyped_accepts bound old new (headers.Vlan v) t link ok m n len = absurd cc
-retyped_accepts bound old new (headers.Macsec v) t link ok m n len = absurd cc
-retyped_accepts bound old new (headers.Arp a) t link ok m n len = absurd cc
+retyped_accepts bound old new h t link ok m n len = absurd cc
 
 pub kind_kept : (h : Header) (t : ℕ) → kind_of (with_type h t) ≡ kind_of h
 kind_kept (headers.Ethernet2 e) t = refl
-kind_kept (headers.Ethernet2Fcs e) t = refl
-kind_kept (headers.LinuxSll s) t = refl
-kind_kept (headers.Vlan v) t = refl
-kind_kept (headers.Macsec m) t = refl
-kind_kept (headers.Arp a) t = refl
+kind_kept h t = refl
 
 pub len_kept : (h : Header) (t : ℕ) → is_link (kind_of h) ≡ true → header_len (with_type h t) ≡ header_len h
-len_kept (headers.Ethernet2 e) t link = refl
-len_kept (headers.Ethernet2Fcs e) t link = refl
-len_kept (headers.LinuxSll s) t link = refl
 len_kept (headers.Vlan v) t link = absurd cc
 len_kept (headers.Macsec m) t link = absurd cc
 len_kept (headers.Arp a) t link = absurd cc
+len_kept h t link = refl
 
 pub link_least : (h : Header) → is_link (kind_of h) ≡ true → 14 ≤ header_len h
-link_least (headers.Ethernet2 e) link = omega arith
-link_least (headers.Ethernet2Fcs e) link = omega arith
-link_least (headers.LinuxSll s) link = omega arith
 link_least (headers.Vlan v) link = absurd cc
 link_least (headers.Macsec m) link = absurd cc
 link_least (headers.Arp a) link = absurd cc
+link_least h link = omega arith
 
 -- a header of a whole list
 pub means_whole_list : (start : Expectation) (list : List ℕ) (h : Header) → IsUnit list start (whole start list) h
@@ -209,19 +189,15 @@ pub announces_kept : (h : Header) (t : ℕ) → is_link (kind_of h) ≡ true →
 announces_kept (headers.Ethernet2 e) t link typed = refl
 announces_kept (headers.Ethernet2Fcs e) t link typed = refl
 announces_kept (headers.LinuxSll s) t link typed = captured_next s t (s.hardware_type == 1) refl typed
-announces_kept (headers.Vlan v) t link typed = absurd cc
-announces_kept (headers.Macsec m) t link typed = absurd cc
-announces_kept (headers.Arp a) t link typed = absurd cc
+announces_kept h t link typed = absurd cc
 
 -- what is expected after the header of a link, and where
 pub link_after : (start : Start) (h : Header) → is_link (kind_of h) ≡ true
     → after (start_of start) h ≡ record { next = next_after h; limit = None }
-link_after start (headers.Ethernet2 e) link = refl
-link_after start (headers.Ethernet2Fcs e) link = refl
-link_after start (headers.LinuxSll s) link = refl
 link_after start (headers.Vlan v) link = absurd cc
 link_after start (headers.Macsec m) link = absurd cc
 link_after start (headers.Arp a) link = absurd cc
+link_after start h link = refl
 
 abbrev pub link_payload : Expectation → List ℕ → Header → Window
 link_payload x list h = record {
@@ -233,12 +209,10 @@ link_payload x list h = record {
 
 pub payload_is : (x : Expectation) (list : List ℕ) (h : Header) → is_link (kind_of h) ≡ true
     → payload (whole x list) h ≡ link_payload x list h
-payload_is x list (headers.Ethernet2 e) link = refl
-payload_is x list (headers.Ethernet2Fcs e) link = refl
-payload_is x list (headers.LinuxSll s) link = refl
 payload_is x list (headers.Vlan v) link = absurd cc
 payload_is x list (headers.Macsec m) link = absurd cc
 payload_is x list (headers.Arp a) link = absurd cc
+payload_is x list h link = refl
 
 -- so a stack of a payload is one of these
 pub stack_after : (start : Start) (list : List ℕ) (h : Header) (hs : List Header) (e : Ending)
@@ -422,10 +396,8 @@ not_announced : (a b c : Bool) (kind : Kind)
     → (if a then Some kinds.Vlan else (if b then Some kinds.Macsec else (if c then Some kinds.Arp else None)))
     ≡ Some kind
     → is_link kind ≡ false
-not_announced true b c kind e = ap is_link_of (sym e)
-not_announced false true c kind e = ap is_link_of (sym e)
-not_announced false false true kind e = ap is_link_of (sym e)
 not_announced false false false kind e = absurd cc
+not_announced a b c kind e = ap is_link_of (sym e)
 
 pub unlinked : (start : Start) (t : EtherTypeNumber) (list : List ℕ) (hs : List Header) (e : Ending)
     → start ≡ starts.EtherType t → Walk (start_of start) list hs e → RefusesTyped hs errors.NoLink

@@ -91,12 +91,8 @@ no_ids_before us i x s untagged =
     ids_of s.front ∙ ap (map vid_at) (vlans_found s.front ∙ ap vlans_of s.before ∙ untagged)
 
 tag_is : (k : Kind) (bytes tag : List ℕ) → vlan_in k bytes ≡ Some tag → header_in k bytes ≡ headers.Vlan (vlan_of tag)
-tag_is kinds.Ethernet2 bytes tag e = absurd cc
-tag_is kinds.Ethernet2Fcs bytes tag e = absurd cc
-tag_is kinds.LinuxSll bytes tag e = absurd cc
 tag_is kinds.Vlan bytes tag e = let same : bytes ≡ tag = cc in ap (λ (l : List ℕ). headers.Vlan (vlan_of l)) same
-tag_is kinds.Macsec bytes tag e = absurd cc
-tag_is kinds.Arp bytes tag e = absurd cc
+tag_is k bytes tag e = absurd cc
 
 -- after extensions that are no VLAN tags
 is_tag : (us : List PacketUnit) (i : ℕ) (x : PacketUnit) (bytes : List ℕ) (tag : VlanValue) → Untagged (exts_of us) i
@@ -140,10 +136,9 @@ two_changed : (front : List ℕ) (a b p q : ℕ) (tail : List ℕ) (i : ℕ) →
     → slice_index (front ++ a ∷ b ∷ tail) i ≡ slice_index (front ++ p ∷ q ∷ tail) i
 two_changed [] a b p q tail zero h k = absurd (h refl)
 two_changed [] a b p q tail (suc zero) h k = absurd (k refl)
-two_changed [] a b p q tail (suc (suc i)) h k = refl
-two_changed (x ∷ front) a b p q tail zero h k = refl
 two_changed (x ∷ front) a b p q tail (suc i) h k =
     two_changed front a b p q tail i (λ e. h (omega arith)) (λ e. k (omega arith))
+two_changed front a b p q tail i h k = refl
 
 two_set : (front tail : List ℕ) (a b p q vid : ℕ) → a / 16 ≡ p / 16 → a % 16 * 256 + b ≡ vid
     → SetsVid (front ++ p ∷ q ∷ tail) (length front) vid (front ++ a ∷ b ∷ tail)

@@ -14,9 +14,7 @@ use Rattle.ether_packet.proofs.packet_slice.PacketSlice.from_slice.Goals.{After-
 
 few_left : (start : Start) → headers_left (packet_start start) ≤ 5
 few_left starts.Ethernet2 = omega arith
-few_left starts.Ethernet2Fcs = omega arith
-few_left starts.LinuxSll = omega arith
-few_left (starts.EtherType t) = omega arith
+few_left start = omega arith
 
 -- the walk begins
 begins : (c : After-new)
