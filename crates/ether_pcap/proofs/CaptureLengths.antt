@@ -6,7 +6,7 @@ use Rattle.ether_pcap.specs.FileHeader as file
 use Rattle.ether_pcap.specs.Record as record_rows
 use Rattle.ether_pcap.specs.Block as block_rows
 use Rattle.ether_pcap.specs.Section as section_rows
-use Rattle.ether_pcap.specs.Capture.{CaptureInterfaceValue, PacketValue, Expectation, BlockKind, CaptureRefusal, Section, Block, RefusesBody, interface, too_many, simple_alone, simple, enhanced, enhanced_alone, Begins, file_header, file_record, first_section, section, block, Refuses, file_header_refused, file_record_refused, first_section_refused, section_refused, block_refused, body_refused, required_len}
+use Rattle.ether_pcap.specs.Capture.{CaptureInterfaceValue, PacketValue, Expectation, BlockKind, CaptureRefusal, Section, Block, RefusesBody, interface, Begins, file_header, file_record, first_section, section, block, Refuses, file_header_refused, file_record_refused, first_section_refused, section_refused, block_refused, body_refused, required_len}
 
 pub unit_within : (bytes : List ℕ) (x y : Expectation) (len : ℕ) (p : Option PacketValue) → Begins bytes x len p y
     → len ≤ length bytes

@@ -1,5 +1,5 @@
 -- What bytes begin with, they begin with if more follow; and why they don't, if that is not that they end.
-use Rattle.std.proofs.Common.{◌≡◌, ℕ, ◌+◌, ◌-◌, ◌%◌, ◌^◌, ◌≤◌, List, ◌++◌, length, length-append, refl, sym, ap, subst, ◌∙◌, arith, None}
+use Rattle.std.proofs.Common.{◌≡◌, ℕ, ◌+◌, ◌-◌, ◌%◌, ◌^◌, ◌≤◌, List, ◌++◌, length, length-append, refl, sym, ap, subst, ◌∙◌, arith, None, rules}
 use Rattle.std.specs.Prelude.{Option, slice_range}
 use Rattle.ether_base.specs.Bytes.{number}
 use Rattle.ether_base.proofs.SubLists.{part-append}
@@ -36,16 +36,7 @@ no_type bytes more le other has = other (sym (same_type bytes more le) ∙ has)
 
 file_header_local : (bytes more : List ℕ) (h : FileHeaderValue) → IsFileHeader bytes h → IsFileHeader (bytes ++ more) h
 file_header_local bytes more h is =
-    let le : 24 ≤ length bytes = is.len in
-    record {
-      len = longer bytes more 24 le;
-      magic = same h.order bytes more 0 4 (omega arith) (omega arith) ∙ is.magic;
-      major = same h.order bytes more 4 6 (omega arith) (omega arith) ∙ is.major;
-      minor = same h.order bytes more 6 8 (omega arith) (omega arith) ∙ is.minor;
-      snap_len = same h.order bytes more 16 20 (omega arith) (omega arith) ∙ is.snap_len;
-      link_type = ap (λ (n : ℕ). n % 2 ^ 16) (same h.order bytes more 20 24 (omega arith) le) ∙ is.link_type;
-      fcs_len = ap fcs_len_of (same h.order bytes more 20 24 (omega arith) le) ∙ is.fcs_len;
-    }
+    search (rules, length, longer, same)
 
 file_refused_local : (bytes more : List ℕ) (r : FileRefusal) → RefusesFile bytes r → required_len (File r) ≡ None
     → (4 ≤ length bytes) × RefusesFile (bytes ++ more) r
@@ -129,10 +120,7 @@ version_local : (order : Order) (bytes more : List ℕ) → 16 ≤ length bytes
     → IsVersion (field order bytes 12 14) (field order bytes 14 16)
     → IsVersion (field order (bytes ++ more) 12 14) (field order (bytes ++ more) 14 16)
 version_local order bytes more le is =
-    let major = same order bytes more 12 14 (omega arith) (omega arith) in
-    let minor = same order bytes more 14 16 (omega arith) le in
-    subst (λ (n : ℕ). IsVersion (field order (bytes ++ more) 12 14) n) (sym minor)
-    (subst (λ (n : ℕ). IsVersion n (field order bytes 14 16)) (sym major) is)
+    search (rules, same)
 
 section_local : (bytes more : List ℕ) (order : Order) (b : BlockValue) → IsSection bytes order b
     → IsSection (bytes ++ more) order b

@@ -1,5 +1,5 @@
 -- Bytes begin with a unit, or are refused; and so a file has packets.
-use Rattle.std.proofs.Common.{◌≡◌, ℕ, zero, suc, ◌+◌, ◌-◌, ◌*◌, ◌%◌, ◌^◌, ◌<◌, ◌≤◌, List, [], ◌∷◌, ◌++◌, length, drop, length-drop, refl, sym, ap, ◌∙◌, arith, inl, inr, Some, None}
+use Rattle.std.proofs.Common.{◌≡◌, ℕ, zero, suc, ◌+◌, ◌-◌, ◌*◌, ◌%◌, ◌^◌, ◌<◌, ◌≤◌, List, [], ◌∷◌, ◌++◌, length, drop, length-drop, refl, sym, ap, ◌∙◌, arith, inl, inr, Some, None, rules}
 use Rattle.std.specs.Prelude.{◌⊎◌, Option, slice_range}
 use Rattle.std.proofs.lemmas.Bool.{cases_lt, cases_eq}
 use Rattle.ether_base.specs.Bytes.{number}
@@ -171,16 +171,7 @@ Section_of bytes =
 
 some_version : (major minor : ℕ) → IsVersion major minor ⊎ (IsVersion major minor → ⊥)
 some_version major minor =
-    elim (cases_eq major 1) [
-      | inr other ↦ inr (λ v. other v.0)
-      | inl one ↦ elim (cases_eq minor 0) [
-        | inl e ↦ inl (one, inl e)
-        | inr a ↦ elim (cases_eq minor 2) [
-          | inl e ↦ inl (one, inr e)
-          | inr b ↦ inr (λ v. elim v.1 [ inl e ↦ a e | inr e ↦ b e ])
-        ]
-      ]
-    ]
+    search (rules, cases_eq)
 
 with_block : (bytes : List ℕ) (o : Order) (b : BlockValue) → HasSectionType bytes → HasOrder bytes o
     → BeginsBlock o bytes b → Section_of bytes

@@ -1,13 +1,13 @@
 -- What a unit is, after it and why there is none: one for each list of bytes and each expectation.
-use Rattle.std.proofs.Common.{◌≡◌, ℕ, ◌+◌, ◌<◌, List, [], ◌∷◌, ◌++◌, length, length-append, refl, sym, ap, subst, ◌∙◌, arith, Some}
+use Rattle.std.proofs.Common.{◌≡◌, ℕ, ◌+◌, ◌<◌, List, [], ◌∷◌, ◌++◌, length, length-append, refl, sym, ap, subst, ◌∙◌, arith, Some, rules}
 use Rattle.std.specs.Prelude.{Option, slice_get}
 use Rattle.ether_base.specs.Bytes.{IsBytes}
 use Rattle.ether_pcap.specs.Numbers.{Order}
 use Rattle.ether_pcap.specs.Record.{RecordValue, record_len}
 use Rattle.ether_pcap.specs.Block.{BlockValue}
 use Rattle.ether_pcap.specs.Options.{OptionValue, HasOptions}
-use Rattle.ether_pcap.specs.Bodies.{InterfaceValue, EnhancedPacketValue, SimplePacketValue, IsSimplePacket, RefusesSimplePacket}
-use Rattle.ether_pcap.specs.Capture.{PacketValue, packet_of_record, CaptureInterfaceValue, described_by, Describes, IsAt, packet_on, simple_packet_on, Expectation, Records, Blocks, BlockKind, InterfaceDescription, SimplePacket, EnhancedPacket, Other, kind_of_block, IsBody, CaptureRefusal, File, Record, Section, Block, Body, NoInterface, RefusesBody, interface, too_many, simple_alone, simple, enhanced, enhanced_alone, Begins, file_header, file_record, first_section, section, block, Refuses, file_header_refused, file_record_refused, first_section_refused, section_refused, block_refused, body_refused}
+use Rattle.ether_pcap.specs.Bodies.{EnhancedPacketValue, SimplePacketValue, IsSimplePacket, RefusesSimplePacket}
+use Rattle.ether_pcap.specs.Capture.{PacketValue, packet_of_record, CaptureInterfaceValue, Describes, IsAt, packet_on, simple_packet_on, Expectation, Records, Blocks, BlockKind, InterfaceDescription, SimplePacket, EnhancedPacket, Other, kind_of_block, IsBody, CaptureRefusal, File, Record, Section, Block, Body, NoInterface, RefusesBody, interface, too_many, simple_alone, simple, enhanced, enhanced_alone, Begins, file_header, file_record, first_section, section, block, Refuses, file_header_refused, file_record_refused, first_section_refused, section_refused, block_refused, body_refused}
 use Rattle.ether_pcap.proofs.FileHeaders.{one_header, apart, refused_once}
 use Rattle.ether_pcap.proofs.Records.{record_one, record_apart, refusal_one}
 use Rattle.ether_pcap.proofs.Blocks.{block_one, block_apart, block_refusal_one}
@@ -32,21 +32,12 @@ at_one l n i j a b = let e = get_at l n i a in let f = get_at l n j b in cc
 
 pub at_within : (l : List CaptureInterfaceValue) (n : ℕ) (i : CaptureInterfaceValue) → IsAt l n i → n < length l
 at_within l n i at =
-    let e : length l ≡ length at.before + length (i ∷ at.after) =
-    ap length at.parts ∙ length-append at.before (i ∷ at.after) in
-    omega (arith, e, at.number)
+    search (rules, length, length-append)
 
 described_one : (order : Order) (body : List ℕ) (v w : CaptureInterfaceValue) → Describes order body v
     → Describes order body w → v ≡ w
 described_one order body v w d e =
-    let s : d.interface ≡ e.interface =
-    interface_one order body d.interface e.interface d.is_interface e.is_interface in
-    let m : HasOptions order d.interface.options e.options =
-    subst (λ (k : InterfaceValue). HasOptions order k.options e.options) (sym s) e.has_options in
-    let o : d.options ≡ e.options = same_options order d.interface.options d.options e.options d.has_options m in
-    let p : described_by order d.interface d.options ≡ described_by order e.interface e.options =
-    λ i. described_by order (s i) (o i) in
-    sym d.value ∙ p ∙ e.value
+    search (rules, interface_one, same_options)
 
 -- ---- bodies
 

@@ -1,5 +1,5 @@
 -- What a copy has of a unit is a unit of the copy.
-use Rattle.std.proofs.Common.{◌≡◌, ◌⊎◌, ℕ, ◌+◌, ◌<◌, ◌≤◌, Bool, true, false, List, [], ◌∷◌, ◌++◌, length, map, refl, sym, ap, subst, ◌∙◌, arith, inl, inr, Some, None}
+use Rattle.std.proofs.Common.{◌≡◌, ◌⊎◌, ℕ, ◌+◌, ◌<◌, ◌≤◌, Bool, true, false, List, [], ◌∷◌, ◌++◌, length, map, refl, sym, ap, subst, ◌∙◌, arith, inl, inr, Some, None, rules}
 use Rattle.std.specs.Prelude.{Option, unwrap_or, nat_eq, slice_range, if◌then◌else◌}
 use Rattle.std.proofs.lemmas.Bool.{cases_eq, eq-eqb, ne_eqb, eqb-true}
 use Rattle.std.proofs.lemmas.List.{map-append, length-map}
@@ -39,23 +39,11 @@ room_if : (bytes : List ℕ) (x y : Expectation) (len : ℕ) (p : Option PacketV
 room_if bytes x y len p e (file_header m h other is) = is.len
 room_if bytes x y len p e (file_record h r is) = absurd cc
 room_if bytes x y len p e (first_section m order b is) =
-    let whole : 12 + length b.body ≤ length bytes = is.block.whole in
-    let long : 16 ≤ length b.body = is.len in
-    (omega (arith, whole), λ has. omega (arith, whole, long), λ one. omega (arith, whole, long))
+    search (rules, length)
 room_if bytes x y len p e (section m order next interfaces b is) =
-    let whole : 12 + length b.body ≤ length bytes = is.block.whole in
-    let long : 16 ≤ length b.body = is.len in
-    (omega (arith, whole), λ has. omega (arith, whole, long), λ one. omega (arith, whole, long))
+    search (rules, length)
 room_if bytes x y len p e (block m order interfaces after q b other begins body) =
-    let whole : 12 + length b.body ≤ length bytes = begins.whole in (
-      omega (arith, whole),
-      λ has. absurd (other has),
-      λ one.
-          let kind : kind_of_block b.block_type ≡ InterfaceDescription =
-          ap kind_of_block (sym begins.block_type ∙ one) in
-          let long = interface_room (kind_of_block b.block_type) m order interfaces after b.body q kind body in
-          omega (arith, whole, long),
-    )
+    search (rules, length, interface_room)
 
 pub unit_room : (bytes : List ℕ) (x y : Expectation) (len : ℕ) → Begins bytes x len None y → HasRoom y bytes
 unit_room bytes x y len begins = room_if bytes x y len None refl begins
@@ -236,27 +224,14 @@ unit_in_copy (Changed raise) bytes x y begins = changed_if raise bytes x y (leng
 pub some_in_copy : (mode : ModeValue) (bytes : List ℕ) (x y : Expectation) → Begins bytes x (length bytes) None y
     → ¬ (HasBegun x) → other_unit mode y bytes ≡ [] → ⊥
 some_in_copy mode bytes x y begins first empty =
-    elim (unit_in_copy mode bytes x y begins) [
-      | inl (none, same) ↦ first (subst HasBegun same (begun bytes x y (length bytes) None begins))
-      | inr is ↦
-          let n = unit_some (other_unit mode y bytes) (expected_in mode x) (expected_in mode y)
-          (length (other_unit mode y bytes)) None is in
-          let none : length (other_unit mode y bytes) ≡ 0 = ap length empty in
-          omega (arith, n, none)
-    ]
+    grind (arith, unit_in_copy, begun, length, unit_some)
 
 -- ---- packets
 
 raised_at : (raise : ℕ) (interfaces : List CaptureInterfaceValue) (n : ℕ) (i : CaptureInterfaceValue)
     → IsAt interfaces n i → IsAt (map (raised_interface raise) interfaces) n (raised_interface raise i)
-raised_at raise interfaces n i at = record {
-  before = map (raised_interface raise) at.before;
-  after = map (raised_interface raise) at.after;
-  parts =
-      ap (map (raised_interface raise)) at.parts
-      ∙ map-append (raised_interface raise) at.before (i ∷ at.after);
-  number = length-map at.before (raised_interface raise) ∙ at.number;
-}
+raised_at raise interfaces n i at =
+    search (rules, map, map-append, length-map)
 
 kept_if : (b : Bool) (unit new : List ℕ) → (if b then Some unit else None) ≡ Some new → (b ≡ true) × (unit ≡ new)
 kept_if true unit new is = (refl, ap (λ (o : Option (List ℕ)). unwrap_or o unit) is)
@@ -346,12 +321,8 @@ module _ (raise : ℕ) where
       × (edited_unit (expected_in (Changed raise) x) (length p.packet) e u ≡ Some new)
   edited_unit_kept (Beginning m) u new p e is = (refl, is)
   edited_unit_kept (Records h) u new p e is = (refl, is)
-  edited_unit_kept (Blocks m order interfaces) u new p e is = (
-    ap (λ (b : Bool). if b then Some u else None)
-        (kept_edited (kind_of_block (field order u 0 4)) order (length p.packet) e u new p
-        (fits_if (Blocks m order interfaces) (length p.packet) e u new is).is),
-    is,
-  )
+  edited_unit_kept (Blocks m order interfaces) u new p e is =
+      search (rules, kept_edited, length, fits_if)
 
 -- the unit of a packet is one of the copy
 pub packet_in_copy : (mode : ModeValue) (x : Expectation) (u new : List ℕ) (p : PacketValue) (o : Option EditedValue)
@@ -394,20 +365,14 @@ simple_if kind raise m order interfaces body p is e = absurd cc
 left_out : (mode : ModeValue) (x : Expectation) (u : List ℕ) (p : PacketValue) → Begins u x (length u) (Some p) x
     → packet_unit mode x p u ≡ None → p.time ≡ None
 left_out (Changed raise) (Blocks m order interfaces) u p begins is =
-    let b = (block_of_unit u (Blocks m order interfaces) (length u) m order interfaces p begins).0 in
-    let left = left_if (is_kept raise (kind_of_block (field order u 0 4)) p) u is in
-    simple_if (kind_of_block b.value.block_type) raise m order interfaces b.value.body p b.body
-    (ap (λ (n : ℕ). is_kept raise (kind_of_block n) p) (sym b.begins.block_type) ∙ left)
+    search (rules, block_of_unit, length, left_if, simple_if)
 left_out mode x u p begins is = absurd cc
 
 pub why_not_copied : (mode : ModeValue) (x : Expectation) (u : List ℕ) (p : PacketValue) (o : Option EditedValue)
     → Begins u x (length u) (Some p) x → unit_after mode x p o u ≡ None → WhyNot p o
 why_not_copied mode x u p None begins is = inl (left_out mode x u p begins is)
 why_not_copied mode x u p (Some e) begins is =
-    elim (why_not_edited x u p e begins is) [
-      | inl simple ↦ inl simple
-      | inr long ↦ inr (e, refl, long)
-    ]
+    search (rules, why_not_edited)
 
 -- ---- snap lengths
 
@@ -416,7 +381,4 @@ pub raised_within : (raise : ℕ) (p q : PacketValue) → IsWithinSnap p → q.s
     → length q.packet ≤ length p.packet + raise → length q.packet ≤ 262144 → IsWithinSnap q
 raised_within raise p q (inl none) e more room = inl (e ∙ raised_none raise p.snap_len none)
 raised_within raise p q (inr le) e more room =
-    elim (cases_eq p.snap_len 0) [
-      | inl none ↦ inl (e ∙ raised_none raise p.snap_len none)
-      | inr some ↦ let is = raised_some raise p.snap_len some in inr (omega (arith, e, is, le, more, room))
-    ]
+    search (rules, cases_eq, raised_none, raised_some)

@@ -1,5 +1,5 @@
 -- What a copy of a capture file has.
-use Rattle.std.proofs.Common.{◌≡◌, ◌≢◌, ◌⊎◌, ℕ, zero, suc, ◌+◌, ◌<◌, ◌≤◌, Bool, true, false, List, [], ◌∷◌, ◌++◌, length, drop, length-drop, append_assoc, refl, sym, ap, subst, ◌∙◌, arith, inl, inr, Some, None}
+use Rattle.std.proofs.Common.{◌≡◌, ◌≢◌, ◌⊎◌, ℕ, zero, suc, ◌+◌, ◌<◌, ◌≤◌, Bool, true, false, List, [], ◌∷◌, ◌++◌, length, drop, length-drop, append_assoc, refl, sym, ap, subst, ◌∙◌, arith, inl, inr, Some, None, rules}
 use Rattle.std.specs.Prelude.{Option, IsTrue, All, take, ⊤, unwrap_or}
 use Rattle.std.proofs.lemmas.List.{length-take-le, take-append-drop, drop_at}
 use Rattle.std.proofs.lemmas.List.Elements.{All-cons, All-head, All-tail}
@@ -38,9 +38,7 @@ other_taken bytes x y len begins =
 pub packet_taken : (bytes : List ℕ) (x y : Expectation) (len : ℕ) (p : PacketValue) → Begins bytes x len (Some p) y
     → Begins (take len bytes) x (length (take len bytes)) (Some p) x
 packet_taken bytes x y len p begins =
-    let s = unit_taken bytes x y len (Some p) begins in
-    subst (λ (k : ℕ). Begins (take len bytes) x k (Some p) x) (sym s.1)
-    (subst (λ (z : Expectation). Begins (take len bytes) x len (Some p) z) (same_after bytes x y len p begins) s.0)
+    search (rules, unit_taken, same_after)
 
 -- a packet that is copied
 pub packet_copied : (mode : ModeValue) (bytes front copy : List ℕ) (x y : Expectation) (len : ℕ) (p : PacketValue)
@@ -48,12 +46,7 @@ pub packet_copied : (mode : ModeValue) (bytes front copy : List ℕ) (x y : Expe
     → Begins bytes x len (Some p) y → unit_after mode x p o (take len bytes) ≡ Some front
     → Begins (front ++ copy) (expected_in mode x) (length front) (Some (packet_after mode p o)) (expected_in mode y)
 packet_copied mode bytes front copy x y len p o begins is =
-    let here = packet_taken bytes x y len p begins in
-    let z = expected_in mode x in
-    subst (λ (w : Expectation). Begins (front ++ copy) z (length front) (Some (packet_after mode p o)) (expected_in mode w))
-    (sym (same_after bytes x y len p begins))
-    (unit_local front copy z z (length front) (Some (packet_after mode p o))
-    (packet_in_copy mode x (take len bytes) front p o here is))
+    search (rules, packet_taken, length, same_after, unit_local, packet_in_copy)
 
 -- ---- all packets up to what is left
 
@@ -205,21 +198,7 @@ module _ (mode : ModeValue) (Keeps : PacketValue → Type 0) (Edits : PacketValu
   stopped_at x bytes copy kept edited rest fault q (ended _ _ end) e = absurd cc
   stopped_at x bytes copy kept edited rest fault q (refused _ _ r more is) e = absurd cc
   stopped_at x bytes copy kept edited rest fault q (not_edited _ y _ len p o begins is edits no_front) e =
-      let same : p ≡ q = cc in
-      let here =
-      subst (λ (z : Expectation). Begins bytes x len (Some p) z) (same_after bytes x y len p begins) begins in
-      let why = why_not_copied mode x (take len bytes) p o (packet_taken bytes x y len p begins) no_front in
-      subst (IsNotEdited mode Keeps Edits bytes) same
-      (record {
-        expected = x;
-        len = len;
-        edited = o;
-        begins = here;
-        kept = is;
-        edits = edits;
-        not_written = no_front;
-        why = why;
-      })
+      search (rules, same_after, why_not_copied, packet_taken)
   stopped_at x bytes copy kept edited rest fault q (unit _ y _ others len _ _ _ _ begins copies) e =
       stopped_at y (drop len bytes) others kept edited rest fault q copies e
   stopped_at x bytes copy kept edited rest fault q (keeps _ y _ front others len p o ps qs _ _ begins is edits fits copies) e =

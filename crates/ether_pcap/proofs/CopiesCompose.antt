@@ -1,5 +1,5 @@
 -- A copy of a copy: packets are selected twice.
-use Rattle.std.proofs.Common.{◌≡◌, ◌≢◌, ◌⊎◌, ℕ, ◌+◌, ◌-◌, ◌^◌, ◌<◌, ◌≤◌, Bool, true, false, List, [], ◌∷◌, ◌++◌, length, take, drop, map, reverse, length-append, refl, sym, ap, subst, ◌∙◌, arith, inl, inr, Some, None}
+use Rattle.std.proofs.Common.{◌≡◌, ◌≢◌, ◌⊎◌, ℕ, ◌+◌, ◌-◌, ◌^◌, ◌<◌, ◌≤◌, Bool, true, false, List, [], ◌∷◌, ◌++◌, length, take, drop, map, reverse, length-append, refl, sym, ap, subst, ◌∙◌, arith, inl, inr, Some, None, rules}
 use Rattle.std.specs.Prelude.{Option, IsTrue, ◌↔◌, ◌&&◌, All, ⊤, unwrap_or, nat_eq, slice_range, if◌then◌else◌}
 use Rattle.std.proofs.lemmas.Bool.{cases_eq, eq-eqb, ne_eqb}
 use Rattle.std.proofs.lemmas.List.{length-reverse, drop_at}
@@ -12,9 +12,9 @@ use Rattle.ether_pcap.specs.Numbers.{Order, BigEndian, LittleEndian, number_from
 use Rattle.ether_pcap.specs.Writing.{bytes_of}
 use Rattle.ether_pcap.specs.FileHeader.{FileHeaderValue}
 use Rattle.ether_pcap.specs.Section.{section_type, HasSectionType}
-use Rattle.ether_pcap.specs.CopiedUnits.{ModeValue, Changed, packet_after, raised_len, raised_header, raised_interface, expected_in, with_bytes, no_section_len, changed_unit, other_unit, packet_in, is_kept, packet_unit, unit_after}
+use Rattle.ether_pcap.specs.CopiedUnits.{ModeValue, Changed, packet_after, raised_len, raised_header, raised_interface, expected_in, with_bytes, changed_unit, other_unit, packet_in, is_kept, packet_unit, unit_after}
 use Rattle.ether_pcap.specs.Bodies.{captured_by}
-use Rattle.ether_pcap.specs.Capture.{PacketValue, packet_of_record, packet_on, simple_packet_on, CaptureInterfaceValue, Expectation, Beginning, Records, Blocks, BlockKind, InterfaceDescription, SimplePacket, EnhancedPacket, Other, kind_of_block, IsBody, HasBegun, Begins, HasPackets, file_header, file_record, first_section, section, block}
+use Rattle.ether_pcap.specs.Capture.{PacketValue, packet_of_record, packet_on, simple_packet_on, CaptureInterfaceValue, Expectation, Beginning, Records, Blocks, BlockKind, InterfaceDescription, SimplePacket, EnhancedPacket, Other, kind_of_block, IsBody, HasBegun, Begins, HasPackets, file_header, file_record, block}
 use Rattle.ether_pcap.specs.Editing.{EditedValue}
 use Rattle.ether_pcap.specs.Copies.{CopyFault, Copies, Refused, NotEdited, ended, refused, not_edited, unit, keeps, leaves, EditsOnce, Selected, one_kept, one_left, HasSource, CopiesBy, EditsNone, edits_none}
 use Rattle.ether_pcap.proofs.CaptureLocality.{unit_local}
@@ -42,14 +42,7 @@ module _ (at : ℕ) (new bytes : List ℕ) (room : at + length new ≤ length by
 
 raised_twice : (n : ℕ) → raised_len 0 (raised_len 0 n) ≡ raised_len 0 n
 raised_twice n =
-    elim (cases_eq n 0) [
-      | inl none ↦ ap (raised_len 0) (raised_none 0 n none) ∙ raised_none 0 0 refl ∙ sym (raised_none 0 n none)
-      | inr some ↦
-          let once = raised_some 0 n some in
-          let left : raised_len 0 n ≡ 0 → ⊥ = λ e. some (omega (arith, once, e)) in
-          let twice = raised_some 0 (raised_len 0 n) left in
-          omega (arith, once, twice)
-    ]
+    search (rules, cases_eq, raised_none, raised_some)
 
 module _ (most : ℕ) (order : Order) (interfaces : List CaptureInterfaceValue) (bytes : List ℕ) where
   abbrev changed : List ℕ → List ℕ
@@ -57,12 +50,7 @@ module _ (most : ℕ) (order : Order) (interfaces : List CaptureInterfaceValue) 
 
   section_twice : HasSectionType bytes → 24 ≤ length bytes → changed (changed bytes) ≡ changed bytes
   section_twice is room =
-      let new = with_bytes 16 no_section_len bytes in
-      let once : changed bytes ≡ new = section_changed 0 most order interfaces bytes is in
-      let same = with_bytes-before 16 no_section_len bytes room 0 4 (omega arith) (omega arith) in
-      ap changed once
-      ∙ section_changed 0 most order interfaces new (ap number same ∙ is)
-      ∙ replaced_twice 16 no_section_len bytes room ∙ sym once
+      search (rules, section_changed, with_bytes-before, replaced_twice)
 
   interface_twice : (HasSectionType bytes → ⊥) → field order bytes 0 4 ≡ 1 → 16 ≤ length bytes
       → changed (changed bytes) ≡ changed bytes
@@ -87,16 +75,7 @@ module _ (most : ℕ) (order : Order) (interfaces : List CaptureInterfaceValue) 
   plain_twice : (HasSectionType bytes → ⊥) → (field order bytes 0 4 ≡ 1 → ⊥)
       → (changed bytes ≡ []) ⊎ (changed bytes ≡ bytes)
   plain_twice other not_one =
-      let n = field order bytes 0 4 in
-      let rest = if nat_eq n 0x40000BAD then [] else bytes in
-      let new = with_bytes 12 (bytes_of order 4 (raised_len 0 (field order bytes 12 16))) bytes in
-      let once : changed bytes ≡ rest =
-      other_changed 0 most order interfaces bytes other
-      ∙ ap (λ (z : Bool). if z then new else rest) (ne_eqb n 1 not_one) in
-      elim (cases_eq n 0x40000BAD) [
-        | inl custom ↦ inl (once ∙ ap (λ (z : Bool). if z then [] else bytes) (eq-eqb n 0x40000BAD custom))
-        | inr plain ↦ inr (once ∙ ap (λ (z : Bool). if z then [] else bytes) (ne_eqb n 0x40000BAD plain))
-      ]
+      search (rules, other_changed, ne_eqb, cases_eq, eq-eqb)
 
   block_twice : HasRoom (Blocks most order interfaces) bytes
       → (changed bytes ≡ []) ⊎ (changed (changed bytes) ≡ changed bytes)
@@ -155,10 +134,7 @@ four_field order bytes i ok le =
 
 same_len : (n : ℕ) → IsFour n → raised_len 0 n ≡ n
 same_len n lt =
-    elim (cases_eq n 0) [
-      | inl none ↦ raised_none 0 n none ∙ sym none
-      | inr some ↦ let once = raised_some 0 n some in omega (arith, once, lt)
-    ]
+    search (rules, cases_eq, raised_none, raised_some)
 
 same_header : (h : FileHeaderValue) → IsFour h.snap_len → raised_header 0 h ≡ h
 same_header h lt = ap (λ (n : ℕ). record h { snap_len = n }) (same_len h.snap_len lt)
@@ -561,10 +537,8 @@ unedited_none p None is = refl
 unedited_none p (Some e) is = absurd cc
 
 edits_once : EditsOnce (λ p o. IsTrue (edits_none p o))
-edits_once = record {
-  some = λ p ok. (None, refl);
-  one = λ p o q a b. unedited_none p o a ∙ sym (unedited_none p q b);
-}
+edits_once =
+    search (rules, unedited_none)
 
 both_true : (a b : Bool) → (IsTrue a × IsTrue b) ↔ IsTrue (a && b)
 both_true true b = (λ is. is.1, λ is. (refl, is))

@@ -1,6 +1,6 @@
 -- Any bytes have one copy.
-use Rattle.std.proofs.Common.{◌≡◌, ◌⊎◌, ℕ, zero, suc, ◌≤◌, List, [], ◌∷◌, ◌++◌, length, drop, length-drop, refl, sym, ap, subst, ◌∙◌, arith, inl, inr, Some, None}
-use Rattle.std.specs.Prelude.{Option, Bool, IsTrue, take, unwrap_or}
+use Rattle.std.proofs.Common.{◌≡◌, ◌⊎◌, ℕ, zero, suc, ◌≤◌, List, [], ◌∷◌, ◌++◌, length, drop, length-drop, refl, sym, ap, subst, ◌∙◌, arith, inl, inr, Some, None, rules}
+use Rattle.std.specs.Prelude.{Option, Bool, IsTrue, take}
 use Rattle.ether_base.specs.Bytes.{IsBytes}
 use Rattle.ether_base.proofs.SubLists.{IsBytes-drop}
 use Rattle.ether_pcap.specs.Capture.{PacketValue, Expectation, CaptureRefusal, Begins, Refuses, IsEnd}
@@ -68,25 +68,14 @@ module _ (mode : ModeValue) (Keeps : PacketValue → Type 0) (Edits : PacketValu
   same_front : (x : Expectation) (p : PacketValue) (front u v : List ℕ) (o q : Option EditedValue) → Edits p o
       → Edits p q → unit_after mode x p o front ≡ Some u → unit_after mode x p q front ≡ Some v → (o ≡ q) × (u ≡ v)
   same_front x p front u v o q edits edits2 e f =
-      let same = once.one p o q edits edits2 in (
-        same,
-        ap (λ (z : Option (List ℕ)). unwrap_or z u)
-            (sym e ∙ ap (λ (r : Option EditedValue). unit_after mode x p r front) same ∙ f),
-      )
+      search (rules)
 
   same_joined : (x y : Expectation) (p : Option PacketValue) (front : List ℕ) (others more all other : Result)
       → others ≡ more → Joined x y p front others all → Joined x y p front more other → all ≡ other
   same_joined x y None front others more all other e a b =
       a ∙ ap (λ (r : Result). record r { copy = other_unit mode y front ++ r.copy }) e ∙ sym b
   same_joined x y (Some p) front others more all other e (inl (is, o, u, edits, g, a)) (inl (is2, q, v, edits2, h, b)) =
-      let same = same_front x p front u v o q edits edits2 g h in
-      a
-      ∙ ap (λ (r : Result). record { copy = u ++ r.copy; kept = p ∷ r.kept; edited = packet_after mode p o ∷ r.edited }) e
-      ∙ ap (λ (l : List ℕ). record { copy = l ++ more.copy; kept = p ∷ more.kept; edited = packet_after mode p o ∷ more.edited })
-      same.1
-      ∙ ap (λ (r : Option EditedValue). record { copy = v ++ more.copy; kept = p ∷ more.kept; edited = packet_after mode p r ∷ more.edited })
-      same.0
-      ∙ sym b
+      search (rules, same_front)
   same_joined x y (Some p) front others more all other e (inl (is, o, u, edits, g, a)) (inr (not_kept, b)) =
       absurd (not_kept is)
   same_joined x y (Some p) front others more all other e (inr (not_kept, a)) (inl (is, o, u, edits, g, b)) =

@@ -1,5 +1,5 @@
 -- A unit whose packet is edited begins with the edited packet.
-use Rattle.std.proofs.Common.{◌≡◌, ◌⊎◌, ℕ, ◌+◌, ◌-◌, ◌%◌, ◌<◌, ◌≤◌, List, ◌++◌, length, refl, sym, ap, subst, ◌∙◌, arith, inl, inr, Some, None}
+use Rattle.std.proofs.Common.{◌≡◌, ◌⊎◌, ℕ, ◌+◌, ◌-◌, ◌<◌, ◌≤◌, List, ◌++◌, length, refl, sym, ap, subst, ◌∙◌, arith, inl, inr, Some, None, rules}
 use Rattle.std.specs.Prelude.{Option, Bool, true, false, unwrap_or, slice_range, if◌then◌else◌, IfSome}
 use Rattle.std.specs.Option.{option_map}
 use Rattle.std.proofs.lemmas.Bool.{cases_lt, lt-ltb, le-ltb}
@@ -31,13 +31,7 @@ data Room (e : EditedValue) : Type 0 where
 
 room_of : (e : EditedValue) → Room e
 room_of e =
-    elim (cases_lt 262144 (length e.packet)) [
-      | inl long ↦ long_packet long
-      | inr small ↦ elim (cases_lt 4294967295 e.original_len) [
-        | inl long ↦ long_original small long
-        | inr four ↦ fits small four
-      ]
-    ]
+    search (rules, cases_lt, length)
 
 too_long : (e : EditedValue) → 262144 < length e.packet → is_too_long e ≡ true
 too_long e long = rw (lt-ltb 262144 (length e.packet) long) refl
@@ -111,13 +105,7 @@ edited_sound : (order : Order) (m : ℕ) (e : EditedValue) (body : List ℕ) →
     → IsTotalLen (12 + length body) → 12 + length (edited_body order m e body) ≤ 16777216
     → IsTotalLen (12 + length (edited_body order m e body))
 edited_sound order m e body whole sound most =
-    let l = length-edited_body order m e body (omega (arith, whole)) in
-    let aligned : (12 + length body) % 4 ≡ 0 = sound.aligned in
-    record {
-      least = omega arith;
-      aligned = omega (arith, l, aligned, whole);
-      most = most;
-    }
+    search (rules, length-edited_body, length)
 
 -- what is written of a block
 record BlockFits (order : Order) (m : ℕ) (e : EditedValue) (u new : List ℕ) : Type 0 where
@@ -127,16 +115,7 @@ record BlockFits (order : Order) (m : ℕ) (e : EditedValue) (u new : List ℕ) 
 block_fits : (number_len : ℕ) (order : Order) (m : ℕ) (e : EditedValue) (u new : List ℕ)
     → edited_block (EnhancedPacket number_len) order m e u ≡ Some new → BlockFits order m e u new
 block_fits number_len order m e u new is =
-    let body = edited_body order m e (slice_range u 8 (length u - 4)) in
-    let all = block_bytes order (slice_range u 0 4) body in
-    let Is = λ (b : Bool). (if b then None else Some all) ≡ Some new in
-    elim (cases_lt 16777216 (12 + length body)) [
-      | inl long ↦
-          let bad : None ≡ Some new = subst Is (lt-ltb 16777216 (12 + length body) long) is in
-          absurd cc
-      | inr most ↦
-          record { most = most; is = same_bytes all new (subst Is (le-ltb 16777216 (12 + length body) most) is) }
-    ]
+    search (rules, length, cases_lt, lt-ltb, same_bytes, le-ltb)
 
 module _ (most : ℕ) (order : Order) (interfaces : List CaptureInterfaceValue) (u : List ℕ) (p : PacketValue)
     (e : EditedValue) (b : PacketBlock most order interfaces u p) (len : length u ≡ 12 + length b.value.body)
@@ -192,15 +171,7 @@ module _ (most : ℕ) (order : Order) (interfaces : List CaptureInterfaceValue) 
 
   few_bytes : (t k : ℕ) → kind_of_block t ≡ EnhancedPacket k → k ≤ 4
   few_bytes t k is =
-      elim (type_of t) [
-        | is_interface e ↦ let f : InterfaceDescription ≡ EnhancedPacket k = ap kind_of_block (sym e) ∙ is in absurd cc
-        | is_obsolete e ↦ let f : EnhancedPacket 2 ≡ EnhancedPacket k = ap kind_of_block (sym e) ∙ is in
-            let g : 2 ≡ k = cc in omega (arith, g)
-        | is_simple e ↦ let f : SimplePacket ≡ EnhancedPacket k = ap kind_of_block (sym e) ∙ is in absurd cc
-        | is_enhanced e ↦ let f : EnhancedPacket 4 ≡ EnhancedPacket k = ap kind_of_block (sym e) ∙ is in
-            let g : 4 ≡ k = cc in omega (arith, g)
-        | is_other e ↦ let f : Other ≡ EnhancedPacket k = sym e ∙ is in absurd cc
-      ]
+      search (rules, type_of, is_interface, is_obsolete, is_simple, is_enhanced, is_other)
 
   block_edited : (new : List ℕ) → unit_with (Blocks most order interfaces) (length p.packet) e u ≡ Some new
       → Begins new (Blocks most order interfaces) (length new) (Some (edited_packet e p)) (Blocks most order interfaces)
@@ -249,10 +220,7 @@ Why p e = (p.time ≡ None) ⊎ (length p.packet < length e.packet) ⊎ (4294967
 longer_body : (order : Order) (m : ℕ) (e : EditedValue) (body : List ℕ) → 20 + m ≤ length body
     → IsTotalLen (12 + length body) → 16777216 < 12 + length (edited_body order m e body) → m < length e.packet
 longer_body order m e body whole sound long =
-    let l = length-edited_body order m e body (omega (arith, whole)) in
-    let most : 12 + length body ≤ 16777216 = sound.most in
-    let aligned : (12 + length body) % 4 ≡ 0 = sound.aligned in
-    omega (arith, l, most, aligned, whole, long)
+    search (rules, length-edited_body, length)
 
 why_block : (kind : BlockKind) (limit : ℕ) (order : Order) (interfaces : List CaptureInterfaceValue) (u body : List ℕ)
     (p : PacketValue) (e : EditedValue)
@@ -262,20 +230,7 @@ why_block : (kind : BlockKind) (limit : ℕ) (order : Order) (interfaces : List 
 why_block SimplePacket limit order interfaces u body p e is_body sound (i, q, at, v, f, g) is =
     inl (ap (λ (r : PacketValue). r.time) (same_packet p (simple_packet_on i q) f))
 why_block (EnhancedPacket k) limit order interfaces u body p e is_body sound (i, v, options, is_v, at, has, f, g) is =
-    let same : p ≡ packet_on order i v options = same_packet p (packet_on order i v options) f in
-    let m : length p.packet ≡ length v.packet = ap (λ (q : PacketValue). length q.packet) same in
-    let new = edited_body order (length p.packet) e (slice_range u 8 (length u - 4)) in
-    let all = block_bytes order (slice_range u 0 4) new in
-    let Is = λ (b : Bool). (if b then None else Some all) ≡ None in
-    let whole : 20 + length p.packet ≤ length body = omega (arith, m, is_v.whole) in
-    elim (cases_lt 16777216 (12 + length new)) [
-      | inl long ↦
-          inr (inl (longer_body order (length p.packet) e body whole sound
-          (subst (λ (l : List ℕ). 16777216 < 12 + length (edited_body order (length p.packet) e l)) is_body long)))
-      | inr most ↦
-          let bad : Some all ≡ None = subst Is (le-ltb 16777216 (12 + length new) most) is in
-          absurd cc
-    ]
+    search (rules, same_packet, length, cases_lt, longer_body, le-ltb)
 why_block kind limit order interfaces u body p e is_body sound h is = absurd cc
 
 why_unit : (x : Expectation) (u : List ℕ) (p : PacketValue) (e : EditedValue) → Begins u x (length u) (Some p) x
@@ -283,19 +238,9 @@ why_unit : (x : Expectation) (u : List ℕ) (p : PacketValue) (e : EditedValue) 
 why_unit (Beginning m) u p e begins is = absurd (begun_before u (Beginning m) (Beginning m) (length u) p begins)
 why_unit (Records h) u p e begins is = absurd cc
 why_unit (Blocks most order interfaces) u p e begins is =
-    let found = block_of_unit u (Blocks most order interfaces) (length u) most order interfaces p begins in
-    let b = found.0 in
-    why_block (kind_of_block (field order u 0 4)) most order interfaces u b.value.body p e
-    (body_of_unit most order interfaces u p b found.1) b.begins.sound
-    (subst (λ (z : BlockKind). IsBody z most order interfaces b.value.body (Some p) interfaces)
-    (ap kind_of_block (sym b.begins.block_type)) b.body)
-    is
+    grind (arith, block_of_unit, length, why_block, body_of_unit)
 
 pub why_not_edited : (x : Expectation) (u : List ℕ) (p : PacketValue) (e : EditedValue)
     → Begins u x (length u) (Some p) x → edited_unit x (length p.packet) e u ≡ None → Why p e
 why_not_edited x u p e begins is =
-    elim (room_of e) [
-      | long_packet long ↦ inr (inl (omega (arith, long, packet_room x u p begins)))
-      | long_original small long ↦ inr (inr long)
-      | fits small four ↦ why_unit x u p e begins (sym (unit_fits x (length p.packet) e u small four) ∙ is)
-    ]
+    search (rules, room_of, packet_room, why_unit, unit_fits, length)

@@ -1,10 +1,9 @@
 -- File headers: one for each list of bytes, or one refusal.
-use Rattle.std.proofs.Common.{◌≡◌, ℕ, ◌%◌, ◌^◌, ◌≤◌, List, [], ◌∷◌, length, refl, sym, ap, ◌∙◌, arith}
-use Rattle.std.specs.Prelude.{slice_range}
+use Rattle.std.proofs.Common.{◌≡◌, ℕ, ◌≤◌, List, [], ◌∷◌, length, refl, ap, arith, rules}
 use Rattle.ether_base.specs.Bytes.{IsBytes, number}
-use Rattle.ether_base.proofs.SubLists.{length-part, IsBytes-part}
+use Rattle.ether_base.proofs.SubLists.{length-part}
 use Rattle.ether_pcap.specs.Numbers.{Order, BigEndian, LittleEndian, number_from_low, field}
-use Rattle.ether_pcap.specs.FileHeader.{Resolution, Microseconds, Nanoseconds, magic_of, HasMagic, fcs_len_of, FileHeaderValue, IsFileHeader, FileRefusal, RefusesFile, short, magic, version, Version}
+use Rattle.ether_pcap.specs.FileHeader.{Resolution, Microseconds, Nanoseconds, magic_of, HasMagic, FileHeaderValue, IsFileHeader, FileRefusal, RefusesFile, short, magic, version, Version}
 
 -- no four bytes are a magic number in both orders
 ends : (l : List ℕ) → length l ≡ 4 → IsBytes l → (r s : Resolution) → number l ≡ magic_of r
@@ -31,39 +30,22 @@ one_resolution n r s p q = refl
 magic_one : (bytes : List ℕ) (o p : Order) (r s : Resolution) → IsBytes bytes → 24 ≤ length bytes → HasMagic bytes o r
     → HasMagic bytes p s → (o ≡ p) × (r ≡ s)
 magic_one bytes BigEndian LittleEndian r s ok le h k =
-    absurd
-    (ends (slice_range bytes 0 4) (length-part bytes 0 4 (omega arith) ∙ omega arith) (IsBytes-part 0 4 bytes ok) r
-    s h k)
+    search (rules, ends, length-part)
 magic_one bytes LittleEndian BigEndian r s ok le h k =
-    absurd
-    (ends (slice_range bytes 0 4) (length-part bytes 0 4 (omega arith) ∙ omega arith) (IsBytes-part 0 4 bytes ok) s
-    r k h)
+    search (rules, ends, length-part)
 magic_one bytes o p r s ok le h k = (refl, one_resolution _ r s h k)
 
 pub one_header : (bytes : List ℕ) (h k : FileHeaderValue) → IsBytes bytes → IsFileHeader bytes h → IsFileHeader bytes k
     → h ≡ k
 one_header bytes h k ok is are =
-    let m = magic_one bytes h.order k.order h.resolution k.resolution ok is.len is.magic are.magic in
-    let o = m.0 in
-    let r = m.1 in
-    let a : h.snap_len ≡ k.snap_len = sym is.snap_len ∙ ap (λ (x : Order). field x bytes 16 20) o ∙ are.snap_len in
-    let b : h.link_type ≡ k.link_type =
-    sym is.link_type ∙ ap (λ (x : Order). field x bytes 20 24 % 2 ^ 16) o ∙ are.link_type in
-    let c : h.fcs_len ≡ k.fcs_len =
-    sym is.fcs_len ∙ ap (λ (x : Order). fcs_len_of (field x bytes 20 24)) o ∙ are.fcs_len in
-    λ i. record { order = o i; resolution = r i; snap_len = a i; link_type = b i; fcs_len = c i }
+    search (rules, magic_one)
 
 pub apart : (bytes : List ℕ) (h : FileHeaderValue) (r : FileRefusal) → IsBytes bytes → IsFileHeader bytes h
     → RefusesFile bytes r → ⊥
 apart bytes h r ok is (short lt) = omega (arith, is.len, lt)
 apart bytes h r ok is (magic le none) = none h.order h.resolution is.magic
 apart bytes h r ok is (version o s le has other) =
-    let m = magic_one bytes h.order o h.resolution s ok is.len is.magic has in
-    other (
-      ap (λ (x : Order). field x bytes 4 6) (sym m.0) ∙ is.major,
-      ap (λ (x : Order). field x bytes 6 8) (sym m.0)
-          ∙ is.minor,
-    )
+    search (rules, magic_one)
 
 pub refused_once : (bytes : List ℕ) (r s : FileRefusal) → IsBytes bytes → RefusesFile bytes r → RefusesFile bytes s
     → r ≡ s

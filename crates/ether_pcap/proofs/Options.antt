@@ -1,6 +1,6 @@
 -- The options of bytes: there is one list of them, and what a reader of it knows on the way.
-use Rattle.std.proofs.Common.{◌≡◌, ℕ, zero, suc, ◌+◌, ◌<◌, ◌≤◌, List, [], ◌∷◌, length, drop, refl, sym, ap, subst, ◌∙◌, arith, inl, inr, Some, None, Bool, true, false, eq-eqb, ne_eqb, length-drop}
-use Rattle.std.specs.Prelude.{◌≢◌, Option, nat_eq, slice_range, if◌then◌else◌}
+use Rattle.std.proofs.Common.{◌≡◌, ℕ, zero, suc, ◌+◌, ◌<◌, ◌≤◌, List, [], ◌∷◌, length, drop, refl, sym, subst, ◌∙◌, arith, inl, inr, Some, None, true, false, eq-eqb, ne_eqb, length-drop, rules}
+use Rattle.std.specs.Prelude.{◌≢◌, Option, slice_range}
 use Rattle.std.proofs.lemmas.Bool.{cases_lt, cases_eq}
 use Rattle.ether_base.proofs.SubLists.{length-part}
 use Rattle.ether_pcap.specs.Numbers.{Order, field}
@@ -9,10 +9,7 @@ use Rattle.ether_pcap.specs.Options.{OptionValue, BeginsOption, HasOptions, padd
 pub option_one : (order : Order) (bytes : List ℕ) (o p : OptionValue) → BeginsOption order bytes o
     → BeginsOption order bytes p → o ≡ p
 option_one order bytes o p h k =
-    let n : length o.value ≡ length p.value = sym h.len ∙ k.len in
-    let a : o.code ≡ p.code = sym h.code ∙ k.code in
-    let b : o.value ≡ p.value = sym h.value ∙ ap (λ (m : ℕ). slice_range bytes 4 (4 + m)) n ∙ k.value in
-    λ i. record { code = a i; value = b i }
+    search (rules, length)
 
 -- no option of fewer than four bytes, with code 0, or with more bytes than there are
 
@@ -42,12 +39,7 @@ skipped : (order : Order) (code : ℕ) (rest : List ℕ) (o : OptionValue) (foun
     × (found ≡ value_of code others)
 skipped order code rest o found [] h other has e = absurd (has o h)
 skipped order code rest o found (p ∷ left) h other has e =
-    let s = option_one order rest p o has.0 h in
-    let t : HasOptions order (drop (4 + padded (length o.value)) rest) left =
-    subst (λ (v : OptionValue). HasOptions order (drop (4 + padded (length v.value)) rest) left) s has.1 in
-    let n : nat_eq p.code code ≡ false =
-    ne_eqb p.code code (λ q. other (ap (λ (v : OptionValue). v.code) (sym s) ∙ q)) in
-    (left, t, e ∙ ap (λ (b : Bool). if b then Some p.value else value_of code left) n)
+    search (rules, option_one, drop, length, false, ne_eqb)
 
 pub agrees_next : (order : Order) (code : ℕ) (whole rest : List ℕ) (o : OptionValue) → Agrees order code whole rest
     → BeginsOption order rest o → o.code ≢ code → Agrees order code whole (drop (4 + padded (length o.value)) rest)
@@ -61,9 +53,7 @@ found_first : (order : Order) (code : ℕ) (rest : List ℕ) (o : OptionValue) (
     → found ≡ Some o.value
 found_first order code rest o found [] h is has e = absurd (has o h)
 found_first order code rest o found (p ∷ left) h is has e =
-    let s = option_one order rest p o has.0 h in
-    let n : nat_eq p.code code ≡ true = eq-eqb p.code code (ap (λ (v : OptionValue). v.code) s ∙ is) in
-    e ∙ ap (λ (b : Bool). if b then Some p.value else value_of code left) n ∙ ap (λ (v : OptionValue). Some v.value) s
+    search (rules, option_one, true, eq-eqb)
 
 pub agrees_found : (order : Order) (code : ℕ) (whole rest : List ℕ) (o : OptionValue) → Agrees order code whole rest
     → BeginsOption order rest o → o.code ≡ code → (options : List OptionValue) → HasOptions order whole options
@@ -110,15 +100,7 @@ begins : (order : Order) (bytes : List ℕ) → field order bytes 0 2 ≢ 0 → 
     → BeginsOption order bytes (option_of order bytes)
 unfolding option_of
 begins order bytes some whole =
-    let n = field order bytes 2 4 in
-    let len : length (slice_range bytes 4 (4 + n)) ≡ n = length-part bytes 4 (4 + n) whole ∙ omega arith in
-    record {
-      code = refl;
-      no_end = some;
-      len = sym len;
-      value = ap (λ (m : ℕ). slice_range bytes 4 (4 + m)) len;
-      whole = omega (arith, len, whole);
-    }
+    search (rules, length, length-part)
 
 abbrev Some_of : Order → List ℕ → Type 0
 Some_of order bytes = (options : List OptionValue) × HasOptions order bytes options

@@ -1,5 +1,5 @@
 -- Units that are packets: a record, or a block of one of three types.
-use Rattle.std.proofs.Common.{◌≡◌, ℕ, ◌+◌, ◌-◌, ◌≤◌, List, length, refl, sym, ap, subst, ◌∙◌, arith, inl, inr, Some, None}
+use Rattle.std.proofs.Common.{◌≡◌, ℕ, ◌+◌, ◌-◌, ◌≤◌, List, length, refl, sym, ap, subst, ◌∙◌, arith, Some, None, rules}
 use Rattle.std.specs.Prelude.{Option, unwrap_or, slice_range}
 use Rattle.std.proofs.lemmas.Bool.{cases_eq, ne_eqb}
 use Rattle.ether_base.specs.Bytes.{IsBytes}
@@ -11,7 +11,7 @@ use Rattle.ether_pcap.specs.Section.{HasSectionType}
 use Rattle.ether_pcap.specs.FileHeader.{FileHeaderValue}
 use Rattle.ether_pcap.specs.Bodies.{EnhancedPacketValue, IsEnhancedPacket}
 use Rattle.ether_pcap.specs.Editing.{EditedValue, edited_block, unit_with}
-use Rattle.ether_pcap.specs.Capture.{PacketValue, packet_of_record, packet_on, simple_packet_on, CaptureInterfaceValue, Expectation, Beginning, Records, Blocks, BlockKind, InterfaceDescription, SimplePacket, EnhancedPacket, Other, kind_of_block, IsBody, HasBegun, Begins, file_header, file_record, first_section, section, block}
+use Rattle.ether_pcap.specs.Capture.{PacketValue, packet_of_record, packet_on, simple_packet_on, CaptureInterfaceValue, Expectation, Beginning, Records, Blocks, BlockKind, InterfaceDescription, SimplePacket, EnhancedPacket, Other, kind_of_block, IsBody, HasBegun, Begins, file_header, file_record, block}
 
 pub same_packet : (p q : PacketValue) → Some p ≡ Some q → p ≡ q
 same_packet p q e = ap (λ (o : Option PacketValue). unwrap_or o p) e
@@ -22,12 +22,7 @@ record_if : (bytes : List ℕ) (x y : Expectation) (len : ℕ) (packet : Option 
     (p : PacketValue) → x ≡ Records h → packet ≡ Some p → Begins bytes x len packet y
     → (r : RecordValue) × BeginsRecord h.order bytes r × (len ≡ record_len r) × (p ≡ packet_of_record h r)
 record_if bytes x y len packet h p e f (file_record g r is) =
-    let same : g ≡ h = cc in (
-      r,
-      subst (λ (z : FileHeaderValue). BeginsRecord z.order bytes r) same is,
-      refl,
-      sym (same_packet (packet_of_record g r) p f) ∙ ap (λ (z : FileHeaderValue). packet_of_record z r) same,
-    )
+    search (rules, same_packet)
 record_if bytes x y len packet h p e f k = absurd cc
 
 pub record_of_unit : (bytes : List ℕ) (y : Expectation) (len : ℕ) (h : FileHeaderValue) (p : PacketValue)
@@ -47,19 +42,7 @@ pub data TypeOf (n : ℕ) : Type 0 where
 
 pub type_of : (n : ℕ) → TypeOf n
 type_of n =
-    elim (cases_eq n 1) [
-      | inl a ↦ is_interface a
-      | inr a ↦ elim (cases_eq n 2) [
-        | inl b ↦ is_obsolete b
-        | inr b ↦ elim (cases_eq n 3) [
-          | inl c ↦ is_simple c
-          | inr c ↦ elim (cases_eq n 6) [
-            | inl d ↦ is_enhanced d
-            | inr d ↦ is_other (rw (ne_eqb n 1 a, ne_eqb n 2 b, ne_eqb n 3 c, ne_eqb n 6 d) refl)
-          ]
-        ]
-      ]
-    ]
+    search (rules, cases_eq, ne_eqb)
 
 -- a block that is a packet
 pub record PacketBlock (most : ℕ) (order : Order) (interfaces : List CaptureInterfaceValue) (bytes : List ℕ)
@@ -152,22 +135,16 @@ few_in_body : (kind : BlockKind) (most : ℕ) (order : Order) (interfaces : List
     (body : List ℕ) (p : PacketValue) → IsBody kind most order interfaces body (Some p) interfaces
     → length p.packet ≤ 262144
 few_in_body SimplePacket most order interfaces body p (i, v, at, is, e, f) =
-    let m : length p.packet ≡ length v.packet =
-    ap (λ (r : PacketValue). length r.packet) (same_packet p (simple_packet_on i v) e) in
-    omega (arith, m, is.room)
+    search (rules, length, same_packet)
 few_in_body (EnhancedPacket n) most order interfaces body p (i, v, o, is, at, has, e, f) =
-    let m : length p.packet ≡ length v.packet =
-    ap (λ (r : PacketValue). length r.packet) (same_packet p (packet_on order i v o) e) in
-    omega (arith, m, is.room)
+    search (rules, length, same_packet)
 few_in_body kind most order interfaces body p h = absurd cc
 
 pub packet_room : (x : Expectation) (u : List ℕ) (p : PacketValue) → Begins u x (length u) (Some p) x
     → length p.packet ≤ 262144
 packet_room (Beginning m) u p begins = absurd (begun_before u (Beginning m) (Beginning m) (length u) p begins)
 packet_room (Records h) u p begins =
-    let s = record_of_unit u (Records h) (length u) h p begins in
-    let m : length p.packet ≡ length s.0.packet = ap (λ (q : PacketValue). length q.packet) s.3 in
-    omega (arith, m, s.1.room)
+    search (rules, record_of_unit, length)
 packet_room (Blocks m order interfaces) u p begins =
     let b = (block_of_unit u (Blocks m order interfaces) (length u) m order interfaces p begins).0 in
     few_in_body (kind_of_block b.value.block_type) m order interfaces b.value.body p b.body
@@ -214,10 +191,7 @@ module _ (most : ℕ) (order : Order) (interfaces : List CaptureInterfaceValue) 
   unit_body : (kind : BlockKind) → kind_of_block (field order u 0 4) ≡ kind
       → Is kind (slice_range u 8 (length u - 4))
   unit_body kind is =
-      let found = block_of_unit u (Blocks most order interfaces) (length u) most order interfaces p begins in
-      let b = found.0 in
-      subst (Is kind) (sym (body_of_unit most order interfaces u p b found.1))
-      (subst (λ (z : BlockKind). Is z b.value.body) (ap kind_of_block (sym b.begins.block_type) ∙ is) b.body)
+      grind (arith, block_of_unit, length, body_of_unit)
 
   -- an enhanced packet, or an obsolete packet block
   pub enhanced_edited : (number_len : ℕ) (e : EditedValue) (new : Option (List ℕ))
@@ -227,13 +201,7 @@ module _ (most : ℕ) (order : Order) (interfaces : List CaptureInterfaceValue) 
       → new ≡ edited_block (EnhancedPacket k) order (length v.packet) e u)
       → new ≡ unit_with (Blocks most order interfaces) (length p.packet) e u
   enhanced_edited number_len e new kind edits =
-      let found = block_of_unit u (Blocks most order interfaces) (length u) most order interfaces p begins in
-      let (i, v, options, is, at, has, f, g) = unit_body (EnhancedPacket number_len) kind in
-      let m : length p.packet ≡ length v.packet =
-      ap (λ (q : PacketValue). length q.packet) (same_packet p (packet_on order i v options) f) in
-      let sound : IsTotalLen (length u) = subst IsTotalLen (sym found.1) found.0.begins.sound in
-      edits number_len v sound is ∙ ap (λ (k : ℕ). edited_block (EnhancedPacket number_len) order k e u) (sym m)
-      ∙ ap (λ (z : BlockKind). edited_block z order (length p.packet) e u) (sym kind)
+      grind (arith, block_of_unit, length, unit_body, same_packet)
 
   -- .. no other block is edited
   pub other_edited : (e : EditedValue) → (field order u 0 4 ≡ 2 → ⊥) → (field order u 0 4 ≡ 6 → ⊥)

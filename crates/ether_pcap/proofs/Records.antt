@@ -1,5 +1,5 @@
 -- Records: one for each list of bytes, or one refusal; and what a reader gives.
-use Rattle.std.proofs.Common.{◌≡◌, ℕ, zero, suc, ◌+◌, ◌≤◌, List, [], ◌∷◌, length, drop, refl, sym, ap, subst, ◌∙◌, arith, inl, inr, Ok, Err, Some, None, true, false, length-drop}
+use Rattle.std.proofs.Common.{◌≡◌, ℕ, zero, suc, ◌+◌, ◌≤◌, List, [], ◌∷◌, length, drop, refl, sym, ap, subst, ◌∙◌, arith, inl, inr, Ok, Err, Some, None, true, false, length-drop, rules}
 use Rattle.std.specs.Prelude.{◌≢◌, ◌-◌, ◌==◌, take, Bool, slice_range, Option}
 use Rattle.std.proofs.lemmas.Grind.{common_steps}
 use Rattle.std.proofs.lemmas.Bool.{cases_lt}
@@ -15,12 +15,7 @@ use Rattle.ether_pcap.specs.declared.classic.record_fault.RecordFault.{RecordFau
 pub record_one : (order : Order) (bytes : List ℕ) (r s : RecordValue) → BeginsRecord order bytes r
     → BeginsRecord order bytes s → r ≡ s
 record_one order bytes r s h k =
-    let n : length r.packet ≡ length s.packet = sym h.captured_len ∙ k.captured_len in
-    let a : r.seconds ≡ s.seconds = sym h.seconds ∙ k.seconds in
-    let b : r.fraction ≡ s.fraction = sym h.fraction ∙ k.fraction in
-    let c : r.original_len ≡ s.original_len = sym h.original_len ∙ k.original_len in
-    let p : r.packet ≡ s.packet = sym h.packet ∙ ap (λ (m : ℕ). slice_range bytes 16 (16 + m)) n ∙ k.packet in
-    λ i. record { seconds = a i; fraction = b i; original_len = c i; packet = p i }
+    search (rules, length)
 
 pub record_apart : (order : Order) (bytes : List ℕ) (r : RecordValue) (e : RecordRefusal) → BeginsRecord order bytes r
     → RefusesRecord order bytes e → ⊥
@@ -51,24 +46,14 @@ next_record : (order : Order) (s : State) (p : PcapRecord) (records : List Recor
 next_record order s p [] rest None h has = absurd (not_empty order s.rest (record_view p) h has.0)
 next_record order s p [] rest (Some refusal) h has = absurd (record_apart order s.rest (record_view p) refusal h has.2)
 next_record order s p (r ∷ records) rest fault h has =
-    let e = record_one order s.rest (record_view p) r h has.0 in (
-      p,
-      refl,
-      e,
-      ap
-          (λ (v : RecordValue). let t : State =
-          record s { rest = drop (record_len v) s.rest; offset = s.offset + record_len v } in t)
-          e,
-    )
+    search (rules, record_one, drop)
 
 pub gives_record : (s : State) (p : PcapRecord) → s.over ≡ false
     → BeginsRecord (order_of s.header.byte_order) s.rest (record_view p)
     → Gives s (Some (Ok p))
     (record s { rest = drop (record_len (record_view p)) s.rest; offset = s.offset + record_len (record_view p) })
-gives_record s p more h = record {
-  over = λ o. absurd cc;
-  next = λ o records rest fault has. next_record (order_of s.header.byte_order) s p records rest fault h has;
-}
+gives_record s p more h =
+    grind (arith)
 
 next_fault : (order : Order) (s : State) (f : RecordFault) (records : List RecordValue) (rest : List ℕ)
     (fault : Option RecordRefusal)
@@ -84,10 +69,8 @@ next_fault order s f (r ∷ records) rest fault some at h has =
 pub gives_fault : (s : State) (f : RecordFault) → s.over ≡ false → s.rest ≢ [] → f.offset ≡ s.offset
     → RefusesRecord (order_of s.header.byte_order) s.rest (record_refusal_view f.error)
     → Gives s (Some (Err f)) (record s { over = true })
-gives_fault s f more some at h = record {
-  over = λ o. absurd cc;
-  next = λ o records rest fault has. next_fault (order_of s.header.byte_order) s f records rest fault some at h has;
-}
+gives_fault s f more some at h =
+    search (rules, next_fault)
 
 -- ---- all records of a list
 

@@ -1,5 +1,5 @@
 -- Section headers: one for each list of bytes, or one refusal.
-use Rattle.std.proofs.Common.{◌≡◌, ℕ, ◌<◌, ◌≤◌, List, [], ◌∷◌, length, refl, sym, ap, subst, ◌∙◌, arith}
+use Rattle.std.proofs.Common.{◌≡◌, ℕ, ◌<◌, ◌≤◌, List, [], ◌∷◌, length, refl, sym, ap, subst, ◌∙◌, arith, rules}
 use Rattle.std.specs.Prelude.{slice_range}
 use Rattle.ether_base.specs.Bytes.{IsBytes, number}
 use Rattle.ether_base.proofs.SubLists.{length-part, IsBytes-part}
@@ -85,10 +85,7 @@ one_version : (bytes : List ℕ) (o p : Order) (a b c d : ℕ) → IsBytes bytes
     → field o bytes 12 14 ≡ a → field o bytes 14 16 ≡ b → field p bytes 12 14 ≡ c → field p bytes 14 16 ≡ d
     → Version a b ≡ Version c d
 one_version bytes o p a b c d ok le m n ea eb ec ed =
-    let e = order_one bytes o p ok le m n in
-    let i : a ≡ c = sym ea ∙ ap (λ (q : Order). field q bytes 12 14) e ∙ ec in
-    let j : b ≡ d = sym eb ∙ ap (λ (q : Order). field q bytes 14 16) e ∙ ed in
-    λ k. Version (i k) (j k)
+    search (rules, order_one)
 
 pub section_refused : (bytes : List ℕ) (r s : SectionRefusal) → IsBytes bytes → RefusesSection bytes r
     → RefusesSection bytes s → r ≡ s

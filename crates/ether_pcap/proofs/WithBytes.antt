@@ -1,5 +1,5 @@
 -- Bytes in place of as many others, and what they are in a file header, a section header and an interface description.
-use Rattle.std.proofs.Common.{◌≡◌, ℕ, ◌+◌, ◌-◌, ◌%◌, ◌^◌, ◌<◌, ◌≤◌, List, ◌++◌, length, take, drop, min, refl, sym, ap, subst, ◌∙◌, arith, inl, inr}
+use Rattle.std.proofs.Common.{◌≡◌, ℕ, ◌+◌, ◌-◌, ◌%◌, ◌^◌, ◌<◌, ◌≤◌, List, ◌++◌, length, take, drop, min, refl, sym, ap, subst, ◌∙◌, arith, rules}
 use Rattle.std.specs.Prelude.{Bool, slice_range, if◌then◌else◌}
 use Rattle.std.proofs.lemmas.Bool.{cases_eq, eq-eqb, ne_eqb}
 use Rattle.std.proofs.lemmas.List.{drop-drop, length-append, length-drop}
@@ -30,13 +30,7 @@ module _ (at : ℕ) (new bytes : List ℕ) (room : at + length new ≤ length by
 
   pub length-with_bytes : length (with_bytes at new bytes) ≡ length bytes
   length-with_bytes =
-      omega (
-        arith,
-        room,
-        length-append (front ++ new) (drop (at + length new) bytes),
-        length-with_new,
-        length-drop (at + length new) bytes,
-      )
+      search (rules, room, length-append, drop, length, length-with_new, length-drop)
 
   pub with_bytes-before : (i j : ℕ) → i ≤ j → j ≤ at → slice_range (with_bytes at new bytes) i j ≡ slice_range bytes i j
   with_bytes-before i j ij le =
@@ -70,10 +64,7 @@ raised_some raise n some =
 
 raised_below : (raise n : ℕ) → raised_len raise n < 256 ^ 4
 raised_below raise n =
-    elim (cases_eq n 0) [
-      | inl none ↦ let e = raised_none raise n none in omega (arith, e)
-      | inr some ↦ let e = raised_some raise n some in omega (arith, e)
-    ]
+    search (rules, cases_eq, raised_none, raised_some)
 
 module _ (order : Order) (raise n at : ℕ) (bytes : List ℕ) (room : at + 4 ≤ length bytes) where
   abbrev raised : List ℕ
@@ -87,9 +78,7 @@ module _ (order : Order) (raise n at : ℕ) (bytes : List ℕ) (room : at + 4 �
 
   pub raised_field : field order (with_bytes at raised bytes) at (at + 4) ≡ raised_len raise n
   raised_field =
-      ap (λ (k : ℕ). field order (with_bytes at raised bytes) at (at + k)) (sym four)
-      ∙ ap (number_in order) (with_bytes-new at raised bytes raised_room)
-      ∙ number-bytes_of order 4 (raised_len raise n) (raised_below raise n)
+      search (rules, four, with_bytes-new, raised_room, number-bytes_of, raised_below)
 
   pub raised_before : (i j : ℕ) → i ≤ j → j ≤ at
       → field order (with_bytes at raised bytes) i j ≡ field order bytes i j

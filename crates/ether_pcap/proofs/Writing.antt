@@ -1,5 +1,5 @@
 -- What is written is read back.
-use Rattle.std.proofs.Common.{◌≡◌, ℕ, ◌+◌, ◌*◌, ◌/◌, ◌%◌, ◌^◌, ◌<◌, ◌≤◌, List, ◌++◌, length, refl, ap, ◌∙◌, arith, Bool}
+use Rattle.std.proofs.Common.{◌≡◌, ℕ, ◌+◌, ◌*◌, ◌/◌, ◌%◌, ◌^◌, ◌<◌, ◌≤◌, List, ◌++◌, length, refl, ap, ◌∙◌, arith, Bool, rules}
 use Rattle.std.specs.Prelude.{Option, Some, None, if◌then◌else◌}
 use Rattle.std.proofs.lemmas.Bool.{ne_eqb, eq-eqb}
 use Rattle.std.proofs.lemmas.List.{append_assoc, length-append}
@@ -18,12 +18,7 @@ fcs_len_back t None lt has =
     ap (λ (b : Bool). if b then Some (2 * (t / 2 ^ 28)) else None)
     (ne_eqb (t / 2 ^ 26 % 2) 1 (λ e. omega (arith, e, lt)))
 fcs_len_back t (Some n) lt has =
-    let word = link_word_of t (Some n) in
-    let even = has.0 in
-    let le = has.1 in
-    ap (λ (b : Bool). if b then Some (2 * (word / 2 ^ 28)) else None)
-    (eq-eqb (word / 2 ^ 26 % 2) 1 (omega (arith, lt, even, le)))
-    ∙ ap Some (omega (arith, lt, even, le))
+    search (rules, eq-eqb)
 
 pub file_header_back : (bytes rest : List ℕ) (h : FileHeaderValue) → length bytes ≡ 24 → WritesFileHeader bytes h
     → h.link_type < 65536 → HasFcsLen h.fcs_len → IsFileHeader (bytes ++ rest) h

@@ -1,5 +1,5 @@
 -- Blocks that are written are read back.
-use Rattle.std.proofs.Common.{◌≡◌, ℕ, ◌+◌, ◌-◌, ◌/◌, ◌%◌, ◌^◌, ◌<◌, ◌≤◌, List, [], ◌∷◌, ◌++◌, length, take, drop, reverse, refl, sym, ap, subst, ◌∙◌, arith, inl, append_assoc, length-append}
+use Rattle.std.proofs.Common.{◌≡◌, ℕ, ◌+◌, ◌-◌, ◌/◌, ◌%◌, ◌^◌, ◌<◌, ◌≤◌, List, [], ◌∷◌, ◌++◌, length, take, drop, reverse, refl, sym, ap, subst, ◌∙◌, arith, inl, append_assoc, length-append, rules}
 use Rattle.std.specs.Prelude.{slice_range}
 use Rattle.std.proofs.lemmas.List.{take_all, drop_at}
 use Rattle.ether_base.specs.Bytes.{spelled}
@@ -23,11 +23,7 @@ use Rattle.ether_pcap.proofs.EditUnits.{length-zeros, part_past, block_begins}
 low_bytes : (n : ℕ) → spelled 4 (n % 4294967296) ≡ spelled 4 n
 unfolding spelled
 low_bytes n =
-    let a : n % 4294967296 / 256 ^ 3 % 256 ≡ n / 256 ^ 3 % 256 = omega arith in
-    let b : n % 4294967296 / 256 ^ 2 % 256 ≡ n / 256 ^ 2 % 256 = omega arith in
-    let c : n % 4294967296 / 256 ^ 1 % 256 ≡ n / 256 ^ 1 % 256 = omega arith in
-    let d : n % 4294967296 / 256 ^ 0 % 256 ≡ n / 256 ^ 0 % 256 = omega arith in
-    λ i. a i ∷ b i ∷ c i ∷ d i ∷ []
+    search (rules)
 
 pub written_modulo : (order : Order) (n : ℕ) → bytes_of order 4 (n % 4294967296) ≡ bytes_of order 4 n
 written_modulo BigEndian n = low_bytes n
@@ -48,11 +44,7 @@ framed_read : (order : Order) (n len : ℕ) (body rest : List ℕ) → n < 42949
     → BeginsBlock order (bytes_of order 4 n ++ bytes_of order 4 len ++ body ++ bytes_of order 4 len ++ rest)
     (record { block_type = n; body = body })
 framed_read order n len body rest lt long sound =
-    subst
-    (λ (k : ℕ). BeginsBlock order (bytes_of order 4 n ++ bytes_of order 4 k ++ body ++ bytes_of order 4 k ++ rest)
-    (record { block_type = n; body = body }))
-    (sym long)
-    (block_read order n body rest lt (subst IsTotalLen long sound))
+    search (rules, block_read)
 
 -- ---- section headers
 
@@ -142,14 +134,10 @@ interface_read order header i is link snap sound rest =
 pub nanoseconds_read : (order : Order)
     → HasOptions order (nanosecond_bytes order) (record { code = 9; value = 9 ∷ [] } ∷ [])
 unfolding spelled
-nanoseconds_read BigEndian = (
-  record { code = refl; no_end = λ e. omega (arith, e); len = refl; value = refl; whole = omega arith },
-  λ o begins. none_at_end BigEndian (0 ∷ 0 ∷ 0 ∷ 0 ∷ []) refl o begins,
-)
-nanoseconds_read LittleEndian = (
-  record { code = refl; no_end = λ e. omega (arith, e); len = refl; value = refl; whole = omega arith },
-  λ o begins. none_at_end LittleEndian (0 ∷ 0 ∷ 0 ∷ 0 ∷ []) refl o begins,
-)
+nanoseconds_read BigEndian =
+    search (rules, none_at_end)
+nanoseconds_read LittleEndian =
+    search (rules, none_at_end)
 
 -- ---- enhanced packets
 
@@ -190,13 +178,7 @@ module _ (order : Order) (p : EnhancedPacketValue) where
 
   pub length-to_options : length (packet_head order p ++ p.packet ++ packet_padding p) ≡ 20 + padded (length p.packet)
   length-to_options =
-      omega (
-        arith,
-        length-append (packet_head order p ++ p.packet) (packet_padding p),
-        length-append (packet_head order p) p.packet,
-        length-packet_head order p,
-        length-padding,
-      )
+      search (rules, length-append, length-packet_head, length-padding)
 
   packet_value : PacketFits order p → length p.packet ≤ 262144 → IsEnhancedPacket 4 order (packet_body order p) p
   packet_value fits room =

@@ -1,9 +1,9 @@
 -- A file that is written has the packets of its records.
-use Rattle.std.proofs.Common.{◌≡◌, ℕ, List, [], ◌∷◌, ◌++◌, length, refl, sym, ap, subst, ◌∙◌, arith}
-use Rattle.std.specs.Prelude.{slice_range, map, None}
+use Rattle.std.proofs.Common.{◌≡◌, ℕ, List, [], ◌∷◌, ◌++◌, length, refl, sym, ap, subst, ◌∙◌, arith, rules}
+use Rattle.std.specs.Prelude.{map, None}
 use Rattle.std.proofs.lemmas.List.{drop_at, length-append}
 use Rattle.ether_base.specs.Bytes.{IsBytes, number}
-use Rattle.ether_base.proofs.SubLists.{length-part, IsBytes-part, part-append}
+use Rattle.ether_base.proofs.SubLists.{length-part, part-append}
 use Rattle.ether_pcap.specs.Numbers.{Order, BigEndian, LittleEndian, number_from_low}
 use Rattle.ether_pcap.specs.FileHeader.{Resolution, Microseconds, Nanoseconds, magic_of, HasMagic, FileHeaderValue}
 use Rattle.ether_pcap.specs.Record.{RecordValue, record_len}
@@ -29,9 +29,7 @@ no_section : (header : List ℕ) (order : Order) (r : Resolution) → IsBytes he
     → HasMagic header order r → HasSectionType header → ⊥
 no_section header BigEndian r ok len has is = not_from_high _ r has is
 no_section header LittleEndian r ok len has is =
-    not_from_low (slice_range header 0 4) (length-part header 0 4 (omega (arith, len)) ∙ omega arith)
-    (IsBytes-part 0 4 header ok)
-    r has is
+    search (rules, not_from_low, length-part)
 
 written_records : (h : FileHeaderValue) (bytes : List ℕ) (records : List RecordValue)
     → WritesRecords h.order bytes records → HasPackets (Records h) bytes (map (packet_of_record h) records) [] None

@@ -1,5 +1,5 @@
 use Rattle.std.proofs.Common.{◌≡◌, refl, ap, sym, subst, ◌∙◌, arith}
-use Rattle.ether_pcap.specs.Capture.{Expectation, Records, Blocks}
+use Rattle.ether_pcap.specs.Capture.{Expectation, Records}
 use Rattle.ether_pcap.specs.CaptureViews.{interfaces_view, expectation_of}
 use Rattle.ether_pcap.specs.CopiedUnits.{changed_unit}
 use Rattle.ether_pcap.specs.Section.{HasSectionType}
