@@ -1,5 +1,5 @@
 -- The headers of a packet that is built are found by the walk.
-use Rattle.std.proofs.Common.{◌≡◌, ℕ, ◌+◌, ◌-◌, ◌≤◌, List, [], ◌∷◌, ◌++◌, length, refl, sym, ap, subst, ◌∙◌, arith, Bool, true, false}
+use Rattle.std.proofs.Common.{◌≡◌, ℕ, ◌+◌, ◌-◌, ◌≤◌, List, [], ◌∷◌, ◌++◌, length, refl, sym, ap, subst, ◌∙◌, arith, Bool, true, false, rules}
 use Rattle.std.specs.Prelude.{flat_map, Some, None, nat_lt, if◌then◌else◌}
 use Rattle.std.proofs.lemmas.List.{length-append}
 use Rattle.etherparse.specs.Ethernet2.{Ethernet2Value}
@@ -154,13 +154,7 @@ after_tag : (m : SecTagValue) (p : PayloadType) (own : ℕ) (hs : List Header) (
     → Fits (after (expecting k) (before (headers.Macsec m) (type_of own hs t) (place n hs))) (built hs t n) n
 after_tag m p own [] t n k e chain fits = tt
 after_tag m (payloads.Unmodified old) own (g ∷ hs) t n k e chain fits =
-    subst
-    (λ (q : PayloadType).
-    Fits
-    (after (expecting k)
-    (before (headers.Macsec (record m { payload_type = q })) (type_of own (g ∷ hs) t) (place n (g ∷ hs))))
-    (built (g ∷ hs) t n) n)
-    (sym e) fits
+    search (rules)
 after_tag m p own (g ∷ hs) t n k e chain fits =
     let f : true ≡ false = sym chain.0 ∙ ap is_unmodified e in absurd cc
 
@@ -181,16 +175,8 @@ inner_fits own (headers.Macsec m ∷ hs) t n inner chain fit =
           (sym (place-built n hs t n)) mine,
       after_tag m m.payload_type k hs t n 0x88E5 refl chain later,
     )
-inner_fits own (headers.Arp a ∷ []) t n inner chain fit = (
-  record {
-    announced = refl;
-    fits = fit.0;
-    accepted = λ bound more len. written_accepted bound a more fit.0;
-    named = λ p e. absurd cc;
-    no_trailer = refl;
-  },
-  tt,
-)
+inner_fits own (headers.Arp a ∷ []) t n inner chain fit =
+    search (rules, written_accepted)
 inner_fits own (headers.Arp a ∷ g ∷ hs) t n inner chain fit = let f : true ≡ false = sym chain.0 in absurd cc
 inner_fits own hs t n inner chain fit = absurd inner.0
 

@@ -1,5 +1,5 @@
 -- Which headers of a builder can be followed, and how long they are.
-use Rattle.std.proofs.Common.{◌≡◌, ℕ, suc, ◌+◌, ◌-◌, ◌*◌, ◌<◌, ◌≤◌, List, [], ◌∷◌, ◌++◌, length, take, drop, drop_of_length-le, slice_index_or, refl, sym, ap, subst, ◌∙◌, arith, append_assoc, inl, inr, true, false}
+use Rattle.std.proofs.Common.{◌≡◌, ℕ, suc, ◌+◌, ◌-◌, ◌*◌, ◌<◌, ◌≤◌, List, [], ◌∷◌, ◌++◌, length, take, drop, drop_of_length-le, slice_index_or, refl, sym, ap, subst, ◌∙◌, arith, append_assoc, true, false, rules}
 use Rattle.std.specs.Prelude.{map}
 use Rattle.std.proofs.Math.Seq.{drop-cons, take-suc}
 use Rattle.std.proofs.lemmas.Bool.{cases_lt}
@@ -74,11 +74,7 @@ read_up_to xs followed i n d lt so_far is few e =
 pub read_next : (xs : List LinkExtHeader) (followed i : ℕ) (d : LinkExtHeader) → i < length xs → ReadTo xs followed i
     → (i < followed → is_readable (ext_header_view (slice_index_or xs i d)) ≡ true) → ReadTo xs followed (i + 1)
 read_next xs followed i d lt so_far is n le few =
-    elim (cases_lt i n) [
-      | inl past ↦ read_up_to xs followed i n d lt so_far is few (omega (arith, past, le))
-      | inr within ↦ so_far n
-          within few
-    ]
+    search (rules, cases_lt, read_up_to)
 
 -- all but the last one can be read
 pub chain_from : (front back : List Header) → AllReadable front → length back ≤ 1 → IsChain (front ++ back)
@@ -163,12 +159,8 @@ pub record Counted (xs : List LinkExtHeader) (first i len : ℕ) : Type 0 where
 pub counted_next : (xs : List LinkExtHeader) (first i len n : ℕ) (d : LinkExtHeader) → i < length xs
     → Counted xs first i len → n ≡ header_len (ext_header_view (slice_index_or xs i d)) → n ≤ 16
     → Counted xs first (i + 1) (len + n)
-counted_next xs first i len n d lt so_far is few = record {
-  whole =
-      ap (λ (k : ℕ). place (len + k) (views (drop (i + 1) xs))) is ∙ sym (ap (place len) (drop_next xs i d lt))
-      ∙ so_far.whole;
-  near = let k = so_far.near in omega (arith, k, few);
-}
+counted_next xs first i len n d lt so_far is few =
+    search (rules, drop, drop_next)
 
 pub counted_all : (xs : List LinkExtHeader) (first i len : ℕ) → length xs ≤ i → Counted xs first i len
     → len ≡ place first (views xs)
@@ -201,9 +193,7 @@ content_place (contents.Arp packet) = omega arith
 pub packet_len_is : (p : PacketBuilder)
     → place (link_header_len p.link + content_len p.content) (views p.link_exts.now) ≡ packet_len p
 packet_len_is p =
-    (λ i. place (link_len p.link i + content_place p.content i) (views p.link_exts.now))
-    ∙ with_content (link_header p.link) (views p.link_exts.now) (content_headers p.content)
-    (length (content_payload p.content))
+    search (rules, link_len, content_place, with_content, length)
 
 pub counted_first : (xs : List LinkExtHeader) (first len : ℕ) → len ≡ first → Counted xs first 0 len
 counted_first xs first len e = record { whole = ap (λ (k : ℕ). place k (views xs)) e; near = omega (arith, e) }

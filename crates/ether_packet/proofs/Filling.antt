@@ -1,5 +1,5 @@
 -- A target that is filled from the end of a packet on, header by header.
-use Rattle.std.proofs.Common.{◌≡◌, ℕ, ◌+◌, ◌-◌, ◌<◌, ◌≤◌, List, [], ◌∷◌, ◌++◌, length, take, drop, slice_index_or, refl, sym, ap, subst, ◌∙◌, arith, append_assoc}
+use Rattle.std.proofs.Common.{◌≡◌, ℕ, ◌+◌, ◌-◌, ◌<◌, ◌≤◌, List, [], ◌∷◌, ◌++◌, length, take, drop, slice_index_or, refl, sym, ap, subst, ◌∙◌, arith, append_assoc, rules}
 use Rattle.std.specs.Prelude.{flat_map}
 use Rattle.std.proofs.Math.Seq.{drop-length, take-add}
 use Rattle.std.proofs.lemmas.List.{append-nil, drop_at, length-take-le, take_at}
@@ -8,7 +8,6 @@ use Rattle.etherparse.specs.Types.LinkHeader.{LinkHeader}
 use Rattle.etherparse.specs.Types.LinkHeader.TheVariants as links
 use Rattle.etherparse.specs.Types.LinkExtHeader.{LinkExtHeader}
 use Rattle.etherparse.specs.Types.LinkExtHeader.TheVariants as exts
-use Rattle.etherparse.specs.Link.{link_header_len}
 use Rattle.etherparse.specs.LinkExt.{ext_header_view}
 use Rattle.etherparse.specs.Ethernet2.{ethernet2_view}
 use Rattle.etherparse.specs.LinuxSll.{linux_sll_view}
@@ -30,16 +29,7 @@ use Rattle.ether_packet.proofs.Chains.{views, all_views, drop_next, content_plac
 written_before : (old rest target bytes : List ℕ) (start at : ℕ) → target ≡ take at old ++ rest
     → start + length bytes ≡ at → at ≤ length old → overwritten target start bytes ≡ take start old ++ (bytes ++ rest)
 written_before old rest target bytes start at is ends le =
-    let n = length bytes in
-    let split : take at old ≡ take start old ++ take n (drop start old) =
-    ap (λ (k : ℕ). take k old) (sym ends) ∙ take-add start n old in
-    let whole : target ≡ take start old ++ (take n (drop start old) ++ rest) =
-    is ∙ ap (λ (l : List ℕ). l ++ rest) split ∙ append_assoc (take start old) (take n (drop start old)) rest in
-    let front : take start target ≡ take start old =
-    ap (take start) whole ∙ take_at (take start old) _ start (length-take-le start old (omega (arith, ends, le))) in
-    let back : drop (start + n) target ≡ rest =
-    ap (λ (k : ℕ). drop k target) ends ∙ ap (drop at) is ∙ drop_at (take at old) rest at (length-take-le at old le) in
-    (λ i. front i ++ bytes ++ back i) ∙ append_assoc (take start old) bytes rest
+    search (rules, length, take, drop, take-add, append_assoc, take_at, length-take-le, drop_at)
 
 -- one list more before three
 one_more : (first second third last : List ℕ) → first ++ (second ++ third ++ last) ≡ first ++ second ++ third ++ last
@@ -70,10 +60,7 @@ later_none p = ap (λ (l : List LinkExtHeader). views l ++ content_headers p.con
 pub later_before : (p : PacketBuilder) (i : ℕ) (x : LinkExtHeader) → 0 < i → i ≤ length p.link_exts.now
     → x ≡ slice_index_or p.link_exts.now (i - 1) x → later p (i - 1) ≡ ext_header_view x ∷ later p i
 later_before p i x some le is =
-    let next : i - 1 + 1 ≡ i = omega (arith, some) in
-    ap (λ (l : List Header). l ++ content_headers p.content)
-    (drop_next p.link_exts.now (i - 1) x (omega (arith, some, le)))
-    ∙ (λ k. ext_header_view (sym is k) ∷ later p (next k))
+    search (rules, drop_next)
 
 -- ---- the content
 
@@ -98,17 +85,7 @@ pub filled_content : (p : PacketBuilder) (old target : List ℕ) (at t v : ℕ) 
     → t ≡ type_of 0 (content_headers p.content) (content_type p.content) → v ≡ vlan_type (content_headers p.content)
     → Filled p old target (content_headers p.content) at t v
 filled_content p old target at t v ends bytes fits type tag =
-    let c = p.content in
-    let end : at + length (content_bytes c) ≡ packet_len p = ap (λ (k : ℕ). at + k) (content_long c fits) ∙ ends in
-    record {
-      fit = content_fits c fits;
-      bytes =
-          bytes ∙ append_assoc (take at old) (content_bytes c) _
-          ∙ (λ i. take at old ++ (content_built c i ++ drop (end i) old));
-      rest = ap (λ (k : ℕ). at + k) (sym (content_place c)) ∙ ends;
-      type = type;
-      tag = tag;
-    }
+    search (rules, length, content_long, content_fits, append_assoc, take, content_built, drop, content_place)
 
 -- ---- the tags
 
@@ -181,9 +158,7 @@ any_length (links.Ethernet2 h) t n m = refl
 
 pub room_for_content : (p : PacketBuilder) → content_len p.content ≤ packet_len p
 room_for_content p =
-    let least = place_least (link_header_len p.link + content_len p.content) (views p.link_exts.now) in
-    let all = packet_len_is p in
-    omega (arith, least, all)
+    search (rules, place_least, views, packet_len_is)
 
 pub room_for_link : (p : PacketBuilder) (len : ℕ) → packet_len p ≤ len → header_len (link_header p.link) ≤ len
 room_for_link p len le =

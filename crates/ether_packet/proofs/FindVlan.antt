@@ -1,27 +1,23 @@
 -- The outermost VLAN tag with an identifier, header by header.
-use Rattle.std.proofs.Common.{◌≡◌, ◌≢◌, ℕ, ◌+◌, ◌≤◌, List, [], ◌∷◌, ◌++◌, length, arith, append_assoc, append-nil, false, refl, sym, ap, subst, ◌∙◌}
-use Rattle.std.specs.Prelude.{Some, None, Ok, Err}
+use Rattle.std.proofs.Common.{◌≡◌, ◌≢◌, ℕ, ◌+◌, List, [], ◌∷◌, ◌++◌, false, refl, sym, ap, subst, ◌∙◌}
+use Rattle.std.specs.Prelude.{Some, Ok}
 use Rattle.std.specs.List.{All}
 use Rattle.std.proofs.lemmas.List.Elements.{All-nil, All-cons, All-head, All-tail, All-append, filter_map-append}
 use Rattle.etherparse.specs.Bytes.{IsBytes}
-use Rattle.etherparse.specs.Header.{Header, header_len}
+use Rattle.etherparse.specs.Header.{Header}
 use Rattle.etherparse.specs.Header as headers
 use Rattle.etherparse.specs.Vlan.{VlanValue, vlan_view}
-use Rattle.ether_peel.specs.Grammar.Window.{Window, payload}
 use Rattle.ether_peel.specs.Grammar.Expectation.{Expectation}
-use Rattle.ether_peel.specs.Grammar.Places.{place}
-use Rattle.ether_peel.specs.Grammar.Stack.{Ending, whole, Walk}
+use Rattle.ether_peel.specs.Grammar.Stack.{Ending, Walk}
 use Rattle.ether_peel.specs.Walker.State.{State}
-use Rattle.ether_peel.specs.Walker.Next.{Faces, FacesWalk, Gives}
+use Rattle.ether_peel.specs.Walker.Next.{FacesWalk, Gives}
 use Rattle.ether_peel.specs.Walker.UnitHeader.{unit_header}
 use Rattle.ether_peel.specs.declared.peel_unit.PeelUnit.{PeelUnit}
-use Rattle.ether_peel.specs.declared.peel_fault.PeelFault.{PeelFault}
 use Rattle.ether_packet.specs.declared.setting.PlacedVlan.{PlacedVlan}
 use Rattle.ether_packet.specs.Getters.{vid_of, vlan_ids_of}
 use Rattle.ether_packet.specs.Replacing.{ext_count, IsExtAt}
 use Rattle.ether_packet.specs.Setting.{IsPlacedVlan, LacksVlan, FindsVlan}
-use Rattle.ether_packet.proofs.Reached.{Reached, reached_first, reached_unit, reached_ext, left_none, left_fault}
-use Rattle.ether_packet.proofs.Replaced.{header_inside}
+use Rattle.ether_packet.proofs.Reached.{Reached, reached_first, reached_unit, reached_ext}
 use Rattle.ether_packet.proofs.VlanIds.{one_ext, same_vlan}
 
 -- ---- headers without the tag

@@ -1,5 +1,5 @@
 -- Frames that are written whole, of parts that were read.
-use Rattle.std.proofs.Common.{◌≡◌, ℕ, ◌+◌, ◌-◌, ◌^◌, ◌<◌, ◌≤◌, List, [], ◌∷◌, ◌++◌, length, take, drop, refl, sym, ap, subst, ◌∙◌, arith, append_assoc}
+use Rattle.std.proofs.Common.{◌≡◌, ℕ, ◌+◌, ◌-◌, ◌^◌, ◌<◌, ◌≤◌, List, [], ◌∷◌, ◌++◌, length, take, drop, refl, sym, ap, subst, ◌∙◌, arith, append_assoc, rules}
 use Rattle.std.specs.Prelude.{map, flat_map, Option, Some, None}
 use Rattle.std.proofs.lemmas.Grind.{flat_map-append}
 use Rattle.std.proofs.lemmas.List.{append-nil, drop_at, drop-drop, drop-set-lt, length-append, length-drop, length-set, take_at, take-append-drop}
@@ -25,7 +25,7 @@ use Rattle.ether_packet.specs.declared.packet_slice.PacketSlice.{PacketSlice}
 use Rattle.ether_packet.specs.Building.{AllFit}
 use Rattle.ether_packet.specs.Builder.{link_header, content_headers, content_payload, packet_len, HasPacketType}
 use Rattle.ether_packet.specs.Packet.{packet_headers, IsPacket}
-use Rattle.ether_packet.specs.Parts.{arp_headers, IsBuilderOf, parts_exts, parts_inner, trailer_of}
+use Rattle.ether_packet.specs.Parts.{arp_headers, IsBuilderOf, parts_inner, trailer_of}
 use Rattle.ether_packet.specs.Unchanged.{given_headers, IsWrittenUnchanged}
 use Rattle.ether_packet.specs.Frames.{parts_headers, frame_size, counted_size, IsFrameWritten, FramesGoBack, AllAgree, headers_for, ChangedFramesAreRead}
 use Rattle.ether_packet.proofs.Links.{in_place_bytes, in_place_fits, in_place_sendable}
@@ -46,12 +46,7 @@ headers_alone p b content is same =
 pub size_is : (p : PacketParts) (b : PacketBuilder) → given_headers b ≡ parts_headers p → content_payload b.content ≡ []
     → frame_size p ≡ packet_len b + length p.rest.now + length p.trailer.now
 size_is p b same empty =
-    let m = length p.rest.now + length p.trailer.now in
-    let zero : m ≡ m + 0 = omega arith in
-    let more : frame_size p ≡ m + place 0 (parts_headers p) =
-    ap (λ (k : ℕ). place k (parts_headers p)) zero ∙ place-add m 0 (parts_headers p) in
-    let front : packet_len b ≡ place 0 (parts_headers p) = (λ i. place (length (empty i)) (same i)) in
-    omega (arith, more, front)
+    search (rules, length, place-add)
 
 -- a number that is none of the greatest is the size
 pub counted_is : (p : PacketParts) (n : ℕ) → n ≡ counted_size p → n < 2 ^ 64 - 1 → n ≡ frame_size p
@@ -258,11 +253,8 @@ record Found (p : PacketParts) (hs : List Header) : Type 0 where
 found : (p : PacketParts) (hs : List Header) → AllAgree (headers_for p hs) hs → AllFit (parts_headers p)
     → HasPacketType p.link → Found p hs
 found p [] same fit packet_type = absurd same
-found p (h ∷ hs) same fit packet_type = record {
-  bytes = ap (λ (l : List ℕ). l ++ flat_map header_bytes (parts_inner p)) (in_place_bytes p.link h);
-  fit = (in_place_fits p.link h fit.0, fit.1);
-  sendable = (in_place_sendable p.link h packet_type, inner_sendable (parts_exts p) p.arp);
-}
+found p (h ∷ hs) same fit packet_type =
+    search (rules, in_place_bytes, in_place_fits, in_place_sendable, inner_sendable)
 
 pub changed_frames_are_read : ChangedFramesAreRead
 changed_frames_are_read p end old new w start list packet e is walk same rest trailer =

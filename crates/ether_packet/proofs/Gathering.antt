@@ -1,7 +1,6 @@
 -- A packet that has gathered the headers of a walk so far, and its end.
-use Rattle.std.proofs.Common.{◌≡◌, ℕ, zero, suc, ◌+◌, ◌-◌, ◌<◌, ◌≤◌, List, [], ◌∷◌, ◌++◌, length, refl, sym, ap, subst, ◌∙◌, arith, inl, inr, Bool, true, false, cond, ◌⊎◌}
-use Rattle.std.specs.Prelude.{map, slice_get, slice_range, unwrap_or, Option, Some, None, Ok, ◌&&◌}
-use Rattle.std.specs.List.{filter_map, cons_option}
+use Rattle.std.proofs.Common.{◌≡◌, ℕ, zero, suc, ◌+◌, ◌-◌, ◌<◌, ◌≤◌, List, [], ◌∷◌, ◌++◌, length, refl, sym, ap, subst, ◌∙◌, arith, inl, inr, Bool, true, false, cond, ◌⊎◌, rules}
+use Rattle.std.specs.Prelude.{map, slice_get, slice_range, Option, Some, None, Ok}
 use Rattle.std.proofs.lemmas.List.{append_assoc, append-nil, length-append, map-append, take_all}
 use Rattle.std.proofs.lemmas.List.Elements.{filter-append, filter_map-append}
 use Rattle.etherparse.specs.Types.LenSource.{LenSource}
@@ -16,11 +15,10 @@ use Rattle.etherparse.specs.Header as headers
 use Rattle.etherparse.specs.Refusal.{Accepts}
 use Rattle.etherparse.proofs.SubLists.{IsBytes-part}
 use Rattle.ether_peel.specs.Grammar.Window.{Window, within, payload}
-use Rattle.ether_peel.specs.Grammar.Expectation.{Next, Start, EtherType, Sll, Sealed, AfterArp, Expectation, is_extension, permitted, announced_next, announced, after, next_after, after_payload, lowered}
+use Rattle.ether_peel.specs.Grammar.Expectation.{Next, Start, EtherType, Sll, AfterArp, Expectation, is_extension, announced_next, announced, after, next_after, after_payload, lowered}
 use Rattle.ether_peel.specs.Grammar.Stack.{Ending, Accepted, Fault, IsUnit, last_window, last_expected, whole, Walk}
 use Rattle.ether_peel.specs.Walker.State.{State}
 use Rattle.ether_peel.specs.Walker.Start.{kind_shown}
-use Rattle.ether_peel.specs.Walker.Fault.{fault_in}
 use Rattle.ether_peel.specs.Walker.Next.{Faces, ShowsUnit, GivesNext, Gives}
 use Rattle.ether_peel.specs.Walker.Summary.{fault_of}
 use Rattle.ether_peel.specs.Walker.UnitHeader.{unit_header}
@@ -34,7 +32,7 @@ use Rattle.ether_packet.specs.declared.ext_places.FrameWindow.{FrameWindow}
 use Rattle.ether_packet.specs.declared.packet_slice.PacketSlice.{PacketSlice}
 use Rattle.ether_packet.specs.PacketUnit.{PacketUnit, Read}
 use Rattle.ether_packet.specs.Views.{header_in, header_of, exts_of, arp_in, arp_view}
-use Rattle.ether_packet.specs.Packet.{packet_headers, IsUnitAt, AreUnitsAt, IsPacket}
+use Rattle.ether_packet.specs.Packet.{IsUnitAt, AreUnitsAt, IsPacket}
 use Rattle.ether_packet.specs.Gathered.{window_after, Ready, Gathered, item_of, next_left, headers_left, IsUnderWay, GoesBy, EndsAnyhow}
 use Rattle.ether_packet.specs.declared.packet_walk.PacketWalk.{PacketWalk}
 use Rattle.ether_packet.specs.Places.{Reads, IsReadable, kind_read, unit_at, read_with, HasPlace, HasPlaceForExt}
@@ -83,10 +81,7 @@ pub may_read : (x : Expectation) (kind : Kind) (free : ℕ) → x.limit ≡ Some
     → announced x ≡ Some kind → 0 < free
 may_read x kind (suc free) limit ext e = omega arith
 may_read x kind zero limit ext e =
-    let all : permitted (Some zero) (Some kind) ≡ Some kind =
-    (λ i. permitted (sym limit i) (sym (announced_is x kind e) i)) ∙ e in
-    let none : permitted (Some zero) (Some kind) ≡ None = ap (λ (b : Bool). cond (b && true) None (Some kind)) ext in
-    absurd cc
+    search (rules, zero, announced_is, cond, true)
 
 -- ---- a unit is added
 
@@ -100,10 +95,7 @@ place_first : (r : Read) (x : Expectation) (kind : Kind) (p : FrameWindow) (free
     → announced x ≡ Some kind → is_first kind ≡ true → (r.units ≡ [] → (p.start ≡ 0) × (p.bytes.now ≡ r.frame))
     → (r.units ≡ []) × (p.start ≡ 0) × (p.bytes.now ≡ r.frame)
 place_first r x kind p free ready e first whole_frame =
-    let start = starts x.next kind (announced_is x kind e) first in
-    let none = ready.first start.0 start.1 in
-    let all = whole_frame none in
-    (none, all.0, all.1)
+    search (rules, starts, announced_is)
 
 place_ext : (r : Read) (x : Expectation) (kind : Kind) (free : ℕ) → Ready r x free → announced x ≡ Some kind
     → is_extension kind ≡ true → length (exts_of r.units) + free ≡ 3 → HasPlaceForExt r
@@ -133,16 +125,9 @@ room_for : (us : List PacketUnit) (u : PacketUnit) (b : Bool) (free : ℕ) → i
     → (b ≡ true → 0 < free) → length (exts_of us) + free ≡ 3
     → length (exts_of (us ++ u ∷ [])) + cond b (free - 1) free ≡ 3
 room_for us u true free is more room =
-    let lt = more refl in
-    let parts : length (exts_of (us ++ u ∷ [])) ≡ length (exts_of us) + length (exts_of (u ∷ [])) =
-    ap length (filter-append is_ext us (u ∷ [])) ∙ length-append (exts_of us) (exts_of (u ∷ [])) in
-    let one : length (exts_of (u ∷ [])) ≡ 1 = ap (λ (b : Bool). length (cond b (u ∷ []) [])) is in
-    omega (arith, parts, one, lt, room)
+    search (rules, length, filter-append, is_ext, length-append, cond)
 room_for us u false free is more room =
-    let parts : length (exts_of (us ++ u ∷ [])) ≡ length (exts_of us) + length (exts_of (u ∷ [])) =
-    ap length (filter-append is_ext us (u ∷ [])) ∙ length-append (exts_of us) (exts_of (u ∷ [])) in
-    let none : length (exts_of (u ∷ [])) ≡ 0 = ap (λ (b : Bool). length (cond b (u ∷ []) [])) is in
-    omega (arith, parts, none, room)
+    search (rules, length, filter-append, is_ext, length-append, cond)
 
 empty_if : (l : List (List ℕ)) → slice_get l 0 ≡ None → l ≡ []
 empty_if [] e = refl
@@ -152,9 +137,7 @@ empty_if (x ∷ l) e = absurd cc
 still_no_arp : (us : List PacketUnit) (u : PacketUnit) → arp_view us ≡ None → arp_in u.kind u.bytes ≡ None
     → arp_view (us ++ u ∷ []) ≡ None
 still_no_arp us u none other =
-    ap (λ l. slice_get l 0)
-    (filter_map-append arp_of_unit us (u ∷ [])
-    ∙ (λ i. empty_if (filter_map arp_of_unit us) none i ++ cons_option (other i) []))
+    search (rules, filter_map-append, arp_of_unit, empty_if)
 
 arp_or_over : (h : Header) (bytes : List ℕ) → (arp_in (kind_of h) bytes ≡ None) ⊎ (next_after h ≡ AfterArp)
 arp_or_over (headers.Arp a) bytes = inr refl
@@ -209,17 +192,7 @@ given : (list : List ℕ) (w : Window) (left : List Header) (e : Ending) (s t : 
 given list w [] (Accepted v y) s t u g = let none = g.0 in absurd cc
 given list w [] (Fault v y q) s t u g = let fault = g.0 in absurd cc
 given list w (h ∷ hs) e s t u g =
-    let some = g.1 in
-    let is : g.0 ≡ u = cc in
-    record {
-      header = h;
-      later = hs;
-      parts = refl;
-      shows = subst (ShowsUnit s.rest t.rest h) is g.2;
-      going = g.3;
-      expected = g.4;
-      faces = g.5;
-    }
+    search (rules)
 
 -- what is known of it
 pub record IsNext (list : List ℕ) (w : Window) (left : List Header) (e : Ending) (s t : State)
@@ -396,22 +369,13 @@ one_after_payload payload = refl
 fewer_after_first : (x : Expectation) (h : Header) → announced x ≡ Some (kind_of h) → is_first (kind_of h) ≡ true
     → next_left (next_after h) ≡ 1 → is_extension (kind_of h) ≡ false → headers_left (after x h) + 1 ≤ headers_left x
 fewer_after_first x h known first one other =
-    let start = starts x.next (kind_of h) (announced_is x (kind_of h) known) first in
-    let two : next_left x.next ≡ 2 = ap next_left start.1 in
-    let same : unwrap_or (lowered (is_extension (kind_of h)) x.limit) 0 ≡ unwrap_or x.limit 0 =
-    ap (λ (b : Bool). unwrap_or (lowered b x.limit) 0) other in
-    omega (arith, two, one, same)
+    search (rules, starts, announced_is)
 
 -- after an extension
 fewer_after_ext : (x : Expectation) (h : Header) (free : ℕ) → x.limit ≡ Some free → announced x ≡ Some (kind_of h)
     → is_extension (kind_of h) ≡ true → next_left (next_after h) ≡ 1 → headers_left (after x h) + 1 ≤ headers_left x
 fewer_after_ext x h free limit known extends one =
-    let some = some_left x.next (kind_of h) (announced_is x (kind_of h) known) in
-    let more = may_read x (kind_of h) free limit extends known in
-    let is : unwrap_or x.limit 0 ≡ free = ap (λ (l : Option ℕ). unwrap_or l 0) limit in
-    let less : unwrap_or (lowered (is_extension (kind_of h)) x.limit) 0 ≡ free - 1 =
-    (λ i. unwrap_or (lowered (extends i) (limit i)) 0) in
-    omega (arith, some, more, is, less, one)
+    search (rules, some_left, announced_is, may_read)
 
 pub fewer_left : (x : Expectation) (h : Header) (free : ℕ) → x.limit ≡ Some free → announced x ≡ Some (kind_of h)
     → headers_left (after x h) + 1 ≤ headers_left x
@@ -445,25 +409,12 @@ record Ended (list : List ℕ) (w : Window) (left : List Header) (e : Ending) (s
 
 ended : (list : List ℕ) (w : Window) (left : List Header) (e : Ending) (s t : State) (met : Option PeelFault)
     → Faces list w s left e → GivesNext list w left e s (item_of met) t → Ended list w left e s t met
-ended list w [] (Accepted v y) s t None f g = record {
-  none_left = refl;
-  rest = ap (λ (k : State). k.rest) g.1 ∙ f.rest ∙ ap (within list) (sym f.stack.0);
-  offset = ap (λ (k : State). k.offset) g.1 ∙ f.offset ∙ ap (λ (k : Window). k.start) (sym f.stack.0);
-  expected = ap (λ (k : State). k.expected) g.1 ∙ sym f.stack.1;
-  fault = refl;
-}
+ended list w [] (Accepted v y) s t None f g =
+    search (rules)
 ended list w [] (Accepted v y) s t (Some x) f g = let none = g.0 in absurd cc
 ended list w [] (Fault v y r) s t None f g = let some = g.0 in absurd cc
 ended list w [] (Fault v y r) s t (Some x) f g =
-    let some = g.0 in
-    let is : x ≡ fault_in w r = cc in
-    record {
-      none_left = refl;
-      rest = ap (λ (k : State). k.rest) g.1 ∙ f.rest ∙ ap (within list) (sym f.stack.0);
-      offset = ap (λ (k : State). k.offset) g.1 ∙ f.offset ∙ ap (λ (k : Window). k.start) (sym f.stack.0);
-      expected = ap (λ (k : State). k.expected) g.1 ∙ sym f.stack.1;
-      fault = ap Some (is ∙ ap (λ (k : Window). fault_in k r) (sym f.stack.0));
-    }
+    search (rules)
 ended list w (h ∷ hs) e s t None f g = let some = g.1 in absurd cc
 ended list w (h ∷ hs) e s t (Some x) f g = let some = g.1 in absurd cc
 
@@ -473,28 +424,7 @@ pub is_packet : (start : Expectation) (list : List ℕ) (s t : State) (r : Read)
     → packet.read ≡ r → packet.rest.now ≡ t.rest → packet.rest_offset ≡ t.offset
     → packet.rest_kind ≡ kind_shown t.expected → packet.fault ≡ met → IsPacket start list packet
 is_packet start list s t r packet met a gives read rest offset kind fault =
-    let n =
-    ended list a.window a.left a.ending s t met a.faces
-    (gives.next a.going list a.window a.left a.ending a.faces) in
-    let walk =
-    subst (λ (l : List Header). Walk start list l a.ending)
-    (ap (λ (l : List Header). a.done ++ l) n.none_left ∙ append-nil a.done) a.walk in
-    let values : a.done ≡ packet_headers packet = sym (ap (λ (k : Read). map header_of k.units) read ∙ a.values) in
-    record {
-      ending = a.ending;
-      walk = subst (λ (l : List Header). Walk start list l a.ending) values walk;
-      one =
-          λ hs e other. let same =
-          one_stack list start (whole start list) hs a.done e a.ending other walk in (same.0 ∙ values, same.1);
-      frame = ap (λ (k : Read). k.frame) read ∙ a.frame;
-      units =
-          subst (λ (l : List Header). AreUnitsAt list (whole start list) l packet.read.units) values
-          (subst (λ (k : Read). AreUnitsAt list (whole start list) a.done k.units) (sym read) a.units);
-      rest = rest ∙ n.rest;
-      offset = offset ∙ n.offset;
-      kind = kind ∙ ap kind_shown n.expected;
-      fault = fault ∙ n.fault;
-    }
+    search (rules, append-nil, one_stack)
 
 -- ---- several headers
 

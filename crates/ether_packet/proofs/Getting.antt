@@ -4,7 +4,7 @@ use Rattle.std.specs.Prelude.{map, slice_get, Option, Some, None}
 use Rattle.std.specs.List.{filter_map, cons_option}
 use Rattle.std.specs.Option.{option_and_then}
 use Rattle.std.proofs.Math.Seq.{take-suc}
-use Rattle.std.proofs.lemmas.List.{append-nil, length-append, map-append, take-append-drop, take_all}
+use Rattle.std.proofs.lemmas.List.{length-append, take-append-drop, take_all}
 use Rattle.std.proofs.lemmas.List.Elements.{filter_map-append}
 use Rattle.std.proofs.lemmas.Option.{slice_get_cases, slice_get_within, get_or_from_slice_get}
 use Rattle.etherparse.specs.Kind.{Kind}
@@ -13,7 +13,6 @@ use Rattle.etherparse.specs.Types.EtherPayloadSlice.{EtherPayloadSlice}
 use Rattle.etherparse.specs.Types.LinkSlice.{LinkSlice}
 use Rattle.etherparse.specs.Types.MacsecSlice.{MacsecSlice}
 use Rattle.etherparse.specs.Types.VlanSlice.TheVariants as tags
-use Rattle.etherparse.specs.LinkExt.{HoldsExtPayload}
 use Rattle.etherparse.specs.Vlan.{vlan_of}
 use Rattle.ether_peel.specs.Grammar.Expectation.{is_extension}
 use Rattle.ether_packet.specs.declared.packet_ext.PacketExt.{PacketExt}

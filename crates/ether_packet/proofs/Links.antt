@@ -1,5 +1,5 @@
 -- The header of a link that a walk begins with, and the one that replaces it.
-use Rattle.std.proofs.Common.{◌≡◌, ℕ, ◌≤◌, List, [], ◌∷◌, length, refl, sym, ap, subst, ◌∙◌, arith, Bool, true, false}
+use Rattle.std.proofs.Common.{◌≡◌, ℕ, ◌≤◌, List, [], ◌∷◌, length, refl, sym, ap, subst, ◌∙◌, arith, Bool, true, false, rules}
 use Rattle.std.specs.Prelude.{Option, Some, None, ◌==◌, if◌then◌else◌}
 use Rattle.etherparse.specs.Types.LenSource.TheVariants as sources
 use Rattle.etherparse.specs.Types.LinuxSllProtocolType.TheVariants as protocols
@@ -90,10 +90,8 @@ differs (links.Ethernet2 g) (links.Ethernet2 l) (headers.Ethernet2Fcs h) differe
     other (same_ether_type g.ether_type l.ether_type (same ∙ ap (λ (v : Ethernet2Value). v.ether_type) (sym is)))
 differs (links.LinuxSll g) (links.LinuxSll l) (headers.LinuxSll h) differences.HardwareType is other = λ same.
     other (same_hardware g.arp_hrd_type l.arp_hrd_type (same ∙ ap (λ (s : LinuxSllValue). s.hardware_type) (sym is.0)))
-differs (links.LinuxSll g) (links.LinuxSll l) (headers.LinuxSll h) differences.ProtocolType is other = (
-  ap (λ (t : ArpHardwareId). t.0) other.0 ∙ ap (λ (s : LinuxSllValue). s.hardware_type) is.0,
-  λ same. other.1 (same ∙ sym is.1),
-)
+differs (links.LinuxSll g) (links.LinuxSll l) (headers.LinuxSll h) differences.ProtocolType is other =
+    search (rules)
 differs (links.Ethernet2 g) (links.LinuxSll l) (headers.LinuxSll h) differences.Kind is other = tt
 differs (links.LinuxSll g) (links.Ethernet2 l) (headers.Ethernet2 h) differences.Kind is other = tt
 differs (links.LinuxSll g) (links.Ethernet2 l) (headers.Ethernet2Fcs h) differences.Kind is other = tt
@@ -120,12 +118,8 @@ link_len (links.LinuxSll g) (links.LinuxSll l) same = refl
 link_len _ _ same = absurd same
 
 pub takes_link : (g l : LinkHeader) (hs : List Header) → LinksAgree g l → BeginsWithLink hs l → TakesLink hs g
-takes_link g l hs same b = record {
-  replaced = b.header;
-  later = b.later;
-  parts = b.parts;
-  same = says_the_same g l b.header b.is same;
-}
+takes_link g l hs same b =
+    search (rules, says_the_same)
 
 pub refuses_link : (g l : LinkHeader) (hs : List Header) (d : Difference) → LinksDiffer g l d → BeginsWithLink hs l
     → RefusesLink hs g (errors.SaysOther d)

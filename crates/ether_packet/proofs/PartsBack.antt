@@ -1,5 +1,5 @@
 -- Parts that are written unchanged are the front of the frame that they were read from.
-use Rattle.std.proofs.Common.{◌≡◌, ℕ, zero, suc, ◌+◌, ◌≤◌, List, [], ◌∷◌, ◌++◌, length, take, drop, refl, sym, ap, ◌∙◌, arith, append_assoc}
+use Rattle.std.proofs.Common.{◌≡◌, ℕ, suc, ◌+◌, ◌≤◌, List, [], ◌∷◌, ◌++◌, length, take, drop, refl, sym, ap, ◌∙◌, arith, append_assoc}
 use Rattle.std.specs.Prelude.{map, flat_map, Option, Some, None}
 use Rattle.std.proofs.lemmas.List.{append-nil, length-append, take_at, take-take}
 use Rattle.etherparse.specs.Types.EtherType.{EtherType}

@@ -1,6 +1,6 @@
 -- The headers at the places that a packet keeps.
-use Rattle.std.proofs.Common.{◌≡◌, ℕ, ◌≤◌, List, [], ◌∷◌, ◌++◌, length, refl, sym, ap, subst, ◌∙◌, arith, append_assoc, inl, inr, Bool, true, false}
-use Rattle.std.specs.Prelude.{map, slice_get, Option, Some, None, option_map, get_or, if◌then◌else◌}
+use Rattle.std.proofs.Common.{◌≡◌, ℕ, ◌≤◌, List, [], ◌∷◌, ◌++◌, length, refl, ap, subst, ◌∙◌, arith, append_assoc, Bool, true, false, rules}
+use Rattle.std.specs.Prelude.{map, slice_get, Option, Some, None, get_or, if◌then◌else◌}
 use Rattle.std.specs.List.{All, filter, filter_map, cons_option}
 use Rattle.std.proofs.lemmas.List.{append-nil, map-append}
 use Rattle.std.proofs.lemmas.List.Elements.{filter-append, filter_map-append, All-append, All-get_or, All-from_get_or}
@@ -83,9 +83,7 @@ found_last : {A : Type 0} (f : PacketUnit → Option A) (frame : List ℕ) (link
     (arp : Option FrameWindow) → filter_map f (link_units frame link) ≡ [] → filter_map f (map ext_unit xs) ≡ []
     → filter_map f (units_at frame link xs arp) ≡ filter_map f (arp_units arp)
 found_last f frame link xs arp no_link no_ext =
-    filter_map-append f (link_units frame link ++ map ext_unit xs) (arp_units arp)
-    ∙ ap (λ l. l ++ filter_map f (arp_units arp)) (filter_map-append f (link_units frame link) (map ext_unit xs))
-    ∙ (λ i. no_link i ++ no_ext i ++ filter_map f (arp_units arp))
+    search (rules, filter_map-append, no_link)
 
 pub arp_at : (frame : List ℕ) (link : LinkKind) (xs : List ExtPlace) (arp : Option FrameWindow)
     → arp_view (units_at frame link xs arp) ≡ packet_at arp
@@ -160,11 +158,7 @@ pub with_link : (frame : List ℕ) (old new : LinkKind) (xs : List ExtPlace) (ar
     → link_units frame new ≡ link_unit frame kind ∷ []
     → units_at frame new xs arp ≡ units_at frame old xs arp ++ unit_at kind p ∷ []
 with_link frame old new xs arp kind p none start whole is =
-    let parts = nothing frame old xs arp none in
-    (λ i. units_at frame new (parts.1 i) (parts.2 i)) ∙ append-nil (link_units frame new ++ [])
-    ∙ append-nil (link_units frame new) ∙ is
-    ∙ ap (λ (u : PacketUnit). u ∷ []) (sym (first_is frame kind p start whole))
-    ∙ ap (λ (l : List PacketUnit). l ++ unit_at kind p ∷ []) (sym none)
+    search (rules, nothing, append-nil, first_is)
 
 pub frame_unit : (frame : List ℕ) (b : Bool) (e : Ethernet2Value)
     → link_units frame (frame_link b)
@@ -186,20 +180,13 @@ readable_frame frame false e r = r
 pub with_ext : (frame : List ℕ) (link : LinkKind) (xs : List ExtPlace) (arp : Option FrameWindow) (x : ExtPlace)
     → arp ≡ None → units_at frame link (xs ++ x ∷ []) arp ≡ units_at frame link xs arp ++ ext_unit x ∷ []
 with_ext frame link xs arp x none =
-    let l = link_units frame link in
-    let m = map ext_unit xs in
-    let u = ext_unit x in
-    ap (units_at frame link (xs ++ x ∷ [])) none ∙ append-nil _
-    ∙ ap (λ (k : List PacketUnit). l ++ k) (map-append ext_unit xs (x ∷ [])) ∙ sym (append_assoc l m (u ∷ []))
-    ∙ ap (λ (k : List PacketUnit). k ++ u ∷ []) (sym (ap (units_at frame link xs) none ∙ append-nil (l ++ m)))
+    search (rules, append-nil, map-append, append_assoc)
 
 -- an ARP packet after all
 pub with_arp : (frame : List ℕ) (link : LinkKind) (xs : List ExtPlace) (arp : Option FrameWindow) (p : FrameWindow)
     → arp ≡ None → units_at frame link xs (Some p) ≡ units_at frame link xs arp ++ unit_at kinds.Arp p ∷ []
 with_arp frame link xs arp p none =
-    let u = unit_at kinds.Arp p in
-    ap (λ (k : List PacketUnit). k ++ u ∷ [])
-    (sym (ap (units_at frame link xs) none ∙ append-nil (link_units frame link ++ map ext_unit xs)))
+    search (rules, append-nil)
 
 pub all_with : {X : Type 0} (P : X → Type 0) (xs : List X) (x : X) → All P xs → P x → All P (xs ++ x ∷ [])
 all_with P xs x all p =
@@ -213,10 +200,7 @@ all_with P xs x all p =
 -- there is none past the end alone
 pub missing_past : {X : Type 0} (xs : List X) (i : ℕ) → slice_get xs i ≡ None → length xs ≤ i
 missing_past xs i none =
-    elim ((slice_get_cases xs i).1) [
-      | inl w ↦ absurd (let both : None ≡ Some w.0 = sym none ∙ w.2 in cc)
-      | inr w ↦ w.0
-    ]
+    search (rules, slice_get_cases)
 
 pub all_get : {X : Type 0} (P : X → Type 0) (xs : List X) (i : ℕ) (x : X) → All P xs → slice_get xs i ≡ Some x → P x
 all_get P xs i x all e =
@@ -227,15 +211,9 @@ pub ext_got : (frame : List ℕ) (link : LinkKind) (xs : List ExtPlace) (arp : O
     → slice_get xs i ≡ Some x → ViewsExt (ext_unit x) ext
     → ViewsExtIf (slice_get (exts_of (units_at frame link xs arp)) i) (Some ext)
 ext_got frame link xs arp i x ext got views =
-    let e : slice_get (exts_of (units_at frame link xs arp)) i ≡ Some (ext_unit x) =
-    ap (λ (l : List PacketUnit). slice_get l i) (exts_at frame link xs arp) ∙ slice_get-map ext_unit xs i
-    ∙ ap (option_map ext_unit) got in
-    subst (λ (o : Option PacketUnit). ViewsExtIf o (Some ext)) (sym e) views
+    search (rules, exts_at, slice_get-map)
 
 pub ext_missing : (frame : List ℕ) (link : LinkKind) (xs : List ExtPlace) (arp : Option FrameWindow) (i : ℕ)
     → slice_get xs i ≡ None → ViewsExtIf (slice_get (exts_of (units_at frame link xs arp)) i) None
 ext_missing frame link xs arp i none =
-    let e : slice_get (exts_of (units_at frame link xs arp)) i ≡ None =
-    ap (λ (l : List PacketUnit). slice_get l i) (exts_at frame link xs arp) ∙ slice_get-map ext_unit xs i
-    ∙ ap (option_map ext_unit) none in
-    subst (λ (o : Option PacketUnit). ViewsExtIf o None) (sym e) refl
+    search (rules, exts_at, slice_get-map)

@@ -1,5 +1,5 @@
 -- A VLAN tag that is taken off in place: the walk of the frame after it.
-use Rattle.std.proofs.Common.{◌≡◌, ℕ, ◌+◌, ◌-◌, ◌*◌, ◌^◌, ◌<◌, ◌≤◌, List, [], ◌∷◌, ◌++◌, length, take, drop, refl, sym, ap, subst, ◌∙◌, arith, append_assoc, Bool, true, false}
+use Rattle.std.proofs.Common.{◌≡◌, ℕ, ◌+◌, ◌-◌, ◌*◌, ◌^◌, ◌<◌, ◌≤◌, List, [], ◌∷◌, ◌++◌, length, take, drop, refl, sym, ap, subst, ◌∙◌, arith, append_assoc, Bool, true, false, rules}
 use Rattle.std.specs.Prelude.{slice_range, None}
 use Rattle.std.proofs.lemmas.List.{drop_at, drop-drop, length-drop, length-take-le}
 use Rattle.std.proofs.lemmas.Slice.{between_from_start}
@@ -7,7 +7,7 @@ use Rattle.etherparse.specs.Types.LenSource.TheVariants as sources
 use Rattle.etherparse.specs.Bytes.{IsBytes, number, overwritten}
 use Rattle.etherparse.specs.Vlan.{VlanValue, IsVlan, is_vlan_ether_type}
 use Rattle.etherparse.specs.Kind as kinds
-use Rattle.etherparse.specs.Header.{Header, kind_of, header_len, trailer_len}
+use Rattle.etherparse.specs.Header.{Header, kind_of, header_len}
 use Rattle.etherparse.specs.Header as headers
 use Rattle.etherparse.proofs.SubLists.{length-part, number-part_below, number-part_join, part-append, part_of_front}
 use Rattle.etherparse.specs.Refusal as rows
@@ -34,11 +34,7 @@ use Rattle.ether_packet.proofs.VlanIds.{own_bytes}
 pub popped_list : (old : List ℕ) (m : ℕ) → m + 4 ≤ length old
     → drop 4 (overwritten old 4 (take m old)) ≡ take m old ++ drop (m + 4) old
 popped_list old m le =
-    let len : length (take m old) ≡ m = length-take-le m old (omega arith) in
-    let sum : 4 + length (take m old) ≡ m + 4 = omega arith in
-    ap (drop 4) (append_assoc (take 4 old) (take m old) (drop (4 + length (take m old)) old))
-    ∙ drop_at (take 4 old) (take m old ++ drop (4 + length (take m old)) old) 4 (length-take-le 4 old (omega arith))
-    ∙ ap (λ (n : ℕ). take m old ++ drop n old) sum
+    search (rules, length, take, length-take-le, drop, append_assoc, drop_at)
 
 pub front_kept : (old more : List ℕ) (m : ℕ) → m ≤ length old
     → slice_range (take m old ++ more) 0 m ≡ slice_range old 0 m
@@ -187,9 +183,7 @@ no_tag start list hs l t other = no_vlan t.link t.later t.begins (announces_tag 
 payload_len : (start : Start) (list : List ℕ) (hs : List Header) (l : TypedLink) (t : IsTypedLink start list hs l)
     → length (within list (link_payload (start_of start) list t.link)) ≡ l.payload_len
 payload_len start list hs l t =
-    let a = t.len in
-    let b = t.payload in
-    length-part list (header_len t.link) (length list - trailer_len t.link) (omega arith) ∙ omega arith
+    search (rules, length-part, length)
 
 after_link : (start : Start) (list : List ℕ) (hs : List Header) (e : Ending) (l : TypedLink)
     (t : IsTypedLink start list hs l)

@@ -1,5 +1,5 @@
 -- To put a tag in and to take it off undo each other.
-use Rattle.std.proofs.Common.{◌≡◌, ℕ, ◌+◌, ◌-◌, ◌≤◌, List, [], ◌∷◌, ◌++◌, length, take, drop, sym, ap, subst, ◌∙◌, arith, append_assoc}
+use Rattle.std.proofs.Common.{◌≡◌, ℕ, ◌+◌, ◌-◌, ◌≤◌, List, [], ◌∷◌, ◌++◌, length, take, drop, sym, ap, subst, ◌∙◌, arith, append_assoc, rules}
 use Rattle.std.specs.Prelude.{slice_range}
 use Rattle.std.proofs.lemmas.List.{drop-drop, length-append, length-drop, length-take-le, take-append-drop}
 use Rattle.std.proofs.lemmas.Slice.{between_from_start}
@@ -98,11 +98,7 @@ joined list m =
 pieces_len : (list : List ℕ) (m : ℕ) → m + 4 ≤ length list
     → length (take m list ++ (slice_range list m (m + 2) ++ slice_range list (m + 2) (m + 4))) ≡ m + 4
 pieces_len list m le =
-    let join = part_join list m (m + 2) (m + 4) (omega arith) (omega arith) in
-    let a = length-take-le m list (omega arith) in
-    let b = length-part list m (m + 4) le in
-    length-append (take m list) (slice_range list m (m + 2) ++ slice_range list (m + 2) (m + 4))
-    ∙ (λ i. a i + length (join i)) ∙ ap (λ (k : ℕ). m + k) b ∙ omega arith
+    search (rules, part_join, length-take-le, length-part, length-append, take, length)
 
 pub pushed_after_popped : PushedAfterPopped
 pushed_after_popped start old between new hs ks e f tag ok walk p found pushed =

@@ -1,5 +1,5 @@
 -- How far the headers of a walk reach, header by header.
-use Rattle.std.proofs.Common.{◌≡◌, ℕ, ◌+◌, ◌-◌, ◌≤◌, List, [], ◌∷◌, length, arith, false, refl, sym, ap, ◌∙◌}
+use Rattle.std.proofs.Common.{◌≡◌, ℕ, ◌+◌, ◌-◌, ◌≤◌, List, [], ◌∷◌, length, arith, false, refl, sym, ap, ◌∙◌, rules}
 use Rattle.std.specs.Prelude.{Option, Some, None, Ok, Err, max, is_some, unwrap_or, option_map, slice_range, if◌then◌else◌}
 use Rattle.etherparse.specs.Bytes.{IsBytes}
 use Rattle.etherparse.specs.Header.{Header, header_len, payload_len, trailer_len}
@@ -43,16 +43,9 @@ ends_inside : (list : List ℕ) (w : Window) (t : State) (hs : List Header) (e :
     → Faces list w t hs e
     → t.offset + (if is_some o then length t.rest else 0) ≤ length list
 ends_inside list w t hs e None faces =
-    let at = faces.offset in
-    let a = faces.inside.ordered in
-    let b = faces.inside.inside in
-    omega arith
+    search (rules)
 ends_inside list w t hs e (Some n) faces =
-    let at = faces.offset in
-    let a = faces.inside.ordered in
-    let b = faces.inside.inside in
-    let len = ap length faces.rest ∙ length-part list w.start w.finish b in
-    omega arith
+    search (rules, length, length-part)
 
 unit_of : (list : List ℕ) (w : Window) (left : List Header) (s t : State) (e : Ending) (len all : ℕ) (u : PeelUnit)
     → IsBytes list → Faces list w s left e → s.over ≡ false → max len (reach s.offset left) ≡ all → len ≤ length list

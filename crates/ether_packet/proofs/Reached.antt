@@ -1,5 +1,5 @@
 -- The header before which a walk stands, by how many extensions it has passed.
-use Rattle.std.proofs.Common.{◌≡◌, ℕ, ◌+◌, ◌≤◌, List, [], ◌∷◌, ◌++◌, length, arith, append_assoc, append-nil, false, true, refl, sym, ap, subst, ◌∙◌}
+use Rattle.std.proofs.Common.{◌≡◌, ℕ, ◌+◌, ◌≤◌, List, [], ◌∷◌, ◌++◌, length, arith, append_assoc, append-nil, false, true, refl, sym, ap, subst, ◌∙◌, rules}
 use Rattle.std.specs.Prelude.{Some, None, Ok, Err}
 use Rattle.etherparse.specs.LinkExt.{ext_header_view}
 use Rattle.etherparse.specs.Types.LinkExtHeader.{LinkExtHeader}
@@ -138,10 +138,7 @@ placed_ext list s t hs e i u f ok p gives is at =
 pub ext_room : (start : Expectation) (list : List ℕ) (hs : List Header) (e : Ending) (i : ℕ) (f : PlacedExt)
     → Walk start list hs e → IsPlacedExt hs i f → f.at + header_len (ext_header_view f.header) ≤ length list
 ext_room start list hs e i f walk p =
-    let split = subst (λ (l : List Header). Walk start list l e) p.found.parts walk in
-    let inside = header_inside start list p.front (ext_header_view f.header) p.later e split in
-    let begins = p.begins in
-    omega (arith, inside, begins)
+    search (rules, header_inside)
 
 -- the walk ends
 pub left_none : (list : List ℕ) (w : Window) (left : List Header) (s t : State) (e : Ending)
@@ -194,11 +191,4 @@ pub index_inside : (x : Expectation) (list : List ℕ) (s t begun : State) (i : 
     → FacesWalk x list begun → ((hs : List Header) (e : Ending) → Walk x list hs e → Reached list s hs e i)
     → Gives s (Some (Ok u)) t → i + ext_count (unit_header u ∷ []) ≤ s.offset + length s.rest
 index_inside x list s t begun i u ok w passed gives =
-    let p = passed w.headers w.ending w.walk in
-    let n = is_given list p.window p.left w.ending s t u ok p.faces p.going gives in
-    let before = ext_least 0 p.done in
-    let one = ext_least 0 (unit_header u ∷ []) in
-    let at = p.faces.offset ∙ p.begins in
-    let count = p.count in
-    let room = n.room in
-    omega (arith, before, one, at, count, room)
+    search (rules, ext_least)

@@ -1,8 +1,8 @@
 -- How far the headers of a packet reach, extension by extension.
-use Rattle.std.proofs.Common.{◌≡◌, ℕ, suc, ◌+◌, ◌*◌, ◌<◌, ◌≤◌, List, [], ◌∷◌, ◌++◌, length, take, sym, ap, ◌∙◌, arith, append_assoc}
+use Rattle.std.proofs.Common.{◌≡◌, ℕ, suc, ◌+◌, ◌*◌, ◌<◌, ◌≤◌, List, [], ◌∷◌, ◌++◌, length, take, sym, ap, ◌∙◌, arith, append_assoc, rules}
 use Rattle.std.specs.Prelude.{map, max, slice_get, Some, None, unwrap_or}
 use Rattle.std.proofs.Math.Seq.{take-suc}
-use Rattle.std.proofs.lemmas.List.{append-nil, map-append, take_all}
+use Rattle.std.proofs.lemmas.List.{append-nil, map-append}
 use Rattle.std.proofs.lemmas.Option.{slice_get_within, get_or_from_slice_get}
 use Rattle.etherparse.specs.Arp.{ArpValue, arp_front_in, arp_len, arp_of}
 use Rattle.etherparse.specs.Kind as kinds
@@ -98,12 +98,4 @@ pub reach_with_arp : (frame : List ℕ) (link : LinkKind) (xs : List ExtPlace) (
     → reach 0 (headers_at frame link xs (Some p))
     ≡ max (reach 0 (headers_at frame link xs None)) (place 0 (headers_at frame link xs None) + n)
 reach_with_arp frame link xs p n own =
-    let first = headers_at frame link xs None in
-    let h = header_of (unit_at kinds.Arp p) in
-    let units = link_units frame link ++ map ext_unit xs in
-    let split : headers_at frame link xs (Some p) ≡ first ++ h ∷ [] =
-    map-append header_of units (unit_at kinds.Arp p ∷ [])
-    ∙ ap (λ (l : List PacketUnit). map header_of l ++ h ∷ []) (sym (append-nil units)) in
-    ap (reach 0) split ∙ reach-append 0 first h
-    ∙ ap (λ (k : ℕ). max (reach 0 first) (place 0 first + k))
-    (let e : unit_len h ≡ header_len h = omega arith in e ∙ own)
+    search (rules, map-append, append-nil, reach-append)

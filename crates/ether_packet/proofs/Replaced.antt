@@ -1,10 +1,9 @@
 -- A header of a walk that is replaced in place: the walk is the one before with the other header.
-use Rattle.std.proofs.Common.{◌≡◌, ℕ, ◌+◌, ◌-◌, ◌*◌, ◌≤◌, List, [], ◌∷◌, ◌++◌, length, take, drop, refl, sym, ap, subst, ◌∙◌, arith, Bool, true, false}
+use Rattle.std.proofs.Common.{◌≡◌, ℕ, ◌+◌, ◌-◌, ◌*◌, ◌≤◌, List, [], ◌∷◌, ◌++◌, length, take, drop, refl, sym, ap, subst, ◌∙◌, arith, Bool, true, false, rules}
 use Rattle.std.specs.Prelude.{slice_range, Option, Some, unwrap_or}
 use Rattle.std.proofs.lemmas.List.{append_assoc, drop_at, drop-drop, length-append, length-drop, length-take-le}
 use Rattle.std.proofs.lemmas.Slice.{between_from_start}
 use Rattle.etherparse.specs.Types.LenSource.{LenSource}
-use Rattle.etherparse.specs.Types.LenSource.TheVariants as sources
 use Rattle.etherparse.specs.Bytes.{overwritten}
 use Rattle.etherparse.specs.LinuxSll.{LinuxSllValue, is_supported}
 use Rattle.etherparse.specs.Macsec.{BeginsSecTag, encrypted_of, changed_of, sci_present_of, ether_type_len, known_len, sec_tag_front_of}
@@ -12,14 +11,14 @@ use Rattle.etherparse.specs.Arp.{arp_front_of}
 use Rattle.etherparse.specs.Kind as kinds
 use Rattle.etherparse.specs.Header.{Header, kind_of, header_len, payload_len, trailer_len, header_bytes, FitsHeader, Means, Spells}
 use Rattle.etherparse.specs.Header as headers
-use Rattle.etherparse.specs.Refusal.{Refuses, Accepts}
+use Rattle.etherparse.specs.Refusal.{Accepts}
 use Rattle.etherparse.specs.Refusal as rows
 use Rattle.etherparse.proofs.SubLists.{length-part, part-append, part_after_front, part_of_front, part_of_part}
 use Rattle.etherparse.proofs.Rows.{at_least, accepts_ethernet2, accepts_ethernet2_fcs, accepts_linux_sll, accepts_vlan, accepts_macsec, accepts_arp, version_zero}
 use Rattle.etherparse.proofs.Means.{arp_begins, begins_whole, tag_begins, unit_fits}
 use Rattle.etherparse.proofs.ReadBack.{length-header_bytes, sec_tag_front_back, spells-header_bytes}
 use Rattle.ether_peel.specs.Grammar.Window.{Window, within, IsIn, payload}
-use Rattle.ether_peel.specs.Grammar.Expectation.{Expectation, next_after, after, after_capture, after_payload, has_fcs, is_extension, lowered}
+use Rattle.ether_peel.specs.Grammar.Expectation.{Expectation, next_after, after, after_capture, after_payload}
 use Rattle.ether_peel.specs.Grammar.Places.{place}
 use Rattle.ether_peel.specs.Grammar.Stack.{Ending, Accepted, Fault, IsUnit, Stack, whole, Walk}
 use Rattle.ether_peel.proofs.Grammar.Windows.{payload_from, payload_in}
@@ -55,10 +54,7 @@ part_at list bytes at le =
 rest_after : (list bytes : List ℕ) (at : ℕ) → at + length bytes ≤ length list
     → drop (at + length bytes) (overwritten list at bytes) ≡ drop (at + length bytes) list
 rest_after list bytes at le =
-    let end = at + length bytes in
-    let len : length (take at list ++ bytes) ≡ end =
-    length-append (take at list) bytes ∙ ap (λ (n : ℕ). n + length bytes) (length-take-le at list (omega arith)) in
-    drop_at (take at list ++ bytes) (drop end list) end len
+    search (rules, length, take, length-append, length-take-le, drop_at, drop)
 
 pub part_after : (list bytes : List ℕ) (at i j : ℕ) → at + length bytes ≤ length list → at + length bytes ≤ i
     → slice_range (overwritten list at bytes) i j ≡ slice_range list i j
@@ -160,11 +156,7 @@ same_next _ _ same = absurd same
 
 same_after : (x : Expectation) (g h : Header) → Agree g h → after x g ≡ after x h
 same_after x g h same =
-    λ i.
-    record {
-      next = same_next g h same i;
-      limit = lowered (is_extension (alike_kind g h (look_alike g h same) i)) x.limit;
-    }
+    search (rules, same_next, alike_kind, look_alike)
 
 -- ---- a header that is read again
 
@@ -230,11 +222,8 @@ accepts_alike bound old new _ _ ok m n len alike sound = absurd alike
 pub unit_alike : (old new : List ℕ) (x : Expectation) (w : Window) (g h : Header) → IsUnit old x w h
     → Means (within new w) g → length (within new w) ≡ length (within old w) → LookAlike g h → IsSound (within new w) g
     → IsUnit new x w g
-unit_alike old new x w g h u m len alike sound = record {
-  announced = u.announced ∙ ap Some (sym (alike_kind g h alike));
-  accepted = accepts_alike w.bound (within old w) (within new w) g h u.accepted u.means m len alike sound;
-  means = m;
-}
+unit_alike old new x w g h u m len alike sound =
+    search (rules, alike_kind, accepts_alike)
 
 -- a header whose own bytes are the same
 pub sound_kept : (bound : LenSource) (old new : List ℕ) (h : Header) → Accepts bound old (kind_of h) → Means old h
@@ -274,13 +263,8 @@ pub later_stack : (list bytes : List ℕ) (at : ℕ) (x : Expectation) (w : Wind
     → at + length bytes ≤ length list → at + length bytes ≤ w.start → Stack list x w hs e
     → Stack (overwritten list at bytes) x w hs e
 later_stack list bytes at x w [] (Accepted v y) fits past s = s
-later_stack list bytes at x w [] (Fault v y r) fits past s = (
-  s.0,
-  s.1,
-  s.2,
-  s.3,
-  subst (λ (l : List ℕ). Refuses w.bound l s.2 r) (sym (part_after list bytes at w.start w.finish fits past)) s.4,
-)
+later_stack list bytes at x w [] (Fault v y r) fits past s =
+    search (rules, part_after)
 later_stack list bytes at x w (h ∷ hs) e fits past s =
     let same : within (overwritten list at bytes) w ≡ within list w =
     part_after list bytes at w.start w.finish fits past in (
@@ -376,18 +360,4 @@ pub replaced_walk : (start : Expectation) (list : List ℕ) (front : List Header
     → Walk start list (front ++ h ∷ later) e
     → Walk start (overwritten list (place 0 front) (header_bytes g)) (front ++ g ∷ later) e
 replaced_walk start list front h g later e same fits sendable s =
-    let at = place 0 front in
-    let new = overwritten list at (header_bytes g) in
-    let as_long = same_len g h same in
-    let inside = header_inside start list front h later e s in
-    let room : at + header_len g ≤ length list = omega arith in
-    let bytes_len = length-header_bytes g fits in
-    let len = length-overwritten list (header_bytes g) at (omega arith) in
-    let stack =
-    replaced_stack list start (whole start list) front h g later e at refl room (whole_in start list) same fits
-    sendable s in
-    subst
-    (λ (n : ℕ).
-    Stack new start (record { start = 0; finish = n; closed = has_fcs start; bound = sources.Slice })
-    (front ++ g ∷ later) e)
-    (sym len) stack
+    search (rules, same_len, header_inside, length, length-header_bytes, length-overwritten, replaced_stack, whole_in)

@@ -1,10 +1,9 @@
 -- The ether type that announces a VLAN tag, set in place: the walk is the one before, with the header before the tag
 -- announcing it
 -- by another type.
-use Rattle.std.proofs.Common.{◌≡◌, ℕ, ◌+◌, ◌-◌, ◌*◌, ◌^◌, ◌<◌, ◌≤◌, List, [], ◌∷◌, ◌++◌, length, refl, sym, ap, subst, ◌∙◌, arith, Bool, true, false, ◌&&◌}
+use Rattle.std.proofs.Common.{◌≡◌, ℕ, ◌+◌, ◌-◌, ◌*◌, ◌^◌, ◌<◌, ◌≤◌, List, [], ◌∷◌, ◌++◌, length, refl, sym, ap, subst, ◌∙◌, arith, Bool, true, false, ◌&&◌, rules}
 use Rattle.std.specs.Prelude.{slice_range, Option, Some, None, ◌==◌, if◌then◌else◌}
 use Rattle.etherparse.specs.Types.LenSource.{LenSource}
-use Rattle.etherparse.specs.Types.LenSource.TheVariants as sources
 use Rattle.etherparse.specs.LinuxSll.{LinuxSllValue}
 use Rattle.etherparse.specs.LinuxSllProtocolType.{link_protocol_of}
 use Rattle.etherparse.specs.Bytes.{IsBytes, number, spelled, overwritten}
@@ -21,9 +20,9 @@ use Rattle.etherparse.proofs.SubLists.{IsBytes-part, length-part, number-part_jo
 use Rattle.etherparse.proofs.Rows.{version_zero}
 use Rattle.etherparse.proofs.Means.{begins_whole}
 use Rattle.ether_peel.specs.Grammar.Window.{Window, within, IsIn, payload}
-use Rattle.ether_peel.specs.Grammar.Expectation.{Expectation, EtherType, Sll, announced, announced_next, permitted, is_extension, is_spent, lowered, next_after, after, after_capture, after_payload, has_fcs}
+use Rattle.ether_peel.specs.Grammar.Expectation.{Expectation, EtherType, Sll, announced, announced_next, permitted, is_extension, is_spent, lowered, next_after, after, after_capture, after_payload}
 use Rattle.ether_peel.specs.Grammar.Places.{place}
-use Rattle.ether_peel.specs.Grammar.Stack.{Ending, Stack, whole, Walk}
+use Rattle.ether_peel.specs.Grammar.Stack.{Ending, Stack, Walk}
 use Rattle.ether_peel.proofs.Grammar.Places.{place_least}
 use Rattle.ether_peel.proofs.Grammar.Windows.{header_least, payload_in}
 use Rattle.ether_peel.proofs.Grammar.Cleared.{whole_in}
@@ -138,12 +137,7 @@ announced_sll : (s : LinuxSllValue) (t : ℕ) (b : Bool) → (s.hardware_type ==
     → after_capture s.hardware_type t ≡ EtherType t
 announced_sll s t true e a = λ i. if e i then EtherType t else Sll (link_protocol_of s.hardware_type t)
 announced_sll s t false e a =
-    let none : None ≡ Some kinds.Vlan =
-    (λ i.
-    announced_next
-    (if sym e i then EtherType s.protocol else Sll (link_protocol_of s.hardware_type s.protocol)))
-    ∙ a in
-    absurd cc
+    search (rules)
 
 unmodified : (p : PayloadType) → announced_next (after_payload p) ≡ Some kinds.Vlan
     → (u : ℕ) × (p ≡ payloads.Unmodified u)
@@ -209,10 +203,7 @@ announced_alike : (x : Expectation) (g h : Header) → kind_of g ≡ kind_of h
     → announced_next (next_after g) ≡ Some kinds.Vlan → announced (after x h) ≡ Some kinds.Vlan
     → announced (after x g) ≡ Some kinds.Vlan
 announced_alike x g h kind a b =
-    let limit = lowered (is_extension (kind_of h)) x.limit in
-    let old : announced_next (next_after h) ≡ Some kinds.Vlan =
-    within_limit limit (announced_next (next_after h)) kinds.Vlan b in
-    (λ i. permitted (lowered (is_extension (kind i)) x.limit) ((a ∙ sym old) i)) ∙ b
+    search (rules, within_limit)
 
 -- a stack that begins with a VLAN tag, after another header that announces it
 stack_alike : (list : List ℕ) (x : Expectation) (w : Window) (g h : Header) (tag : VlanValue) (later : List Header)
@@ -221,18 +212,7 @@ stack_alike : (list : List ℕ) (x : Expectation) (w : Window) (g h : Header) (t
     → Stack list (after x h) (payload w h) (headers.Vlan tag ∷ later) e
     → Stack list (after x g) (payload w g) (headers.Vlan tag ∷ later) e
 stack_alike list x w g h tag later e alike a s =
-    let kind = alike_kind g h alike in
-    let there : Stack list (after x g) (payload w h) (headers.Vlan tag ∷ later) e = (
-      record { announced = announced_alike x g h kind a s.0.announced; accepted = s.0.accepted; means = s.0.means },
-      subst
-          (λ (k : Kind).
-          Stack list
-          (record { next = EtherType tag.ether_type; limit = lowered true (lowered (is_extension k) x.limit) })
-          (payload (payload w h) (headers.Vlan tag)) later e)
-          (sym kind) s.1,
-    ) in
-    subst (λ (v : Window). Stack list (after x g) v (headers.Vlan tag ∷ later) e) (sym (alike_payload w g h alike))
-    there
+    search (rules, alike_kind, announced_alike, true, alike_payload)
 
 -- ---- stacks
 
@@ -325,15 +305,4 @@ pub retyped_walk : (start : Expectation) (list : List ℕ) (front : List Header)
     → Walk start list (front ++ h ∷ headers.Vlan tag ∷ later) e
     → Walk start (overwritten list at (spelled 2 t)) (front ++ with_type h t ∷ headers.Vlan tag ∷ later) e
 retyped_walk start list front h tag later e at t ok is announces s =
-    let new = overwritten list at (spelled 2 t) in
-    let inside = header_inside start list front h (headers.Vlan tag ∷ later) e s in
-    let two : length (spelled 2 t) ≡ 2 = length-spelled 2 t in
-    let len = length-overwritten list (spelled 2 t) at (omega arith) in
-    let stack =
-    retyped_stack list start (whole start list) front h tag later e at t ok is (omega arith)
-    (whole_in start list) announces s in
-    subst
-    (λ (n : ℕ).
-    Stack new start (record { start = 0; finish = n; closed = has_fcs start; bound = sources.Slice })
-    (front ++ with_type h t ∷ headers.Vlan tag ∷ later) e)
-    (sym len) stack
+    search (rules, header_inside, length, length-spelled, length-overwritten, retyped_stack, whole_in)

@@ -1,5 +1,5 @@
 -- The cuts of a list that keep its headers.
-use Rattle.std.proofs.Common.{◌≡◌, ℕ, ◌+◌, ◌<◌, ◌≤◌, List, [], ◌∷◌, ◌++◌, length, take, drop, sym, ap, subst, ◌∙◌, arith, inl, inr, false, refl}
+use Rattle.std.proofs.Common.{◌≡◌, ℕ, ◌+◌, ◌<◌, ◌≤◌, List, [], ◌∷◌, ◌++◌, length, take, drop, sym, ap, subst, ◌∙◌, arith, inl, inr, false, refl, rules}
 use Rattle.std.specs.Prelude.{Some, None, Bool, IsTrue, ◌↔◌}
 use Rattle.std.proofs.lemmas.Bool.{cases_lt}
 use Rattle.std.proofs.lemmas.List.{append-nil, length-append, length-take, take-append-drop}
@@ -73,14 +73,9 @@ has_of : (start : Expectation) (cut more : List ℕ) (hs ks rest : List Header) 
     → Walk start (cut ++ more) hs e → Walk start cut ks f → Carries cut (cut ++ more) more (last_window f) last
     → hs ≡ ks ++ rest → Stack (cut ++ more) (last_expected f) last rest e → HasOf (length cut) hs ks
 has_of start cut more hs ks [] e f last h t s c parts rest =
-    let all = parts ∙ append-nil ks in
-    let short = (walk_open_to_end start cut ks f h s).reaches in
-    let reaches : reach 0 hs ≤ length cut = subst (λ (l : List Header). reach 0 l ≤ length cut) (sym all) short in
-    record { keeps = λ le. sym all; loses = λ lt. absurd (omega arith) }
+    search (rules, append-nil, walk_open_to_end, length)
 has_of start cut more hs ks (unit ∷ later) e f last h t s c parts rest =
-    let lt = cut_before start cut more hs ks e f unit later last h t s c parts rest in
-    let len : length hs ≡ length (ks ++ unit ∷ later) = ap length parts in
-    record { keeps = λ le. absurd (omega arith); loses = λ _. omega (arith, length-append ks (unit ∷ later)) }
+    search (rules, cut_before, length, length-append)
 
 cut_has : (start : Expectation) (list : List ℕ) (hs ks : List Header) (e f : Ending) (n : ℕ) → IsBytes list
     → has_fcs start ≡ false → n ≤ length list → Walk start list hs e → Walk start (take n list) ks f → HasOf n hs ks
@@ -95,12 +90,7 @@ cut_has start list hs ks e f n ok h le t s =
 pub least_snap : (start : Expectation) (list : List ℕ) (hs : List Header) (e : Ending) → IsBytes list
     → has_fcs start ≡ false → Walk start list hs e → IsLeastSnap start list hs (reach 0 hs)
 least_snap start list hs e ok h t =
-    let inside = (walk_open_to_end start list hs e h t).reaches in
-    record {
-      inside = inside;
-      keeps = λ n ks f le most s. (cut_has start list hs ks e f n ok h most t s).keeps le;
-      loses = λ n ks f lt s. (cut_has start list hs ks e f n ok h (omega arith) t s).loses lt;
-    }
+    search (rules, walk_open_to_end, cut_has)
 
 pub snaps_at : (p : PacketSlice) (n : ℕ) → n ≡ reach 0 (packet_headers p) → SnapsAt p n
 snaps_at p n is start list ok h packet =

@@ -1,19 +1,18 @@
 -- A VLAN tag is taken off, put in or changed, or that is refused.
-use Rattle.std.proofs.Common.{◌≡◌, ◌≢◌, ℕ, zero, suc, ◌+◌, ◌-◌, ◌<◌, ◌≤◌, List, [], ◌∷◌, ◌++◌, length, take, drop, refl, sym, ap, subst, ◌∙◌, arith, inl, inr, Bool, true, false, ◌⊎◌}
-use Rattle.std.specs.Prelude.{Some, None, slice_range, ◌==◌, if◌then◌else◌}
+use Rattle.std.proofs.Common.{◌≡◌, ◌≢◌, ℕ, suc, ◌+◌, ◌-◌, ◌<◌, ◌≤◌, List, [], ◌∷◌, ◌++◌, length, take, drop, refl, sym, ap, subst, ◌∙◌, arith, inl, inr, Bool, true, false, ◌⊎◌, rules}
+use Rattle.std.specs.Prelude.{slice_range, ◌==◌, if◌then◌else◌}
 use Rattle.std.proofs.lemmas.Bool.{eqb-true, eqb-false}
 use Rattle.std.proofs.lemmas.List.{length-append, length-take-le}
 use Rattle.std.proofs.lemmas.List.Elements.{All-nil}
 use Rattle.etherparse.specs.Bytes.{IsBytes, spelled, overwritten}
 use Rattle.etherparse.specs.Vlan.{VlanValue, FitsVlan, IsVlan, is_vlan_ether_type, vlan_bytes, vlan_number}
-use Rattle.etherparse.specs.Kind as kinds
 use Rattle.etherparse.specs.Header.{Header, kind_of, header_len}
 use Rattle.etherparse.specs.Header as headers
 use Rattle.etherparse.specs.LinuxSll.{LinuxSllValue}
 use Rattle.etherparse.specs.LinuxSllProtocolType.{link_protocol_of}
 use Rattle.etherparse.proofs.Numbers.{length-spelled}
 use Rattle.etherparse.proofs.SubLists.{length-part}
-use Rattle.ether_peel.specs.Grammar.Expectation.{Expectation, EtherType, Sll, announced, after, next_after}
+use Rattle.ether_peel.specs.Grammar.Expectation.{Expectation, EtherType, Sll, next_after}
 use Rattle.ether_peel.specs.Grammar.Places.{place}
 use Rattle.ether_peel.specs.Grammar.Stack.{Ending, whole, Walk}
 use Rattle.ether_peel.specs.Walker.Start.{start_of}
@@ -65,17 +64,9 @@ captured_typed s later false is =
 
 typed_or_not : (hs : List Header) → HasTyped hs ⊎ ((error : TagError) × RefusesTyped hs error)
 typed_or_not (headers.Ethernet2 e ∷ later) =
-    inl (record {
-      link = headers.Ethernet2 e;
-      later = later;
-      begins = record { parts = refl; is_link = refl; typed = refl };
-    })
+    search (rules)
 typed_or_not (headers.Ethernet2Fcs e ∷ later) =
-    inl (record {
-      link = headers.Ethernet2Fcs e;
-      later = later;
-      begins = record { parts = refl; is_link = refl; typed = refl };
-    })
+    search (rules)
 typed_or_not (headers.LinuxSll s ∷ later) = captured_typed s later (s.hardware_type == 1) refl
 typed_or_not hs = inr (errors.NoLink, no_link refl)
 
@@ -93,11 +84,7 @@ follows_type : (start : Start) (old : List ℕ) (link g : Header) (later : List 
     → is_vlan_ether_type (type_of_link link) ≡ true → Walk (start_of start) old (link ∷ g ∷ later) e
     → (v : VlanValue) × (g ≡ headers.Vlan v)
 follows_type start old link g later e linked typed is walk =
-    let expected : after (start_of start) link ≡ record { next = EtherType (type_of_link link); limit = None } =
-    link_after start link linked ∙ ap (λ n. record { next = n; limit = None }) typed in
-    let both : Some (kind_of g) ≡ Some kinds.Vlan =
-    sym walk.1.0.announced ∙ ap announced expected ∙ announced_vlan (type_of_link link) is in
-    vlan_header g cc
+    search (rules, link_after, announced_vlan, vlan_header)
 
 popped_tag : (start : Start) (old : List ℕ) (hs : List Header) (e : Ending) (link : Header) (v : VlanValue)
     (later : List Header) (m : ℕ)

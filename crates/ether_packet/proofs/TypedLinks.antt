@@ -1,5 +1,5 @@
 -- The header of a link with another type, and what follows it moved: the walk of the new list.
-use Rattle.std.proofs.Common.{◌≡◌, ℕ, ◌+◌, ◌-◌, ◌*◌, ◌^◌, ◌<◌, ◌≤◌, List, [], ◌∷◌, length, take, drop, refl, sym, ap, subst, ◌∙◌, arith, Bool, true, false}
+use Rattle.std.proofs.Common.{◌≡◌, ℕ, ◌+◌, ◌-◌, ◌*◌, ◌^◌, ◌<◌, ◌≤◌, List, [], ◌∷◌, length, take, drop, refl, sym, ap, subst, ◌∙◌, arith, Bool, true, false, rules}
 use Rattle.std.specs.Prelude.{slice_range, Option, Some, None, nat_eq, ◌==◌, if◌then◌else◌}
 use Rattle.std.proofs.lemmas.List.{length-drop}
 use Rattle.etherparse.specs.Types.LenSource.{LenSource}
@@ -21,7 +21,7 @@ use Rattle.etherparse.proofs.LinuxSllFields.{linux_sll_begins, linux_sll_means}
 use Rattle.etherparse.proofs.SubLists.{number-part_below, number-part_join}
 use Rattle.etherparse.proofs.Rows.{at_least, accepts_ethernet2, accepts_ethernet2_fcs, accepts_linux_sll}
 use Rattle.ether_peel.specs.Grammar.Window.{Window, within, payload}
-use Rattle.ether_peel.specs.Grammar.Expectation.{Next, Expectation, EtherType, Sll, announced, announced_by, permitted, next_after, after, after_capture, has_fcs}
+use Rattle.ether_peel.specs.Grammar.Expectation.{Expectation, EtherType, Sll, announced, announced_by, permitted, next_after, after, after_capture, has_fcs}
 use Rattle.ether_peel.specs.Grammar.Places.{moved_ending}
 use Rattle.ether_peel.specs.Grammar.Stack.{Ending, Accepted, Fault, IsUnit, Stack, whole, Walk}
 use Rattle.ether_peel.specs.Walker.Start.{start_of}
@@ -35,7 +35,6 @@ use Rattle.ether_packet.specs.ReplacingLink.{is_link, has_link}
 use Rattle.ether_packet.specs.TypedLink.{type_of_link, with_type, link_len, IsTypedLink, IsEthernetCapture, IsOtherCapture, RefusesTyped, no_link, hardware_type}
 use Rattle.ether_packet.proofs.Gathering.{whole_part}
 use Rattle.ether_packet.proofs.Replaced.{packet_type_of, supported}
-use Rattle.ether_packet.proofs.PacketExts.{kind_kept as header_kind}
 use Rattle.ether_packet.proofs.Links.{first_header}
 
 -- ---- a header whose last two bytes are others
@@ -179,9 +178,7 @@ captured_next : (s : LinuxSllValue) (t : ℕ) (b : Bool) → (s.hardware_type ==
     → after_capture s.hardware_type s.protocol ≡ EtherType s.protocol → after_capture s.hardware_type t ≡ EtherType t
 captured_next s t true e typed = λ i. if e i then EtherType t else Sll (link_protocol_of s.hardware_type t)
 captured_next s t false e typed =
-    let other : Sll (link_protocol_of s.hardware_type s.protocol) ≡ EtherType s.protocol =
-    (λ i. if sym e i then EtherType s.protocol else Sll (link_protocol_of s.hardware_type s.protocol)) ∙ typed in
-    absurd cc
+    search (rules)
 
 -- with another type, the header of a link announces by it as before
 pub announces_kept : (h : Header) (t : ℕ) → is_link (kind_of h) ≡ true → next_after h ≡ EtherType (type_of_link h)
@@ -221,11 +218,7 @@ pub stack_after : (start : Start) (list : List ℕ) (h : Header) (hs : List Head
     → Stack list (record { next = EtherType (type_of_link h); limit = None }) (link_payload (start_of start) list h) hs
     e
 stack_after start list h hs e link typed s =
-    let is : after (start_of start) h ≡ record { next = EtherType (type_of_link h); limit = None } =
-    link_after start h link ∙ ap (λ (n : Next). record { next = n; limit = None }) typed in
-    subst (λ (w : Window). Stack list (record { next = EtherType (type_of_link h); limit = None }) w hs e)
-    (payload_is (start_of start) list h link)
-    (subst (λ (x : Expectation). Stack list x (payload (whole (start_of start) list) h) hs e) is s)
+    search (rules, link_after, payload_is)
 
 other_kind : (a b : Bool)
     → permitted None (if a then Some kinds.Macsec else (if b then Some kinds.Arp else None)) ≡ Some kinds.Vlan → ⊥
@@ -237,23 +230,12 @@ other_kind false false e = absurd cc
 pub announced_vlan : (t : ℕ) → is_vlan_ether_type t ≡ true
     → announced (record { next = EtherType t; limit = None }) ≡ Some kinds.Vlan
 announced_vlan t is =
-    λ i.
-    permitted None
-    (if is i then Some kinds.Vlan
-    else (if nat_eq t 0x88E5 then Some kinds.Macsec else (if nat_eq t 0x0806 then Some kinds.Arp else None)))
+    search (rules)
 
 pub announced_other : (t : ℕ) → is_vlan_ether_type t ≡ false
     → announced (record { next = EtherType t; limit = None }) ≡ Some kinds.Vlan → ⊥
 announced_other t is e =
-    other_kind (nat_eq t 0x88E5) (nat_eq t 0x0806)
-    (sym
-    (λ i.
-    permitted None
-    (if is i then Some kinds.Vlan
-    else
-    (if nat_eq t 0x88E5 then Some kinds.Macsec
-    else (if nat_eq t 0x0806 then Some kinds.Arp else None))))
-    ∙ e)
+    search (rules, other_kind)
 
 -- ---- the bytes after it
 
@@ -298,14 +280,7 @@ unit_there list x w kind [] (Fault v y r) a accepted s =
     let same = same_kind s.2 kind (announced x) s.3 a in
     absurd (accepted r (subst (λ (k : Kind). Refuses w.bound (within list w) k r) same s.4))
 unit_there list x w kind (h ∷ hs) e a accepted s =
-    record {
-      header = h;
-      later = hs;
-      parts = refl;
-      of_kind = same_kind (kind_of h) kind (announced x) s.0.announced a;
-      unit = s.0;
-      rest = s.1;
-    }
+    search (rules, same_kind)
 
 -- if a row holds there, no header is
 pub no_unit_there : (list : List ℕ) (x : Expectation) (w : Window) (kind : Kind) (r : rows.Refusal) (hs : List Header)
@@ -327,15 +302,7 @@ pub is_typed : (start : Start) (kind : Kind) (list : List ℕ) (hs : List Header
     → l.ether_type.0 ≡ type_of_link (header_in kind list)
     → Walk (start_of start) list hs e → IsTypedLink start list hs l
 is_typed start kind list hs e l ok a accepted link typed len payload_len ether_type walk =
-    let first = first_header (start_of start) kind list hs e ok a accepted walk in
-    record {
-      link = header_in kind list;
-      later = first.0;
-      begins = record { parts = first.1; is_link = ap is_link (header_kind kind list) ∙ link; typed = typed };
-      len = len;
-      payload = payload_len;
-      ether_type = ether_type;
-    }
+    search (rules, first_header)
 
 -- a header that is refused
 pub refused_link : (start : Start) (kind : Kind) (list : List ℕ) (r : rows.Refusal) (hs : List Header) (e : Ending)

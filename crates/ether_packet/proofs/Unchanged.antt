@@ -1,5 +1,5 @@
 -- A target that is filled from its front on, header by header.
-use Rattle.std.proofs.Common.{◌≡◌, ℕ, ◌+◌, ◌<◌, ◌≤◌, List, [], ◌∷◌, ◌++◌, length, take, drop, slice_index_or, refl, sym, ap, subst, ◌∙◌, arith, append_assoc}
+use Rattle.std.proofs.Common.{◌≡◌, ℕ, ◌+◌, ◌<◌, ◌≤◌, List, [], ◌∷◌, ◌++◌, length, take, drop, slice_index_or, refl, sym, ap, subst, ◌∙◌, arith, append_assoc, rules}
 use Rattle.std.specs.Prelude.{flat_map}
 use Rattle.std.proofs.lemmas.Grind.{flat_map-append}
 use Rattle.std.proofs.lemmas.List.{append-nil, drop_at, drop-drop, length-append, take_at, take_all}
@@ -75,31 +75,14 @@ pub laid_link : (p : PacketBuilder) (old target : List ℕ) (at : ℕ) → at �
     → target ≡ overwritten old 0 (header_bytes (link_header p.link)) → FitsHeader (link_header p.link)
     → Laid p old target 0 at
 laid_link p old target at is bytes fits =
-    let h = link_header p.link in
-    let own : length (header_bytes h) ≡ at = length-header_bytes h fits ∙ sym is in
-    let zero : 0 + length (header_bytes h) ≡ length (header_bytes h) = omega arith in
-    record {
-      bytes =
-          bytes ∙ ap (λ (k : ℕ). header_bytes h ++ drop k old) (zero ∙ own)
-          ∙ ap (λ (l : List ℕ). l ++ drop at old) (sym (append-nil (header_bytes h)));
-      fit = (fits, tt);
-      long = let e : 0 + header_len h ≡ header_len h = omega arith in is ∙ sym e;
-    }
+    search (rules, length, length-header_bytes, drop, append-nil)
 
 -- there is room for the next one
 pub room_next : (p : PacketBuilder) (old target : List ℕ) (i at : ℕ) (x : LinkExtHeader) → i < length p.link_exts.now
     → x ≡ slice_index_or p.link_exts.now i x → Laid p old target i at
     → at + header_len (ext_header_view x) ≤ packet_len p
 room_next p old target i at x lt is so_far =
-    let m = length (content_payload p.content) in
-    let next : place m (later p i)
-    ≡ header_len (ext_header_view (slice_index_or p.link_exts.now i x)) + place m (later p (i + 1)) =
-    ap (λ (l : List Header). place m (l ++ content_headers p.content)) (drop_next p.link_exts.now i x lt)
-    ∙ place-first m (ext_header_view (slice_index_or p.link_exts.now i x)) (later p (i + 1)) in
-    let own = ap (λ (y : LinkExtHeader). header_len (ext_header_view y)) is in
-    let whole = whole_len p i in
-    let long = so_far.long in
-    omega (arith, next, own, whole, long)
+    search (rules, length, later, slice_index_or, drop_next, place-first, whole_len)
 
 pub laid_next : (p : PacketBuilder) (old target new : List ℕ) (i at next : ℕ) (x : LinkExtHeader)
     → i < length p.link_exts.now → x ≡ slice_index_or p.link_exts.now i x → Laid p old target i at
@@ -155,9 +138,7 @@ last_later p i over =
 pub room_content : (p : PacketBuilder) (old target : List ℕ) (i at : ℕ) → length p.link_exts.now ≤ i
     → Laid p old target i at → at + content_len p.content ≡ packet_len p
 room_content p old target i at over so_far =
-    let whole = last_later p i over in
-    let long = so_far.long in
-    omega (arith, whole, long)
+    search (rules, last_later)
 
 pub laid_all : (p : PacketBuilder) (old target new : List ℕ) (i at : ℕ) → length p.link_exts.now ≤ i
     → packet_len p ≤ length old → Laid p old target i at

@@ -1,5 +1,5 @@
 -- The identifier of the outermost VLAN tag, set in place.
-use Rattle.std.proofs.Common.{◌≡◌, ◌≢◌, ℕ, zero, suc, ◌+◌, ◌-◌, ◌*◌, ◌/◌, ◌%◌, ◌^◌, ◌<◌, ◌≤◌, List, [], ◌∷◌, ◌++◌, length, take, drop, refl, sym, ap, subst, ◌∙◌, arith, append_assoc, Bool, true}
+use Rattle.std.proofs.Common.{◌≡◌, ◌≢◌, ℕ, zero, suc, ◌+◌, ◌-◌, ◌*◌, ◌/◌, ◌%◌, ◌^◌, ◌<◌, ◌≤◌, List, [], ◌∷◌, ◌++◌, length, take, drop, refl, sym, ap, subst, ◌∙◌, arith, append_assoc, Bool, true, rules}
 use Rattle.std.specs.Prelude.{map, slice_get, slice_index, slice_range, Some, if◌then◌else◌}
 use Rattle.std.specs.Option.{option_and_then}
 use Rattle.std.proofs.Math.Seq.{get_or-append_seam}
@@ -76,9 +76,7 @@ pub never_refused : (hs : List Header) (i : ℕ) (front : List Header) (tag : Vl
     (e : TagError)
     → IsExtAt hs i front (headers.Vlan tag) later → RefusesTag hs i e → ⊥
 never_refused hs i front tag later e found (none few) =
-    let all = ap ext_count found.parts ∙ ext_count-append front (headers.Vlan tag ∷ later) in
-    let before = found.before in
-    omega (arith, all, before, few)
+    search (rules, ext_count-append)
 never_refused hs i front tag later e found (sec_tag other_front m other_later there) =
     let same = (one_ext hs i front other_front (headers.Vlan tag) (headers.Macsec m) later other_later found there).1 in
     absurd cc
@@ -125,10 +123,7 @@ pub own_bytes : (list : List ℕ) (x : Expectation) (w : Window) (front : List H
     → IsIn list w → Stack list x w (front ++ h ∷ later) e
     → Spells (slice_range list (place w.start front) (place w.start front + header_len h)) h
 own_bytes list x w [] h later e inside s =
-    let whole = s.0.means.whole in
-    let ordered = inside.ordered in
-    let len = length-part list w.start w.finish inside.inside in
-    subst (λ (l : List ℕ). Spells l h) (front_is list w (header_len h) (omega arith)) s.0.means.spells
+    search (rules, length-part, front_is)
 own_bytes list x w (k ∷ front) h later e inside s =
     own_bytes list (after x k) (payload w k) front h later e (payload_in list x w k inside s.0) s.1
 
@@ -143,15 +138,7 @@ two_changed front a b p q tail i h k = refl
 two_set : (front tail : List ℕ) (a b p q vid : ℕ) → a / 16 ≡ p / 16 → a % 16 * 256 + b ≡ vid
     → SetsVid (front ++ p ∷ q ∷ tail) (length front) vid (front ++ a ∷ b ∷ tail)
 two_set front tail a b p q vid upper set =
-    let new_a = get_or-append_seam front a (b ∷ tail) 0 in
-    let new_b = get_or-append-add front (a ∷ b ∷ tail) 1 0 in
-    let old_p = get_or-append_seam front p (q ∷ tail) 0 in
-    record {
-      len = length-append front (a ∷ b ∷ tail) ∙ sym (length-append front (p ∷ q ∷ tail));
-      others = λ i h k. two_changed front a b p q tail i h k;
-      upper = (λ i. new_a i / 16) ∙ upper ∙ sym (λ i. old_p i / 16);
-      set = (λ i. new_a i % 16 * 256 + new_b i) ∙ set;
-    }
+    search (rules, get_or-append_seam, get_or-append-add, length-append, two_changed)
 
 vlan_spelled : (v : VlanValue)
     → vlan_bytes v
@@ -159,9 +146,7 @@ vlan_spelled : (v : VlanValue)
     % 256 ∷ []
 unfolding spelled
 vlan_spelled v =
-    let c : vlan_number v / 256 ^ 1 % 256 ≡ vlan_number v / 256 % 256 = omega arith in
-    let d : vlan_number v / 256 ^ 0 % 256 ≡ vlan_number v % 256 = omega arith in
-    λ i. vlan_number v / 256 ^ 3 % 256 ∷ vlan_number v / 256 ^ 2 % 256 ∷ c i ∷ d i ∷ []
+    search (rules)
 
 -- a tag with another identifier differs in 12 bits
 tag_set : (front rest : List ℕ) (v : VlanValue) (vid : ℕ) → FitsVlan v → vid < 4096
