@@ -1,5 +1,5 @@
 -- A unit is within its bytes and not empty, and a required length is above theirs.
-use Rattle.std.proofs.Common.{◌≡◌, ℕ, ◌<◌, ◌≤◌, List, length, refl, arith, Some, None}
+use Rattle.std.proofs.Common.{◌≡◌, ℕ, ◌<◌, ◌≤◌, List, length, refl, arith, Some, None, rules}
 use Rattle.std.specs.Prelude.{Option}
 use Rattle.ether_pcap.specs.Numbers.{Order}
 use Rattle.ether_pcap.specs.FileHeader as file
@@ -52,13 +52,11 @@ body_final most order before body kind r h = refl
 pub required_above : (bytes : List ℕ) (x : Expectation) (r : CaptureRefusal) (n : ℕ) → Refuses bytes x r
     → required_len r ≡ Some n → length bytes < n
 required_above bytes x r n (file_header_refused m s other (file.short lt)) e = above 24 n (length bytes) e lt
-required_above bytes x r n (file_header_refused m s other (file.magic le none)) e = absurd cc
-required_above bytes x r n (file_header_refused m s other (file.version order resolution le has none)) e = absurd cc
 required_above bytes x r n (file_record_refused h s (record_rows.header lt)) e = above 16 n (length bytes) e lt
-required_above bytes x r n (file_record_refused h s (record_rows.too_long le lt)) e = absurd cc
 required_above bytes x r n (file_record_refused h s (record_rows.packet le small lt)) e = above _ n (length bytes) e lt
 required_above bytes x r n (first_section_refused m s has refused) e = section_above bytes s n refused e
 required_above bytes x r n (section_refused m order interfaces s has refused) e = section_above bytes s n refused e
 required_above bytes x r n (block_refused m order interfaces s other refused) e = block_above order bytes s n refused e
 required_above bytes x r n (body_refused m order interfaces b s other begins refused) e =
     let none = body_final m order interfaces b.body _ s refused in absurd cc
+required_above bytes x r n h e = absurd (search rules)

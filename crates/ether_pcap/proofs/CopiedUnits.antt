@@ -310,10 +310,8 @@ module _ (raise : ℕ) where
   -- what is edited is no simple packet
   kept_edited : (kind : BlockKind) (order : Order) (m : ℕ) (e : EditedValue) (u new : List ℕ) (p : PacketValue)
       → edited_block kind order m e u ≡ Some new → is_kept raise kind p ≡ true
-  kept_edited InterfaceDescription order m e u new p is = absurd cc
-  kept_edited SimplePacket order m e u new p is = absurd cc
   kept_edited (EnhancedPacket n) order m e u new p is = refl
-  kept_edited Other order m e u new p is = absurd cc
+  kept_edited h order m e u new p is = absurd (search rules)
 
   edited_unit_kept : (x : Expectation) (u new : List ℕ) (p : PacketValue) (e : EditedValue)
       → edited_unit x (length p.packet) e u ≡ Some new

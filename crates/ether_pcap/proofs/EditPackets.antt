@@ -164,10 +164,8 @@ module _ (most : ℕ) (order : Order) (interfaces : List CaptureInterfaceValue) 
   -- what is edited is an enhanced packet, or an obsolete packet block
   by_kind : (kind : BlockKind) (new : List ℕ) → edited_block kind order (length p.packet) e u ≡ Some new
       → (number_len : ℕ) × (kind ≡ EnhancedPacket number_len) × BlockFits order (length p.packet) e u new
-  by_kind InterfaceDescription new is = absurd cc
-  by_kind SimplePacket new is = absurd cc
   by_kind (EnhancedPacket k) new is = (k, refl, block_fits k order (length p.packet) e u new is)
-  by_kind Other new is = absurd cc
+  by_kind h new is = absurd (search rules)
 
   few_bytes : (t k : ℕ) → kind_of_block t ≡ EnhancedPacket k → k ≤ 4
   few_bytes t k is =

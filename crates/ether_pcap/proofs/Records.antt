@@ -60,11 +60,9 @@ next_fault : (order : Order) (s : State) (f : RecordFault) (records : List Recor
     → s.rest ≢ [] → f.offset ≡ s.offset → RefusesRecord order s.rest (record_refusal_view f.error)
     → HasRecords order s.rest records rest fault
     → GivesNext records fault s (Some (Err f)) (record s { over = true })
-next_fault order s f [] rest None some at h has = absurd (some has.0)
 next_fault order s f [] rest (Some refusal) some at h has =
     (f, refl, at, refusal_one order s.rest (record_refusal_view f.error) refusal h has.2, refl)
-next_fault order s f (r ∷ records) rest fault some at h has =
-    absurd (record_apart order s.rest r (record_refusal_view f.error) has.0 h)
+next_fault order s f k rest fault some at h has = absurd (search (rules, record_apart))
 
 pub gives_fault : (s : State) (f : RecordFault) → s.over ≡ false → s.rest ≢ [] → f.offset ≡ s.offset
     → RefusesRecord (order_of s.header.byte_order) s.rest (record_refusal_view f.error)
@@ -145,20 +143,15 @@ same : (order : Order) (bytes : List ℕ) (records others : List RecordValue) (r
     → HasRecords order bytes records rest fault → HasRecords order bytes others left other
     → (records ≡ others) × (rest ≡ left) × (fault ≡ other)
 same order bytes [] [] rest left None None h k = (refl, h.1 ∙ sym k.1, refl)
-same order bytes [] [] rest left None (Some f) h k = absurd (k.0 h.0)
-same order bytes [] [] rest left (Some e) None h k = absurd (h.0 k.0)
 same order bytes [] [] rest left (Some e) (Some f) h k =
     (refl, h.1 ∙ sym k.1, ap Some (refusal_one order bytes e f h.2 k.2))
-same order bytes [] (s ∷ others) rest left None other h k = absurd (not_empty order bytes s k.0 h.0)
-same order bytes [] (s ∷ others) rest left (Some e) other h k = absurd (record_apart order bytes s e k.0 h.2)
-same order bytes (r ∷ records) [] rest left fault None h k = absurd (not_empty order bytes r h.0 k.0)
-same order bytes (r ∷ records) [] rest left fault (Some f) h k = absurd (record_apart order bytes r f h.0 k.2)
 same order bytes (r ∷ records) (s ∷ others) rest left fault other h k =
     let e = record_one order bytes r s h.0 k.0 in
     let m : HasRecords order (drop (record_len r) bytes) others left other =
     subst (λ (v : RecordValue). HasRecords order (drop (record_len v) bytes) others left other) (sym e) k.1 in
     let t = same order (drop (record_len r) bytes) records others rest left fault other h.1 m in
     (let p = t.0 in λ i. e i ∷ p i, t.1, t.2)
+same order bytes a b rest left fault other h k = absurd (search (rules, not_empty, record_apart))
 
 pub one_contents : (order : Order) (bytes : List ℕ) (c d : Contents order bytes)
     → (c.records ≡ d.records) × (c.rest ≡ d.rest) × (c.fault ≡ d.fault)
