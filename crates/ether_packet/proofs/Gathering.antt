@@ -428,33 +428,41 @@ is_packet start list s t r packet met a gives read rest offset kind fault =
 
 -- ---- several headers
 
--- after as many headers as were asked for, it is still under way
-pub goes_on : (n : ℕ) (old new : PacketWalk) (more : Bool) → more ≡ true → GoesBy n old new more → IsUnderWay old
-    → IsUnderWay new
-goes_on n old new true e goes (start, list, w) = (start, list, (goes start list w).0)
-goes_on n old new false e goes under = absurd cc
+-- so many headers came
+pub record Came (n : ℕ) (old new : PacketWalk) : Type 0 where
+  goes : GoesBy n old new true
 
--- else it has ended
-pub ends_there : (n : ℕ) (old new : PacketWalk) (more : Bool) → more ≡ false → GoesBy n old new more
-    → EndsAnyhow old new
-ends_there n old new true e goes = absurd cc
-ends_there n old new false e goes = goes
+pub none_came : (w : PacketWalk) → Came 0 w w
+none_came w = record { goes = λ start list under. (under, omega arith) }
 
--- and then others
-pub goes_further : (n m : ℕ) (old mid new : PacketWalk) (first more : Bool) → first ≡ true → GoesBy n old mid first
-    → GoesBy m mid new more → GoesBy (n + m) old new more
-goes_further n m old mid new true true e goes later =
+pub one_more : {n : ℕ} {old mid : PacketWalk} {more : Bool} → Came n old mid → (new : PacketWalk) → more ≡ true
+    → GoesBy 1 mid new more → Came (n + 1) old new
+one_more {more = true} came new e goes = record {
+  goes =
+      λ start list w.
+      let before = came.goes start list w in
+      let next = goes start list before.0 in
+      let few = before.1 in
+      let fewer = next.1 in (next.0, omega (arith, few, fewer));
+}
+one_more {more = false} came new e goes = absurd cc
+
+-- then it is still under way
+pub goes_on : {n : ℕ} {old new : PacketWalk} → Came n old new → IsUnderWay old → IsUnderWay new
+goes_on came (start, list, w) = (start, list, (came.goes start list w).0)
+
+-- or ends with the next one
+pub ends_there : {n : ℕ} {old mid : PacketWalk} {more : Bool} → Came n old mid → (new : PacketWalk) → more ≡ false
+    → GoesBy 1 mid new more → EndsAnyhow old new
+ends_there {more = true} came new e goes = absurd cc
+ends_there {more = false} came new e goes = λ start list w. goes start list (came.goes start list w).0
+
+-- .. if there are no more
+pub ends_within : {n : ℕ} {old mid : PacketWalk} → Came n old mid → (new : PacketWalk) (more : Bool)
+    → headers_left old.peel.expected ≤ n → GoesBy 1 mid new more → EndsAnyhow old new
+ends_within came new true le goes =
     λ start list w.
-    let one = goes start list w in
-    let two = later start list one.0 in
-    let few = one.1 in
-    let fewer = two.1 in (two.0, omega (arith, few, fewer))
-goes_further n m old mid new true false e goes later = λ start list w. later start list (goes start list w).0
-goes_further n m old mid new false more e goes later = absurd cc
-
--- there are not so many
-pub ends_within : (n : ℕ) (old new : PacketWalk) (more : Bool) → headers_left old.peel.expected < n
-    → GoesBy n old new more → EndsAnyhow old new
-ends_within n old new true lt goes =
-    λ start list w. let few = (goes start list w).1 in absurd (omega (arith, lt, few))
-ends_within n old new false lt goes = goes
+    let before = came.goes start list w in
+    let few = before.1 in
+    let fewer = (goes start list before.0).1 in absurd (omega (arith, le, few, fewer))
+ends_within came new false le goes = λ start list w. goes start list (came.goes start list w).0

@@ -78,9 +78,7 @@ says_the_same (links.Ethernet2 g) (links.Ethernet2 l) (headers.Ethernet2Fcs h) i
     ap (λ (t : EtherTypeNumber). t.0) same ∙ ap (λ (v : Ethernet2Value). v.ether_type) is
 says_the_same (links.LinuxSll g) (links.LinuxSll l) (headers.LinuxSll h) is same =
     (ap (λ (t : ArpHardwareId). t.0) same.0 ∙ ap (λ (s : LinuxSllValue). s.hardware_type) is.0, same.1 ∙ is.1)
-says_the_same (links.Ethernet2 g) (links.LinuxSll l) h is same = absurd same
-says_the_same (links.LinuxSll g) (links.Ethernet2 l) h is same = absurd same
-says_the_same _ _ _ is same = absurd is
+says_the_same k a h is same = absurd (search rules)
 
 -- and differ in the same
 pub differs : (g l : LinkHeader) (h : Header) (d : Difference) → IsLinkOf l h → LinksDiffer g l d → LinkDiffers g h d
@@ -95,16 +93,7 @@ differs (links.LinuxSll g) (links.LinuxSll l) (headers.LinuxSll h) differences.P
 differs (links.Ethernet2 g) (links.LinuxSll l) (headers.LinuxSll h) differences.Kind is other = tt
 differs (links.LinuxSll g) (links.Ethernet2 l) (headers.Ethernet2 h) differences.Kind is other = tt
 differs (links.LinuxSll g) (links.Ethernet2 l) (headers.Ethernet2Fcs h) differences.Kind is other = tt
-differs g (links.Ethernet2 l) (headers.LinuxSll h) d is other = absurd is
-differs g (links.Ethernet2 l) (headers.Vlan h) d is other = absurd is
-differs g (links.Ethernet2 l) (headers.Macsec h) d is other = absurd is
-differs g (links.Ethernet2 l) (headers.Arp h) d is other = absurd is
-differs g (links.LinuxSll l) (headers.Ethernet2 h) d is other = absurd is
-differs g (links.LinuxSll l) (headers.Ethernet2Fcs h) d is other = absurd is
-differs g (links.LinuxSll l) (headers.Vlan h) d is other = absurd is
-differs g (links.LinuxSll l) (headers.Macsec h) d is other = absurd is
-differs g (links.LinuxSll l) (headers.Arp h) d is other = absurd is
-differs g l h d is other = absurd other
+differs g l h d is other = absurd (search rules)
 
 link_kind : (l : LinkHeader) (h : Header) → IsLinkOf l h → is_link (kind_of h) ≡ true
 link_kind (links.Ethernet2 l) (headers.Ethernet2 h) is = refl

@@ -99,49 +99,34 @@ look_alike (headers.Macsec g) (headers.Macsec h) same = (ap encrypted_of same.0,
 look_alike (headers.Arp g) (headers.Arp h) same = same
 look_alike _ _ same = absurd same
 
+alike_shape : (g h : Header) → LookAlike g h
+    → (kind_of g ≡ kind_of h) × (header_len g ≡ header_len h) × (payload_len g ≡ payload_len h)
+    × (trailer_len g ≡ trailer_len h)
+alike_shape (headers.Ethernet2 g) (headers.Ethernet2 h) alike = (refl, refl, refl, refl)
+alike_shape (headers.Ethernet2Fcs g) (headers.Ethernet2Fcs h) alike = (refl, refl, refl, refl)
+alike_shape (headers.LinuxSll g) (headers.LinuxSll h) alike = (refl, refl, refl, refl)
+alike_shape (headers.Vlan g) (headers.Vlan h) alike = (refl, refl, refl, refl)
+alike_shape (headers.Macsec g) (headers.Macsec h) alike = (
+  refl,
+  λ i. 6 + 8 * alike.3 i + ether_type_len (alike.0 i) (alike.1 i),
+  λ i. known_len (ether_type_len (alike.0 i) (alike.1 i)) (alike.2 i),
+  refl,
+)
+alike_shape (headers.Arp g) (headers.Arp h) alike = (refl, λ i. 8 + 2 * alike.0 i + 2 * alike.1 i, refl, refl)
+alike_shape _ _ alike = absurd alike
+
 pub alike_kind : (g h : Header) → LookAlike g h → kind_of g ≡ kind_of h
-alike_kind (headers.Ethernet2 g) (headers.Ethernet2 h) alike = refl
-alike_kind (headers.Ethernet2Fcs g) (headers.Ethernet2Fcs h) alike = refl
-alike_kind (headers.LinuxSll g) (headers.LinuxSll h) alike = refl
-alike_kind (headers.Vlan g) (headers.Vlan h) alike = refl
-alike_kind (headers.Macsec g) (headers.Macsec h) alike = refl
-alike_kind (headers.Arp g) (headers.Arp h) alike = refl
-alike_kind _ _ alike = absurd alike
+alike_kind g h alike = (alike_shape g h alike).0
 
 pub alike_len : (g h : Header) → LookAlike g h → header_len g ≡ header_len h
-alike_len (headers.Ethernet2 g) (headers.Ethernet2 h) alike = refl
-alike_len (headers.Ethernet2Fcs g) (headers.Ethernet2Fcs h) alike = refl
-alike_len (headers.LinuxSll g) (headers.LinuxSll h) alike = refl
-alike_len (headers.Vlan g) (headers.Vlan h) alike = refl
-alike_len (headers.Macsec g) (headers.Macsec h) alike = λ i. 6 + 8 * alike.3 i + ether_type_len (alike.0 i) (alike.1 i)
-alike_len (headers.Arp g) (headers.Arp h) alike = λ i. 8 + 2 * alike.0 i + 2 * alike.1 i
-alike_len _ _ alike = absurd alike
+alike_len g h alike = (alike_shape g h alike).1
 
 pub same_len : (g h : Header) → Agree g h → header_len g ≡ header_len h
 same_len g h same = alike_len g h (look_alike g h same)
 
-alike_payload_len : (g h : Header) → LookAlike g h → payload_len g ≡ payload_len h
-alike_payload_len (headers.Ethernet2 g) (headers.Ethernet2 h) alike = refl
-alike_payload_len (headers.Ethernet2Fcs g) (headers.Ethernet2Fcs h) alike = refl
-alike_payload_len (headers.LinuxSll g) (headers.LinuxSll h) alike = refl
-alike_payload_len (headers.Vlan g) (headers.Vlan h) alike = refl
-alike_payload_len (headers.Macsec g) (headers.Macsec h) alike =
-    λ i. known_len (ether_type_len (alike.0 i) (alike.1 i)) (alike.2 i)
-alike_payload_len (headers.Arp g) (headers.Arp h) alike = refl
-alike_payload_len _ _ alike = absurd alike
-
-alike_trailer : (g h : Header) → LookAlike g h → trailer_len g ≡ trailer_len h
-alike_trailer (headers.Ethernet2 g) (headers.Ethernet2 h) alike = refl
-alike_trailer (headers.Ethernet2Fcs g) (headers.Ethernet2Fcs h) alike = refl
-alike_trailer (headers.LinuxSll g) (headers.LinuxSll h) alike = refl
-alike_trailer (headers.Vlan g) (headers.Vlan h) alike = refl
-alike_trailer (headers.Macsec g) (headers.Macsec h) alike = refl
-alike_trailer (headers.Arp g) (headers.Arp h) alike = refl
-alike_trailer _ _ alike = absurd alike
-
 pub alike_payload : (w : Window) (g h : Header) → LookAlike g h → payload w g ≡ payload w h
 alike_payload w g h alike =
-    λ i. payload_from (w.start + alike_len g h alike i) (alike_trailer g h alike i) (alike_payload_len g h alike i) w
+    let shape = alike_shape g h alike in λ i. payload_from (w.start + shape.1 i) (shape.3 i) (shape.2 i) w
 
 same_next : (g h : Header) → Agree g h → next_after g ≡ next_after h
 same_next (headers.Ethernet2 g) (headers.Ethernet2 h) same =
@@ -200,7 +185,7 @@ accepts_alike bound old new (headers.Macsec g) (headers.Macsec h) ok m n len ali
     let six : 6 ≤ length old = omega arith in
     let version : a.0 ≡ 0 = version_zero bound old c six a.2 (ok _) in
     let fits = unit_fits bound old (headers.Macsec h) ok m in
-    let as_long = alike_len (headers.Macsec g) (headers.Macsec h) alike in
+    let as_long = (alike_shape (headers.Macsec g) (headers.Macsec h) alike).1 in
     accepts_macsec bound new (sec_tag_front_of 0 sound.0 g) (omega arith) sound.1 refl
     (λ s.
     ok _
@@ -213,7 +198,7 @@ accepts_alike bound old new (headers.Macsec g) (headers.Macsec h) ok m n len ali
     l
     (λ p e. let named =
     fits_named (payload_len (headers.Macsec h)) (header_len (headers.Macsec h)) p 0 (length old)
-    (sym (alike_payload_len (headers.Macsec g) (headers.Macsec h) alike) ∙ e) fits in omega
+    (sym (alike_shape (headers.Macsec g) (headers.Macsec h) alike).2 ∙ e) fits in omega
     (arith, as_long, named, len))
 accepts_alike bound old new (headers.Arp g) (headers.Arp h) ok m n len alike sound =
     let k = n.whole in accepts_arp bound new (arp_front_of g) (omega arith) (arp_begins new g n) k

@@ -54,14 +54,7 @@ cut_before start cut more hs ks e (Fault v y (Length required len source layer))
           let least = reach_least 0 ks in_unit.later in_unit.unit in
           subst (λ (l : List Header). length cut < reach 0 l) (sym in_unit.units) (omega arith)
     ]
-cut_before start cut more hs ks e (Fault v y (UnsupportedPacketType n)) unit later last h t s c parts rest =
-    absurd (stays start cut more hs ks e v y (UnsupportedPacketType n) unit later h t s parts tt)
-cut_before start cut more hs ks e (Fault v y (UnsupportedHardwareType n)) unit later last h t s c parts rest =
-    absurd (stays start cut more hs ks e v y (UnsupportedHardwareType n) unit later h t s parts tt)
-cut_before start cut more hs ks e (Fault v y UnexpectedVersion) unit later last h t s c parts rest =
-    absurd (stays start cut more hs ks e v y UnexpectedVersion unit later h t s parts tt)
-cut_before start cut more hs ks e (Fault v y InvalidShortLen) unit later last h t s c parts rest =
-    absurd (stays start cut more hs ks e v y InvalidShortLen unit later h t s parts tt)
+cut_before start cut more hs ks e k unit later last h t s c parts rest = absurd (search (rules, stays))
 
 -- what a cut has of the headers of the whole
 record HasOf (n : ℕ) (hs ks : List Header) : Type 0 where
