@@ -154,7 +154,7 @@ after_tag : (m : SecTagValue) (p : PayloadType) (own : ℕ) (hs : List Header) (
     → Fits (after (expecting k) (before (headers.Macsec m) (type_of own hs t) (place n hs))) (built hs t n) n
 after_tag m p own [] t n k e chain fits = tt
 after_tag m (payloads.Unmodified old) own (g ∷ hs) t n k e chain fits =
-    search (rules)
+    search rules
 after_tag m p own (g ∷ hs) t n k e chain fits =
     let f : true ≡ false = sym chain.0 ∙ ap is_unmodified e in absurd cc
 

@@ -36,8 +36,7 @@ take_next xs i d lt =
 pub drop_next : (xs : List LinkExtHeader) (i : ℕ) (d : LinkExtHeader) → i < length xs
     → views (drop i xs) ≡ ext_header_view (slice_index_or xs i d) ∷ views (drop (i + 1) xs)
 drop_next xs i d lt =
-    let e : suc i ≡ i + 1 = omega arith in
-    ap views (drop-cons xs i d lt) ∙ ap (λ (n : ℕ). ext_header_view (slice_index_or xs i d) ∷ views (drop n xs)) e
+    search (rules, suc, drop-cons, slice_index_or, drop)
 
 pub length-views : (xs : List LinkExtHeader) → length (views xs) ≡ length xs
 length-views [] = refl

@@ -162,8 +162,7 @@ room_for_content p =
 
 pub room_for_link : (p : PacketBuilder) (len : ℕ) → packet_len p ≤ len → header_len (link_header p.link) ≤ len
 room_for_link p len le =
-    let e = place-first (length (content_payload p.content)) (link_header p.link) (inner_headers p) in
-    omega (arith, e, le)
+    search (rules, place-first, length)
 
 inner_views : (xs : List LinkExtHeader) (c : PacketContent) → AreInner (views xs ++ content_headers c)
 inner_views [] (contents.Payload t bytes) = tt

@@ -100,8 +100,7 @@ pub none_popped : (start : Start) (list : List ℕ) (hs : List Header) (e : Endi
     → Walk (start_of start) list hs e → RefusesPop hs error → outer_tag hs ≡ None
 none_popped start list hs e error walk (pops.link other (no_link none)) = (unlinked hs none).1
 none_popped start list hs e error walk (pops.link other (hardware_type s later parts differs)) =
-    let w = subst (λ (l : List Header). Walk (start_of start) list l e) parts walk in
-    rw parts (not_first list _ _ later e (captured_nothing start s differs) w.1)
+    search (rules, not_first, captured_nothing)
 none_popped start list hs e error walk (pops.no_vlan link later begins none) =
     search (rules, not_first, announced_other, announced_after)
 none_popped start list hs e error walk (pops.cut_vlan link begins is) = rw (begins.parts, begins.is_link) refl

@@ -109,8 +109,7 @@ pub has_place : (r : Read) (x : Expectation) (bytes rest : List ℕ) (h : Header
 has_place r x bytes rest (headers.Ethernet2 e) u p free ready known shows room first =
     subst (λ (v : PeelUnit). HasPlace r v p) (sym shows) (place_first r x kinds.Ethernet2 p free ready known refl first)
 has_place r x bytes rest (headers.Ethernet2Fcs e) u p free ready known shows room first =
-    subst (λ (v : PeelUnit). HasPlace r v p) (sym shows)
-    (place_first r x kinds.Ethernet2Fcs p free ready known refl first)
+    search (rules, place_first)
 has_place r x bytes rest (headers.LinuxSll s) u p free ready known shows room first =
     subst (λ (v : PeelUnit). HasPlace r v p) (sym shows) (place_first r x kinds.LinuxSll p free ready known refl first)
 has_place r x bytes rest (headers.Vlan v) u p free ready known shows room first =
@@ -192,7 +191,7 @@ given : (list : List ℕ) (w : Window) (left : List Header) (e : Ending) (s t : 
 given list w [] (Accepted v y) s t u g = let none = g.0 in absurd cc
 given list w [] (Fault v y q) s t u g = let fault = g.0 in absurd cc
 given list w (h ∷ hs) e s t u g =
-    search (rules)
+    search rules
 
 -- what is known of it
 pub record IsNext (list : List ℕ) (w : Window) (left : List Header) (e : Ending) (s t : State)
@@ -410,11 +409,11 @@ record Ended (list : List ℕ) (w : Window) (left : List Header) (e : Ending) (s
 ended : (list : List ℕ) (w : Window) (left : List Header) (e : Ending) (s t : State) (met : Option PeelFault)
     → Faces list w s left e → GivesNext list w left e s (item_of met) t → Ended list w left e s t met
 ended list w [] (Accepted v y) s t None f g =
-    search (rules)
+    search rules
 ended list w [] (Accepted v y) s t (Some x) f g = let none = g.0 in absurd cc
 ended list w [] (Fault v y r) s t None f g = let some = g.0 in absurd cc
 ended list w [] (Fault v y r) s t (Some x) f g =
-    search (rules)
+    search rules
 ended list w (h ∷ hs) e s t None f g = let some = g.1 in absurd cc
 ended list w (h ∷ hs) e s t (Some x) f g = let some = g.1 in absurd cc
 

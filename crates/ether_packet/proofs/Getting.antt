@@ -1,5 +1,5 @@
 -- What is found among the headers of a packet, extension by extension.
-use Rattle.std.proofs.Common.{◌≡◌, ℕ, suc, ◌+◌, ◌<◌, ◌≤◌, List, [], ◌∷◌, ◌++◌, length, take, drop, refl, sym, ap, subst, ◌∙◌, arith, inl, inr, Bool, true, false}
+use Rattle.std.proofs.Common.{◌≡◌, ℕ, suc, ◌+◌, ◌<◌, ◌≤◌, List, [], ◌∷◌, ◌++◌, length, take, drop, refl, sym, ap, subst, ◌∙◌, arith, inl, inr, Bool, true, false, rules}
 use Rattle.std.specs.Prelude.{map, slice_get, Option, Some, None}
 use Rattle.std.specs.List.{filter_map, cons_option}
 use Rattle.std.specs.Option.{option_and_then}
@@ -172,8 +172,7 @@ sec_tag_first us i packet so_far lt view = first_viewed us i _ packet so_far lt 
 pub sec_tag_none : (us : List PacketUnit) (n : ℕ) → Unsealed (exts_of us) n → length (exts_of us) ≤ n
     → ViewsSecTagIf (slice_get (sec_tags_of us) 0) None
 sec_tag_none us n so_far past =
-    let all : sec_tags_of us ≡ [] = sec_tags_found us ∙ sym (found_all macsec_of_unit (exts_of us) n past) ∙ so_far in
-    subst (λ (l : List (List ℕ)). ViewsSecTagIf (slice_get l 0) None) (sym all) refl
+    search (rules, sec_tags_found, found_all)
 
 -- ---- views of extensions
 

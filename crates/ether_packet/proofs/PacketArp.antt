@@ -1,11 +1,11 @@
 -- The ARP packet of a packet among its headers, and the one that replaces it.
-use Rattle.std.proofs.Common.{◌≡◌, ℕ, ◌+◌, ◌≤◌, List, [], ◌∷◌, ◌++◌, length, refl, sym, ap, subst, ◌∙◌, arith, false}
+use Rattle.std.proofs.Common.{◌≡◌, ℕ, ◌+◌, ◌≤◌, List, [], ◌∷◌, ◌++◌, length, refl, sym, ap, subst, ◌∙◌, arith, false, rules}
 use Rattle.std.specs.Prelude.{map, slice_get, Option, Some, None, ◌||◌}
 use Rattle.std.specs.List.{filter_map, cons_option}
 use Rattle.std.proofs.lemmas.List.{map-append}
 use Rattle.std.proofs.lemmas.Option.{slice_get_within}
 use Rattle.etherparse.specs.Bytes.{overwritten}
-use Rattle.etherparse.specs.Arp.{ArpValue, arp_bytes, arp_front_in, arp_len, arp_of}
+use Rattle.etherparse.specs.Arp.{ArpValue, arp_bytes, arp_of}
 use Rattle.etherparse.specs.Kind.{Kind}
 use Rattle.etherparse.specs.Kind as kinds
 use Rattle.etherparse.specs.Header.{Header, kind_of, header_len, FitsHeader}
@@ -64,8 +64,7 @@ same_bytes a b e = cc
 arp_header : (k : Kind) (bytes view : List ℕ) → arp_in k bytes ≡ Some view
     → header_in k bytes ≡ headers.Arp (arp_of view)
 arp_header kinds.Arp bytes view e =
-    let n = arp_len (arp_front_in bytes) in
-    ap headers.Arp (sym (arp_of_part bytes n (omega arith) (omega arith)) ∙ ap arp_of (same_bytes _ view e))
+    search (rules, arp_of_part, same_bytes)
 arp_header k bytes view e = absurd cc
 
 -- none

@@ -128,7 +128,7 @@ unit_begins list w (u ∷ front) x later are = unit_begins list (payload w (head
 pub found_takes : (hs : List Header) (i : ℕ) (f : PlacedExt) (g : Header) → IsPlacedExt hs i f
     → Agree g (ext_header_view f.header) → TakesExt hs i g f.at
 found_takes hs i f g p same =
-    search (rules)
+    search rules
 
 pub found_room : (g h : Header) (at n : ℕ) → Agree g h → at + header_len h ≤ n → at + header_len g ≤ n
 found_room g h at n same room = let len = same_len g h same in omega (arith, len, room)

@@ -1,5 +1,5 @@
 -- The headers of a packet as values.
-use Rattle.std.proofs.Common.{◌≡◌, false, ℕ, ◌≤◌, List, [], ◌∷◌, ◌++◌, length, take, refl, ap, ◌∙◌, arith, rules}
+use Rattle.std.proofs.Common.{◌≡◌, false, ℕ, ◌≤◌, List, [], ◌∷◌, ◌++◌, length, take, refl, arith, rules}
 use Rattle.std.specs.Prelude.{map, slice_get, Option, Some, None}
 use Rattle.std.proofs.lemmas.List.{map-append}
 use Rattle.etherparse.specs.Types.LinkExtHeader.{LinkExtHeader}
@@ -49,5 +49,4 @@ none_is_link (x ∷ xs) arp = tag_no_link x.kind x.place.bytes.now
 pub without_link : (frame : List ℕ) (link : LinkKind) (xs : List ExtPlace) (arp : Option FrameWindow)
     → link_units frame link ≡ [] → has_link (map header_of (units_at frame link xs arp)) ≡ false
 without_link frame link xs arp none =
-    ap (λ (l : List PacketUnit). has_link (map header_of (l ++ map ext_unit xs ++ arp_units arp))) none
-    ∙ none_is_link xs arp
+    search (rules, none_is_link)

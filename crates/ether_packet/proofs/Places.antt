@@ -120,8 +120,7 @@ only_start (Some p) = refl
 pub arp_offset_at : (frame : List ℕ) (link : LinkKind) (xs : List ExtPlace) (arp : Option FrameWindow)
     → arp_offset (units_at frame link xs arp) ≡ start_at arp
 arp_offset_at frame link xs arp =
-    ap (λ l. slice_get l 0) (found_last start_of_unit frame link xs arp (link_starts frame link) (exts_start xs))
-    ∙ only_start arp
+    search (rules, found_last, link_starts, exts_start, only_start)
 
 pub no_packet : (arp : Option FrameWindow) → packet_at arp ≡ None → arp ≡ None
 no_packet None e = refl

@@ -191,8 +191,7 @@ after_link : (start : Start) (list : List ℕ) (hs : List Header) (e : Ending) (
     → Stack list (record { next = EtherType (type_of_link t.link); limit = None })
     (link_payload (start_of start) list t.link) t.later e
 after_link start list hs e l t walk =
-    stack_after start list t.link t.later e t.begins.is_link t.begins.typed
-    (subst (λ (k : List Header). Walk (start_of start) list k e) t.begins.parts walk).1
+    search (rules, stack_after)
 
 pub cut_tag : (start : Start) (list : List ℕ) (hs : List Header) (e : Ending) (l : TypedLink)
     → IsTypedLink start list hs l → is_vlan_ether_type l.ether_type.0 ≡ true → l.payload_len < 4

@@ -35,15 +35,14 @@ payload_named : (list : List ℕ) (start finish : ℕ) (o : Option ℕ) (rest : 
     → (if is_some o then length rest else 0) ≡ unwrap_or o 0
 payload_named list start finish None rest le is inside = refl
 payload_named list start finish (Some n) rest le is inside =
-    let len = length-part list start (start + n) inside in
-    ap length is ∙ len ∙ (omega arith)
+    search (rules, length-part, length)
 
 -- where a unit ends, in the list
 ends_inside : (list : List ℕ) (w : Window) (t : State) (hs : List Header) (e : Ending) (o : Option ℕ)
     → Faces list w t hs e
     → t.offset + (if is_some o then length t.rest else 0) ≤ length list
 ends_inside list w t hs e None faces =
-    search (rules)
+    search rules
 ends_inside list w t hs e (Some n) faces =
     search (rules, length, length-part)
 

@@ -6,7 +6,7 @@ use Rattle.std.proofs.lemmas.Slice.{between_from_start}
 use Rattle.etherparse.specs.Types.LenSource.{LenSource}
 use Rattle.etherparse.specs.Bytes.{overwritten}
 use Rattle.etherparse.specs.LinuxSll.{LinuxSllValue, is_supported}
-use Rattle.etherparse.specs.Macsec.{BeginsSecTag, encrypted_of, changed_of, sci_present_of, ether_type_len, known_len, sec_tag_front_of}
+use Rattle.etherparse.specs.Macsec.{BeginsSecTag, encrypted_of, changed_of, sci_present_of, sec_tag_front_of}
 use Rattle.etherparse.specs.Arp.{arp_front_of}
 use Rattle.etherparse.specs.Kind as kinds
 use Rattle.etherparse.specs.Header.{Header, kind_of, header_len, payload_len, trailer_len, header_bytes, FitsHeader, Means, Spells}
@@ -47,8 +47,7 @@ part_before list bytes at i j le ij ja =
 pub part_at : (list bytes : List ℕ) (at : ℕ) → at + length bytes ≤ length list
     → slice_range (overwritten list at bytes) at (at + length bytes) ≡ bytes
 part_at list bytes at le =
-    part_after_front (take at list) bytes (drop (at + length bytes) list) at (at + length bytes)
-    (length-take-le at list (omega arith)) refl
+    search (rules, part_after_front, take, drop, length, length-take-le)
 
 -- what follows them
 rest_after : (list bytes : List ℕ) (at : ℕ) → at + length bytes ≤ length list
@@ -106,12 +105,8 @@ alike_shape (headers.Ethernet2 g) (headers.Ethernet2 h) alike = (refl, refl, ref
 alike_shape (headers.Ethernet2Fcs g) (headers.Ethernet2Fcs h) alike = (refl, refl, refl, refl)
 alike_shape (headers.LinuxSll g) (headers.LinuxSll h) alike = (refl, refl, refl, refl)
 alike_shape (headers.Vlan g) (headers.Vlan h) alike = (refl, refl, refl, refl)
-alike_shape (headers.Macsec g) (headers.Macsec h) alike = (
-  refl,
-  λ i. 6 + 8 * alike.3 i + ether_type_len (alike.0 i) (alike.1 i),
-  λ i. known_len (ether_type_len (alike.0 i) (alike.1 i)) (alike.2 i),
-  refl,
-)
+alike_shape (headers.Macsec g) (headers.Macsec h) alike =
+    search rules
 alike_shape (headers.Arp g) (headers.Arp h) alike = (refl, λ i. 8 + 2 * alike.0 i + 2 * alike.1 i, refl, refl)
 alike_shape _ _ alike = absurd alike
 

@@ -137,7 +137,7 @@ announced_sll : (s : LinuxSllValue) (t : ℕ) (b : Bool) → (s.hardware_type ==
     → after_capture s.hardware_type t ≡ EtherType t
 announced_sll s t true e a = λ i. if e i then EtherType t else Sll (link_protocol_of s.hardware_type t)
 announced_sll s t false e a =
-    search (rules)
+    search rules
 
 unmodified : (p : PayloadType) → announced_next (after_payload p) ≡ Some kinds.Vlan
     → (u : ℕ) × (p ≡ payloads.Unmodified u)

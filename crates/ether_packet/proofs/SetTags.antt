@@ -102,5 +102,4 @@ pub is_retyped : (start : Expectation) (old new : List ℕ) (hs : List Header) (
     → IsBytes old → is_vlan_ether_type t ≡ true → 2 ≤ f.at → IsPlacedVlan hs i f
     → new ≡ overwritten old (f.at - 2) (spelled 2 t) → Walk start old hs e → SetsTpid start old hs e i t new
 is_retyped start old new hs e i t f ok announces le p bytes walk =
-    retyped_last start old new hs e i t f.at (vlan_view f.tag) p.front p.later ok (last_of p.front) announces le
-    p.begins p.found bytes walk
+    search (rules, retyped_last, last_of)

@@ -5,7 +5,7 @@ use Rattle.std.proofs.lemmas.Bool.{cases_lt}
 use Rattle.std.proofs.lemmas.List.{append-nil, length-append, length-take, take-append-drop}
 use Rattle.etherparse.specs.Bytes.{IsBytes}
 use Rattle.etherparse.specs.Header.{Header, kind_of}
-use Rattle.etherparse.specs.Refusal.{Refusal, Length, UnsupportedPacketType, UnsupportedHardwareType, UnexpectedVersion, InvalidShortLen}
+use Rattle.etherparse.specs.Refusal.{Refusal, Length}
 use Rattle.ether_peel.specs.Grammar.Window.{Window, within}
 use Rattle.ether_peel.specs.Grammar.Expectation.{Expectation, has_fcs}
 use Rattle.ether_peel.specs.Grammar.Stack.{Ending, Accepted, Fault, last_window, last_expected, Stack, whole, Walk}
@@ -87,8 +87,7 @@ least_snap start list hs e ok h t =
 
 pub snaps_at : (p : PacketSlice) (n : ℕ) → n ≡ reach 0 (packet_headers p) → SnapsAt p n
 snaps_at p n is start list ok h packet =
-    subst (IsLeastSnap start list (packet_headers p)) (sym is)
-    (least_snap start list (packet_headers p) packet.ending ok h packet.walk)
+    search (rules, least_snap)
 
 -- ---- faults
 

@@ -64,9 +64,9 @@ captured_typed s later false is =
 
 typed_or_not : (hs : List Header) → HasTyped hs ⊎ ((error : TagError) × RefusesTyped hs error)
 typed_or_not (headers.Ethernet2 e ∷ later) =
-    search (rules)
+    search rules
 typed_or_not (headers.Ethernet2Fcs e ∷ later) =
-    search (rules)
+    search rules
 typed_or_not (headers.LinuxSll s ∷ later) = captured_typed s later (s.hardware_type == 1) refl
 typed_or_not hs = inr (errors.NoLink, no_link refl)
 

@@ -178,7 +178,7 @@ captured_next : (s : LinuxSllValue) (t : ℕ) (b : Bool) → (s.hardware_type ==
     → after_capture s.hardware_type s.protocol ≡ EtherType s.protocol → after_capture s.hardware_type t ≡ EtherType t
 captured_next s t true e typed = λ i. if e i then EtherType t else Sll (link_protocol_of s.hardware_type t)
 captured_next s t false e typed =
-    search (rules)
+    search rules
 
 -- with another type, the header of a link announces by it as before
 pub announces_kept : (h : Header) (t : ℕ) → is_link (kind_of h) ≡ true → next_after h ≡ EtherType (type_of_link h)
@@ -230,7 +230,7 @@ other_kind false false e = absurd cc
 pub announced_vlan : (t : ℕ) → is_vlan_ether_type t ≡ true
     → announced (record { next = EtherType t; limit = None }) ≡ Some kinds.Vlan
 announced_vlan t is =
-    search (rules)
+    search rules
 
 pub announced_other : (t : ℕ) → is_vlan_ether_type t ≡ false
     → announced (record { next = EtherType t; limit = None }) ≡ Some kinds.Vlan → ⊥
@@ -277,8 +277,7 @@ pub unit_there : (list : List ℕ) (x : Expectation) (w : Window) (kind : Kind) 
     → announced x ≡ Some kind → Accepts w.bound (within list w) kind → Stack list x w hs e → HasUnit list x w kind hs e
 unit_there list x w kind [] (Accepted v y) a accepted s = absurd (never kind (announced x) s.2 a)
 unit_there list x w kind [] (Fault v y r) a accepted s =
-    let same = same_kind s.2 kind (announced x) s.3 a in
-    absurd (accepted r (subst (λ (k : Kind). Refuses w.bound (within list w) k r) same s.4))
+    search (rules, same_kind)
 unit_there list x w kind (h ∷ hs) e a accepted s =
     search (rules, same_kind)
 
@@ -288,8 +287,7 @@ pub no_unit_there : (list : List ℕ) (x : Expectation) (w : Window) (kind : Kin
     → announced x ≡ Some kind → Refuses w.bound (within list w) kind r → Stack list x w hs e → hs ≡ []
 no_unit_there list x w kind r [] e a row s = refl
 no_unit_there list x w kind r (h ∷ hs) e a row s =
-    let same = same_kind kind (kind_of h) (announced x) a s.0.announced in
-    absurd (s.0.accepted r (subst (λ (k : Kind). Refuses w.bound (within list w) k r) same row))
+    search (rules, same_kind)
 
 -- ---- the header that a list begins with
 

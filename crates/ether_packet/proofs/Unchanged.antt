@@ -120,8 +120,7 @@ content_parts (contents.Arp packet) = sym (append-nil _ ∙ append-nil _)
 all_front : (p : PacketBuilder) (i : ℕ) → length p.link_exts.now ≤ i
     → front p i ++ content_headers p.content ≡ given_headers p
 all_front p i over =
-    ap (λ (l : List LinkExtHeader). link_header p.link ∷ views l ++ content_headers p.content)
-    (take_all i p.link_exts.now over)
+    search (rules, views, take_all)
 
 last_later : (p : PacketBuilder) (i : ℕ) → length p.link_exts.now ≤ i
     → packet_len p ≡ place 0 (front p i) + content_len p.content

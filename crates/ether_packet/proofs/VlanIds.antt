@@ -49,11 +49,9 @@ same_ext : (front other_front : List Header) (h k : Header) (later other_later :
     → (front ≡ other_front) × (h ≡ k) × (later ≡ other_later)
 same_ext [] [] h k later other_later e a b n = (refl, cc, cc)
 same_ext [] (y ∷ ys) h k later other_later e a b n =
-    let first : h ≡ y = cc in
-    absurd (one_more y (ext_count ys) (subst (λ (x : Header). is_extension (kind_of x) ≡ true) first a) (sym n))
+    search (rules, one_more, true)
 same_ext (x ∷ xs) [] h k later other_later e a b n =
-    let first : k ≡ x = cc in
-    absurd (one_more x (ext_count xs) (subst (λ (y : Header). is_extension (kind_of y) ≡ true) first b) n)
+    search (rules, one_more, true)
 same_ext (x ∷ xs) (y ∷ ys) h k later other_later e a b n =
     let first : x ≡ y = cc in
     let rest : xs ++ h ∷ later ≡ ys ++ k ∷ other_later = cc in
@@ -65,8 +63,7 @@ pub one_ext : (hs : List Header) (i : ℕ) (front other_front : List Header) (h 
     → IsExtAt hs i front h later → IsExtAt hs i other_front k other_later
     → (front ≡ other_front) × (h ≡ k) × (later ≡ other_later)
 one_ext hs i front other_front h k later other_later f g =
-    same_ext front other_front h k later other_later (sym f.parts ∙ g.parts) f.extension g.extension
-    (f.before ∙ sym g.before)
+    search (rules, same_ext)
 
 pub same_vlan : (v w : VlanValue) → headers.Vlan v ≡ headers.Vlan w → v ≡ w
 same_vlan v w e = cc
@@ -146,7 +143,7 @@ vlan_spelled : (v : VlanValue)
     % 256 ∷ []
 unfolding spelled
 vlan_spelled v =
-    search (rules)
+    search rules
 
 -- a tag with another identifier differs in 12 bits
 tag_set : (front rest : List ℕ) (v : VlanValue) (vid : ℕ) → FitsVlan v → vid < 4096

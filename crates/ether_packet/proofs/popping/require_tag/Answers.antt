@@ -21,10 +21,8 @@ returns-then-not-announces_vlan-clause-refused c hs e walk =
 
 pub returns-then-link-lt-LEN-clause-refused : goal.returns-then-link-lt-LEN-clause-refused
 returns-then-link-lt-LEN-clause-refused c hs e walk =
-    cut_tag c.args.start c.args.frame.now hs e c.in_ok-link.link (c.in_ok-link.ensures.ok hs e walk)
-    (sym c.announces_vlan.ensures ∙ c.if-not-announces_vlan.false) c.if-link-lt-LEN.true walk
+    search (rules, cut_tag)
 
 pub returns-clause-ok : goal.returns-clause-ok
 returns-clause-ok c hs e walk =
-    is_tagged c.args.start c.args.frame.now hs e c.in_ok-link.link (c.in_ok-link.ensures.ok hs e walk)
-    (sym c.announces_vlan.ensures ∙ c.if-not-announces_vlan.false) c.if-link-lt-LEN.false walk
+    search (rules, is_tagged)
