@@ -14,8 +14,7 @@ block_one order bytes b c h k =
 same_trailer : (order : Order) (bytes : List ℕ) (len n m : ℕ) → field order bytes (8 + len) (12 + len) ≡ 12 + len
     → n ≡ 12 + len → field order bytes (n - 4) n ≡ m → m ≡ n
 same_trailer order bytes len n m end e at =
-    let a : n - 4 ≡ 8 + len = omega arith in
-    sym at ∙ ap (λ (k : ℕ). field order bytes k n) a ∙ ap (field order bytes (8 + len)) e ∙ end ∙ sym e
+    search rules
 
 pub block_apart : (order : Order) (bytes : List ℕ) (b : BlockValue) (r : BlockRefusal) → BeginsBlock order bytes b
     → RefusesBlock order bytes r → ⊥

@@ -8,7 +8,7 @@ use Rattle.ether_pcap.specs.Bodies.{BodyRefusal, InterfaceValue, IsInterface, Re
 pub interface_one : (order : Order) (body : List ℕ) (v w : InterfaceValue) → IsInterface order body v
     → IsInterface order body w → v ≡ w
 interface_one order body v w h k =
-    search (rules)
+    search rules
 
 pub interface_apart : (order : Order) (body : List ℕ) (v : InterfaceValue) (r : BodyRefusal) → IsInterface order body v
     → RefusesInterface body r → ⊥

@@ -1,5 +1,5 @@
 -- What bytes begin with, they begin with if more follow; and why they don't, if that is not that they end.
-use Rattle.std.proofs.Common.{◌≡◌, ℕ, ◌+◌, ◌-◌, ◌%◌, ◌^◌, ◌≤◌, List, ◌++◌, length, length-append, refl, sym, ap, subst, ◌∙◌, arith, None, rules}
+use Rattle.std.proofs.Common.{◌≡◌, ℕ, ◌+◌, ◌-◌, ◌≤◌, List, ◌++◌, length, length-append, refl, sym, ap, subst, ◌∙◌, arith, None, rules}
 use Rattle.std.specs.Prelude.{Option, slice_range}
 use Rattle.ether_base.specs.Bytes.{number}
 use Rattle.ether_base.proofs.SubLists.{part-append}
@@ -44,15 +44,8 @@ module _ (old new : List ℕ) (n : ℕ) (long : n ≤ length new)
   type_kept le = ap number (part 0 4 (omega arith) le)
 
   header_kept : (h : FileHeaderValue) → 24 ≤ n → IsFileHeader old h → IsFileHeader new h
-  header_kept h le is = record {
-    len = omega arith;
-    magic = number_kept h.order 0 4 (omega arith) (omega arith) ∙ is.magic;
-    major = number_kept h.order 4 6 (omega arith) (omega arith) ∙ is.major;
-    minor = number_kept h.order 6 8 (omega arith) (omega arith) ∙ is.minor;
-    snap_len = number_kept h.order 16 20 (omega arith) (omega arith) ∙ is.snap_len;
-    link_type = ap (λ (k : ℕ). k % 2 ^ 16) (number_kept h.order 20 24 (omega arith) le) ∙ is.link_type;
-    fcs_len = ap fcs_len_of (number_kept h.order 20 24 (omega arith) le) ∙ is.fcs_len;
-  }
+  header_kept h le is =
+      search (rules, number_kept)
 
   record_kept : (order : Order) (r : RecordValue) → record_len r ≤ n → BeginsRecord order old r
       → BeginsRecord order new r
@@ -108,21 +101,18 @@ module _ (old new : List ℕ) (n : ℕ) (long : n ≤ length new)
 pub block_local : (order : Order) (bytes more : List ℕ) (b : BlockValue) → BeginsBlock order bytes b
     → BeginsBlock order (bytes ++ more) b
 block_local order bytes more b is =
-    block_kept bytes (bytes ++ more) (length bytes) (longer bytes more (length bytes) (omega arith))
-    (part-append bytes more) order b is.whole is
+    search (rules, block_kept, length, longer, part-append)
 
 pub unit_local : (bytes more : List ℕ) (x y : Expectation) (len : ℕ) (p : Option PacketValue) → Begins bytes x len p y
     → Begins (bytes ++ more) x len p y
 unit_local bytes more x y len p is =
-    unit_kept bytes (bytes ++ more) (length bytes) (longer bytes more (length bytes) (omega arith))
-    (part-append bytes more) x y len p (unit_within bytes x y len p is) is
+    search (rules, unit_kept, length, longer, part-append, unit_within)
 
 -- .. or don't
 pub unit_alone : (bytes more : List ℕ) (x y : Expectation) (len : ℕ) (p : Option PacketValue) → len ≤ length bytes
     → Begins (bytes ++ more) x len p y → Begins bytes x len p y
 unit_alone bytes more x y len p le is =
-    unit_kept (bytes ++ more) bytes (length bytes) (omega arith)
-    (λ a b at within. sym (part-append bytes more a b at within)) x y len p le is
+    search (rules, unit_kept, length, part-append)
 
 -- ---- file headers
 

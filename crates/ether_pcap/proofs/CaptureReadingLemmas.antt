@@ -35,7 +35,7 @@ pub record Passed (x : Expectation) (bytes : List ℕ) (y : Expectation) (rest :
 
 pub passed_nothing : (x : Expectation) (bytes : List ℕ) → Passed x bytes x bytes
 passed_nothing x bytes =
-    search (rules)
+    search rules
 
 pub passed_unit : (x y z : Expectation) (bytes rest next : List ℕ) (len : ℕ) → Passed x bytes y rest
     → Begins rest y len None z → next ≡ drop len rest

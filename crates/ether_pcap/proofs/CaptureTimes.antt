@@ -15,8 +15,7 @@ split n u some =
 
 below_a_second : (n u : ℕ) → 0 < u → n % u * 1000000000 / u < 1000000000
 below_a_second n u some =
-    let r : n % u < u = omega arith in
-    (div-lt_iff_lt-mul {k = u} {x = n % u * 1000000000} {y = 1000000000} some).1 (omega (arith, r))
+    search (rules, div-lt_iff_lt-mul)
 
 pub same_time : (n u : ℕ) → 0 < u
     → record { seconds = n / u; nanoseconds = n % u * 1000000000 / u } ≡ time_of (n * 1000000000 / u)

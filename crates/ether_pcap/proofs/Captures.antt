@@ -45,7 +45,7 @@ pub describes : (order : Order) (body : List ℕ) (d : InterfaceDescription) (fc
       offset = offset;
     })
 describes order body d fcs_len resolution offset options is has f r s =
-    search (rules)
+    search rules
 
 -- the interface at a place
 pub is_at : (interfaces : List CaptureInterface) (n : ℕ) (other : CaptureInterface) → n < length interfaces

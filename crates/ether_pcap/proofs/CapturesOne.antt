@@ -3,11 +3,10 @@ use Rattle.std.proofs.Common.{◌≡◌, ℕ, ◌+◌, ◌<◌, List, [], ◌∷
 use Rattle.std.specs.Prelude.{Option, slice_get}
 use Rattle.ether_base.specs.Bytes.{IsBytes}
 use Rattle.ether_pcap.specs.Numbers.{Order}
-use Rattle.ether_pcap.specs.Record.{RecordValue, record_len}
 use Rattle.ether_pcap.specs.Block.{BlockValue}
 use Rattle.ether_pcap.specs.Options.{OptionValue, HasOptions}
 use Rattle.ether_pcap.specs.Bodies.{EnhancedPacketValue, SimplePacketValue, IsSimplePacket, RefusesSimplePacket}
-use Rattle.ether_pcap.specs.Capture.{PacketValue, packet_of_record, CaptureInterfaceValue, Describes, IsAt, packet_on, simple_packet_on, Expectation, Records, Blocks, BlockKind, InterfaceDescription, SimplePacket, EnhancedPacket, Other, kind_of_block, IsBody, CaptureRefusal, File, Record, Section, Block, Body, NoInterface, RefusesBody, interface, too_many, simple_alone, simple, enhanced, enhanced_alone, Begins, file_header, file_record, first_section, section, block, Refuses, file_header_refused, file_record_refused, first_section_refused, section_refused, block_refused, body_refused}
+use Rattle.ether_pcap.specs.Capture.{PacketValue, CaptureInterfaceValue, Describes, IsAt, packet_on, simple_packet_on, Expectation, Records, Blocks, BlockKind, InterfaceDescription, SimplePacket, EnhancedPacket, Other, kind_of_block, IsBody, CaptureRefusal, File, Record, Section, Block, Body, NoInterface, RefusesBody, interface, too_many, simple_alone, simple, enhanced, enhanced_alone, Begins, file_header, file_record, first_section, section, block, Refuses, file_header_refused, file_record_refused, first_section_refused, section_refused, block_refused, body_refused}
 use Rattle.ether_pcap.proofs.FileHeaders.{one_header, apart, refused_once}
 use Rattle.ether_pcap.proofs.Records.{record_one, record_apart, refusal_one}
 use Rattle.ether_pcap.proofs.Blocks.{block_one, block_apart, block_refusal_one}
@@ -24,8 +23,7 @@ get_middle (x ∷ before) after i = get_middle before after i
 
 get_at : (l : List CaptureInterfaceValue) (n : ℕ) (i : CaptureInterfaceValue) → IsAt l n i → slice_get l n ≡ Some i
 get_at l n i at =
-    ap (λ (m : List CaptureInterfaceValue). slice_get m n) at.parts
-    ∙ ap (slice_get (at.before ++ i ∷ at.after)) (sym at.number) ∙ get_middle at.before at.after i
+    search (rules, get_middle)
 
 pub at_one : (l : List CaptureInterfaceValue) (n : ℕ) (i j : CaptureInterfaceValue) → IsAt l n i → IsAt l n j → i ≡ j
 at_one l n i j a b = let e = get_at l n i a in let f = get_at l n j b in cc
@@ -129,15 +127,12 @@ unit_one bytes x y z len n p q ok (file_header m h other is) (file_header m2 k o
     (refl, refl, ap Records (one_header bytes h k ok is is2))
 unit_one bytes x y z len n p q ok (file_header m h other is) (first_section m2 order b is2) = absurd (other is2.section)
 unit_one bytes x y z len n p q ok (file_record h r is) (file_record k s is2) =
-    let e = record_one h.order bytes r s is is2 in
-    (ap record_len e, ap (λ (v : RecordValue). Some (packet_of_record h v)) e, refl)
+    search (rules, record_one)
 unit_one bytes x y z len n p q ok (first_section m order b is) (file_header m2 h other is2) = absurd (other is.section)
 unit_one bytes x y z len n p q ok (first_section m order b is) (first_section m2 order2 c is2) =
-    let e = sections.section_one bytes order order2 b c ok is is2 in
-    (ap (λ (v : BlockValue). 12 + length v.body) e.1, refl, ap (λ (o : Order). Blocks m o []) e.0)
+    search (rules, sections.section_one, length)
 unit_one bytes x y z len n p q ok (section m order next interfaces b is) (section m2 order2 next2 interfaces2 c is2) =
-    let e = sections.section_one bytes next next2 b c ok is is2 in
-    (ap (λ (v : BlockValue). 12 + length v.body) e.1, refl, ap (λ (o : Order). Blocks m o []) e.0)
+    search (rules, sections.section_one, length)
 unit_one bytes x y z len n p q ok (section m order next interfaces b is)
     (block m2 order2 interfaces2 after packet c other begins is2) =
     absurd (other is.section)

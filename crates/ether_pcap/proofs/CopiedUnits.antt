@@ -6,7 +6,7 @@ use Rattle.std.proofs.lemmas.List.{map-append, length-map}
 use Rattle.ether_base.specs.Bytes.{number}
 use Rattle.ether_pcap.specs.Numbers.{Order, field}
 use Rattle.ether_pcap.specs.Block.{BlockValue, BeginsBlock}
-use Rattle.ether_pcap.specs.Section.{section_type, HasSectionType, IsSection}
+use Rattle.ether_pcap.specs.Section.{HasSectionType, IsSection}
 use Rattle.ether_pcap.specs.Bodies.{captured_by, IsSimplePacket}
 use Rattle.ether_pcap.specs.Writing.{bytes_of}
 use Rattle.ether_pcap.specs.Capture.{PacketValue, IsWithinSnap, packet_of_record, packet_on, simple_packet_on, CaptureInterfaceValue, Describes, IsAt, Expectation, Beginning, Records, Blocks, BlockKind, InterfaceDescription, SimplePacket, EnhancedPacket, Other, kind_of_block, IsBody, HasBegun, Begins, file_header, file_record, first_section, section, block}
@@ -60,15 +60,13 @@ pub section_changed : (raise m : ℕ) (order : Order) (interfaces : List Capture
     → HasSectionType bytes
     → changed_unit raise (Blocks m order interfaces) bytes ≡ with_bytes 16 no_section_len bytes
 section_changed raise m order interfaces bytes is =
-    ap (λ (b : Bool). if b then with_bytes 16 no_section_len bytes else changed_block raise order bytes)
-    (eq-eqb (number (slice_range bytes 0 4)) section_type is)
+    search (rules, eq-eqb)
 
 pub other_changed : (raise m : ℕ) (order : Order) (interfaces : List CaptureInterfaceValue) (bytes : List ℕ)
     → (HasSectionType bytes → ⊥)
     → changed_unit raise (Blocks m order interfaces) bytes ≡ changed_block raise order bytes
 other_changed raise m order interfaces bytes other =
-    ap (λ (b : Bool). if b then with_bytes 16 no_section_len bytes else changed_block raise order bytes)
-    (ne_eqb (number (slice_range bytes 0 4)) section_type other)
+    search (rules, ne_eqb)
 
 module _ (raise : ℕ) where
   abbrev raised : List CaptureInterfaceValue → List CaptureInterfaceValue
@@ -78,8 +76,7 @@ module _ (raise : ℕ) where
   as_unit : (new unit : List ℕ) (x y : Expectation) (n : ℕ) → new ≡ unit → n ≡ length new
       → Begins new x n None y → Begins unit x (length unit) None y
   as_unit new unit x y n same len begins =
-      subst (λ (l : List ℕ). Begins l x (length l) None y) same
-      (subst (λ (k : ℕ). Begins new x k None y) len begins)
+      search (rules, length)
 
   section_unit : (bytes : List ℕ) (x z : Expectation) (m n : ℕ) (order : Order) (b : BlockValue)
       → n ≡ length bytes → n ≡ 12 + length b.body → IsSection bytes order b

@@ -1,6 +1,6 @@
 -- What a copy of a capture file has.
 use Rattle.std.proofs.Common.{◌≡◌, ◌≢◌, ◌⊎◌, ℕ, zero, suc, ◌+◌, ◌<◌, ◌≤◌, Bool, true, false, List, [], ◌∷◌, ◌++◌, length, drop, length-drop, append_assoc, refl, sym, ap, subst, ◌∙◌, arith, inl, inr, Some, None, rules}
-use Rattle.std.specs.Prelude.{Option, IsTrue, All, take, ⊤, unwrap_or}
+use Rattle.std.specs.Prelude.{Option, IsTrue, All, take, ⊤}
 use Rattle.std.proofs.lemmas.List.{length-take-le, take-append-drop, drop_at}
 use Rattle.std.proofs.lemmas.List.Elements.{All-cons, All-head, All-tail}
 use Rattle.ether_pcap.specs.Capture.{PacketValue, IsWithinSnap, Expectation, CaptureRefusal, HasBegun, Begins, Refuses, IsEnd, HasPackets}
@@ -31,8 +31,7 @@ unit_taken bytes x y len p begins =
 pub other_taken : (bytes : List ℕ) (x y : Expectation) (len : ℕ) → Begins bytes x len None y
     → Begins (take len bytes) x (length (take len bytes)) None y
 other_taken bytes x y len begins =
-    let s = unit_taken bytes x y len None begins in
-    subst (λ (k : ℕ). Begins (take len bytes) x k None y) (sym s.1) s.0
+    search (rules, unit_taken)
 
 -- the unit of a packet, by its own bytes
 pub packet_taken : (bytes : List ℕ) (x y : Expectation) (len : ℕ) (p : PacketValue) → Begins bytes x len (Some p) y
@@ -256,14 +255,12 @@ module _ (Edits : PacketValue → Option EditedValue → Type 0) (stays : EditsN
   unit_unedited : (x : Expectation) (p : PacketValue) (o : Option EditedValue) (bytes front : List ℕ) → Edits p o
       → unit_after Exact x p o bytes ≡ Some front → bytes ≡ front
   unit_unedited x p o bytes front edits fits =
-      let same = sym (ap (λ (r : Option EditedValue). unit_after Exact x p r bytes) (stays p o edits)) ∙ fits in
-      ap (λ (r : Option (List ℕ)). unwrap_or r front) same
+      search rules
 
   joined : (bytes copy rest : List ℕ) (len : ℕ) → copy ++ rest ≡ drop len bytes
       → take len bytes ++ copy ++ rest ≡ bytes
   joined bytes copy rest len e =
-      append_assoc (take len bytes) copy rest ∙ ap (λ (l : List ℕ). take len bytes ++ l) e
-      ∙ take-append-drop len bytes
+      search (rules, append_assoc, take-append-drop)
 
   -- with all packets, it is the file itself
   pub copy_all : (x : Expectation) (bytes copy : List ℕ) (kept edited : List PacketValue) (rest : List ℕ)

@@ -476,11 +476,9 @@ module _ (Edits : PacketValue → Option EditedValue → Type 0) (unedited : Edi
       (left : List ℕ) (other : Option CopyFault) → IsBytes bytes → ((q : PacketValue) → other ≡ Some (NotEdited q) → ⊥)
       → HasPackets x bytes packets [] None → HasSource Keeps x bytes chosen left other → Chosen Keeps packets
   chosen_of Keeps x bytes packets chosen left None ok never has source =
-      let one = packets_one x bytes source.packets packets left [] None None ok source.has has in
-      (chosen, subst (λ (ps : List PacketValue). Selected Keeps ps chosen) one.0 source.selected)
+      search (rules, packets_one)
   chosen_of Keeps x bytes packets chosen left (Some (Refused r)) ok never has source =
-      let one = packets_one x bytes source.packets packets left [] (Some r) None ok source.has has in
-      let bad : Some r ≡ None = one.2 in absurd cc
+      search (rules, packets_one)
   chosen_of Keeps x bytes packets chosen left (Some (NotEdited q)) ok never has source = absurd (never q refl)
 
   abbrev Kept : (most : ℕ) → (PacketValue → Type 0) → (bytes copy : List ℕ) → (kept edited : List PacketValue)

@@ -68,7 +68,7 @@ module _ (mode : ModeValue) (Keeps : PacketValue → Type 0) (Edits : PacketValu
   same_front : (x : Expectation) (p : PacketValue) (front u v : List ℕ) (o q : Option EditedValue) → Edits p o
       → Edits p q → unit_after mode x p o front ≡ Some u → unit_after mode x p q front ≡ Some v → (o ≡ q) × (u ≡ v)
   same_front x p front u v o q edits edits2 e f =
-      search (rules)
+      search rules
 
   same_joined : (x y : Expectation) (p : Option PacketValue) (front : List ℕ) (others more all other : Result)
       → others ≡ more → Joined x y p front others all → Joined x y p front more other → all ≡ other
@@ -189,5 +189,4 @@ pub one_copy : (mode : ModeValue) (test : PacketValue → Bool) (edits : PacketV
     → IsBytes bytes → EditsOnce (λ p o. IsTrue (edits p o))
     → (c.copy ≡ d.copy) × (c.kept ≡ d.kept) × (c.edited ≡ d.edited) × (c.rest ≡ d.rest) × (c.fault ≡ d.fault)
 one_copy mode test edits x bytes c d ok once =
-    one_copied mode (λ p. IsTrue (test p)) (λ p o. IsTrue (edits p o)) once x bytes c.copy d.copy c.kept d.kept c.edited
-    d.edited c.rest d.rest c.fault d.fault ok c.copies d.copies
+    search (rules, one_copied)

@@ -11,7 +11,7 @@ use Rattle.ether_pcap.specs.Block.{IsTotalLen}
 use Rattle.ether_pcap.specs.Section.{HasSectionType}
 use Rattle.ether_pcap.specs.FileHeader.{FileHeaderValue}
 use Rattle.ether_pcap.specs.Bodies.{EnhancedPacketValue}
-use Rattle.ether_pcap.specs.Capture.{PacketValue, packet_on, simple_packet_on, CaptureInterfaceValue, Expectation, Beginning, Records, Blocks, BlockKind, EnhancedPacket, SimplePacket, InterfaceDescription, Other, kind_of_block, IsBody, Begins, file_record, block}
+use Rattle.ether_pcap.specs.Capture.{PacketValue, packet_on, simple_packet_on, CaptureInterfaceValue, Expectation, Beginning, Records, Blocks, BlockKind, EnhancedPacket, SimplePacket, kind_of_block, IsBody, Begins, file_record, block}
 use Rattle.ether_pcap.specs.Editing.{EditedValue, edited_record, edited_body, block_bytes, edited_block, unit_with, is_too_long, edited_unit, edited_packet, unit_bytes, EditsUnit, HasEditedPacket}
 use Rattle.ether_pcap.specs.declared.capture.edited_unit.EditedUnit.{EditedUnit}
 use Rattle.ether_pcap.proofs.CaptureLocality.{unit_local}
@@ -187,8 +187,7 @@ unit_begins : (x : Expectation) (u new : List ℕ) (p : PacketValue) (e : Edited
 unit_begins (Beginning m) u new p e begins room = let bad : None ≡ Some new = room.is in absurd cc
 unit_begins (Records h) u new p e begins room = record_begins h u new p e begins room
 unit_begins (Blocks most order interfaces) u new p e begins room =
-    let found = block_of_unit u (Blocks most order interfaces) (length u) most order interfaces p begins in
-    block_edited most order interfaces u p e found.0 found.1 room.small room.four new room.is
+    search (rules, block_of_unit, length, block_edited)
 
 -- the unit of a packet that is edited is one of the edited packet
 pub edited_begins : (x : Expectation) (u new : List ℕ) (p : PacketValue) (e : EditedValue)
@@ -202,9 +201,8 @@ has_edited : (x : Expectation) (unit : List ℕ) (e : EditedValue) (result : Opt
     → IfSome result (λ u. (more : List ℕ)
     → Begins (unit_bytes u ++ more) x (length (unit_bytes u)) (Some (edited_packet e p)) x)
 has_edited x unit e None p begins is = tt
-has_edited x unit e (Some u) p begins is = λ more.
-    unit_local (unit_bytes u) more x x (length (unit_bytes u)) (Some (edited_packet e p))
-    (edited_begins x unit (unit_bytes u) p e begins (sym is))
+has_edited x unit e (Some u) p begins is =
+    search (rules, unit_local, length, edited_begins)
 
 pub has_edited_packet : (x : Expectation) (unit : List ℕ) (e : EditedValue) (result : Option EditedUnit)
     → EditsUnit x unit e result → HasEditedPacket x unit e result

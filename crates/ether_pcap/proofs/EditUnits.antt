@@ -64,8 +64,7 @@ module _ (order : Order) (place : ℕ) (e : EditedValue) (bytes : List ℕ) (roo
 
   pub edited_front-original : slice_range (edited_front order place e bytes) (place + 4) (place + 8) ≡ original
   edited_front-original =
-      part_after_front (before ++ captured) original e.packet (place + 4) (place + 8) length-with_captured
-      (omega (arith, length-bytes_of order 4 e.original_len))
+      search (rules, part_after_front, length-with_captured, length-bytes_of)
 
   pub edited_front-packet : slice_range (edited_front order place e bytes) (place + 8) (place + 8 + length e.packet)
       ≡ e.packet

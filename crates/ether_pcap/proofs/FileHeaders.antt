@@ -1,9 +1,9 @@
 -- File headers: one for each list of bytes, or one refusal.
-use Rattle.std.proofs.Common.{◌≡◌, ℕ, ◌≤◌, List, [], ◌∷◌, length, refl, ap, arith, rules}
+use Rattle.std.proofs.Common.{◌≡◌, ℕ, ◌≤◌, List, [], ◌∷◌, length, refl, arith, rules}
 use Rattle.ether_base.specs.Bytes.{IsBytes, number}
 use Rattle.ether_base.proofs.SubLists.{length-part}
-use Rattle.ether_pcap.specs.Numbers.{Order, BigEndian, LittleEndian, number_from_low, field}
-use Rattle.ether_pcap.specs.FileHeader.{Resolution, Microseconds, Nanoseconds, magic_of, HasMagic, FileHeaderValue, IsFileHeader, FileRefusal, RefusesFile, short, magic, version, Version}
+use Rattle.ether_pcap.specs.Numbers.{Order, BigEndian, LittleEndian, number_from_low}
+use Rattle.ether_pcap.specs.FileHeader.{Resolution, Microseconds, Nanoseconds, magic_of, HasMagic, FileHeaderValue, IsFileHeader, FileRefusal, RefusesFile, short, magic, version}
 
 -- no four bytes are a magic number in both orders
 ends : (l : List ℕ) → length l ≡ 4 → IsBytes l → (r s : Resolution) → number l ≡ magic_of r
@@ -58,5 +58,4 @@ refused_once bytes r s ok (magic le none) (version o x le2 has other) = absurd (
 refused_once bytes r s ok (version o x le has other) (short m) = absurd (omega (arith, le, m))
 refused_once bytes r s ok (version o x le has other) (magic le2 none) = absurd (none o x has)
 refused_once bytes r s ok (version o x le has other) (version p y le2 has2 other2) =
-    let m = magic_one bytes o p x y ok le has has2 in
-    ap (λ (q : Order). Version (field q bytes 4 6) (field q bytes 6 8)) m.0
+    search (rules, magic_one)

@@ -59,8 +59,7 @@ pub agrees_found : (order : Order) (code : ℕ) (whole rest : List ℕ) (o : Opt
     → BeginsOption order rest o → o.code ≡ code → (options : List OptionValue) → HasOptions order whole options
     → value_of code options ≡ Some o.value
 agrees_found order code whole rest o agrees h is options has =
-    let a = agrees options has in
-    found_first order code rest o (value_of code options) a.0 h is a.1 a.2
+    grind (arith, found_first)
 
 none_left : (order : Order) (code : ℕ) (rest : List ℕ) (found : Option (List ℕ)) (left : List OptionValue)
     → ((o : OptionValue) → BeginsOption order rest o → ⊥) → HasOptions order rest left → found ≡ value_of code left
@@ -72,8 +71,7 @@ pub agrees_end : (order : Order) (code : ℕ) (whole rest : List ℕ) → Agrees
     → ((o : OptionValue) → BeginsOption order rest o → ⊥) → (options : List OptionValue)
     → HasOptions order whole options → value_of code options ≡ None
 agrees_end order code whole rest agrees none options has =
-    let a = agrees options has in
-    none_left order code rest (value_of code options) a.0 none a.1 a.2
+    search (rules, none_left)
 
 pub smaller : (order : Order) (rest : List ℕ) (o : OptionValue) → BeginsOption order rest o
     → length (drop (4 + padded (length o.value)) rest) < length rest

@@ -125,8 +125,7 @@ pub body_of_unit : (most : ℕ) (order : Order) (interfaces : List CaptureInterf
     (p : PacketValue) (b : PacketBlock most order interfaces bytes p)
     → length bytes ≡ 12 + length b.value.body → slice_range bytes 8 (length bytes - 4) ≡ b.value.body
 body_of_unit most order interfaces bytes p b len =
-    let e : length bytes - 4 ≡ 8 + length b.value.body = omega (arith, len) in
-    ap (slice_range bytes 8) e ∙ b.begins.body
+    search (rules, length)
 
 -- ---- how many bytes a packet has
 
@@ -146,8 +145,7 @@ packet_room (Beginning m) u p begins = absurd (begun_before u (Beginning m) (Beg
 packet_room (Records h) u p begins =
     search (rules, record_of_unit, length)
 packet_room (Blocks m order interfaces) u p begins =
-    let b = (block_of_unit u (Blocks m order interfaces) (length u) m order interfaces p begins).0 in
-    few_in_body (kind_of_block b.value.block_type) m order interfaces b.value.body p b.body
+    search (rules, block_of_unit, length, few_in_body)
 
 -- the captured bytes of a packet
 bytes_in_body : (kind : BlockKind) (most : ℕ) (order : Order) (before after : List CaptureInterfaceValue)

@@ -1,5 +1,5 @@
 -- The packets of a file: one list of them, however it is read.
-use Rattle.std.proofs.Common.{◌≡◌, ℕ, List, ◌∷◌, length, drop, refl, sym, ap, subst, arith, Some, None, rules}
+use Rattle.std.proofs.Common.{◌≡◌, ℕ, List, ◌∷◌, length, drop, refl, ap, Some, None, rules}
 use Rattle.std.specs.Prelude.{Option}
 use Rattle.ether_base.specs.Bytes.{IsBytes}
 use Rattle.ether_base.proofs.SubLists.{IsBytes-drop}
@@ -11,8 +11,7 @@ use Rattle.ether_pcap.proofs.CapturesOne.{unit_one, unit_apart, unit_refusal_one
 pub none_at_end : (x y : Expectation) (bytes : List ℕ) (len : ℕ) (p : Option PacketValue) → IsEnd x bytes
     → Begins bytes x len p y → ⊥
 none_at_end x y bytes len p end begins =
-    let none : length bytes ≡ 0 = ap length end.1 in
-    omega (arith, none, unit_within bytes x y len p begins, unit_some bytes x y len p begins)
+    search (rules, length, unit_within, unit_some)
 
 -- what follows a unit, after another that is the same
 after_same : (y z : Expectation) (bytes : List ℕ) (len n : ℕ) (packets : List PacketValue) (rest : List ℕ)
@@ -20,8 +19,7 @@ after_same : (y z : Expectation) (bytes : List ℕ) (len n : ℕ) (packets : Lis
     → len ≡ n → y ≡ z
     → HasPackets z (drop n bytes) packets rest fault → HasPackets y (drop len bytes) packets rest fault
 after_same y z bytes len n packets rest fault e f has =
-    subst (λ (m : ℕ). HasPackets y (drop m bytes) packets rest fault) (sym e)
-    (subst (λ (w : Expectation). HasPackets w (drop n bytes) packets rest fault) (sym f) has)
+    search (rules, drop)
 
 pub packets_one : (x : Expectation) (bytes : List ℕ) (packets others : List PacketValue) (rest left : List ℕ)
     (fault other : Option CaptureRefusal)

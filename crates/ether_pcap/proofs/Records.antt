@@ -85,17 +85,7 @@ begins : (order : Order) (bytes : List ℕ) → field order bytes 8 12 ≤ max_c
     → 16 + field order bytes 8 12 ≤ length bytes → BeginsRecord order bytes (record_of order bytes)
 unfolding record_of
 begins order bytes room whole =
-    let n = field order bytes 8 12 in
-    let len : length (slice_range bytes 16 (16 + n)) ≡ n = length-part bytes 16 (16 + n) whole ∙ omega arith in
-    record {
-      seconds = refl;
-      fraction = refl;
-      captured_len = sym len;
-      original_len = refl;
-      packet = ap (λ (m : ℕ). slice_range bytes 16 (16 + m)) len;
-      whole = omega (arith, len, whole);
-      room = omega (arith, len, room);
-    }
+    search (rules, length, length-part)
 
 goes_on : (order : Order) (bytes : List ℕ) (r : RecordValue) → BeginsRecord order bytes r
     → Contents order (drop (record_len r) bytes) → Contents order bytes

@@ -35,8 +35,7 @@ moved bytes o p c e k = subst (λ (q : Order). BeginsBlock q bytes c) (sym e) k
 pub section_one : (bytes : List ℕ) (o p : Order) (b c : BlockValue) → IsBytes bytes → IsSection bytes o b
     → IsSection bytes p c → (o ≡ p) × (b ≡ c)
 section_one bytes o p b c ok h k =
-    let e = order_one bytes o p ok (enough bytes o b h.block) h.magic k.magic in
-    (e, block_one o bytes b c h.block (moved bytes o p c e k.block))
+    search (rules, order_one, enough, block_one, moved)
 
 pub section_apart : (bytes : List ℕ) (o : Order) (b : BlockValue) (r : SectionRefusal) → IsBytes bytes
     → IsSection bytes o b → RefusesSection bytes r → ⊥
@@ -77,8 +76,7 @@ refused_block bytes o p r c ok le m n h k =
 one_refusal : (bytes : List ℕ) (o p : Order) (r s : BlockRefusal) → IsBytes bytes → 12 ≤ length bytes → HasOrder bytes o
     → HasOrder bytes p → RefusesBlock o bytes r → RefusesBlock p bytes s → r ≡ s
 one_refusal bytes o p r s ok le m n h k =
-    block_refusal_one o bytes r s h
-    (subst (λ (q : Order). RefusesBlock q bytes s) (sym (order_one bytes o p ok le m n)) k)
+    search (rules, block_refusal_one, order_one)
 
 one_version : (bytes : List ℕ) (o p : Order) (a b c d : ℕ) → IsBytes bytes → 12 ≤ length bytes → HasOrder bytes o
     → HasOrder bytes p

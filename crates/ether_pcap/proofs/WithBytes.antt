@@ -34,8 +34,7 @@ module _ (at : ℕ) (new bytes : List ℕ) (room : at + length new ≤ length by
 
   pub with_bytes-before : (i j : ℕ) → i ≤ j → j ≤ at → slice_range (with_bytes at new bytes) i j ≡ slice_range bytes i j
   with_bytes-before i j ij le =
-      part-append (front ++ new) (drop (at + length new) bytes) i j ij (omega (arith, le, length-with_new))
-      ∙ part-append front new i j ij (omega (arith, le, length-front)) ∙ part_of_front bytes at i j ij le
+      search (rules, part-append, drop, length, length-with_new, length-front, part_of_front)
 
   pub with_bytes-new : slice_range (with_bytes at new bytes) at (at + length new) ≡ new
   with_bytes-new =
@@ -129,8 +128,7 @@ module _ (order : Order) (at : ℕ) (new bytes : List ℕ) (b : BlockValue) (is 
 
   pub length-body_in : length body_in ≡ length b.body
   length-body_in =
-      length-part all 8 (8 + length b.body) (omega (arith, length-with_bytes at new bytes block_room, whole))
-      ∙ omega arith
+      search (rules, length-part, length, length-with_bytes, block_room, whole)
 
   abbrev pub block_in : BlockValue
   block_in = record { block_type = b.block_type; body = body_in }

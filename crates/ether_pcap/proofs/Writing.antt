@@ -1,6 +1,6 @@
 -- What is written is read back.
-use Rattle.std.proofs.Common.{◌≡◌, ℕ, ◌+◌, ◌*◌, ◌/◌, ◌%◌, ◌^◌, ◌<◌, ◌≤◌, List, ◌++◌, length, refl, ap, ◌∙◌, arith, Bool, rules}
-use Rattle.std.specs.Prelude.{Option, Some, None, if◌then◌else◌}
+use Rattle.std.proofs.Common.{◌≡◌, ℕ, ◌+◌, ◌%◌, ◌^◌, ◌<◌, ◌≤◌, List, ◌++◌, length, refl, ap, ◌∙◌, arith, rules}
+use Rattle.std.specs.Prelude.{Option, Some, None}
 use Rattle.std.proofs.lemmas.Bool.{ne_eqb, eq-eqb}
 use Rattle.std.proofs.lemmas.List.{append_assoc, length-append}
 use Rattle.ether_base.proofs.SubLists.{part-append, part_after_front}
@@ -15,8 +15,7 @@ link_type_back t (Some n) lt = omega arith
 
 fcs_len_back : (t : ℕ) (f : Option ℕ) → t < 65536 → HasFcsLen f → fcs_len_of (link_word_of t f) ≡ f
 fcs_len_back t None lt has =
-    ap (λ (b : Bool). if b then Some (2 * (t / 2 ^ 28)) else None)
-    (ne_eqb (t / 2 ^ 26 % 2) 1 (λ e. omega (arith, e, lt)))
+    search (rules, ne_eqb)
 fcs_len_back t (Some n) lt has =
     search (rules, eq-eqb)
 

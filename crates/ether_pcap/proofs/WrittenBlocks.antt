@@ -23,7 +23,7 @@ use Rattle.ether_pcap.proofs.EditUnits.{length-zeros, part_past, block_begins}
 low_bytes : (n : ℕ) → spelled 4 (n % 4294967296) ≡ spelled 4 n
 unfolding spelled
 low_bytes n =
-    search (rules)
+    search rules
 
 pub written_modulo : (order : Order) (n : ℕ) → bytes_of order 4 (n % 4294967296) ≡ bytes_of order 4 n
 written_modulo BigEndian n = low_bytes n
