@@ -23,7 +23,7 @@ use Rattle.ether_peel.specs.Grammar.Places.{place}
 use Rattle.ether_peel.specs.Grammar.Stack.{whole}
 use Rattle.ether_peel.proofs.Grammar.Carrying.{led}
 use Rattle.ether_peel.proofs.Grammar.Cleared.{whole_in}
-use Rattle.ether_packet.specs.Building.{vlan_type, own_type, type_of, retyped, before, built, is_unmodified, IsChain, AllFit, expected_after, window_after, BeginsWith}
+use Rattle.ether_packet.specs.Building.{vlan_type, own_type, type_of, retyped, before, built, IsChain, AllFit, expected_after, window_after, BeginsWith}
 use Rattle.ether_packet.proofs.Written.{Fitting, Fits, written}
 use Rattle.ether_packet.proofs.TypedLinks.{announced_vlan}
 
@@ -126,12 +126,7 @@ expecting t = record { next = EtherType t; limit = None }
 
 set_announced : (hs : List Header) → announced (expecting (vlan_type hs)) ≡ Some kinds.Vlan
 set_announced [] = refl
-set_announced (headers.Ethernet2 e ∷ hs) = refl
-set_announced (headers.Ethernet2Fcs e ∷ hs) = refl
-set_announced (headers.LinuxSll s ∷ hs) = refl
-set_announced (headers.Vlan u ∷ hs) = refl
-set_announced (headers.Macsec m ∷ hs) = refl
-set_announced (headers.Arp a ∷ hs) = refl
+set_announced h = search rules
 
 either_announced : (b : Bool) (own t : ℕ) → (b ≡ true → announced (expecting own) ≡ Some kinds.Vlan)
     → announced (expecting t) ≡ Some kinds.Vlan → announced (expecting (if b then own else t)) ≡ Some kinds.Vlan
@@ -153,10 +148,7 @@ after_tag : (m : SecTagValue) (p : PayloadType) (own : ℕ) (hs : List Header) (
     → Fits (expecting (type_of own hs t)) (built hs t n) n
     → Fits (after (expecting k) (before (headers.Macsec m) (type_of own hs t) (place n hs))) (built hs t n) n
 after_tag m p own [] t n k e chain fits = tt
-after_tag m (payloads.Unmodified old) own (g ∷ hs) t n k e chain fits =
-    search rules
-after_tag m p own (g ∷ hs) t n k e chain fits =
-    let f : true ≡ false = sym chain.0 ∙ ap is_unmodified e in absurd cc
+after_tag m p own h t n k e chain fits = search rules
 
 pub inner_fits : (own : ℕ) (hs : List Header) (t n : ℕ) → AreInner hs → IsChain hs → AllFit (built hs t n)
     → Fits (expecting (type_of own hs t)) (built hs t n) n
@@ -175,10 +167,7 @@ inner_fits own (headers.Macsec m ∷ hs) t n inner chain fit =
           (sym (place-built n hs t n)) mine,
       after_tag m m.payload_type k hs t n 0x88E5 refl chain later,
     )
-inner_fits own (headers.Arp a ∷ []) t n inner chain fit =
-    search (rules, written_accepted)
-inner_fits own (headers.Arp a ∷ g ∷ hs) t n inner chain fit = let f : true ≡ false = sym chain.0 in absurd cc
-inner_fits own hs t n inner chain fit = absurd inner.0
+inner_fits own hs t n inner chain fit = search (rules, written_accepted)
 
 -- ---- the header of a link
 

@@ -103,8 +103,7 @@ room_before p old target i x at announced vlan some le is so_far =
     ap (place m) (all_views p.link_exts.now (i - 1) (content_headers p.content))
     ∙ place-append m front (later p (i - 1)) ∙ ap (λ (k : ℕ). place k (later p (i - 1))) long
     ∙ place-add (place 0 front) m (later p (i - 1)) in
-    let last : place m (later p (i - 1)) ≡ header_len (ext_header_view x) + place m (later p i) =
-    ap (place m) (later_before p i x some le is) ∙ place-first m (ext_header_view x) (later p i) in
+    let last = ap (place m) (later_before p i x some le is) ∙ place-first m (ext_header_view x) (later p i) in
     let whole = place-first m (link_header p.link) (inner_headers p) in
     let rest = so_far.rest in
     omega (arith, whole, inner, last, rest)
@@ -126,8 +125,7 @@ filled_next p old target new h hs at announced vlan start following next tag roo
     let rest = so_far.rest in
     let long : following ≡ place m hs = omega (arith, rest, is) in
     let own : before h t following ≡ before h t (place m hs) = ap (before h t) long in
-    let len : length (header_bytes (before h t following)) ≡ header_len h =
-    length-header_bytes (before h t following) fits ∙ header_len_before h t following in
+    let len = length-header_bytes (before h t following) fits ∙ header_len_before h t following in
     let end : start + length (header_bytes (before h t following)) ≡ at = omega (arith, len, ends) in
     let more = place-first m h hs in
     record {
@@ -198,8 +196,7 @@ filled_all p old target new at announced vlan ethernet packet chain room so_far 
     let rest = so_far.rest in
     let first = place-first m (link_header p.link) hs in
     let own : h ≡ before (link_header p.link) t (place m hs) = any_length p.link t 0 (place m hs) in
-    let len : length (header_bytes h) ≡ header_len (link_header p.link) =
-    length-header_bytes h fits ∙ header_len_before (link_header p.link) t 0 in
+    let len = length-header_bytes h fits ∙ header_len_before (link_header p.link) t 0 in
     let at_is : 0 + length (header_bytes h) ≡ at = omega (arith, len, rest, first) in
     let payload = content_payload p.content in
     let inner = flat_map header_bytes (built hs k m) in
@@ -208,8 +205,7 @@ filled_all p old target new at announced vlan ethernet packet chain room so_far 
     ∙ one_more (header_bytes h) inner payload (drop end old)
     ∙ ap (λ (g : Header). header_bytes g ++ inner ++ payload ++ drop end old) own in
     let fit : AllFit (built_headers p) = (subst FitsHeader own fits, so_far.fit) in
-    let fits_all : Fits (link_start p.link) (built_headers p) m =
-    link_fits p.link hs k m ethernet packet (inner_views p.link_exts.now p.content) chain fit in
+    let fits_all = link_fits p.link hs k m ethernet packet (inner_views p.link_exts.now p.content) chain fit in
     let long : length (flat_map header_bytes (built_headers p) ++ payload) ≡ end =
     length-headers (link_start p.link) (built_headers p) payload fits_all
     ∙ place-built m (link_header p.link ∷ hs) k m in

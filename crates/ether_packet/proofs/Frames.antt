@@ -62,8 +62,7 @@ frame_is p end old new w =
     let front = flat_map header_bytes (parts_headers p) in
     let m = length p.rest.now + length p.trailer.now in
     let zero : m ≡ m + 0 = omega arith in
-    let more : frame_size p ≡ m + place 0 (parts_headers p) =
-    ap (λ (k : ℕ). place k (parts_headers p)) zero ∙ place-add m 0 (parts_headers p) in
+    let more = ap (λ (k : ℕ). place k (parts_headers p)) zero ∙ place-add m 0 (parts_headers p) in
     let own = length-fit (parts_headers p) w.fit in
     let ends = w.ends in
     let all : length (front ++ p.rest.now ++ p.trailer.now) ≡ end =
@@ -154,8 +153,7 @@ split start list packet is =
     let n = v.finish - v.start in
     let sum : v.start + n ≡ v.finish = omega (arith, ordered) in
     let trailer : trailer_of packet ≡ drop v.finish list = (λ i. drop (ends i) (is.frame i)) in
-    let past : trailer_of packet ≡ drop n (drop v.start list) =
-    trailer ∙ ap (λ (k : ℕ). drop k list) (sym sum) ∙ sym (drop-drop n v.start list) in
+    let past = trailer ∙ ap (λ (k : ℕ). drop k list) (sym sum) ∙ sym (drop-drop n v.start list) in
     record {
       trailer = trailer;
       order = omega (arith, starts, ordered);
@@ -179,8 +177,7 @@ frames_go_back p end old new w start list packet ok is of =
     ∙ ap (flat_map header_bytes) (sym of.have.parts) in
     let first : front ++ p.rest.now ≡ take finish c =
     ap (λ (l : List ℕ). front ++ l) (of.rest ∙ is.rest) ∙ headers_go_back start list hs is.ending ok is.walk in
-    let later : p.trailer.now ≡ drop finish c =
-    of.trailer ∙ s.trailer ∙ sym (cleared_after list 0 hs finish s.order) in
+    let later = of.trailer ∙ s.trailer ∙ sym (cleared_after list 0 hs finish s.order) in
     let frame = frame_is p end old new w in
     let is_whole : flat_map header_bytes (parts_headers p) ++ p.rest.now ++ p.trailer.now ≡ c =
     ap (λ (l : List ℕ). l ++ p.rest.now ++ p.trailer.now) same ∙ (λ i. first i ++ later i)
@@ -228,8 +225,7 @@ agree_walk start list done (g ∷ gs) (h ∷ hs) e before fit sendable same walk
     let next = done ++ g ∷ [] in
     let len : length front ≡ at = length-fit done before in
     let own : length (header_bytes g) ≡ header_len g = length-header_bytes g fit.0 in
-    let end : at + length (header_bytes g) ≡ place 0 next =
-    ap (λ (n : ℕ). at + n) own ∙ sym (place-append 0 done (g ∷ [])) in
+    let end = ap (λ (n : ℕ). at + n) own ∙ sym (place-append 0 done (g ∷ [])) in
     let all : front ++ header_bytes g ≡ flat_map header_bytes next =
     ap (λ (l : List ℕ). front ++ l) (sym (append-nil (header_bytes g)))
     ∙ sym (flat_map-append header_bytes done (g ∷ [])) in

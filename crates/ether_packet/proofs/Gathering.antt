@@ -108,16 +108,7 @@ pub has_place : (r : Read) (x : Expectation) (bytes rest : List ℕ) (h : Header
     → (r.units ≡ [] → (p.start ≡ 0) × (p.bytes.now ≡ r.frame)) → HasPlace r u p
 has_place r x bytes rest (headers.Ethernet2 e) u p free ready known shows room first =
     subst (λ (v : PeelUnit). HasPlace r v p) (sym shows) (place_first r x kinds.Ethernet2 p free ready known refl first)
-has_place r x bytes rest (headers.Ethernet2Fcs e) u p free ready known shows room first =
-    search (rules, place_first)
-has_place r x bytes rest (headers.LinuxSll s) u p free ready known shows room first =
-    subst (λ (v : PeelUnit). HasPlace r v p) (sym shows) (place_first r x kinds.LinuxSll p free ready known refl first)
-has_place r x bytes rest (headers.Vlan v) u p free ready known shows room first =
-    subst (λ (k : PeelUnit). HasPlace r k p) (sym shows) (place_ext r x kinds.Vlan free ready known refl room)
-has_place r x bytes rest (headers.Macsec t) u p free ready known shows room first =
-    subst (λ (k : PeelUnit). HasPlace r k p) (sym shows.1) (place_ext r x kinds.Macsec free ready known refl room)
-has_place r x bytes rest (headers.Arp a) u p free ready known shows room first =
-    subst (λ (k : PeelUnit). HasPlace r k p) (sym shows) (no_arp r x kinds.Arp ready.arp known)
+has_place r x bytes rest h u p free ready known shows room first = search (rules, place_first, place_ext, no_arp)
 
 -- one extension more takes its place
 room_for : (us : List PacketUnit) (u : PacketUnit) (b : Bool) (free : ℕ) → is_extension u.kind ≡ b
@@ -306,8 +297,7 @@ gathered_next start list s t r q p u a ok n here is =
     (λ i. header_in (kind i) (bytes i))
     ∙ header_shown (within list w) h (IsBytes-part w.start w.finish list ok) n.unit.means in
     let units : q.units ≡ r.units ++ unit ∷ [] = ap (λ (k : Read). k.units) is in
-    let same : a.done ++ a.left ≡ (a.done ++ h ∷ []) ++ n.given.later =
-    ap (λ (l : List Header). a.done ++ l) n.given.parts ∙ sym (append_assoc a.done (h ∷ []) n.given.later) in
+    let same = ap (λ (l : List Header). a.done ++ l) n.given.parts ∙ sym (append_assoc a.done (h ∷ []) n.given.later) in
     let extends : is_extension unit.kind ≡ is_extension (kind_of h) = ap is_extension kind in
     let more =
     λ (e : is_extension (kind_of h) ≡ true).
@@ -379,15 +369,8 @@ fewer_after_ext x h free limit known extends one =
 pub fewer_left : (x : Expectation) (h : Header) (free : ℕ) → x.limit ≡ Some free → announced x ≡ Some (kind_of h)
     → headers_left (after x h) + 1 ≤ headers_left x
 fewer_left x (headers.Ethernet2 e) free limit known = fewer_after_first x (headers.Ethernet2 e) known refl refl refl
-fewer_left x (headers.Ethernet2Fcs e) free limit known =
-    fewer_after_first x (headers.Ethernet2Fcs e) known refl refl refl
-fewer_left x (headers.LinuxSll s) free limit known =
-    fewer_after_first x (headers.LinuxSll s) known refl (one_after_capture _ _ _) refl
-fewer_left x (headers.Vlan v) free limit known = fewer_after_ext x (headers.Vlan v) free limit known refl refl
-fewer_left x (headers.Macsec t) free limit known =
-    fewer_after_ext x (headers.Macsec t) free limit known refl (one_after_payload t.payload_type)
-fewer_left x (headers.Arp a) free limit known =
-    let some = some_left x.next kinds.Arp (announced_is x kinds.Arp known) in omega (arith, some)
+fewer_left x h free limit known =
+    search (rules, fewer_after_first, one_after_capture, fewer_after_ext, one_after_payload, some_left, announced_is)
 
 pub fewer_come : (start : Expectation) (list : List ℕ) (s t : State) (r : Read) (u : PeelUnit)
     (a : Gathered start list s r)
@@ -410,12 +393,7 @@ ended : (list : List ℕ) (w : Window) (left : List Header) (e : Ending) (s t : 
     → Faces list w s left e → GivesNext list w left e s (item_of met) t → Ended list w left e s t met
 ended list w [] (Accepted v y) s t None f g =
     search rules
-ended list w [] (Accepted v y) s t (Some x) f g = let none = g.0 in absurd cc
-ended list w [] (Fault v y r) s t None f g = let some = g.0 in absurd cc
-ended list w [] (Fault v y r) s t (Some x) f g =
-    search rules
-ended list w (h ∷ hs) e s t None f g = let some = g.1 in absurd cc
-ended list w (h ∷ hs) e s t (Some x) f g = let some = g.1 in absurd cc
+ended list w h e s t k f g = search rules
 
 pub is_packet : (start : Expectation) (list : List ℕ) (s t : State) (r : Read) (packet : PacketSlice)
     (met : Option PeelFault)

@@ -102,8 +102,7 @@ pub tagged_twice : (us : List PacketUnit) (i : ℕ) (old r : Option (List ℕ)) 
     → Some (tags.DoubleVlan (record { outer = outer; inner = inner })) ≡ first_tags (vlans_of us)
 tagged_twice us i old r outer inner so_far lt is first second =
     let later = filter_map vlan_of_unit (drop (i + 1) (exts_of us)) in
-    let front : vlans_of (take i (exts_of us)) ≡ outer ∷ [] =
-    sym so_far ∙ ap (λ (o : Option (List ℕ)). cons_option o []) first in
+    let front = sym so_far ∙ ap (λ (o : Option (List ℕ)). cons_option o []) first in
     let all : vlans_of us ≡ outer ∷ inner ∷ later =
     vlans_found us ∙ found_at vlan_of_unit (exts_of us) i r lt is
     ∙ (λ j. front j ++ cons_option (second j) [] ++ later) in

@@ -41,9 +41,5 @@ packet_shown bytes a ok means =
 
 pub header_shown : (bytes : List ℕ) (h : Header) → IsBytes bytes → Means bytes h → header_in (kind_of h) bytes ≡ h
 header_shown bytes (headers.Ethernet2 e) ok means = ap headers.Ethernet2 (ethernet2_shown bytes e ok means)
-header_shown bytes (headers.Ethernet2Fcs e) ok means =
-    search (rules, ethernet2_shown)
-header_shown bytes (headers.LinuxSll s) ok means = ap headers.LinuxSll (linux_sll_shown bytes s ok means)
-header_shown bytes (headers.Vlan v) ok means = ap headers.Vlan (vlan_shown bytes v ok means)
-header_shown bytes (headers.Macsec t) ok means = ap headers.Macsec (sec_tag_shown bytes t ok means)
-header_shown bytes (headers.Arp a) ok means = ap headers.Arp (packet_shown bytes a ok means)
+header_shown bytes h ok means =
+    search (rules, ethernet2_shown, linux_sll_shown, vlan_shown, sec_tag_shown, packet_shown)

@@ -9,7 +9,6 @@ use Rattle.etherparse.specs.Types.LinkHeader.{LinkHeader}
 use Rattle.etherparse.specs.Types.LinkHeader.TheVariants as links
 use Rattle.etherparse.specs.Bytes.{IsBytes, overwritten}
 use Rattle.etherparse.specs.Ethernet2.{Ethernet2Value}
-use Rattle.etherparse.specs.LinuxSll.{LinuxSllValue}
 use Rattle.etherparse.specs.LinuxNonstandardEtherType.{is_nonstandard}
 use Rattle.etherparse.specs.LinuxSllProtocolType.{protocol_of, protocol_number, link_protocol_of, ethernet_protocol_type}
 use Rattle.etherparse.specs.Kind.{Kind}
@@ -74,26 +73,13 @@ same_hardware t u same = λ i. record { 0 = same i }
 pub says_the_same : (g l : LinkHeader) (h : Header) → IsLinkOf l h → LinksAgree g l → LinkAgrees g h
 says_the_same (links.Ethernet2 g) (links.Ethernet2 l) (headers.Ethernet2 h) is same =
     ap (λ (t : EtherTypeNumber). t.0) same ∙ ap (λ (v : Ethernet2Value). v.ether_type) is
-says_the_same (links.Ethernet2 g) (links.Ethernet2 l) (headers.Ethernet2Fcs h) is same =
-    ap (λ (t : EtherTypeNumber). t.0) same ∙ ap (λ (v : Ethernet2Value). v.ether_type) is
-says_the_same (links.LinuxSll g) (links.LinuxSll l) (headers.LinuxSll h) is same =
-    (ap (λ (t : ArpHardwareId). t.0) same.0 ∙ ap (λ (s : LinuxSllValue). s.hardware_type) is.0, same.1 ∙ is.1)
-says_the_same k a h is same = absurd (search rules)
+says_the_same k a h is same = search rules
 
 -- and differ in the same
 pub differs : (g l : LinkHeader) (h : Header) (d : Difference) → IsLinkOf l h → LinksDiffer g l d → LinkDiffers g h d
 differs (links.Ethernet2 g) (links.Ethernet2 l) (headers.Ethernet2 h) differences.EtherType is other = λ same.
     other (same_ether_type g.ether_type l.ether_type (same ∙ ap (λ (v : Ethernet2Value). v.ether_type) (sym is)))
-differs (links.Ethernet2 g) (links.Ethernet2 l) (headers.Ethernet2Fcs h) differences.EtherType is other = λ same.
-    other (same_ether_type g.ether_type l.ether_type (same ∙ ap (λ (v : Ethernet2Value). v.ether_type) (sym is)))
-differs (links.LinuxSll g) (links.LinuxSll l) (headers.LinuxSll h) differences.HardwareType is other = λ same.
-    other (same_hardware g.arp_hrd_type l.arp_hrd_type (same ∙ ap (λ (s : LinuxSllValue). s.hardware_type) (sym is.0)))
-differs (links.LinuxSll g) (links.LinuxSll l) (headers.LinuxSll h) differences.ProtocolType is other =
-    search rules
-differs (links.Ethernet2 g) (links.LinuxSll l) (headers.LinuxSll h) differences.Kind is other = tt
-differs (links.LinuxSll g) (links.Ethernet2 l) (headers.Ethernet2 h) differences.Kind is other = tt
-differs (links.LinuxSll g) (links.Ethernet2 l) (headers.Ethernet2Fcs h) differences.Kind is other = tt
-differs g l h d is other = absurd (search rules)
+differs g l h d is other = search (rules, same_ether_type, same_hardware)
 
 link_kind : (l : LinkHeader) (h : Header) → IsLinkOf l h → is_link (kind_of h) ≡ true
 link_kind (links.Ethernet2 l) (headers.Ethernet2 h) is = refl
@@ -144,10 +130,7 @@ number_back hardware n = number_by (hardware == 1) hardware n
 
 in_place_same : (g : LinkHeader) (h : Header) → LinkAgrees g h → Agree (in_place_of g h) h
 in_place_same (links.Ethernet2 g) (headers.Ethernet2 h) same = same
-in_place_same (links.Ethernet2 g) (headers.Ethernet2Fcs h) same = same
-in_place_same (links.LinuxSll g) (headers.LinuxSll h) same =
-    (same.0, ap protocol_number same.1 ∙ number_back h.hardware_type h.protocol)
-in_place_same _ _ same = absurd same
+in_place_same h k same = search (rules, number_back)
 
 pub in_place_fits : (g : LinkHeader) (h : Header) → FitsHeader (link_header g) → FitsHeader (in_place_of g h)
 in_place_fits (links.Ethernet2 g) (headers.Ethernet2Fcs h) fits = fits
@@ -172,8 +155,7 @@ is_link_replaced start old new hs e g t room fits packet_type bytes walk =
     let replaced =
     replaced_walk start old [] t.replaced other t.later e (in_place_same g t.replaced t.same)
     (in_place_fits g t.replaced fits) (in_place_sendable g t.replaced packet_type) split in
-    let same : overwritten old 0 (header_bytes other) ≡ new =
-    ap (overwritten old 0) (sym (in_place_bytes g t.replaced)) ∙ sym bytes in
+    let same = ap (overwritten old 0) (sym (in_place_bytes g t.replaced)) ∙ sym bytes in
     record {
       takes = t;
       fits = fits;

@@ -155,8 +155,7 @@ pub found_room : (start : Expectation) (list : List ℕ) (p : PacketSlice) (view
     → Agree (headers.Arp g) (headers.Arp (arp_of view)) → header_len (headers.Arp g) ≤ p.rest_offset
 found_room start list p view g is at same =
     let f = is_found start list p view is at in
-    let ends : p.rest_offset ≡ place 0 f.front + header_len (headers.Arp (arp_of view)) =
-    f.ends ∙ ap (place 0) f.parts ∙ arp_place f.front (arp_of view) in
+    let ends = f.ends ∙ ap (place 0) f.parts ∙ arp_place f.front (arp_of view) in
     let len = same_len (headers.Arp g) (headers.Arp (arp_of view)) same in
     omega arith
 
@@ -184,11 +183,9 @@ pub is_replaced : (start : Expectation) (old new : List ℕ) (hs : List Header) 
     → new ≡ overwritten old at (arp_bytes g) → Walk start old hs e → ReplacesArp start old hs e g new
 is_replaced start old new hs e g at end t fits begins bytes walk =
     let as_long = same_len (headers.Arp g) (headers.Arp t.replaced) t.same in
-    let ends : end ≡ place 0 t.front + header_len (headers.Arp t.replaced) =
-    t.ends ∙ ap (place 0) t.parts ∙ arp_place t.front t.replaced in
+    let ends = t.ends ∙ ap (place 0) t.parts ∙ arp_place t.front t.replaced in
     let there : at ≡ place 0 t.front = omega arith in
-    let same_place : new ≡ overwritten old (place 0 t.front) (arp_bytes g) =
-    bytes ∙ ap (λ (n : ℕ). overwritten old n (arp_bytes g)) there in
+    let same_place = bytes ∙ ap (λ (n : ℕ). overwritten old n (arp_bytes g)) there in
     let split = subst (λ (l : List Header). Walk start old l e) t.parts walk in
     let inside = header_inside start old t.front (headers.Arp t.replaced) [] e split in
     let len = length-header_bytes (headers.Arp g) fits in

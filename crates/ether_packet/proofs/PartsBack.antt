@@ -77,8 +77,7 @@ parts_go_back start list packet parts b end old new ok is of builder w =
     ap (place 0) given ∙ ap (λ (k : ℕ). place (0 + k) tail) (link_long parts.link of.have.link of.have.is_link)
     ∙ ap (place 0) (sym of.have.parts) in
     let zero_more : m ≡ m + 0 = omega arith in
-    let all : end ≡ m + place 0 (given_headers b) =
-    w.ends ∙ ap (λ (k : ℕ). place k (given_headers b)) zero_more ∙ place-add m 0 (given_headers b) in
+    let all = w.ends ∙ ap (λ (k : ℕ). place k (given_headers b)) zero_more ∙ place-add m 0 (given_headers b) in
     let front = flat_map header_bytes hs in
     let own = length-fit (given_headers b) w.fit in
     let own_same = ap length same in

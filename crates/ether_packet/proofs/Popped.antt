@@ -240,8 +240,7 @@ is_popped start old new hs e at m u ok t place room bytes spells walk =
     let x = start_of start in
     let is = t.place in
     let split = subst (λ (l : List Header). Walk x old l e) t.begins.parts walk in
-    let own : IsVlan (slice_range old (0 + header_len t.link) (0 + header_len t.link + 4)) t.tag =
-    own_bytes old x (whole x old) (t.link ∷ []) (headers.Vlan t.tag) t.later e (whole_in x old) split in
+    let own = own_bytes old x (whole x old) (t.link ∷ []) (headers.Vlan t.tag) t.later e (whole_in x old) split in
     let from : 0 + header_len t.link ≡ m + 2 = omega arith in
     let till : 0 + header_len t.link + 4 ≡ m + 6 = omega arith in
     let there : IsVlan (slice_range old (m + 2) (m + 6)) t.tag =
@@ -250,10 +249,8 @@ is_popped start old new hs e at m u ok t place room bytes spells walk =
     let front_len : m ≡ header_len t.link - 2 = omega arith in
     let back_len : m + 4 ≡ header_len t.link + 2 = omega arith in
     let list : drop 4 new ≡ take m old ++ drop (m + 4) old = ap (drop 4) bytes ∙ popped_list old m (omega arith) in
-    let front : slice_range (drop 4 new) 0 m ≡ slice_range old 0 m =
-    ap (λ (l : List ℕ). slice_range l 0 m) list ∙ front_kept old (drop (m + 4) old) m (omega arith) in
-    let rest : drop m (drop 4 new) ≡ drop (m + 4) old =
-    ap (drop m) list ∙ rest_kept old (drop (m + 4) old) m (omega arith) in
+    let front = ap (λ (l : List ℕ). slice_range l 0 m) list ∙ front_kept old (drop (m + 4) old) m (omega arith) in
+    let rest = ap (drop m) list ∙ rest_kept old (drop (m + 4) old) m (omega arith) in
     subst (λ (v : VlanValue). IsPopped x old hs e v new) same (record {
       link = t.link;
       later = t.later;

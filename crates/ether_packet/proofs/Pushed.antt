@@ -60,8 +60,7 @@ is_inserted buffer new p c m two two_more le bytes =
     let all : length (a ++ (p ++ c)) ≡ m + 4 =
     length-append a (p ++ c) ∙ (λ i. len i + length-append p c i) ∙ (λ i. m + (two i + two_more i)) in
     let from : 0 + length (a ++ (p ++ c)) ≡ 4 + m = omega (arith, all) in
-    let tail : drop (0 + length (a ++ (p ++ c))) buffer ≡ drop m old =
-    ap (λ (k : ℕ). drop k buffer) from ∙ sym (drop-drop m 4 buffer) in
+    let tail = ap (λ (k : ℕ). drop k buffer) from ∙ sym (drop-drop m 4 buffer) in
     let is : new ≡ a ++ (p ++ c) ++ drop m old =
     bytes ∙ (λ i. overwritten buffer 0 (take (less i) old ++ (p ++ c))) ∙ (λ i. a ++ (p ++ c) ++ tail i) in
     let by_tpid : new ≡ a ++ p ++ (c ++ drop m old) =
@@ -116,8 +115,7 @@ pushed_rest old new m tag tpid t ok le fits lt type is =
     let next : slice_range new (m + 4) (m + 6) ≡ slice_range old m (m + 2) =
     λ i. take ((last_two ∙ sym two) i) (is.rest i) in
     let low : number (slice_range new (m + 4) (m + 6)) ≡ t = ap number next ∙ type in
-    let high : number (slice_range new (m + 2) (m + 4)) ≡ tag.pcp * 2 ^ 13 + tag.dei * 2 ^ 12 + tag.vid =
-    ap number is.control ∙ control_number tag fits in
+    let high = ap number is.control ∙ control_number tag fits in
     let len : length new ≡ length old + 4 = omega arith in
     let join : number (slice_range new (m + 2) (m + 6))
     ≡ number (slice_range new (m + 2) (m + 4)) * 65536 + number (slice_range new (m + 4) (m + 6)) =

@@ -1,5 +1,5 @@
 -- A header of a walk that is replaced in place: the walk is the one before with the other header.
-use Rattle.std.proofs.Common.{◌≡◌, ℕ, ◌+◌, ◌-◌, ◌*◌, ◌≤◌, List, [], ◌∷◌, ◌++◌, length, take, drop, refl, sym, ap, subst, ◌∙◌, arith, Bool, true, false, rules}
+use Rattle.std.proofs.Common.{◌≡◌, ℕ, ◌+◌, ◌-◌, ◌≤◌, List, [], ◌∷◌, ◌++◌, length, take, drop, refl, sym, ap, subst, ◌∙◌, arith, Bool, true, false, rules}
 use Rattle.std.specs.Prelude.{slice_range, Option, Some, unwrap_or}
 use Rattle.std.proofs.lemmas.List.{append_assoc, drop_at, drop-drop, length-append, length-drop, length-take-le}
 use Rattle.std.proofs.lemmas.Slice.{between_from_start}
@@ -18,7 +18,7 @@ use Rattle.etherparse.proofs.Rows.{at_least, accepts_ethernet2, accepts_ethernet
 use Rattle.etherparse.proofs.Means.{arp_begins, begins_whole, tag_begins, unit_fits}
 use Rattle.etherparse.proofs.ReadBack.{length-header_bytes, sec_tag_front_back, spells-header_bytes}
 use Rattle.ether_peel.specs.Grammar.Window.{Window, within, IsIn, payload}
-use Rattle.ether_peel.specs.Grammar.Expectation.{Expectation, next_after, after, after_capture, after_payload}
+use Rattle.ether_peel.specs.Grammar.Expectation.{Expectation, next_after, after}
 use Rattle.ether_peel.specs.Grammar.Places.{place}
 use Rattle.ether_peel.specs.Grammar.Stack.{Ending, Accepted, Fault, IsUnit, Stack, whole, Walk}
 use Rattle.ether_peel.proofs.Grammar.Windows.{payload_from, payload_in}
@@ -91,24 +91,13 @@ LookAlike g h = ⊥
 
 pub look_alike : (g h : Header) → Agree g h → LookAlike g h
 look_alike (headers.Ethernet2 g) (headers.Ethernet2 h) same = tt
-look_alike (headers.Ethernet2Fcs g) (headers.Ethernet2Fcs h) same = tt
-look_alike (headers.LinuxSll g) (headers.LinuxSll h) same = same.0
-look_alike (headers.Vlan g) (headers.Vlan h) same = tt
-look_alike (headers.Macsec g) (headers.Macsec h) same = (ap encrypted_of same.0, ap changed_of same.0, same.1, same.2)
-look_alike (headers.Arp g) (headers.Arp h) same = same
-look_alike _ _ same = absurd same
+look_alike h k same = search rules
 
 alike_shape : (g h : Header) → LookAlike g h
     → (kind_of g ≡ kind_of h) × (header_len g ≡ header_len h) × (payload_len g ≡ payload_len h)
     × (trailer_len g ≡ trailer_len h)
 alike_shape (headers.Ethernet2 g) (headers.Ethernet2 h) alike = (refl, refl, refl, refl)
-alike_shape (headers.Ethernet2Fcs g) (headers.Ethernet2Fcs h) alike = (refl, refl, refl, refl)
-alike_shape (headers.LinuxSll g) (headers.LinuxSll h) alike = (refl, refl, refl, refl)
-alike_shape (headers.Vlan g) (headers.Vlan h) alike = (refl, refl, refl, refl)
-alike_shape (headers.Macsec g) (headers.Macsec h) alike =
-    search rules
-alike_shape (headers.Arp g) (headers.Arp h) alike = (refl, λ i. 8 + 2 * alike.0 i + 2 * alike.1 i, refl, refl)
-alike_shape _ _ alike = absurd alike
+alike_shape h k alike = search rules
 
 pub alike_kind : (g h : Header) → LookAlike g h → kind_of g ≡ kind_of h
 alike_kind g h alike = (alike_shape g h alike).0
@@ -126,13 +115,7 @@ alike_payload w g h alike =
 same_next : (g h : Header) → Agree g h → next_after g ≡ next_after h
 same_next (headers.Ethernet2 g) (headers.Ethernet2 h) same =
     λ i. next_after (headers.Ethernet2 (record g { ether_type = same i }))
-same_next (headers.Ethernet2Fcs g) (headers.Ethernet2Fcs h) same =
-    λ i. next_after (headers.Ethernet2Fcs (record g { ether_type = same i }))
-same_next (headers.LinuxSll g) (headers.LinuxSll h) same = λ i. after_capture (same.0 i) (same.1 i)
-same_next (headers.Vlan g) (headers.Vlan h) same = λ i. next_after (headers.Vlan (record g { ether_type = same i }))
-same_next (headers.Macsec g) (headers.Macsec h) same = ap after_payload same.0
-same_next (headers.Arp g) (headers.Arp h) same = refl
-same_next _ _ same = absurd same
+same_next h k same = search rules
 
 same_after : (x : Expectation) (g h : Header) → Agree g h → after x g ≡ after x h
 same_after x g h same =

@@ -55,8 +55,7 @@ retyped_vlan : (old new : List ℕ) (v : VlanValue) (t : ℕ) → IsBytes old �
     → IsRetyped old new 4 t → Means new (headers.Vlan (record v { ether_type = t }))
 retyped_vlan old new v t ok m len r =
     let a = (tag_numbers old 0 v ok m.whole m.spells).0 in
-    let join : number (slice_range new 0 4) ≡ number (slice_range new 0 2) * 65536 + number (slice_range new 2 4) =
-    number-part_join new 0 2 4 (omega arith) (omega arith) len in
+    let join = number-part_join new 0 2 4 (omega arith) (omega arith) len in
     let same : number (slice_range new 0 2) ≡ number (slice_range old 0 2) = ap number r.front in
     let n = r.number in
     let f = m.spells.fits in
@@ -147,10 +146,7 @@ unmodified p a = absurd cc
 retyped_next : (h : Header) (t : ℕ) → announced_next (next_after h) ≡ Some kinds.Vlan
     → next_after (with_type h t) ≡ EtherType t
 retyped_next (headers.LinuxSll s) t a = announced_sll s t (s.hardware_type == 1) refl a
-retyped_next (headers.Macsec m) t a =
-    let u = unmodified m.payload_type a in ap (λ (p : PayloadType). after_payload (retyped p t)) u.1
-retyped_next (headers.Arp r) t a = absurd cc
-retyped_next h t a = refl
+retyped_next h t a = search (rules, unmodified)
 
 retyped_header : (bound : LenSource) (old new : List ℕ) (h : Header) (t : ℕ) → IsBytes old
     → announced_next (next_after h) ≡ Some kinds.Vlan → Accepts bound old (kind_of h) → Means old h
@@ -174,8 +170,7 @@ retyped_header bound old new (headers.Vlan v) t ok a accepted m len r = record {
 retyped_header bound old new (headers.Macsec m) t ok a accepted means len r =
     let u = unmodified m.payload_type a in
     let same : m ≡ record m { payload_type = payloads.Unmodified u.0 } = λ i. record m { payload_type = u.1 i } in
-    let n : header_len (headers.Macsec m) ≡ 6 + 8 * sci_present_of m.sci + 2 =
-    ap (λ (k : SecTagValue). header_len (headers.Macsec k)) same in
+    let n = ap (λ (k : SecTagValue). header_len (headers.Macsec k)) same in
     subst (λ (k : SecTagValue). RetypedMeans new (headers.Macsec k) t) (sym same)
     (retyped_sec_tag bound old new m u.0 t u.1 accepted
     (subst (λ (k : SecTagValue). Means old (headers.Macsec k)) same means) (omega arith)

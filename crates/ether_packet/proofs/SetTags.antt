@@ -42,8 +42,7 @@ pub is_set : (start : Expectation) (old new : List ℕ) (hs : List Header) (e : 
     → SetsTag start old hs e i change new
 is_set start old new hs e i f change p fits same bytes walk =
     let g = headers.Vlan (change (vlan_view f.tag)) in
-    let same_place : new ≡ overwritten old (place 0 p.front) (vlan_bytes (change (vlan_view f.tag))) =
-    bytes ∙ ap (λ (n : ℕ). overwritten old n (vlan_bytes (change (vlan_view f.tag)))) p.begins in
+    let same_place = bytes ∙ ap (λ (n : ℕ). overwritten old n (vlan_bytes (change (vlan_view f.tag)))) p.begins in
     let split = subst (λ (l : List Header). Walk start old l e) p.found.parts walk in
     record {
       front = p.front;

@@ -94,8 +94,7 @@ popped_tag start old hs e link v later m ok begins len walk =
     let x = start_of start in
     let split = subst (λ (l : List Header). Walk x old l e) begins.parts walk in
     let room = header_inside x old (link ∷ []) (headers.Vlan v) later e split in
-    let own : IsVlan (slice_range old (0 + header_len link) (0 + header_len link + 4)) v =
-    own_bytes old x (whole x old) (link ∷ []) (headers.Vlan v) later e (whole_in x old) split in
+    let own = own_bytes old x (whole x old) (link ∷ []) (headers.Vlan v) later e (whole_in x old) split in
     let from : 0 + header_len link ≡ m + 2 = omega (arith, len) in
     let till : 0 + header_len link + 4 ≡ m + 6 = omega (arith, len) in
     let front = length-take-le m old (omega (arith, room, len)) in
@@ -264,8 +263,7 @@ set_found start old hs e vid i new_vid lt f walk =
     let v = f.tag in
     let w : VlanValue = record v { vid = new_vid } in
     let split = subst (λ (l : List Header). Walk start old l e) f.found.parts walk in
-    let own : IsVlan (slice_range old (place 0 f.front) (place 0 f.front + 4)) v =
-    own_bytes old start (whole start old) f.front (headers.Vlan v) f.later e (whole_in start old) split in
+    let own = own_bytes old start (whole start old) f.front (headers.Vlan v) f.later e (whole_in start old) split in
     let fits : FitsVlan w = record {
       pcp = own.fits.pcp;
       dei = own.fits.dei;

@@ -1,5 +1,5 @@
 -- The header of a link with another type, and what follows it moved: the walk of the new list.
-use Rattle.std.proofs.Common.{◌≡◌, ℕ, ◌+◌, ◌-◌, ◌*◌, ◌^◌, ◌<◌, ◌≤◌, List, [], ◌∷◌, length, take, drop, refl, sym, ap, subst, ◌∙◌, arith, Bool, true, false, rules}
+use Rattle.std.proofs.Common.{◌≡◌, ℕ, ◌+◌, ◌-◌, ◌^◌, ◌<◌, ◌≤◌, List, [], ◌∷◌, length, take, drop, refl, sym, ap, subst, ◌∙◌, arith, Bool, true, false, rules}
 use Rattle.std.specs.Prelude.{slice_range, Option, Some, None, nat_eq, ◌==◌, if◌then◌else◌}
 use Rattle.std.proofs.lemmas.List.{length-drop}
 use Rattle.etherparse.specs.Types.LenSource.{LenSource}
@@ -23,7 +23,7 @@ use Rattle.etherparse.proofs.Rows.{at_least, accepts_ethernet2, accepts_ethernet
 use Rattle.ether_peel.specs.Grammar.Window.{Window, within, payload}
 use Rattle.ether_peel.specs.Grammar.Expectation.{Expectation, EtherType, Sll, announced, announced_by, permitted, next_after, after, after_capture, has_fcs}
 use Rattle.ether_peel.specs.Grammar.Places.{moved_ending}
-use Rattle.ether_peel.specs.Grammar.Stack.{Ending, Accepted, Fault, IsUnit, Stack, whole, Walk}
+use Rattle.ether_peel.specs.Grammar.Stack.{Ending, Accepted, IsUnit, Stack, whole, Walk}
 use Rattle.ether_peel.specs.Walker.Start.{start_of}
 use Rattle.ether_peel.specs.declared.start.Start.{Start}
 use Rattle.ether_peel.specs.declared.start.Start.TheVariants as starts
@@ -43,10 +43,8 @@ retyped_ethernet2 : (old new : List ℕ) (e : Ethernet2Value) (t : ℕ) → IsBy
     → slice_range new 0 12 ≡ slice_range old 0 12 → number (slice_range new 12 14) ≡ t → t < 2 ^ 16
     → IsEthernet2 (slice_range old 0 14) e → IsEthernet2 (slice_range new 0 14) (record e { ether_type = t })
 retyped_ethernet2 old new e t ok le len front is lt m =
-    let a : number (slice_range old 0 14) ≡ number (slice_range old 0 12) * 65536 + number (slice_range old 12 14) =
-    number-part_join old 0 12 14 (omega arith) (omega arith) le in
-    let b : number (slice_range new 0 14) ≡ number (slice_range new 0 12) * 65536 + number (slice_range new 12 14) =
-    number-part_join new 0 12 14 (omega arith) (omega arith) len in
+    let a = number-part_join old 0 12 14 (omega arith) (omega arith) le in
+    let b = number-part_join new 0 12 14 (omega arith) (omega arith) len in
     let same : number (slice_range new 0 12) ≡ number (slice_range old 0 12) = ap number front in
     let below : number (slice_range old 12 14) < 65536 = number-part_below old 12 14 ok le in
     let sum = m.sum in
@@ -60,10 +58,8 @@ retyped_linux_sll : (old new : List ℕ) (s : LinuxSllValue) (t : ℕ) → IsByt
     → slice_range new 0 14 ≡ slice_range old 0 14 → number (slice_range new 14 16) ≡ t → t < 2 ^ 16
     → IsLinuxSll (slice_range old 0 16) s → IsLinuxSll (slice_range new 0 16) (record s { protocol = t })
 retyped_linux_sll old new s t ok le len front is lt m =
-    let a : number (slice_range old 0 16) ≡ number (slice_range old 0 14) * 65536 + number (slice_range old 14 16) =
-    number-part_join old 0 14 16 (omega arith) (omega arith) le in
-    let b : number (slice_range new 0 16) ≡ number (slice_range new 0 14) * 65536 + number (slice_range new 14 16) =
-    number-part_join new 0 14 16 (omega arith) (omega arith) len in
+    let a = number-part_join old 0 14 16 (omega arith) (omega arith) le in
+    let b = number-part_join new 0 14 16 (omega arith) (omega arith) len in
     let same : number (slice_range new 0 14) ≡ number (slice_range old 0 14) = ap number front in
     let below : number (slice_range old 14 16) < 65536 = number-part_below old 14 16 ok le in
     let sum = m.sum in
@@ -84,9 +80,7 @@ retyped_linux_sll old new s t ok le len front is lt m =
 pub link_type_read : (list : List ℕ) (h : Header) → IsBytes list → is_link (kind_of h) ≡ true → Means list h
     → number (slice_range list (header_len h - 2) (header_len h)) ≡ type_of_link h
 link_type_read list (headers.LinuxSll s) ok link m =
-    let a : number (slice_range list 0 16)
-    ≡ number (slice_range list 0 14) * 65536 + number (slice_range list 14 16) =
-    number-part_join list 0 14 16 (omega arith) (omega arith) m.whole in
+    let a = number-part_join list 0 14 16 (omega arith) (omega arith) m.whole in
     let below : number (slice_range list 14 16) < 65536 = number-part_below list 14 16 ok m.whole in
     let sum = m.spells.sum in
     let f = m.spells.fits.protocol in
@@ -95,9 +89,7 @@ link_type_read list (headers.Vlan v) ok link m = absurd cc
 link_type_read list (headers.Macsec t) ok link m = absurd cc
 link_type_read list (headers.Arp a) ok link m = absurd cc
 link_type_read list h ok link m =
-    let a : number (slice_range list 0 14)
-    ≡ number (slice_range list 0 12) * 65536 + number (slice_range list 12 14) =
-    number-part_join list 0 12 14 (omega arith) (omega arith) m.whole in
+    let a = number-part_join list 0 12 14 (omega arith) (omega arith) m.whole in
     let below : number (slice_range list 12 14) < 65536 = number-part_below list 12 14 ok m.whole in
     let sum = m.spells.sum in
     let f = m.spells.fits.ether_type in
@@ -276,10 +268,7 @@ never k o e f = let same : None ≡ Some k = sym e ∙ f in cc
 pub unit_there : (list : List ℕ) (x : Expectation) (w : Window) (kind : Kind) (hs : List Header) (e : Ending)
     → announced x ≡ Some kind → Accepts w.bound (within list w) kind → Stack list x w hs e → HasUnit list x w kind hs e
 unit_there list x w kind [] (Accepted v y) a accepted s = absurd (never kind (announced x) s.2 a)
-unit_there list x w kind [] (Fault v y r) a accepted s =
-    search (rules, same_kind)
-unit_there list x w kind (h ∷ hs) e a accepted s =
-    search (rules, same_kind)
+unit_there list x w kind h e a accepted s = search (rules, same_kind)
 
 -- if a row holds there, no header is
 pub no_unit_there : (list : List ℕ) (x : Expectation) (w : Window) (kind : Kind) (r : rows.Refusal) (hs : List Header)
@@ -345,12 +334,7 @@ other_link start list hs e hardware ok a other never walk =
 
 unpermitted : (o : Option Kind) → o ≡ permitted None o
 unpermitted None = refl
-unpermitted (Some kinds.Ethernet2) = refl
-unpermitted (Some kinds.Ethernet2Fcs) = refl
-unpermitted (Some kinds.LinuxSll) = refl
-unpermitted (Some kinds.Vlan) = refl
-unpermitted (Some kinds.Macsec) = refl
-unpermitted (Some kinds.Arp) = refl
+unpermitted h = search rules
 
 abbrev is_link_of : Option Kind → Bool
 is_link_of None = false
@@ -368,8 +352,7 @@ pub unlinked : (start : Start) (t : EtherTypeNumber) (list : List ℕ) (hs : Lis
     → start ≡ starts.EtherType t → Walk (start_of start) list hs e → RefusesTyped hs errors.NoLink
 unlinked start t list [] e is walk = no_link refl
 unlinked start t list (h ∷ hs) e is walk =
-    let a : announced (start_of (starts.EtherType t)) ≡ Some (kind_of h) =
-    ap (λ (s : Start). announced (start_of s)) (sym is) ∙ walk.0.announced in
+    let a = ap (λ (s : Start). announced (start_of s)) (sym is) ∙ walk.0.announced in
     no_link
     (not_announced (is_vlan_ether_type t.0) (nat_eq t.0 0x88E5) (nat_eq t.0 0x0806) (kind_of h)
     (unpermitted (announced_by t.0) ∙ a))

@@ -148,8 +148,7 @@ laid_all p old target new i at over room so_far bytes fits =
     let fs = front p i in
     let f = flat_map header_bytes fs in
     let len : length f ≡ at = length-fit fs so_far.fit ∙ sym so_far.long in
-    let end : at + length (content_bytes c) ≡ packet_len p =
-    ap (λ (k : ℕ). at + k) (content_long c fits) ∙ room_content p old target i at over so_far in
+    let end = ap (λ (k : ℕ). at + k) (content_long c fits) ∙ room_content p old target i at over so_far in
     let parts : f ++ content_bytes c ≡ flat_map header_bytes (given_headers p) ++ content_payload c =
     ap (λ (l : List ℕ). f ++ l) (content_parts c)
     ∙ sym (append_assoc f (flat_map header_bytes (content_headers c)) (content_payload c))

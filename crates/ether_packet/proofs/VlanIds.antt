@@ -8,7 +8,7 @@ use Rattle.std.proofs.lemmas.Option.{option_and_then_some}
 use Rattle.etherparse.specs.Bytes.{IsBytes, spelled, overwritten}
 use Rattle.etherparse.specs.Kind.{Kind}
 use Rattle.etherparse.specs.Kind as kinds
-use Rattle.etherparse.specs.Vlan.{VlanValue, FitsVlan, IsVlan, vlan_number, vlan_bytes, vlan_of}
+use Rattle.etherparse.specs.Vlan.{VlanValue, FitsVlan, vlan_number, vlan_bytes, vlan_of}
 use Rattle.etherparse.specs.Header.{Header, kind_of, header_len, header_bytes, Spells}
 use Rattle.etherparse.specs.Header as headers
 use Rattle.etherparse.proofs.Numbers.{length-spelled}
@@ -48,15 +48,12 @@ same_ext : (front other_front : List Header) (h k : Header) (later other_later :
     → is_extension (kind_of h) ≡ true → is_extension (kind_of k) ≡ true → ext_count front ≡ ext_count other_front
     → (front ≡ other_front) × (h ≡ k) × (later ≡ other_later)
 same_ext [] [] h k later other_later e a b n = (refl, cc, cc)
-same_ext [] (y ∷ ys) h k later other_later e a b n =
-    search (rules, one_more, true)
-same_ext (x ∷ xs) [] h k later other_later e a b n =
-    search (rules, one_more, true)
 same_ext (x ∷ xs) (y ∷ ys) h k later other_later e a b n =
     let first : x ≡ y = cc in
     let rest : xs ++ h ∷ later ≡ ys ++ k ∷ other_later = cc in
     let r = same_ext xs ys h k later other_later rest a b (same_count x y (ext_count xs) (ext_count ys) first n) in
     ((λ i. first i ∷ r.0 i), r.1, r.2)
+same_ext d f h k later other_later e a b n = search (rules, one_more)
 
 pub one_ext : (hs : List Header) (i : ℕ) (front other_front : List Header) (h k : Header)
     (later other_later : List Header)
@@ -160,9 +157,7 @@ tag_set front rest v vid fits lt =
     let fourth : m % 256 ≡ n % 256 = omega arith in
     let upper : m / 256 ^ 3 % 256 / 16 ≡ n / 256 ^ 3 % 256 / 16 = omega arith in
     let set : m / 256 ^ 3 % 256 % 16 * 256 + m / 256 ^ 2 % 256 ≡ vid = omega arith in
-    let old : front ++ vlan_bytes v ++ rest
-    ≡ front ++ n / 256 ^ 3 % 256 ∷ n / 256 ^ 2 % 256 ∷ n / 256 % 256 ∷ n % 256 ∷ rest =
-    append_assoc front (vlan_bytes v) rest ∙ ap (λ (l : List ℕ). front ++ (l ++ rest)) (vlan_spelled v) in
+    let old = append_assoc front (vlan_bytes v) rest ∙ ap (λ (l : List ℕ). front ++ (l ++ rest)) (vlan_spelled v) in
     let new : front ++ vlan_bytes w ++ rest
     ≡ front ++ m / 256 ^ 3 % 256 ∷ m / 256 ^ 2 % 256 ∷ n / 256 % 256 ∷ n % 256 ∷ rest =
     append_assoc front (vlan_bytes w) rest ∙ ap (λ (l : List ℕ). front ++ (l ++ rest)) (vlan_spelled w)
@@ -191,12 +186,10 @@ vid_set start old new front v later e vid ok lt walk bytes =
     let w : VlanValue = record v { vid = vid } in
     let room : at + 4 ≤ length old = header_inside start old front (headers.Vlan v) later e walk in
     let part = slice_range old at (at + 4) in
-    let spells : IsVlan part v =
-    own_bytes old start (whole start old) front (headers.Vlan v) later e (whole_in start old) walk in
+    let spells = own_bytes old start (whole start old) front (headers.Vlan v) later e (whole_in start old) walk in
     let len : length part ≡ 4 = length-part old at (at + 4) room ∙ omega arith in
     let same : vlan_bytes v ≡ part = vlan_bytes-read part v (IsBytes-part at (at + 4) old ok) len spells in
-    let old_is : take at old ++ vlan_bytes v ++ drop (at + 4) old ≡ old =
-    ap (λ (l : List ℕ). take at old ++ l ++ drop (at + 4) old) same ∙ own_over old at 4 in
+    let old_is = ap (λ (l : List ℕ). take at old ++ l ++ drop (at + 4) old) same ∙ own_over old at 4 in
     let new_is : new ≡ take at old ++ vlan_bytes w ++ drop (at + 4) old =
     bytes ∙ ap (λ (n : ℕ). take at old ++ vlan_bytes w ++ drop (at + n) old) (length-spelled 4 (vlan_number w)) in
     let begins : length (take at old) ≡ at = length-take-le at old (omega arith) in

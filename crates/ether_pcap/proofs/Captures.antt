@@ -53,8 +53,7 @@ pub is_at : (interfaces : List CaptureInterface) (n : ℕ) (other : CaptureInter
 is_at [] n other lt = absurd (omega arith)
 is_at (x ∷ xs) zero other lt = record { before = []; after = interfaces_view xs; parts = refl; number = refl }
 is_at (x ∷ xs) (suc n) other lt =
-    let at : IsAt (interfaces_view xs) n (capture_interface_view (slice_index_or xs n other)) =
-    is_at xs n other (omega arith) in
+    let at = is_at xs n other (omega arith) in
     record {
       before = capture_interface_view x ∷ at.before;
       after = at.after;

@@ -107,14 +107,12 @@ module _ (raise : ℕ) where
       let room : 16 ≤ length bytes = omega (arith, len, whole) in
       let c : BlockValue = record { block_type = b.block_type; body = slice_range new 8 (8 + length b.body) } in
       let is = interface_begins raise order bytes b begins v d in
-      let kind : kind_of_block b.block_type ≡ InterfaceDescription =
-      ap kind_of_block (sym begins.block_type ∙ one) in
+      let kind = ap kind_of_block (sym begins.block_type ∙ one) in
       let type_same : slice_range new 0 4 ≡ slice_range bytes 0 4 =
       with_bytes-before 12 (bytes_of order 4 n) bytes
       (raised_room order raise (field order bytes 12 16) 12 bytes room) 0 4 (omega arith) (omega arith) in
       let not_section : HasSectionType new → ⊥ = λ (has : HasSectionType new). other (sym (ap number type_same) ∙ has) in
-      let in_after : raised after ≡ raised before ++ w ∷ [] =
-      ap raised is_after ∙ map-append (raised_interface raise) before (v ∷ []) in
+      let in_after = ap raised is_after ∙ map-append (raised_interface raise) before (v ∷ []) in
       let few : length (raised before) < m = omega (arith, lt, length-map before (raised_interface raise)) in
       let described = interface_described raise order bytes b begins v d in
       let body : IsBody InterfaceDescription m order (raised before) c.body None (raised after) =
@@ -248,8 +246,7 @@ module _ (raise : ℕ) where
   raised_body InterfaceDescription m order interfaces body p (i, d, lt, e, f) kept = absurd cc
   raised_body SimplePacket m order interfaces body p (i, v, at, is, e, f) kept =
       let same : p ≡ simple_packet_on i v = same_packet p (simple_packet_on i v) e in
-      let len : captured_by (raised_len raise p.snap_len) p.original_len ≡ length p.packet =
-      eqb-true (captured_by (raised_len raise p.snap_len) p.original_len) (length p.packet) kept in
+      let len = eqb-true (captured_by (raised_len raise p.snap_len) p.original_len) (length p.packet) kept in
       let here : captured_by (raised_len raise i.snap_len) v.original_len ≡ length v.packet =
       subst (λ (q : PacketValue). captured_by (raised_len raise q.snap_len) q.original_len ≡ length q.packet) same len in
       let fits : IsSimplePacket order (raised_len raise i.snap_len) body v = record {
@@ -297,8 +294,7 @@ module _ (raise : ℕ) where
       let x = Blocks m order (map (raised_interface raise) interfaces) in
       let kind = kind_of_block b.value.block_type in
       let is = kept_if (is_kept raise (kind_of_block (field order u 0 4)) p) u u kept in
-      let keeps : is_kept raise kind p ≡ true =
-      ap (λ (n : ℕ). is_kept raise (kind_of_block n) p) (sym b.begins.block_type) ∙ is.0 in
+      let keeps = ap (λ (n : ℕ). is_kept raise (kind_of_block n) p) (sym b.begins.block_type) ∙ is.0 in
       subst (λ (k : ℕ). Begins u x k (Some (packet_in (Changed raise) p)) x) (sym found.1)
       (block m order (map (raised_interface raise) interfaces) (map (raised_interface raise) interfaces)
       (Some (packet_in (Changed raise) p)) b.value b.other b.begins

@@ -36,8 +36,7 @@ module _ (at : ℕ) (new bytes : List ℕ) (room : at + length new ≤ length by
       let before = with_bytes-before at new bytes room 0 at (omega arith) (omega arith) in
       let long : length (front ++ new) ≡ at + length new =
       omega (arith, room, length-append front new, length-part bytes 0 at (omega (arith, room))) in
-      let after : drop (at + length new) (with_bytes at new bytes) ≡ back =
-      drop_at (front ++ new) back (at + length new) long in
+      let after = drop_at (front ++ new) back (at + length new) long in
       λ i. before i ++ new ++ after i
 
 raised_twice : (n : ℕ) → raised_len 0 (raised_len 0 n) ≡ raised_len 0 n
@@ -66,8 +65,7 @@ module _ (most : ℕ) (order : Order) (interfaces : List CaptureInterfaceValue) 
       let type_same = with_bytes-before 12 s bytes (raised_room order 0 n 12 bytes room) 0 4 (omega arith) (omega arith) in
       let type_one : field order new 0 4 ≡ 1 = ap (number_in order) type_same ∙ one in
       let not_section : HasSectionType new → ⊥ = λ (has : HasSectionType new). other (sym (ap number type_same) ∙ has) in
-      let again : raised_len 0 (field order new 12 16) ≡ raised_len 0 n =
-      ap (raised_len 0) (raised_field order 0 n 12 bytes room) ∙ raised_twice n in
+      let again = ap (raised_len 0) (raised_field order 0 n 12 bytes room) ∙ raised_twice n in
       ap changed once ∙ other_changed 0 most order interfaces new not_section ∙ is_new new type_one
       ∙ ap (λ (k : ℕ). with_bytes 12 (bytes_of order 4 k) new) again
       ∙ replaced_twice 12 s bytes (raised_room order 0 n 12 bytes room) ∙ sym once
@@ -173,14 +171,10 @@ body_range : (kind : BlockKind) (most : ℕ) (order : Order) (before after : Lis
     → IsBody kind most order before body p after → AllFour before → AllFour after
 body_range InterfaceDescription most order before after body p ok (i, d, lt, e, f) all =
     let P = λ (j : CaptureInterfaceValue). IsFour j.snap_len in
-    let here : i.snap_len ≡ field order body 4 8 =
-    ap (λ (v : CaptureInterfaceValue). v.snap_len) (sym d.value) ∙ sym d.is_interface.snap_len in
+    let here = ap (λ (v : CaptureInterfaceValue). v.snap_len) (sym d.value) ∙ sym d.is_interface.snap_len in
     let four : IsFour i.snap_len = subst IsFour (sym here) (four_field order body 4 ok d.is_interface.len) in
     subst AllFour (sym f) (All-append P before (i ∷ []) all (All-cons P i [] four (All-nil P)))
-body_range SimplePacket most order before after body p ok (i, q, at, is, e, f) all = subst AllFour (sym f) all
-body_range (EnhancedPacket n) most order before after body p ok (i, q, o, is, at, has, e, f) all =
-    subst AllFour (sym f) all
-body_range Other most order before after body p ok (e, f) all = subst AllFour (sym f) all
+body_range h most order before after body p ok k all = search rules
 
 range_after : (bytes : List ℕ) (x y : Expectation) (len : ℕ) (p : Option PacketValue) → IsBytes bytes
     → Begins bytes x len p y → InRange x → InRange y
@@ -231,10 +225,8 @@ range_packet bytes x y len o p some (block m order interfaces after q b other be
     let found = body_packet (kind_of_block b.block_type) m order interfaces after b.body q p some body range in
     let unit = take len bytes in
     let whole : 12 + length b.body ≤ length bytes = begins.whole in
-    let type_same : field order unit 0 4 ≡ b.block_type =
-    ap (number_in order) (part_of_take bytes len 4 (omega arith)) ∙ begins.block_type in
-    let kept : is_kept 0 (kind_of_block (field order unit 0 4)) p ≡ true =
-    ap (λ (n : ℕ). is_kept 0 (kind_of_block n) p) type_same ∙ found.1 in
+    let type_same = ap (number_in order) (part_of_take bytes len 4 (omega arith)) ∙ begins.block_type in
+    let kept = ap (λ (n : ℕ). is_kept 0 (kind_of_block n) p) type_same ∙ found.1 in
     (found.0, ap (λ (z : Bool). if z then Some unit else None) kept)
 range_packet bytes x y len o p some h range = absurd cc
 
@@ -298,8 +290,7 @@ module _ (Edits : PacketValue → Option EditedValue → Type 0) (unedited : Edi
         stay y (drop len bytes) others ps qs rest fault (IsBytes-drop len bytes ok)
         (range_after bytes x y len (Some p) ok begins range) copies in
         let found = range_packet bytes x y len (Some p) p refl begins range in
-        let same : packet_after (Changed 0) p o ≡ p =
-        ap (packet_after (Changed 0) p) (unedited p o edits) ∙ same_packet_in p found.0 in
+        let same = ap (packet_after (Changed 0) p) (unedited p o edits) ∙ same_packet_in p found.0 in
         (s.0, λ i. same i ∷ s.1 i)
 
     -- these packets are kept, or not

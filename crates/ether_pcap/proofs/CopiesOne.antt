@@ -74,13 +74,7 @@ module _ (mode : ModeValue) (Keeps : PacketValue → Type 0) (Edits : PacketValu
       → others ≡ more → Joined x y p front others all → Joined x y p front more other → all ≡ other
   same_joined x y None front others more all other e a b =
       a ∙ ap (λ (r : Result). record r { copy = other_unit mode y front ++ r.copy }) e ∙ sym b
-  same_joined x y (Some p) front others more all other e (inl (is, o, u, edits, g, a)) (inl (is2, q, v, edits2, h, b)) =
-      search (rules, same_front)
-  same_joined x y (Some p) front others more all other e (inl (is, o, u, edits, g, a)) (inr (not_kept, b)) =
-      absurd (not_kept is)
-  same_joined x y (Some p) front others more all other e (inr (not_kept, a)) (inl (is, o, u, edits, g, b)) =
-      absurd (not_kept is)
-  same_joined x y (Some p) front others more all other e (inr (not_kept, a)) (inr (no2, b)) = a ∙ e ∙ sym b
+  same_joined x y h front others more all other e a b = search (rules, same_front)
 
   -- a packet that can't be edited is not copied
   stuck_apart : (x y z : Expectation) (bytes : List ℕ) (others all : Result) (len n : ℕ) (p : PacketValue)
@@ -98,8 +92,7 @@ module _ (mode : ModeValue) (Keeps : PacketValue → Type 0) (Edits : PacketValu
       no_joint : Joined x z (Some p) (take len bytes) others all → ⊥
       no_joint (inl (is2, r, u, edits2, g, a)) =
           let same = once.one p o r edits edits2 in
-          let f : None ≡ Some u =
-          sym no_front ∙ ap (λ (s : Option EditedValue). unit_after mode x p s (take len bytes)) same ∙ g in
+          let f = sym no_front ∙ ap (λ (s : Option EditedValue). unit_after mode x p s (take len bytes)) same ∙ g in
           absurd cc
       no_joint (inr (not_kept, a)) = not_kept is
 

@@ -90,8 +90,7 @@ record_begins h u new p e begins room =
     let r = s.0 in
     let t : RecordValue = record r { original_len = e.original_len; packet = e.packet } in
     let whole : 16 + length r.packet ≤ length u = s.1.whole in
-    let long : length (edited_record h.order e u) ≡ record_len t =
-    length-edited_front h.order 8 e u (omega (arith, whole)) in
+    let long = length-edited_front h.order 8 e u (omega (arith, whole)) in
     let unit = file_record h t (record_edited h.order e u r room.small room.four s.1) in
     let Unit = λ (l : List ℕ) (k : ℕ) (q : PacketValue).
     Begins l (Records h) k (Some (edited_packet e q)) (Records h) in
@@ -175,8 +174,7 @@ module _ (most : ℕ) (order : Order) (interfaces : List CaptureInterfaceValue) 
       → Begins new (Blocks most order interfaces) (length new) (Some (edited_packet e p)) (Blocks most order interfaces)
   block_edited new is =
       let found = by_kind (kind_of_block (field order u 0 4)) new is in
-      let k : kind_of_block b.value.block_type ≡ EnhancedPacket found.0 =
-      ap kind_of_block (sym b.begins.block_type) ∙ found.1 in
+      let k = ap kind_of_block (sym b.begins.block_type) ∙ found.1 in
       enhanced_begins found.0 new (few_bytes (field order u 0 4) found.0 found.1) k
       (subst (λ (z : BlockKind). IsBody z most order interfaces b.value.body (Some p) interfaces) k b.body) found.2
 

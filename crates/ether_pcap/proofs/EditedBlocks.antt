@@ -82,12 +82,8 @@ module _ (order : Order) (number_len : ℕ) (block : List ℕ) (v : EnhancedPack
       part_of_part block 8 (length block - 4) 0 12 (omega arith) (omega (arith, whole, length-body))
       ∙ sym (part_join block 8 16 20 (omega arith) (omega arith))
       ∙ ap (λ (l : List ℕ). l ++ c) (sym (part_join block 8 12 16 (omega arith) (omega arith))) in
-      let new_is : new ≡ (a ++ b ++ c) ++ captured ++ original ++ e.packet ++ z ++ drop (20 + padded m) body =
-      ap
-      (λ (l : List ℕ). l ++ captured ++ original ++ e.packet ++ z ++ drop (20 + padded m) body)
-      front in
-      let head : header ≡ t ++ w ++ a ++ b ++ c ++ captured ++ original =
-      header_is ∙ ap (λ (k : ℕ). t ++ bytes_of order 4 k ++ a ++ b ++ c ++ captured ++ original) len in
+      let new_is = ap (λ (l : List ℕ). l ++ captured ++ original ++ e.packet ++ z ++ drop (20 + padded m) body) front in
+      let head = header_is ∙ ap (λ (k : ℕ). t ++ bytes_of order 4 k ++ a ++ b ++ c ++ captured ++ original) len in
       let joined : header ++ e.packet ++ z ++ drop (20 + padded m) body ≡ t ++ w ++ new =
       parts_joined (t ++ w) a b c captured original e.packet z (drop (20 + padded m) body) new header new_is head in
       let all : header ++ e.packet ++ zeros padding ++ options ++ trailer ≡ block_bytes order t new =

@@ -14,8 +14,7 @@ pub number_reversed : (l : List ℕ) → number_from_low l ≡ number (reverse l
 number_reversed [] = refl
 number_reversed (b ∷ l) =
     let e = number_reversed l in
-    let one : number (reverse l ++ b ∷ []) ≡ number (reverse l) * 256 ^ 1 + number (b ∷ []) =
-    number-append (reverse l) (b ∷ []) in
+    let one = number-append (reverse l) (b ∷ []) in
     let back : reverse (b ∷ l) ≡ reverse l ++ b ∷ [] = reverse-append (b ∷ []) l in
     let sum : b + 256 * number_from_low l ≡ number (reverse l ++ b ∷ []) = omega (arith, e, one) in
     sum ∙ ap number (sym back)

@@ -142,10 +142,7 @@ few_in_body kind most order interfaces body p h = absurd cc
 pub packet_room : (x : Expectation) (u : List ℕ) (p : PacketValue) → Begins u x (length u) (Some p) x
     → length p.packet ≤ 262144
 packet_room (Beginning m) u p begins = absurd (begun_before u (Beginning m) (Beginning m) (length u) p begins)
-packet_room (Records h) u p begins =
-    search (rules, record_of_unit, length)
-packet_room (Blocks m order interfaces) u p begins =
-    search (rules, block_of_unit, length, few_in_body)
+packet_room h u p begins = search (rules, record_of_unit, block_of_unit, few_in_body)
 
 -- the captured bytes of a packet
 bytes_in_body : (kind : BlockKind) (most : ℕ) (order : Order) (before after : List CaptureInterfaceValue)

@@ -38,16 +38,6 @@ refusal_one order bytes e f h k = refl
 not_empty : (order : Order) (bytes : List ℕ) (r : RecordValue) → BeginsRecord order bytes r → bytes ≢ []
 not_empty order bytes r h e = let l : length bytes ≡ 0 = ap length e in omega (arith, h.whole, l)
 
-next_record : (order : Order) (s : State) (p : PcapRecord) (records : List RecordValue) (rest : List ℕ)
-    (fault : Option RecordRefusal)
-    → BeginsRecord order s.rest (record_view p) → HasRecords order s.rest records rest fault
-    → GivesNext records fault s (Some (Ok p))
-    (record s { rest = drop (record_len (record_view p)) s.rest; offset = s.offset + record_len (record_view p) })
-next_record order s p [] rest None h has = absurd (not_empty order s.rest (record_view p) h has.0)
-next_record order s p [] rest (Some refusal) h has = absurd (record_apart order s.rest (record_view p) refusal h has.2)
-next_record order s p (r ∷ records) rest fault h has =
-    search (rules, record_one, drop)
-
 pub gives_record : (s : State) (p : PcapRecord) → s.over ≡ false
     → BeginsRecord (order_of s.header.byte_order) s.rest (record_view p)
     → Gives s (Some (Ok p))

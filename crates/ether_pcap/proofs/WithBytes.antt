@@ -171,9 +171,7 @@ section_in order bytes b is =
     let high : 24 ≤ 8 + length b.body = omega (arith, long) in
     let room = block_room order 16 no_section_len bytes b is.block (omega arith) high in
     let len = length-body_in order 16 no_section_len bytes b is.block (omega arith) high in
-    let same : (i j : ℕ) → i ≤ j → j ≤ 16
-    → slice_range (with_bytes 16 no_section_len bytes) i j ≡ slice_range bytes i j =
-    with_bytes-before 16 no_section_len bytes room in
+    let same = with_bytes-before 16 no_section_len bytes room in
     let major = ap (number_in order) (same 12 14 (omega arith) (omega arith)) in
     let minor = ap (number_in order) (same 14 16 (omega arith) (omega arith)) in (
       block_in order 16 no_section_len bytes b is.block (omega arith) high,

@@ -1,15 +1,11 @@
 use Rattle.std.proofs.Common.{rules}
-use Rattle.std.specs.Prelude.{Bool, IsTrue, Option}
+use Rattle.std.specs.Prelude.{Bool, IsTrue}
 use Rattle.ether_pcap.specs.Capture.{PacketValue}
-use Rattle.ether_pcap.specs.Editing.{EditedValue}
 use Rattle.ether_pcap.proofs.Copies.{copy_read, copy_edits, copy_source, copy_nothing, copy_stopped, copy_within, all_unedited, copy_all}
 use Rattle.ether_pcap.proofs.laws.copies_are_read.Goals as goal
 
 abbrev Is : (PacketValue → Bool) → PacketValue → Type 0
 Is test p = IsTrue (test p)
-
-abbrev Are : (PacketValue → Option EditedValue → Bool) → PacketValue → Option EditedValue → Type 0
-Are edits p o = IsTrue (edits p o)
 
 pub returns : goal.returns
 returns c =

@@ -1,4 +1,4 @@
-use Rattle.std.proofs.Common.{ℕ, List, rules}
+use Rattle.std.proofs.Common.{ℕ, List}
 use Rattle.ether_peel.specs.Grammar.Expectation.{Expectation}
 use Rattle.ether_packet.specs.Gathered.{UnderWay}
 use Rattle.ether_packet.proofs.Gathering.{NextOf, next_of, fits, readable, gathered_next, fewer_come}
