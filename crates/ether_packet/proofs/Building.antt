@@ -23,7 +23,7 @@ use Rattle.ether_peel.specs.Grammar.Places.{place}
 use Rattle.ether_peel.specs.Grammar.Stack.{whole}
 use Rattle.ether_peel.proofs.Grammar.Carrying.{led}
 use Rattle.ether_peel.proofs.Grammar.Cleared.{whole_in}
-use Rattle.ether_packet.specs.Building.{vlan_type, own_type, type_of, retyped, before, built, IsChain, AllFit, expected_after, window_after, BeginsWith}
+use Rattle.ether_packet.specs.Building.{vlan_type, own_type, type_of, retyped, before, built, IsChain, AllFit, BeginsWith}
 use Rattle.ether_packet.proofs.Written.{Fitting, Fits, written}
 use Rattle.ether_packet.proofs.TypedLinks.{announced_vlan}
 
@@ -154,19 +154,13 @@ pub inner_fits : (own : ℕ) (hs : List Header) (t n : ℕ) → AreInner hs → 
     → Fits (expecting (type_of own hs t)) (built hs t n) n
 inner_fits own [] t n inner chain fit = tt
 inner_fits own (headers.Vlan v ∷ hs) t n inner chain fit =
-    let mine =
-    vlan_fits (expecting (type_of own (headers.Vlan v ∷ hs) t))
-    (record v { ether_type = type_of v.ether_type hs t })
-    (place n (built hs t n)) (vlan_announced own v hs t) fit.0 in
-    (mine, inner_fits v.ether_type hs t n inner.1 (later_chain (headers.Vlan v) hs chain) fit.1)
+    let more = inner_fits v.ether_type hs t n inner.1 (later_chain (headers.Vlan v) hs chain) fit.1 in
+    search (rules, vlan_fits, vlan_announced, later_chain)
 inner_fits own (headers.Macsec m ∷ hs) t n inner chain fit =
     let k = own_type (headers.Macsec m) in
     let mine = macsec_fits (expecting 0x88E5) m (type_of k hs t) (place n hs) refl fit.0 in
-    let later = inner_fits k hs t n inner.1 (later_chain (headers.Macsec m) hs chain) fit.1 in (
-      subst (λ (l : ℕ). Fitting (expecting 0x88E5) (before (headers.Macsec m) (type_of k hs t) (place n hs)) l)
-          (sym (place-built n hs t n)) mine,
-      after_tag m m.payload_type k hs t n 0x88E5 refl chain later,
-    )
+    let later = inner_fits k hs t n inner.1 (later_chain (headers.Macsec m) hs chain) fit.1 in
+    search (rules, place-built, after_tag)
 inner_fits own hs t n inner chain fit = search (rules, written_accepted)
 
 -- ---- the header of a link
@@ -228,11 +222,4 @@ pub begins_with : (start : Expectation) (list rest : List ℕ) (hs : List Header
 begins_with start list rest hs e fits =
     let all : within list (whole start list) ≡ list = part_all list (length list) (omega arith) in
     let w = written list start (whole start list) hs rest (whole_in start list) (all ∙ e) fits in
-    record {
-      payload = w.rest_is;
-      ends = w.finish;
-      walk =
-          λ ks f stack.
-          led list start (whole start list) hs ks (expected_after start hs) (window_after (whole start list) hs) f
-          w.leads stack;
-    }
+    search (rules, led)

@@ -193,10 +193,3 @@ pub packet_len_is : (p : PacketBuilder)
     → place (link_header_len p.link + content_len p.content) (views p.link_exts.now) ≡ packet_len p
 packet_len_is p =
     search (rules, link_len, content_place, with_content, length)
-
-pub counted_first : (xs : List LinkExtHeader) (first len : ℕ) → len ≡ first → Counted xs first 0 len
-counted_first xs first len e = record { whole = ap (λ (k : ℕ). place k (views xs)) e; near = omega (arith, e) }
-
-pub link_short : (link : LinkHeader) → link_header_len link ≤ 16
-link_short (links.LinuxSll h) = omega arith
-link_short (links.Ethernet2 h) = omega arith

@@ -211,9 +211,4 @@ filled_all p old target new at announced vlan ethernet packet chain room so_far 
     ∙ place-built m (link_header p.link ∷ hs) k m in
     let front : take end new ≡ flat_map header_bytes (built_headers p) ++ payload =
     ap (take end) whole ∙ take_at (flat_map header_bytes (built_headers p) ++ payload) (drop end old) end long in
-    record {
-      ends = refl;
-      room = room;
-      bytes = whole;
-      walk = begins_with (link_start p.link) (take end new) payload (built_headers p) front fits_all;
-    }
+    search (rules, begins_with, take)

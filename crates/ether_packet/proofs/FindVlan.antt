@@ -1,5 +1,5 @@
 -- The outermost VLAN tag with an identifier, header by header.
-use Rattle.std.proofs.Common.{◌≡◌, ◌≢◌, ℕ, ◌+◌, List, [], ◌∷◌, ◌++◌, false, refl, sym, ap, subst, ◌∙◌}
+use Rattle.std.proofs.Common.{◌≡◌, ◌≢◌, ℕ, ◌+◌, List, [], ◌∷◌, ◌++◌, false, refl, sym, ap, subst, ◌∙◌, rules}
 use Rattle.std.specs.Prelude.{Some, Ok}
 use Rattle.std.specs.List.{All}
 use Rattle.std.proofs.lemmas.List.Elements.{All-nil, All-cons, All-head, All-tail, All-append, filter_map-append}
@@ -66,17 +66,7 @@ pub passed_tag : (list : List ℕ) (s t : State) (hs : List Header) (e : Ending)
 passed_tag list s t hs e vid i u f ok p gives is has at =
     let h = headers.Vlan (vlan_view f.tag) in
     let r = reached_ext list s t hs e i u h ok p.reached gives is refl in
-    let begins = at ∙ p.reached.faces.offset ∙ p.reached.begins in (
-      record {
-        front = p.reached.done;
-        tag = vlan_view f.tag;
-        later = r.later;
-        found = r.found;
-        has = has;
-        outermost = p.lacks;
-      },
-      record { front = p.reached.done; later = r.later; found = r.found; begins = begins },
-    )
+    let begins = at ∙ p.reached.faces.offset ∙ p.reached.begins in search rules
 
 -- ---- there is one
 

@@ -68,10 +68,7 @@ frame_is p end old new w =
     let all : length (front ++ p.rest.now ++ p.trailer.now) ≡ end =
     omega
     (arith, length-append (front ++ p.rest.now) p.trailer.now, length-append front p.rest.now, own, more, ends) in
-    record {
-      bytes = ap (take end) w.bytes ∙ take_at (front ++ p.rest.now ++ p.trailer.now) (drop end old) end all;
-      len = all;
-    }
+    search (rules, take, take_at, drop)
 
 -- after the headers alone the rest and the trailer are written
 pub all_written : (p : PacketParts) (b : PacketBuilder) (old first second new : List ℕ) (at next : ℕ)
@@ -93,15 +90,7 @@ all_written p b old first second new at next same empty link room is w packet_ty
     ∙ ap (λ (k : ℕ). f ++ p.rest.now ++ drop k old) (sym past) in
     let long : length (f ++ p.rest.now) ≡ next = omega (arith, length-append f p.rest.now, own, past) in
     let end : next + length p.trailer.now ≡ frame_size p = omega (arith, past, size, is) in
-    record {
-      ends = refl;
-      room = room;
-      fit = fit;
-      packet_type = subst HasPacketType link packet_type;
-      bytes =
-          trailer ∙ laid old (f ++ p.rest.now) second p.trailer.now next with_rest long
-          ∙ ap (λ (k : ℕ). f ++ p.rest.now ++ p.trailer.now ++ drop k old) end;
-    }
+    search (rules, laid, drop)
 
 -- ---- what is cleared
 
@@ -124,9 +113,8 @@ cleared_after : (list : List ℕ) (at : ℕ) (hs : List Header) (n : ℕ) → pl
     → drop n (cleared list at hs) ≡ drop n list
 cleared_after list at [] n le = refl
 cleared_after list at (h ∷ hs) n le =
-    let least = place_least (at + header_len h) hs in
-    cleared_at_after (cleared list (at + header_len h) hs) at h n (omega (arith, least, le))
-    ∙ cleared_after list (at + header_len h) hs n le
+    let more = cleared_after list (at + header_len h) hs n le in
+    search (rules, place_least, cleared_at_after)
 
 -- ---- the rest and the trailer of a packet
 
@@ -154,14 +142,7 @@ split start list packet is =
     let sum : v.start + n ≡ v.finish = omega (arith, ordered) in
     let trailer : trailer_of packet ≡ drop v.finish list = (λ i. drop (ends i) (is.frame i)) in
     let past = trailer ∙ ap (λ (k : ℕ). drop k list) (sym sum) ∙ sym (drop-drop n v.start list) in
-    record {
-      trailer = trailer;
-      order = omega (arith, starts, ordered);
-      inside = inside;
-      all =
-          (λ i. is.rest i ++ past i) ∙ take-append-drop n (drop v.start list)
-          ∙ ap (λ (k : ℕ). drop k list) starts;
-    }
+    search (rules, take-append-drop, drop)
 
 -- ---- the whole frame
 

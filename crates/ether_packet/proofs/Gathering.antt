@@ -35,7 +35,7 @@ use Rattle.ether_packet.specs.Views.{header_in, header_of, exts_of, arp_in, arp_
 use Rattle.ether_packet.specs.Packet.{IsUnitAt, AreUnitsAt, IsPacket}
 use Rattle.ether_packet.specs.Gathered.{window_after, Ready, Gathered, item_of, next_left, headers_left, IsUnderWay, GoesBy, EndsAnyhow}
 use Rattle.ether_packet.specs.declared.packet_walk.PacketWalk.{PacketWalk}
-use Rattle.ether_packet.specs.Places.{Reads, IsReadable, kind_read, unit_at, read_with, HasPlace, HasPlaceForExt}
+use Rattle.ether_packet.specs.Places.{Reads, IsReadable, kind_read, unit_at, read_with, HasPlace}
 use Rattle.ether_packet.proofs.HeadersIn.{header_shown}
 use Rattle.ether_packet.proofs.Places.{is_ext, arp_of_unit}
 
@@ -81,7 +81,7 @@ pub may_read : (x : Expectation) (kind : Kind) (free : ℕ) → x.limit ≡ Some
     → announced x ≡ Some kind → 0 < free
 may_read x kind (suc free) limit ext e = omega arith
 may_read x kind zero limit ext e =
-    search (rules, zero, announced_is, cond, true)
+    search rules
 
 -- ---- a unit is added
 
@@ -95,12 +95,7 @@ place_first : (r : Read) (x : Expectation) (kind : Kind) (p : FrameWindow) (free
     → announced x ≡ Some kind → is_first kind ≡ true → (r.units ≡ [] → (p.start ≡ 0) × (p.bytes.now ≡ r.frame))
     → (r.units ≡ []) × (p.start ≡ 0) × (p.bytes.now ≡ r.frame)
 place_first r x kind p free ready e first whole_frame =
-    search (rules, starts, announced_is)
-
-place_ext : (r : Read) (x : Expectation) (kind : Kind) (free : ℕ) → Ready r x free → announced x ≡ Some kind
-    → is_extension kind ≡ true → length (exts_of r.units) + free ≡ 3 → HasPlaceForExt r
-place_ext r x kind free ready e extends room =
-    let lt = may_read x kind free ready.limit extends e in (omega arith, no_arp r x kind ready.arp e)
+    search rules
 
 pub has_place : (r : Read) (x : Expectation) (bytes rest : List ℕ) (h : Header) (u : PeelUnit) (p : FrameWindow)
     (free : ℕ)
@@ -108,7 +103,7 @@ pub has_place : (r : Read) (x : Expectation) (bytes rest : List ℕ) (h : Header
     → (r.units ≡ [] → (p.start ≡ 0) × (p.bytes.now ≡ r.frame)) → HasPlace r u p
 has_place r x bytes rest (headers.Ethernet2 e) u p free ready known shows room first =
     subst (λ (v : PeelUnit). HasPlace r v p) (sym shows) (place_first r x kinds.Ethernet2 p free ready known refl first)
-has_place r x bytes rest h u p free ready known shows room first = search (rules, place_first, place_ext, no_arp)
+has_place r x bytes rest h u p free ready known shows room first = search rules
 
 -- one extension more takes its place
 room_for : (us : List PacketUnit) (u : PacketUnit) (b : Bool) (free : ℕ) → is_extension u.kind ≡ b
@@ -340,37 +335,17 @@ gathered_next start list s t r q p u a ok n here is =
 
 -- ---- fewer come after each
 
-some_left : (next : Next) (kind : Kind) → announced_next next ≡ Some kind → 1 ≤ next_left next
-some_left (Start k) kind e = omega arith
-some_left (EtherType t) kind e = omega arith
-some_left next kind e = absurd cc
-
-one_after_capture : (b : Bool) (t : ℕ) (protocol : LinuxSllProtocolType)
-    → next_left (cond b (EtherType t) (Sll protocol)) ≡ 1
-one_after_capture true t protocol = refl
-one_after_capture false t protocol = refl
-
-one_after_payload : (payload : PayloadType) → next_left (after_payload payload) ≡ 1
-one_after_payload (payloads.Unmodified t) = refl
-one_after_payload payload = refl
-
 -- after a header that only a frame begins with
 fewer_after_first : (x : Expectation) (h : Header) → announced x ≡ Some (kind_of h) → is_first (kind_of h) ≡ true
     → next_left (next_after h) ≡ 1 → is_extension (kind_of h) ≡ false → headers_left (after x h) + 1 ≤ headers_left x
 fewer_after_first x h known first one other =
-    search (rules, starts, announced_is)
-
--- after an extension
-fewer_after_ext : (x : Expectation) (h : Header) (free : ℕ) → x.limit ≡ Some free → announced x ≡ Some (kind_of h)
-    → is_extension (kind_of h) ≡ true → next_left (next_after h) ≡ 1 → headers_left (after x h) + 1 ≤ headers_left x
-fewer_after_ext x h free limit known extends one =
-    search (rules, some_left, announced_is, may_read)
+    search rules
 
 pub fewer_left : (x : Expectation) (h : Header) (free : ℕ) → x.limit ≡ Some free → announced x ≡ Some (kind_of h)
     → headers_left (after x h) + 1 ≤ headers_left x
 fewer_left x (headers.Ethernet2 e) free limit known = fewer_after_first x (headers.Ethernet2 e) known refl refl refl
 fewer_left x h free limit known =
-    search (rules, fewer_after_first, one_after_capture, fewer_after_ext, one_after_payload, some_left, announced_is)
+    search rules
 
 pub fewer_come : (start : Expectation) (list : List ℕ) (s t : State) (r : Read) (u : PeelUnit)
     (a : Gathered start list s r)

@@ -123,12 +123,7 @@ is_found start list p view is at =
     let offset = is.offset in
     let ordered = last.ordered in
     let inside = last.inside in
-    record {
-      front = front;
-      parts = split ∙ ap (λ (l : List Header). front ++ headers.Arp a ∷ l) none;
-      ends = is.offset ∙ last.start;
-      inside = omega arith;
-    }
+    search rules
 
 pub found_takes : (start : Expectation) (list : List ℕ) (p : PacketSlice) (view : List ℕ) (g : ArpValue)
     (hs : List Header) (e : Ending)
@@ -137,13 +132,7 @@ pub found_takes : (start : Expectation) (list : List ℕ) (p : PacketSlice) (vie
 found_takes start list p view g hs e is at same walk =
     let f = is_found start list p view is at in
     let one = (is.one hs e walk).0 in
-    record {
-      front = f.front;
-      replaced = arp_of view;
-      parts = one ∙ f.parts;
-      same = same;
-      ends = f.ends ∙ ap (place 0) (sym one);
-    }
+    search rules
 
 -- the place of an ARP packet that ends at a place
 arp_place : (front : List Header) (a : ArpValue)

@@ -35,11 +35,6 @@ link_is : (frame : List ℕ) (link : LinkKind)
 link_is frame places.Missing = (refl, refl)
 link_is frame link = (refl, refl)
 
-ext_is : (kind : ExtKind) (at : ℕ) (bytes : List ℕ)
-    → (is_extension (ext_kind kind) ≡ true) × (arp_in (ext_kind kind) bytes ≡ None)
-ext_is tags.Vlan at bytes = (refl, refl)
-ext_is tags.Macsec at bytes = (refl, refl)
-
 keep_first : (b : Bool) (u : PacketUnit) (us : List PacketUnit) → is_ext u ≡ true
     → filter is_ext (u ∷ us) ≡ u ∷ filter is_ext us
 keep_first b u us e = rw e refl
@@ -49,11 +44,7 @@ exts_are : (xs : List ExtPlace)
 exts_are [] = (refl, refl)
 exts_are (x ∷ xs) =
     let u = ext_unit x in
-    let is = ext_is x.kind u.offset u.bytes in
-    let more = exts_are xs in (
-      keep_first true u (map ext_unit xs) is.0 ∙ ap (λ (l : List PacketUnit). u ∷ l) more.0,
-      ap (λ (a : Option (List ℕ)). cons_option a (filter_map arp_of_unit (map ext_unit xs))) is.1 ∙ more.1,
-    )
+    let more = exts_are xs in search (rules, keep_first)
 
 arp_has : (arp : Option FrameWindow) → filter is_ext (arp_units arp) ≡ []
 arp_has None = refl
@@ -157,13 +148,7 @@ pub with_link : (frame : List ℕ) (old new : LinkKind) (xs : List ExtPlace) (ar
     → link_units frame new ≡ link_unit frame kind ∷ []
     → units_at frame new xs arp ≡ units_at frame old xs arp ++ unit_at kind p ∷ []
 with_link frame old new xs arp kind p none start whole is =
-    search (rules, nothing, append-nil, first_is)
-
-pub frame_unit : (frame : List ℕ) (b : Bool) (e : Ethernet2Value)
-    → link_units frame (frame_link b)
-    ≡ link_unit frame (kind_of (if b then headers.Ethernet2Fcs e else headers.Ethernet2 e)) ∷ []
-frame_unit frame true e = refl
-frame_unit frame false e = refl
+    search rules
 
 pub readable_whole : (frame : List ℕ) (kind : Kind) (p : FrameWindow) → p.bytes.now ≡ frame → IsReadable kind p
     → Reads frame kind
@@ -185,7 +170,7 @@ with_ext frame link xs arp x none =
 pub with_arp : (frame : List ℕ) (link : LinkKind) (xs : List ExtPlace) (arp : Option FrameWindow) (p : FrameWindow)
     → arp ≡ None → units_at frame link xs (Some p) ≡ units_at frame link xs arp ++ unit_at kinds.Arp p ∷ []
 with_arp frame link xs arp p none =
-    search (rules, append-nil)
+    search rules
 
 pub all_with : {X : Type 0} (P : X → Type 0) (xs : List X) (x : X) → All P xs → P x → All P (xs ++ x ∷ [])
 all_with P xs x all p =

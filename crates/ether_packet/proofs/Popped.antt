@@ -1,5 +1,5 @@
 -- A VLAN tag that is taken off in place: the walk of the frame after it.
-use Rattle.std.proofs.Common.{◌≡◌, ℕ, ◌+◌, ◌-◌, ◌*◌, ◌^◌, ◌<◌, ◌≤◌, List, [], ◌∷◌, ◌++◌, length, take, drop, refl, sym, ap, subst, ◌∙◌, arith, append_assoc, Bool, true, false, rules}
+use Rattle.std.proofs.Common.{◌≡◌, ℕ, ◌+◌, ◌-◌, ◌*◌, ◌^◌, ◌<◌, ◌≤◌, List, [], ◌∷◌, ◌++◌, length, take, drop, refl, sym, ap, subst, ◌∙◌, arith, Bool, true, false, rules}
 use Rattle.std.specs.Prelude.{slice_range, None}
 use Rattle.std.proofs.lemmas.List.{drop_at, drop-drop, length-drop, length-take-le}
 use Rattle.std.proofs.lemmas.Slice.{between_from_start}
@@ -25,7 +25,7 @@ use Rattle.ether_packet.specs.declared.typed_link.TypedLink.{TypedLink}
 use Rattle.ether_packet.specs.ReplacingLink.{is_link}
 use Rattle.ether_packet.specs.TypedLink.{type_of_link, with_type, BeginsTyped, link_len, IsTypedLink}
 use Rattle.ether_packet.specs.Popping.{IsPopped, IsTagged, RefusesPop, no_vlan, cut_vlan}
-use Rattle.ether_packet.proofs.TypedLinks.{retyped_unit, moved_rest, announces_kept, announced_vlan, link_payload, stack_after, unit_there, no_unit_there}
+use Rattle.ether_packet.proofs.TypedLinks.{retyped_unit, moved_rest, announces_kept, announced_vlan, link_payload, unit_there, no_unit_there}
 use Rattle.ether_packet.proofs.VlanIds.{own_bytes}
 
 -- ---- the bytes
@@ -34,7 +34,7 @@ use Rattle.ether_packet.proofs.VlanIds.{own_bytes}
 pub popped_list : (old : List ℕ) (m : ℕ) → m + 4 ≤ length old
     → drop 4 (overwritten old 4 (take m old)) ≡ take m old ++ drop (m + 4) old
 popped_list old m le =
-    search (rules, length, take, length-take-le, drop, append_assoc, drop_at)
+    search rules
 
 pub front_kept : (old more : List ℕ) (m : ℕ) → m ≤ length old
     → slice_range (take m old ++ more) 0 m ≡ slice_range old 0 m
@@ -183,7 +183,7 @@ no_tag start list hs l t other = no_vlan t.link t.later t.begins (announces_tag 
 payload_len : (start : Start) (list : List ℕ) (hs : List Header) (l : TypedLink) (t : IsTypedLink start list hs l)
     → length (within list (link_payload (start_of start) list t.link)) ≡ l.payload_len
 payload_len start list hs l t =
-    search (rules, length-part, length)
+    search rules
 
 after_link : (start : Start) (list : List ℕ) (hs : List Header) (e : Ending) (l : TypedLink)
     (t : IsTypedLink start list hs l)
@@ -191,7 +191,7 @@ after_link : (start : Start) (list : List ℕ) (hs : List Header) (e : Ending) (
     → Stack list (record { next = EtherType (type_of_link t.link); limit = None })
     (link_payload (start_of start) list t.link) t.later e
 after_link start list hs e l t walk =
-    search (rules, stack_after)
+    search rules
 
 pub cut_tag : (start : Start) (list : List ℕ) (hs : List Header) (e : Ending) (l : TypedLink)
     → IsTypedLink start list hs l → is_vlan_ether_type l.ether_type.0 ≡ true → l.payload_len < 4
@@ -218,14 +218,7 @@ is_tagged start list hs e l t announces le walk =
     (announced_vlan (type_of_link t.link) is)
     (accepts_vlan sources.Slice (within list w) (omega (arith, len, le)))
     (after_link start list hs e l t walk) in
-    let tag = vlan_header u.header u.of_kind in
-    record {
-      link = t.link;
-      tag = tag.0;
-      later = u.later;
-      begins = subst (BeginsTyped hs t.link) (u.parts ∙ ap (λ (h : Header). h ∷ u.later) tag.1) t.begins;
-      place = t.len;
-    }
+    search rules
 
 -- ---- what the call returns
 
@@ -238,7 +231,6 @@ pub is_popped : (start : Start) (old new : List ℕ) (hs : List Header) (e : End
     → IsPopped (start_of start) old hs e u new
 is_popped start old new hs e at m u ok t place room bytes spells walk =
     let x = start_of start in
-    let is = t.place in
     let split = subst (λ (l : List Header). Walk x old l e) t.begins.parts walk in
     let own = own_bytes old x (whole x old) (t.link ∷ []) (headers.Vlan t.tag) t.later e (whole_in x old) split in
     let from : 0 + header_len t.link ≡ m + 2 = omega arith in

@@ -6,10 +6,9 @@ use Rattle.etherparse.specs.Header.{Header, header_len, payload_len, trailer_len
 use Rattle.etherparse.proofs.SubLists.{length-part}
 use Rattle.ether_peel.specs.Grammar.Window.{Window, payload}
 use Rattle.ether_peel.specs.Grammar.Cuts.{reach}
-use Rattle.ether_peel.specs.Grammar.Expectation.{Expectation}
-use Rattle.ether_peel.specs.Grammar.Stack.{Ending, Fault, Accepted, Walk}
+use Rattle.ether_peel.specs.Grammar.Stack.{Ending, Fault, Accepted}
 use Rattle.ether_peel.specs.Walker.State.{State}
-use Rattle.ether_peel.specs.Walker.Next.{Faces, FacesWalk, Gives}
+use Rattle.ether_peel.specs.Walker.Next.{Faces, Gives}
 use Rattle.ether_peel.specs.Walker.UnitHeader.{unit_header}
 use Rattle.ether_peel.specs.declared.peel_unit.PeelUnit.{PeelUnit}
 use Rattle.ether_peel.specs.declared.peel_fault.PeelFault.{PeelFault}
@@ -62,14 +61,7 @@ unit_of list w (h ∷ hs) s t e len all u ok faces going rest le gives =
     let place : t.offset ≡ s.offset + header_len h = at.offset ∙ ap (λ n. n + header_len h) (sym faces.offset) in
     let later = ap (λ n. reach n hs) place in
     let inside = ends_inside list (payload w h) t hs e (payload_len (unit_header u)) at in
-    record {
-      window = payload w h;
-      left = hs;
-      faces = at;
-      going = n.3;
-      rest = rw (same, named) (omega arith);
-      inside = omega arith;
-    }
+    search rules
 
 none_of : (list : List ℕ) (w : Window) (left : List Header) (s t : State) (e : Ending) (len all : ℕ)
     → Faces list w s left e → s.over ≡ false → max len (reach s.offset left) ≡ all → Gives s None t → len ≡ all
@@ -104,8 +96,3 @@ pub reached_fault : (list : List ℕ) (s t : State) (e : Ending) (len all : ℕ)
     → Reached list s e len all → Gives s (Some (Err fault)) t → len ≡ all
 reached_fault list s t e len all fault r gives =
     fault_of list r.window r.left s t e len all fault r.faces r.going r.rest gives
-
--- so far any walk reaches in the list
-pub reached_inside : (x : Expectation) (list : List ℕ) (s begun : State) (len : ℕ) → FacesWalk x list begun
-    → ((hs : List Header) (e : Ending) → Walk x list hs e → Reached list s e len (reach 0 hs)) → len ≤ length list
-reached_inside x list s begun len w reached = (reached w.headers w.ending w.walk).inside

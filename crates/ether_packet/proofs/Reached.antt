@@ -69,16 +69,7 @@ pub is_given : (list : List ℕ) (w : Window) (left : List Header) (e : Ending) 
 is_given list w left e s t u ok faces going gives =
     let n = is_next list w left e s t u ok faces (gives.next going list w left e faces) in
     let h = n.given.header in
-    let same : h ≡ unit_header u = sym n.value in
-    record {
-      later = n.given.later;
-      parts = n.given.parts ∙ ap (λ (k : Header). k ∷ n.given.later) same;
-      faces = subst (λ (k : Header). Faces list (payload w k) t n.given.later e) same n.given.faces;
-      going = n.given.going;
-      room =
-          subst (λ (k : Header). header_len k ≤ length s.rest) same
-          (subst (λ (l : List ℕ). header_len h ≤ length l) (sym faces.rest) n.unit.means.whole);
-    }
+    search rules
 
 -- one header more
 abbrev pub reached_unit : (list : List ℕ) (s t : State) (hs : List Header) (e : Ending) (i : ℕ) (u : PeelUnit)
@@ -110,14 +101,7 @@ pub reached_ext : (list : List ℕ) (s t : State) (hs : List Header) (e : Ending
     → is_extension (kind_of h) ≡ true → IsReached hs i p.done h
 reached_ext list s t hs e i u h ok p gives is extension =
     let n = is_given list p.window p.left e s t u ok p.faces p.going gives in
-    record {
-      later = n.later;
-      found = record {
-        parts = p.parts ∙ ap (λ (l : List Header). p.done ++ l) (n.parts ∙ ap (λ (k : Header). k ∷ n.later) is);
-        extension = extension;
-        before = p.count;
-      };
-    }
+    search rules
 
 pub is_ext_header : (x : LinkExtHeader) → is_extension (kind_of (ext_header_view x)) ≡ true
 is_ext_header (values.Vlan h) = refl

@@ -18,7 +18,7 @@ use Rattle.etherparse.proofs.Rows.{at_least, accepts_ethernet2, accepts_ethernet
 use Rattle.etherparse.proofs.Means.{arp_begins, begins_whole, tag_begins, unit_fits}
 use Rattle.etherparse.proofs.ReadBack.{length-header_bytes, sec_tag_front_back, spells-header_bytes}
 use Rattle.ether_peel.specs.Grammar.Window.{Window, within, IsIn, payload}
-use Rattle.ether_peel.specs.Grammar.Expectation.{Expectation, next_after, after}
+use Rattle.ether_peel.specs.Grammar.Expectation.{Expectation, after}
 use Rattle.ether_peel.specs.Grammar.Places.{place}
 use Rattle.ether_peel.specs.Grammar.Stack.{Ending, Accepted, Fault, IsUnit, Stack, whole, Walk}
 use Rattle.ether_peel.proofs.Grammar.Windows.{payload_from, payload_in}
@@ -112,14 +112,9 @@ pub alike_payload : (w : Window) (g h : Header) → LookAlike g h → payload w 
 alike_payload w g h alike =
     let shape = alike_shape g h alike in λ i. payload_from (w.start + shape.1 i) (shape.3 i) (shape.2 i) w
 
-same_next : (g h : Header) → Agree g h → next_after g ≡ next_after h
-same_next (headers.Ethernet2 g) (headers.Ethernet2 h) same =
-    λ i. next_after (headers.Ethernet2 (record g { ether_type = same i }))
-same_next h k same = search rules
-
 same_after : (x : Expectation) (g h : Header) → Agree g h → after x g ≡ after x h
 same_after x g h same =
-    search (rules, same_next, alike_kind, look_alike)
+    search rules
 
 -- ---- a header that is read again
 
@@ -195,7 +190,6 @@ sound_kept bound old new (headers.LinuxSll s) ok m part = packet_type_of bound o
 sound_kept bound old new (headers.Macsec t) ok m part =
     let n = header_len (headers.Macsec t) in
     let c = sec_tag_front_of m.spells.version m.spells.reserved t in
-    let k = m.whole in
     let version : m.spells.version ≡ 0 =
     version_zero bound old c (omega arith) (begins_whole old n c (omega arith) m.spells.front) (ok _) in
     let begins =
@@ -229,15 +223,8 @@ later_stack list bytes at x w [] (Accepted v y) fits past s = s
 later_stack list bytes at x w [] (Fault v y r) fits past s =
     search (rules, part_after)
 later_stack list bytes at x w (h ∷ hs) e fits past s =
-    let same : within (overwritten list at bytes) w ≡ within list w =
-    part_after list bytes at w.start w.finish fits past in (
-      record {
-        announced = s.0.announced;
-        accepted = subst (λ (l : List ℕ). Accepts w.bound l (kind_of h)) (sym same) s.0.accepted;
-        means = subst (λ (l : List ℕ). Means l h) (sym same) s.0.means;
-      },
-      later_stack list bytes at (after x h) (payload w h) hs e fits (omega arith) s.1,
-    )
+    let more = later_stack list bytes at (after x h) (payload w h) hs e fits (omega arith) s.1 in
+    search (rules, part_after)
 
 -- the front of a window
 pub front_is : (list : List ℕ) (w : Window) (n : ℕ) → w.start + n ≤ w.finish
@@ -270,13 +257,8 @@ replaced_stack list x w [] h g later e at is room inside same fits sendable s =
       whole = omega arith;
       spells = subst (λ (l : List ℕ). Spells l g) (sym own) (spells-header_bytes g fits);
     } in
-    let rest = later_stack list bytes at (after x h) (payload w h) later e fit (omega arith) s.1 in (
-      unit_alike list new x w g h s.0 means (omega arith) (look_alike g h same)
-          (sound_written (within new w) g fits sendable own),
-      subst (λ (y : Expectation). Stack new y (payload w g) later e) (sym (same_after x g h same))
-          (subst (λ (v : Window). Stack new (after x h) v later e) (sym (alike_payload w g h (look_alike g h same)))
-          rest),
-    )
+    let rest = later_stack list bytes at (after x h) (payload w h) later e fit (omega arith) s.1 in
+    search (rules, unit_alike, look_alike, sound_written, same_after, alike_payload)
 replaced_stack list x w (k ∷ front) h g later e at is room inside same fits sendable s =
     let bytes = header_bytes g in
     let new = overwritten list at bytes in

@@ -20,7 +20,7 @@ use Rattle.etherparse.proofs.SubLists.{IsBytes-part, length-part, number-part_jo
 use Rattle.etherparse.proofs.Rows.{version_zero}
 use Rattle.etherparse.proofs.Means.{begins_whole}
 use Rattle.ether_peel.specs.Grammar.Window.{Window, within, IsIn, payload}
-use Rattle.ether_peel.specs.Grammar.Expectation.{Expectation, EtherType, Sll, announced, announced_next, permitted, is_extension, is_spent, lowered, next_after, after, after_capture, after_payload}
+use Rattle.ether_peel.specs.Grammar.Expectation.{Expectation, EtherType, Sll, announced_next, permitted, is_extension, is_spent, lowered, next_after, after, after_capture, after_payload}
 use Rattle.ether_peel.specs.Grammar.Places.{place}
 use Rattle.ether_peel.specs.Grammar.Stack.{Ending, Stack, Walk}
 use Rattle.ether_peel.proofs.Grammar.Places.{place_least}
@@ -28,7 +28,7 @@ use Rattle.ether_peel.proofs.Grammar.Windows.{header_least, payload_in}
 use Rattle.ether_peel.proofs.Grammar.Cleared.{whole_in}
 use Rattle.ether_packet.specs.Building.{retyped}
 use Rattle.ether_packet.specs.TypedLink.{with_type}
-use Rattle.ether_packet.proofs.Replaced.{LookAlike, IsSound, same_self, look_alike, alike_kind, alike_payload, packet_type_of, unit_alike, sound_kept, front_is, part_before, part_at, length-overwritten, later_stack, header_inside}
+use Rattle.ether_packet.proofs.Replaced.{LookAlike, IsSound, same_self, look_alike, packet_type_of, unit_alike, sound_kept, front_is, part_before, part_at, length-overwritten, later_stack, header_inside}
 use Rattle.ether_packet.proofs.TypedLinks.{IsRetyped, retyped_means, announced_vlan}
 use Rattle.ether_packet.proofs.Popped.{tag_numbers}
 use Rattle.ether_packet.proofs.Pushed.{tpid_fits}
@@ -59,13 +59,7 @@ retyped_vlan old new v t ok m len r =
     let same : number (slice_range new 0 2) ≡ number (slice_range old 0 2) = ap number r.front in
     let n = r.number in
     let f = m.spells.fits in
-    record {
-      whole = len;
-      spells = record {
-        sum = omega arith;
-        fits = record { pcp = f.pcp; dei = f.dei; vid = f.vid; ether_type = r.fits };
-      };
-    }
+    search rules
 
 -- parts before the last two bytes of the first n
 front_part : (old new : List ℕ) (n i j : ℕ) → slice_range new 0 (n - 2) ≡ slice_range old 0 (n - 2) → i ≤ j → j ≤ n - 2
@@ -91,7 +85,6 @@ retyped_sec_tag : (bound : LenSource) (old new : List ℕ) (m : SecTagValue) (u 
 retyped_sec_tag bound old new m u t is ok means len r =
     let n = 6 + 8 * sci_present_of m.sci + 2 in
     let s = means.spells in
-    let k = means.whole in
     let less : n - 2 ≡ 6 + 8 * sci_present_of m.sci = omega arith in
     let before : slice_range new 0 (6 + 8 * sci_present_of m.sci)
     ≡ slice_range old 0 (6 + 8 * sci_present_of m.sci) =
@@ -146,7 +139,7 @@ unmodified p a = absurd cc
 retyped_next : (h : Header) (t : ℕ) → announced_next (next_after h) ≡ Some kinds.Vlan
     → next_after (with_type h t) ≡ EtherType t
 retyped_next (headers.LinuxSll s) t a = announced_sll s t (s.hardware_type == 1) refl a
-retyped_next h t a = search (rules, unmodified)
+retyped_next h t a = search rules
 
 retyped_header : (bound : LenSource) (old new : List ℕ) (h : Header) (t : ℕ) → IsBytes old
     → announced_next (next_after h) ≡ Some kinds.Vlan → Accepts bound old (kind_of h) → Means old h
@@ -194,12 +187,6 @@ within_limit limit (Some j) k e = ap Some (permitted_some (is_extension j && is_
 by_type : (t : ℕ) → is_vlan_ether_type t ≡ true → announced_next (EtherType t) ≡ Some kinds.Vlan
 by_type t is = within_limit None (announced_next (EtherType t)) kinds.Vlan (announced_vlan t is)
 
-announced_alike : (x : Expectation) (g h : Header) → kind_of g ≡ kind_of h
-    → announced_next (next_after g) ≡ Some kinds.Vlan → announced (after x h) ≡ Some kinds.Vlan
-    → announced (after x g) ≡ Some kinds.Vlan
-announced_alike x g h kind a b =
-    search (rules, within_limit)
-
 -- a stack that begins with a VLAN tag, after another header that announces it
 stack_alike : (list : List ℕ) (x : Expectation) (w : Window) (g h : Header) (tag : VlanValue) (later : List Header)
     (e : Ending)
@@ -207,7 +194,7 @@ stack_alike : (list : List ℕ) (x : Expectation) (w : Window) (g h : Header) (t
     → Stack list (after x h) (payload w h) (headers.Vlan tag ∷ later) e
     → Stack list (after x g) (payload w g) (headers.Vlan tag ∷ later) e
 stack_alike list x w g h tag later e alike a s =
-    search (rules, alike_kind, announced_alike, true, alike_payload)
+    search rules
 
 -- ---- stacks
 

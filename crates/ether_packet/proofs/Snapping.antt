@@ -1,6 +1,6 @@
 -- The cuts of a list that keep its headers.
 use Rattle.std.proofs.Common.{◌≡◌, ℕ, ◌+◌, ◌<◌, ◌≤◌, List, [], ◌∷◌, ◌++◌, length, take, drop, sym, ap, subst, ◌∙◌, arith, inl, inr, false, refl, rules}
-use Rattle.std.specs.Prelude.{Some, None, Bool, IsTrue, ◌↔◌}
+use Rattle.std.specs.Prelude.{Some, None}
 use Rattle.std.proofs.lemmas.Bool.{cases_lt}
 use Rattle.std.proofs.lemmas.List.{append-nil, length-append, length-take, take-append-drop}
 use Rattle.etherparse.specs.Bytes.{IsBytes}
@@ -17,7 +17,7 @@ use Rattle.ether_peel.proofs.Grammar.Extensions.{walk_open_to_end, kept}
 use Rattle.ether_peel.proofs.Grammar.Cuts.{reach_least, common, wants_unit}
 use Rattle.ether_packet.specs.declared.packet_slice.PacketSlice.{PacketSlice}
 use Rattle.ether_packet.specs.Packet.{packet_headers}
-use Rattle.ether_packet.specs.Getters.{IsLeastSnap, SnapsAt, TellsAccepted}
+use Rattle.ether_packet.specs.Getters.{IsLeastSnap, SnapsAt}
 
 not_longer : (ks later : List Header) (unit : Header) → ks ++ unit ∷ later ≡ ks → ⊥
 not_longer ks later unit same =
@@ -91,14 +91,6 @@ snaps_at p n is start list ok h packet =
 
 -- ---- faults
 
-pub no_refusal : (e : Ending) → fault_of e ≡ None → refusal_of e ≡ None
-no_refusal (Accepted v y) none = refl
-no_refusal (Fault v y r) none = absurd cc
-
 pub no_fault : (e : Ending) → refusal_of e ≡ None → fault_of e ≡ None
 no_fault (Accepted v y) none = refl
 no_fault (Fault v y r) none = absurd cc
-
-pub tells_accepted : (p : PacketSlice) (complete : Bool) → IsTrue complete ↔ (p.fault ≡ None) → TellsAccepted p complete
-tells_accepted p complete value start list is =
-    (λ yes. no_refusal is.ending (sym is.fault ∙ value.0 yes), λ none. value.1 (is.fault ∙ no_fault is.ending none))

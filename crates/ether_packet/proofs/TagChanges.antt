@@ -29,10 +29,10 @@ use Rattle.ether_packet.specs.Popping as popping
 use Rattle.ether_packet.specs.Pushing.{IsPushed, RefusesPush, pushed_bytes, other_tpid}
 use Rattle.ether_packet.specs.Pushing as pushing
 use Rattle.ether_packet.proofs.FindVlan.{lacks_append, lacks_tag}
-use Rattle.ether_packet.proofs.Popped.{is_popped, vlan_header}
+use Rattle.ether_packet.proofs.Popped.{is_popped}
 use Rattle.ether_packet.proofs.Pushed.{is_pushed}
 use Rattle.ether_packet.proofs.Replaced.{header_inside, length-overwritten, replaced_walk}
-use Rattle.ether_packet.proofs.TypedLinks.{announced_vlan, link_after, link_least, means_whole_list}
+use Rattle.ether_packet.proofs.TypedLinks.{link_least, means_whole_list}
 use Rattle.ether_packet.proofs.VlanIds.{own_bytes}
 
 -- ---- the link
@@ -84,7 +84,7 @@ follows_type : (start : Start) (old : List ℕ) (link g : Header) (later : List 
     → is_vlan_ether_type (type_of_link link) ≡ true → Walk (start_of start) old (link ∷ g ∷ later) e
     → (v : VlanValue) × (g ≡ headers.Vlan v)
 follows_type start old link g later e linked typed is walk =
-    search (rules, link_after, announced_vlan, vlan_header)
+    search rules
 
 popped_tag : (start : Start) (old : List ℕ) (hs : List Header) (e : Ending) (link : Header) (v : VlanValue)
     (later : List Header) (m : ℕ)

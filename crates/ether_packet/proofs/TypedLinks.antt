@@ -49,10 +49,7 @@ retyped_ethernet2 old new e t ok le len front is lt m =
     let below : number (slice_range old 12 14) < 65536 = number-part_below old 12 14 ok le in
     let sum = m.sum in
     let f = m.fits.ether_type in
-    record {
-      sum = omega arith;
-      fits = record { destination = m.fits.destination; source = m.fits.source; ether_type = lt };
-    }
+    search rules
 
 retyped_linux_sll : (old new : List ℕ) (s : LinuxSllValue) (t : ℕ) → IsBytes old → 16 ≤ length old → 16 ≤ length new
     → slice_range new 0 14 ≡ slice_range old 0 14 → number (slice_range new 14 16) ≡ t → t < 2 ^ 16
@@ -64,17 +61,7 @@ retyped_linux_sll old new s t ok le len front is lt m =
     let below : number (slice_range old 14 16) < 65536 = number-part_below old 14 16 ok le in
     let sum = m.sum in
     let f = m.fits.protocol in
-    record {
-      sum = omega arith;
-      fits =
-          record {
-            packet_type = m.fits.packet_type;
-            hardware_type = m.fits.hardware_type;
-            address_len = m.fits.address_len;
-            address = m.fits.address;
-            protocol = lt;
-          };
-    }
+    search rules
 
 -- the number that they have in the list
 pub link_type_read : (list : List ℕ) (h : Header) → IsBytes list → is_link (kind_of h) ≡ true → Means list h
@@ -156,13 +143,7 @@ retyped_unit start old new h t ok link u len r =
     let m = means_whole_list start old h u in
     let n = retyped_means old new h t ok link m (omega arith) r in
     let accepted = subst (λ (l : List ℕ). Accepts sources.Slice l (kind_of h)) (whole_part old) u.accepted in
-    record {
-      announced = u.announced ∙ ap Some (sym (kind_kept h t));
-      accepted =
-          subst (λ (l : List ℕ). Accepts sources.Slice l (kind_of (with_type h t))) (sym (whole_part new))
-          (retyped_accepts sources.Slice old new h t link accepted m n len);
-      means = subst (λ (l : List ℕ). Means l (with_type h t)) (sym (whole_part new)) n;
-    }
+    search (rules, kind_kept, whole_part, retyped_accepts)
 
 -- ---- what it announces
 
@@ -203,15 +184,6 @@ payload_is x list (headers.Macsec m) link = absurd cc
 payload_is x list (headers.Arp a) link = absurd cc
 payload_is x list h link = refl
 
--- so a stack of a payload is one of these
-pub stack_after : (start : Start) (list : List ℕ) (h : Header) (hs : List Header) (e : Ending)
-    → is_link (kind_of h) ≡ true → next_after h ≡ EtherType (type_of_link h)
-    → Stack list (after (start_of start) h) (payload (whole (start_of start) list) h) hs e
-    → Stack list (record { next = EtherType (type_of_link h); limit = None }) (link_payload (start_of start) list h) hs
-    e
-stack_after start list h hs e link typed s =
-    search (rules, link_after, payload_is)
-
 other_kind : (a b : Bool)
     → permitted None (if a then Some kinds.Macsec else (if b then Some kinds.Arp else None)) ≡ Some kinds.Vlan → ⊥
 other_kind true b e = absurd cc
@@ -227,7 +199,7 @@ announced_vlan t is =
 pub announced_other : (t : ℕ) → is_vlan_ether_type t ≡ false
     → announced (record { next = EtherType t; limit = None }) ≡ Some kinds.Vlan → ⊥
 announced_other t is e =
-    search (rules, other_kind)
+    search rules
 
 -- ---- the bytes after it
 
@@ -268,7 +240,7 @@ never k o e f = let same : None ≡ Some k = sym e ∙ f in cc
 pub unit_there : (list : List ℕ) (x : Expectation) (w : Window) (kind : Kind) (hs : List Header) (e : Ending)
     → announced x ≡ Some kind → Accepts w.bound (within list w) kind → Stack list x w hs e → HasUnit list x w kind hs e
 unit_there list x w kind [] (Accepted v y) a accepted s = absurd (never kind (announced x) s.2 a)
-unit_there list x w kind h e a accepted s = search (rules, same_kind)
+unit_there list x w kind h e a accepted s = search rules
 
 -- if a row holds there, no header is
 pub no_unit_there : (list : List ℕ) (x : Expectation) (w : Window) (kind : Kind) (r : rows.Refusal) (hs : List Header)
@@ -276,7 +248,7 @@ pub no_unit_there : (list : List ℕ) (x : Expectation) (w : Window) (kind : Kin
     → announced x ≡ Some kind → Refuses w.bound (within list w) kind r → Stack list x w hs e → hs ≡ []
 no_unit_there list x w kind r [] e a row s = refl
 no_unit_there list x w kind r (h ∷ hs) e a row s =
-    search (rules, same_kind)
+    search rules
 
 -- ---- the header that a list begins with
 

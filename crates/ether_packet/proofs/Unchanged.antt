@@ -1,5 +1,5 @@
 -- A target that is filled from its front on, header by header.
-use Rattle.std.proofs.Common.{◌≡◌, ℕ, ◌+◌, ◌<◌, ◌≤◌, List, [], ◌∷◌, ◌++◌, length, take, drop, slice_index_or, refl, sym, ap, subst, ◌∙◌, arith, append_assoc, rules}
+use Rattle.std.proofs.Common.{◌≡◌, ℕ, ◌+◌, ◌<◌, ◌≤◌, List, [], ◌∷◌, ◌++◌, length, take, drop, slice_index_or, refl, sym, ap, ◌∙◌, arith, append_assoc, rules}
 use Rattle.std.specs.Prelude.{flat_map}
 use Rattle.std.proofs.lemmas.Grind.{flat_map-append}
 use Rattle.std.proofs.lemmas.List.{append-nil, drop_at, drop-drop, length-append, take_at, take_all}
@@ -40,11 +40,8 @@ fit_append (h ∷ hs) ks fit more = (fit.0, fit_append hs ks fit.1 more)
 pub length-fit : (hs : List Header) → AllFit hs → length (flat_map header_bytes hs) ≡ place 0 hs
 length-fit [] fit = refl
 length-fit (h ∷ hs) fit =
-    let own = length-header_bytes h fit.0 in
-    let others = length-fit hs fit.1 in
-    let all = length-append (header_bytes h) (flat_map header_bytes hs) in
-    let sum = place-first 0 h hs in
-    omega (arith, own, others, all, sum)
+    let more = length-fit hs fit.1 in
+    search (rules, length-header_bytes, length-append, place-first)
 
 -- ---- header by header
 
@@ -101,15 +98,7 @@ laid_next p old target new i at next x lt is so_far bytes fits ends =
     ap (λ (l : List ℕ). flat_map header_bytes fs ++ l) (sym (append-nil (header_bytes h)))
     ∙ sym (flat_map-append header_bytes fs (h ∷ [])) ∙ ap (flat_map header_bytes) (sym more) in
     let sum : place 0 (fs ++ h ∷ []) ≡ place 0 fs + header_len h = place-append 0 fs (h ∷ []) in
-    record {
-      bytes =
-          bytes ∙ laid old (flat_map header_bytes fs) target (header_bytes h) at so_far.bytes len
-          ∙ (λ k. all k ++ drop (end k) old);
-      fit = subst AllFit (sym more) (fit_append fs (h ∷ []) so_far.fit (fits, tt));
-      long =
-          ends ∙ ap (λ (k : ℕ). k + header_len h) so_far.long ∙ sym sum
-          ∙ ap (place 0) (sym more);
-    }
+    search (rules, laid, drop, fit_append)
 
 -- ---- the content
 
@@ -154,9 +143,4 @@ laid_all p old target new i at over room so_far bytes fits =
     ∙ sym (append_assoc f (flat_map header_bytes (content_headers c)) (content_payload c))
     ∙ ap (λ (l : List ℕ). l ++ content_payload c) (sym (flat_map-append header_bytes fs (content_headers c)))
     ∙ ap (λ (l : List Header). flat_map header_bytes l ++ content_payload c) (all_front p i over) in
-    record {
-      ends = refl;
-      room = room;
-      fit = subst AllFit (all_front p i over) (fit_append fs (content_headers c) so_far.fit fits);
-      bytes = bytes ∙ laid old f target (content_bytes c) at so_far.bytes len ∙ (λ k. parts k ++ drop (end k) old);
-    }
+    search (rules, all_front, fit_append, laid, drop)

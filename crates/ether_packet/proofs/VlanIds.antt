@@ -53,7 +53,7 @@ same_ext (x ∷ xs) (y ∷ ys) h k later other_later e a b n =
     let rest : xs ++ h ∷ later ≡ ys ++ k ∷ other_later = cc in
     let r = same_ext xs ys h k later other_later rest a b (same_count x y (ext_count xs) (ext_count ys) first n) in
     ((λ i. first i ∷ r.0 i), r.1, r.2)
-same_ext d f h k later other_later e a b n = search (rules, one_more)
+same_ext d f h k later other_later e a b n = search rules
 
 pub one_ext : (hs : List Header) (i : ℕ) (front other_front : List Header) (h k : Header)
     (later other_later : List Header)
@@ -149,10 +149,6 @@ tag_set front rest v vid fits lt =
     let n = vlan_number v in
     let w : VlanValue = record v { vid = vid } in
     let m = vlan_number w in
-    let p = fits.pcp in
-    let d = fits.dei in
-    let f = fits.vid in
-    let t = fits.ether_type in
     let third : m / 256 % 256 ≡ n / 256 % 256 = omega arith in
     let fourth : m % 256 ≡ n % 256 = omega arith in
     let upper : m / 256 ^ 3 % 256 / 16 ≡ n / 256 ^ 3 % 256 / 16 = omega arith in

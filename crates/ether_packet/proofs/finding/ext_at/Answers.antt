@@ -3,7 +3,7 @@ use Rattle.ether_peel.specs.Walker.Start.{start_of}
 use Rattle.ether_peel.specs.Walker.State.{State}
 use Rattle.ether_peel.specs.Walker.UnitHeader.{unit_header}
 use Rattle.ether_packet.specs.Replacing.{ext_count}
-use Rattle.ether_packet.proofs.Reached.{Reached, reached_first, reached_unit, reached_none, reached_fault, placed_ext, ext_room, one_counted}
+use Rattle.ether_packet.proofs.Reached.{Reached, reached_first, reached_unit, placed_ext, ext_room, one_counted}
 use Rattle.ether_packet.proofs.finding.ext_at.Goals as goal
 
 pub loop-unit-init : goal.loop-unit-init
@@ -51,8 +51,8 @@ loop-unit-preserved c = (
 
 pub returns-in-Some-Err-clause-none : goal.returns-in-Some-Err-clause-none
 returns-in-Some-Err-clause-none c hs e walk =
-    search (rules, reached_fault)
+    search rules
 
 pub returns-in-None-clause-none : goal.returns-in-None-clause-none
 returns-in-None-clause-none c hs e walk =
-    search (rules, reached_none)
+    search rules

@@ -11,7 +11,7 @@ returns-in_err-link-clause-refused c =
     let h : (hs : List Header) (e : Ending) → Walk (start_of c.args.start) c.args.frame.now hs e
     → RefusesPop hs c.in_err-link.field-0.0 =
     λ hs e walk. link c.in_err-link.field-0.0 (c.in_err-link.ensures.refused hs e walk) in
-    search (rules, h)
+    search rules
 
 pub returns-then-not-announces_vlan-clause-refused :
     goal.returns-then-not-announces_vlan-clause-refused

@@ -1,5 +1,5 @@
 use Rattle.std.proofs.Common.{rules}
-use Rattle.ether_packet.proofs.ReachLemmas.{reached_unit, reached_inside}
+use Rattle.ether_packet.proofs.ReachLemmas.{reached_unit}
 use Rattle.ether_packet.proofs.snap_len.reached.Goals as goal
 
 pub loop-unit-preserved : goal.loop-unit-preserved
@@ -8,4 +8,4 @@ loop-unit-preserved c hs e walk =
 
 pub returns-in-None-clause-within : goal.returns-in-None-clause-within
 returns-in-None-clause-within c =
-    search (rules, reached_inside)
+    search rules

@@ -27,7 +27,6 @@ overflow_add-at c =
     let l = c.loop-ext in
     let room = c.requires in
     let len = c.header_len-at-in-loop-ext.ensures.value in
-    let bound = c.type_inv.target in
     let next =
     room_next c.args.self.now c.args.target.now l.target l.ext-index l.at c.ext-item.result c.loop-ext-test.true
     c.ext-item.is l.invariant in

@@ -7,7 +7,6 @@ pub returns-in-Some-first : goal.returns-in-Some-first
 returns-in-Some-first c =
     let us = c.args.self.now.read.units in
     let lt : c.loop-index.index < length (exts_of us) = let n = c.ext_count-index-end.ensures.value in
-    let test = c.loop-index-test.true in
     omega arith in
     tagged_twice us c.loop-index.index c.loop-index.first c.tag.result c.in-Some-first.outer c.in-Some.tag
     c.loop-index.invariant lt c.tag.ensures c.in-Some-first.is c.in-Some.is

@@ -1,11 +1,10 @@
 use Rattle.std.proofs.Common.{sym, subst, rules}
 use Rattle.etherparse.specs.Ethernet2.{ethernet2_of}
-use Rattle.etherparse.specs.Kind as kinds
 use Rattle.ether_peel.specs.declared.peel_unit.PeelUnit.{PeelUnit}
 use Rattle.ether_peel.specs.declared.peel_unit.PeelUnit.TheVariants as shown
 use Rattle.ether_packet.specs.PacketUnit.{Read}
 use Rattle.ether_packet.specs.Places.{kind_read, HasPlace, Reads, IsReadable, IsReadableLink}
-use Rattle.ether_packet.proofs.Places.{arp_at, no_packet, with_arp, with_link, frame_unit, readable_frame, readable_whole}
+use Rattle.ether_packet.proofs.Places.{arp_at, no_packet, with_arp, readable_frame, readable_whole}
 use Rattle.ether_packet.proofs.packet_units.PacketUnits.add.Goals as goal
 
 pub invariant_of-self : goal.invariant_of-self
@@ -27,20 +26,14 @@ invariant_of-self c =
 
 pub returns-in-Ethernet2 : goal.returns-in-Ethernet2
 returns-in-Ethernet2 c =
-    search (rules, frame_unit, with_link)
+    search rules
 
 pub invariant_of-self-in-LinuxSll : goal.invariant_of-self-in-LinuxSll
 invariant_of-self-in-LinuxSll c =
-    let a = c.self-in-LinuxSll.inside in
     let fits = subst (λ (u : PeelUnit). HasPlace c.args.self.now u c.args.place) c.in-LinuxSll.is c.requires.fits in
     let readable =
     subst (λ (u : PeelUnit). IsReadable (kind_read u) c.args.place) c.in-LinuxSll.is c.requires.readable in
-    let whole = readable_whole c.args.self.now.frame _ c.args.place fits.2 readable in
-    record {
-      link = subst (λ (r : Read). Reads r.frame kinds.LinuxSll) (sym c.self-in-LinuxSll.view_is) whole;
-      exts = c.self-in-LinuxSll.invariant.exts;
-      arp = c.self-in-LinuxSll.invariant.arp;
-    }
+    search rules
 
 pub returns-in-Arp : goal.returns-in-Arp
 returns-in-Arp c =

@@ -1,4 +1,4 @@
-use Rattle.std.proofs.Common.{ℕ, List}
+use Rattle.std.proofs.Common.{ℕ, List, rules}
 use Rattle.ether_peel.specs.Grammar.Expectation.{Expectation}
 use Rattle.ether_packet.specs.Gathered.{UnderWay}
 use Rattle.ether_packet.proofs.Gathering.{NextOf, next_of, fits, readable, gathered_next, fewer_come}
@@ -30,14 +30,4 @@ add-requires-clause-readable c =
 
 pub returns-in-Some-Ok : goal.returns-in-Some-Ok
 returns-in-Some-Ok c start list w =
-    let n = next (goal.at.returns-in-Some-Ok c).In-Some-Ok start list w in (
-      record {
-        bytes = w.bytes;
-        gathered =
-            gathered_next start list c.args.self.now.peel c.next.new.self c.args.self.now.read c.add.new.self
-            (record { start = c.offset.result; bytes = c.rest.result }) c.in-Some-Ok.unit w.gathered w.bytes n
-            (record { start = c.offset.ensures.value; bytes = c.rest.ensures }) c.add.ensures;
-        no_fault = w.no_fault;
-      },
-      fewer_come start list c.args.self.now.peel c.next.new.self c.args.self.now.read c.in-Some-Ok.unit w.gathered n,
-    )
+    let n = next (goal.at.returns-in-Some-Ok c).In-Some-Ok start list w in search (rules, gathered_next, fewer_come)
