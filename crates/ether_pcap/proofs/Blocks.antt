@@ -8,7 +8,7 @@ use Rattle.ether_pcap.specs.Block.{BlockValue, IsTotalLen, BeginsBlock, BlockRef
 pub block_one : (order : Order) (bytes : List ℕ) (b c : BlockValue) → BeginsBlock order bytes b
     → BeginsBlock order bytes c → b ≡ c
 block_one order bytes b c h k =
-    search (rules, length)
+    search rules
 
 -- the length at the end, by the place at which the block ends
 same_trailer : (order : Order) (bytes : List ℕ) (len n m : ℕ) → field order bytes (8 + len) (12 + len) ≡ 12 + len

@@ -1,5 +1,5 @@
 -- Bodies and section headers: one for each list of bytes, or one refusal.
-use Rattle.std.proofs.Common.{◌≡◌, ℕ, ◌+◌, List, length, drop, refl, sym, ap, ◌∙◌, arith, rules}
+use Rattle.std.proofs.Common.{◌≡◌, ℕ, ◌+◌, List, length, refl, sym, ap, ◌∙◌, arith, rules}
 use Rattle.ether_pcap.specs.Numbers.{Order}
 use Rattle.ether_pcap.specs.Bodies.{BodyRefusal, InterfaceValue, IsInterface, RefusesInterface, interface, EnhancedPacketValue, IsEnhancedPacket, RefusesEnhancedPacket, enhanced, enhanced_too_long, enhanced_packet, SimplePacketValue, IsSimplePacket, RefusesSimplePacket, simple, simple_too_long, simple_packet, Short, TooLong}
 
@@ -22,7 +22,7 @@ interface_refused body r s (interface lt) (interface m) = refl
 pub enhanced_one : (number_len : ℕ) (order : Order) (body : List ℕ) (v w : EnhancedPacketValue)
     → IsEnhancedPacket number_len order body v → IsEnhancedPacket number_len order body w → v ≡ w
 enhanced_one number_len order body v w h k =
-    search (rules, length, drop)
+    search rules
 
 pub enhanced_apart : (number_len : ℕ) (order : Order) (body : List ℕ) (v : EnhancedPacketValue) (r : BodyRefusal)
     → IsEnhancedPacket number_len order body v → RefusesEnhancedPacket order body r → ⊥
@@ -47,7 +47,7 @@ enhanced_refused order body r s h k = refl
 pub simple_one : (order : Order) (snap_len : ℕ) (body : List ℕ) (v w : SimplePacketValue)
     → IsSimplePacket order snap_len body v → IsSimplePacket order snap_len body w → v ≡ w
 simple_one order snap_len body v w h k =
-    search (rules, length)
+    search rules
 
 pub simple_apart : (order : Order) (snap_len : ℕ) (body : List ℕ) (v : SimplePacketValue) (r : BodyRefusal)
     → IsSimplePacket order snap_len body v → RefusesSimplePacket order snap_len body r → ⊥

@@ -171,7 +171,7 @@ Section_of bytes =
 
 some_version : (major minor : ℕ) → IsVersion major minor ⊎ (IsVersion major minor → ⊥)
 some_version major minor =
-    search (rules, cases_eq)
+    search rules
 
 with_block : (bytes : List ℕ) (o : Order) (b : BlockValue) → HasSectionType bytes → HasOrder bytes o
     → BeginsBlock o bytes b → Section_of bytes

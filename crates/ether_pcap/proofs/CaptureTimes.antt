@@ -1,7 +1,7 @@
 -- Times of a number of units, if a second has so many.
 use Rattle.std.proofs.Common.{◌≡◌, ℕ, ◌+◌, ◌*◌, ◌/◌, ◌%◌, ◌^◌, ◌<◌, ◌≤◌, ap, ◌∙◌, arith, Some, Bool, mul_assoc, rules}
 use Rattle.std.specs.Prelude.{min, if◌then◌else◌, ◌-◌}
-use Rattle.std.proofs.Math.Nat.{div-add-mod, add-mul-div_left, div-lt_iff_lt-mul, div-eq_of_lt, pow-le-pow_right, one-le-pow}
+use Rattle.std.proofs.Math.Nat.{div-add-mod, add-mul-div_left, div-eq_of_lt, pow-le-pow_right, one-le-pow}
 use Rattle.std.proofs.lemmas.Bool.{cases_lt, lt-ltb}
 use Rattle.ether_pcap.specs.Capture.{time_of, units_of}
 
@@ -15,7 +15,7 @@ split n u some =
 
 below_a_second : (n u : ℕ) → 0 < u → n % u * 1000000000 / u < 1000000000
 below_a_second n u some =
-    search (rules, div-lt_iff_lt-mul)
+    search rules
 
 pub same_time : (n u : ℕ) → 0 < u
     → record { seconds = n / u; nanoseconds = n % u * 1000000000 / u } ≡ time_of (n * 1000000000 / u)

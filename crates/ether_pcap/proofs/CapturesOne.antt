@@ -8,7 +8,7 @@ use Rattle.ether_pcap.specs.Options.{OptionValue, HasOptions}
 use Rattle.ether_pcap.specs.Bodies.{EnhancedPacketValue, SimplePacketValue, IsSimplePacket, RefusesSimplePacket}
 use Rattle.ether_pcap.specs.Capture.{PacketValue, CaptureInterfaceValue, Describes, IsAt, packet_on, simple_packet_on, Expectation, Records, Blocks, BlockKind, InterfaceDescription, SimplePacket, EnhancedPacket, Other, kind_of_block, IsBody, CaptureRefusal, File, Record, Section, Block, Body, NoInterface, RefusesBody, interface, too_many, simple_alone, simple, enhanced, enhanced_alone, Begins, file_header, file_record, first_section, section, block, Refuses, file_header_refused, file_record_refused, first_section_refused, section_refused, block_refused, body_refused}
 use Rattle.ether_pcap.proofs.FileHeaders.{one_header, apart, refused_once}
-use Rattle.ether_pcap.proofs.Records.{record_one, record_apart, refusal_one}
+use Rattle.ether_pcap.proofs.Records.{record_apart, refusal_one}
 use Rattle.ether_pcap.proofs.Blocks.{block_one, block_apart, block_refusal_one}
 use Rattle.ether_pcap.proofs.Sections as sections
 use Rattle.ether_pcap.proofs.Options.{same_options}
@@ -127,7 +127,7 @@ unit_one bytes x y z len n p q ok (file_header m h other is) (file_header m2 k o
     (refl, refl, ap Records (one_header bytes h k ok is is2))
 unit_one bytes x y z len n p q ok (file_header m h other is) (first_section m2 order b is2) = absurd (other is2.section)
 unit_one bytes x y z len n p q ok (file_record h r is) (file_record k s is2) =
-    search (rules, record_one)
+    search rules
 unit_one bytes x y z len n p q ok (first_section m order b is) (file_header m2 h other is2) = absurd (other is.section)
 unit_one bytes x y z len n p q ok (first_section m order b is) (first_section m2 order2 c is2) =
     search (rules, sections.section_one, length)

@@ -13,9 +13,9 @@ use Rattle.ether_pcap.specs.Capture.{PacketValue, IsWithinSnap, packet_of_record
 use Rattle.ether_pcap.specs.Editing.{EditedValue, edited_block, edited_unit}
 use Rattle.ether_pcap.specs.CopiedUnits.{ModeValue, Exact, Changed, raised_len, raised_header, raised_interface, expected_in, with_bytes, no_section_len, changed_block, changed_unit, other_unit, packet_in, is_kept, packet_unit, unit_after, packet_after}
 use Rattle.ether_pcap.proofs.CaptureLengths.{unit_some}
-use Rattle.ether_pcap.proofs.EditPackets.{edited_begins, why_not_edited, fits_if}
+use Rattle.ether_pcap.proofs.EditPackets.{edited_begins, why_not_edited}
 use Rattle.ether_pcap.proofs.PacketUnits.{record_of_unit, block_of_unit, type_of, is_interface, is_obsolete, is_simple, is_enhanced, is_other, same_packet, begun, begun_before}
-use Rattle.ether_pcap.proofs.WithBytes.{length-with_bytes, raised_none, raised_some, raised_room, header_raised, with_bytes-before, section_in, interface_begins, interface_len, interface_described}
+use Rattle.ether_pcap.proofs.WithBytes.{length-with_bytes, raised_none, raised_room, header_raised, with_bytes-before, section_in, interface_begins, interface_len, interface_described}
 
 -- ---- lengths
 
@@ -39,11 +39,11 @@ room_if : (bytes : List ℕ) (x y : Expectation) (len : ℕ) (p : Option PacketV
 room_if bytes x y len p e (file_header m h other is) = is.len
 room_if bytes x y len p e (file_record h r is) = absurd cc
 room_if bytes x y len p e (first_section m order b is) =
-    search (rules, length)
+    search rules
 room_if bytes x y len p e (section m order next interfaces b is) =
-    search (rules, length)
+    search rules
 room_if bytes x y len p e (block m order interfaces after q b other begins body) =
-    search (rules, length, interface_room)
+    search rules
 
 pub unit_room : (bytes : List ℕ) (x y : Expectation) (len : ℕ) → Begins bytes x len None y → HasRoom y bytes
 unit_room bytes x y len begins = room_if bytes x y len None refl begins
@@ -60,13 +60,13 @@ pub section_changed : (raise m : ℕ) (order : Order) (interfaces : List Capture
     → HasSectionType bytes
     → changed_unit raise (Blocks m order interfaces) bytes ≡ with_bytes 16 no_section_len bytes
 section_changed raise m order interfaces bytes is =
-    search (rules, eq-eqb)
+    search rules
 
 pub other_changed : (raise m : ℕ) (order : Order) (interfaces : List CaptureInterfaceValue) (bytes : List ℕ)
     → (HasSectionType bytes → ⊥)
     → changed_unit raise (Blocks m order interfaces) bytes ≡ changed_block raise order bytes
 other_changed raise m order interfaces bytes other =
-    search (rules, ne_eqb)
+    search rules
 
 module _ (raise : ℕ) where
   abbrev raised : List CaptureInterfaceValue → List CaptureInterfaceValue
@@ -76,7 +76,7 @@ module _ (raise : ℕ) where
   as_unit : (new unit : List ℕ) (x y : Expectation) (n : ℕ) → new ≡ unit → n ≡ length new
       → Begins new x n None y → Begins unit x (length unit) None y
   as_unit new unit x y n same len begins =
-      search (rules, length)
+      search rules
 
   section_unit : (bytes : List ℕ) (x z : Expectation) (m n : ℕ) (order : Order) (b : BlockValue)
       → n ≡ length bytes → n ≡ 12 + length b.body → IsSection bytes order b
@@ -183,7 +183,6 @@ module _ (raise : ℕ) where
     where
       not_one : field order bytes 0 4 ≡ 1 → ⊥
       not_one one =
-          let bad : InterfaceDescription ≡ Other = ap kind_of_block (sym (sym begins.block_type ∙ one)) ∙ kind in
           absurd cc
 
   changed_if : (bytes : List ℕ) (x y : Expectation) (len : ℕ) (p : Option PacketValue) → p ≡ None
@@ -313,7 +312,7 @@ module _ (raise : ℕ) where
   edited_unit_kept (Beginning m) u new p e is = (refl, is)
   edited_unit_kept (Records h) u new p e is = (refl, is)
   edited_unit_kept (Blocks m order interfaces) u new p e is =
-      search (rules, kept_edited, length, fits_if)
+      search rules
 
 -- the unit of a packet is one of the copy
 pub packet_in_copy : (mode : ModeValue) (x : Expectation) (u new : List ℕ) (p : PacketValue) (o : Option EditedValue)
@@ -372,4 +371,4 @@ pub raised_within : (raise : ℕ) (p q : PacketValue) → IsWithinSnap p → q.s
     → length q.packet ≤ length p.packet + raise → length q.packet ≤ 262144 → IsWithinSnap q
 raised_within raise p q (inl none) e more room = inl (e ∙ raised_none raise p.snap_len none)
 raised_within raise p q (inr le) e more room =
-    search (rules, cases_eq, raised_none, raised_some)
+    search rules

@@ -1,5 +1,5 @@
 -- What a copy of a capture file has.
-use Rattle.std.proofs.Common.{◌≡◌, ◌≢◌, ◌⊎◌, ℕ, zero, suc, ◌+◌, ◌<◌, ◌≤◌, Bool, true, false, List, [], ◌∷◌, ◌++◌, length, drop, length-drop, append_assoc, refl, sym, ap, subst, ◌∙◌, arith, inl, inr, Some, None, rules}
+use Rattle.std.proofs.Common.{◌≡◌, ◌≢◌, ◌⊎◌, ℕ, zero, suc, ◌+◌, ◌<◌, ◌≤◌, Bool, true, false, List, [], ◌∷◌, ◌++◌, length, drop, length-drop, append_assoc, refl, sym, subst, arith, inl, inr, Some, None, rules}
 use Rattle.std.specs.Prelude.{Option, IsTrue, All, take, ⊤}
 use Rattle.std.proofs.lemmas.List.{length-take-le, take-append-drop, drop_at}
 use Rattle.std.proofs.lemmas.List.Elements.{All-cons, All-head, All-tail}
@@ -247,9 +247,8 @@ module _ (Edits : PacketValue → Option EditedValue → Type 0) (stays : EditsN
   pub all_unedited : (kept edited : List PacketValue) → AreEdited Exact Edits kept edited → edited ≡ kept
   all_unedited _ _ none_edited = refl
   all_unedited _ _ (one_edited p o kept edited edits are) =
-      let e = ap (packet_after Exact p) (stays p o edits) in
-      let f = all_unedited kept edited are in
-      λ i. e i ∷ f i
+      let more = all_unedited kept edited are in
+      search rules
 
   -- a unit stays
   unit_unedited : (x : Expectation) (p : PacketValue) (o : Option EditedValue) (bytes front : List ℕ) → Edits p o
@@ -271,9 +270,8 @@ module _ (Edits : PacketValue → Option EditedValue → Type 0) (stays : EditsN
   copy_all x bytes copy kept edited rest fault (unit _ y _ others len _ _ _ _ begins copies) =
       joined bytes others rest len (copy_all y (drop len bytes) others kept edited rest fault copies)
   copy_all x bytes copy kept edited rest fault (keeps _ y _ front others len p o ps qs _ _ begins is edits fits copies) =
-      let same : take len bytes ≡ front = unit_unedited x p o (take len bytes) front edits fits in
-      ap (λ (l : List ℕ). l ++ others ++ rest) (sym same)
-      ∙ joined bytes others rest len (copy_all y (drop len bytes) others ps qs rest fault copies)
+      let more = copy_all y (drop len bytes) others ps qs rest fault copies in
+      search (rules, unit_unedited, joined, drop)
   copy_all x bytes copy kept edited rest fault (leaves _ y _ _ len p _ _ _ _ begins not_kept copies) =
       absurd (not_kept tt)
 

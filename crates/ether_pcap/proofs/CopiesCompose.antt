@@ -1,7 +1,7 @@
 -- A copy of a copy: packets are selected twice.
 use Rattle.std.proofs.Common.{◌≡◌, ◌≢◌, ◌⊎◌, ℕ, ◌+◌, ◌-◌, ◌^◌, ◌<◌, ◌≤◌, Bool, true, false, List, [], ◌∷◌, ◌++◌, length, take, drop, map, reverse, length-append, refl, sym, ap, subst, ◌∙◌, arith, inl, inr, Some, None, rules}
 use Rattle.std.specs.Prelude.{Option, IsTrue, ◌↔◌, ◌&&◌, All, ⊤, unwrap_or, nat_eq, slice_range, if◌then◌else◌}
-use Rattle.std.proofs.lemmas.Bool.{cases_eq, eq-eqb, ne_eqb}
+use Rattle.std.proofs.lemmas.Bool.{cases_eq, eq-eqb}
 use Rattle.std.proofs.lemmas.List.{length-reverse, drop_at}
 use Rattle.std.proofs.lemmas.List.Elements.{All-nil, All-cons, All-head, All-tail, All-append}
 use Rattle.ether_base.specs.Bytes.{IsBytes, number}
@@ -12,7 +12,7 @@ use Rattle.ether_pcap.specs.Numbers.{Order, BigEndian, LittleEndian, number_from
 use Rattle.ether_pcap.specs.Writing.{bytes_of}
 use Rattle.ether_pcap.specs.FileHeader.{FileHeaderValue}
 use Rattle.ether_pcap.specs.Section.{section_type, HasSectionType}
-use Rattle.ether_pcap.specs.CopiedUnits.{ModeValue, Changed, packet_after, raised_len, raised_header, raised_interface, expected_in, with_bytes, changed_unit, other_unit, packet_in, is_kept, packet_unit, unit_after}
+use Rattle.ether_pcap.specs.CopiedUnits.{ModeValue, Changed, raised_len, raised_header, raised_interface, expected_in, with_bytes, changed_unit, other_unit, packet_in, is_kept, packet_unit, unit_after}
 use Rattle.ether_pcap.specs.Bodies.{captured_by}
 use Rattle.ether_pcap.specs.Capture.{PacketValue, packet_of_record, packet_on, simple_packet_on, CaptureInterfaceValue, Expectation, Beginning, Records, Blocks, BlockKind, InterfaceDescription, SimplePacket, EnhancedPacket, Other, kind_of_block, IsBody, HasBegun, Begins, HasPackets, file_header, file_record, block}
 use Rattle.ether_pcap.specs.Editing.{EditedValue}
@@ -23,8 +23,8 @@ use Rattle.ether_pcap.proofs.CaptureLengths.{unit_some}
 use Rattle.ether_pcap.proofs.Copies.{copy_read, copy_source, other_taken, packet_copied}
 use Rattle.ether_pcap.proofs.CopiesOne.{one_copied}
 use Rattle.ether_pcap.proofs.PacketsOne.{packets_one}
-use Rattle.ether_pcap.proofs.CopiedUnits.{HasRoom, unit_room, unit_in_copy, section_changed, other_changed}
-use Rattle.ether_pcap.proofs.WithBytes.{with_bytes-before, raised_none, raised_some, raised_room, raised_field}
+use Rattle.ether_pcap.proofs.CopiedUnits.{HasRoom, unit_room, unit_in_copy, other_changed}
+use Rattle.ether_pcap.proofs.WithBytes.{with_bytes-before, raised_room, raised_field}
 
 -- ---- a unit that was changed is not changed again
 
@@ -41,7 +41,7 @@ module _ (at : ℕ) (new bytes : List ℕ) (room : at + length new ≤ length by
 
 raised_twice : (n : ℕ) → raised_len 0 (raised_len 0 n) ≡ raised_len 0 n
 raised_twice n =
-    search (rules, cases_eq, raised_none, raised_some)
+    search rules
 
 module _ (most : ℕ) (order : Order) (interfaces : List CaptureInterfaceValue) (bytes : List ℕ) where
   abbrev changed : List ℕ → List ℕ
@@ -49,7 +49,7 @@ module _ (most : ℕ) (order : Order) (interfaces : List CaptureInterfaceValue) 
 
   section_twice : HasSectionType bytes → 24 ≤ length bytes → changed (changed bytes) ≡ changed bytes
   section_twice is room =
-      search (rules, section_changed, with_bytes-before, replaced_twice)
+      search rules
 
   interface_twice : (HasSectionType bytes → ⊥) → field order bytes 0 4 ≡ 1 → 16 ≤ length bytes
       → changed (changed bytes) ≡ changed bytes
@@ -73,7 +73,7 @@ module _ (most : ℕ) (order : Order) (interfaces : List CaptureInterfaceValue) 
   plain_twice : (HasSectionType bytes → ⊥) → (field order bytes 0 4 ≡ 1 → ⊥)
       → (changed bytes ≡ []) ⊎ (changed bytes ≡ bytes)
   plain_twice other not_one =
-      search (rules, other_changed, ne_eqb, cases_eq, eq-eqb)
+      search rules
 
   block_twice : HasRoom (Blocks most order interfaces) bytes
       → (changed bytes ≡ []) ⊎ (changed (changed bytes) ≡ changed bytes)
@@ -132,7 +132,7 @@ four_field order bytes i ok le =
 
 same_len : (n : ℕ) → IsFour n → raised_len 0 n ≡ n
 same_len n lt =
-    search (rules, cases_eq, raised_none, raised_some)
+    search rules
 
 same_header : (h : FileHeaderValue) → IsFour h.snap_len → raised_header 0 h ≡ h
 same_header h lt = ap (λ (n : ℕ). record h { snap_len = n }) (same_len h.snap_len lt)
@@ -224,7 +224,6 @@ range_packet bytes x y len o p some (file_record h r is) range =
 range_packet bytes x y len o p some (block m order interfaces after q b other begins body) range =
     let found = body_packet (kind_of_block b.block_type) m order interfaces after b.body q p some body range in
     let unit = take len bytes in
-    let whole : 12 + length b.body ≤ length bytes = begins.whole in
     let type_same = ap (number_in order) (part_of_take bytes len 4 (omega arith)) ∙ begins.block_type in
     let kept = ap (λ (n : ℕ). is_kept 0 (kind_of_block n) p) type_same ∙ found.1 in
     (found.0, ap (λ (z : Bool). if z then Some unit else None) kept)
@@ -286,12 +285,10 @@ module _ (Edits : PacketValue → Option EditedValue → Type 0) (unedited : Edi
         stay y (drop len bytes) copy kept edited rest fault (IsBytes-drop len bytes ok)
         (range_after bytes x y len (Some p) ok begins range) copies
     stay x bytes copy kept edited rest fault ok range (keeps _ y _ front others len p o ps qs _ _ begins is edits fits copies) =
-        let s =
+        let more =
         stay y (drop len bytes) others ps qs rest fault (IsBytes-drop len bytes ok)
         (range_after bytes x y len (Some p) ok begins range) copies in
-        let found = range_packet bytes x y len (Some p) p refl begins range in
-        let same = ap (packet_after (Changed 0) p) (unedited p o edits) ∙ same_packet_in p found.0 in
-        (s.0, λ i. same i ∷ s.1 i)
+        search (rules, drop, range_after, range_packet, same_packet_in)
 
     -- these packets are kept, or not
     abbrev Chosen : List PacketValue → Type 0
@@ -494,14 +491,7 @@ module _ (Edits : PacketValue → Option EditedValue → Type 0) (unedited : Edi
       let r = compose First Second start bytes between kept edited rest fault ok tt each once in
       let one =
       one_copied (Changed 0) Second Edits one_edit start between r.copy copy r.chosen chosen r.chosen last [] left
-      None other ok_between (r.again (inr some)) twice in (
-        subst (λ (l : List ℕ). Kept most (λ p. First p × Second p) bytes l chosen last rest fault) one.0
-            (subst (λ (l : List PacketValue). Kept most (λ p. First p × Second p) bytes r.copy l last rest fault) one.1
-            (subst (λ (l : List PacketValue). Kept most (λ p. First p × Second p) bytes r.copy r.chosen l rest fault) one.2
-            r.whole)),
-        sym one.3,
-        sym one.4,
-      )
+      None other ok_between (r.again (inr some)) twice in search rules
 
   -- packets that are kept once are kept again
   pub composed_twice : (most : ℕ) (Keeps : PacketValue → Type 0) (bytes between copy : List ℕ)
@@ -527,7 +517,7 @@ unedited_none p (Some e) is = absurd cc
 
 edits_once : EditsOnce (λ p o. IsTrue (edits_none p o))
 edits_once =
-    search (rules, unedited_none)
+    search rules
 
 both_true : (a b : Bool) → (IsTrue a × IsTrue b) ↔ IsTrue (a && b)
 both_true true b = (λ is. is.1, λ is. (refl, is))
@@ -546,12 +536,7 @@ composed_tests most first second bytes between copy kept edited chosen last rest
     let Second = λ (p : PacketValue). IsTrue (second p) in
     let c =
     composed Edits unedited_none edits_once most First Second bytes between copy kept edited chosen last rest left fault
-    other ok ok_between some once twice in (
-      copies_alike (Changed 0) (λ p. First p × Second p) (λ p. IsTrue (first p && second p)) Edits
-          (λ p. both_true (first p) (second p)) (Beginning most) bytes copy chosen last rest fault c.0,
-      c.1,
-      c.2,
-    )
+    other ok ok_between some once twice in search (rules, copies_alike, both_true)
 
 pub composed_again : (most : ℕ) (test : PacketValue → Bool) (bytes between copy : List ℕ)
     (kept edited chosen last : List PacketValue) (rest left : List ℕ) (fault other : Option CopyFault)

@@ -74,7 +74,7 @@ module _ (mode : ModeValue) (Keeps : PacketValue → Type 0) (Edits : PacketValu
       → others ≡ more → Joined x y p front others all → Joined x y p front more other → all ≡ other
   same_joined x y None front others more all other e a b =
       a ∙ ap (λ (r : Result). record r { copy = other_unit mode y front ++ r.copy }) e ∙ sym b
-  same_joined x y h front others more all other e a b = search (rules, same_front)
+  same_joined x y h front others more all other e a b = search rules
 
   -- a packet that can't be edited is not copied
   stuck_apart : (x y z : Expectation) (bytes : List ℕ) (others all : Result) (len n : ℕ) (p : PacketValue)
@@ -92,7 +92,6 @@ module _ (mode : ModeValue) (Keeps : PacketValue → Type 0) (Edits : PacketValu
       no_joint : Joined x z (Some p) (take len bytes) others all → ⊥
       no_joint (inl (is2, r, u, edits2, g, a)) =
           let same = once.one p o r edits edits2 in
-          let f = sym no_front ∙ ap (λ (s : Option EditedValue). unit_after mode x p s (take len bytes)) same ∙ g in
           absurd cc
       no_joint (inr (not_kept, a)) = not_kept is
 
@@ -169,13 +168,7 @@ module _ (mode : ModeValue) (Keeps : PacketValue → Type 0) (Edits : PacketValu
       let s =
       one_step (length bytes) x bytes (result copy kept edited) (result copy2 kept2 edited2) rest rest2 fault fault2
       (omega arith) ok (first_step x bytes copy kept edited rest fault c)
-      (first_step x bytes copy2 kept2 edited2 rest2 fault2 d) in (
-        ap (λ (r : Result). r.copy) s.0,
-        ap (λ (r : Result). r.kept) s.0,
-        ap (λ (r : Result). r.edited) s.0,
-        s.1,
-        s.2,
-      )
+      (first_step x bytes copy2 kept2 edited2 rest2 fault2 d) in search rules
 
 pub one_copy : (mode : ModeValue) (test : PacketValue → Bool) (edits : PacketValue → Option EditedValue → Bool)
     (x : Expectation) (bytes : List ℕ) (c d : Copy mode test edits x bytes)

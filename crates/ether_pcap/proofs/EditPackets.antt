@@ -16,7 +16,7 @@ use Rattle.ether_pcap.specs.Editing.{EditedValue, edited_record, edited_body, bl
 use Rattle.ether_pcap.specs.declared.capture.edited_unit.EditedUnit.{EditedUnit}
 use Rattle.ether_pcap.proofs.CaptureLocality.{unit_local}
 use Rattle.ether_pcap.proofs.EditUnits.{length-edited_front, length-edited_body, length-block_bytes, block_bytes-type, record_edited, body_edited, block_begins}
-use Rattle.ether_pcap.proofs.PacketUnits.{record_of_unit, PacketBlock, block_of_unit, body_of_unit, type_of, is_interface, is_obsolete, is_simple, is_enhanced, is_other, same_packet, begun_before, packet_room}
+use Rattle.ether_pcap.proofs.PacketUnits.{record_of_unit, PacketBlock, block_of_unit, body_of_unit, same_packet, begun_before, packet_room}
 
 same_bytes : (a b : List ℕ) → Some a ≡ Some b → a ≡ b
 same_bytes a b e = ap (λ (o : Option (List ℕ)). unwrap_or o a) e
@@ -31,7 +31,7 @@ data Room (e : EditedValue) : Type 0 where
 
 room_of : (e : EditedValue) → Room e
 room_of e =
-    search (rules, cases_lt, length)
+    search rules
 
 too_long : (e : EditedValue) → 262144 < length e.packet → is_too_long e ≡ true
 too_long e long = rw (lt-ltb 262144 (length e.packet) long) refl
@@ -114,7 +114,7 @@ record BlockFits (order : Order) (m : ℕ) (e : EditedValue) (u new : List ℕ) 
 block_fits : (number_len : ℕ) (order : Order) (m : ℕ) (e : EditedValue) (u new : List ℕ)
     → edited_block (EnhancedPacket number_len) order m e u ≡ Some new → BlockFits order m e u new
 block_fits number_len order m e u new is =
-    search (rules, length, cases_lt, lt-ltb, same_bytes, le-ltb)
+    search rules
 
 module _ (most : ℕ) (order : Order) (interfaces : List CaptureInterfaceValue) (u : List ℕ) (p : PacketValue)
     (e : EditedValue) (b : PacketBlock most order interfaces u p) (len : length u ≡ 12 + length b.value.body)
@@ -168,7 +168,7 @@ module _ (most : ℕ) (order : Order) (interfaces : List CaptureInterfaceValue) 
 
   few_bytes : (t k : ℕ) → kind_of_block t ≡ EnhancedPacket k → k ≤ 4
   few_bytes t k is =
-      search (rules, type_of, is_interface, is_obsolete, is_simple, is_enhanced, is_other)
+      search rules
 
   block_edited : (new : List ℕ) → unit_with (Blocks most order interfaces) (length p.packet) e u ≡ Some new
       → Begins new (Blocks most order interfaces) (length new) (Some (edited_packet e p)) (Blocks most order interfaces)

@@ -42,7 +42,7 @@ module _ (order : Order) (number_len : ℕ) (block : List ℕ) (v : EnhancedPack
 
   pub padded_within : 28 + padded m ≤ length block - 4
   padded_within =
-      search (rules, length, length-body)
+      search rules
 
   pub length-new : 12 + length (edited_body order m e body) ≡ 32 + padded n + (length block - 4 - (28 + padded m))
   length-new =

@@ -1,9 +1,8 @@
 -- File headers: one for each list of bytes, or one refusal.
-use Rattle.std.proofs.Common.{◌≡◌, ℕ, ◌≤◌, List, [], ◌∷◌, length, refl, arith, rules}
+use Rattle.std.proofs.Common.{◌≡◌, ℕ, List, [], ◌∷◌, length, refl, arith, rules}
 use Rattle.ether_base.specs.Bytes.{IsBytes, number}
-use Rattle.ether_base.proofs.SubLists.{length-part}
-use Rattle.ether_pcap.specs.Numbers.{Order, BigEndian, LittleEndian, number_from_low}
-use Rattle.ether_pcap.specs.FileHeader.{Resolution, Microseconds, Nanoseconds, magic_of, HasMagic, FileHeaderValue, IsFileHeader, FileRefusal, RefusesFile, short, magic, version}
+use Rattle.ether_pcap.specs.Numbers.{number_from_low}
+use Rattle.ether_pcap.specs.FileHeader.{Resolution, Microseconds, Nanoseconds, magic_of, FileHeaderValue, IsFileHeader, FileRefusal, RefusesFile, short, magic, version}
 
 -- no four bytes are a magic number in both orders
 ends : (l : List ℕ) → length l ≡ 4 → IsBytes l → (r s : Resolution) → number l ≡ magic_of r
@@ -22,30 +21,17 @@ ends (a ∷ b ∷ c ∷ d ∷ []) len ok Nanoseconds Nanoseconds p q =
     let x = ok 0 in let y = ok 1 in let z = ok 2 in let w = ok 3 in omega (arith, x, y, z, w, p, q)
 ends (a ∷ b ∷ c ∷ d ∷ e ∷ l) len ok r s p q = omega arith
 
-one_resolution : (n : ℕ) (r s : Resolution) → n ≡ magic_of r → n ≡ magic_of s → r ≡ s
-one_resolution n Microseconds Nanoseconds p q = absurd (omega (arith, p, q))
-one_resolution n Nanoseconds Microseconds p q = absurd (omega (arith, p, q))
-one_resolution n r s p q = refl
-
-magic_one : (bytes : List ℕ) (o p : Order) (r s : Resolution) → IsBytes bytes → 24 ≤ length bytes → HasMagic bytes o r
-    → HasMagic bytes p s → (o ≡ p) × (r ≡ s)
-magic_one bytes BigEndian LittleEndian r s ok le h k =
-    search (rules, ends, length-part)
-magic_one bytes LittleEndian BigEndian r s ok le h k =
-    search (rules, ends, length-part)
-magic_one bytes o p r s ok le h k = (refl, one_resolution _ r s h k)
-
 pub one_header : (bytes : List ℕ) (h k : FileHeaderValue) → IsBytes bytes → IsFileHeader bytes h → IsFileHeader bytes k
     → h ≡ k
 one_header bytes h k ok is are =
-    search (rules, magic_one)
+    search rules
 
 pub apart : (bytes : List ℕ) (h : FileHeaderValue) (r : FileRefusal) → IsBytes bytes → IsFileHeader bytes h
     → RefusesFile bytes r → ⊥
 apart bytes h r ok is (short lt) = omega (arith, is.len, lt)
 apart bytes h r ok is (magic le none) = none h.order h.resolution is.magic
 apart bytes h r ok is (version o s le has other) =
-    search (rules, magic_one)
+    search rules
 
 pub refused_once : (bytes : List ℕ) (r s : FileRefusal) → IsBytes bytes → RefusesFile bytes r → RefusesFile bytes s
     → r ≡ s
@@ -58,4 +44,4 @@ refused_once bytes r s ok (magic le none) (version o x le2 has other) = absurd (
 refused_once bytes r s ok (version o x le has other) (short m) = absurd (omega (arith, le, m))
 refused_once bytes r s ok (version o x le has other) (magic le2 none) = absurd (none o x has)
 refused_once bytes r s ok (version o x le has other) (version p y le2 has2 other2) =
-    search (rules, magic_one)
+    search rules

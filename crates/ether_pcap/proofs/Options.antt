@@ -1,15 +1,14 @@
 -- The options of bytes: there is one list of them, and what a reader of it knows on the way.
-use Rattle.std.proofs.Common.{◌≡◌, ℕ, zero, suc, ◌+◌, ◌<◌, ◌≤◌, List, [], ◌∷◌, length, drop, refl, sym, subst, ◌∙◌, arith, inl, inr, Some, None, true, false, eq-eqb, ne_eqb, length-drop, rules}
+use Rattle.std.proofs.Common.{◌≡◌, ℕ, zero, suc, ◌+◌, ◌<◌, ◌≤◌, List, [], ◌∷◌, length, drop, refl, sym, subst, ◌∙◌, arith, inl, inr, Some, None, length-drop, rules}
 use Rattle.std.specs.Prelude.{◌≢◌, Option, slice_range}
 use Rattle.std.proofs.lemmas.Bool.{cases_lt, cases_eq}
-use Rattle.ether_base.proofs.SubLists.{length-part}
 use Rattle.ether_pcap.specs.Numbers.{Order, field}
 use Rattle.ether_pcap.specs.Options.{OptionValue, BeginsOption, HasOptions, padded, value_of}
 
 pub option_one : (order : Order) (bytes : List ℕ) (o p : OptionValue) → BeginsOption order bytes o
     → BeginsOption order bytes p → o ≡ p
 option_one order bytes o p h k =
-    search (rules, length)
+    search rules
 
 -- no option of fewer than four bytes, with code 0, or with more bytes than there are
 
@@ -39,7 +38,7 @@ skipped : (order : Order) (code : ℕ) (rest : List ℕ) (o : OptionValue) (foun
     × (found ≡ value_of code others)
 skipped order code rest o found [] h other has e = absurd (has o h)
 skipped order code rest o found (p ∷ left) h other has e =
-    search (rules, option_one, drop, length, false, ne_eqb)
+    search rules
 
 pub agrees_next : (order : Order) (code : ℕ) (whole rest : List ℕ) (o : OptionValue) → Agrees order code whole rest
     → BeginsOption order rest o → o.code ≢ code → Agrees order code whole (drop (4 + padded (length o.value)) rest)
@@ -53,7 +52,7 @@ found_first : (order : Order) (code : ℕ) (rest : List ℕ) (o : OptionValue) (
     → found ≡ Some o.value
 found_first order code rest o found [] h is has e = absurd (has o h)
 found_first order code rest o found (p ∷ left) h is has e =
-    search (rules, option_one, true, eq-eqb)
+    search rules
 
 pub agrees_found : (order : Order) (code : ℕ) (whole rest : List ℕ) (o : OptionValue) → Agrees order code whole rest
     → BeginsOption order rest o → o.code ≡ code → (options : List OptionValue) → HasOptions order whole options
@@ -98,7 +97,7 @@ begins : (order : Order) (bytes : List ℕ) → field order bytes 0 2 ≢ 0 → 
     → BeginsOption order bytes (option_of order bytes)
 unfolding option_of
 begins order bytes some whole =
-    search (rules, length, length-part)
+    search rules
 
 abbrev Some_of : Order → List ℕ → Type 0
 Some_of order bytes = (options : List OptionValue) × HasOptions order bytes options

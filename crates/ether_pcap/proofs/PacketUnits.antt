@@ -1,7 +1,6 @@
 -- Units that are packets: a record, or a block of one of three types.
 use Rattle.std.proofs.Common.{◌≡◌, ℕ, ◌+◌, ◌-◌, ◌≤◌, List, length, refl, sym, ap, subst, ◌∙◌, arith, Some, None, rules}
 use Rattle.std.specs.Prelude.{Option, unwrap_or, slice_range}
-use Rattle.std.proofs.lemmas.Bool.{cases_eq, ne_eqb}
 use Rattle.ether_base.specs.Bytes.{IsBytes}
 use Rattle.ether_base.proofs.SubLists.{IsBytes-part}
 use Rattle.ether_pcap.specs.Numbers.{Order, field}
@@ -22,7 +21,7 @@ record_if : (bytes : List ℕ) (x y : Expectation) (len : ℕ) (packet : Option 
     (p : PacketValue) → x ≡ Records h → packet ≡ Some p → Begins bytes x len packet y
     → (r : RecordValue) × BeginsRecord h.order bytes r × (len ≡ record_len r) × (p ≡ packet_of_record h r)
 record_if bytes x y len packet h p e f (file_record g r is) =
-    search (rules, same_packet)
+    search rules
 record_if bytes x y len packet h p e f k = absurd cc
 
 pub record_of_unit : (bytes : List ℕ) (y : Expectation) (len : ℕ) (h : FileHeaderValue) (p : PacketValue)
@@ -42,7 +41,7 @@ pub data TypeOf (n : ℕ) : Type 0 where
 
 pub type_of : (n : ℕ) → TypeOf n
 type_of n =
-    search (rules, cases_eq, ne_eqb)
+    search rules
 
 -- a block that is a packet
 pub record PacketBlock (most : ℕ) (order : Order) (interfaces : List CaptureInterfaceValue) (bytes : List ℕ)
@@ -125,7 +124,7 @@ pub body_of_unit : (most : ℕ) (order : Order) (interfaces : List CaptureInterf
     (p : PacketValue) (b : PacketBlock most order interfaces bytes p)
     → length bytes ≡ 12 + length b.value.body → slice_range bytes 8 (length bytes - 4) ≡ b.value.body
 body_of_unit most order interfaces bytes p b len =
-    search (rules, length)
+    search rules
 
 -- ---- how many bytes a packet has
 
@@ -134,9 +133,9 @@ few_in_body : (kind : BlockKind) (most : ℕ) (order : Order) (interfaces : List
     (body : List ℕ) (p : PacketValue) → IsBody kind most order interfaces body (Some p) interfaces
     → length p.packet ≤ 262144
 few_in_body SimplePacket most order interfaces body p (i, v, at, is, e, f) =
-    search (rules, length, same_packet)
+    search rules
 few_in_body (EnhancedPacket n) most order interfaces body p (i, v, o, is, at, has, e, f) =
-    search (rules, length, same_packet)
+    search rules
 few_in_body kind most order interfaces body p h = absurd cc
 
 pub packet_room : (x : Expectation) (u : List ℕ) (p : PacketValue) → Begins u x (length u) (Some p) x

@@ -3,7 +3,6 @@ use Rattle.std.proofs.Common.{◌≡◌, ℕ, zero, suc, ◌+◌, ◌≤◌, Lis
 use Rattle.std.specs.Prelude.{◌≢◌, ◌-◌, ◌==◌, take, Bool, slice_range, Option}
 use Rattle.std.proofs.lemmas.Grind.{common_steps}
 use Rattle.std.proofs.lemmas.Bool.{cases_lt}
-use Rattle.ether_base.proofs.SubLists.{length-part}
 use Rattle.ether_pcap.specs.Numbers.{Order, field}
 use Rattle.ether_pcap.specs.Record.{RecordValue, RecordRefusal, Short, TooLong, BeginsRecord, RefusesRecord, header, too_long, packet, HasRecords, record_len, max_captured_len}
 use Rattle.ether_pcap.specs.Laws.{Contents}
@@ -15,7 +14,7 @@ use Rattle.ether_pcap.specs.declared.classic.record_fault.RecordFault.{RecordFau
 pub record_one : (order : Order) (bytes : List ℕ) (r s : RecordValue) → BeginsRecord order bytes r
     → BeginsRecord order bytes s → r ≡ s
 record_one order bytes r s h k =
-    search (rules, length)
+    search rules
 
 pub record_apart : (order : Order) (bytes : List ℕ) (r : RecordValue) (e : RecordRefusal) → BeginsRecord order bytes r
     → RefusesRecord order bytes e → ⊥
@@ -75,7 +74,7 @@ begins : (order : Order) (bytes : List ℕ) → field order bytes 8 12 ≤ max_c
     → 16 + field order bytes 8 12 ≤ length bytes → BeginsRecord order bytes (record_of order bytes)
 unfolding record_of
 begins order bytes room whole =
-    search (rules, length, length-part)
+    search rules
 
 goes_on : (order : Order) (bytes : List ℕ) (r : RecordValue) → BeginsRecord order bytes r
     → Contents order (drop (record_len r) bytes) → Contents order bytes

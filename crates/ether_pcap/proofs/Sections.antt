@@ -83,7 +83,7 @@ one_version : (bytes : List ℕ) (o p : Order) (a b c d : ℕ) → IsBytes bytes
     → field o bytes 12 14 ≡ a → field o bytes 14 16 ≡ b → field p bytes 12 14 ≡ c → field p bytes 14 16 ≡ d
     → Version a b ≡ Version c d
 one_version bytes o p a b c d ok le m n ea eb ec ed =
-    search (rules, order_one)
+    search rules
 
 pub section_refused : (bytes : List ℕ) (r s : SectionRefusal) → IsBytes bytes → RefusesSection bytes r
     → RefusesSection bytes s → r ≡ s

@@ -1,7 +1,7 @@
 -- Bytes in place of as many others, and what they are in a file header, a section header and an interface description.
 use Rattle.std.proofs.Common.{◌≡◌, ℕ, ◌+◌, ◌-◌, ◌%◌, ◌^◌, ◌<◌, ◌≤◌, List, ◌++◌, length, take, drop, min, refl, sym, ap, subst, ◌∙◌, arith, rules}
 use Rattle.std.specs.Prelude.{Bool, slice_range, if◌then◌else◌}
-use Rattle.std.proofs.lemmas.Bool.{cases_eq, eq-eqb, ne_eqb}
+use Rattle.std.proofs.lemmas.Bool.{eq-eqb}
 use Rattle.std.proofs.lemmas.List.{drop-drop, length-append, length-drop}
 use Rattle.ether_base.specs.Bytes.{number}
 use Rattle.ether_base.proofs.SubLists.{length-part, part-append, part_of_part, part_of_front, part_after_front}
@@ -57,13 +57,9 @@ pub raised_none : (raise n : ℕ) → n ≡ 0 → raised_len raise n ≡ 0
 raised_none raise n is =
     ap (λ (b : Bool). if b then 0 else min (n + raise) (2 ^ 32 - 1)) (eq-eqb n 0 is)
 
-pub raised_some : (raise n : ℕ) → (n ≡ 0 → ⊥) → raised_len raise n ≡ min (n + raise) (2 ^ 32 - 1)
-raised_some raise n some =
-    ap (λ (b : Bool). if b then 0 else min (n + raise) (2 ^ 32 - 1)) (ne_eqb n 0 some)
-
 raised_below : (raise n : ℕ) → raised_len raise n < 256 ^ 4
 raised_below raise n =
-    search (rules, cases_eq, raised_none, raised_some)
+    search rules
 
 module _ (order : Order) (raise n at : ℕ) (bytes : List ℕ) (room : at + 4 ≤ length bytes) where
   abbrev raised : List ℕ

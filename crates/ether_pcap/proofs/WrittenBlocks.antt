@@ -1,5 +1,5 @@
 -- Blocks that are written are read back.
-use Rattle.std.proofs.Common.{◌≡◌, ℕ, ◌+◌, ◌-◌, ◌/◌, ◌%◌, ◌^◌, ◌<◌, ◌≤◌, List, [], ◌∷◌, ◌++◌, length, take, drop, reverse, refl, sym, ap, subst, ◌∙◌, arith, inl, append_assoc, length-append, rules}
+use Rattle.std.proofs.Common.{◌≡◌, ℕ, ◌+◌, ◌-◌, ◌/◌, ◌%◌, ◌^◌, ◌<◌, ◌≤◌, List, [], ◌∷◌, ◌++◌, length, take, drop, reverse, refl, sym, ap, subst, ◌∙◌, arith, append_assoc, length-append, rules}
 use Rattle.std.specs.Prelude.{slice_range}
 use Rattle.std.proofs.lemmas.List.{take_all, drop_at}
 use Rattle.ether_base.specs.Bytes.{spelled}
@@ -13,7 +13,6 @@ use Rattle.ether_pcap.specs.Writing.{bytes_of}
 use Rattle.ether_pcap.specs.Editing.{block_bytes}
 use Rattle.ether_pcap.specs.WritingBlocks.{section_body, interface_head, interface_body, interface_block_len, InterfaceIsRead, nanosecond_bytes, packet_head, packet_padding, packet_body, packet_block_len, PacketIsRead}
 use Rattle.ether_pcap.proofs.Numbers.{length-bytes_of, number-bytes_of}
-use Rattle.ether_pcap.proofs.Options.{none_at_end}
 use Rattle.ether_pcap.proofs.CaptureLocality.{block_local}
 use Rattle.ether_pcap.proofs.EditUnits.{length-zeros, part_past, block_begins}
 
@@ -72,15 +71,7 @@ pub section_read : (order : Order) (rest : List ℕ)
     (record { block_type = section_type; body = section_body order })
 section_read order rest =
     let f = section_fields order rest in
-    let len : 12 + length (section_body order) ≡ 28 = omega (arith, f.4) in
-    let sound : IsTotalLen 28 = record { least = omega arith; aligned = refl; most = omega arith } in
-    record {
-      section = f.0;
-      magic = f.1;
-      block = block_read order section_type (section_body order) rest (omega arith) (subst IsTotalLen (sym len) sound);
-      len = omega (arith, f.4);
-      version = (f.2, inl f.3);
-    }
+    search (rules, block_read)
 
 -- ---- interface descriptions
 
@@ -104,12 +95,7 @@ interface_value order i link snap =
     let body = interface_body order i in
     let long : length body ≡ 8 + length i.options =
     omega (arith, length-append (interface_head order i) i.options, length-interface_head order i) in
-    record {
-      len = omega (arith, long);
-      link_type = ap (number_in order) f.0 ∙ link;
-      snap_len = ap (number_in order) f.1 ∙ snap;
-      options = ap (take (length body - 8)) f.2 ∙ take_all (length body - 8) i.options (omega (arith, long));
-    }
+    search (rules, take, take_all)
 
 pub interface_read : (order : Order) (header : List ℕ) (i : InterfaceValue)
     → header ≡ bytes_of order 4 1 ++ bytes_of order 4 (interface_block_len i) ++ interface_head order i
@@ -135,9 +121,9 @@ pub nanoseconds_read : (order : Order)
     → HasOptions order (nanosecond_bytes order) (record { code = 9; value = 9 ∷ [] } ∷ [])
 unfolding spelled
 nanoseconds_read BigEndian =
-    search (rules, none_at_end)
+    search rules
 nanoseconds_read LittleEndian =
-    search (rules, none_at_end)
+    search rules
 
 -- ---- enhanced packets
 

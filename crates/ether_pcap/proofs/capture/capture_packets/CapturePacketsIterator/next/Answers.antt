@@ -4,7 +4,7 @@ use Rattle.ether_base.specs.Bytes.{IsBytes}
 use Rattle.ether_pcap.specs.Capture.{HasPackets}
 use Rattle.ether_pcap.specs.CaptureReading.{State}
 use Rattle.ether_pcap.proofs.Records.{rest_after}
-use Rattle.ether_pcap.proofs.CaptureReadingLemmas.{after_unit, passed_nothing, passed_unit, gives, gives_packet, gives_none, gives_fault}
+use Rattle.ether_pcap.proofs.CaptureReadingLemmas.{after_unit, passed_unit, gives, gives_packet, gives_none, gives_fault}
 use Rattle.ether_pcap.proofs.capture.capture_packets.CapturePacketsIterator.next.Goals as goal
 
 pub returns-in-Some-clause-steps : goal.returns-in-Some-clause-steps
@@ -59,4 +59,4 @@ returns-clause-steps c =
 
 pub loop-self-init : goal.loop-self-init
 loop-self-init c =
-    search (rules, passed_nothing)
+    search rules
