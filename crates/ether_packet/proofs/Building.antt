@@ -152,7 +152,6 @@ after_tag m p own h t n k e chain fits = search rules
 
 pub inner_fits : (own : ℕ) (hs : List Header) (t n : ℕ) → AreInner hs → IsChain hs → AllFit (built hs t n)
     → Fits (expecting (type_of own hs t)) (built hs t n) n
-inner_fits own [] t n inner chain fit = tt
 inner_fits own (headers.Vlan v ∷ hs) t n inner chain fit =
     let more = inner_fits v.ether_type hs t n inner.1 (later_chain (headers.Vlan v) hs chain) fit.1 in
     search (rules, vlan_fits, vlan_announced, later_chain)

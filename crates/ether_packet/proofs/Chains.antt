@@ -35,8 +35,7 @@ take_next xs i d lt =
 
 pub drop_next : (xs : List LinkExtHeader) (i : ℕ) (d : LinkExtHeader) → i < length xs
     → views (drop i xs) ≡ ext_header_view (slice_index_or xs i d) ∷ views (drop (i + 1) xs)
-drop_next xs i d lt =
-    search (rules, suc, drop-cons, slice_index_or, drop)
+drop_next xs i d lt = search (rules, drop-cons, slice_index_or)
 
 pub length-views : (xs : List LinkExtHeader) → length (views xs) ≡ length xs
 length-views [] = refl
@@ -72,8 +71,7 @@ read_up_to xs followed i n d lt so_far is few e =
 
 pub read_next : (xs : List LinkExtHeader) (followed i : ℕ) (d : LinkExtHeader) → i < length xs → ReadTo xs followed i
     → (i < followed → is_readable (ext_header_view (slice_index_or xs i d)) ≡ true) → ReadTo xs followed (i + 1)
-read_next xs followed i d lt so_far is n le few =
-    search (rules, cases_lt, read_up_to)
+read_next xs followed i d lt so_far is n le few = search (rules, cases_lt, read_up_to)
 
 -- all but the last one can be read
 pub chain_from : (front back : List Header) → AllReadable front → length back ≤ 1 → IsChain (front ++ back)
@@ -158,8 +156,7 @@ pub record Counted (xs : List LinkExtHeader) (first i len : ℕ) : Type 0 where
 pub counted_next : (xs : List LinkExtHeader) (first i len n : ℕ) (d : LinkExtHeader) → i < length xs
     → Counted xs first i len → n ≡ header_len (ext_header_view (slice_index_or xs i d)) → n ≤ 16
     → Counted xs first (i + 1) (len + n)
-counted_next xs first i len n d lt so_far is few =
-    search (rules, drop, drop_next)
+counted_next xs first i len n d lt so_far is few = search (rules, drop_next)
 
 pub counted_all : (xs : List LinkExtHeader) (first i len : ℕ) → length xs ≤ i → Counted xs first i len
     → len ≡ place first (views xs)
@@ -191,5 +188,4 @@ content_place (contents.Arp packet) = omega arith
 
 pub packet_len_is : (p : PacketBuilder)
     → place (link_header_len p.link + content_len p.content) (views p.link_exts.now) ≡ packet_len p
-packet_len_is p =
-    search (rules, link_len, content_place, with_content, length)
+packet_len_is p = search (rules, link_len, content_place, with_content)

@@ -59,8 +59,7 @@ later_none p = ap (λ (l : List LinkExtHeader). views l ++ content_headers p.con
 
 pub later_before : (p : PacketBuilder) (i : ℕ) (x : LinkExtHeader) → 0 < i → i ≤ length p.link_exts.now
     → x ≡ slice_index_or p.link_exts.now (i - 1) x → later p (i - 1) ≡ ext_header_view x ∷ later p i
-later_before p i x some le is =
-    search (rules, drop_next)
+later_before p i x some le is = search (rules, drop_next)
 
 -- ---- the content
 
@@ -85,7 +84,7 @@ pub filled_content : (p : PacketBuilder) (old target : List ℕ) (at t v : ℕ) 
     → t ≡ type_of 0 (content_headers p.content) (content_type p.content) → v ≡ vlan_type (content_headers p.content)
     → Filled p old target (content_headers p.content) at t v
 filled_content p old target at t v ends bytes fits type tag =
-    search (rules, length, content_long, content_fits, append_assoc, take, content_built, drop, content_place)
+    search (rules, content_long, content_fits, append_assoc, content_built, content_place)
 
 -- ---- the tags
 
@@ -155,12 +154,10 @@ any_length (links.LinuxSll h) t n m = refl
 any_length (links.Ethernet2 h) t n m = refl
 
 pub room_for_content : (p : PacketBuilder) → content_len p.content ≤ packet_len p
-room_for_content p =
-    search (rules, place_least, views, packet_len_is)
+room_for_content p = search (rules, place_least, packet_len_is)
 
 pub room_for_link : (p : PacketBuilder) (len : ℕ) → packet_len p ≤ len → header_len (link_header p.link) ≤ len
-room_for_link p len le =
-    search (rules, place-first, length)
+room_for_link p len le = search (rules, place-first)
 
 inner_views : (xs : List LinkExtHeader) (c : PacketContent) → AreInner (views xs ++ content_headers c)
 inner_views [] (contents.Payload t bytes) = tt
@@ -211,4 +208,4 @@ filled_all p old target new at announced vlan ethernet packet chain room so_far 
     ∙ place-built m (link_header p.link ∷ hs) k m in
     let front : take end new ≡ flat_map header_bytes (built_headers p) ++ payload =
     ap (take end) whole ∙ take_at (flat_map header_bytes (built_headers p) ++ payload) (drop end old) end long in
-    search (rules, begins_with, take)
+    search (rules, begins_with)

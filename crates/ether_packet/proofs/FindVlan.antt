@@ -98,8 +98,7 @@ same_front (x ∷ xs) [] v w later more vid e has holds a b =
 same_front (x ∷ xs) (y ∷ ys) v w later more vid e has holds a b =
     let first : x ≡ y = cc in
     let rest : xs ++ headers.Vlan v ∷ later ≡ ys ++ headers.Vlan w ∷ more = cc in
-    let same =
-    same_front xs ys v w later more vid rest has holds (lacks_tail x xs vid a) (lacks_tail y ys vid b) in
+    let same = same_front xs ys v w later more vid rest has holds (lacks_tail x xs vid a) (lacks_tail y ys vid b) in
     λ i. first i ∷ same i
 
 pub found_once : (hs : List Header) (vid i j : ℕ) → FindsVlan hs vid i → FindsVlan hs vid j → i ≡ j

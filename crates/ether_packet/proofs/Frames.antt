@@ -40,13 +40,11 @@ use Rattle.ether_packet.proofs.Written.{place-add}
 pub headers_alone : (p : PacketParts) (b : PacketBuilder) (content : PacketContent) → IsBuilderOf p b
     → content_headers content ≡ arp_headers p.arp
     → given_headers (record b { content = content }) ≡ parts_headers p
-headers_alone p b content is same =
-    λ i. link_header (is.link i) ∷ map ext_header_view (is.exts i) ++ same i
+headers_alone p b content is same = λ i. link_header (is.link i) ∷ map ext_header_view (is.exts i) ++ same i
 
 pub size_is : (p : PacketParts) (b : PacketBuilder) → given_headers b ≡ parts_headers p → content_payload b.content ≡ []
     → frame_size p ≡ packet_len b + length p.rest.now + length p.trailer.now
-size_is p b same empty =
-    search (rules, length, place-add)
+size_is p b same empty = search (rules, place-add)
 
 -- a number that is none of the greatest is the size
 pub counted_is : (p : PacketParts) (n : ℕ) → n ≡ counted_size p → n < 2 ^ 64 - 1 → n ≡ frame_size p
@@ -136,13 +134,12 @@ split start list packet is =
     let len = length-part list v.start v.finish inside in
     let long = ap length is.rest in
     let offset = is.offset in
-    let ends : packet.rest_offset + length packet.rest.now ≡ v.finish =
-    omega (arith, len, long, offset, ordered) in
+    let ends : packet.rest_offset + length packet.rest.now ≡ v.finish = omega (arith, len, long, offset, ordered) in
     let n = v.finish - v.start in
     let sum : v.start + n ≡ v.finish = omega (arith, ordered) in
     let trailer : trailer_of packet ≡ drop v.finish list = (λ i. drop (ends i) (is.frame i)) in
     let past = trailer ∙ ap (λ (k : ℕ). drop k list) (sym sum) ∙ sym (drop-drop n v.start list) in
-    search (rules, take-append-drop, drop)
+    search (rules, take-append-drop)
 
 -- ---- the whole frame
 
@@ -230,8 +227,7 @@ record Found (p : PacketParts) (hs : List Header) : Type 0 where
 found : (p : PacketParts) (hs : List Header) → AllAgree (headers_for p hs) hs → AllFit (parts_headers p)
     → HasPacketType p.link → Found p hs
 found p [] same fit packet_type = absurd same
-found p (h ∷ hs) same fit packet_type =
-    search (rules, in_place_bytes, in_place_fits, in_place_sendable, inner_sendable)
+found p (h ∷ hs) same fit packet_type = search (rules, in_place_bytes, in_place_fits, in_place_sendable, inner_sendable)
 
 pub changed_frames_are_read : ChangedFramesAreRead
 changed_frames_are_read p end old new w start list packet e is walk same rest trailer =

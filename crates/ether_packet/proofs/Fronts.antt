@@ -84,10 +84,8 @@ announced_after start h n link next =
 pub none_popped : (start : Start) (list : List ℕ) (hs : List Header) (e : Ending) (error : TagError)
     → Walk (start_of start) list hs e → RefusesPop hs error → outer_tag hs ≡ None
 none_popped start list hs e error walk (pops.link other (no_link none)) = (unlinked hs none).1
-none_popped start list hs e error walk (pops.link other (hardware_type s later parts differs)) =
-    search rules
-none_popped start list hs e error walk (pops.no_vlan link later begins none) =
-    search rules
+none_popped start list hs e error walk (pops.link other (hardware_type s later parts differs)) = search rules
+none_popped start list hs e error walk (pops.no_vlan link later begins none) = search rules
 none_popped start list hs e error walk (pops.cut_vlan link begins is) = rw (begins.parts, begins.is_link) refl
 
 -- .. and with a TPID and room none is put in only if there is no ether type

@@ -37,7 +37,6 @@ use Rattle.ether_packet.specs.Gathered.{window_after, Ready, Gathered, item_of, 
 use Rattle.ether_packet.specs.declared.packet_walk.PacketWalk.{PacketWalk}
 use Rattle.ether_packet.specs.Places.{Reads, IsReadable, kind_read, unit_at, read_with, HasPlace}
 use Rattle.ether_packet.proofs.HeadersIn.{header_shown}
-use Rattle.ether_packet.proofs.Places.{is_ext, arp_of_unit}
 
 -- ---- one header more
 
@@ -80,8 +79,7 @@ starts next kind e first = absurd cc
 pub may_read : (x : Expectation) (kind : Kind) (free : ℕ) → x.limit ≡ Some free → is_extension kind ≡ true
     → announced x ≡ Some kind → 0 < free
 may_read x kind (suc free) limit ext e = omega arith
-may_read x kind zero limit ext e =
-    search rules
+may_read x kind zero limit ext e = search rules
 
 -- ---- a unit is added
 
@@ -94,8 +92,7 @@ no_arp r x kind (inr over) e = let a = announced_is x kind e in let b = ap annou
 place_first : (r : Read) (x : Expectation) (kind : Kind) (p : FrameWindow) (free : ℕ) → Ready r x free
     → announced x ≡ Some kind → is_first kind ≡ true → (r.units ≡ [] → (p.start ≡ 0) × (p.bytes.now ≡ r.frame))
     → (r.units ≡ []) × (p.start ≡ 0) × (p.bytes.now ≡ r.frame)
-place_first r x kind p free ready e first whole_frame =
-    search rules
+place_first r x kind p free ready e first whole_frame = search rules
 
 pub has_place : (r : Read) (x : Expectation) (bytes rest : List ℕ) (h : Header) (u : PeelUnit) (p : FrameWindow)
     (free : ℕ)
@@ -109,10 +106,8 @@ has_place r x bytes rest h u p free ready known shows room first = search rules
 room_for : (us : List PacketUnit) (u : PacketUnit) (b : Bool) (free : ℕ) → is_extension u.kind ≡ b
     → (b ≡ true → 0 < free) → length (exts_of us) + free ≡ 3
     → length (exts_of (us ++ u ∷ [])) + cond b (free - 1) free ≡ 3
-room_for us u true free is more room =
-    search (rules, length, filter-append, is_ext, length-append, cond)
-room_for us u false free is more room =
-    search (rules, length, filter-append, is_ext, length-append, cond)
+room_for us u true free is more room = search (rules, filter-append, length-append)
+room_for us u false free is more room = search (rules, filter-append, length-append)
 
 empty_if : (l : List (List ℕ)) → slice_get l 0 ≡ None → l ≡ []
 empty_if [] e = refl
@@ -121,8 +116,7 @@ empty_if (x ∷ l) e = absurd cc
 -- what is no ARP packet adds none
 still_no_arp : (us : List PacketUnit) (u : PacketUnit) → arp_view us ≡ None → arp_in u.kind u.bytes ≡ None
     → arp_view (us ++ u ∷ []) ≡ None
-still_no_arp us u none other =
-    search (rules, filter_map-append, arp_of_unit, empty_if)
+still_no_arp us u none other = search (rules, filter_map-append, empty_if)
 
 arp_or_over : (h : Header) (bytes : List ℕ) → (arp_in (kind_of h) bytes ≡ None) ⊎ (next_after h ≡ AfterArp)
 arp_or_over (headers.Arp a) bytes = inr refl
@@ -176,8 +170,7 @@ given : (list : List ℕ) (w : Window) (left : List Header) (e : Ending) (s t : 
     → GivesNext list w left e s (Some (Ok u)) t → Given list w left e s t u
 given list w [] (Accepted v y) s t u g = let none = g.0 in absurd cc
 given list w [] (Fault v y q) s t u g = let fault = g.0 in absurd cc
-given list w (h ∷ hs) e s t u g =
-    search rules
+given list w (h ∷ hs) e s t u g = search rules
 
 -- what is known of it
 pub record IsNext (list : List ℕ) (w : Window) (left : List Header) (e : Ending) (s t : State)
@@ -338,14 +331,12 @@ gathered_next start list s t r q p u a ok n here is =
 -- after a header that only a frame begins with
 fewer_after_first : (x : Expectation) (h : Header) → announced x ≡ Some (kind_of h) → is_first (kind_of h) ≡ true
     → next_left (next_after h) ≡ 1 → is_extension (kind_of h) ≡ false → headers_left (after x h) + 1 ≤ headers_left x
-fewer_after_first x h known first one other =
-    search rules
+fewer_after_first x h known first one other = search rules
 
 pub fewer_left : (x : Expectation) (h : Header) (free : ℕ) → x.limit ≡ Some free → announced x ≡ Some (kind_of h)
     → headers_left (after x h) + 1 ≤ headers_left x
 fewer_left x (headers.Ethernet2 e) free limit known = fewer_after_first x (headers.Ethernet2 e) known refl refl refl
-fewer_left x h free limit known =
-    search rules
+fewer_left x h free limit known = search rules
 
 pub fewer_come : (start : Expectation) (list : List ℕ) (s t : State) (r : Read) (u : PeelUnit)
     (a : Gathered start list s r)
@@ -366,8 +357,7 @@ record Ended (list : List ℕ) (w : Window) (left : List Header) (e : Ending) (s
 
 ended : (list : List ℕ) (w : Window) (left : List Header) (e : Ending) (s t : State) (met : Option PeelFault)
     → Faces list w s left e → GivesNext list w left e s (item_of met) t → Ended list w left e s t met
-ended list w [] (Accepted v y) s t None f g =
-    search rules
+ended list w [] (Accepted v y) s t None f g = search rules
 ended list w h e s t k f g = search rules
 
 pub is_packet : (start : Expectation) (list : List ℕ) (s t : State) (r : Read) (packet : PacketSlice)
@@ -375,8 +365,7 @@ pub is_packet : (start : Expectation) (list : List ℕ) (s t : State) (r : Read)
     → Gathered start list s r → Gives s (item_of met) t
     → packet.read ≡ r → packet.rest.now ≡ t.rest → packet.rest_offset ≡ t.offset
     → packet.rest_kind ≡ kind_shown t.expected → packet.fault ≡ met → IsPacket start list packet
-is_packet start list s t r packet met a gives read rest offset kind fault =
-    search (rules, append-nil, one_stack)
+is_packet start list s t r packet met a gives read rest offset kind fault = search (rules, append-nil, one_stack)
 
 -- ---- several headers
 

@@ -170,8 +170,7 @@ sec_tag_first us i packet so_far lt view = first_viewed us i _ packet so_far lt 
 
 pub sec_tag_none : (us : List PacketUnit) (n : ℕ) → Unsealed (exts_of us) n → length (exts_of us) ≤ n
     → ViewsSecTagIf (slice_get (sec_tags_of us) 0) None
-sec_tag_none us n so_far past =
-    search (rules, sec_tags_found, found_all)
+sec_tag_none us n so_far past = search (rules, sec_tags_found, found_all)
 
 -- ---- views of extensions
 

@@ -4,10 +4,12 @@ use Rattle.std.specs.Prelude.{Option, Some, None, if◌then◌else◌}
 use Rattle.etherparse.specs.Types.LenSource.TheVariants as sources
 use Rattle.etherparse.specs.Types.LinuxSllProtocolType.TheVariants as protocols
 use Rattle.etherparse.specs.Types.EtherType.{EtherType as EtherTypeNumber}
+use Rattle.etherparse.specs.Types.ArpHardwareId.{ArpHardwareId}
 use Rattle.etherparse.specs.Types.LinkHeader.{LinkHeader}
 use Rattle.etherparse.specs.Types.LinkHeader.TheVariants as links
 use Rattle.etherparse.specs.Bytes.{IsBytes, overwritten}
 use Rattle.etherparse.specs.Ethernet2.{Ethernet2Value}
+use Rattle.etherparse.specs.LinuxSll.{LinuxSllValue}
 use Rattle.etherparse.specs.LinuxSllProtocolType.{protocol_number}
 use Rattle.etherparse.specs.Kind.{Kind}
 use Rattle.etherparse.specs.Header.{Header, kind_of, header_len, header_bytes, FitsHeader, Means}
@@ -64,11 +66,34 @@ begins_link start kind list hs e g ok a accepted is walk =
 same_ether_type : (t u : EtherTypeNumber) → t.0 ≡ u.0 → t ≡ u
 same_ether_type t u same = λ i. record { 0 = same i }
 
+same_hardware : (t u : ArpHardwareId) → t.0 ≡ u.0 → t ≡ u
+same_hardware t u same = λ i. record { 0 = same i }
+
 -- and differ in the same
 pub differs : (g l : LinkHeader) (h : Header) (d : Difference) → IsLinkOf l h → LinksDiffer g l d → LinkDiffers g h d
 differs (links.Ethernet2 g) (links.Ethernet2 l) (headers.Ethernet2 h) differences.EtherType is other = λ same.
     other (same_ether_type g.ether_type l.ether_type (same ∙ ap (λ (v : Ethernet2Value). v.ether_type) (sym is)))
-differs g l h d is other = search rules
+differs (links.Ethernet2 g) (links.Ethernet2 l) (headers.Ethernet2Fcs h) differences.EtherType is other = λ same.
+    other (same_ether_type g.ether_type l.ether_type (same ∙ ap (λ (v : Ethernet2Value). v.ether_type) (sym is)))
+differs (links.LinuxSll g) (links.LinuxSll l) (headers.LinuxSll h) differences.HardwareType is other = λ same.
+    other (same_hardware g.arp_hrd_type l.arp_hrd_type (same ∙ ap (λ (s : LinuxSllValue). s.hardware_type) (sym is.0)))
+differs (links.LinuxSll g) (links.LinuxSll l) (headers.LinuxSll h) differences.ProtocolType is other = (
+  ap (λ (t : ArpHardwareId). t.0) other.0 ∙ ap (λ (s : LinuxSllValue). s.hardware_type) is.0,
+  λ same. other.1 (same ∙ sym is.1),
+)
+differs (links.Ethernet2 g) (links.LinuxSll l) (headers.LinuxSll h) differences.Kind is other = tt
+differs (links.LinuxSll g) (links.Ethernet2 l) (headers.Ethernet2 h) differences.Kind is other = tt
+differs (links.LinuxSll g) (links.Ethernet2 l) (headers.Ethernet2Fcs h) differences.Kind is other = tt
+differs g (links.Ethernet2 l) (headers.LinuxSll h) d is other = absurd is
+differs g (links.Ethernet2 l) (headers.Vlan h) d is other = absurd is
+differs g (links.Ethernet2 l) (headers.Macsec h) d is other = absurd is
+differs g (links.Ethernet2 l) (headers.Arp h) d is other = absurd is
+differs g (links.LinuxSll l) (headers.Ethernet2 h) d is other = absurd is
+differs g (links.LinuxSll l) (headers.Ethernet2Fcs h) d is other = absurd is
+differs g (links.LinuxSll l) (headers.Vlan h) d is other = absurd is
+differs g (links.LinuxSll l) (headers.Macsec h) d is other = absurd is
+differs g (links.LinuxSll l) (headers.Arp h) d is other = absurd is
+differs g l h d is other = absurd other
 
 link_kind : (l : LinkHeader) (h : Header) → IsLinkOf l h → is_link (kind_of h) ≡ true
 link_kind (links.Ethernet2 l) (headers.Ethernet2 h) is = refl
@@ -82,8 +107,7 @@ link_len (links.LinuxSll g) (links.LinuxSll l) same = refl
 link_len _ _ same = absurd same
 
 pub takes_link : (g l : LinkHeader) (hs : List Header) → LinksAgree g l → BeginsWithLink hs l → TakesLink hs g
-takes_link g l hs same b =
-    search rules
+takes_link g l hs same b = search rules
 
 pub refuses_link : (g l : LinkHeader) (hs : List Header) (d : Difference) → LinksDiffer g l d → BeginsWithLink hs l
     → RefusesLink hs g (errors.SaysOther d)

@@ -63,8 +63,7 @@ same_bytes a b e = cc
 -- the packet that a view means
 arp_header : (k : Kind) (bytes view : List ℕ) → arp_in k bytes ≡ Some view
     → header_in k bytes ≡ headers.Arp (arp_of view)
-arp_header kinds.Arp bytes view e =
-    search (rules, arp_of_part, same_bytes)
+arp_header kinds.Arp bytes view e = search (rules, arp_of_part, same_bytes)
 arp_header k bytes view e = absurd cc
 
 -- none

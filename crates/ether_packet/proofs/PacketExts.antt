@@ -112,8 +112,7 @@ split_at (u ∷ us) i x at = split_cons u us i x (is_ext u) refl (λ j. split_at
 
 pub ext_at : (us : List PacketUnit) (i : ℕ) (x : PacketUnit) → slice_get (exts_of us) i ≡ Some x → (s : Split us i x)
     → IsExtAt (map header_of us) i (map header_of s.front) (header_of x) (map header_of s.later)
-ext_at us i x at s =
-    search (rules, slice_get_within, map-append, ext_header, exts_count, length, length-take-le)
+ext_at us i x at s = search (rules, slice_get_within, map-append, ext_header, exts_count, length-take-le)
 
 -- and its place in the list
 unit_begins : (list : List ℕ) (w : Window) (front : List PacketUnit) (x : PacketUnit) (later : List PacketUnit)
@@ -127,8 +126,7 @@ unit_begins list w (u ∷ front) x later are = unit_begins list (payload w (head
 -- the extension that is found at an index
 pub found_takes : (hs : List Header) (i : ℕ) (f : PlacedExt) (g : Header) → IsPlacedExt hs i f
     → Agree g (ext_header_view f.header) → TakesExt hs i g f.at
-found_takes hs i f g p same =
-    search rules
+found_takes hs i f g p same = search rules
 
 pub found_room : (g h : Header) (at n : ℕ) → Agree g h → at + header_len h ≤ n → at + header_len g ≤ n
 found_room g h at n same room = let len = same_len g h same in omega (arith, len, room)
@@ -152,4 +150,4 @@ pub is_replaced : (start : Expectation) (old new : List ℕ) (hs : List Header) 
     → TakesExt hs i g at → FitsHeader g → IsSendable g → new ≡ overwritten old at (header_bytes g) → Walk start old hs e
     → ReplacesExt start old hs e i g new
 is_replaced start old new hs e i at g t fits sendable bytes walk =
-    search (rules, header_inside, length-header_bytes, same_len, length, length-overwritten, replaced_walk)
+    search (rules, header_inside, length-header_bytes, same_len, length-overwritten, replaced_walk)

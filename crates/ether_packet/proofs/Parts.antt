@@ -33,8 +33,7 @@ pub shape : (frame : List ℕ) (link : LinkKind) (xs : List ExtPlace) (arp : Opt
     → link_units frame link ≡ u ∷ []
     → map header_of (units_at frame link xs arp)
     ≡ header_of u ∷ map header_of (exts_of (units_at frame link xs arp)) ++ map header_of (arp_units arp)
-shape frame link xs arp u is =
-    search (rules, map-append, exts_at)
+shape frame link xs arp u is = search (rules, map-append, exts_at)
 
 tag_no_link : (k : ExtKind) (bytes : List ℕ) → is_link (kind_of (header_in (ext_kind k) bytes)) ≡ false
 tag_no_link tags.Vlan bytes = refl
@@ -48,5 +47,4 @@ none_is_link (x ∷ xs) arp = tag_no_link x.kind x.place.bytes.now
 
 pub without_link : (frame : List ℕ) (link : LinkKind) (xs : List ExtPlace) (arp : Option FrameWindow)
     → link_units frame link ≡ [] → has_link (map header_of (units_at frame link xs arp)) ≡ false
-without_link frame link xs arp none =
-    search (rules, none_is_link)
+without_link frame link xs arp none = search (rules, none_is_link)

@@ -73,8 +73,7 @@ only_arp (Some p) = refl
 found_last : {A : Type 0} (f : PacketUnit → Option A) (frame : List ℕ) (link : LinkKind) (xs : List ExtPlace)
     (arp : Option FrameWindow) → filter_map f (link_units frame link) ≡ [] → filter_map f (map ext_unit xs) ≡ []
     → filter_map f (units_at frame link xs arp) ≡ filter_map f (arp_units arp)
-found_last f frame link xs arp no_link no_ext =
-    search (rules, filter_map-append, no_link)
+found_last f frame link xs arp no_link no_ext = search (rules, filter_map-append, no_link)
 
 pub arp_at : (frame : List ℕ) (link : LinkKind) (xs : List ExtPlace) (arp : Option FrameWindow)
     → arp_view (units_at frame link xs arp) ≡ packet_at arp
@@ -110,8 +109,7 @@ only_start (Some p) = refl
 
 pub arp_offset_at : (frame : List ℕ) (link : LinkKind) (xs : List ExtPlace) (arp : Option FrameWindow)
     → arp_offset (units_at frame link xs arp) ≡ start_at arp
-arp_offset_at frame link xs arp =
-    search (rules, found_last, link_starts, exts_start, only_start)
+arp_offset_at frame link xs arp = search (rules, found_last, link_starts, exts_start, only_start)
 
 pub no_packet : (arp : Option FrameWindow) → packet_at arp ≡ None → arp ≡ None
 no_packet None e = refl
@@ -147,8 +145,7 @@ pub with_link : (frame : List ℕ) (old new : LinkKind) (xs : List ExtPlace) (ar
     → units_at frame old xs arp ≡ [] → p.start ≡ 0 → p.bytes.now ≡ frame
     → link_units frame new ≡ link_unit frame kind ∷ []
     → units_at frame new xs arp ≡ units_at frame old xs arp ++ unit_at kind p ∷ []
-with_link frame old new xs arp kind p none start whole is =
-    search rules
+with_link frame old new xs arp kind p none start whole is = search rules
 
 pub readable_whole : (frame : List ℕ) (kind : Kind) (p : FrameWindow) → p.bytes.now ≡ frame → IsReadable kind p
     → Reads frame kind
@@ -163,14 +160,12 @@ readable_frame frame false e r = r
 -- an extension after the others
 pub with_ext : (frame : List ℕ) (link : LinkKind) (xs : List ExtPlace) (arp : Option FrameWindow) (x : ExtPlace)
     → arp ≡ None → units_at frame link (xs ++ x ∷ []) arp ≡ units_at frame link xs arp ++ ext_unit x ∷ []
-with_ext frame link xs arp x none =
-    search (rules, append-nil, map-append, append_assoc)
+with_ext frame link xs arp x none = search (rules, append-nil, map-append, append_assoc)
 
 -- an ARP packet after all
 pub with_arp : (frame : List ℕ) (link : LinkKind) (xs : List ExtPlace) (arp : Option FrameWindow) (p : FrameWindow)
     → arp ≡ None → units_at frame link xs (Some p) ≡ units_at frame link xs arp ++ unit_at kinds.Arp p ∷ []
-with_arp frame link xs arp p none =
-    search rules
+with_arp frame link xs arp p none = search rules
 
 pub all_with : {X : Type 0} (P : X → Type 0) (xs : List X) (x : X) → All P xs → P x → All P (xs ++ x ∷ [])
 all_with P xs x all p =
@@ -183,8 +178,7 @@ all_with P xs x all p =
 
 -- there is none past the end alone
 pub missing_past : {X : Type 0} (xs : List X) (i : ℕ) → slice_get xs i ≡ None → length xs ≤ i
-missing_past xs i none =
-    search (rules, slice_get_cases)
+missing_past xs i none = search (rules, slice_get_cases)
 
 pub all_get : {X : Type 0} (P : X → Type 0) (xs : List X) (i : ℕ) (x : X) → All P xs → slice_get xs i ≡ Some x → P x
 all_get P xs i x all e =
@@ -194,10 +188,8 @@ pub ext_got : (frame : List ℕ) (link : LinkKind) (xs : List ExtPlace) (arp : O
     (ext : PacketExt)
     → slice_get xs i ≡ Some x → ViewsExt (ext_unit x) ext
     → ViewsExtIf (slice_get (exts_of (units_at frame link xs arp)) i) (Some ext)
-ext_got frame link xs arp i x ext got views =
-    search (rules, exts_at, slice_get-map)
+ext_got frame link xs arp i x ext got views = search (rules, exts_at, slice_get-map)
 
 pub ext_missing : (frame : List ℕ) (link : LinkKind) (xs : List ExtPlace) (arp : Option FrameWindow) (i : ℕ)
     → slice_get xs i ≡ None → ViewsExtIf (slice_get (exts_of (units_at frame link xs arp)) i) None
-ext_missing frame link xs arp i none =
-    search (rules, exts_at, slice_get-map)
+ext_missing frame link xs arp i none = search (rules, exts_at, slice_get-map)

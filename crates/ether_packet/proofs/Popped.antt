@@ -33,8 +33,7 @@ use Rattle.ether_packet.proofs.VlanIds.{own_bytes}
 -- the list without four bytes after its first m
 pub popped_list : (old : List ℕ) (m : ℕ) → m + 4 ≤ length old
     → drop 4 (overwritten old 4 (take m old)) ≡ take m old ++ drop (m + 4) old
-popped_list old m le =
-    search rules
+popped_list old m le = search rules
 
 pub front_kept : (old more : List ℕ) (m : ℕ) → m ≤ length old
     → slice_range (take m old ++ more) 0 m ≡ slice_range old 0 m
@@ -182,16 +181,14 @@ no_tag start list hs l t other = no_vlan t.link t.later t.begins (announces_tag 
 -- the length of the payload
 payload_len : (start : Start) (list : List ℕ) (hs : List Header) (l : TypedLink) (t : IsTypedLink start list hs l)
     → length (within list (link_payload (start_of start) list t.link)) ≡ l.payload_len
-payload_len start list hs l t =
-    search rules
+payload_len start list hs l t = search rules
 
 after_link : (start : Start) (list : List ℕ) (hs : List Header) (e : Ending) (l : TypedLink)
     (t : IsTypedLink start list hs l)
     → Walk (start_of start) list hs e
     → Stack list (record { next = EtherType (type_of_link t.link); limit = None })
     (link_payload (start_of start) list t.link) t.later e
-after_link start list hs e l t walk =
-    search rules
+after_link start list hs e l t walk = search rules
 
 pub cut_tag : (start : Start) (list : List ℕ) (hs : List Header) (e : Ending) (l : TypedLink)
     → IsTypedLink start list hs l → is_vlan_ether_type l.ether_type.0 ≡ true → l.payload_len < 4

@@ -68,7 +68,7 @@ is_inserted buffer new p c m two two_more le bytes =
     let by_control : new ≡ a ++ p ++ c ++ drop m old = is ∙ (λ i. sym (append_assoc a p c) i ++ drop m old) in
     let begun : length (a ++ p) ≡ m + 2 = length-append a p ∙ (λ i. len i + two i) in
     let till : length (a ++ p ++ c) ≡ m + 4 = length-append (a ++ p) c ∙ (λ i. begun i + two_more i) ∙ omega arith in
-    search (rules, append_assoc, drop, front_kept, part_after_front, drop_at)
+    search (rules, append_assoc, front_kept, part_after_front, drop_at)
 
 -- ---- the tag
 

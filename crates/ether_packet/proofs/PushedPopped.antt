@@ -96,8 +96,7 @@ joined list m =
 
 pieces_len : (list : List ℕ) (m : ℕ) → m + 4 ≤ length list
     → length (take m list ++ (slice_range list m (m + 2) ++ slice_range list (m + 2) (m + 4))) ≡ m + 4
-pieces_len list m le =
-    search (rules, part_join, length-take-le, length-part, length-append, take, length)
+pieces_len list m le = search (rules, part_join, length-take-le, length-part, length-append)
 
 pub pushed_after_popped : PushedAfterPopped
 pushed_after_popped start old between new hs ks e f tag ok walk p found pushed =

@@ -33,17 +33,14 @@ payload_named : (list : List ℕ) (start finish : ℕ) (o : Option ℕ) (rest : 
     → unwrap_or (option_map (λ n. start + n) o) finish ≤ length list
     → (if is_some o then length rest else 0) ≡ unwrap_or o 0
 payload_named list start finish None rest le is inside = refl
-payload_named list start finish (Some n) rest le is inside =
-    search (rules, length-part, length)
+payload_named list start finish (Some n) rest le is inside = search (rules, length-part)
 
 -- where a unit ends, in the list
 ends_inside : (list : List ℕ) (w : Window) (t : State) (hs : List Header) (e : Ending) (o : Option ℕ)
     → Faces list w t hs e
     → t.offset + (if is_some o then length t.rest else 0) ≤ length list
-ends_inside list w t hs e None faces =
-    search rules
-ends_inside list w t hs e (Some n) faces =
-    search (rules, length, length-part)
+ends_inside list w t hs e None faces = search rules
+ends_inside list w t hs e (Some n) faces = search (rules, length-part)
 
 unit_of : (list : List ℕ) (w : Window) (left : List Header) (s t : State) (e : Ending) (len all : ℕ) (u : PeelUnit)
     → IsBytes list → Faces list w s left e → s.over ≡ false → max len (reach s.offset left) ≡ all → len ≤ length list
@@ -88,8 +85,7 @@ reached_unit list s t e len all u ok r gives =
 -- nothing was given
 pub reached_none : (list : List ℕ) (s t : State) (e : Ending) (len all : ℕ) → Reached list s e len all
     → Gives s None t → len ≡ all
-reached_none list s t e len all r gives =
-    none_of list r.window r.left s t e len all r.faces r.going r.rest gives
+reached_none list s t e len all r gives = none_of list r.window r.left s t e len all r.faces r.going r.rest gives
 
 -- a fault was given
 pub reached_fault : (list : List ℕ) (s t : State) (e : Ending) (len all : ℕ) (fault : PeelFault)

@@ -121,8 +121,7 @@ placed_ext list s t hs e i u f ok p gives is at =
 -- .. lies in the list
 pub ext_room : (start : Expectation) (list : List ℕ) (hs : List Header) (e : Ending) (i : ℕ) (f : PlacedExt)
     → Walk start list hs e → IsPlacedExt hs i f → f.at + header_len (ext_header_view f.header) ≤ length list
-ext_room start list hs e i f walk p =
-    search (rules, header_inside)
+ext_room start list hs e i f walk p = search (rules, header_inside)
 
 -- the walk ends
 pub left_none : (list : List ℕ) (w : Window) (left : List Header) (s t : State) (e : Ending)
@@ -174,5 +173,4 @@ ext_least at (h ∷ hs) =
 pub index_inside : (x : Expectation) (list : List ℕ) (s t begun : State) (i : ℕ) (u : PeelUnit) → IsBytes list
     → FacesWalk x list begun → ((hs : List Header) (e : Ending) → Walk x list hs e → Reached list s hs e i)
     → Gives s (Some (Ok u)) t → i + ext_count (unit_header u ∷ []) ≤ s.offset + length s.rest
-index_inside x list s t begun i u ok w passed gives =
-    search (rules, ext_least)
+index_inside x list s t begun i u ok w passed gives = search (rules, ext_least)

@@ -97,5 +97,4 @@ pub reach_with_arp : (frame : List ℕ) (link : LinkKind) (xs : List ExtPlace) (
     → header_len (header_of (unit_at kinds.Arp p)) ≡ n
     → reach 0 (headers_at frame link xs (Some p))
     ≡ max (reach 0 (headers_at frame link xs None)) (place 0 (headers_at frame link xs None) + n)
-reach_with_arp frame link xs p n own =
-    search (rules, map-append, append-nil, reach-append)
+reach_with_arp frame link xs p n own = search (rules, map-append, append-nil, reach-append)

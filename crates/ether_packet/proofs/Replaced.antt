@@ -1,5 +1,5 @@
 -- A header of a walk that is replaced in place: the walk is the one before with the other header.
-use Rattle.std.proofs.Common.{◌≡◌, ℕ, ◌+◌, ◌-◌, ◌≤◌, List, [], ◌∷◌, ◌++◌, length, take, drop, refl, sym, ap, subst, ◌∙◌, arith, Bool, true, false, rules}
+use Rattle.std.proofs.Common.{◌≡◌, ℕ, ◌+◌, ◌-◌, ◌*◌, ◌≤◌, List, [], ◌∷◌, ◌++◌, length, take, drop, refl, sym, ap, subst, ◌∙◌, arith, Bool, true, false, rules}
 use Rattle.std.specs.Prelude.{slice_range, Option, Some, unwrap_or}
 use Rattle.std.proofs.lemmas.List.{append_assoc, drop_at, drop-drop, length-append, length-drop, length-take-le}
 use Rattle.std.proofs.lemmas.Slice.{between_from_start}
@@ -46,14 +46,12 @@ part_before list bytes at i j le ij ja =
 -- the bytes
 pub part_at : (list bytes : List ℕ) (at : ℕ) → at + length bytes ≤ length list
     → slice_range (overwritten list at bytes) at (at + length bytes) ≡ bytes
-part_at list bytes at le =
-    search (rules, part_after_front, take, drop, length, length-take-le)
+part_at list bytes at le = search (rules, part_after_front, length-take-le)
 
 -- what follows them
 rest_after : (list bytes : List ℕ) (at : ℕ) → at + length bytes ≤ length list
     → drop (at + length bytes) (overwritten list at bytes) ≡ drop (at + length bytes) list
-rest_after list bytes at le =
-    search (rules, length, take, length-append, length-take-le, drop_at, drop)
+rest_after list bytes at le = search (rules, length-append, length-take-le, drop_at)
 
 pub part_after : (list bytes : List ℕ) (at i j : ℕ) → at + length bytes ≤ length list → at + length bytes ≤ i
     → slice_range (overwritten list at bytes) i j ≡ slice_range list i j
@@ -91,13 +89,23 @@ LookAlike g h = ⊥
 
 pub look_alike : (g h : Header) → Agree g h → LookAlike g h
 look_alike (headers.Ethernet2 g) (headers.Ethernet2 h) same = tt
-look_alike h k same = search rules
+look_alike (headers.Ethernet2Fcs g) (headers.Ethernet2Fcs h) same = tt
+look_alike (headers.LinuxSll g) (headers.LinuxSll h) same = same.0
+look_alike (headers.Vlan g) (headers.Vlan h) same = tt
+look_alike (headers.Macsec g) (headers.Macsec h) same = (ap encrypted_of same.0, ap changed_of same.0, same.1, same.2)
+look_alike (headers.Arp g) (headers.Arp h) same = same
+look_alike _ _ same = absurd same
 
 alike_shape : (g h : Header) → LookAlike g h
     → (kind_of g ≡ kind_of h) × (header_len g ≡ header_len h) × (payload_len g ≡ payload_len h)
     × (trailer_len g ≡ trailer_len h)
 alike_shape (headers.Ethernet2 g) (headers.Ethernet2 h) alike = (refl, refl, refl, refl)
-alike_shape h k alike = search rules
+alike_shape (headers.Ethernet2Fcs g) (headers.Ethernet2Fcs h) alike = (refl, refl, refl, refl)
+alike_shape (headers.LinuxSll g) (headers.LinuxSll h) alike = (refl, refl, refl, refl)
+alike_shape (headers.Vlan g) (headers.Vlan h) alike = (refl, refl, refl, refl)
+alike_shape (headers.Macsec g) (headers.Macsec h) alike = search rules
+alike_shape (headers.Arp g) (headers.Arp h) alike = (refl, λ i. 8 + 2 * alike.0 i + 2 * alike.1 i, refl, refl)
+alike_shape _ _ alike = absurd alike
 
 pub alike_kind : (g h : Header) → LookAlike g h → kind_of g ≡ kind_of h
 alike_kind g h alike = (alike_shape g h alike).0
@@ -113,8 +121,7 @@ alike_payload w g h alike =
     let shape = alike_shape g h alike in λ i. payload_from (w.start + shape.1 i) (shape.3 i) (shape.2 i) w
 
 same_after : (x : Expectation) (g h : Header) → Agree g h → after x g ≡ after x h
-same_after x g h same =
-    search rules
+same_after x g h same = search rules
 
 -- ---- a header that is read again
 
@@ -180,8 +187,7 @@ accepts_alike bound old new _ _ ok m n len alike sound = absurd alike
 pub unit_alike : (old new : List ℕ) (x : Expectation) (w : Window) (g h : Header) → IsUnit old x w h
     → Means (within new w) g → length (within new w) ≡ length (within old w) → LookAlike g h → IsSound (within new w) g
     → IsUnit new x w g
-unit_alike old new x w g h u m len alike sound =
-    search (rules, alike_kind, accepts_alike)
+unit_alike old new x w g h u m len alike sound = search (rules, alike_kind, accepts_alike)
 
 -- a header whose own bytes are the same
 pub sound_kept : (bound : LenSource) (old new : List ℕ) (h : Header) → Accepts bound old (kind_of h) → Means old h
@@ -220,8 +226,7 @@ pub later_stack : (list bytes : List ℕ) (at : ℕ) (x : Expectation) (w : Wind
     → at + length bytes ≤ length list → at + length bytes ≤ w.start → Stack list x w hs e
     → Stack (overwritten list at bytes) x w hs e
 later_stack list bytes at x w [] (Accepted v y) fits past s = s
-later_stack list bytes at x w [] (Fault v y r) fits past s =
-    search (rules, part_after)
+later_stack list bytes at x w [] (Fault v y r) fits past s = search (rules, part_after)
 later_stack list bytes at x w (h ∷ hs) e fits past s =
     let more = later_stack list bytes at (after x h) (payload w h) hs e fits (omega arith) s.1 in
     search (rules, part_after)
@@ -305,4 +310,4 @@ pub replaced_walk : (start : Expectation) (list : List ℕ) (front : List Header
     → Walk start list (front ++ h ∷ later) e
     → Walk start (overwritten list (place 0 front) (header_bytes g)) (front ++ g ∷ later) e
 replaced_walk start list front h g later e same fits sendable s =
-    search (rules, same_len, header_inside, length, length-header_bytes, length-overwritten, replaced_stack, whole_in)
+    search (rules, same_len, header_inside, length-header_bytes, length-overwritten, replaced_stack, whole_in)

@@ -128,8 +128,7 @@ announced_sll : (s : LinuxSllValue) (t : ℕ) (b : Bool) → (s.hardware_type ==
     → announced_next (after_capture s.hardware_type s.protocol) ≡ Some kinds.Vlan
     → after_capture s.hardware_type t ≡ EtherType t
 announced_sll s t true e a = λ i. if e i then EtherType t else Sll (link_protocol_of s.hardware_type t)
-announced_sll s t false e a =
-    search rules
+announced_sll s t false e a = search rules
 
 unmodified : (p : PayloadType) → announced_next (after_payload p) ≡ Some kinds.Vlan
     → (u : ℕ) × (p ≡ payloads.Unmodified u)
@@ -193,8 +192,7 @@ stack_alike : (list : List ℕ) (x : Expectation) (w : Window) (g h : Header) (t
     → LookAlike g h → announced_next (next_after g) ≡ Some kinds.Vlan
     → Stack list (after x h) (payload w h) (headers.Vlan tag ∷ later) e
     → Stack list (after x g) (payload w g) (headers.Vlan tag ∷ later) e
-stack_alike list x w g h tag later e alike a s =
-    search rules
+stack_alike list x w g h tag later e alike a s = search rules
 
 -- ---- stacks
 
@@ -287,4 +285,4 @@ pub retyped_walk : (start : Expectation) (list : List ℕ) (front : List Header)
     → Walk start list (front ++ h ∷ headers.Vlan tag ∷ later) e
     → Walk start (overwritten list at (spelled 2 t)) (front ++ with_type h t ∷ headers.Vlan tag ∷ later) e
 retyped_walk start list front h tag later e at t ok is announces s =
-    search (rules, header_inside, length, length-spelled, length-overwritten, retyped_stack, whole_in)
+    search (rules, header_inside, length-spelled, length-overwritten, retyped_stack, whole_in)

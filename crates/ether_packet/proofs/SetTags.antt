@@ -71,8 +71,7 @@ last_of [] = nothing
 last_of (h ∷ hs) = last_after h hs (last_of hs)
 
 place_past : (front : List Header) (h : Header) → 4 ≤ place 0 (front ++ h ∷ [])
-place_past front h =
-    search (rules, place-append, header_least)
+place_past front h = search (rules, place-append, header_least)
 
 none_before : (hs : List Header) (i t : ℕ) (v : VlanValue) (front later : List Header) → Last front
     → is_vlan_ether_type t ≡ true → place 0 front < 2 → IsExtAt hs i front (headers.Vlan v) later
@@ -100,5 +99,4 @@ retyped_last start old new hs e i t at v front later ok (last k h) announces le 
 pub is_retyped : (start : Expectation) (old new : List ℕ) (hs : List Header) (e : Ending) (i t : ℕ) (f : PlacedVlan)
     → IsBytes old → is_vlan_ether_type t ≡ true → 2 ≤ f.at → IsPlacedVlan hs i f
     → new ≡ overwritten old (f.at - 2) (spelled 2 t) → Walk start old hs e → SetsTpid start old hs e i t new
-is_retyped start old new hs e i t f ok announces le p bytes walk =
-    search (rules, retyped_last, last_of)
+is_retyped start old new hs e i t f ok announces le p bytes walk = search (rules, retyped_last, last_of)

@@ -65,10 +65,8 @@ has_of : (start : Expectation) (cut more : List ℕ) (hs ks rest : List Header) 
     → has_fcs start ≡ false
     → Walk start (cut ++ more) hs e → Walk start cut ks f → Carries cut (cut ++ more) more (last_window f) last
     → hs ≡ ks ++ rest → Stack (cut ++ more) (last_expected f) last rest e → HasOf (length cut) hs ks
-has_of start cut more hs ks [] e f last h t s c parts rest =
-    search (rules, append-nil, walk_open_to_end, length)
-has_of start cut more hs ks (unit ∷ later) e f last h t s c parts rest =
-    search (rules, cut_before, length, length-append)
+has_of start cut more hs ks [] e f last h t s c parts rest = search (rules, append-nil, walk_open_to_end)
+has_of start cut more hs ks (unit ∷ later) e f last h t s c parts rest = search (rules, cut_before, length-append)
 
 cut_has : (start : Expectation) (list : List ℕ) (hs ks : List Header) (e f : Ending) (n : ℕ) → IsBytes list
     → has_fcs start ≡ false → n ≤ length list → Walk start list hs e → Walk start (take n list) ks f → HasOf n hs ks
@@ -82,12 +80,10 @@ cut_has start list hs ks e f n ok h le t s =
 
 pub least_snap : (start : Expectation) (list : List ℕ) (hs : List Header) (e : Ending) → IsBytes list
     → has_fcs start ≡ false → Walk start list hs e → IsLeastSnap start list hs (reach 0 hs)
-least_snap start list hs e ok h t =
-    search (rules, walk_open_to_end, cut_has)
+least_snap start list hs e ok h t = search (rules, walk_open_to_end, cut_has)
 
 pub snaps_at : (p : PacketSlice) (n : ℕ) → n ≡ reach 0 (packet_headers p) → SnapsAt p n
-snaps_at p n is start list ok h packet =
-    search (rules, least_snap)
+snaps_at p n is start list ok h packet = search (rules, least_snap)
 
 -- ---- faults
 

@@ -63,10 +63,8 @@ captured_typed s later false is =
     )
 
 typed_or_not : (hs : List Header) → HasTyped hs ⊎ ((error : TagError) × RefusesTyped hs error)
-typed_or_not (headers.Ethernet2 e ∷ later) =
-    search rules
-typed_or_not (headers.Ethernet2Fcs e ∷ later) =
-    search rules
+typed_or_not (headers.Ethernet2 e ∷ later) = search rules
+typed_or_not (headers.Ethernet2Fcs e ∷ later) = search rules
 typed_or_not (headers.LinuxSll s ∷ later) = captured_typed s later (s.hardware_type == 1) refl
 typed_or_not hs = inr (errors.NoLink, no_link refl)
 
@@ -83,8 +81,7 @@ follows_type : (start : Start) (old : List ℕ) (link g : Header) (later : List 
     → is_link (kind_of link) ≡ true → next_after link ≡ EtherType (type_of_link link)
     → is_vlan_ether_type (type_of_link link) ≡ true → Walk (start_of start) old (link ∷ g ∷ later) e
     → (v : VlanValue) × (g ≡ headers.Vlan v)
-follows_type start old link g later e linked typed is walk =
-    search rules
+follows_type start old link g later e linked typed is walk = search rules
 
 popped_tag : (start : Start) (old : List ℕ) (hs : List Header) (e : Ending) (link : Header) (v : VlanValue)
     (later : List Header) (m : ℕ)
@@ -177,8 +174,7 @@ pushed_announced : (start : Start) (old : List ℕ) (hs : List Header) (e : Endi
     → IsBytes old → FitsVlan tag → is_vlan_ether_type tpid ≡ b → Walk (start_of start) old hs e
     → Pushed start (0 ∷ 0 ∷ 0 ∷ 0 ∷ old) hs e tag tpid
     ⊎ ((error : TagError) × RefusesPush (0 ∷ 0 ∷ 0 ∷ 0 ∷ old) hs tpid error)
-pushed_announced start old hs e tag tpid false ok fits is walk =
-    inr (errors.Tpid (record { 0 = tpid }), other_tpid is)
+pushed_announced start old hs e tag tpid false ok fits is walk = inr (errors.Tpid (record { 0 = tpid }), other_tpid is)
 pushed_announced start old hs e tag tpid true ok fits is walk =
     elim (typed_or_not hs) [
       | inl t ↦

@@ -150,8 +150,7 @@ retyped_unit start old new h t ok link u len r =
 captured_next : (s : LinuxSllValue) (t : ℕ) (b : Bool) → (s.hardware_type == 1) ≡ b
     → after_capture s.hardware_type s.protocol ≡ EtherType s.protocol → after_capture s.hardware_type t ≡ EtherType t
 captured_next s t true e typed = λ i. if e i then EtherType t else Sll (link_protocol_of s.hardware_type t)
-captured_next s t false e typed =
-    search rules
+captured_next s t false e typed = search rules
 
 -- with another type, the header of a link announces by it as before
 pub announces_kept : (h : Header) (t : ℕ) → is_link (kind_of h) ≡ true → next_after h ≡ EtherType (type_of_link h)
@@ -193,13 +192,11 @@ other_kind false false e = absurd cc
 -- an ether type that announces a VLAN tag
 pub announced_vlan : (t : ℕ) → is_vlan_ether_type t ≡ true
     → announced (record { next = EtherType t; limit = None }) ≡ Some kinds.Vlan
-announced_vlan t is =
-    search rules
+announced_vlan t is = search rules
 
 pub announced_other : (t : ℕ) → is_vlan_ether_type t ≡ false
     → announced (record { next = EtherType t; limit = None }) ≡ Some kinds.Vlan → ⊥
-announced_other t is e =
-    search rules
+announced_other t is e = search rules
 
 -- ---- the bytes after it
 
@@ -247,8 +244,7 @@ pub no_unit_there : (list : List ℕ) (x : Expectation) (w : Window) (kind : Kin
     (e : Ending)
     → announced x ≡ Some kind → Refuses w.bound (within list w) kind r → Stack list x w hs e → hs ≡ []
 no_unit_there list x w kind r [] e a row s = refl
-no_unit_there list x w kind r (h ∷ hs) e a row s =
-    search rules
+no_unit_there list x w kind r (h ∷ hs) e a row s = search rules
 
 -- ---- the header that a list begins with
 
@@ -260,8 +256,7 @@ pub is_typed : (start : Start) (kind : Kind) (list : List ℕ) (hs : List Header
     → link_len start + l.payload_len + trailer_len (header_in kind list) ≡ length list
     → l.ether_type.0 ≡ type_of_link (header_in kind list)
     → Walk (start_of start) list hs e → IsTypedLink start list hs l
-is_typed start kind list hs e l ok a accepted link typed len payload_len ether_type walk =
-    search (rules, first_header)
+is_typed start kind list hs e l ok a accepted link typed len payload_len ether_type walk = search (rules, first_header)
 
 -- a header that is refused
 pub refused_link : (start : Start) (kind : Kind) (list : List ℕ) (r : rows.Refusal) (hs : List Header) (e : Ending)

@@ -71,15 +71,13 @@ whole_len p i =
 pub laid_link : (p : PacketBuilder) (old target : List ℕ) (at : ℕ) → at ≡ header_len (link_header p.link)
     → target ≡ overwritten old 0 (header_bytes (link_header p.link)) → FitsHeader (link_header p.link)
     → Laid p old target 0 at
-laid_link p old target at is bytes fits =
-    search (rules, length, length-header_bytes, drop, append-nil)
+laid_link p old target at is bytes fits = search (rules, length-header_bytes, append-nil)
 
 -- there is room for the next one
 pub room_next : (p : PacketBuilder) (old target : List ℕ) (i at : ℕ) (x : LinkExtHeader) → i < length p.link_exts.now
     → x ≡ slice_index_or p.link_exts.now i x → Laid p old target i at
     → at + header_len (ext_header_view x) ≤ packet_len p
-room_next p old target i at x lt is so_far =
-    search (rules, length, later, slice_index_or, drop_next, place-first, whole_len)
+room_next p old target i at x lt is so_far = search (rules, slice_index_or, drop_next, place-first, whole_len)
 
 pub laid_next : (p : PacketBuilder) (old target new : List ℕ) (i at next : ℕ) (x : LinkExtHeader)
     → i < length p.link_exts.now → x ≡ slice_index_or p.link_exts.now i x → Laid p old target i at
@@ -108,8 +106,7 @@ content_parts (contents.Arp packet) = sym (append-nil _ ∙ append-nil _)
 
 all_front : (p : PacketBuilder) (i : ℕ) → length p.link_exts.now ≤ i
     → front p i ++ content_headers p.content ≡ given_headers p
-all_front p i over =
-    search (rules, views, take_all)
+all_front p i over = search (rules, take_all)
 
 last_later : (p : PacketBuilder) (i : ℕ) → length p.link_exts.now ≤ i
     → packet_len p ≡ place 0 (front p i) + content_len p.content
@@ -125,8 +122,7 @@ last_later p i over =
 
 pub room_content : (p : PacketBuilder) (old target : List ℕ) (i at : ℕ) → length p.link_exts.now ≤ i
     → Laid p old target i at → at + content_len p.content ≡ packet_len p
-room_content p old target i at over so_far =
-    search (rules, last_later)
+room_content p old target i at over so_far = search (rules, last_later)
 
 pub laid_all : (p : PacketBuilder) (old target new : List ℕ) (i at : ℕ) → length p.link_exts.now ≤ i
     → packet_len p ≤ length old → Laid p old target i at

@@ -59,8 +59,7 @@ pub one_ext : (hs : List Header) (i : ℕ) (front other_front : List Header) (h 
     (later other_later : List Header)
     → IsExtAt hs i front h later → IsExtAt hs i other_front k other_later
     → (front ≡ other_front) × (h ≡ k) × (later ≡ other_later)
-one_ext hs i front other_front h k later other_later f g =
-    search (rules, same_ext)
+one_ext hs i front other_front h k later other_later f g = search (rules, same_ext)
 
 pub same_vlan : (v w : VlanValue) → headers.Vlan v ≡ headers.Vlan w → v ≡ w
 same_vlan v w e = cc
@@ -69,8 +68,7 @@ same_vlan v w e = cc
 pub never_refused : (hs : List Header) (i : ℕ) (front : List Header) (tag : VlanValue) (later : List Header)
     (e : TagError)
     → IsExtAt hs i front (headers.Vlan tag) later → RefusesTag hs i e → ⊥
-never_refused hs i front tag later e found (none few) =
-    search (rules, ext_count-append)
+never_refused hs i front tag later e found (none few) = search (rules, ext_count-append)
 never_refused hs i front tag later e found (sec_tag other_front m other_later there) =
     let same = (one_ext hs i front other_front (headers.Vlan tag) (headers.Macsec m) later other_later found there).1 in
     absurd cc
@@ -116,8 +114,7 @@ pub own_bytes : (list : List ℕ) (x : Expectation) (w : Window) (front : List H
     (e : Ending)
     → IsIn list w → Stack list x w (front ++ h ∷ later) e
     → Spells (slice_range list (place w.start front) (place w.start front + header_len h)) h
-own_bytes list x w [] h later e inside s =
-    search (rules, length-part, front_is)
+own_bytes list x w [] h later e inside s = search (rules, length-part, front_is)
 own_bytes list x w (k ∷ front) h later e inside s =
     own_bytes list (after x k) (payload w k) front h later e (payload_in list x w k inside s.0) s.1
 
@@ -139,8 +136,7 @@ vlan_spelled : (v : VlanValue)
     ≡ vlan_number v / 256 ^ 3 % 256 ∷ vlan_number v / 256 ^ 2 % 256 ∷ vlan_number v / 256 % 256 ∷ vlan_number v
     % 256 ∷ []
 unfolding spelled
-vlan_spelled v =
-    search rules
+vlan_spelled v = search rules
 
 -- a tag with another identifier differs in 12 bits
 tag_set : (front rest : List ℕ) (v : VlanValue) (vid : ℕ) → FitsVlan v → vid < 4096

@@ -14,8 +14,7 @@ loop-unit-init c = (
 )
 
 is_placed : goal.returns-then-count-index-clause-ok
-is_placed c hs e walk =
-    search (rules, placed_ext)
+is_placed c hs e walk = search (rules, placed_ext)
 
 pub returns-then-count-index-clause-ok : goal.returns-then-count-index-clause-ok
 returns-then-count-index-clause-ok c hs e walk = is_placed c hs e walk
@@ -50,9 +49,7 @@ loop-unit-preserved c = (
 )
 
 pub returns-in-Some-Err-clause-none : goal.returns-in-Some-Err-clause-none
-returns-in-Some-Err-clause-none c hs e walk =
-    search rules
+returns-in-Some-Err-clause-none c hs e walk = search rules
 
 pub returns-in-None-clause-none : goal.returns-in-None-clause-none
-returns-in-None-clause-none c hs e walk =
-    search rules
+returns-in-None-clause-none c hs e walk = search rules

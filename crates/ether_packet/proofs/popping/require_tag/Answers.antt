@@ -20,9 +20,7 @@ returns-then-not-announces_vlan-clause-refused c hs e walk =
     (sym c.announces_vlan.ensures ∙ c.if-not-announces_vlan.true)
 
 pub returns-then-link-lt-LEN-clause-refused : goal.returns-then-link-lt-LEN-clause-refused
-returns-then-link-lt-LEN-clause-refused c hs e walk =
-    search (rules, cut_tag)
+returns-then-link-lt-LEN-clause-refused c hs e walk = search (rules, cut_tag)
 
 pub returns-clause-ok : goal.returns-clause-ok
-returns-clause-ok c hs e walk =
-    search (rules, is_tagged)
+returns-clause-ok c hs e walk = search (rules, is_tagged)

@@ -29,5 +29,4 @@ returns-in_err-typed_link-clause-refused c =
     rw (p.1, p.2) h
 
 pub returns-clause-ok : goal.returns-clause-ok
-returns-clause-ok c hs e walk =
-    search (rules, is_linked, after_four)
+returns-clause-ok c hs e walk = search (rules, is_linked, after_four)

@@ -25,8 +25,7 @@ returns-in_err-found-clause-refused c =
     rw (p.1, p.2) h
 
 pub returns-then-found-lt2-clause-refused : goal.returns-then-found-lt2-clause-refused
-returns-then-found-lt2-clause-refused c hs e walk =
-    search (rules, begins_frame)
+returns-then-found-lt2-clause-refused c hs e walk = search (rules, begins_frame)
 
 pub returns-clause-ok : goal.returns-clause-ok
 returns-clause-ok c hs e walk =

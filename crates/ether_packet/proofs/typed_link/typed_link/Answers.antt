@@ -1,4 +1,4 @@
-use Rattle.std.proofs.Common.{true, false, ap, arith, ◌∙◌, refl, rules}
+use Rattle.std.proofs.Common.{ap, arith, ◌∙◌, refl, rules}
 use Rattle.etherparse.specs.Ethernet2.{Frame, ethernet2_of}
 use Rattle.etherparse.specs.Kind as kinds
 use Rattle.ether_peel.specs.Grammar.Expectation.{announced}
@@ -18,8 +18,7 @@ returns-in-Ok-clause-ok c hs e walk =
     (c.ether_type.ensures ∙ ap (λ (f : Frame). (ethernet2_of f.bytes).ether_type) at.ensures.frame) walk
 
 pub returns-in-Err-clause-refused : goal.returns-in-Err-clause-refused
-returns-in-Err-clause-refused c hs e walk =
-    search (rules, refused_link)
+returns-in-Err-clause-refused c hs e walk = search (rules, refused_link)
 
 pub returns-in-Ok-from_slice_with_crc32_fcs-clause-ok :
     goal.returns-in-Ok-from_slice_with_crc32_fcs-clause-ok
@@ -41,16 +40,13 @@ returns-in-Err-from_slice_with_crc32_fcs-clause-refused c hs e walk =
     c.in-Err-from_slice_with_crc32_fcs.ensures.refused.row walk
 
 pub returns-in-LinuxSll-clause-ok : goal.returns-in-LinuxSll-clause-ok
-returns-in-LinuxSll-clause-ok c hs e walk =
-    search (rules, is_captured)
+returns-in-LinuxSll-clause-ok c hs e walk = search (rules, is_captured)
 
 pub returns-in-Some-clause-refused : goal.returns-in-Some-clause-refused
-returns-in-Some-clause-refused c hs e walk =
-    search (rules, other_link, true, false)
+returns-in-Some-clause-refused c hs e walk = search (rules, other_link)
 
 pub returns-in-None-clause-refused : goal.returns-in-None-clause-refused
-returns-in-None-clause-refused c hs e walk =
-    search (rules, refused_link)
+returns-in-None-clause-refused c hs e walk = search (rules, refused_link)
 
 pub returns-in-EtherType-clause-refused : goal.returns-in-EtherType-clause-refused
 returns-in-EtherType-clause-refused c hs e walk =

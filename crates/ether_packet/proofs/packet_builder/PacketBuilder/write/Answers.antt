@@ -32,5 +32,4 @@ returns-then-len-required_len-clause-refused c =
     (record { short = c.if-len-required_len.true; error = refl }))
 
 pub returns-clause-accepted : goal.returns-clause-accepted
-returns-clause-accepted c =
-    search (rules, accepts_packet)
+returns-clause-accepted c = search (rules, accepts_packet)

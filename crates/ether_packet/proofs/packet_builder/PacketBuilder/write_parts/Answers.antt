@@ -8,8 +8,7 @@ pub write_link_header-requires : goal.write_link_header-requires
 write_link_header-requires c = room_for_link c.args.self.now (length c.args.target.now) c.requires
 
 pub loop-ext-init : goal.loop-ext-init
-loop-ext-init c =
-    search (rules, laid_link, link_len)
+loop-ext-init c = search (rules, laid_link, link_len)
 
 pub write_ext-requires : goal.write_ext-requires
 write_ext-requires c =
@@ -54,5 +53,4 @@ write_content_at-requires c =
     omega (arith, end, room, same, first)
 
 pub returns-clause-written : goal.returns-clause-written
-returns-clause-written c =
-    search (rules, laid_all)
+returns-clause-written c = search (rules, laid_all)

@@ -1,4 +1,4 @@
-use Rattle.std.proofs.Common.{◌≡◌, ℕ, ◌-◌, List, length, sym, ap, subst, ◌∙◌, arith, rules}
+use Rattle.std.proofs.Common.{◌≡◌, ℕ, ◌-◌, List, sym, ap, subst, ◌∙◌, arith, rules}
 use Rattle.etherparse.specs.LinkExt.{ext_header_view}
 use Rattle.etherparse.specs.Header.{Header}
 use Rattle.ether_packet.specs.Builder.{content_type, inner_headers, IsWritten}
@@ -6,8 +6,7 @@ use Rattle.ether_packet.proofs.Filling.{Filled, later, later_none, later_before,
 use Rattle.ether_packet.proofs.packet_builder.PacketBuilder.write_whole.Goals as goal
 
 pub write_content-front-requires-clause-start : goal.write_content-front-requires-clause-start
-write_content-front-requires-clause-start c =
-    search (rules, room_for_content)
+write_content-front-requires-clause-start c = search (rules, room_for_content)
 
 pub loop-i-init : goal.loop-i-init
 loop-i-init c =
@@ -24,8 +23,7 @@ loop-i-init c =
     content.vlan_type)
 
 pub write_ext_before-front-requires-clause-start : goal.write_ext_before-front-requires-clause-start
-write_ext_before-front-requires-clause-start c =
-    search (rules, room_before)
+write_ext_before-front-requires-clause-start c = search (rules, room_before)
 
 pub loop-i-preserved : goal.loop-i-preserved
 loop-i-preserved c =
@@ -50,8 +48,7 @@ loop-i-preserved c =
     (tag.ether_type (later p l.i) (content_type p.content) l.invariant.tag) (tag.vlan_type (later p l.i)))
 
 pub write_link-requires : goal.write_link-requires
-write_link-requires c =
-    search (rules, room_for_link, length)
+write_link-requires c = search (rules, room_for_link)
 
 pub returns : goal.returns
 returns c =

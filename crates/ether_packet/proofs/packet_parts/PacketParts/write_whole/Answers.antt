@@ -36,5 +36,4 @@ write_at-requires-2 c =
     omega (arith, size, room, len, same, rest)
 
 pub returns : goal.returns
-returns c =
-    search (rules, headers_alone, all_written)
+returns c = search (rules, headers_alone, all_written)

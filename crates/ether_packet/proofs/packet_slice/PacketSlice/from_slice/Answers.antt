@@ -46,5 +46,4 @@ returns-clause-packet c =
     c.read_all.new.self.fault w.gathered w.gives e.read e.rest e.offset e.kind e.fault
 
 pub returns-clause-front : goal.returns-clause-front
-returns-clause-front c hs ks e f s t =
-    search (rules, cut_off)
+returns-clause-front c hs ks e f s t = search (rules, cut_off)

@@ -12,9 +12,7 @@ returns-in-Some-first c =
     c.loop-index.invariant lt c.tag.ensures c.in-Some-first.is c.in-Some.is
 
 pub returns-in-Some-first-2 : goal.returns-in-Some-first-2
-returns-in-Some-first-2 c =
-    search (rules, length, tagged_all)
+returns-in-Some-first-2 c = search (rules, tagged_all)
 
 pub returns-in-None-first : goal.returns-in-None-first
-returns-in-None-first c =
-    search (rules, length, tagged_all)
+returns-in-None-first c = search (rules, tagged_all)

@@ -6,5 +6,4 @@ pub loop-index-init : goal.loop-index-init
 loop-index-init c = record { found = c.new-ids.ensures; few = let none = ap length c.new-ids.ensures in omega arith }
 
 pub returns : goal.returns
-returns c =
-    search (rules, length, identified_all)
+returns c = search (rules, identified_all)

@@ -25,8 +25,7 @@ invariant_of-self c =
     }
 
 pub returns-in-Ethernet2 : goal.returns-in-Ethernet2
-returns-in-Ethernet2 c =
-    search rules
+returns-in-Ethernet2 c = search rules
 
 pub invariant_of-self-in-LinuxSll : goal.invariant_of-self-in-LinuxSll
 invariant_of-self-in-LinuxSll c =
@@ -36,8 +35,7 @@ invariant_of-self-in-LinuxSll c =
     search rules
 
 pub returns-in-Arp : goal.returns-in-Arp
-returns-in-Arp c =
-    search (rules, no_packet, arp_at, with_arp)
+returns-in-Arp c = search (rules, no_packet, arp_at, with_arp)
 
 pub add_ext-requires-clause-readable : goal.add_ext-requires-clause-readable
 add_ext-requires-clause-readable c =

@@ -1,4 +1,4 @@
-use Rattle.std.proofs.Common.{length, sym, subst, rules}
+use Rattle.std.proofs.Common.{sym, subst, rules}
 use Rattle.std.specs.List.{All}
 use Rattle.std.proofs.lemmas.List.{length-map}
 use Rattle.ether_packet.specs.declared.ext_places.ExtPlace.{ExtPlace}
@@ -8,8 +8,7 @@ use Rattle.ether_packet.proofs.Places.{exts_at, arp_at, no_packet, with_ext, all
 use Rattle.ether_packet.proofs.packet_units.PacketUnits.add_ext.Goals as goal
 
 pub push-requires : goal.push-requires
-push-requires c =
-    search (rules, length, exts_at, length-map)
+push-requires c = search (rules, exts_at, length-map)
 
 pub invariant_of-self : goal.invariant_of-self
 invariant_of-self c =
@@ -26,5 +25,4 @@ invariant_of-self c =
     }
 
 pub returns : goal.returns
-returns c =
-    search (rules, no_packet, arp_at, with_ext)
+returns c = search (rules, no_packet, arp_at, with_ext)

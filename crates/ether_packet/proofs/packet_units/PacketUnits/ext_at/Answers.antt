@@ -9,9 +9,7 @@ ext_of-requires c =
     all_get IsReadableExt a.exts c.args.index c.in-Some.ext c.self.invariant.exts (sym c.get.ensures ∙ c.in-Some.is)
 
 pub returns-in-Some : goal.returns-in-Some
-returns-in-Some c =
-    search (rules, ext_got)
+returns-in-Some c = search (rules, ext_got)
 
 pub returns-in-None : goal.returns-in-None
-returns-in-None c =
-    search (rules, ext_missing)
+returns-in-None c = search (rules, ext_missing)

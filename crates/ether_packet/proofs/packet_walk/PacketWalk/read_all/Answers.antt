@@ -60,7 +60,8 @@ returns-then-read_next-5 c =
     one_more three c.read_next-then-read_next-3.new.self c.if-read_next-4.true c.read_next-then-read_next-3.ensures in
     let five =
     one_more four c.read_next-then-read_next-4.new.self c.if-read_next-5.true c.read_next-then-read_next-4.ensures in
-    ends_within five c.read_next-then-read_next-5.new.self c.read_next-then-read_next-5.result c.requires.few c.read_next-then-read_next-5.ensures
+    ends_within five c.read_next-then-read_next-5.new.self c.read_next-then-read_next-5.result c.requires.few
+    c.read_next-then-read_next-5.ensures
 
 pub returns-else-read_next : goal.returns-else-read_next
 returns-else-read_next c start list way =
