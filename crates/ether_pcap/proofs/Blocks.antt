@@ -7,14 +7,12 @@ use Rattle.ether_pcap.specs.Block.{BlockValue, IsTotalLen, BeginsBlock, BlockRef
 
 pub block_one : (order : Order) (bytes : List ℕ) (b c : BlockValue) → BeginsBlock order bytes b
     → BeginsBlock order bytes c → b ≡ c
-block_one order bytes b c h k =
-    search rules
+block_one order bytes b c h k = search rules
 
 -- the length at the end, by the place at which the block ends
 same_trailer : (order : Order) (bytes : List ℕ) (len n m : ℕ) → field order bytes (8 + len) (12 + len) ≡ 12 + len
     → n ≡ 12 + len → field order bytes (n - 4) n ≡ m → m ≡ n
-same_trailer order bytes len n m end e at =
-    search rules
+same_trailer order bytes len n m end e at = search rules
 
 pub block_apart : (order : Order) (bytes : List ℕ) (b : BlockValue) (r : BlockRefusal) → BeginsBlock order bytes b
     → RefusesBlock order bytes r → ⊥

@@ -7,8 +7,7 @@ use Rattle.ether_pcap.specs.Bodies.{BodyRefusal, InterfaceValue, IsInterface, Re
 
 pub interface_one : (order : Order) (body : List ℕ) (v w : InterfaceValue) → IsInterface order body v
     → IsInterface order body w → v ≡ w
-interface_one order body v w h k =
-    search rules
+interface_one order body v w h k = search rules
 
 pub interface_apart : (order : Order) (body : List ℕ) (v : InterfaceValue) (r : BodyRefusal) → IsInterface order body v
     → RefusesInterface body r → ⊥
@@ -21,8 +20,7 @@ interface_refused body r s (interface lt) (interface m) = refl
 
 pub enhanced_one : (number_len : ℕ) (order : Order) (body : List ℕ) (v w : EnhancedPacketValue)
     → IsEnhancedPacket number_len order body v → IsEnhancedPacket number_len order body w → v ≡ w
-enhanced_one number_len order body v w h k =
-    search rules
+enhanced_one number_len order body v w h k = search rules
 
 pub enhanced_apart : (number_len : ℕ) (order : Order) (body : List ℕ) (v : EnhancedPacketValue) (r : BodyRefusal)
     → IsEnhancedPacket number_len order body v → RefusesEnhancedPacket order body r → ⊥
@@ -46,8 +44,7 @@ enhanced_refused order body r s h k = refl
 
 pub simple_one : (order : Order) (snap_len : ℕ) (body : List ℕ) (v w : SimplePacketValue)
     → IsSimplePacket order snap_len body v → IsSimplePacket order snap_len body w → v ≡ w
-simple_one order snap_len body v w h k =
-    search rules
+simple_one order snap_len body v w h k = search rules
 
 pub simple_apart : (order : Order) (snap_len : ℕ) (body : List ℕ) (v : SimplePacketValue) (r : BodyRefusal)
     → IsSimplePacket order snap_len body v → RefusesSimplePacket order snap_len body r → ⊥

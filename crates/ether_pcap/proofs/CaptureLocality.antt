@@ -44,8 +44,7 @@ module _ (old new : List ℕ) (n : ℕ) (long : n ≤ length new)
   type_kept le = ap number (part 0 4 (omega arith) le)
 
   header_kept : (h : FileHeaderValue) → 24 ≤ n → IsFileHeader old h → IsFileHeader new h
-  header_kept h le is =
-      search (rules, number_kept)
+  header_kept h le is = search (rules, number_kept)
 
   record_kept : (order : Order) (r : RecordValue) → record_len r ≤ n → BeginsRecord order old r
       → BeginsRecord order new r
@@ -100,19 +99,16 @@ module _ (old new : List ℕ) (n : ℕ) (long : n ≤ length new)
 -- so if more bytes follow
 pub block_local : (order : Order) (bytes more : List ℕ) (b : BlockValue) → BeginsBlock order bytes b
     → BeginsBlock order (bytes ++ more) b
-block_local order bytes more b is =
-    search (rules, block_kept, length, longer, part-append)
+block_local order bytes more b is = search (rules, block_kept, longer, part-append)
 
 pub unit_local : (bytes more : List ℕ) (x y : Expectation) (len : ℕ) (p : Option PacketValue) → Begins bytes x len p y
     → Begins (bytes ++ more) x len p y
-unit_local bytes more x y len p is =
-    search (rules, unit_kept, length, longer, part-append, unit_within)
+unit_local bytes more x y len p is = search (rules, unit_kept, longer, part-append, unit_within)
 
 -- .. or don't
 pub unit_alone : (bytes more : List ℕ) (x y : Expectation) (len : ℕ) (p : Option PacketValue) → len ≤ length bytes
     → Begins (bytes ++ more) x len p y → Begins bytes x len p y
-unit_alone bytes more x y len p le is =
-    search (rules, unit_kept, length, part-append)
+unit_alone bytes more x y len p le is = search (rules, unit_kept, part-append)
 
 -- ---- file headers
 

@@ -76,8 +76,7 @@ gives_packet s t bytes len x q packets left fault ok passed begins rest over has
 pub gives_none : (s t : State) (packets : List PacketValue) (left : List ℕ) (fault : Option CaptureRefusal)
     → IsBytes t.rest → IsEnd t.expected t.rest → t.over ≡ false
     → HasPackets t.expected t.rest packets left fault → GivesNext packets left fault s None t
-gives_none s t packets left fault ok end over has =
-    search rules
+gives_none s t packets left fault ok end over has = search rules
 
 -- a refusal is what is left
 pub gives_fault : (s t : State) (f : CaptureFault) (packets : List PacketValue) (left : List ℕ)
@@ -99,5 +98,4 @@ pub gives : (s t : State) (r : Option (Result CapturedPacket CaptureFault)) → 
     → ((packets : List PacketValue) (left : List ℕ) (fault : Option CaptureRefusal)
     → HasPackets s.expected s.rest packets left fault → GivesNext packets left fault s r t)
     → t.offset + length t.rest ≡ s.offset + length s.rest → Gives s r t
-gives s t r fresh next place =
-    search rules
+gives s t r fresh next place = search rules

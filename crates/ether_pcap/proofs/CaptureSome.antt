@@ -170,8 +170,7 @@ Section_of bytes =
     ((o : Order) × (b : BlockValue) × IsSection bytes o b) ⊎ ((r : SectionRefusal) × RefusesSection bytes r)
 
 some_version : (major minor : ℕ) → IsVersion major minor ⊎ (IsVersion major minor → ⊥)
-some_version major minor =
-    search rules
+some_version major minor = search rules
 
 with_block : (bytes : List ℕ) (o : Order) (b : BlockValue) → HasSectionType bytes → HasOrder bytes o
     → BeginsBlock o bytes b → Section_of bytes

@@ -14,13 +14,11 @@ split n u some =
     ap (λ (k : ℕ). k / u) s ∙ add-mul-div_left (n % u * 1000000000) (n / u * 1000000000) some
 
 below_a_second : (n u : ℕ) → 0 < u → n % u * 1000000000 / u < 1000000000
-below_a_second n u some =
-    search rules
+below_a_second n u some = search rules
 
 pub same_time : (n u : ℕ) → 0 < u
     → record { seconds = n / u; nanoseconds = n % u * 1000000000 / u } ≡ time_of (n * 1000000000 / u)
-same_time n u some =
-    search (rules, split, below_a_second)
+same_time n u some = search (rules, split, below_a_second)
 
 -- ---- how many units a second has
 
@@ -41,13 +39,11 @@ below_a_nanosecond n ticks le lt =
 
 same_quotient : (n ticks : ℕ) → ticks < 18446744073709551616
     → ticks * 1000000000 / 10 ^ min n 29 ≡ ticks * 1000000000 / 10 ^ n
-same_quotient n ticks lt =
-    search (rules, cases_lt, below_a_nanosecond)
+same_quotient n ticks lt = search (rules, cases_lt, below_a_nanosecond)
 
 units_of_ten : (n : ℕ) → n < 128 → units_of (Some n) ≡ 10 ^ n
 units_of_ten n lt = ap (λ (b : Bool). if b then 10 ^ n else 2 ^ (n - 128)) (lt-ltb n 128 lt)
 
 pub same_times : (n m ticks : ℕ) → n < 128 → m ≡ min n 29 → ticks < 18446744073709551616
     → ticks * 1000000000 / 10 ^ m ≡ ticks * 1000000000 / units_of (Some n)
-same_times n m ticks below is lt =
-    search (rules, same_quotient, units_of_ten)
+same_times n m ticks below is lt = search (rules, same_quotient, units_of_ten)

@@ -27,8 +27,7 @@ use Rattle.ether_pcap.specs.declared.capture.capture_interface.CaptureInterface.
 
 -- bytes that begin with a section's type are at least four
 pub section_len : (bytes : List ℕ) → IsBytes bytes → HasSectionType bytes → 4 ≤ length bytes
-section_len bytes ok is =
-    grind (arith, cases_lt, length, length-part-is, pow-le-pow_right, number_below)
+section_len bytes ok is = grind (arith, cases_lt, length, length-part-is, pow-le-pow_right, number_below)
 
 -- the interface that an interface description describes
 pub describes : (order : Order) (body : List ℕ) (d : InterfaceDescription) (fcs_len resolution : Option ℕ) (offset : ℕ)
@@ -44,8 +43,7 @@ pub describes : (order : Order) (body : List ℕ) (d : InterfaceDescription) (fc
       resolution = resolution;
       offset = offset;
     })
-describes order body d fcs_len resolution offset options is has f r s =
-    search rules
+describes order body d fcs_len resolution offset options is has f r s = search rules
 
 -- the interface at a place
 pub is_at : (interfaces : List CaptureInterface) (n : ℕ) (other : CaptureInterface) → n < length interfaces

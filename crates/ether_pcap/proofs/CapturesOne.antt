@@ -22,20 +22,17 @@ get_middle [] after i = refl
 get_middle (x ∷ before) after i = get_middle before after i
 
 get_at : (l : List CaptureInterfaceValue) (n : ℕ) (i : CaptureInterfaceValue) → IsAt l n i → slice_get l n ≡ Some i
-get_at l n i at =
-    search (rules, get_middle)
+get_at l n i at = search (rules, get_middle)
 
 pub at_one : (l : List CaptureInterfaceValue) (n : ℕ) (i j : CaptureInterfaceValue) → IsAt l n i → IsAt l n j → i ≡ j
 at_one l n i j a b = let e = get_at l n i a in let f = get_at l n j b in cc
 
 pub at_within : (l : List CaptureInterfaceValue) (n : ℕ) (i : CaptureInterfaceValue) → IsAt l n i → n < length l
-at_within l n i at =
-    search (rules, length, length-append)
+at_within l n i at = search (rules, length-append)
 
 described_one : (order : Order) (body : List ℕ) (v w : CaptureInterfaceValue) → Describes order body v
     → Describes order body w → v ≡ w
-described_one order body v w d e =
-    search (rules, interface_one, same_options)
+described_one order body v w d e = search (rules, interface_one, same_options)
 
 -- ---- bodies
 
@@ -126,13 +123,12 @@ pub unit_one : (bytes : List ℕ) (x y z : Expectation) (len n : ℕ) (p q : Opt
 unit_one bytes x y z len n p q ok (file_header m h other is) (file_header m2 k other2 is2) =
     (refl, refl, ap Records (one_header bytes h k ok is is2))
 unit_one bytes x y z len n p q ok (file_header m h other is) (first_section m2 order b is2) = absurd (other is2.section)
-unit_one bytes x y z len n p q ok (file_record h r is) (file_record k s is2) =
-    search rules
+unit_one bytes x y z len n p q ok (file_record h r is) (file_record k s is2) = search rules
 unit_one bytes x y z len n p q ok (first_section m order b is) (file_header m2 h other is2) = absurd (other is.section)
 unit_one bytes x y z len n p q ok (first_section m order b is) (first_section m2 order2 c is2) =
-    search (rules, sections.section_one, length)
+    search (rules, sections.section_one)
 unit_one bytes x y z len n p q ok (section m order next interfaces b is) (section m2 order2 next2 interfaces2 c is2) =
-    search (rules, sections.section_one, length)
+    search (rules, sections.section_one)
 unit_one bytes x y z len n p q ok (section m order next interfaces b is)
     (block m2 order2 interfaces2 after packet c other begins is2) =
     absurd (other is.section)

@@ -38,12 +38,9 @@ room_if : (bytes : List ℕ) (x y : Expectation) (len : ℕ) (p : Option PacketV
     → Begins bytes x len p y → HasRoom y bytes
 room_if bytes x y len p e (file_header m h other is) = is.len
 room_if bytes x y len p e (file_record h r is) = absurd cc
-room_if bytes x y len p e (first_section m order b is) =
-    search rules
-room_if bytes x y len p e (section m order next interfaces b is) =
-    search rules
-room_if bytes x y len p e (block m order interfaces after q b other begins body) =
-    search rules
+room_if bytes x y len p e (first_section m order b is) = search rules
+room_if bytes x y len p e (section m order next interfaces b is) = search rules
+room_if bytes x y len p e (block m order interfaces after q b other begins body) = search rules
 
 pub unit_room : (bytes : List ℕ) (x y : Expectation) (len : ℕ) → Begins bytes x len None y → HasRoom y bytes
 unit_room bytes x y len begins = room_if bytes x y len None refl begins
@@ -59,14 +56,12 @@ InCopy mode bytes x y =
 pub section_changed : (raise m : ℕ) (order : Order) (interfaces : List CaptureInterfaceValue) (bytes : List ℕ)
     → HasSectionType bytes
     → changed_unit raise (Blocks m order interfaces) bytes ≡ with_bytes 16 no_section_len bytes
-section_changed raise m order interfaces bytes is =
-    search rules
+section_changed raise m order interfaces bytes is = search rules
 
 pub other_changed : (raise m : ℕ) (order : Order) (interfaces : List CaptureInterfaceValue) (bytes : List ℕ)
     → (HasSectionType bytes → ⊥)
     → changed_unit raise (Blocks m order interfaces) bytes ≡ changed_block raise order bytes
-other_changed raise m order interfaces bytes other =
-    search rules
+other_changed raise m order interfaces bytes other = search rules
 
 module _ (raise : ℕ) where
   abbrev raised : List CaptureInterfaceValue → List CaptureInterfaceValue
@@ -75,8 +70,7 @@ module _ (raise : ℕ) where
   -- a unit of the copy, by its length
   as_unit : (new unit : List ℕ) (x y : Expectation) (n : ℕ) → new ≡ unit → n ≡ length new
       → Begins new x n None y → Begins unit x (length unit) None y
-  as_unit new unit x y n same len begins =
-      search rules
+  as_unit new unit x y n same len begins = search rules
 
   section_unit : (bytes : List ℕ) (x z : Expectation) (m n : ℕ) (order : Order) (b : BlockValue)
       → n ≡ length bytes → n ≡ 12 + length b.body → IsSection bytes order b
@@ -182,8 +176,7 @@ module _ (raise : ℕ) where
       plain_unit bytes m order before after b len other begins not_one kind g
     where
       not_one : field order bytes 0 4 ≡ 1 → ⊥
-      not_one one =
-          absurd cc
+      not_one one = absurd cc
 
   changed_if : (bytes : List ℕ) (x y : Expectation) (len : ℕ) (p : Option PacketValue) → p ≡ None
       → len ≡ length bytes → Begins bytes x len p y → InCopy (Changed raise) bytes x y
@@ -217,15 +210,13 @@ unit_in_copy (Changed raise) bytes x y begins = changed_if raise bytes x y (leng
 -- .. which is not left out at the beginning of a file
 pub some_in_copy : (mode : ModeValue) (bytes : List ℕ) (x y : Expectation) → Begins bytes x (length bytes) None y
     → ¬ (HasBegun x) → other_unit mode y bytes ≡ [] → ⊥
-some_in_copy mode bytes x y begins first empty =
-    grind (arith, unit_in_copy, begun, length, unit_some)
+some_in_copy mode bytes x y begins first empty = grind (arith, unit_in_copy, begun, length, unit_some)
 
 -- ---- packets
 
 raised_at : (raise : ℕ) (interfaces : List CaptureInterfaceValue) (n : ℕ) (i : CaptureInterfaceValue)
     → IsAt interfaces n i → IsAt (map (raised_interface raise) interfaces) n (raised_interface raise i)
-raised_at raise interfaces n i at =
-    search (rules, map, map-append, length-map)
+raised_at raise interfaces n i at = search (rules, map-append, length-map)
 
 kept_if : (b : Bool) (unit new : List ℕ) → (if b then Some unit else None) ≡ Some new → (b ≡ true) × (unit ≡ new)
 kept_if true unit new is = (refl, ap (λ (o : Option (List ℕ)). unwrap_or o unit) is)
@@ -278,8 +269,7 @@ module _ (raise : ℕ) where
       → packet_unit (Changed raise) x p u ≡ Some u
       → Begins u (expected_in (Changed raise) x) (length u) (Some (packet_in (Changed raise) p))
       (expected_in (Changed raise) x)
-  raised_unit (Beginning m) u p begins kept =
-      absurd (begun_before u (Beginning m) (Beginning m) (length u) p begins)
+  raised_unit (Beginning m) u p begins kept = absurd (begun_before u (Beginning m) (Beginning m) (length u) p begins)
   raised_unit (Records h) u p begins kept =
       let s = record_of_unit u (Records h) (length u) h p begins in
       let g = raised_header raise h in
@@ -311,8 +301,7 @@ module _ (raise : ℕ) where
       × (edited_unit (expected_in (Changed raise) x) (length p.packet) e u ≡ Some new)
   edited_unit_kept (Beginning m) u new p e is = (refl, is)
   edited_unit_kept (Records h) u new p e is = (refl, is)
-  edited_unit_kept (Blocks m order interfaces) u new p e is =
-      search rules
+  edited_unit_kept (Blocks m order interfaces) u new p e is = search rules
 
 -- the unit of a packet is one of the copy
 pub packet_in_copy : (mode : ModeValue) (x : Expectation) (u new : List ℕ) (p : PacketValue) (o : Option EditedValue)
@@ -354,15 +343,13 @@ simple_if kind raise m order interfaces body p is e = absurd cc
 
 left_out : (mode : ModeValue) (x : Expectation) (u : List ℕ) (p : PacketValue) → Begins u x (length u) (Some p) x
     → packet_unit mode x p u ≡ None → p.time ≡ None
-left_out (Changed raise) (Blocks m order interfaces) u p begins is =
-    search (rules, block_of_unit, length, left_if, simple_if)
+left_out (Changed raise) (Blocks m order interfaces) u p begins is = search (rules, block_of_unit, left_if, simple_if)
 left_out mode x u p begins is = absurd cc
 
 pub why_not_copied : (mode : ModeValue) (x : Expectation) (u : List ℕ) (p : PacketValue) (o : Option EditedValue)
     → Begins u x (length u) (Some p) x → unit_after mode x p o u ≡ None → WhyNot p o
 why_not_copied mode x u p None begins is = inl (left_out mode x u p begins is)
-why_not_copied mode x u p (Some e) begins is =
-    search (rules, why_not_edited)
+why_not_copied mode x u p (Some e) begins is = search (rules, why_not_edited)
 
 -- ---- snap lengths
 
@@ -370,5 +357,4 @@ why_not_copied mode x u p (Some e) begins is =
 pub raised_within : (raise : ℕ) (p q : PacketValue) → IsWithinSnap p → q.snap_len ≡ raised_len raise p.snap_len
     → length q.packet ≤ length p.packet + raise → length q.packet ≤ 262144 → IsWithinSnap q
 raised_within raise p q (inl none) e more room = inl (e ∙ raised_none raise p.snap_len none)
-raised_within raise p q (inr le) e more room =
-    search rules
+raised_within raise p q (inr le) e more room = search rules

@@ -30,14 +30,12 @@ unit_taken bytes x y len p begins =
 -- a unit without a packet, by its own bytes
 pub other_taken : (bytes : List ℕ) (x y : Expectation) (len : ℕ) → Begins bytes x len None y
     → Begins (take len bytes) x (length (take len bytes)) None y
-other_taken bytes x y len begins =
-    search (rules, unit_taken)
+other_taken bytes x y len begins = search (rules, unit_taken)
 
 -- the unit of a packet, by its own bytes
 pub packet_taken : (bytes : List ℕ) (x y : Expectation) (len : ℕ) (p : PacketValue) → Begins bytes x len (Some p) y
     → Begins (take len bytes) x (length (take len bytes)) (Some p) x
-packet_taken bytes x y len p begins =
-    search (rules, unit_taken, same_after)
+packet_taken bytes x y len p begins = search (rules, unit_taken, same_after)
 
 -- a packet that is copied
 pub packet_copied : (mode : ModeValue) (bytes front copy : List ℕ) (x y : Expectation) (len : ℕ) (p : PacketValue)
@@ -45,7 +43,7 @@ pub packet_copied : (mode : ModeValue) (bytes front copy : List ℕ) (x y : Expe
     → Begins bytes x len (Some p) y → unit_after mode x p o (take len bytes) ≡ Some front
     → Begins (front ++ copy) (expected_in mode x) (length front) (Some (packet_after mode p o)) (expected_in mode y)
 packet_copied mode bytes front copy x y len p o begins is =
-    search (rules, packet_taken, length, same_after, unit_local, packet_in_copy)
+    search (rules, packet_taken, same_after, unit_local, packet_in_copy)
 
 -- ---- all packets up to what is left
 
@@ -253,13 +251,11 @@ module _ (Edits : PacketValue → Option EditedValue → Type 0) (stays : EditsN
   -- a unit stays
   unit_unedited : (x : Expectation) (p : PacketValue) (o : Option EditedValue) (bytes front : List ℕ) → Edits p o
       → unit_after Exact x p o bytes ≡ Some front → bytes ≡ front
-  unit_unedited x p o bytes front edits fits =
-      search rules
+  unit_unedited x p o bytes front edits fits = search rules
 
   joined : (bytes copy rest : List ℕ) (len : ℕ) → copy ++ rest ≡ drop len bytes
       → take len bytes ++ copy ++ rest ≡ bytes
-  joined bytes copy rest len e =
-      search (rules, append_assoc, take-append-drop)
+  joined bytes copy rest len e = search (rules, append_assoc, take-append-drop)
 
   -- with all packets, it is the file itself
   pub copy_all : (x : Expectation) (bytes copy : List ℕ) (kept edited : List PacketValue) (rest : List ℕ)
@@ -271,7 +267,7 @@ module _ (Edits : PacketValue → Option EditedValue → Type 0) (stays : EditsN
       joined bytes others rest len (copy_all y (drop len bytes) others kept edited rest fault copies)
   copy_all x bytes copy kept edited rest fault (keeps _ y _ front others len p o ps qs _ _ begins is edits fits copies) =
       let more = copy_all y (drop len bytes) others ps qs rest fault copies in
-      search (rules, unit_unedited, joined, drop)
+      search (rules, unit_unedited, joined)
   copy_all x bytes copy kept edited rest fault (leaves _ y _ _ len p _ _ _ _ begins not_kept copies) =
       absurd (not_kept tt)
 

@@ -40,16 +40,14 @@ module _ (at : ℕ) (new bytes : List ℕ) (room : at + length new ≤ length by
       λ i. before i ++ new ++ after i
 
 raised_twice : (n : ℕ) → raised_len 0 (raised_len 0 n) ≡ raised_len 0 n
-raised_twice n =
-    search rules
+raised_twice n = search rules
 
 module _ (most : ℕ) (order : Order) (interfaces : List CaptureInterfaceValue) (bytes : List ℕ) where
   abbrev changed : List ℕ → List ℕ
   changed = changed_unit 0 (Blocks most order interfaces)
 
   section_twice : HasSectionType bytes → 24 ≤ length bytes → changed (changed bytes) ≡ changed bytes
-  section_twice is room =
-      search rules
+  section_twice is room = search rules
 
   interface_twice : (HasSectionType bytes → ⊥) → field order bytes 0 4 ≡ 1 → 16 ≤ length bytes
       → changed (changed bytes) ≡ changed bytes
@@ -72,8 +70,7 @@ module _ (most : ℕ) (order : Order) (interfaces : List CaptureInterfaceValue) 
 
   plain_twice : (HasSectionType bytes → ⊥) → (field order bytes 0 4 ≡ 1 → ⊥)
       → (changed bytes ≡ []) ⊎ (changed bytes ≡ bytes)
-  plain_twice other not_one =
-      search rules
+  plain_twice other not_one = search rules
 
   block_twice : HasRoom (Blocks most order interfaces) bytes
       → (changed bytes ≡ []) ⊎ (changed (changed bytes) ≡ changed bytes)
@@ -131,8 +128,7 @@ four_field order bytes i ok le =
     subst (λ (k : ℕ). number_in order part < 256 ^ k) long b
 
 same_len : (n : ℕ) → IsFour n → raised_len 0 n ≡ n
-same_len n lt =
-    search rules
+same_len n lt = search rules
 
 same_header : (h : FileHeaderValue) → IsFour h.snap_len → raised_header 0 h ≡ h
 same_header h lt = ap (λ (n : ℕ). record h { snap_len = n }) (same_len h.snap_len lt)
@@ -184,8 +180,7 @@ range_after bytes x y len p ok (file_record h r is) range = range
 range_after bytes x y len p ok (block m order interfaces after q b other begins body) range =
     body_range (kind_of_block b.block_type) m order interfaces after b.body q
     (subst IsBytes begins.body (IsBytes-part 8 (8 + length b.body) bytes ok)) body range
-range_after bytes x y len p ok h range =
-    All-nil (λ (j : CaptureInterfaceValue). IsFour j.snap_len)
+range_after bytes x y len p ok h range = All-nil (λ (j : CaptureInterfaceValue). IsFour j.snap_len)
 
 body_packet : (kind : BlockKind) (most : ℕ) (order : Order) (before after : List CaptureInterfaceValue)
     (body : List ℕ) (o : Option PacketValue) (p : PacketValue) → o ≡ Some p
@@ -206,8 +201,7 @@ body_packet (EnhancedPacket n) most order before after body o p some (i, q, w, i
       subst (λ (v : PacketValue). IsFour v.snap_len) same (four_at before at.before at.after i at.parts all),
       refl,
     )
-body_packet Other most order before after body o p some (e, f) all =
-    let bad : None ≡ Some p = sym e ∙ some in absurd cc
+body_packet Other most order before after body o p some (e, f) all = let bad : None ≡ Some p = sym e ∙ some in absurd cc
 
 part_of_take : (bytes : List ℕ) (n j : ℕ) → j ≤ n → slice_range (take n bytes) 0 j ≡ slice_range bytes 0 j
 part_of_take bytes n j le =
@@ -288,7 +282,7 @@ module _ (Edits : PacketValue → Option EditedValue → Type 0) (unedited : Edi
         let more =
         stay y (drop len bytes) others ps qs rest fault (IsBytes-drop len bytes ok)
         (range_after bytes x y len (Some p) ok begins range) copies in
-        search (rules, drop, range_after, range_packet, same_packet_in)
+        search (rules, range_after, range_packet, same_packet_in)
 
     -- these packets are kept, or not
     abbrev Chosen : List PacketValue → Type 0
@@ -463,10 +457,8 @@ module _ (Edits : PacketValue → Option EditedValue → Type 0) (unedited : Edi
   chosen_of : (Keeps : PacketValue → Type 0) (x : Expectation) (bytes : List ℕ) (packets chosen : List PacketValue)
       (left : List ℕ) (other : Option CopyFault) → IsBytes bytes → ((q : PacketValue) → other ≡ Some (NotEdited q) → ⊥)
       → HasPackets x bytes packets [] None → HasSource Keeps x bytes chosen left other → Chosen Keeps packets
-  chosen_of Keeps x bytes packets chosen left None ok never has source =
-      search (rules, packets_one)
-  chosen_of Keeps x bytes packets chosen left (Some (Refused r)) ok never has source =
-      search (rules, packets_one)
+  chosen_of Keeps x bytes packets chosen left None ok never has source = search (rules, packets_one)
+  chosen_of Keeps x bytes packets chosen left (Some (Refused r)) ok never has source = search (rules, packets_one)
   chosen_of Keeps x bytes packets chosen left (Some (NotEdited q)) ok never has source = absurd (never q refl)
 
   abbrev Kept : (most : ℕ) → (PacketValue → Type 0) → (bytes copy : List ℕ) → (kept edited : List PacketValue)
@@ -516,8 +508,7 @@ unedited_none p None is = refl
 unedited_none p (Some e) is = absurd cc
 
 edits_once : EditsOnce (λ p o. IsTrue (edits_none p o))
-edits_once =
-    search rules
+edits_once = search rules
 
 both_true : (a b : Bool) → (IsTrue a × IsTrue b) ↔ IsTrue (a && b)
 both_true true b = (λ is. is.1, λ is. (refl, is))

@@ -22,8 +22,7 @@ module _ (mode : ModeValue) (Keeps : PacketValue → Type 0) (Edits : PacketValu
 
   -- a unit, which has this front of the bytes, and what is copied of it before these
   abbrev Joined : (x y : Expectation) → Option PacketValue → (front : List ℕ) → (others all : Result) → Type 0
-  Joined x y None front others all =
-      all ≡ record others { copy = other_unit mode y front ++ others.copy }
+  Joined x y None front others all = all ≡ record others { copy = other_unit mode y front ++ others.copy }
   Joined x y (Some p) front others all =
       (Keeps p × (o : Option EditedValue) × (u : List ℕ) × Edits p o × (unit_after mode x p o front ≡ Some u)
       × (all ≡ record { copy = u ++ others.copy; kept = p ∷ others.kept; edited = packet_after mode p o ∷ others.edited }))
@@ -67,8 +66,7 @@ module _ (mode : ModeValue) (Keeps : PacketValue → Type 0) (Edits : PacketValu
 
   same_front : (x : Expectation) (p : PacketValue) (front u v : List ℕ) (o q : Option EditedValue) → Edits p o
       → Edits p q → unit_after mode x p o front ≡ Some u → unit_after mode x p q front ≡ Some v → (o ≡ q) × (u ≡ v)
-  same_front x p front u v o q edits edits2 e f =
-      search rules
+  same_front x p front u v o q edits edits2 e f = search rules
 
   same_joined : (x y : Expectation) (p : Option PacketValue) (front : List ℕ) (others more all other : Result)
       → others ≡ more → Joined x y p front others all → Joined x y p front more other → all ≡ other
@@ -174,5 +172,4 @@ pub one_copy : (mode : ModeValue) (test : PacketValue → Bool) (edits : PacketV
     (x : Expectation) (bytes : List ℕ) (c d : Copy mode test edits x bytes)
     → IsBytes bytes → EditsOnce (λ p o. IsTrue (edits p o))
     → (c.copy ≡ d.copy) × (c.kept ≡ d.kept) × (c.edited ≡ d.edited) × (c.rest ≡ d.rest) × (c.fault ≡ d.fault)
-one_copy mode test edits x bytes c d ok once =
-    search (rules, one_copied)
+one_copy mode test edits x bytes c d ok once = search (rules, one_copied)

@@ -30,8 +30,7 @@ data Room (e : EditedValue) : Type 0 where
   fits : length e.packet ≤ 262144 → e.original_len ≤ 4294967295 → Room e
 
 room_of : (e : EditedValue) → Room e
-room_of e =
-    search rules
+room_of e = search rules
 
 too_long : (e : EditedValue) → 262144 < length e.packet → is_too_long e ≡ true
 too_long e long = rw (lt-ltb 262144 (length e.packet) long) refl
@@ -103,8 +102,7 @@ record_begins h u new p e begins room =
 edited_sound : (order : Order) (m : ℕ) (e : EditedValue) (body : List ℕ) → 20 + m ≤ length body
     → IsTotalLen (12 + length body) → 12 + length (edited_body order m e body) ≤ 16777216
     → IsTotalLen (12 + length (edited_body order m e body))
-edited_sound order m e body whole sound most =
-    search (rules, length-edited_body, length)
+edited_sound order m e body whole sound most = search (rules, length-edited_body)
 
 -- what is written of a block
 record BlockFits (order : Order) (m : ℕ) (e : EditedValue) (u new : List ℕ) : Type 0 where
@@ -113,8 +111,7 @@ record BlockFits (order : Order) (m : ℕ) (e : EditedValue) (u new : List ℕ) 
 
 block_fits : (number_len : ℕ) (order : Order) (m : ℕ) (e : EditedValue) (u new : List ℕ)
     → edited_block (EnhancedPacket number_len) order m e u ≡ Some new → BlockFits order m e u new
-block_fits number_len order m e u new is =
-    search rules
+block_fits number_len order m e u new is = search rules
 
 module _ (most : ℕ) (order : Order) (interfaces : List CaptureInterfaceValue) (u : List ℕ) (p : PacketValue)
     (e : EditedValue) (b : PacketBlock most order interfaces u p) (len : length u ≡ 12 + length b.value.body)
@@ -167,8 +164,7 @@ module _ (most : ℕ) (order : Order) (interfaces : List CaptureInterfaceValue) 
   by_kind h new is = absurd (search rules)
 
   few_bytes : (t k : ℕ) → kind_of_block t ≡ EnhancedPacket k → k ≤ 4
-  few_bytes t k is =
-      search rules
+  few_bytes t k is = search rules
 
   block_edited : (new : List ℕ) → unit_with (Blocks most order interfaces) (length p.packet) e u ≡ Some new
       → Begins new (Blocks most order interfaces) (length new) (Some (edited_packet e p)) (Blocks most order interfaces)
@@ -184,8 +180,7 @@ unit_begins : (x : Expectation) (u new : List ℕ) (p : PacketValue) (e : Edited
     → Fits x (length p.packet) e u new → Begins new x (length new) (Some (edited_packet e p)) x
 unit_begins (Beginning m) u new p e begins room = let bad : None ≡ Some new = room.is in absurd cc
 unit_begins (Records h) u new p e begins room = record_begins h u new p e begins room
-unit_begins (Blocks most order interfaces) u new p e begins room =
-    search (rules, block_of_unit, length, block_edited)
+unit_begins (Blocks most order interfaces) u new p e begins room = search (rules, block_of_unit, block_edited)
 
 -- the unit of a packet that is edited is one of the edited packet
 pub edited_begins : (x : Expectation) (u new : List ℕ) (p : PacketValue) (e : EditedValue)
@@ -199,8 +194,7 @@ has_edited : (x : Expectation) (unit : List ℕ) (e : EditedValue) (result : Opt
     → IfSome result (λ u. (more : List ℕ)
     → Begins (unit_bytes u ++ more) x (length (unit_bytes u)) (Some (edited_packet e p)) x)
 has_edited x unit e None p begins is = tt
-has_edited x unit e (Some u) p begins is =
-    search (rules, unit_local, length, edited_begins)
+has_edited x unit e (Some u) p begins is = search (rules, unit_local, edited_begins)
 
 pub has_edited_packet : (x : Expectation) (unit : List ℕ) (e : EditedValue) (result : Option EditedUnit)
     → EditsUnit x unit e result → HasEditedPacket x unit e result
@@ -213,8 +207,7 @@ Why p e = (p.time ≡ None) ⊎ (length p.packet < length e.packet) ⊎ (4294967
 
 longer_body : (order : Order) (m : ℕ) (e : EditedValue) (body : List ℕ) → 20 + m ≤ length body
     → IsTotalLen (12 + length body) → 16777216 < 12 + length (edited_body order m e body) → m < length e.packet
-longer_body order m e body whole sound long =
-    search (rules, length-edited_body, length)
+longer_body order m e body whole sound long = search (rules, length-edited_body)
 
 why_block : (kind : BlockKind) (limit : ℕ) (order : Order) (interfaces : List CaptureInterfaceValue) (u body : List ℕ)
     (p : PacketValue) (e : EditedValue)
@@ -223,18 +216,15 @@ why_block : (kind : BlockKind) (limit : ℕ) (order : Order) (interfaces : List 
     → Why p e
 why_block SimplePacket limit order interfaces u body p e is_body sound (i, q, at, v, f, g) is =
     inl (ap (λ (r : PacketValue). r.time) (same_packet p (simple_packet_on i q) f))
-why_block (EnhancedPacket k) limit order interfaces u body p e is_body sound (i, v, options, is_v, at, has, f, g) is =
-    search (rules, same_packet, length, cases_lt, longer_body, le-ltb)
-why_block kind limit order interfaces u body p e is_body sound h is = absurd cc
+why_block kind limit order interfaces u body p e is_body sound h is =
+    search (rules, same_packet, cases_lt, longer_body, le-ltb)
 
 why_unit : (x : Expectation) (u : List ℕ) (p : PacketValue) (e : EditedValue) → Begins u x (length u) (Some p) x
     → unit_with x (length p.packet) e u ≡ None → Why p e
 why_unit (Beginning m) u p e begins is = absurd (begun_before u (Beginning m) (Beginning m) (length u) p begins)
 why_unit (Records h) u p e begins is = absurd cc
-why_unit (Blocks most order interfaces) u p e begins is =
-    grind (arith, block_of_unit, length, why_block, body_of_unit)
+why_unit (Blocks most order interfaces) u p e begins is = grind (arith, block_of_unit, length, why_block, body_of_unit)
 
 pub why_not_edited : (x : Expectation) (u : List ℕ) (p : PacketValue) (e : EditedValue)
     → Begins u x (length u) (Some p) x → edited_unit x (length p.packet) e u ≡ None → Why p e
-why_not_edited x u p e begins is =
-    search (rules, room_of, packet_room, why_unit, unit_fits, length)
+why_not_edited x u p e begins is = search (rules, room_of, packet_room, why_unit, unit_fits)

@@ -47,8 +47,7 @@ module _ (order : Order) (place : ℕ) (e : EditedValue) (bytes : List ℕ) (roo
       omega (arith, length-append before captured, length-before, length-bytes_of order 4 (length e.packet))
 
   length-with_original : length (before ++ captured ++ original) ≡ place + 8
-  length-with_original =
-      search (rules, length-append, length-with_captured, length-bytes_of)
+  length-with_original = search (rules, length-append, length-with_captured, length-bytes_of)
 
   pub length-edited_front : length (edited_front order place e bytes) ≡ place + 8 + length e.packet
   length-edited_front = omega (arith, length-append (before ++ captured ++ original) e.packet, length-with_original)
@@ -60,11 +59,10 @@ module _ (order : Order) (place : ℕ) (e : EditedValue) (bytes : List ℕ) (roo
 
   pub edited_front-captured : slice_range (edited_front order place e bytes) place (place + 4) ≡ captured
   edited_front-captured =
-      search (rules, part-append, length-with_original, part_after_front, length-before, length-bytes_of, length)
+      search (rules, part-append, length-with_original, part_after_front, length-before, length-bytes_of)
 
   pub edited_front-original : slice_range (edited_front order place e bytes) (place + 4) (place + 8) ≡ original
-  edited_front-original =
-      search (rules, part_after_front, length-with_captured, length-bytes_of)
+  edited_front-original = search (rules, part_after_front, length-with_captured, length-bytes_of)
 
   pub edited_front-packet : slice_range (edited_front order place e bytes) (place + 8) (place + 8 + length e.packet)
       ≡ e.packet
@@ -116,8 +114,7 @@ module _ (order : Order) (m : ℕ) (e : EditedValue) (body : List ℕ) (room : 1
 
   pub length-edited_body : length (edited_body order m e body)
       ≡ 20 + padded (length e.packet) + (length body - (20 + padded m))
-  length-edited_body =
-      search (rules, length-append, drop, length-before_options, length-drop)
+  length-edited_body = search (rules, length-append, length-before_options, length-drop)
 
   in_front : (i j : ℕ) → i ≤ j → j ≤ 20 + length e.packet
       → slice_range (edited_body order m e body) i j ≡ slice_range (edited_front order 12 e body) i j
@@ -179,8 +176,7 @@ module _ (order : Order) (block_type body : List ℕ) (four : length block_type 
   length-to_trailer = omega (arith, length-append (block_type ++ bytes_of order 4 (12 + length body)) body, length-head)
 
   pub length-block_bytes : length (block_bytes order block_type body) ≡ 12 + length body
-  length-block_bytes =
-      search (rules, length-append, length, length-to_trailer, length-bytes_of)
+  length-block_bytes = search (rules, length-append, length-to_trailer, length-bytes_of)
 
   pub block_bytes-type : slice_range (block_bytes order block_type body) 0 4 ≡ block_type
   block_bytes-type =

@@ -15,8 +15,7 @@ use Rattle.ether_pcap.proofs.EditUnits.{length-edited_body}
 -- the parts of a body after a front
 parts_joined : (front a b c w o p z d body all : List ℕ) → body ≡ (a ++ b ++ c) ++ w ++ o ++ p ++ z ++ d
     → all ≡ front ++ a ++ b ++ c ++ w ++ o → all ++ p ++ z ++ d ≡ front ++ body
-parts_joined front a b c w o p z d body all is all_is =
-    search (rules, append_assoc)
+parts_joined front a b c w o p z d body all is all_is = search (rules, append_assoc)
 
 module _ (order : Order) (number_len : ℕ) (block : List ℕ) (v : EnhancedPacketValue) (e : EditedValue)
     (sound : IsTotalLen (length block))
@@ -41,17 +40,14 @@ module _ (order : Order) (number_len : ℕ) (block : List ℕ) (v : EnhancedPack
       ∙ is.captured_len
 
   pub padded_within : 28 + padded m ≤ length block - 4
-  padded_within =
-      search rules
+  padded_within = search rules
 
   pub length-new : 12 + length (edited_body order m e body) ≡ 32 + padded n + (length block - 4 - (28 + padded m))
-  length-new =
-      search (rules, length, length-edited_body, length-body, padded_within)
+  length-new = search (rules, length-edited_body, length-body, padded_within)
 
   pub too_long_block : 16777216 < 32 + padded n + (length block - 4 - (28 + padded m))
       → None ≡ edited_block (EnhancedPacket number_len) order m e block
-  too_long_block long =
-      search (rules, length, length-new, lt-ltb)
+  too_long_block long = search (rules, length-new, lt-ltb)
 
   pub written_block : (header options trailer : List ℕ) (padding total : ℕ)
       → header ≡ slice_range block 0 4 ++ bytes_of order 4 total ++ slice_range block 8 12 ++ slice_range block 12 16

@@ -23,15 +23,13 @@ ends (a ∷ b ∷ c ∷ d ∷ e ∷ l) len ok r s p q = omega arith
 
 pub one_header : (bytes : List ℕ) (h k : FileHeaderValue) → IsBytes bytes → IsFileHeader bytes h → IsFileHeader bytes k
     → h ≡ k
-one_header bytes h k ok is are =
-    search rules
+one_header bytes h k ok is are = search rules
 
 pub apart : (bytes : List ℕ) (h : FileHeaderValue) (r : FileRefusal) → IsBytes bytes → IsFileHeader bytes h
     → RefusesFile bytes r → ⊥
 apart bytes h r ok is (short lt) = omega (arith, is.len, lt)
 apart bytes h r ok is (magic le none) = none h.order h.resolution is.magic
-apart bytes h r ok is (version o s le has other) =
-    search rules
+apart bytes h r ok is (version o s le has other) = search rules
 
 pub refused_once : (bytes : List ℕ) (r s : FileRefusal) → IsBytes bytes → RefusesFile bytes r → RefusesFile bytes s
     → r ≡ s
@@ -43,5 +41,4 @@ refused_once bytes r s ok (magic le none) (magic le2 none2) = refl
 refused_once bytes r s ok (magic le none) (version o x le2 has other) = absurd (none o x has)
 refused_once bytes r s ok (version o x le has other) (short m) = absurd (omega (arith, le, m))
 refused_once bytes r s ok (version o x le has other) (magic le2 none) = absurd (none o x has)
-refused_once bytes r s ok (version o x le has other) (version p y le2 has2 other2) =
-    search rules
+refused_once bytes r s ok (version o x le has other) (version p y le2 has2 other2) = search rules

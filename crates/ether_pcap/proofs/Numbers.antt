@@ -36,4 +36,4 @@ pub bytes_are : (order : Order) (k : ℕ) (bytes : List ℕ) (n : ℕ) → lengt
     → number_in order bytes ≡ n → bytes ≡ bytes_of order k n
 bytes_are BigEndian k bytes n len ok e = sym (spelled-is k bytes len ok) ∙ ap (spelled k) e
 bytes_are LittleEndian k bytes n len ok e =
-    search (rules, reverse, spelled-is, length-reverse, IsBytes-reversed, number_reversed, reverse-reverse)
+    search (rules, spelled-is, length-reverse, IsBytes-reversed, number_reversed, reverse-reverse)

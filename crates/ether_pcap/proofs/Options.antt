@@ -7,8 +7,7 @@ use Rattle.ether_pcap.specs.Options.{OptionValue, BeginsOption, HasOptions, padd
 
 pub option_one : (order : Order) (bytes : List ℕ) (o p : OptionValue) → BeginsOption order bytes o
     → BeginsOption order bytes p → o ≡ p
-option_one order bytes o p h k =
-    search rules
+option_one order bytes o p h k = search rules
 
 -- no option of fewer than four bytes, with code 0, or with more bytes than there are
 
@@ -37,8 +36,7 @@ skipped : (order : Order) (code : ℕ) (rest : List ℕ) (o : OptionValue) (foun
     → (others : List OptionValue) × HasOptions order (drop (4 + padded (length o.value)) rest) others
     × (found ≡ value_of code others)
 skipped order code rest o found [] h other has e = absurd (has o h)
-skipped order code rest o found (p ∷ left) h other has e =
-    search rules
+skipped order code rest o found (p ∷ left) h other has e = search rules
 
 pub agrees_next : (order : Order) (code : ℕ) (whole rest : List ℕ) (o : OptionValue) → Agrees order code whole rest
     → BeginsOption order rest o → o.code ≢ code → Agrees order code whole (drop (4 + padded (length o.value)) rest)
@@ -51,14 +49,12 @@ found_first : (order : Order) (code : ℕ) (rest : List ℕ) (o : OptionValue) (
     → BeginsOption order rest o → o.code ≡ code → HasOptions order rest left → found ≡ value_of code left
     → found ≡ Some o.value
 found_first order code rest o found [] h is has e = absurd (has o h)
-found_first order code rest o found (p ∷ left) h is has e =
-    search rules
+found_first order code rest o found (p ∷ left) h is has e = search rules
 
 pub agrees_found : (order : Order) (code : ℕ) (whole rest : List ℕ) (o : OptionValue) → Agrees order code whole rest
     → BeginsOption order rest o → o.code ≡ code → (options : List OptionValue) → HasOptions order whole options
     → value_of code options ≡ Some o.value
-agrees_found order code whole rest o agrees h is options has =
-    grind (arith, found_first)
+agrees_found order code whole rest o agrees h is options has = grind (arith, found_first)
 
 none_left : (order : Order) (code : ℕ) (rest : List ℕ) (found : Option (List ℕ)) (left : List OptionValue)
     → ((o : OptionValue) → BeginsOption order rest o → ⊥) → HasOptions order rest left → found ≡ value_of code left
@@ -69,8 +65,7 @@ none_left order code rest found (p ∷ left) none has e = absurd (none p has.0)
 pub agrees_end : (order : Order) (code : ℕ) (whole rest : List ℕ) → Agrees order code whole rest
     → ((o : OptionValue) → BeginsOption order rest o → ⊥) → (options : List OptionValue)
     → HasOptions order whole options → value_of code options ≡ None
-agrees_end order code whole rest agrees none options has =
-    search (rules, none_left)
+agrees_end order code whole rest agrees none options has = search (rules, none_left)
 
 pub smaller : (order : Order) (rest : List ℕ) (o : OptionValue) → BeginsOption order rest o
     → length (drop (4 + padded (length o.value)) rest) < length rest
@@ -96,8 +91,7 @@ option_of order bytes = record { code = field order bytes 0 2; value = slice_ran
 begins : (order : Order) (bytes : List ℕ) → field order bytes 0 2 ≢ 0 → 4 + field order bytes 2 4 ≤ length bytes
     → BeginsOption order bytes (option_of order bytes)
 unfolding option_of
-begins order bytes some whole =
-    search rules
+begins order bytes some whole = search rules
 
 abbrev Some_of : Order → List ℕ → Type 0
 Some_of order bytes = (options : List OptionValue) × HasOptions order bytes options

@@ -20,8 +20,7 @@ same_packet p q e = ap (λ (o : Option PacketValue). unwrap_or o p) e
 record_if : (bytes : List ℕ) (x y : Expectation) (len : ℕ) (packet : Option PacketValue) (h : FileHeaderValue)
     (p : PacketValue) → x ≡ Records h → packet ≡ Some p → Begins bytes x len packet y
     → (r : RecordValue) × BeginsRecord h.order bytes r × (len ≡ record_len r) × (p ≡ packet_of_record h r)
-record_if bytes x y len packet h p e f (file_record g r is) =
-    search rules
+record_if bytes x y len packet h p e f (file_record g r is) = search rules
 record_if bytes x y len packet h p e f k = absurd cc
 
 pub record_of_unit : (bytes : List ℕ) (y : Expectation) (len : ℕ) (h : FileHeaderValue) (p : PacketValue)
@@ -40,8 +39,7 @@ pub data TypeOf (n : ℕ) : Type 0 where
   is_other : kind_of_block n ≡ Other → TypeOf n
 
 pub type_of : (n : ℕ) → TypeOf n
-type_of n =
-    search rules
+type_of n = search rules
 
 -- a block that is a packet
 pub record PacketBlock (most : ℕ) (order : Order) (interfaces : List CaptureInterfaceValue) (bytes : List ℕ)
@@ -123,8 +121,7 @@ block_of_unit bytes y len most order interfaces p begins =
 pub body_of_unit : (most : ℕ) (order : Order) (interfaces : List CaptureInterfaceValue) (bytes : List ℕ)
     (p : PacketValue) (b : PacketBlock most order interfaces bytes p)
     → length bytes ≡ 12 + length b.value.body → slice_range bytes 8 (length bytes - 4) ≡ b.value.body
-body_of_unit most order interfaces bytes p b len =
-    search rules
+body_of_unit most order interfaces bytes p b len = search rules
 
 -- ---- how many bytes a packet has
 
@@ -132,11 +129,8 @@ body_of_unit most order interfaces bytes p b len =
 few_in_body : (kind : BlockKind) (most : ℕ) (order : Order) (interfaces : List CaptureInterfaceValue)
     (body : List ℕ) (p : PacketValue) → IsBody kind most order interfaces body (Some p) interfaces
     → length p.packet ≤ 262144
-few_in_body SimplePacket most order interfaces body p (i, v, at, is, e, f) =
-    search rules
-few_in_body (EnhancedPacket n) most order interfaces body p (i, v, o, is, at, has, e, f) =
-    search rules
-few_in_body kind most order interfaces body p h = absurd cc
+few_in_body SimplePacket most order interfaces body p (i, v, at, is, e, f) = search rules
+few_in_body kind most order interfaces body p h = search rules
 
 pub packet_room : (x : Expectation) (u : List ℕ) (p : PacketValue) → Begins u x (length u) (Some p) x
     → length p.packet ≤ 262144
@@ -157,8 +151,7 @@ bytes_in_body (EnhancedPacket n) most order before after body packet p e ok (i, 
     let same : p ≡ packet_on order i v o = same_packet p (packet_on order i v o) (sym e ∙ f) in
     subst (λ (q : PacketValue). IsBytes q.packet) (sym same)
     (subst IsBytes is.packet (IsBytes-part 20 (20 + length v.packet) body ok))
-bytes_in_body Other most order before after body packet p e ok (f, g) =
-    let bad : None ≡ Some p = sym f ∙ e in absurd cc
+bytes_in_body Other most order before after body packet p e ok (f, g) = let bad : None ≡ Some p = sym f ∙ e in absurd cc
 
 bytes_if : (bytes : List ℕ) (x y : Expectation) (len : ℕ) (packet : Option PacketValue) (p : PacketValue)
     → packet ≡ Some p → IsBytes bytes → Begins bytes x len packet y → IsBytes p.packet
@@ -184,8 +177,7 @@ module _ (most : ℕ) (order : Order) (interfaces : List CaptureInterfaceValue) 
 
   unit_body : (kind : BlockKind) → kind_of_block (field order u 0 4) ≡ kind
       → Is kind (slice_range u 8 (length u - 4))
-  unit_body kind is =
-      grind (arith, block_of_unit, length, body_of_unit)
+  unit_body kind is = grind (arith, block_of_unit, length, body_of_unit)
 
   -- an enhanced packet, or an obsolete packet block
   pub enhanced_edited : (number_len : ℕ) (e : EditedValue) (new : Option (List ℕ))
@@ -194,8 +186,7 @@ module _ (most : ℕ) (order : Order) (interfaces : List CaptureInterfaceValue) 
       → IsEnhancedPacket k order (slice_range u 8 (length u - 4)) v
       → new ≡ edited_block (EnhancedPacket k) order (length v.packet) e u)
       → new ≡ unit_with (Blocks most order interfaces) (length p.packet) e u
-  enhanced_edited number_len e new kind edits =
-      grind (arith, block_of_unit, length, unit_body, same_packet)
+  enhanced_edited number_len e new kind edits = grind (arith, block_of_unit, length, unit_body, same_packet)
 
   -- .. no other block is edited
   pub other_edited : (e : EditedValue) → (field order u 0 4 ≡ 2 → ⊥) → (field order u 0 4 ≡ 6 → ⊥)
@@ -212,5 +203,4 @@ module _ (most : ℕ) (order : Order) (interfaces : List CaptureInterfaceValue) 
       none : (kind : BlockKind) → kind_of_block (field order u 0 4) ≡ kind
           → None ≡ edited_block kind order (length p.packet) e u
           → None ≡ unit_with (Blocks most order interfaces) (length p.packet) e u
-      none kind is e_none =
-          e_none ∙ ap (λ (z : BlockKind). edited_block z order (length p.packet) e u) (sym is)
+      none kind is e_none = e_none ∙ ap (λ (z : BlockKind). edited_block z order (length p.packet) e u) (sym is)

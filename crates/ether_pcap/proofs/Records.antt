@@ -13,8 +13,7 @@ use Rattle.ether_pcap.specs.declared.classic.record_fault.RecordFault.{RecordFau
 
 pub record_one : (order : Order) (bytes : List ℕ) (r s : RecordValue) → BeginsRecord order bytes r
     → BeginsRecord order bytes s → r ≡ s
-record_one order bytes r s h k =
-    search rules
+record_one order bytes r s h k = search rules
 
 pub record_apart : (order : Order) (bytes : List ℕ) (r : RecordValue) (e : RecordRefusal) → BeginsRecord order bytes r
     → RefusesRecord order bytes e → ⊥
@@ -41,8 +40,7 @@ pub gives_record : (s : State) (p : PcapRecord) → s.over ≡ false
     → BeginsRecord (order_of s.header.byte_order) s.rest (record_view p)
     → Gives s (Some (Ok p))
     (record s { rest = drop (record_len (record_view p)) s.rest; offset = s.offset + record_len (record_view p) })
-gives_record s p more h =
-    grind (arith)
+gives_record s p more h = grind (arith)
 
 next_fault : (order : Order) (s : State) (f : RecordFault) (records : List RecordValue) (rest : List ℕ)
     (fault : Option RecordRefusal)
@@ -56,8 +54,7 @@ next_fault order s f k rest fault some at h has = absurd (search (rules, record_
 pub gives_fault : (s : State) (f : RecordFault) → s.over ≡ false → s.rest ≢ [] → f.offset ≡ s.offset
     → RefusesRecord (order_of s.header.byte_order) s.rest (record_refusal_view f.error)
     → Gives s (Some (Err f)) (record s { over = true })
-gives_fault s f more some at h =
-    search (rules, next_fault)
+gives_fault s f more some at h = search (rules, next_fault)
 
 -- ---- all records of a list
 
@@ -73,8 +70,7 @@ record_of order bytes = record {
 begins : (order : Order) (bytes : List ℕ) → field order bytes 8 12 ≤ max_captured_len
     → 16 + field order bytes 8 12 ≤ length bytes → BeginsRecord order bytes (record_of order bytes)
 unfolding record_of
-begins order bytes room whole =
-    search rules
+begins order bytes room whole = search rules
 
 goes_on : (order : Order) (bytes : List ℕ) (r : RecordValue) → BeginsRecord order bytes r
     → Contents order (drop (record_len r) bytes) → Contents order bytes

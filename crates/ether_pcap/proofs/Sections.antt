@@ -34,8 +34,7 @@ moved bytes o p c e k = subst (λ (q : Order). BeginsBlock q bytes c) (sym e) k
 
 pub section_one : (bytes : List ℕ) (o p : Order) (b c : BlockValue) → IsBytes bytes → IsSection bytes o b
     → IsSection bytes p c → (o ≡ p) × (b ≡ c)
-section_one bytes o p b c ok h k =
-    search (rules, order_one, enough, block_one, moved)
+section_one bytes o p b c ok h k = search (rules, order_one, enough, block_one, moved)
 
 pub section_apart : (bytes : List ℕ) (o : Order) (b : BlockValue) (r : SectionRefusal) → IsBytes bytes
     → IsSection bytes o b → RefusesSection bytes r → ⊥
@@ -75,15 +74,13 @@ refused_block bytes o p r c ok le m n h k =
 
 one_refusal : (bytes : List ℕ) (o p : Order) (r s : BlockRefusal) → IsBytes bytes → 12 ≤ length bytes → HasOrder bytes o
     → HasOrder bytes p → RefusesBlock o bytes r → RefusesBlock p bytes s → r ≡ s
-one_refusal bytes o p r s ok le m n h k =
-    search (rules, block_refusal_one, order_one)
+one_refusal bytes o p r s ok le m n h k = search (rules, block_refusal_one, order_one)
 
 one_version : (bytes : List ℕ) (o p : Order) (a b c d : ℕ) → IsBytes bytes → 12 ≤ length bytes → HasOrder bytes o
     → HasOrder bytes p
     → field o bytes 12 14 ≡ a → field o bytes 14 16 ≡ b → field p bytes 12 14 ≡ c → field p bytes 14 16 ≡ d
     → Version a b ≡ Version c d
-one_version bytes o p a b c d ok le m n ea eb ec ed =
-    search rules
+one_version bytes o p a b c d ok le m n ea eb ec ed = search rules
 
 pub section_refused : (bytes : List ℕ) (r s : SectionRefusal) → IsBytes bytes → RefusesSection bytes r
     → RefusesSection bytes s → r ≡ s

@@ -29,16 +29,13 @@ module _ (at : ℕ) (new bytes : List ℕ) (room : at + length new ≤ length by
   length-with_new = omega (arith, length-append front new, length-front)
 
   pub length-with_bytes : length (with_bytes at new bytes) ≡ length bytes
-  length-with_bytes =
-      search (rules, room, length-append, drop, length, length-with_new, length-drop)
+  length-with_bytes = search (rules, room, length-append, length-with_new, length-drop)
 
   pub with_bytes-before : (i j : ℕ) → i ≤ j → j ≤ at → slice_range (with_bytes at new bytes) i j ≡ slice_range bytes i j
-  with_bytes-before i j ij le =
-      search (rules, part-append, drop, length, length-with_new, length-front, part_of_front)
+  with_bytes-before i j ij le = search (rules, part-append, length-with_new, length-front, part_of_front)
 
   pub with_bytes-new : slice_range (with_bytes at new bytes) at (at + length new) ≡ new
-  with_bytes-new =
-      part_after_front front new (drop (at + length new) bytes) at (at + length new) length-front refl
+  with_bytes-new = part_after_front front new (drop (at + length new) bytes) at (at + length new) length-front refl
 
   pub with_bytes-after : (i j : ℕ) → at + length new ≤ i → i ≤ j
       → slice_range (with_bytes at new bytes) i j ≡ slice_range bytes i j
@@ -54,12 +51,10 @@ module _ (at : ℕ) (new bytes : List ℕ) (room : at + length new ≤ length by
 -- ---- a raised snap length
 
 pub raised_none : (raise n : ℕ) → n ≡ 0 → raised_len raise n ≡ 0
-raised_none raise n is =
-    ap (λ (b : Bool). if b then 0 else min (n + raise) (2 ^ 32 - 1)) (eq-eqb n 0 is)
+raised_none raise n is = ap (λ (b : Bool). if b then 0 else min (n + raise) (2 ^ 32 - 1)) (eq-eqb n 0 is)
 
 raised_below : (raise n : ℕ) → raised_len raise n < 256 ^ 4
-raised_below raise n =
-    search rules
+raised_below raise n = search rules
 
 module _ (order : Order) (raise n at : ℕ) (bytes : List ℕ) (room : at + 4 ≤ length bytes) where
   abbrev raised : List ℕ
@@ -72,8 +67,7 @@ module _ (order : Order) (raise n at : ℕ) (bytes : List ℕ) (room : at + 4 �
   raised_room = omega (arith, room, four)
 
   pub raised_field : field order (with_bytes at raised bytes) at (at + 4) ≡ raised_len raise n
-  raised_field =
-      search (rules, four, with_bytes-new, raised_room, number-bytes_of, raised_below)
+  raised_field = search (rules, four, with_bytes-new, raised_room, number-bytes_of, raised_below)
 
   pub raised_before : (i j : ℕ) → i ≤ j → j ≤ at
       → field order (with_bytes at raised bytes) i j ≡ field order bytes i j
@@ -123,8 +117,7 @@ module _ (order : Order) (at : ℕ) (new bytes : List ℕ) (b : BlockValue) (is 
   body_in = slice_range all 8 (8 + length b.body)
 
   pub length-body_in : length body_in ≡ length b.body
-  length-body_in =
-      search (rules, length-part, length, length-with_bytes, block_room, whole)
+  length-body_in = search (rules, length-part, length-with_bytes, block_room, whole)
 
   abbrev pub block_in : BlockValue
   block_in = record { block_type = b.block_type; body = body_in }

@@ -13,10 +13,8 @@ link_type_back t None lt = omega arith
 link_type_back t (Some n) lt = omega arith
 
 fcs_len_back : (t : ℕ) (f : Option ℕ) → t < 65536 → HasFcsLen f → fcs_len_of (link_word_of t f) ≡ f
-fcs_len_back t None lt has =
-    search rules
-fcs_len_back t (Some n) lt has =
-    search rules
+fcs_len_back t None lt has = search rules
+fcs_len_back t (Some n) lt has = search rules
 
 pub file_header_back : (bytes rest : List ℕ) (h : FileHeaderValue) → length bytes ≡ 24 → WritesFileHeader bytes h
     → h.link_type < 65536 → HasFcsLen h.fcs_len → IsFileHeader (bytes ++ rest) h

@@ -1,5 +1,5 @@
 -- Blocks that are written are read back.
-use Rattle.std.proofs.Common.{◌≡◌, ℕ, ◌+◌, ◌-◌, ◌/◌, ◌%◌, ◌^◌, ◌<◌, ◌≤◌, List, [], ◌∷◌, ◌++◌, length, take, drop, reverse, refl, sym, ap, subst, ◌∙◌, arith, append_assoc, length-append, rules}
+use Rattle.std.proofs.Common.{◌≡◌, ℕ, ◌+◌, ◌-◌, ◌/◌, ◌%◌, ◌^◌, ◌<◌, ◌≤◌, List, [], ◌∷◌, ◌++◌, length, drop, reverse, refl, sym, ap, subst, ◌∙◌, arith, append_assoc, length-append, rules}
 use Rattle.std.specs.Prelude.{slice_range}
 use Rattle.std.proofs.lemmas.List.{take_all, drop_at}
 use Rattle.ether_base.specs.Bytes.{spelled}
@@ -21,8 +21,7 @@ use Rattle.ether_pcap.proofs.EditUnits.{length-zeros, part_past, block_begins}
 -- a length that has more than four bytes is written modulo 2^32
 low_bytes : (n : ℕ) → spelled 4 (n % 4294967296) ≡ spelled 4 n
 unfolding spelled
-low_bytes n =
-    search rules
+low_bytes n = search rules
 
 pub written_modulo : (order : Order) (n : ℕ) → bytes_of order 4 (n % 4294967296) ≡ bytes_of order 4 n
 written_modulo BigEndian n = low_bytes n
@@ -42,8 +41,7 @@ framed_read : (order : Order) (n len : ℕ) (body rest : List ℕ) → n < 42949
     → IsTotalLen len
     → BeginsBlock order (bytes_of order 4 n ++ bytes_of order 4 len ++ body ++ bytes_of order 4 len ++ rest)
     (record { block_type = n; body = body })
-framed_read order n len body rest lt long sound =
-    search (rules, block_read)
+framed_read order n len body rest lt long sound = search (rules, block_read)
 
 -- ---- section headers
 
@@ -95,7 +93,7 @@ interface_value order i link snap =
     let body = interface_body order i in
     let long : length body ≡ 8 + length i.options =
     omega (arith, length-append (interface_head order i) i.options, length-interface_head order i) in
-    search (rules, take, take_all)
+    search (rules, take_all)
 
 pub interface_read : (order : Order) (header : List ℕ) (i : InterfaceValue)
     → header ≡ bytes_of order 4 1 ++ bytes_of order 4 (interface_block_len i) ++ interface_head order i
@@ -107,8 +105,7 @@ interface_read order header i is link snap sound rest =
     let front = bytes_of order 4 1 ++ n in
     let h = interface_head order i in
     let body = interface_body order i in
-    let long : len ≡ 12 + length body =
-    omega (arith, length-append h i.options, length-interface_head order i) in
+    let long : len ≡ 12 + length body = omega (arith, length-append h i.options, length-interface_head order i) in
     let joined : front ++ body ++ n ++ rest ≡ header ++ i.options ++ n ++ rest =
     ap (λ (l : List ℕ). l ++ n ++ rest)
     (sym (append_assoc front h i.options) ∙ ap (λ (l : List ℕ). l ++ i.options) (sym is)) in (
@@ -120,10 +117,8 @@ interface_read order header i is link snap sound rest =
 pub nanoseconds_read : (order : Order)
     → HasOptions order (nanosecond_bytes order) (record { code = 9; value = 9 ∷ [] } ∷ [])
 unfolding spelled
-nanoseconds_read BigEndian =
-    search rules
-nanoseconds_read LittleEndian =
-    search rules
+nanoseconds_read BigEndian = search rules
+nanoseconds_read LittleEndian = search rules
 
 -- ---- enhanced packets
 
@@ -163,8 +158,7 @@ module _ (order : Order) (p : EnhancedPacketValue) where
   length-padding = length-zeros (padded (length p.packet) - length p.packet)
 
   pub length-to_options : length (packet_head order p ++ p.packet ++ packet_padding p) ≡ 20 + padded (length p.packet)
-  length-to_options =
-      search (rules, length-append, length-packet_head, length-padding)
+  length-to_options = search (rules, length-append, length-packet_head, length-padding)
 
   packet_value : PacketFits order p → length p.packet ≤ 262144 → IsEnhancedPacket 4 order (packet_body order p) p
   packet_value fits room =

@@ -19,8 +19,7 @@ not_from_high n Nanoseconds p q = omega (arith, p, q)
 no_section : (header : List ℕ) (order : Order) (r : Resolution) → IsBytes header → length header ≡ 24
     → HasMagic header order r → HasSectionType header → ⊥
 no_section header BigEndian r ok len has is = not_from_high _ r has is
-no_section header LittleEndian r ok len has is =
-    search rules
+no_section header LittleEndian r ok len has is = search rules
 
 written_records : (h : FileHeaderValue) (bytes : List ℕ) (records : List RecordValue)
     → WritesRecords h.order bytes records → HasPackets (Records h) bytes (map (packet_of_record h) records) [] None

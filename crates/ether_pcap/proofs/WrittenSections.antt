@@ -37,19 +37,16 @@ length-section_bytes LittleEndian = refl
 
 length-interface_bytes : (order : Order) (i : InterfaceValue)
     → length (interface_bytes order i) ≡ 12 + length (interface_body order i)
-length-interface_bytes order i =
-    search (rules, length-append, length-bytes_of)
+length-interface_bytes order i = search (rules, length-append, length-bytes_of)
 
 length-packet_bytes : (order : Order) (p : EnhancedPacketValue)
     → length (packet_bytes order p) ≡ 12 + length (packet_body order p)
-length-packet_bytes order p =
-    search (rules, length-append, length-bytes_of)
+length-packet_bytes order p = search (rules, length-append, length-bytes_of)
 
 -- ---- the blocks
 
 packet_fits : (order : Order) (p : EnhancedPacketValue) → FitsPacket p → PacketFits order p
-packet_fits order p fits =
-    search (rules, number-bytes_of)
+packet_fits order p fits = search (rules, number-bytes_of)
 
 has_rest : (x : Expectation) (front bytes : List ℕ) (n : ℕ) (packets : List PacketValue) → length front ≡ n
     → HasPackets x bytes packets [] None → HasPackets x (drop n (front ++ bytes)) packets [] None

@@ -1,4 +1,4 @@
-use Rattle.std.proofs.Common.{rules, ℕ, List, length, length-drop, sym, ap, subst, ◌∙◌, arith, true}
+use Rattle.std.proofs.Common.{rules, ℕ, List, length, length-drop, sym, ap, subst, ◌∙◌, arith}
 use Rattle.ether_base.proofs.SubLists.{IsBytes-drop}
 use Rattle.ether_base.specs.Bytes.{IsBytes}
 use Rattle.ether_pcap.specs.Capture.{HasPackets}
@@ -50,13 +50,10 @@ loop-self-preserved c =
     }
 
 pub returns-in-Err-clause-steps : goal.returns-in-Err-clause-steps
-returns-in-Err-clause-steps c =
-    search (rules, gives, true, gives_fault)
+returns-in-Err-clause-steps c = search (rules, gives, gives_fault)
 
 pub returns-clause-steps : goal.returns-clause-steps
-returns-clause-steps c =
-    search (rules, gives, gives_none)
+returns-clause-steps c = search (rules, gives, gives_none)
 
 pub loop-self-init : goal.loop-self-init
-loop-self-init c =
-    search rules
+loop-self-init c = search rules

@@ -8,8 +8,7 @@ use Rattle.ether_pcap.proofs.Captures.{section_unit, section_not_read, nothing_r
 use Rattle.ether_pcap.proofs.capture.capture_reader.CaptureReader.read_unit.Goals as goal
 
 pub returns-in-Err-clause-refused : goal.returns-in-Err-clause-refused
-returns-in-Err-clause-refused g c =
-    search (rules, section_not_read)
+returns-in-Err-clause-refused g c = search (rules, section_not_read)
 
 pub returns-then-begins_section-clause-unit : goal.returns-then-begins_section-clause-unit
 returns-then-begins_section-clause-unit g c =
