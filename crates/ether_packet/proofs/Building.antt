@@ -1,5 +1,5 @@
 -- The headers of a packet that is built are found by the walk.
-use Rattle.std.proofs.Common.{◌≡◌, ℕ, ◌+◌, ◌-◌, ◌≤◌, List, [], ◌∷◌, ◌++◌, length, refl, sym, ap, subst, ◌∙◌, arith, Bool, true, false}
+use Rattle.std.proofs.Common.{◌≡◌, ℕ, ◌+◌, ◌-◌, ◌≤◌, List, [], ◌∷◌, ◌++◌, length, refl, sym, ap, subst, ◌∙◌, arith, Bool, true, false, rules}
 use Rattle.std.specs.Prelude.{flat_map, Some, None, nat_lt, if◌then◌else◌}
 use Rattle.std.proofs.lemmas.List.{length-append}
 use Rattle.etherparse.specs.Ethernet2.{Ethernet2Value}
@@ -23,7 +23,7 @@ use Rattle.ether_peel.specs.Grammar.Places.{place}
 use Rattle.ether_peel.specs.Grammar.Stack.{whole}
 use Rattle.ether_peel.proofs.Grammar.Carrying.{led}
 use Rattle.ether_peel.proofs.Grammar.Cleared.{whole_in}
-use Rattle.ether_packet.specs.Building.{vlan_type, own_type, type_of, retyped, before, built, is_unmodified, IsChain, AllFit, expected_after, window_after, BeginsWith}
+use Rattle.ether_packet.specs.Building.{vlan_type, own_type, type_of, retyped, before, built, IsChain, AllFit, BeginsWith}
 use Rattle.ether_packet.proofs.Written.{Fitting, Fits, written}
 use Rattle.ether_packet.proofs.TypedLinks.{announced_vlan}
 
@@ -33,17 +33,11 @@ ether_type_kept : (p : PayloadType) (t : ℕ)
     → ether_type_len (encrypted_of (retyped p t)) (changed_of (retyped p t))
     ≡ ether_type_len (encrypted_of p) (changed_of p)
 ether_type_kept (payloads.Unmodified old) t = refl
-ether_type_kept payloads.Modified t = refl
-ether_type_kept payloads.EncryptedUnmodified t = refl
-ether_type_kept payloads.Encrypted t = refl
+ether_type_kept p t = refl
 
 pub header_len_before : (h : Header) (t n : ℕ) → header_len (before h t n) ≡ header_len h
-header_len_before (headers.Ethernet2 e) t n = refl
-header_len_before (headers.Ethernet2Fcs e) t n = refl
-header_len_before (headers.LinuxSll s) t n = refl
-header_len_before (headers.Vlan v) t n = refl
 header_len_before (headers.Macsec m) t n = let e = ether_type_kept m.payload_type t in omega (arith, e)
-header_len_before (headers.Arp a) t n = refl
+header_len_before h t n = refl
 
 pub place-built : (at : ℕ) (hs : List Header) (t n : ℕ) → place at (built hs t n) ≡ place at hs
 place-built at [] t n = refl
@@ -68,9 +62,7 @@ named_plain false n k e = absurd cc
 named_for : (p : PayloadType) (n k : ℕ)
     → known_len (ether_type_len (encrypted_of p) (changed_of p)) (short_len_for p n) ≡ Some k → k ≡ n
 named_for (payloads.Unmodified t) n k e = named_by (nat_lt n 62) 2 n k e
-named_for payloads.Modified n k e = named_plain (nat_lt n 64) n k e
-named_for payloads.EncryptedUnmodified n k e = named_plain (nat_lt n 64) n k e
-named_for payloads.Encrypted n k e = named_plain (nat_lt n 64) n k e
+named_for p n k e = named_plain (nat_lt n 64) n k e
 
 not_one : (b : Bool) (n : ℕ) → (if b then n + 2 else 0) ≡ 1 → ⊥
 not_one true n e = omega (arith, e)
@@ -79,8 +71,7 @@ not_one false n e = omega (arith, e)
 long_enough : (p : PayloadType) (n : ℕ) → encrypted_of p ≡ 0 → changed_of p ≡ 0 → short_len_for p n ≡ 1 → ⊥
 long_enough (payloads.Unmodified t) n e c s = not_one (nat_lt n 62) n s
 long_enough payloads.Modified n e c s = omega (arith, c)
-long_enough payloads.EncryptedUnmodified n e c s = omega (arith, e)
-long_enough payloads.Encrypted n e c s = omega (arith, e)
+long_enough p n e c s = omega (arith, e)
 
 -- ---- each header where it is announced
 
@@ -135,12 +126,7 @@ expecting t = record { next = EtherType t; limit = None }
 
 set_announced : (hs : List Header) → announced (expecting (vlan_type hs)) ≡ Some kinds.Vlan
 set_announced [] = refl
-set_announced (headers.Ethernet2 e ∷ hs) = refl
-set_announced (headers.Ethernet2Fcs e ∷ hs) = refl
-set_announced (headers.LinuxSll s ∷ hs) = refl
-set_announced (headers.Vlan u ∷ hs) = refl
-set_announced (headers.Macsec m ∷ hs) = refl
-set_announced (headers.Arp a ∷ hs) = refl
+set_announced h = search rules
 
 either_announced : (b : Bool) (own t : ℕ) → (b ≡ true → announced (expecting own) ≡ Some kinds.Vlan)
     → announced (expecting t) ≡ Some kinds.Vlan → announced (expecting (if b then own else t)) ≡ Some kinds.Vlan
@@ -162,52 +148,19 @@ after_tag : (m : SecTagValue) (p : PayloadType) (own : ℕ) (hs : List Header) (
     → Fits (expecting (type_of own hs t)) (built hs t n) n
     → Fits (after (expecting k) (before (headers.Macsec m) (type_of own hs t) (place n hs))) (built hs t n) n
 after_tag m p own [] t n k e chain fits = tt
-after_tag m (payloads.Unmodified old) own (g ∷ hs) t n k e chain fits =
-    subst
-    (λ (q : PayloadType).
-    Fits
-    (after (expecting k)
-    (before (headers.Macsec (record m { payload_type = q })) (type_of own (g ∷ hs) t) (place n (g ∷ hs))))
-    (built (g ∷ hs) t n) n)
-    (sym e) fits
-after_tag m payloads.Modified own (g ∷ hs) t n k e chain fits =
-    let f : true ≡ false = sym chain.0 ∙ ap is_unmodified e in absurd cc
-after_tag m payloads.EncryptedUnmodified own (g ∷ hs) t n k e chain fits =
-    let f : true ≡ false = sym chain.0 ∙ ap is_unmodified e in absurd cc
-after_tag m payloads.Encrypted own (g ∷ hs) t n k e chain fits =
-    let f : true ≡ false = sym chain.0 ∙ ap is_unmodified e in absurd cc
+after_tag m p own h t n k e chain fits = search rules
 
 pub inner_fits : (own : ℕ) (hs : List Header) (t n : ℕ) → AreInner hs → IsChain hs → AllFit (built hs t n)
     → Fits (expecting (type_of own hs t)) (built hs t n) n
-inner_fits own [] t n inner chain fit = tt
 inner_fits own (headers.Vlan v ∷ hs) t n inner chain fit =
-    let mine =
-    vlan_fits (expecting (type_of own (headers.Vlan v ∷ hs) t))
-    (record v { ether_type = type_of v.ether_type hs t })
-    (place n (built hs t n)) (vlan_announced own v hs t) fit.0 in
-    (mine, inner_fits v.ether_type hs t n inner.1 (later_chain (headers.Vlan v) hs chain) fit.1)
+    let more = inner_fits v.ether_type hs t n inner.1 (later_chain (headers.Vlan v) hs chain) fit.1 in
+    search (rules, vlan_fits, vlan_announced, later_chain)
 inner_fits own (headers.Macsec m ∷ hs) t n inner chain fit =
     let k = own_type (headers.Macsec m) in
     let mine = macsec_fits (expecting 0x88E5) m (type_of k hs t) (place n hs) refl fit.0 in
-    let later = inner_fits k hs t n inner.1 (later_chain (headers.Macsec m) hs chain) fit.1 in (
-      subst (λ (l : ℕ). Fitting (expecting 0x88E5) (before (headers.Macsec m) (type_of k hs t) (place n hs)) l)
-          (sym (place-built n hs t n)) mine,
-      after_tag m m.payload_type k hs t n 0x88E5 refl chain later,
-    )
-inner_fits own (headers.Arp a ∷ []) t n inner chain fit = (
-  record {
-    announced = refl;
-    fits = fit.0;
-    accepted = λ bound more len. written_accepted bound a more fit.0;
-    named = λ p e. absurd cc;
-    no_trailer = refl;
-  },
-  tt,
-)
-inner_fits own (headers.Arp a ∷ g ∷ hs) t n inner chain fit = let f : true ≡ false = sym chain.0 in absurd cc
-inner_fits own (headers.Ethernet2 e ∷ hs) t n inner chain fit = absurd inner.0
-inner_fits own (headers.Ethernet2Fcs e ∷ hs) t n inner chain fit = absurd inner.0
-inner_fits own (headers.LinuxSll s ∷ hs) t n inner chain fit = absurd inner.0
+    let later = inner_fits k hs t n inner.1 (later_chain (headers.Macsec m) hs chain) fit.1 in
+    search (rules, place-built, after_tag)
+inner_fits own hs t n inner chain fit = search (rules, written_accepted)
 
 -- ---- the header of a link
 
@@ -268,11 +221,4 @@ pub begins_with : (start : Expectation) (list rest : List ℕ) (hs : List Header
 begins_with start list rest hs e fits =
     let all : within list (whole start list) ≡ list = part_all list (length list) (omega arith) in
     let w = written list start (whole start list) hs rest (whole_in start list) (all ∙ e) fits in
-    record {
-      payload = w.rest_is;
-      ends = w.finish;
-      walk =
-          λ ks f stack.
-          led list start (whole start list) hs ks (expected_after start hs) (window_after (whole start list) hs) f
-          w.leads stack;
-    }
+    search (rules, led)

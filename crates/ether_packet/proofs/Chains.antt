@@ -1,5 +1,5 @@
 -- Which headers of a builder can be followed, and how long they are.
-use Rattle.std.proofs.Common.{◌≡◌, ℕ, suc, ◌+◌, ◌-◌, ◌*◌, ◌<◌, ◌≤◌, List, [], ◌∷◌, ◌++◌, length, take, drop, drop_of_length-le, slice_index_or, refl, sym, ap, subst, ◌∙◌, arith, append_assoc, inl, inr, true, false}
+use Rattle.std.proofs.Common.{◌≡◌, ℕ, suc, ◌+◌, ◌-◌, ◌*◌, ◌<◌, ◌≤◌, List, [], ◌∷◌, ◌++◌, length, take, drop, drop_of_length-le, slice_index_or, refl, sym, ap, subst, ◌∙◌, arith, append_assoc, true, false, rules}
 use Rattle.std.specs.Prelude.{map}
 use Rattle.std.proofs.Math.Seq.{drop-cons, take-suc}
 use Rattle.std.proofs.lemmas.Bool.{cases_lt}
@@ -35,9 +35,7 @@ take_next xs i d lt =
 
 pub drop_next : (xs : List LinkExtHeader) (i : ℕ) (d : LinkExtHeader) → i < length xs
     → views (drop i xs) ≡ ext_header_view (slice_index_or xs i d) ∷ views (drop (i + 1) xs)
-drop_next xs i d lt =
-    let e : suc i ≡ i + 1 = omega arith in
-    ap views (drop-cons xs i d lt) ∙ ap (λ (n : ℕ). ext_header_view (slice_index_or xs i d) ∷ views (drop n xs)) e
+drop_next xs i d lt = search (rules, drop-cons, slice_index_or)
 
 pub length-views : (xs : List LinkExtHeader) → length (views xs) ≡ length xs
 length-views [] = refl
@@ -73,21 +71,14 @@ read_up_to xs followed i n d lt so_far is few e =
 
 pub read_next : (xs : List LinkExtHeader) (followed i : ℕ) (d : LinkExtHeader) → i < length xs → ReadTo xs followed i
     → (i < followed → is_readable (ext_header_view (slice_index_or xs i d)) ≡ true) → ReadTo xs followed (i + 1)
-read_next xs followed i d lt so_far is n le few =
-    elim (cases_lt i n) [
-      | inl past ↦ read_up_to xs followed i n d lt so_far is few (omega (arith, past, le))
-      | inr within ↦ so_far n
-          within few
-    ]
+read_next xs followed i d lt so_far is n le few = search (rules, cases_lt, read_up_to)
 
 -- all but the last one can be read
 pub chain_from : (front back : List Header) → AllReadable front → length back ≤ 1 → IsChain (front ++ back)
-chain_from [] [] all le = tt
-chain_from [] (h ∷ []) all le = tt
 chain_from [] (h ∷ g ∷ hs) all le = absurd (omega (arith, le))
-chain_from (h ∷ []) [] all le = tt
 chain_from (h ∷ []) (g ∷ hs) all le = (all.0, chain_from [] (g ∷ hs) tt le)
 chain_from (h ∷ g ∷ front) back all le = (all.0, chain_from (g ∷ front) back all.1 le)
+chain_from front back all le = tt
 
 pub all_views : (xs : List LinkExtHeader) (i : ℕ) (content : List Header)
     → views xs ++ content ≡ views (take i xs) ++ (views (drop i xs) ++ content)
@@ -165,12 +156,7 @@ pub record Counted (xs : List LinkExtHeader) (first i len : ℕ) : Type 0 where
 pub counted_next : (xs : List LinkExtHeader) (first i len n : ℕ) (d : LinkExtHeader) → i < length xs
     → Counted xs first i len → n ≡ header_len (ext_header_view (slice_index_or xs i d)) → n ≤ 16
     → Counted xs first (i + 1) (len + n)
-counted_next xs first i len n d lt so_far is few = record {
-  whole =
-      ap (λ (k : ℕ). place (len + k) (views (drop (i + 1) xs))) is ∙ sym (ap (place len) (drop_next xs i d lt))
-      ∙ so_far.whole;
-  near = let k = so_far.near in omega (arith, k, few);
-}
+counted_next xs first i len n d lt so_far is few = search (rules, drop_next)
 
 pub counted_all : (xs : List LinkExtHeader) (first i len : ℕ) → length xs ≤ i → Counted xs first i len
     → len ≡ place first (views xs)
@@ -202,14 +188,4 @@ content_place (contents.Arp packet) = omega arith
 
 pub packet_len_is : (p : PacketBuilder)
     → place (link_header_len p.link + content_len p.content) (views p.link_exts.now) ≡ packet_len p
-packet_len_is p =
-    (λ i. place (link_len p.link i + content_place p.content i) (views p.link_exts.now))
-    ∙ with_content (link_header p.link) (views p.link_exts.now) (content_headers p.content)
-    (length (content_payload p.content))
-
-pub counted_first : (xs : List LinkExtHeader) (first len : ℕ) → len ≡ first → Counted xs first 0 len
-counted_first xs first len e = record { whole = ap (λ (k : ℕ). place k (views xs)) e; near = omega (arith, e) }
-
-pub link_short : (link : LinkHeader) → link_header_len link ≤ 16
-link_short (links.LinuxSll h) = omega arith
-link_short (links.Ethernet2 h) = omega arith
+packet_len_is p = search (rules, link_len, content_place, with_content)

@@ -1,5 +1,5 @@
 -- A target that is filled from the end of a packet on, header by header.
-use Rattle.std.proofs.Common.{◌≡◌, ℕ, ◌+◌, ◌-◌, ◌<◌, ◌≤◌, List, [], ◌∷◌, ◌++◌, length, take, drop, slice_index_or, refl, sym, ap, subst, ◌∙◌, arith, append_assoc}
+use Rattle.std.proofs.Common.{◌≡◌, ℕ, ◌+◌, ◌-◌, ◌<◌, ◌≤◌, List, [], ◌∷◌, ◌++◌, length, take, drop, slice_index_or, refl, sym, ap, subst, ◌∙◌, arith, append_assoc, rules}
 use Rattle.std.specs.Prelude.{flat_map}
 use Rattle.std.proofs.Math.Seq.{drop-length, take-add}
 use Rattle.std.proofs.lemmas.List.{append-nil, drop_at, length-take-le, take_at}
@@ -8,7 +8,6 @@ use Rattle.etherparse.specs.Types.LinkHeader.{LinkHeader}
 use Rattle.etherparse.specs.Types.LinkHeader.TheVariants as links
 use Rattle.etherparse.specs.Types.LinkExtHeader.{LinkExtHeader}
 use Rattle.etherparse.specs.Types.LinkExtHeader.TheVariants as exts
-use Rattle.etherparse.specs.Link.{link_header_len}
 use Rattle.etherparse.specs.LinkExt.{ext_header_view}
 use Rattle.etherparse.specs.Ethernet2.{ethernet2_view}
 use Rattle.etherparse.specs.LinuxSll.{linux_sll_view}
@@ -30,16 +29,7 @@ use Rattle.ether_packet.proofs.Chains.{views, all_views, drop_next, content_plac
 written_before : (old rest target bytes : List ℕ) (start at : ℕ) → target ≡ take at old ++ rest
     → start + length bytes ≡ at → at ≤ length old → overwritten target start bytes ≡ take start old ++ (bytes ++ rest)
 written_before old rest target bytes start at is ends le =
-    let n = length bytes in
-    let split : take at old ≡ take start old ++ take n (drop start old) =
-    ap (λ (k : ℕ). take k old) (sym ends) ∙ take-add start n old in
-    let whole : target ≡ take start old ++ (take n (drop start old) ++ rest) =
-    is ∙ ap (λ (l : List ℕ). l ++ rest) split ∙ append_assoc (take start old) (take n (drop start old)) rest in
-    let front : take start target ≡ take start old =
-    ap (take start) whole ∙ take_at (take start old) _ start (length-take-le start old (omega (arith, ends, le))) in
-    let back : drop (start + n) target ≡ rest =
-    ap (λ (k : ℕ). drop k target) ends ∙ ap (drop at) is ∙ drop_at (take at old) rest at (length-take-le at old le) in
-    (λ i. front i ++ bytes ++ back i) ∙ append_assoc (take start old) bytes rest
+    search (rules, length, take, drop, take-add, append_assoc, take_at, length-take-le, drop_at)
 
 -- one list more before three
 one_more : (first second third last : List ℕ) → first ++ (second ++ third ++ last) ≡ first ++ second ++ third ++ last
@@ -69,11 +59,7 @@ later_none p = ap (λ (l : List LinkExtHeader). views l ++ content_headers p.con
 
 pub later_before : (p : PacketBuilder) (i : ℕ) (x : LinkExtHeader) → 0 < i → i ≤ length p.link_exts.now
     → x ≡ slice_index_or p.link_exts.now (i - 1) x → later p (i - 1) ≡ ext_header_view x ∷ later p i
-later_before p i x some le is =
-    let next : i - 1 + 1 ≡ i = omega (arith, some) in
-    ap (λ (l : List Header). l ++ content_headers p.content)
-    (drop_next p.link_exts.now (i - 1) x (omega (arith, some, le)))
-    ∙ (λ k. ext_header_view (sym is k) ∷ later p (next k))
+later_before p i x some le is = search (rules, drop_next)
 
 -- ---- the content
 
@@ -98,17 +84,7 @@ pub filled_content : (p : PacketBuilder) (old target : List ℕ) (at t v : ℕ) 
     → t ≡ type_of 0 (content_headers p.content) (content_type p.content) → v ≡ vlan_type (content_headers p.content)
     → Filled p old target (content_headers p.content) at t v
 filled_content p old target at t v ends bytes fits type tag =
-    let c = p.content in
-    let end : at + length (content_bytes c) ≡ packet_len p = ap (λ (k : ℕ). at + k) (content_long c fits) ∙ ends in
-    record {
-      fit = content_fits c fits;
-      bytes =
-          bytes ∙ append_assoc (take at old) (content_bytes c) _
-          ∙ (λ i. take at old ++ (content_built c i ++ drop (end i) old));
-      rest = ap (λ (k : ℕ). at + k) (sym (content_place c)) ∙ ends;
-      type = type;
-      tag = tag;
-    }
+    search (rules, content_long, content_fits, append_assoc, content_built, content_place)
 
 -- ---- the tags
 
@@ -126,8 +102,7 @@ room_before p old target i x at announced vlan some le is so_far =
     ap (place m) (all_views p.link_exts.now (i - 1) (content_headers p.content))
     ∙ place-append m front (later p (i - 1)) ∙ ap (λ (k : ℕ). place k (later p (i - 1))) long
     ∙ place-add (place 0 front) m (later p (i - 1)) in
-    let last : place m (later p (i - 1)) ≡ header_len (ext_header_view x) + place m (later p i) =
-    ap (place m) (later_before p i x some le is) ∙ place-first m (ext_header_view x) (later p i) in
+    let last = ap (place m) (later_before p i x some le is) ∙ place-first m (ext_header_view x) (later p i) in
     let whole = place-first m (link_header p.link) (inner_headers p) in
     let rest = so_far.rest in
     omega (arith, whole, inner, last, rest)
@@ -149,8 +124,7 @@ filled_next p old target new h hs at announced vlan start following next tag roo
     let rest = so_far.rest in
     let long : following ≡ place m hs = omega (arith, rest, is) in
     let own : before h t following ≡ before h t (place m hs) = ap (before h t) long in
-    let len : length (header_bytes (before h t following)) ≡ header_len h =
-    length-header_bytes (before h t following) fits ∙ header_len_before h t following in
+    let len = length-header_bytes (before h t following) fits ∙ header_len_before h t following in
     let end : start + length (header_bytes (before h t following)) ≡ at = omega (arith, len, ends) in
     let more = place-first m h hs in
     record {
@@ -180,15 +154,10 @@ any_length (links.LinuxSll h) t n m = refl
 any_length (links.Ethernet2 h) t n m = refl
 
 pub room_for_content : (p : PacketBuilder) → content_len p.content ≤ packet_len p
-room_for_content p =
-    let least = place_least (link_header_len p.link + content_len p.content) (views p.link_exts.now) in
-    let all = packet_len_is p in
-    omega (arith, least, all)
+room_for_content p = search (rules, place_least, packet_len_is)
 
 pub room_for_link : (p : PacketBuilder) (len : ℕ) → packet_len p ≤ len → header_len (link_header p.link) ≤ len
-room_for_link p len le =
-    let e = place-first (length (content_payload p.content)) (link_header p.link) (inner_headers p) in
-    omega (arith, e, le)
+room_for_link p len le = search (rules, place-first)
 
 inner_views : (xs : List LinkExtHeader) (c : PacketContent) → AreInner (views xs ++ content_headers c)
 inner_views [] (contents.Payload t bytes) = tt
@@ -224,8 +193,7 @@ filled_all p old target new at announced vlan ethernet packet chain room so_far 
     let rest = so_far.rest in
     let first = place-first m (link_header p.link) hs in
     let own : h ≡ before (link_header p.link) t (place m hs) = any_length p.link t 0 (place m hs) in
-    let len : length (header_bytes h) ≡ header_len (link_header p.link) =
-    length-header_bytes h fits ∙ header_len_before (link_header p.link) t 0 in
+    let len = length-header_bytes h fits ∙ header_len_before (link_header p.link) t 0 in
     let at_is : 0 + length (header_bytes h) ≡ at = omega (arith, len, rest, first) in
     let payload = content_payload p.content in
     let inner = flat_map header_bytes (built hs k m) in
@@ -234,16 +202,10 @@ filled_all p old target new at announced vlan ethernet packet chain room so_far 
     ∙ one_more (header_bytes h) inner payload (drop end old)
     ∙ ap (λ (g : Header). header_bytes g ++ inner ++ payload ++ drop end old) own in
     let fit : AllFit (built_headers p) = (subst FitsHeader own fits, so_far.fit) in
-    let fits_all : Fits (link_start p.link) (built_headers p) m =
-    link_fits p.link hs k m ethernet packet (inner_views p.link_exts.now p.content) chain fit in
+    let fits_all = link_fits p.link hs k m ethernet packet (inner_views p.link_exts.now p.content) chain fit in
     let long : length (flat_map header_bytes (built_headers p) ++ payload) ≡ end =
     length-headers (link_start p.link) (built_headers p) payload fits_all
     ∙ place-built m (link_header p.link ∷ hs) k m in
     let front : take end new ≡ flat_map header_bytes (built_headers p) ++ payload =
     ap (take end) whole ∙ take_at (flat_map header_bytes (built_headers p) ++ payload) (drop end old) end long in
-    record {
-      ends = refl;
-      room = room;
-      bytes = whole;
-      walk = begins_with (link_start p.link) (take end new) payload (built_headers p) front fits_all;
-    }
+    search (rules, begins_with)

@@ -1,27 +1,23 @@
 -- The outermost VLAN tag with an identifier, header by header.
-use Rattle.std.proofs.Common.{◌≡◌, ◌≢◌, ℕ, ◌+◌, ◌≤◌, List, [], ◌∷◌, ◌++◌, length, arith, append_assoc, append-nil, false, refl, sym, ap, subst, ◌∙◌}
-use Rattle.std.specs.Prelude.{Some, None, Ok, Err}
+use Rattle.std.proofs.Common.{◌≡◌, ◌≢◌, ℕ, ◌+◌, List, [], ◌∷◌, ◌++◌, false, refl, sym, ap, subst, ◌∙◌, rules}
+use Rattle.std.specs.Prelude.{Some, Ok}
 use Rattle.std.specs.List.{All}
 use Rattle.std.proofs.lemmas.List.Elements.{All-nil, All-cons, All-head, All-tail, All-append, filter_map-append}
 use Rattle.etherparse.specs.Bytes.{IsBytes}
-use Rattle.etherparse.specs.Header.{Header, header_len}
+use Rattle.etherparse.specs.Header.{Header}
 use Rattle.etherparse.specs.Header as headers
 use Rattle.etherparse.specs.Vlan.{VlanValue, vlan_view}
-use Rattle.ether_peel.specs.Grammar.Window.{Window, payload}
 use Rattle.ether_peel.specs.Grammar.Expectation.{Expectation}
-use Rattle.ether_peel.specs.Grammar.Places.{place}
-use Rattle.ether_peel.specs.Grammar.Stack.{Ending, whole, Walk}
+use Rattle.ether_peel.specs.Grammar.Stack.{Ending, Walk}
 use Rattle.ether_peel.specs.Walker.State.{State}
-use Rattle.ether_peel.specs.Walker.Next.{Faces, FacesWalk, Gives}
+use Rattle.ether_peel.specs.Walker.Next.{FacesWalk, Gives}
 use Rattle.ether_peel.specs.Walker.UnitHeader.{unit_header}
 use Rattle.ether_peel.specs.declared.peel_unit.PeelUnit.{PeelUnit}
-use Rattle.ether_peel.specs.declared.peel_fault.PeelFault.{PeelFault}
 use Rattle.ether_packet.specs.declared.setting.PlacedVlan.{PlacedVlan}
 use Rattle.ether_packet.specs.Getters.{vid_of, vlan_ids_of}
 use Rattle.ether_packet.specs.Replacing.{ext_count, IsExtAt}
 use Rattle.ether_packet.specs.Setting.{IsPlacedVlan, LacksVlan, FindsVlan}
-use Rattle.ether_packet.proofs.Reached.{Reached, reached_first, reached_unit, reached_ext, left_none, left_fault}
-use Rattle.ether_packet.proofs.Replaced.{header_inside}
+use Rattle.ether_packet.proofs.Reached.{Reached, reached_first, reached_unit, reached_ext}
 use Rattle.ether_packet.proofs.VlanIds.{one_ext, same_vlan}
 
 -- ---- headers without the tag
@@ -70,53 +66,13 @@ pub passed_tag : (list : List ℕ) (s t : State) (hs : List Header) (e : Ending)
 passed_tag list s t hs e vid i u f ok p gives is has at =
     let h = headers.Vlan (vlan_view f.tag) in
     let r = reached_ext list s t hs e i u h ok p.reached gives is refl in
-    let begins = at ∙ p.reached.faces.offset ∙ p.reached.begins in (
-      record {
-        front = p.reached.done;
-        tag = vlan_view f.tag;
-        later = r.later;
-        found = r.found;
-        has = has;
-        outermost = p.lacks;
-      },
-      record { front = p.reached.done; later = r.later; found = r.found; begins = begins },
-    )
-
--- .. lies in the list
-pub tag_room : (start : Expectation) (list : List ℕ) (hs : List Header) (e : Ending) (i : ℕ) (f : PlacedVlan)
-    → Walk start list hs e → IsPlacedVlan hs i f → f.at + 4 ≤ length list
-tag_room start list hs e i f walk p =
-    let split = subst (λ (l : List Header). Walk start list l e) p.found.parts walk in
-    let inside = header_inside start list p.front (headers.Vlan (vlan_view f.tag)) p.later e split in
-    let begins = p.begins in
-    omega (arith, inside, begins)
-
--- the walk ends
-all_lack : (hs done left : List Header) (vid : ℕ) → hs ≡ done ++ left → left ≡ [] → LacksVlan done vid
-    → LacksVlan hs vid
-all_lack hs done left vid parts none lacks =
-    subst (λ (l : List Header). LacksVlan l vid)
-    (sym (parts ∙ ap (λ (l : List Header). done ++ l) none ∙ append-nil done)) lacks
-
-pub passed_none : (list : List ℕ) (s t : State) (hs : List Header) (e : Ending) (vid i : ℕ)
-    → Passed list s hs e vid i → Gives s None t → LacksVlan hs vid
-passed_none list s t hs e vid i p gives =
-    all_lack hs p.reached.done p.reached.left vid p.reached.parts (left_none list p.reached.window p.reached.left s t e p.reached.faces p.reached.going gives) p.lacks
-
-pub passed_fault : (list : List ℕ) (s t : State) (hs : List Header) (e : Ending) (vid i : ℕ) (fault : PeelFault)
-    → Passed list s hs e vid i → Gives s (Some (Err fault)) t → LacksVlan hs vid
-passed_fault list s t hs e vid i fault p gives =
-    all_lack hs p.reached.done p.reached.left vid p.reached.parts (left_fault list p.reached.window p.reached.left s t e fault p.reached.faces p.reached.going gives) p.lacks
+    let begins = at ∙ p.reached.faces.offset ∙ p.reached.begins in search rules
 
 -- ---- there is one
 
 lacks_tail : (h : Header) (hs : List Header) (vid : ℕ) → LacksVlan (h ∷ hs) vid → LacksVlan hs vid
-lacks_tail (headers.Ethernet2 e) hs vid none = none
-lacks_tail (headers.Ethernet2Fcs e) hs vid none = none
-lacks_tail (headers.LinuxSll s) hs vid none = none
 lacks_tail (headers.Vlan v) hs vid none = All-tail (λ (id : ℕ). id ≢ vid) v.vid (vlan_ids_of hs) none
-lacks_tail (headers.Macsec m) hs vid none = none
-lacks_tail (headers.Arp a) hs vid none = none
+lacks_tail h hs vid none = none
 
 -- a tag with the identifier is not among headers without it
 tag_apart : (front : List Header) (v : VlanValue) (later : List Header) (vid : ℕ) → v.vid ≡ vid
@@ -142,8 +98,7 @@ same_front (x ∷ xs) [] v w later more vid e has holds a b =
 same_front (x ∷ xs) (y ∷ ys) v w later more vid e has holds a b =
     let first : x ≡ y = cc in
     let rest : xs ++ headers.Vlan v ∷ later ≡ ys ++ headers.Vlan w ∷ more = cc in
-    let same =
-    same_front xs ys v w later more vid rest has holds (lacks_tail x xs vid a) (lacks_tail y ys vid b) in
+    let same = same_front xs ys v w later more vid rest has holds (lacks_tail x xs vid a) (lacks_tail y ys vid b) in
     λ i. first i ∷ same i
 
 pub found_once : (hs : List Header) (vid i j : ℕ) → FindsVlan hs vid i → FindsVlan hs vid j → i ≡ j

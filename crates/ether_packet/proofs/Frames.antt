@@ -1,5 +1,5 @@
 -- Frames that are written whole, of parts that were read.
-use Rattle.std.proofs.Common.{◌≡◌, ℕ, ◌+◌, ◌-◌, ◌^◌, ◌<◌, ◌≤◌, List, [], ◌∷◌, ◌++◌, length, take, drop, refl, sym, ap, subst, ◌∙◌, arith, append_assoc}
+use Rattle.std.proofs.Common.{◌≡◌, ℕ, ◌+◌, ◌-◌, ◌^◌, ◌<◌, ◌≤◌, List, [], ◌∷◌, ◌++◌, length, take, drop, refl, sym, ap, subst, ◌∙◌, arith, append_assoc, rules}
 use Rattle.std.specs.Prelude.{map, flat_map, Option, Some, None}
 use Rattle.std.proofs.lemmas.Grind.{flat_map-append}
 use Rattle.std.proofs.lemmas.List.{append-nil, drop_at, drop-drop, drop-set-lt, length-append, length-drop, length-set, take_at, take-append-drop}
@@ -25,7 +25,7 @@ use Rattle.ether_packet.specs.declared.packet_slice.PacketSlice.{PacketSlice}
 use Rattle.ether_packet.specs.Building.{AllFit}
 use Rattle.ether_packet.specs.Builder.{link_header, content_headers, content_payload, packet_len, HasPacketType}
 use Rattle.ether_packet.specs.Packet.{packet_headers, IsPacket}
-use Rattle.ether_packet.specs.Parts.{arp_headers, IsBuilderOf, parts_exts, parts_inner, trailer_of}
+use Rattle.ether_packet.specs.Parts.{arp_headers, IsBuilderOf, parts_inner, trailer_of}
 use Rattle.ether_packet.specs.Unchanged.{given_headers, IsWrittenUnchanged}
 use Rattle.ether_packet.specs.Frames.{parts_headers, frame_size, counted_size, IsFrameWritten, FramesGoBack, AllAgree, headers_for, ChangedFramesAreRead}
 use Rattle.ether_packet.proofs.Links.{in_place_bytes, in_place_fits, in_place_sendable}
@@ -40,18 +40,11 @@ use Rattle.ether_packet.proofs.Written.{place-add}
 pub headers_alone : (p : PacketParts) (b : PacketBuilder) (content : PacketContent) → IsBuilderOf p b
     → content_headers content ≡ arp_headers p.arp
     → given_headers (record b { content = content }) ≡ parts_headers p
-headers_alone p b content is same =
-    λ i. link_header (is.link i) ∷ map ext_header_view (is.exts i) ++ same i
+headers_alone p b content is same = λ i. link_header (is.link i) ∷ map ext_header_view (is.exts i) ++ same i
 
 pub size_is : (p : PacketParts) (b : PacketBuilder) → given_headers b ≡ parts_headers p → content_payload b.content ≡ []
     → frame_size p ≡ packet_len b + length p.rest.now + length p.trailer.now
-size_is p b same empty =
-    let m = length p.rest.now + length p.trailer.now in
-    let zero : m ≡ m + 0 = omega arith in
-    let more : frame_size p ≡ m + place 0 (parts_headers p) =
-    ap (λ (k : ℕ). place k (parts_headers p)) zero ∙ place-add m 0 (parts_headers p) in
-    let front : packet_len b ≡ place 0 (parts_headers p) = (λ i. place (length (empty i)) (same i)) in
-    omega (arith, more, front)
+size_is p b same empty = search (rules, place-add)
 
 -- a number that is none of the greatest is the size
 pub counted_is : (p : PacketParts) (n : ℕ) → n ≡ counted_size p → n < 2 ^ 64 - 1 → n ≡ frame_size p
@@ -67,17 +60,13 @@ frame_is p end old new w =
     let front = flat_map header_bytes (parts_headers p) in
     let m = length p.rest.now + length p.trailer.now in
     let zero : m ≡ m + 0 = omega arith in
-    let more : frame_size p ≡ m + place 0 (parts_headers p) =
-    ap (λ (k : ℕ). place k (parts_headers p)) zero ∙ place-add m 0 (parts_headers p) in
+    let more = ap (λ (k : ℕ). place k (parts_headers p)) zero ∙ place-add m 0 (parts_headers p) in
     let own = length-fit (parts_headers p) w.fit in
     let ends = w.ends in
     let all : length (front ++ p.rest.now ++ p.trailer.now) ≡ end =
     omega
     (arith, length-append (front ++ p.rest.now) p.trailer.now, length-append front p.rest.now, own, more, ends) in
-    record {
-      bytes = ap (take end) w.bytes ∙ take_at (front ++ p.rest.now ++ p.trailer.now) (drop end old) end all;
-      len = all;
-    }
+    search (rules, take, take_at, drop)
 
 -- after the headers alone the rest and the trailer are written
 pub all_written : (p : PacketParts) (b : PacketBuilder) (old first second new : List ℕ) (at next : ℕ)
@@ -99,25 +88,13 @@ all_written p b old first second new at next same empty link room is w packet_ty
     ∙ ap (λ (k : ℕ). f ++ p.rest.now ++ drop k old) (sym past) in
     let long : length (f ++ p.rest.now) ≡ next = omega (arith, length-append f p.rest.now, own, past) in
     let end : next + length p.trailer.now ≡ frame_size p = omega (arith, past, size, is) in
-    record {
-      ends = refl;
-      room = room;
-      fit = fit;
-      packet_type = subst HasPacketType link packet_type;
-      bytes =
-          trailer ∙ laid old (f ++ p.rest.now) second p.trailer.now next with_rest long
-          ∙ ap (λ (k : ℕ). f ++ p.rest.now ++ p.trailer.now ++ drop k old) end;
-    }
+    search (rules, laid, drop)
 
 -- ---- what is cleared
 
 cleared_at_len : (list : List ℕ) (at : ℕ) (h : Header) → length (cleared_at list at h) ≡ length list
 cleared_at_len list at (headers.Macsec t) = length-set list (at + 1) _
-cleared_at_len list at (headers.Ethernet2 e) = refl
-cleared_at_len list at (headers.Ethernet2Fcs e) = refl
-cleared_at_len list at (headers.LinuxSll s) = refl
-cleared_at_len list at (headers.Vlan v) = refl
-cleared_at_len list at (headers.Arp a) = refl
+cleared_at_len list at h = refl
 
 cleared_len : (list : List ℕ) (at : ℕ) (hs : List Header) → length (cleared list at hs) ≡ length list
 cleared_len list at [] = refl
@@ -127,20 +104,15 @@ cleared_len list at (h ∷ hs) =
 cleared_at_after : (list : List ℕ) (at : ℕ) (h : Header) (n : ℕ) → at + header_len h ≤ n
     → drop n (cleared_at list at h) ≡ drop n list
 cleared_at_after list at (headers.Macsec t) n le = drop-set-lt n list (at + 1) _ (omega (arith, le))
-cleared_at_after list at (headers.Ethernet2 e) n le = refl
-cleared_at_after list at (headers.Ethernet2Fcs e) n le = refl
-cleared_at_after list at (headers.LinuxSll s) n le = refl
-cleared_at_after list at (headers.Vlan v) n le = refl
-cleared_at_after list at (headers.Arp a) n le = refl
+cleared_at_after list at h n le = refl
 
 -- nothing after the headers
 cleared_after : (list : List ℕ) (at : ℕ) (hs : List Header) (n : ℕ) → place at hs ≤ n
     → drop n (cleared list at hs) ≡ drop n list
 cleared_after list at [] n le = refl
 cleared_after list at (h ∷ hs) n le =
-    let least = place_least (at + header_len h) hs in
-    cleared_at_after (cleared list (at + header_len h) hs) at h n (omega (arith, least, le))
-    ∙ cleared_after list (at + header_len h) hs n le
+    let more = cleared_after list (at + header_len h) hs n le in
+    search (rules, place_least, cleared_at_after)
 
 -- ---- the rest and the trailer of a packet
 
@@ -162,21 +134,12 @@ split start list packet is =
     let len = length-part list v.start v.finish inside in
     let long = ap length is.rest in
     let offset = is.offset in
-    let ends : packet.rest_offset + length packet.rest.now ≡ v.finish =
-    omega (arith, len, long, offset, ordered) in
+    let ends : packet.rest_offset + length packet.rest.now ≡ v.finish = omega (arith, len, long, offset, ordered) in
     let n = v.finish - v.start in
     let sum : v.start + n ≡ v.finish = omega (arith, ordered) in
     let trailer : trailer_of packet ≡ drop v.finish list = (λ i. drop (ends i) (is.frame i)) in
-    let past : trailer_of packet ≡ drop n (drop v.start list) =
-    trailer ∙ ap (λ (k : ℕ). drop k list) (sym sum) ∙ sym (drop-drop n v.start list) in
-    record {
-      trailer = trailer;
-      order = omega (arith, starts, ordered);
-      inside = inside;
-      all =
-          (λ i. is.rest i ++ past i) ∙ take-append-drop n (drop v.start list)
-          ∙ ap (λ (k : ℕ). drop k list) starts;
-    }
+    let past = trailer ∙ ap (λ (k : ℕ). drop k list) (sym sum) ∙ sym (drop-drop n v.start list) in
+    search (rules, take-append-drop)
 
 -- ---- the whole frame
 
@@ -192,8 +155,7 @@ frames_go_back p end old new w start list packet ok is of =
     ∙ ap (flat_map header_bytes) (sym of.have.parts) in
     let first : front ++ p.rest.now ≡ take finish c =
     ap (λ (l : List ℕ). front ++ l) (of.rest ∙ is.rest) ∙ headers_go_back start list hs is.ending ok is.walk in
-    let later : p.trailer.now ≡ drop finish c =
-    of.trailer ∙ s.trailer ∙ sym (cleared_after list 0 hs finish s.order) in
+    let later = of.trailer ∙ s.trailer ∙ sym (cleared_after list 0 hs finish s.order) in
     let frame = frame_is p end old new w in
     let is_whole : flat_map header_bytes (parts_headers p) ++ p.rest.now ++ p.trailer.now ≡ c =
     ap (λ (l : List ℕ). l ++ p.rest.now ++ p.trailer.now) same ∙ (λ i. first i ++ later i)
@@ -223,8 +185,7 @@ same_place : (at : ℕ) (gs hs : List Header) → AllAgree gs hs → place at gs
 same_place at [] [] same = refl
 same_place at (g ∷ gs) (h ∷ hs) same =
     ap (λ (n : ℕ). place (at + n) gs) (same_len g h same.0) ∙ same_place (at + header_len h) gs hs same.1
-same_place at [] (h ∷ hs) same = absurd same
-same_place at (g ∷ gs) [] same = absurd same
+same_place at gs hs same = absurd same
 
 -- the bytes of headers, and after them those of a list
 abbrev laid_over : List ℕ → List Header → List ℕ
@@ -242,8 +203,7 @@ agree_walk start list done (g ∷ gs) (h ∷ hs) e before fit sendable same walk
     let next = done ++ g ∷ [] in
     let len : length front ≡ at = length-fit done before in
     let own : length (header_bytes g) ≡ header_len g = length-header_bytes g fit.0 in
-    let end : at + length (header_bytes g) ≡ place 0 next =
-    ap (λ (n : ℕ). at + n) own ∙ sym (place-append 0 done (g ∷ [])) in
+    let end = ap (λ (n : ℕ). at + n) own ∙ sym (place-append 0 done (g ∷ [])) in
     let all : front ++ header_bytes g ≡ flat_map header_bytes next =
     ap (λ (l : List ℕ). front ++ l) (sym (append-nil (header_bytes g)))
     ∙ sym (flat_map-append header_bytes done (g ∷ [])) in
@@ -256,8 +216,7 @@ agree_walk start list done (g ∷ gs) (h ∷ hs) e before fit sendable same walk
     subst (λ (l : List Header). Walk start (laid_over list l) l e) split_gs
     (agree_walk start list next gs hs e (fit_append done (g ∷ []) before (fit.0, tt)) fit.1 sendable.1 same.1
     (subst (λ (l : List Header). Walk start (laid_over list next) l e) split_hs moved))
-agree_walk start list done [] (h ∷ hs) e before fit sendable same walk = absurd same
-agree_walk start list done (g ∷ gs) [] e before fit sendable same walk = absurd same
+agree_walk start list done gs hs e before fit sendable same walk = absurd same
 
 -- the headers as a walk finds them are written as they are
 record Found (p : PacketParts) (hs : List Header) : Type 0 where
@@ -268,11 +227,7 @@ record Found (p : PacketParts) (hs : List Header) : Type 0 where
 found : (p : PacketParts) (hs : List Header) → AllAgree (headers_for p hs) hs → AllFit (parts_headers p)
     → HasPacketType p.link → Found p hs
 found p [] same fit packet_type = absurd same
-found p (h ∷ hs) same fit packet_type = record {
-  bytes = ap (λ (l : List ℕ). l ++ flat_map header_bytes (parts_inner p)) (in_place_bytes p.link h);
-  fit = (in_place_fits p.link h fit.0, fit.1);
-  sendable = (in_place_sendable p.link h packet_type, inner_sendable (parts_exts p) p.arp);
-}
+found p (h ∷ hs) same fit packet_type = search (rules, in_place_bytes, in_place_fits, in_place_sendable, inner_sendable)
 
 pub changed_frames_are_read : ChangedFramesAreRead
 changed_frames_are_read p end old new w start list packet e is walk same rest trailer =

@@ -1,36 +1,33 @@
 -- How the headers of a frame begin, as it is read, and when a VLAN tag is taken off or put in.
-use Rattle.std.proofs.Common.{◌≡◌, ℕ, ◌+◌, ◌≤◌, List, [], ◌∷◌, length, refl, sym, ap, subst, ◌∙◌, arith, true, false}
-use Rattle.std.specs.Prelude.{slice_range, Some, None, if◌then◌else◌}
+use Rattle.std.proofs.Common.{◌≡◌, ℕ, ◌+◌, ◌≤◌, List, [], ◌∷◌, length, refl, sym, ap, subst, ◌∙◌, arith, true, false, rules}
+use Rattle.std.specs.Prelude.{slice_range, Some, None}
 use Rattle.std.proofs.lemmas.Bool.{ne_eqb}
 use Rattle.etherparse.specs.Types.LenSource.TheVariants as sources
 use Rattle.etherparse.specs.Bytes.{IsBytes}
 use Rattle.etherparse.specs.Ethernet2.{ethernet2_of}
-use Rattle.etherparse.specs.LinuxSll.{LinuxSllValue}
-use Rattle.etherparse.specs.LinuxSllProtocolType.{link_protocol_of}
 use Rattle.etherparse.specs.Vlan.{VlanValue, IsVlan, is_vlan_ether_type}
 use Rattle.etherparse.specs.Kind as kinds
 use Rattle.etherparse.specs.Header.{Header, kind_of, header_len}
 use Rattle.etherparse.specs.Header as headers
 use Rattle.etherparse.specs.Refusal.{Refuses, Accepts}
 use Rattle.etherparse.proofs.Values.{vlan_unique}
-use Rattle.ether_peel.specs.Grammar.Window.{Window}
-use Rattle.ether_peel.specs.Grammar.Expectation.{Next, Expectation, EtherType, Sll, announced, next_after, after}
-use Rattle.ether_peel.specs.Grammar.Stack.{Ending, Stack, whole, Walk}
+use Rattle.ether_peel.specs.Grammar.Expectation.{Next, Expectation, announced, next_after, after}
+use Rattle.ether_peel.specs.Grammar.Stack.{Ending, whole, Walk}
 use Rattle.ether_peel.specs.Walker.Start.{start_of}
 use Rattle.ether_peel.specs.declared.start.Start.{Start}
 use Rattle.ether_peel.specs.declared.start.Start.TheVariants as starts
 use Rattle.ether_peel.proofs.Grammar.Cleared.{whole_in}
 use Rattle.ether_packet.specs.declared.tag_error.TagError.{TagError}
 use Rattle.ether_packet.specs.ReplacingLink.{is_link, has_link}
-use Rattle.ether_packet.specs.TypedLink.{type_of_link, RefusesTyped, no_link, hardware_type}
-use Rattle.ether_packet.specs.Front.{link_type, first_tag, outer_tag}
+use Rattle.ether_packet.specs.TypedLink.{RefusesTyped, no_link, hardware_type}
+use Rattle.ether_packet.specs.Front.{link_type, outer_tag}
 use Rattle.ether_packet.specs.Popping as pops
 use Rattle.ether_packet.specs.Popping.{IsPopped, IsTagged, RefusesPop}
 use Rattle.ether_packet.specs.Pushing as pushes
 use Rattle.ether_packet.specs.Pushing.{RefusesPush}
 use Rattle.ether_packet.proofs.Gathering.{whole_part}
 use Rattle.ether_packet.proofs.Links.{first_header}
-use Rattle.ether_packet.proofs.TypedLinks.{announced_other, link_after, no_unit_there}
+use Rattle.ether_packet.proofs.TypedLinks.{link_after, no_unit_there}
 use Rattle.ether_packet.proofs.VlanIds.{own_bytes}
 
 -- ---- the header of Ethernet II
@@ -63,21 +60,9 @@ tag_read start list hs e at v t spells walk =
     let split = subst (λ (l : List Header). Walk start list l e) t.begins.parts walk in
     let own : IsVlan (slice_range list (0 + header_len t.link) (0 + header_len t.link + 4)) t.tag =
     own_bytes list start (whole start list) (t.link ∷ []) (headers.Vlan t.tag) t.later e (whole_in start list) split in
-    let is = t.place in
     let from : 0 + header_len t.link ≡ at = omega arith in
     let there = subst (λ (n : ℕ). IsVlan (slice_range list n (n + 4)) t.tag) from own in
     tag_of_tagged hs at t ∙ ap Some (vlan_unique t.tag v there.fits spells.fits (sym there.sum ∙ spells.sum))
-
--- none is there if none is announced
-not_first : (list : List ℕ) (x : Expectation) (w : Window) (hs : List Header) (e : Ending)
-    → (announced x ≡ Some kinds.Vlan → ⊥) → Stack list x w hs e → first_tag hs ≡ None
-not_first list x w [] e none s = refl
-not_first list x w (headers.Vlan v ∷ hs) e none s = absurd (none s.0.announced)
-not_first list x w (headers.Ethernet2 l ∷ hs) e none s = refl
-not_first list x w (headers.Ethernet2Fcs l ∷ hs) e none s = refl
-not_first list x w (headers.LinuxSll l ∷ hs) e none s = refl
-not_first list x w (headers.Macsec m ∷ hs) e none s = refl
-not_first list x w (headers.Arp a ∷ hs) e none s = refl
 
 -- ---- what is refused
 
@@ -95,30 +80,12 @@ announced_after : (start : Start) (h : Header) (n : Next) → is_link (kind_of h
 announced_after start h n link next =
     ap announced (link_after start h link ∙ ap (λ (k : Next). record { next = k; limit = None }) next)
 
--- .. of a cooked capture of another link than Ethernet: nothing
-captured_nothing : (start : Start) (s : LinuxSllValue) → (s.hardware_type ≡ 1 → ⊥)
-    → announced (after (start_of start) (headers.LinuxSll s)) ≡ Some kinds.Vlan → ⊥
-captured_nothing start s other is =
-    let differs = ne_eqb s.hardware_type 1 other in
-    let next : next_after (headers.LinuxSll s) ≡ Sll (link_protocol_of s.hardware_type s.protocol) =
-    λ i. if differs i then EtherType s.protocol else Sll (link_protocol_of s.hardware_type s.protocol) in
-    let nothing : None ≡ Some kinds.Vlan = sym (announced_after start (headers.LinuxSll s) _ refl next) ∙ is in cc
-
 -- no VLAN tag is taken off only if none is there
 pub none_popped : (start : Start) (list : List ℕ) (hs : List Header) (e : Ending) (error : TagError)
     → Walk (start_of start) list hs e → RefusesPop hs error → outer_tag hs ≡ None
 none_popped start list hs e error walk (pops.link other (no_link none)) = (unlinked hs none).1
-none_popped start list hs e error walk (pops.link other (hardware_type s later parts differs)) =
-    let w = subst (λ (l : List Header). Walk (start_of start) list l e) parts walk in
-    rw parts (not_first list _ _ later e (captured_nothing start s differs) w.1)
-none_popped start list hs e error walk (pops.no_vlan link later begins none) =
-    let w = subst (λ (l : List Header). Walk (start_of start) list l e) begins.parts walk in
-    rw (begins.parts, begins.is_link)
-    (not_first list _ _ later e
-    (λ is.
-    announced_other (type_of_link link) none
-    (sym (announced_after start link _ begins.is_link begins.typed) ∙ is))
-    w.1)
+none_popped start list hs e error walk (pops.link other (hardware_type s later parts differs)) = search rules
+none_popped start list hs e error walk (pops.no_vlan link later begins none) = search rules
 none_popped start list hs e error walk (pops.cut_vlan link begins is) = rw (begins.parts, begins.is_link) refl
 
 -- .. and with a TPID and room none is put in only if there is no ether type

@@ -1,7 +1,6 @@
 -- A packet that has gathered the headers of a walk so far, and its end.
-use Rattle.std.proofs.Common.{◌≡◌, ℕ, zero, suc, ◌+◌, ◌-◌, ◌<◌, ◌≤◌, List, [], ◌∷◌, ◌++◌, length, refl, sym, ap, subst, ◌∙◌, arith, inl, inr, Bool, true, false, cond, ◌⊎◌}
-use Rattle.std.specs.Prelude.{map, slice_get, slice_range, unwrap_or, Option, Some, None, Ok, ◌&&◌}
-use Rattle.std.specs.List.{filter_map, cons_option}
+use Rattle.std.proofs.Common.{◌≡◌, ℕ, zero, suc, ◌+◌, ◌-◌, ◌<◌, ◌≤◌, List, [], ◌∷◌, ◌++◌, length, refl, sym, ap, subst, ◌∙◌, arith, inl, inr, Bool, true, false, cond, ◌⊎◌, rules}
+use Rattle.std.specs.Prelude.{map, slice_get, slice_range, Option, Some, None, Ok}
 use Rattle.std.proofs.lemmas.List.{append_assoc, append-nil, length-append, map-append, take_all}
 use Rattle.std.proofs.lemmas.List.Elements.{filter-append, filter_map-append}
 use Rattle.etherparse.specs.Types.LenSource.{LenSource}
@@ -16,11 +15,10 @@ use Rattle.etherparse.specs.Header as headers
 use Rattle.etherparse.specs.Refusal.{Accepts}
 use Rattle.etherparse.proofs.SubLists.{IsBytes-part}
 use Rattle.ether_peel.specs.Grammar.Window.{Window, within, payload}
-use Rattle.ether_peel.specs.Grammar.Expectation.{Next, Start, EtherType, Sll, Sealed, AfterArp, Expectation, is_extension, permitted, announced_next, announced, after, next_after, after_payload, lowered}
+use Rattle.ether_peel.specs.Grammar.Expectation.{Next, Start, EtherType, Sll, AfterArp, Expectation, is_extension, announced_next, announced, after, next_after, after_payload, lowered}
 use Rattle.ether_peel.specs.Grammar.Stack.{Ending, Accepted, Fault, IsUnit, last_window, last_expected, whole, Walk}
 use Rattle.ether_peel.specs.Walker.State.{State}
 use Rattle.ether_peel.specs.Walker.Start.{kind_shown}
-use Rattle.ether_peel.specs.Walker.Fault.{fault_in}
 use Rattle.ether_peel.specs.Walker.Next.{Faces, ShowsUnit, GivesNext, Gives}
 use Rattle.ether_peel.specs.Walker.Summary.{fault_of}
 use Rattle.ether_peel.specs.Walker.UnitHeader.{unit_header}
@@ -34,12 +32,11 @@ use Rattle.ether_packet.specs.declared.ext_places.FrameWindow.{FrameWindow}
 use Rattle.ether_packet.specs.declared.packet_slice.PacketSlice.{PacketSlice}
 use Rattle.ether_packet.specs.PacketUnit.{PacketUnit, Read}
 use Rattle.ether_packet.specs.Views.{header_in, header_of, exts_of, arp_in, arp_view}
-use Rattle.ether_packet.specs.Packet.{packet_headers, IsUnitAt, AreUnitsAt, IsPacket}
+use Rattle.ether_packet.specs.Packet.{IsUnitAt, AreUnitsAt, IsPacket}
 use Rattle.ether_packet.specs.Gathered.{window_after, Ready, Gathered, item_of, next_left, headers_left, IsUnderWay, GoesBy, EndsAnyhow}
 use Rattle.ether_packet.specs.declared.packet_walk.PacketWalk.{PacketWalk}
-use Rattle.ether_packet.specs.Places.{Reads, IsReadable, kind_read, unit_at, read_with, HasPlace, HasPlaceForExt}
+use Rattle.ether_packet.specs.Places.{Reads, IsReadable, kind_read, unit_at, read_with, HasPlace}
 use Rattle.ether_packet.proofs.HeadersIn.{header_shown}
-use Rattle.ether_packet.proofs.Places.{is_ext, arp_of_unit}
 
 -- ---- one header more
 
@@ -52,8 +49,7 @@ units-append : (list : List ℕ) (w : Window) (hs : List Header) (us : List Pack
     → AreUnitsAt list w hs us → IsUnitAt list (window_after w hs) h u → AreUnitsAt list w (hs ++ h ∷ []) (us ++ u ∷ [])
 units-append list w [] [] h u are is = (is, tt)
 units-append list w (k ∷ hs) (v ∷ us) h u are is = (are.0, units-append list (payload w k) hs us h u are.1 is)
-units-append list w [] (v ∷ us) h u are is = absurd are
-units-append list w (k ∷ hs) [] h u are is = absurd are
+units-append list w hs us h u are is = absurd are
 
 -- ---- what is announced
 
@@ -77,19 +73,13 @@ starts : (next : Next) (kind : Kind) → announced_next next ≡ Some kind → i
     → (k : Kind) × (next ≡ Start k)
 starts (Start k) kind e first = (k, refl)
 starts (EtherType t) kind e first = let later = chosen _ _ _ kind e in absurd cc
-starts (Sll protocol) kind e first = absurd cc
-starts Sealed kind e first = absurd cc
-starts AfterArp kind e first = absurd cc
+starts next kind e first = absurd cc
 
 -- an extension is announced only if one may still be read
 pub may_read : (x : Expectation) (kind : Kind) (free : ℕ) → x.limit ≡ Some free → is_extension kind ≡ true
     → announced x ≡ Some kind → 0 < free
 may_read x kind (suc free) limit ext e = omega arith
-may_read x kind zero limit ext e =
-    let all : permitted (Some zero) (Some kind) ≡ Some kind =
-    (λ i. permitted (sym limit i) (sym (announced_is x kind e) i)) ∙ e in
-    let none : permitted (Some zero) (Some kind) ≡ None = ap (λ (b : Bool). cond (b && true) None (Some kind)) ext in
-    absurd cc
+may_read x kind zero limit ext e = search rules
 
 -- ---- a unit is added
 
@@ -102,16 +92,7 @@ no_arp r x kind (inr over) e = let a = announced_is x kind e in let b = ap annou
 place_first : (r : Read) (x : Expectation) (kind : Kind) (p : FrameWindow) (free : ℕ) → Ready r x free
     → announced x ≡ Some kind → is_first kind ≡ true → (r.units ≡ [] → (p.start ≡ 0) × (p.bytes.now ≡ r.frame))
     → (r.units ≡ []) × (p.start ≡ 0) × (p.bytes.now ≡ r.frame)
-place_first r x kind p free ready e first whole_frame =
-    let start = starts x.next kind (announced_is x kind e) first in
-    let none = ready.first start.0 start.1 in
-    let all = whole_frame none in
-    (none, all.0, all.1)
-
-place_ext : (r : Read) (x : Expectation) (kind : Kind) (free : ℕ) → Ready r x free → announced x ≡ Some kind
-    → is_extension kind ≡ true → length (exts_of r.units) + free ≡ 3 → HasPlaceForExt r
-place_ext r x kind free ready e extends room =
-    let lt = may_read x kind free ready.limit extends e in (omega arith, no_arp r x kind ready.arp e)
+place_first r x kind p free ready e first whole_frame = search rules
 
 pub has_place : (r : Read) (x : Expectation) (bytes rest : List ℕ) (h : Header) (u : PeelUnit) (p : FrameWindow)
     (free : ℕ)
@@ -119,33 +100,14 @@ pub has_place : (r : Read) (x : Expectation) (bytes rest : List ℕ) (h : Header
     → (r.units ≡ [] → (p.start ≡ 0) × (p.bytes.now ≡ r.frame)) → HasPlace r u p
 has_place r x bytes rest (headers.Ethernet2 e) u p free ready known shows room first =
     subst (λ (v : PeelUnit). HasPlace r v p) (sym shows) (place_first r x kinds.Ethernet2 p free ready known refl first)
-has_place r x bytes rest (headers.Ethernet2Fcs e) u p free ready known shows room first =
-    subst (λ (v : PeelUnit). HasPlace r v p) (sym shows)
-    (place_first r x kinds.Ethernet2Fcs p free ready known refl first)
-has_place r x bytes rest (headers.LinuxSll s) u p free ready known shows room first =
-    subst (λ (v : PeelUnit). HasPlace r v p) (sym shows) (place_first r x kinds.LinuxSll p free ready known refl first)
-has_place r x bytes rest (headers.Vlan v) u p free ready known shows room first =
-    subst (λ (k : PeelUnit). HasPlace r k p) (sym shows) (place_ext r x kinds.Vlan free ready known refl room)
-has_place r x bytes rest (headers.Macsec t) u p free ready known shows room first =
-    subst (λ (k : PeelUnit). HasPlace r k p) (sym shows.1) (place_ext r x kinds.Macsec free ready known refl room)
-has_place r x bytes rest (headers.Arp a) u p free ready known shows room first =
-    subst (λ (k : PeelUnit). HasPlace r k p) (sym shows) (no_arp r x kinds.Arp ready.arp known)
+has_place r x bytes rest h u p free ready known shows room first = search rules
 
 -- one extension more takes its place
 room_for : (us : List PacketUnit) (u : PacketUnit) (b : Bool) (free : ℕ) → is_extension u.kind ≡ b
     → (b ≡ true → 0 < free) → length (exts_of us) + free ≡ 3
     → length (exts_of (us ++ u ∷ [])) + cond b (free - 1) free ≡ 3
-room_for us u true free is more room =
-    let lt = more refl in
-    let parts : length (exts_of (us ++ u ∷ [])) ≡ length (exts_of us) + length (exts_of (u ∷ [])) =
-    ap length (filter-append is_ext us (u ∷ [])) ∙ length-append (exts_of us) (exts_of (u ∷ [])) in
-    let one : length (exts_of (u ∷ [])) ≡ 1 = ap (λ (b : Bool). length (cond b (u ∷ []) [])) is in
-    omega (arith, parts, one, lt, room)
-room_for us u false free is more room =
-    let parts : length (exts_of (us ++ u ∷ [])) ≡ length (exts_of us) + length (exts_of (u ∷ [])) =
-    ap length (filter-append is_ext us (u ∷ [])) ∙ length-append (exts_of us) (exts_of (u ∷ [])) in
-    let none : length (exts_of (u ∷ [])) ≡ 0 = ap (λ (b : Bool). length (cond b (u ∷ []) [])) is in
-    omega (arith, parts, none, room)
+room_for us u true free is more room = search (rules, filter-append, length-append)
+room_for us u false free is more room = search (rules, filter-append, length-append)
 
 empty_if : (l : List (List ℕ)) → slice_get l 0 ≡ None → l ≡ []
 empty_if [] e = refl
@@ -154,18 +116,11 @@ empty_if (x ∷ l) e = absurd cc
 -- what is no ARP packet adds none
 still_no_arp : (us : List PacketUnit) (u : PacketUnit) → arp_view us ≡ None → arp_in u.kind u.bytes ≡ None
     → arp_view (us ++ u ∷ []) ≡ None
-still_no_arp us u none other =
-    ap (λ l. slice_get l 0)
-    (filter_map-append arp_of_unit us (u ∷ [])
-    ∙ (λ i. empty_if (filter_map arp_of_unit us) none i ++ cons_option (other i) []))
+still_no_arp us u none other = search (rules, filter_map-append, empty_if)
 
 arp_or_over : (h : Header) (bytes : List ℕ) → (arp_in (kind_of h) bytes ≡ None) ⊎ (next_after h ≡ AfterArp)
-arp_or_over (headers.Ethernet2 e) bytes = inl refl
-arp_or_over (headers.Ethernet2Fcs e) bytes = inl refl
-arp_or_over (headers.LinuxSll s) bytes = inl refl
-arp_or_over (headers.Vlan v) bytes = inl refl
-arp_or_over (headers.Macsec t) bytes = inl refl
 arp_or_over (headers.Arp a) bytes = inr refl
+arp_or_over h bytes = inl refl
 
 -- a place is the window that is left to read
 pub record IsAt (s : State) (p : FrameWindow) : Type 0 where
@@ -215,18 +170,7 @@ given : (list : List ℕ) (w : Window) (left : List Header) (e : Ending) (s t : 
     → GivesNext list w left e s (Some (Ok u)) t → Given list w left e s t u
 given list w [] (Accepted v y) s t u g = let none = g.0 in absurd cc
 given list w [] (Fault v y q) s t u g = let fault = g.0 in absurd cc
-given list w (h ∷ hs) e s t u g =
-    let some = g.1 in
-    let is : g.0 ≡ u = cc in
-    record {
-      header = h;
-      later = hs;
-      parts = refl;
-      shows = subst (ShowsUnit s.rest t.rest h) is g.2;
-      going = g.3;
-      expected = g.4;
-      faces = g.5;
-    }
+given list w (h ∷ hs) e s t u g = search rules
 
 -- what is known of it
 pub record IsNext (list : List ℕ) (w : Window) (left : List Header) (e : Ending) (s t : State)
@@ -313,17 +257,12 @@ no_start_capture false t protocol kind is = cc
 
 no_start_payload : (payload : PayloadType) (kind : Kind) → after_payload payload ≡ Start kind → ⊥
 no_start_payload (payloads.Unmodified t) kind is = cc
-no_start_payload payloads.Modified kind is = cc
-no_start_payload payloads.EncryptedUnmodified kind is = cc
-no_start_payload payloads.Encrypted kind is = cc
+no_start_payload payload kind is = cc
 
 no_start : (h : Header) (kind : Kind) → next_after h ≡ Start kind → ⊥
-no_start (headers.Ethernet2 e) kind is = cc
-no_start (headers.Ethernet2Fcs e) kind is = cc
 no_start (headers.LinuxSll s) kind is = no_start_capture _ _ _ kind is
-no_start (headers.Vlan v) kind is = cc
 no_start (headers.Macsec t) kind is = no_start_payload t.payload_type kind is
-no_start (headers.Arp a) kind is = cc
+no_start h kind is = cc
 
 pub lowered_limit : (b : Bool) (limit : Option ℕ) (free : ℕ) → limit ≡ Some free
     → lowered b limit ≡ Some (cond b (free - 1) free)
@@ -346,8 +285,7 @@ gathered_next start list s t r q p u a ok n here is =
     (λ i. header_in (kind i) (bytes i))
     ∙ header_shown (within list w) h (IsBytes-part w.start w.finish list ok) n.unit.means in
     let units : q.units ≡ r.units ++ unit ∷ [] = ap (λ (k : Read). k.units) is in
-    let same : a.done ++ a.left ≡ (a.done ++ h ∷ []) ++ n.given.later =
-    ap (λ (l : List Header). a.done ++ l) n.given.parts ∙ sym (append_assoc a.done (h ∷ []) n.given.later) in
+    let same = ap (λ (l : List Header). a.done ++ l) n.given.parts ∙ sym (append_assoc a.done (h ∷ []) n.given.later) in
     let extends : is_extension unit.kind ≡ is_extension (kind_of h) = ap is_extension kind in
     let more =
     λ (e : is_extension (kind_of h) ≡ true).
@@ -390,57 +328,15 @@ gathered_next start list s t r q p u a ok n here is =
 
 -- ---- fewer come after each
 
-some_left : (next : Next) (kind : Kind) → announced_next next ≡ Some kind → 1 ≤ next_left next
-some_left (Start k) kind e = omega arith
-some_left (EtherType t) kind e = omega arith
-some_left (Sll protocol) kind e = absurd cc
-some_left Sealed kind e = absurd cc
-some_left AfterArp kind e = absurd cc
-
-one_after_capture : (b : Bool) (t : ℕ) (protocol : LinuxSllProtocolType)
-    → next_left (cond b (EtherType t) (Sll protocol)) ≡ 1
-one_after_capture true t protocol = refl
-one_after_capture false t protocol = refl
-
-one_after_payload : (payload : PayloadType) → next_left (after_payload payload) ≡ 1
-one_after_payload (payloads.Unmodified t) = refl
-one_after_payload payloads.Modified = refl
-one_after_payload payloads.EncryptedUnmodified = refl
-one_after_payload payloads.Encrypted = refl
-
 -- after a header that only a frame begins with
 fewer_after_first : (x : Expectation) (h : Header) → announced x ≡ Some (kind_of h) → is_first (kind_of h) ≡ true
     → next_left (next_after h) ≡ 1 → is_extension (kind_of h) ≡ false → headers_left (after x h) + 1 ≤ headers_left x
-fewer_after_first x h known first one other =
-    let start = starts x.next (kind_of h) (announced_is x (kind_of h) known) first in
-    let two : next_left x.next ≡ 2 = ap next_left start.1 in
-    let same : unwrap_or (lowered (is_extension (kind_of h)) x.limit) 0 ≡ unwrap_or x.limit 0 =
-    ap (λ (b : Bool). unwrap_or (lowered b x.limit) 0) other in
-    omega (arith, two, one, same)
-
--- after an extension
-fewer_after_ext : (x : Expectation) (h : Header) (free : ℕ) → x.limit ≡ Some free → announced x ≡ Some (kind_of h)
-    → is_extension (kind_of h) ≡ true → next_left (next_after h) ≡ 1 → headers_left (after x h) + 1 ≤ headers_left x
-fewer_after_ext x h free limit known extends one =
-    let some = some_left x.next (kind_of h) (announced_is x (kind_of h) known) in
-    let more = may_read x (kind_of h) free limit extends known in
-    let is : unwrap_or x.limit 0 ≡ free = ap (λ (l : Option ℕ). unwrap_or l 0) limit in
-    let less : unwrap_or (lowered (is_extension (kind_of h)) x.limit) 0 ≡ free - 1 =
-    (λ i. unwrap_or (lowered (extends i) (limit i)) 0) in
-    omega (arith, some, more, is, less, one)
+fewer_after_first x h known first one other = search rules
 
 pub fewer_left : (x : Expectation) (h : Header) (free : ℕ) → x.limit ≡ Some free → announced x ≡ Some (kind_of h)
     → headers_left (after x h) + 1 ≤ headers_left x
 fewer_left x (headers.Ethernet2 e) free limit known = fewer_after_first x (headers.Ethernet2 e) known refl refl refl
-fewer_left x (headers.Ethernet2Fcs e) free limit known =
-    fewer_after_first x (headers.Ethernet2Fcs e) known refl refl refl
-fewer_left x (headers.LinuxSll s) free limit known =
-    fewer_after_first x (headers.LinuxSll s) known refl (one_after_capture _ _ _) refl
-fewer_left x (headers.Vlan v) free limit known = fewer_after_ext x (headers.Vlan v) free limit known refl refl
-fewer_left x (headers.Macsec t) free limit known =
-    fewer_after_ext x (headers.Macsec t) free limit known refl (one_after_payload t.payload_type)
-fewer_left x (headers.Arp a) free limit known =
-    let some = some_left x.next kinds.Arp (announced_is x kinds.Arp known) in omega (arith, some)
+fewer_left x h free limit known = search rules
 
 pub fewer_come : (start : Expectation) (list : List ℕ) (s t : State) (r : Read) (u : PeelUnit)
     (a : Gathered start list s r)
@@ -461,86 +357,53 @@ record Ended (list : List ℕ) (w : Window) (left : List Header) (e : Ending) (s
 
 ended : (list : List ℕ) (w : Window) (left : List Header) (e : Ending) (s t : State) (met : Option PeelFault)
     → Faces list w s left e → GivesNext list w left e s (item_of met) t → Ended list w left e s t met
-ended list w [] (Accepted v y) s t None f g = record {
-  none_left = refl;
-  rest = ap (λ (k : State). k.rest) g.1 ∙ f.rest ∙ ap (within list) (sym f.stack.0);
-  offset = ap (λ (k : State). k.offset) g.1 ∙ f.offset ∙ ap (λ (k : Window). k.start) (sym f.stack.0);
-  expected = ap (λ (k : State). k.expected) g.1 ∙ sym f.stack.1;
-  fault = refl;
-}
-ended list w [] (Accepted v y) s t (Some x) f g = let none = g.0 in absurd cc
-ended list w [] (Fault v y r) s t None f g = let some = g.0 in absurd cc
-ended list w [] (Fault v y r) s t (Some x) f g =
-    let some = g.0 in
-    let is : x ≡ fault_in w r = cc in
-    record {
-      none_left = refl;
-      rest = ap (λ (k : State). k.rest) g.1 ∙ f.rest ∙ ap (within list) (sym f.stack.0);
-      offset = ap (λ (k : State). k.offset) g.1 ∙ f.offset ∙ ap (λ (k : Window). k.start) (sym f.stack.0);
-      expected = ap (λ (k : State). k.expected) g.1 ∙ sym f.stack.1;
-      fault = ap Some (is ∙ ap (λ (k : Window). fault_in k r) (sym f.stack.0));
-    }
-ended list w (h ∷ hs) e s t None f g = let some = g.1 in absurd cc
-ended list w (h ∷ hs) e s t (Some x) f g = let some = g.1 in absurd cc
+ended list w [] (Accepted v y) s t None f g = search rules
+ended list w h e s t k f g = search rules
 
 pub is_packet : (start : Expectation) (list : List ℕ) (s t : State) (r : Read) (packet : PacketSlice)
     (met : Option PeelFault)
     → Gathered start list s r → Gives s (item_of met) t
     → packet.read ≡ r → packet.rest.now ≡ t.rest → packet.rest_offset ≡ t.offset
     → packet.rest_kind ≡ kind_shown t.expected → packet.fault ≡ met → IsPacket start list packet
-is_packet start list s t r packet met a gives read rest offset kind fault =
-    let n =
-    ended list a.window a.left a.ending s t met a.faces
-    (gives.next a.going list a.window a.left a.ending a.faces) in
-    let walk =
-    subst (λ (l : List Header). Walk start list l a.ending)
-    (ap (λ (l : List Header). a.done ++ l) n.none_left ∙ append-nil a.done) a.walk in
-    let values : a.done ≡ packet_headers packet = sym (ap (λ (k : Read). map header_of k.units) read ∙ a.values) in
-    record {
-      ending = a.ending;
-      walk = subst (λ (l : List Header). Walk start list l a.ending) values walk;
-      one =
-          λ hs e other. let same =
-          one_stack list start (whole start list) hs a.done e a.ending other walk in (same.0 ∙ values, same.1);
-      frame = ap (λ (k : Read). k.frame) read ∙ a.frame;
-      units =
-          subst (λ (l : List Header). AreUnitsAt list (whole start list) l packet.read.units) values
-          (subst (λ (k : Read). AreUnitsAt list (whole start list) a.done k.units) (sym read) a.units);
-      rest = rest ∙ n.rest;
-      offset = offset ∙ n.offset;
-      kind = kind ∙ ap kind_shown n.expected;
-      fault = fault ∙ n.fault;
-    }
+is_packet start list s t r packet met a gives read rest offset kind fault = search (rules, append-nil, one_stack)
 
 -- ---- several headers
 
--- after as many headers as were asked for, it is still under way
-pub goes_on : (n : ℕ) (old new : PacketWalk) (more : Bool) → more ≡ true → GoesBy n old new more → IsUnderWay old
-    → IsUnderWay new
-goes_on n old new true e goes (start, list, w) = (start, list, (goes start list w).0)
-goes_on n old new false e goes under = absurd cc
+-- so many headers came
+pub record Came (n : ℕ) (old new : PacketWalk) : Type 0 where
+  goes : GoesBy n old new true
 
--- else it has ended
-pub ends_there : (n : ℕ) (old new : PacketWalk) (more : Bool) → more ≡ false → GoesBy n old new more
-    → EndsAnyhow old new
-ends_there n old new true e goes = absurd cc
-ends_there n old new false e goes = goes
+pub none_came : (w : PacketWalk) → Came 0 w w
+none_came w = record { goes = λ start list under. (under, omega arith) }
 
--- and then others
-pub goes_further : (n m : ℕ) (old mid new : PacketWalk) (first more : Bool) → first ≡ true → GoesBy n old mid first
-    → GoesBy m mid new more → GoesBy (n + m) old new more
-goes_further n m old mid new true true e goes later =
+pub one_more : {n : ℕ} {old mid : PacketWalk} {more : Bool} → Came n old mid → (new : PacketWalk) → more ≡ true
+    → GoesBy 1 mid new more → Came (n + 1) old new
+one_more {more = true} came new e goes = record {
+  goes =
+      λ start list w.
+      let before = came.goes start list w in
+      let next = goes start list before.0 in
+      let few = before.1 in
+      let fewer = next.1 in (next.0, omega (arith, few, fewer));
+}
+one_more {more = false} came new e goes = absurd cc
+
+-- then it is still under way
+pub goes_on : {n : ℕ} {old new : PacketWalk} → Came n old new → IsUnderWay old → IsUnderWay new
+goes_on came (start, list, w) = (start, list, (came.goes start list w).0)
+
+-- or ends with the next one
+pub ends_there : {n : ℕ} {old mid : PacketWalk} {more : Bool} → Came n old mid → (new : PacketWalk) → more ≡ false
+    → GoesBy 1 mid new more → EndsAnyhow old new
+ends_there {more = true} came new e goes = absurd cc
+ends_there {more = false} came new e goes = λ start list w. goes start list (came.goes start list w).0
+
+-- .. if there are no more
+pub ends_within : {n : ℕ} {old mid : PacketWalk} → Came n old mid → (new : PacketWalk) (more : Bool)
+    → headers_left old.peel.expected ≤ n → GoesBy 1 mid new more → EndsAnyhow old new
+ends_within came new true le goes =
     λ start list w.
-    let one = goes start list w in
-    let two = later start list one.0 in
-    let few = one.1 in
-    let fewer = two.1 in (two.0, omega (arith, few, fewer))
-goes_further n m old mid new true false e goes later = λ start list w. later start list (goes start list w).0
-goes_further n m old mid new false more e goes later = absurd cc
-
--- there are not so many
-pub ends_within : (n : ℕ) (old new : PacketWalk) (more : Bool) → headers_left old.peel.expected < n
-    → GoesBy n old new more → EndsAnyhow old new
-ends_within n old new true lt goes =
-    λ start list w. let few = (goes start list w).1 in absurd (omega (arith, lt, few))
-ends_within n old new false lt goes = goes
+    let before = came.goes start list w in
+    let few = before.1 in
+    let fewer = (goes start list before.0).1 in absurd (omega (arith, le, few, fewer))
+ends_within came new false le goes = λ start list w. goes start list (came.goes start list w).0

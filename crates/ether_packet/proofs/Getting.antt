@@ -1,10 +1,10 @@
 -- What is found among the headers of a packet, extension by extension.
-use Rattle.std.proofs.Common.{◌≡◌, ℕ, suc, ◌+◌, ◌<◌, ◌≤◌, List, [], ◌∷◌, ◌++◌, length, take, drop, refl, sym, ap, subst, ◌∙◌, arith, inl, inr, Bool, true, false}
+use Rattle.std.proofs.Common.{◌≡◌, ℕ, suc, ◌+◌, ◌<◌, ◌≤◌, List, [], ◌∷◌, ◌++◌, length, take, drop, refl, sym, ap, subst, ◌∙◌, arith, inl, inr, Bool, true, false, rules}
 use Rattle.std.specs.Prelude.{map, slice_get, Option, Some, None}
 use Rattle.std.specs.List.{filter_map, cons_option}
 use Rattle.std.specs.Option.{option_and_then}
 use Rattle.std.proofs.Math.Seq.{take-suc}
-use Rattle.std.proofs.lemmas.List.{append-nil, length-append, map-append, take-append-drop, take_all}
+use Rattle.std.proofs.lemmas.List.{length-append, take-append-drop, take_all}
 use Rattle.std.proofs.lemmas.List.Elements.{filter_map-append}
 use Rattle.std.proofs.lemmas.Option.{slice_get_cases, slice_get_within, get_or_from_slice_get}
 use Rattle.etherparse.specs.Kind.{Kind}
@@ -13,7 +13,6 @@ use Rattle.etherparse.specs.Types.EtherPayloadSlice.{EtherPayloadSlice}
 use Rattle.etherparse.specs.Types.LinkSlice.{LinkSlice}
 use Rattle.etherparse.specs.Types.MacsecSlice.{MacsecSlice}
 use Rattle.etherparse.specs.Types.VlanSlice.TheVariants as tags
-use Rattle.etherparse.specs.LinkExt.{HoldsExtPayload}
 use Rattle.etherparse.specs.Vlan.{vlan_of}
 use Rattle.ether_peel.specs.Grammar.Expectation.{is_extension}
 use Rattle.ether_packet.specs.declared.packet_ext.PacketExt.{PacketExt}
@@ -48,12 +47,9 @@ found_in f [] only = refl
 found_in f (u ∷ us) only = found_cons f u us (is_ext u) only refl (found_in f us only)
 
 no_tag : (k : Kind) (bytes : List ℕ) → is_extension k ≡ false → (vlan_in k bytes ≡ None) × (macsec_in k bytes ≡ None)
-no_tag kinds.Ethernet2 bytes e = (refl, refl)
-no_tag kinds.Ethernet2Fcs bytes e = (refl, refl)
-no_tag kinds.LinuxSll bytes e = (refl, refl)
 no_tag kinds.Vlan bytes e = absurd cc
 no_tag kinds.Macsec bytes e = absurd cc
-no_tag kinds.Arp bytes e = (refl, refl)
+no_tag k bytes e = (refl, refl)
 
 pub vlans_found : (us : List PacketUnit) → vlans_of us ≡ vlans_of (exts_of us)
 vlans_found us = found_in vlan_of_unit us (λ u e. (no_tag u.kind u.bytes e).0)
@@ -100,32 +96,13 @@ found_all f us n past = ap (filter_map f) (take_all n us past)
 abbrev pub Tagged : List PacketUnit → ℕ → Option (List ℕ) → Type 0
 Tagged us n first = cons_option first [] ≡ vlans_of (take n us)
 
-tagged_next : (us : List PacketUnit) (i : ℕ) (old r : Option (List ℕ)) → Tagged us i old → i < length us
-    → r ≡ option_and_then vlan_of_unit (slice_get us i)
-    → cons_option old [] ++ cons_option r [] ≡ vlans_of (take (i + 1) us)
-tagged_next us i old r so_far lt is =
-    ap (λ l. l ++ cons_option r []) so_far ∙ sym (found_next vlan_of_unit us i r lt is)
-
-pub tagged_first : (us : List PacketUnit) (i : ℕ) (old r : Option (List ℕ)) (tag : List ℕ) → Tagged us i old
-    → i < length us → r ≡ option_and_then vlan_of_unit (slice_get us i) → old ≡ None → r ≡ Some tag
-    → Tagged us (i + 1) (Some tag)
-tagged_first us i old r tag so_far lt is none some =
-    sym (λ j. cons_option (none j) [] ++ cons_option (some j) []) ∙ tagged_next us i old r so_far lt is
-
-pub tagged_other : (us : List PacketUnit) (i : ℕ) (old r : Option (List ℕ)) → Tagged us i old → i < length us
-    → r ≡ option_and_then vlan_of_unit (slice_get us i) → r ≡ None → Tagged us (i + 1) old
-tagged_other us i old r so_far lt is none =
-    sym ((λ j. cons_option old [] ++ cons_option (none j) []) ∙ append-nil (cons_option old []))
-    ∙ tagged_next us i old r so_far lt is
-
 pub tagged_twice : (us : List PacketUnit) (i : ℕ) (old r : Option (List ℕ)) (outer inner : List ℕ)
     → Tagged (exts_of us) i old → i < length (exts_of us) → r ≡ option_and_then vlan_of_unit (slice_get (exts_of us) i)
     → old ≡ Some outer → r ≡ Some inner
     → Some (tags.DoubleVlan (record { outer = outer; inner = inner })) ≡ first_tags (vlans_of us)
 tagged_twice us i old r outer inner so_far lt is first second =
     let later = filter_map vlan_of_unit (drop (i + 1) (exts_of us)) in
-    let front : vlans_of (take i (exts_of us)) ≡ outer ∷ [] =
-    sym so_far ∙ ap (λ (o : Option (List ℕ)). cons_option o []) first in
+    let front = sym so_far ∙ ap (λ (o : Option (List ℕ)). cons_option o []) first in
     let all : vlans_of us ≡ outer ∷ inner ∷ later =
     vlans_found us ∙ found_at vlan_of_unit (exts_of us) i r lt is
     ∙ (λ j. front j ++ cons_option (second j) [] ++ later) in
@@ -139,11 +116,6 @@ tagged_all us n old so_far past = so_far ∙ found_all vlan_of_unit (exts_of us)
 abbrev pub Untagged : List PacketUnit → ℕ → Type 0
 Untagged us n = vlans_of (take n us) ≡ []
 
-pub untagged_next : (us : List PacketUnit) (i : ℕ) (r : Option (List ℕ)) → Untagged us i → i < length us
-    → r ≡ option_and_then vlan_of_unit (slice_get us i) → r ≡ None → Untagged us (i + 1)
-untagged_next us i r so_far lt is none =
-    found_next vlan_of_unit us i r lt is ∙ (λ j. so_far j ++ cons_option (none j) [])
-
 -- ---- identifiers
 
 abbrev pub vid_at : List ℕ → ℕ
@@ -151,12 +123,8 @@ vid_at bytes = (vlan_of bytes).vid
 
 ids_cons : (k : Kind) (bytes : List ℕ) (ids : List ℕ) (tags : List (List ℕ)) → ids ≡ map vid_at tags
     → cons_option (vid_of (header_in k bytes)) ids ≡ map vid_at (cons_option (vlan_in k bytes) tags)
-ids_cons kinds.Ethernet2 bytes ids tags e = e
-ids_cons kinds.Ethernet2Fcs bytes ids tags e = e
-ids_cons kinds.LinuxSll bytes ids tags e = e
 ids_cons kinds.Vlan bytes ids tags e = ap (λ (l : List ℕ). vid_at bytes ∷ l) e
-ids_cons kinds.Macsec bytes ids tags e = e
-ids_cons kinds.Arp bytes ids tags e = e
+ids_cons k bytes ids tags e = e
 
 pub ids_of : (us : List PacketUnit) → vlan_ids_of (map header_of us) ≡ map vid_at (vlans_of us)
 ids_of [] = refl
@@ -173,38 +141,6 @@ pub record Identified (us : List PacketUnit) (n : ℕ) (ids : List ℕ) : Type 0
   pub found : ids ≡ map vid_at (vlans_of (take n us))
   pub few : length ids ≤ n
 
-identified_next : (us : List PacketUnit) (i : ℕ) (ids : List ℕ) (r : Option (List ℕ)) → Identified us i ids
-    → i < length us → r ≡ option_and_then vlan_of_unit (slice_get us i)
-    → ids ++ map vid_at (cons_option r []) ≡ map vid_at (vlans_of (take (i + 1) us))
-identified_next us i ids r a lt is =
-    ap (λ (l : List ℕ). l ++ map vid_at (cons_option r [])) a.found
-    ∙ sym (map-append vid_at (vlans_of (take i us)) (cons_option r []))
-    ∙ ap (map vid_at) (sym (found_next vlan_of_unit us i r lt is))
-
-pub identified_tag : (us : List PacketUnit) (i : ℕ) (ids new : List ℕ) (r : Option (List ℕ)) (tag : List ℕ)
-    → Identified us i ids → i < length us → r ≡ option_and_then vlan_of_unit (slice_get us i) → r ≡ Some tag
-    → new ≡ ids ++ vid_at tag ∷ [] → Identified us (i + 1) new
-identified_tag us i ids new r tag a lt is some more =
-    let len : length new ≡ length ids + 1 = ap length more ∙ length-append ids (vid_at tag ∷ []) in
-    let few = a.few in
-    record {
-      found = more ∙ sym (λ j. ids ++ map vid_at (cons_option (some j) [])) ∙ identified_next us i ids r a lt is;
-      few = omega arith;
-    }
-
-pub identified_other : (us : List PacketUnit) (i : ℕ) (ids new : List ℕ) (r : Option (List ℕ)) → Identified us i ids
-    → i < length us → r ≡ option_and_then vlan_of_unit (slice_get us i) → r ≡ None → new ≡ ids
-    → Identified us (i + 1) new
-identified_other us i ids new r a lt is none same =
-    let len : length new ≡ length ids = ap length same in
-    let few = a.few in
-    record {
-      found =
-          same ∙ sym ((λ j. ids ++ map vid_at (cons_option (none j) [])) ∙ append-nil ids)
-          ∙ identified_next us i ids r a lt is;
-      few = omega arith;
-    }
-
 pub identified_all : (us : List PacketUnit) (n : ℕ) (ids : List ℕ) → Identified (exts_of us) n ids
     → length (exts_of us) ≤ n → ids ≡ vlan_ids_of (map header_of us)
 identified_all us n ids a past =
@@ -215,16 +151,6 @@ identified_all us n ids a past =
 -- none is among the first n extensions
 abbrev pub Unsealed : List PacketUnit → ℕ → Type 0
 Unsealed us n = sec_tags_of (take n us) ≡ []
-
-not_viewed : (o : Option (List ℕ)) → ViewsSecTagIf o None → o ≡ None
-not_viewed None v = refl
-not_viewed (Some bytes) v = absurd v
-
-pub unsealed_next : (us : List PacketUnit) (i : ℕ) → Unsealed us i → i < length us
-    → ViewsSecTagIf (option_and_then macsec_of_unit (slice_get us i)) None → Unsealed us (i + 1)
-unsealed_next us i so_far lt view =
-    let o = option_and_then macsec_of_unit (slice_get us i) in
-    found_next macsec_of_unit us i o lt refl ∙ (λ j. so_far j ++ cons_option (not_viewed o view j) [])
 
 first_viewed : (us : List PacketUnit) (i : ℕ) (o : Option (List ℕ)) (packet : MacsecSlice) → Unsealed (exts_of us) i
     → i < length (exts_of us) → o ≡ option_and_then macsec_of_unit (slice_get (exts_of us) i)
@@ -244,9 +170,7 @@ sec_tag_first us i packet so_far lt view = first_viewed us i _ packet so_far lt 
 
 pub sec_tag_none : (us : List PacketUnit) (n : ℕ) → Unsealed (exts_of us) n → length (exts_of us) ≤ n
     → ViewsSecTagIf (slice_get (sec_tags_of us) 0) None
-sec_tag_none us n so_far past =
-    let all : sec_tags_of us ≡ [] = sec_tags_found us ∙ sym (found_all macsec_of_unit (exts_of us) n past) ∙ so_far in
-    subst (λ (l : List (List ℕ)). ViewsSecTagIf (slice_get l 0) None) (sym all) refl
+sec_tag_none us n so_far past = search (rules, sec_tags_found, found_all)
 
 -- ---- views of extensions
 
@@ -268,9 +192,8 @@ pub record Viewed (us : List PacketUnit) (n : ℕ) (exts : List PacketExt) : Typ
 views_more : (us : List PacketUnit) (exts : List PacketExt) (u : PacketUnit) (ext : PacketExt) → ViewsExts us exts
     → ViewsExt u ext → ViewsExts (us ++ u ∷ []) (exts ++ ext ∷ [])
 views_more [] [] u ext all view = (view, tt)
-views_more [] (x ∷ xs) u ext all view = absurd all
-views_more (v ∷ us) [] u ext all view = absurd all
 views_more (v ∷ us) (x ∷ xs) u ext all view = (all.0, views_more us xs u ext all.1 view)
+views_more us exts u ext all view = absurd all
 
 pub viewed_next : (us : List PacketUnit) (i : ℕ) (exts new : List PacketExt) (ext : PacketExt) → Viewed us i exts
     → ViewsExtIf (slice_get us i) (Some ext) → new ≡ exts ++ ext ∷ [] → Viewed us (i + 1) new
@@ -291,16 +214,7 @@ pub viewed_inside : (us : List PacketUnit) (i : ℕ) → i < length us → Views
 viewed_inside us i lt view =
     let le = missing_past us i (unviewed (slice_get us i) view) in absurd (omega (arith, lt, le))
 
-pub viewed_all : (us : List PacketUnit) (n : ℕ) (exts : List PacketExt) → Viewed us n exts → length us ≤ n
-    → ViewsExts us exts
-viewed_all us n exts so_far past = subst (λ (l : List PacketUnit). ViewsExts l exts) (take_all n us past) so_far.views
-
 -- ---- payloads
-
-pub ext_payload : (link : Option LinkSlice) (o : Option PacketUnit) (ext : PacketExt) (r : Option EtherPayloadSlice)
-    → ViewsExtIf o (Some ext) → HoldsExtPayload ext.slice r → HoldsPayload link o r
-ext_payload link None ext r view holds = absurd cc
-ext_payload link (Some u) ext r view holds = (ext.slice, view.tag, holds)
 
 pub link_payload : (link : Option LinkSlice) (o : Option PacketUnit) (r : Option EtherPayloadSlice) → ViewsExtIf o None
     → HoldsPayload link None r → HoldsPayload link o r

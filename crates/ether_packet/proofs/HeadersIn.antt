@@ -1,5 +1,5 @@
 -- The header that a list begins with is the one that its bytes mean.
-use Rattle.std.proofs.Common.{◌≡◌, ℕ, ◌≤◌, List, length, sym, ap, arith, refl}
+use Rattle.std.proofs.Common.{◌≡◌, ℕ, ◌≤◌, List, length, sym, ap, arith, refl, rules}
 use Rattle.etherparse.specs.Bytes.{IsBytes}
 use Rattle.etherparse.specs.Macsec.{SecTagValue, sec_tag_front_in, sec_tag_front_of, sec_tag_len, sec_tag_of}
 use Rattle.etherparse.specs.Arp.{ArpValue, BeginsWithArp, arp_front_in, arp_front_of, arp_len, arp_of}
@@ -41,10 +41,5 @@ packet_shown bytes a ok means =
 
 pub header_shown : (bytes : List ℕ) (h : Header) → IsBytes bytes → Means bytes h → header_in (kind_of h) bytes ≡ h
 header_shown bytes (headers.Ethernet2 e) ok means = ap headers.Ethernet2 (ethernet2_shown bytes e ok means)
-header_shown bytes (headers.Ethernet2Fcs e) ok means =
-    let plain : Means bytes (headers.Ethernet2 e) = record { whole = means.whole; spells = means.spells } in
-    ap headers.Ethernet2Fcs (ethernet2_shown bytes e ok plain)
-header_shown bytes (headers.LinuxSll s) ok means = ap headers.LinuxSll (linux_sll_shown bytes s ok means)
-header_shown bytes (headers.Vlan v) ok means = ap headers.Vlan (vlan_shown bytes v ok means)
-header_shown bytes (headers.Macsec t) ok means = ap headers.Macsec (sec_tag_shown bytes t ok means)
-header_shown bytes (headers.Arp a) ok means = ap headers.Arp (packet_shown bytes a ok means)
+header_shown bytes h ok means =
+    search (rules, ethernet2_shown, linux_sll_shown, vlan_shown, sec_tag_shown, packet_shown)

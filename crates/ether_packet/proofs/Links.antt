@@ -1,6 +1,6 @@
 -- The header of a link that a walk begins with, and the one that replaces it.
-use Rattle.std.proofs.Common.{◌≡◌, ℕ, ◌≤◌, List, [], ◌∷◌, length, refl, sym, ap, subst, ◌∙◌, arith, Bool, true, false}
-use Rattle.std.specs.Prelude.{Option, Some, None, ◌==◌, if◌then◌else◌}
+use Rattle.std.proofs.Common.{◌≡◌, ℕ, ◌≤◌, List, [], ◌∷◌, length, refl, sym, ap, subst, ◌∙◌, arith, Bool, true, false, rules}
+use Rattle.std.specs.Prelude.{Option, Some, None, if◌then◌else◌}
 use Rattle.etherparse.specs.Types.LenSource.TheVariants as sources
 use Rattle.etherparse.specs.Types.LinuxSllProtocolType.TheVariants as protocols
 use Rattle.etherparse.specs.Types.EtherType.{EtherType as EtherTypeNumber}
@@ -10,8 +10,7 @@ use Rattle.etherparse.specs.Types.LinkHeader.TheVariants as links
 use Rattle.etherparse.specs.Bytes.{IsBytes, overwritten}
 use Rattle.etherparse.specs.Ethernet2.{Ethernet2Value}
 use Rattle.etherparse.specs.LinuxSll.{LinuxSllValue}
-use Rattle.etherparse.specs.LinuxNonstandardEtherType.{is_nonstandard}
-use Rattle.etherparse.specs.LinuxSllProtocolType.{protocol_of, protocol_number, link_protocol_of, ethernet_protocol_type}
+use Rattle.etherparse.specs.LinuxSllProtocolType.{protocol_number}
 use Rattle.etherparse.specs.Kind.{Kind}
 use Rattle.etherparse.specs.Header.{Header, kind_of, header_len, header_bytes, FitsHeader, Means}
 use Rattle.etherparse.specs.Header as headers
@@ -70,18 +69,6 @@ same_ether_type t u same = λ i. record { 0 = same i }
 same_hardware : (t u : ArpHardwareId) → t.0 ≡ u.0 → t ≡ u
 same_hardware t u same = λ i. record { 0 = same i }
 
--- two headers of links say the same if the new one and that of the walk do
-pub says_the_same : (g l : LinkHeader) (h : Header) → IsLinkOf l h → LinksAgree g l → LinkAgrees g h
-says_the_same (links.Ethernet2 g) (links.Ethernet2 l) (headers.Ethernet2 h) is same =
-    ap (λ (t : EtherTypeNumber). t.0) same ∙ ap (λ (v : Ethernet2Value). v.ether_type) is
-says_the_same (links.Ethernet2 g) (links.Ethernet2 l) (headers.Ethernet2Fcs h) is same =
-    ap (λ (t : EtherTypeNumber). t.0) same ∙ ap (λ (v : Ethernet2Value). v.ether_type) is
-says_the_same (links.LinuxSll g) (links.LinuxSll l) (headers.LinuxSll h) is same =
-    (ap (λ (t : ArpHardwareId). t.0) same.0 ∙ ap (λ (s : LinuxSllValue). s.hardware_type) is.0, same.1 ∙ is.1)
-says_the_same (links.Ethernet2 g) (links.LinuxSll l) h is same = absurd same
-says_the_same (links.LinuxSll g) (links.Ethernet2 l) h is same = absurd same
-says_the_same _ _ _ is same = absurd is
-
 -- and differ in the same
 pub differs : (g l : LinkHeader) (h : Header) (d : Difference) → IsLinkOf l h → LinksDiffer g l d → LinkDiffers g h d
 differs (links.Ethernet2 g) (links.Ethernet2 l) (headers.Ethernet2 h) differences.EtherType is other = λ same.
@@ -120,12 +107,7 @@ link_len (links.LinuxSll g) (links.LinuxSll l) same = refl
 link_len _ _ same = absurd same
 
 pub takes_link : (g l : LinkHeader) (hs : List Header) → LinksAgree g l → BeginsWithLink hs l → TakesLink hs g
-takes_link g l hs same b = record {
-  replaced = b.header;
-  later = b.later;
-  parts = b.parts;
-  same = says_the_same g l b.header b.is same;
-}
+takes_link g l hs same b = search rules
 
 pub refuses_link : (g l : LinkHeader) (hs : List Header) (d : Difference) → LinksDiffer g l d → BeginsWithLink hs l
     → RefusesLink hs g (errors.SaysOther d)
@@ -141,30 +123,9 @@ number_in : (is_nonstandard : Bool) (n : ℕ)
 number_in true n = refl
 number_in false n = refl
 
-number_on : (is_netlink is_gre : Bool) (n : ℕ)
-    → protocol_number
-    (if is_netlink then protocols.NetlinkProtocolType n
-    else (if is_gre then protocols.GenericRoutingEncapsulationProtocolType n else protocols.Ignored n))
-    ≡ n
-number_on true b n = refl
-number_on false true n = refl
-number_on false false n = refl
-
-number_by : (is_ethernet : Bool) (hardware n : ℕ)
-    → protocol_number (if is_ethernet then ethernet_protocol_type n else link_protocol_of hardware n) ≡ n
-number_by true hardware n = number_in (is_nonstandard n) n
-number_by false hardware n = number_on (hardware == 824) (hardware == 778) n
-
--- the protocol type has the number that it is made of
-number_back : (hardware n : ℕ) → protocol_number (protocol_of hardware n) ≡ n
-number_back hardware n = number_by (hardware == 1) hardware n
-
 in_place_same : (g : LinkHeader) (h : Header) → LinkAgrees g h → Agree (in_place_of g h) h
 in_place_same (links.Ethernet2 g) (headers.Ethernet2 h) same = same
-in_place_same (links.Ethernet2 g) (headers.Ethernet2Fcs h) same = same
-in_place_same (links.LinuxSll g) (headers.LinuxSll h) same =
-    (same.0, ap protocol_number same.1 ∙ number_back h.hardware_type h.protocol)
-in_place_same _ _ same = absurd same
+in_place_same h k same = search rules
 
 pub in_place_fits : (g : LinkHeader) (h : Header) → FitsHeader (link_header g) → FitsHeader (in_place_of g h)
 in_place_fits (links.Ethernet2 g) (headers.Ethernet2Fcs h) fits = fits
@@ -189,8 +150,7 @@ is_link_replaced start old new hs e g t room fits packet_type bytes walk =
     let replaced =
     replaced_walk start old [] t.replaced other t.later e (in_place_same g t.replaced t.same)
     (in_place_fits g t.replaced fits) (in_place_sendable g t.replaced packet_type) split in
-    let same : overwritten old 0 (header_bytes other) ≡ new =
-    ap (overwritten old 0) (sym (in_place_bytes g t.replaced)) ∙ sym bytes in
+    let same = ap (overwritten old 0) (sym (in_place_bytes g t.replaced)) ∙ sym bytes in
     record {
       takes = t;
       fits = fits;

@@ -1,11 +1,11 @@
 -- The ARP packet of a packet among its headers, and the one that replaces it.
-use Rattle.std.proofs.Common.{◌≡◌, ℕ, ◌+◌, ◌≤◌, List, [], ◌∷◌, ◌++◌, length, refl, sym, ap, subst, ◌∙◌, arith, false}
+use Rattle.std.proofs.Common.{◌≡◌, ℕ, ◌+◌, ◌≤◌, List, [], ◌∷◌, ◌++◌, length, refl, sym, ap, subst, ◌∙◌, arith, false, rules}
 use Rattle.std.specs.Prelude.{map, slice_get, Option, Some, None, ◌||◌}
 use Rattle.std.specs.List.{filter_map, cons_option}
 use Rattle.std.proofs.lemmas.List.{map-append}
 use Rattle.std.proofs.lemmas.Option.{slice_get_within}
 use Rattle.etherparse.specs.Bytes.{overwritten}
-use Rattle.etherparse.specs.Arp.{ArpValue, arp_bytes, arp_front_in, arp_len, arp_of}
+use Rattle.etherparse.specs.Arp.{ArpValue, arp_bytes, arp_of}
 use Rattle.etherparse.specs.Kind.{Kind}
 use Rattle.etherparse.specs.Kind as kinds
 use Rattle.etherparse.specs.Header.{Header, kind_of, header_len, FitsHeader}
@@ -63,14 +63,8 @@ same_bytes a b e = cc
 -- the packet that a view means
 arp_header : (k : Kind) (bytes view : List ℕ) → arp_in k bytes ≡ Some view
     → header_in k bytes ≡ headers.Arp (arp_of view)
-arp_header kinds.Ethernet2 bytes view e = absurd cc
-arp_header kinds.Ethernet2Fcs bytes view e = absurd cc
-arp_header kinds.LinuxSll bytes view e = absurd cc
-arp_header kinds.Vlan bytes view e = absurd cc
-arp_header kinds.Macsec bytes view e = absurd cc
-arp_header kinds.Arp bytes view e =
-    let n = arp_len (arp_front_in bytes) in
-    ap headers.Arp (sym (arp_of_part bytes n (omega arith) (omega arith)) ∙ ap arp_of (same_bytes _ view e))
+arp_header kinds.Arp bytes view e = search (rules, arp_of_part, same_bytes)
+arp_header k bytes view e = absurd cc
 
 -- none
 
@@ -80,12 +74,8 @@ none_cons u us None e none = (e, none)
 none_cons u us (Some v) e none = absurd cc
 
 other_kind : (k : Kind) (bytes : List ℕ) → arp_in k bytes ≡ None → is_arp (kind_of (header_in k bytes)) ≡ false
-other_kind kinds.Ethernet2 bytes e = refl
-other_kind kinds.Ethernet2Fcs bytes e = refl
-other_kind kinds.LinuxSll bytes e = refl
-other_kind kinds.Vlan bytes e = refl
-other_kind kinds.Macsec bytes e = refl
 other_kind kinds.Arp bytes e = absurd cc
+other_kind k bytes e = refl
 
 without_arp : (us : List PacketUnit) → arp_view us ≡ None → has_arp (map header_of us) ≡ false
 without_arp [] none = refl
@@ -132,12 +122,7 @@ is_found start list p view is at =
     let offset = is.offset in
     let ordered = last.ordered in
     let inside = last.inside in
-    record {
-      front = front;
-      parts = split ∙ ap (λ (l : List Header). front ++ headers.Arp a ∷ l) none;
-      ends = is.offset ∙ last.start;
-      inside = omega arith;
-    }
+    search rules
 
 pub found_takes : (start : Expectation) (list : List ℕ) (p : PacketSlice) (view : List ℕ) (g : ArpValue)
     (hs : List Header) (e : Ending)
@@ -146,13 +131,7 @@ pub found_takes : (start : Expectation) (list : List ℕ) (p : PacketSlice) (vie
 found_takes start list p view g hs e is at same walk =
     let f = is_found start list p view is at in
     let one = (is.one hs e walk).0 in
-    record {
-      front = f.front;
-      replaced = arp_of view;
-      parts = one ∙ f.parts;
-      same = same;
-      ends = f.ends ∙ ap (place 0) (sym one);
-    }
+    search rules
 
 -- the place of an ARP packet that ends at a place
 arp_place : (front : List Header) (a : ArpValue)
@@ -164,8 +143,7 @@ pub found_room : (start : Expectation) (list : List ℕ) (p : PacketSlice) (view
     → Agree (headers.Arp g) (headers.Arp (arp_of view)) → header_len (headers.Arp g) ≤ p.rest_offset
 found_room start list p view g is at same =
     let f = is_found start list p view is at in
-    let ends : p.rest_offset ≡ place 0 f.front + header_len (headers.Arp (arp_of view)) =
-    f.ends ∙ ap (place 0) f.parts ∙ arp_place f.front (arp_of view) in
+    let ends = f.ends ∙ ap (place 0) f.parts ∙ arp_place f.front (arp_of view) in
     let len = same_len (headers.Arp g) (headers.Arp (arp_of view)) same in
     omega arith
 
@@ -193,11 +171,9 @@ pub is_replaced : (start : Expectation) (old new : List ℕ) (hs : List Header) 
     → new ≡ overwritten old at (arp_bytes g) → Walk start old hs e → ReplacesArp start old hs e g new
 is_replaced start old new hs e g at end t fits begins bytes walk =
     let as_long = same_len (headers.Arp g) (headers.Arp t.replaced) t.same in
-    let ends : end ≡ place 0 t.front + header_len (headers.Arp t.replaced) =
-    t.ends ∙ ap (place 0) t.parts ∙ arp_place t.front t.replaced in
+    let ends = t.ends ∙ ap (place 0) t.parts ∙ arp_place t.front t.replaced in
     let there : at ≡ place 0 t.front = omega arith in
-    let same_place : new ≡ overwritten old (place 0 t.front) (arp_bytes g) =
-    bytes ∙ ap (λ (n : ℕ). overwritten old n (arp_bytes g)) there in
+    let same_place = bytes ∙ ap (λ (n : ℕ). overwritten old n (arp_bytes g)) there in
     let split = subst (λ (l : List Header). Walk start old l e) t.parts walk in
     let inside = header_inside start old t.front (headers.Arp t.replaced) [] e split in
     let len = length-header_bytes (headers.Arp g) fits in

@@ -1,5 +1,5 @@
 -- The extensions of a packet among its headers, and the header that replaces one of them.
-use Rattle.std.proofs.Common.{◌≡◌, ℕ, zero, suc, ◌+◌, ◌≤◌, List, [], ◌∷◌, ◌++◌, length, take, refl, sym, ap, subst, ◌∙◌, arith, Bool, true, false}
+use Rattle.std.proofs.Common.{◌≡◌, ℕ, zero, suc, ◌+◌, ◌≤◌, List, [], ◌∷◌, ◌++◌, length, take, refl, sym, ap, subst, ◌∙◌, arith, Bool, true, false, rules}
 use Rattle.std.specs.Prelude.{map, slice_get, Some, if◌then◌else◌}
 use Rattle.std.proofs.lemmas.List.{length-take-le, map-append}
 use Rattle.std.proofs.lemmas.Option.{slice_get_within}
@@ -14,14 +14,13 @@ use Rattle.etherparse.proofs.ReadBack.{length-header_bytes}
 use Rattle.ether_peel.specs.Grammar.Window.{Window, payload}
 use Rattle.ether_peel.specs.Grammar.Expectation.{Expectation, is_extension}
 use Rattle.ether_peel.specs.Grammar.Places.{place}
-use Rattle.ether_peel.specs.Grammar.Stack.{Ending, whole, Walk}
+use Rattle.ether_peel.specs.Grammar.Stack.{Ending, Walk}
 use Rattle.ether_packet.specs.declared.finding.PlacedExt.{PlacedExt}
-use Rattle.ether_packet.specs.declared.packet_slice.PacketSlice.{PacketSlice}
 use Rattle.ether_packet.specs.declared.difference.Difference.{Difference}
 use Rattle.ether_packet.specs.declared.replace_error.ReplaceError.TheVariants as errors
 use Rattle.ether_packet.specs.PacketUnit.{PacketUnit}
 use Rattle.ether_packet.specs.Views.{header_in, header_of, exts_of}
-use Rattle.ether_packet.specs.Packet.{AreUnitsAt, IsPacket}
+use Rattle.ether_packet.specs.Packet.{AreUnitsAt}
 use Rattle.ether_packet.specs.Replacing.{Agree, Differs, ext_count, IsExtAt, IsPlacedExt, TakesExt, ReplacesExt, RefusesExt, none, other}
 use Rattle.ether_packet.proofs.Places.{is_ext}
 use Rattle.ether_packet.proofs.Getting.{ext_kept, other_dropped}
@@ -35,11 +34,7 @@ ext_count-append (h ∷ hs) ks = let more = ext_count-append hs ks in omega (ari
 
 pub kind_kept : (k : Kind) (bytes : List ℕ) → kind_of (header_in k bytes) ≡ k
 kind_kept kinds.Ethernet2 bytes = refl
-kind_kept kinds.Ethernet2Fcs bytes = refl
-kind_kept kinds.LinuxSll bytes = refl
-kind_kept kinds.Vlan bytes = refl
-kind_kept kinds.Macsec bytes = refl
-kind_kept kinds.Arp bytes = refl
+kind_kept k bytes = refl
 
 pub ext_header : (u : PacketUnit) → is_extension (kind_of (header_of u)) ≡ is_ext u
 ext_header u = ap is_extension (kind_kept u.kind u.bytes)
@@ -117,13 +112,7 @@ split_at (u ∷ us) i x at = split_cons u us i x (is_ext u) refl (λ j. split_at
 
 pub ext_at : (us : List PacketUnit) (i : ℕ) (x : PacketUnit) → slice_get (exts_of us) i ≡ Some x → (s : Split us i x)
     → IsExtAt (map header_of us) i (map header_of s.front) (header_of x) (map header_of s.later)
-ext_at us i x at s =
-    let inside = slice_get_within (exts_of us) i x at in
-    record {
-      parts = ap (map header_of) s.parts ∙ map-append header_of s.front (x ∷ s.later);
-      extension = ext_header x ∙ s.extension;
-      before = exts_count s.front ∙ ap length s.before ∙ length-take-le i (exts_of us) (omega (arith, inside));
-    }
+ext_at us i x at s = search (rules, slice_get_within, map-append, ext_header, exts_count, length-take-le)
 
 -- and its place in the list
 unit_begins : (list : List ℕ) (w : Window) (front : List PacketUnit) (x : PacketUnit) (later : List PacketUnit)
@@ -132,26 +121,12 @@ unit_begins : (list : List ℕ) (w : Window) (front : List PacketUnit) (x : Pack
 unit_begins list w [] x later are = are.0.offset
 unit_begins list w (u ∷ front) x later are = unit_begins list (payload w (header_of u)) front x later are.1
 
-begins_at : (start : Expectation) (list : List ℕ) (p : PacketSlice) (i : ℕ) (x : PacketUnit) → IsPacket start list p
-    → (s : Split p.read.units i x) → x.offset ≡ place 0 (map header_of s.front)
-begins_at start list p i x is s =
-    unit_begins list (whole start list) s.front x s.later
-    (subst (λ (l : List PacketUnit). AreUnitsAt list (whole start list) (map header_of l) l) s.parts is.units)
-
 -- ---- a header that replaces it
 
 -- the extension that is found at an index
 pub found_takes : (hs : List Header) (i : ℕ) (f : PlacedExt) (g : Header) → IsPlacedExt hs i f
     → Agree g (ext_header_view f.header) → TakesExt hs i g f.at
-found_takes hs i f g p same =
-    record {
-      front = p.front;
-      replaced = ext_header_view f.header;
-      later = p.later;
-      found = p.found;
-      same = same;
-      begins = p.begins;
-    }
+found_takes hs i f g p same = search rules
 
 pub found_room : (g h : Header) (at n : ℕ) → Agree g h → at + header_len h ≤ n → at + header_len g ≤ n
 found_room g h at n same room = let len = same_len g h same in omega (arith, len, room)
@@ -175,22 +150,4 @@ pub is_replaced : (start : Expectation) (old new : List ℕ) (hs : List Header) 
     → TakesExt hs i g at → FitsHeader g → IsSendable g → new ≡ overwritten old at (header_bytes g) → Walk start old hs e
     → ReplacesExt start old hs e i g new
 is_replaced start old new hs e i at g t fits sendable bytes walk =
-    let same_place : new ≡ overwritten old (place 0 t.front) (header_bytes g) =
-    bytes ∙ ap (λ (n : ℕ). overwritten old n (header_bytes g)) t.begins in
-    let split = subst (λ (l : List Header). Walk start old l e) t.found.parts walk in
-    let inside = header_inside start old t.front t.replaced t.later e split in
-    let len = length-header_bytes g fits in
-    let as_long = same_len g t.replaced t.same in
-    record {
-      front = t.front;
-      replaced = t.replaced;
-      later = t.later;
-      found = t.found;
-      same = t.same;
-      fits = fits;
-      bytes = same_place;
-      len = ap length same_place ∙ length-overwritten old (header_bytes g) (place 0 t.front) (omega arith);
-      walk =
-          subst (λ (l : List ℕ). Walk start l (t.front ++ g ∷ t.later) e) (sym same_place)
-          (replaced_walk start old t.front t.replaced g t.later e t.same fits sendable split);
-    }
+    search (rules, header_inside, length-header_bytes, same_len, length-overwritten, replaced_walk)

@@ -1,5 +1,5 @@
 -- The headers of a packet as values.
-use Rattle.std.proofs.Common.{◌≡◌, false, ℕ, ◌≤◌, List, [], ◌∷◌, ◌++◌, length, take, refl, sym, ap, ◌∙◌, arith}
+use Rattle.std.proofs.Common.{◌≡◌, false, ℕ, ◌≤◌, List, [], ◌∷◌, ◌++◌, length, take, refl, arith, rules}
 use Rattle.std.specs.Prelude.{map, slice_get, Option, Some, None}
 use Rattle.std.proofs.lemmas.List.{map-append}
 use Rattle.etherparse.specs.Types.LinkExtHeader.{LinkExtHeader}
@@ -33,11 +33,7 @@ pub shape : (frame : List ℕ) (link : LinkKind) (xs : List ExtPlace) (arp : Opt
     → link_units frame link ≡ u ∷ []
     → map header_of (units_at frame link xs arp)
     ≡ header_of u ∷ map header_of (exts_of (units_at frame link xs arp)) ++ map header_of (arp_units arp)
-shape frame link xs arp u is =
-    ap (λ (l : List PacketUnit). map header_of (l ++ map ext_unit xs ++ arp_units arp)) is
-    ∙ map-append header_of (u ∷ map ext_unit xs) (arp_units arp)
-    ∙ ap (λ (l : List PacketUnit). header_of u ∷ map header_of l ++ map header_of (arp_units arp))
-    (sym (exts_at frame link xs arp))
+shape frame link xs arp u is = search (rules, map-append, exts_at)
 
 tag_no_link : (k : ExtKind) (bytes : List ℕ) → is_link (kind_of (header_in (ext_kind k) bytes)) ≡ false
 tag_no_link tags.Vlan bytes = refl
@@ -51,6 +47,4 @@ none_is_link (x ∷ xs) arp = tag_no_link x.kind x.place.bytes.now
 
 pub without_link : (frame : List ℕ) (link : LinkKind) (xs : List ExtPlace) (arp : Option FrameWindow)
     → link_units frame link ≡ [] → has_link (map header_of (units_at frame link xs arp)) ≡ false
-without_link frame link xs arp none =
-    ap (λ (l : List PacketUnit). has_link (map header_of (l ++ map ext_unit xs ++ arp_units arp))) none
-    ∙ none_is_link xs arp
+without_link frame link xs arp none = search (rules, none_is_link)

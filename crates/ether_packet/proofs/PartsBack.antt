@@ -1,5 +1,5 @@
 -- Parts that are written unchanged are the front of the frame that they were read from.
-use Rattle.std.proofs.Common.{◌≡◌, ℕ, zero, suc, ◌+◌, ◌≤◌, List, [], ◌∷◌, ◌++◌, length, take, drop, refl, sym, ap, ◌∙◌, arith, append_assoc}
+use Rattle.std.proofs.Common.{◌≡◌, ℕ, suc, ◌+◌, ◌≤◌, List, [], ◌∷◌, ◌++◌, length, take, drop, refl, sym, ap, ◌∙◌, arith, append_assoc}
 use Rattle.std.specs.Prelude.{map, flat_map, Option, Some, None}
 use Rattle.std.proofs.lemmas.List.{append-nil, length-append, take_at, take-take}
 use Rattle.etherparse.specs.Types.EtherType.{EtherType}
@@ -45,23 +45,20 @@ content_is : (arp : Option ArpValue) (t : EtherType) (bytes : List ℕ) (c : Pac
     → content_headers c ≡ arp_headers arp
 content_is None t bytes (contents.Payload u p) has = refl
 content_is (Some a) t bytes (contents.Arp packet) has = ap (λ (v : ArpValue). headers.Arp v ∷ []) has
-content_is None t bytes (contents.Arp packet) has = absurd has
-content_is (Some a) t bytes (contents.Payload u p) has = absurd has
+content_is arp t bytes c has = absurd has
 
 -- what is left begins with the payload
 rest_is : (arp : Option ArpValue) (t : EtherType) (bytes : List ℕ) (c : PacketContent) → HasContent arp t bytes c
     → (more : List ℕ) × (bytes ≡ content_payload c ++ more)
 rest_is None t bytes (contents.Payload u p) has = ([], sym has.1 ∙ sym (append-nil p.now))
 rest_is (Some a) t bytes (contents.Arp packet) has = (bytes, refl)
-rest_is None t bytes (contents.Arp packet) has = absurd has
-rest_is (Some a) t bytes (contents.Payload u p) has = absurd has
+rest_is arp t bytes c has = absurd has
 
 -- ---- the front
 
 most : (n : ℕ) (l : List ℕ) → length (take n l) ≤ n
-most zero l = omega arith
-most (suc n) [] = omega arith
 most (suc n) (x ∷ l) = let le = most n l in omega (arith, le)
+most n l = omega arith
 
 pub parts_go_back : PartsGoBack
 parts_go_back start list packet parts b end old new ok is of builder w =
@@ -80,8 +77,7 @@ parts_go_back start list packet parts b end old new ok is of builder w =
     ap (place 0) given ∙ ap (λ (k : ℕ). place (0 + k) tail) (link_long parts.link of.have.link of.have.is_link)
     ∙ ap (place 0) (sym of.have.parts) in
     let zero_more : m ≡ m + 0 = omega arith in
-    let all : end ≡ m + place 0 (given_headers b) =
-    w.ends ∙ ap (λ (k : ℕ). place k (given_headers b)) zero_more ∙ place-add m 0 (given_headers b) in
+    let all = w.ends ∙ ap (λ (k : ℕ). place k (given_headers b)) zero_more ∙ place-add m 0 (given_headers b) in
     let front = flat_map header_bytes hs in
     let own = length-fit (given_headers b) w.fit in
     let own_same = ap length same in

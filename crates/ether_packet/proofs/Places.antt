@@ -1,6 +1,6 @@
 -- The headers at the places that a packet keeps.
-use Rattle.std.proofs.Common.{◌≡◌, ℕ, ◌≤◌, List, [], ◌∷◌, ◌++◌, length, refl, sym, ap, subst, ◌∙◌, arith, append_assoc, inl, inr, Bool, true, false}
-use Rattle.std.specs.Prelude.{map, slice_get, Option, Some, None, option_map, get_or, if◌then◌else◌}
+use Rattle.std.proofs.Common.{◌≡◌, ℕ, ◌≤◌, List, [], ◌∷◌, ◌++◌, length, refl, ap, subst, ◌∙◌, arith, append_assoc, Bool, true, false, rules}
+use Rattle.std.specs.Prelude.{map, slice_get, Option, Some, None, get_or, if◌then◌else◌}
 use Rattle.std.specs.List.{All, filter, filter_map, cons_option}
 use Rattle.std.proofs.lemmas.List.{append-nil, map-append}
 use Rattle.std.proofs.lemmas.List.Elements.{filter-append, filter_map-append, All-append, All-get_or, All-from_get_or}
@@ -33,14 +33,7 @@ arp_of_unit u = arp_in u.kind u.bytes
 link_is : (frame : List ℕ) (link : LinkKind)
     → (filter is_ext (link_units frame link) ≡ []) × (filter_map arp_of_unit (link_units frame link) ≡ [])
 link_is frame places.Missing = (refl, refl)
-link_is frame places.Ethernet2 = (refl, refl)
-link_is frame places.Ethernet2Fcs = (refl, refl)
-link_is frame places.LinuxSll = (refl, refl)
-
-ext_is : (kind : ExtKind) (at : ℕ) (bytes : List ℕ)
-    → (is_extension (ext_kind kind) ≡ true) × (arp_in (ext_kind kind) bytes ≡ None)
-ext_is tags.Vlan at bytes = (refl, refl)
-ext_is tags.Macsec at bytes = (refl, refl)
+link_is frame link = (refl, refl)
 
 keep_first : (b : Bool) (u : PacketUnit) (us : List PacketUnit) → is_ext u ≡ true
     → filter is_ext (u ∷ us) ≡ u ∷ filter is_ext us
@@ -51,11 +44,7 @@ exts_are : (xs : List ExtPlace)
 exts_are [] = (refl, refl)
 exts_are (x ∷ xs) =
     let u = ext_unit x in
-    let is = ext_is x.kind u.offset u.bytes in
-    let more = exts_are xs in (
-      keep_first true u (map ext_unit xs) is.0 ∙ ap (λ (l : List PacketUnit). u ∷ l) more.0,
-      ap (λ (a : Option (List ℕ)). cons_option a (filter_map arp_of_unit (map ext_unit xs))) is.1 ∙ more.1,
-    )
+    let more = exts_are xs in search (rules, keep_first)
 
 arp_has : (arp : Option FrameWindow) → filter is_ext (arp_units arp) ≡ []
 arp_has None = refl
@@ -84,10 +73,7 @@ only_arp (Some p) = refl
 found_last : {A : Type 0} (f : PacketUnit → Option A) (frame : List ℕ) (link : LinkKind) (xs : List ExtPlace)
     (arp : Option FrameWindow) → filter_map f (link_units frame link) ≡ [] → filter_map f (map ext_unit xs) ≡ []
     → filter_map f (units_at frame link xs arp) ≡ filter_map f (arp_units arp)
-found_last f frame link xs arp no_link no_ext =
-    filter_map-append f (link_units frame link ++ map ext_unit xs) (arp_units arp)
-    ∙ ap (λ l. l ++ filter_map f (arp_units arp)) (filter_map-append f (link_units frame link) (map ext_unit xs))
-    ∙ (λ i. no_link i ++ no_ext i ++ filter_map f (arp_units arp))
+found_last f frame link xs arp no_link no_ext = search (rules, filter_map-append, no_link)
 
 pub arp_at : (frame : List ℕ) (link : LinkKind) (xs : List ExtPlace) (arp : Option FrameWindow)
     → arp_view (units_at frame link xs arp) ≡ packet_at arp
@@ -101,9 +87,7 @@ start_of_unit u = arp_start u.kind u.offset
 
 link_starts : (frame : List ℕ) (link : LinkKind) → filter_map start_of_unit (link_units frame link) ≡ []
 link_starts frame places.Missing = refl
-link_starts frame places.Ethernet2 = refl
-link_starts frame places.Ethernet2Fcs = refl
-link_starts frame places.LinuxSll = refl
+link_starts frame link = refl
 
 ext_starts : (kind : ExtKind) (at : ℕ) → arp_start (ext_kind kind) at ≡ None
 ext_starts tags.Vlan at = refl
@@ -125,9 +109,7 @@ only_start (Some p) = refl
 
 pub arp_offset_at : (frame : List ℕ) (link : LinkKind) (xs : List ExtPlace) (arp : Option FrameWindow)
     → arp_offset (units_at frame link xs arp) ≡ start_at arp
-arp_offset_at frame link xs arp =
-    ap (λ l. slice_get l 0) (found_last start_of_unit frame link xs arp (link_starts frame link) (exts_start xs))
-    ∙ only_start arp
+arp_offset_at frame link xs arp = search (rules, found_last, link_starts, exts_start, only_start)
 
 pub no_packet : (arp : Option FrameWindow) → packet_at arp ≡ None → arp ≡ None
 no_packet None e = refl
@@ -163,18 +145,7 @@ pub with_link : (frame : List ℕ) (old new : LinkKind) (xs : List ExtPlace) (ar
     → units_at frame old xs arp ≡ [] → p.start ≡ 0 → p.bytes.now ≡ frame
     → link_units frame new ≡ link_unit frame kind ∷ []
     → units_at frame new xs arp ≡ units_at frame old xs arp ++ unit_at kind p ∷ []
-with_link frame old new xs arp kind p none start whole is =
-    let parts = nothing frame old xs arp none in
-    (λ i. units_at frame new (parts.1 i) (parts.2 i)) ∙ append-nil (link_units frame new ++ [])
-    ∙ append-nil (link_units frame new) ∙ is
-    ∙ ap (λ (u : PacketUnit). u ∷ []) (sym (first_is frame kind p start whole))
-    ∙ ap (λ (l : List PacketUnit). l ++ unit_at kind p ∷ []) (sym none)
-
-pub frame_unit : (frame : List ℕ) (b : Bool) (e : Ethernet2Value)
-    → link_units frame (frame_link b)
-    ≡ link_unit frame (kind_of (if b then headers.Ethernet2Fcs e else headers.Ethernet2 e)) ∷ []
-frame_unit frame true e = refl
-frame_unit frame false e = refl
+with_link frame old new xs arp kind p none start whole is = search rules
 
 pub readable_whole : (frame : List ℕ) (kind : Kind) (p : FrameWindow) → p.bytes.now ≡ frame → IsReadable kind p
     → Reads frame kind
@@ -189,21 +160,12 @@ readable_frame frame false e r = r
 -- an extension after the others
 pub with_ext : (frame : List ℕ) (link : LinkKind) (xs : List ExtPlace) (arp : Option FrameWindow) (x : ExtPlace)
     → arp ≡ None → units_at frame link (xs ++ x ∷ []) arp ≡ units_at frame link xs arp ++ ext_unit x ∷ []
-with_ext frame link xs arp x none =
-    let l = link_units frame link in
-    let m = map ext_unit xs in
-    let u = ext_unit x in
-    ap (units_at frame link (xs ++ x ∷ [])) none ∙ append-nil _
-    ∙ ap (λ (k : List PacketUnit). l ++ k) (map-append ext_unit xs (x ∷ [])) ∙ sym (append_assoc l m (u ∷ []))
-    ∙ ap (λ (k : List PacketUnit). k ++ u ∷ []) (sym (ap (units_at frame link xs) none ∙ append-nil (l ++ m)))
+with_ext frame link xs arp x none = search (rules, append-nil, map-append, append_assoc)
 
 -- an ARP packet after all
 pub with_arp : (frame : List ℕ) (link : LinkKind) (xs : List ExtPlace) (arp : Option FrameWindow) (p : FrameWindow)
     → arp ≡ None → units_at frame link xs (Some p) ≡ units_at frame link xs arp ++ unit_at kinds.Arp p ∷ []
-with_arp frame link xs arp p none =
-    let u = unit_at kinds.Arp p in
-    ap (λ (k : List PacketUnit). k ++ u ∷ [])
-    (sym (ap (units_at frame link xs) none ∙ append-nil (link_units frame link ++ map ext_unit xs)))
+with_arp frame link xs arp p none = search rules
 
 pub all_with : {X : Type 0} (P : X → Type 0) (xs : List X) (x : X) → All P xs → P x → All P (xs ++ x ∷ [])
 all_with P xs x all p =
@@ -216,11 +178,7 @@ all_with P xs x all p =
 
 -- there is none past the end alone
 pub missing_past : {X : Type 0} (xs : List X) (i : ℕ) → slice_get xs i ≡ None → length xs ≤ i
-missing_past xs i none =
-    elim ((slice_get_cases xs i).1) [
-      | inl w ↦ absurd (let both : None ≡ Some w.0 = sym none ∙ w.2 in cc)
-      | inr w ↦ w.0
-    ]
+missing_past xs i none = search (rules, slice_get_cases)
 
 pub all_get : {X : Type 0} (P : X → Type 0) (xs : List X) (i : ℕ) (x : X) → All P xs → slice_get xs i ≡ Some x → P x
 all_get P xs i x all e =
@@ -230,16 +188,8 @@ pub ext_got : (frame : List ℕ) (link : LinkKind) (xs : List ExtPlace) (arp : O
     (ext : PacketExt)
     → slice_get xs i ≡ Some x → ViewsExt (ext_unit x) ext
     → ViewsExtIf (slice_get (exts_of (units_at frame link xs arp)) i) (Some ext)
-ext_got frame link xs arp i x ext got views =
-    let e : slice_get (exts_of (units_at frame link xs arp)) i ≡ Some (ext_unit x) =
-    ap (λ (l : List PacketUnit). slice_get l i) (exts_at frame link xs arp) ∙ slice_get-map ext_unit xs i
-    ∙ ap (option_map ext_unit) got in
-    subst (λ (o : Option PacketUnit). ViewsExtIf o (Some ext)) (sym e) views
+ext_got frame link xs arp i x ext got views = search (rules, exts_at, slice_get-map)
 
 pub ext_missing : (frame : List ℕ) (link : LinkKind) (xs : List ExtPlace) (arp : Option FrameWindow) (i : ℕ)
     → slice_get xs i ≡ None → ViewsExtIf (slice_get (exts_of (units_at frame link xs arp)) i) None
-ext_missing frame link xs arp i none =
-    let e : slice_get (exts_of (units_at frame link xs arp)) i ≡ None =
-    ap (λ (l : List PacketUnit). slice_get l i) (exts_at frame link xs arp) ∙ slice_get-map ext_unit xs i
-    ∙ ap (option_map ext_unit) none in
-    subst (λ (o : Option PacketUnit). ViewsExtIf o None) (sym e) refl
+ext_missing frame link xs arp i none = search (rules, exts_at, slice_get-map)

@@ -1,5 +1,5 @@
 -- A VLAN tag that is taken off in place: the walk of the frame after it.
-use Rattle.std.proofs.Common.{◌≡◌, ℕ, ◌+◌, ◌-◌, ◌*◌, ◌^◌, ◌<◌, ◌≤◌, List, [], ◌∷◌, ◌++◌, length, take, drop, refl, sym, ap, subst, ◌∙◌, arith, append_assoc, Bool, true, false}
+use Rattle.std.proofs.Common.{◌≡◌, ℕ, ◌+◌, ◌-◌, ◌*◌, ◌^◌, ◌<◌, ◌≤◌, List, [], ◌∷◌, ◌++◌, length, take, drop, refl, sym, ap, subst, ◌∙◌, arith, Bool, true, false, rules}
 use Rattle.std.specs.Prelude.{slice_range, None}
 use Rattle.std.proofs.lemmas.List.{drop_at, drop-drop, length-drop, length-take-le}
 use Rattle.std.proofs.lemmas.Slice.{between_from_start}
@@ -7,7 +7,7 @@ use Rattle.etherparse.specs.Types.LenSource.TheVariants as sources
 use Rattle.etherparse.specs.Bytes.{IsBytes, number, overwritten}
 use Rattle.etherparse.specs.Vlan.{VlanValue, IsVlan, is_vlan_ether_type}
 use Rattle.etherparse.specs.Kind as kinds
-use Rattle.etherparse.specs.Header.{Header, kind_of, header_len, trailer_len}
+use Rattle.etherparse.specs.Header.{Header, kind_of, header_len}
 use Rattle.etherparse.specs.Header as headers
 use Rattle.etherparse.proofs.SubLists.{length-part, number-part_below, number-part_join, part-append, part_of_front}
 use Rattle.etherparse.specs.Refusal as rows
@@ -25,7 +25,7 @@ use Rattle.ether_packet.specs.declared.typed_link.TypedLink.{TypedLink}
 use Rattle.ether_packet.specs.ReplacingLink.{is_link}
 use Rattle.ether_packet.specs.TypedLink.{type_of_link, with_type, BeginsTyped, link_len, IsTypedLink}
 use Rattle.ether_packet.specs.Popping.{IsPopped, IsTagged, RefusesPop, no_vlan, cut_vlan}
-use Rattle.ether_packet.proofs.TypedLinks.{retyped_unit, moved_rest, announces_kept, announced_vlan, link_payload, stack_after, unit_there, no_unit_there}
+use Rattle.ether_packet.proofs.TypedLinks.{retyped_unit, moved_rest, announces_kept, announced_vlan, link_payload, unit_there, no_unit_there}
 use Rattle.ether_packet.proofs.VlanIds.{own_bytes}
 
 -- ---- the bytes
@@ -33,12 +33,7 @@ use Rattle.ether_packet.proofs.VlanIds.{own_bytes}
 -- the list without four bytes after its first m
 pub popped_list : (old : List ℕ) (m : ℕ) → m + 4 ≤ length old
     → drop 4 (overwritten old 4 (take m old)) ≡ take m old ++ drop (m + 4) old
-popped_list old m le =
-    let len : length (take m old) ≡ m = length-take-le m old (omega arith) in
-    let sum : 4 + length (take m old) ≡ m + 4 = omega arith in
-    ap (drop 4) (append_assoc (take 4 old) (take m old) (drop (4 + length (take m old)) old))
-    ∙ drop_at (take 4 old) (take m old ++ drop (4 + length (take m old)) old) 4 (length-take-le 4 old (omega arith))
-    ∙ ap (λ (n : ℕ). take m old ++ drop n old) sum
+popped_list old m le = search rules
 
 pub front_kept : (old more : List ℕ) (m : ℕ) → m ≤ length old
     → slice_range (take m old ++ more) 0 m ≡ slice_range old 0 m
@@ -166,19 +161,13 @@ popped_walk start old new (headers.LinuxSll l) tag later e ok link typed front r
           (moved_ending 20 16 e))
           (sym (announces_kept h tag.ether_type link typed)) moved,
     )
-popped_walk start old new (headers.Vlan v) tag later e ok link typed front rest s = absurd cc
-popped_walk start old new (headers.Macsec v) tag later e ok link typed front rest s = absurd cc
-popped_walk start old new (headers.Arp v) tag later e ok link typed front rest s = absurd cc
+popped_walk start old new h tag later e ok link typed front rest s = absurd cc
 
 -- ---- how the tag is found
 
 pub vlan_header : (h : Header) → kind_of h ≡ kinds.Vlan → (v : VlanValue) × (h ≡ headers.Vlan v)
-vlan_header (headers.Ethernet2 e) is = absurd cc
-vlan_header (headers.Ethernet2Fcs e) is = absurd cc
-vlan_header (headers.LinuxSll s) is = absurd cc
 vlan_header (headers.Vlan v) is = (v, refl)
-vlan_header (headers.Macsec m) is = absurd cc
-vlan_header (headers.Arp a) is = absurd cc
+vlan_header h is = absurd cc
 
 announces_tag : (start : Start) (list : List ℕ) (hs : List Header) (l : TypedLink) (b : Bool)
     (t : IsTypedLink start list hs l)
@@ -192,19 +181,14 @@ no_tag start list hs l t other = no_vlan t.link t.later t.begins (announces_tag 
 -- the length of the payload
 payload_len : (start : Start) (list : List ℕ) (hs : List Header) (l : TypedLink) (t : IsTypedLink start list hs l)
     → length (within list (link_payload (start_of start) list t.link)) ≡ l.payload_len
-payload_len start list hs l t =
-    let a = t.len in
-    let b = t.payload in
-    length-part list (header_len t.link) (length list - trailer_len t.link) (omega arith) ∙ omega arith
+payload_len start list hs l t = search rules
 
 after_link : (start : Start) (list : List ℕ) (hs : List Header) (e : Ending) (l : TypedLink)
     (t : IsTypedLink start list hs l)
     → Walk (start_of start) list hs e
     → Stack list (record { next = EtherType (type_of_link t.link); limit = None })
     (link_payload (start_of start) list t.link) t.later e
-after_link start list hs e l t walk =
-    stack_after start list t.link t.later e t.begins.is_link t.begins.typed
-    (subst (λ (k : List Header). Walk (start_of start) list k e) t.begins.parts walk).1
+after_link start list hs e l t walk = search rules
 
 pub cut_tag : (start : Start) (list : List ℕ) (hs : List Header) (e : Ending) (l : TypedLink)
     → IsTypedLink start list hs l → is_vlan_ether_type l.ether_type.0 ≡ true → l.payload_len < 4
@@ -231,14 +215,7 @@ is_tagged start list hs e l t announces le walk =
     (announced_vlan (type_of_link t.link) is)
     (accepts_vlan sources.Slice (within list w) (omega (arith, len, le)))
     (after_link start list hs e l t walk) in
-    let tag = vlan_header u.header u.of_kind in
-    record {
-      link = t.link;
-      tag = tag.0;
-      later = u.later;
-      begins = subst (BeginsTyped hs t.link) (u.parts ∙ ap (λ (h : Header). h ∷ u.later) tag.1) t.begins;
-      place = t.len;
-    }
+    search rules
 
 -- ---- what the call returns
 
@@ -251,10 +228,8 @@ pub is_popped : (start : Start) (old new : List ℕ) (hs : List Header) (e : End
     → IsPopped (start_of start) old hs e u new
 is_popped start old new hs e at m u ok t place room bytes spells walk =
     let x = start_of start in
-    let is = t.place in
     let split = subst (λ (l : List Header). Walk x old l e) t.begins.parts walk in
-    let own : IsVlan (slice_range old (0 + header_len t.link) (0 + header_len t.link + 4)) t.tag =
-    own_bytes old x (whole x old) (t.link ∷ []) (headers.Vlan t.tag) t.later e (whole_in x old) split in
+    let own = own_bytes old x (whole x old) (t.link ∷ []) (headers.Vlan t.tag) t.later e (whole_in x old) split in
     let from : 0 + header_len t.link ≡ m + 2 = omega arith in
     let till : 0 + header_len t.link + 4 ≡ m + 6 = omega arith in
     let there : IsVlan (slice_range old (m + 2) (m + 6)) t.tag =
@@ -263,10 +238,8 @@ is_popped start old new hs e at m u ok t place room bytes spells walk =
     let front_len : m ≡ header_len t.link - 2 = omega arith in
     let back_len : m + 4 ≡ header_len t.link + 2 = omega arith in
     let list : drop 4 new ≡ take m old ++ drop (m + 4) old = ap (drop 4) bytes ∙ popped_list old m (omega arith) in
-    let front : slice_range (drop 4 new) 0 m ≡ slice_range old 0 m =
-    ap (λ (l : List ℕ). slice_range l 0 m) list ∙ front_kept old (drop (m + 4) old) m (omega arith) in
-    let rest : drop m (drop 4 new) ≡ drop (m + 4) old =
-    ap (drop m) list ∙ rest_kept old (drop (m + 4) old) m (omega arith) in
+    let front = ap (λ (l : List ℕ). slice_range l 0 m) list ∙ front_kept old (drop (m + 4) old) m (omega arith) in
+    let rest = ap (drop m) list ∙ rest_kept old (drop (m + 4) old) m (omega arith) in
     subst (λ (v : VlanValue). IsPopped x old hs e v new) same (record {
       link = t.link;
       later = t.later;

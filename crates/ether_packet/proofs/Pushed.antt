@@ -1,5 +1,5 @@
 -- A VLAN tag that is put in in place: the walk of the frame with it.
-use Rattle.std.proofs.Common.{◌≡◌, ℕ, ◌+◌, ◌-◌, ◌*◌, ◌^◌, ◌<◌, ◌≤◌, List, [], ◌∷◌, ◌++◌, length, take, drop, get_or, refl, sym, ap, subst, ◌∙◌, arith, append_assoc, Bool, true, false}
+use Rattle.std.proofs.Common.{◌≡◌, ℕ, ◌+◌, ◌-◌, ◌*◌, ◌^◌, ◌<◌, ◌≤◌, List, [], ◌∷◌, ◌++◌, length, take, drop, get_or, refl, sym, ap, subst, ◌∙◌, arith, append_assoc, Bool, true, false, rules}
 use Rattle.std.specs.Prelude.{slice_range, None, ◌==◌, ◌||◌}
 use Rattle.std.proofs.lemmas.List.{drop_at, drop-drop, take_all, take_at, length-append, length-drop, length-take-le}
 use Rattle.std.proofs.lemmas.Bool.{eqb-true}
@@ -60,8 +60,7 @@ is_inserted buffer new p c m two two_more le bytes =
     let all : length (a ++ (p ++ c)) ≡ m + 4 =
     length-append a (p ++ c) ∙ (λ i. len i + length-append p c i) ∙ (λ i. m + (two i + two_more i)) in
     let from : 0 + length (a ++ (p ++ c)) ≡ 4 + m = omega (arith, all) in
-    let tail : drop (0 + length (a ++ (p ++ c))) buffer ≡ drop m old =
-    ap (λ (k : ℕ). drop k buffer) from ∙ sym (drop-drop m 4 buffer) in
+    let tail = ap (λ (k : ℕ). drop k buffer) from ∙ sym (drop-drop m 4 buffer) in
     let is : new ≡ a ++ (p ++ c) ++ drop m old =
     bytes ∙ (λ i. overwritten buffer 0 (take (less i) old ++ (p ++ c))) ∙ (λ i. a ++ (p ++ c) ++ tail i) in
     let by_tpid : new ≡ a ++ p ++ (c ++ drop m old) =
@@ -69,18 +68,7 @@ is_inserted buffer new p c m two two_more le bytes =
     let by_control : new ≡ a ++ p ++ c ++ drop m old = is ∙ (λ i. sym (append_assoc a p c) i ++ drop m old) in
     let begun : length (a ++ p) ≡ m + 2 = length-append a p ∙ (λ i. len i + two i) in
     let till : length (a ++ p ++ c) ≡ m + 4 = length-append (a ++ p) c ∙ (λ i. begun i + two_more i) ∙ omega arith in
-    record {
-      front =
-          ap (λ (l : List ℕ). slice_range l 0 m) (is ∙ append_assoc a (p ++ c) (drop m old))
-          ∙ front_kept old (p ++ c ++ drop m old) m (omega arith);
-      tpid =
-          ap (λ (l : List ℕ). slice_range l m (m + 2)) by_tpid
-          ∙ part_after_front a p (c ++ drop m old) m (m + 2) len (omega arith);
-      control =
-          ap (λ (l : List ℕ). slice_range l (m + 2) (m + 4)) by_control
-          ∙ part_after_front (a ++ p) c (drop m old) (m + 2) (m + 4) begun (omega arith);
-      rest = ap (drop (m + 4)) by_control ∙ drop_at (a ++ p ++ c) (drop m old) (m + 4) till;
-    }
+    search (rules, append_assoc, front_kept, part_after_front, drop_at)
 
 -- ---- the tag
 
@@ -116,8 +104,7 @@ pushed_rest old new m tag tpid t ok le fits lt type is =
     let next : slice_range new (m + 4) (m + 6) ≡ slice_range old m (m + 2) =
     λ i. take ((last_two ∙ sym two) i) (is.rest i) in
     let low : number (slice_range new (m + 4) (m + 6)) ≡ t = ap number next ∙ type in
-    let high : number (slice_range new (m + 2) (m + 4)) ≡ tag.pcp * 2 ^ 13 + tag.dei * 2 ^ 12 + tag.vid =
-    ap number is.control ∙ control_number tag fits in
+    let high = ap number is.control ∙ control_number tag fits in
     let len : length new ≡ length old + 4 = omega arith in
     let join : number (slice_range new (m + 2) (m + 6))
     ≡ number (slice_range new (m + 2) (m + 4)) * 65536 + number (slice_range new (m + 4) (m + 6)) =
@@ -145,12 +132,7 @@ tag_unit : (list : List ℕ) (w : Window) (tpid : ℕ) (tag : VlanValue) → is_
 tag_unit list w tpid tag announces le inside spells =
     let len = length-part list w.start w.finish inside in
     let whole : 4 ≤ length (within list w) = omega arith in
-    record {
-      announced = announced_vlan tpid announces;
-      accepted = accepts_vlan w.bound (within list w) whole;
-      means =
-          record { whole = whole; spells = subst (λ (l : List ℕ). IsVlan l tag) (sym (front_is list w 4 le)) spells };
-    }
+    search (rules, announced_vlan, accepts_vlan, front_is)
 
 -- ---- the walk
 
@@ -230,9 +212,7 @@ pushed_walk start old new (headers.LinuxSll l) tag tpid later e ok link typed fi
             (omega arith) old_rest,
       ),
     )
-pushed_walk start old new (headers.Vlan v) tag tpid later e ok link typed fits lt announces is s = absurd cc
-pushed_walk start old new (headers.Macsec v) tag tpid later e ok link typed fits lt announces is s = absurd cc
-pushed_walk start old new (headers.Arp v) tag tpid later e ok link typed fits lt announces is s = absurd cc
+pushed_walk start old new h tag tpid later e ok link typed fits lt announces is s = absurd cc
 
 -- ---- what the call leaves
 

@@ -1,5 +1,5 @@
 -- To put a tag in and to take it off undo each other.
-use Rattle.std.proofs.Common.{◌≡◌, ℕ, ◌+◌, ◌-◌, ◌≤◌, List, [], ◌∷◌, ◌++◌, length, take, drop, sym, ap, subst, ◌∙◌, arith, append_assoc}
+use Rattle.std.proofs.Common.{◌≡◌, ℕ, ◌+◌, ◌-◌, ◌≤◌, List, [], ◌∷◌, ◌++◌, length, take, drop, sym, ap, subst, ◌∙◌, arith, append_assoc, rules}
 use Rattle.std.specs.Prelude.{slice_range}
 use Rattle.std.proofs.lemmas.List.{drop-drop, length-append, length-drop, length-take-le, take-append-drop}
 use Rattle.std.proofs.lemmas.Slice.{between_from_start}
@@ -67,8 +67,7 @@ popped_after_pushed start old between new hs ks e f tag popped tpid walk pushed 
     first_two p.link (headers.Vlan popped) (with_type pushed.link tpid)
     (headers.Vlan (record tag { ether_type = type_of_link pushed.link })) p.later pushed.later
     (sym p.begins.parts ∙ one) in
-    let len : header_len p.link ≡ header_len pushed.link =
-    ap header_len same.0 ∙ len_kept pushed.link tpid pushed.begins.is_link in
+    let len = ap header_len same.0 ∙ len_kept pushed.link tpid pushed.begins.is_link in
     let m = header_len pushed.link - 2 in
     let m_is : header_len p.link - 2 ≡ m = omega arith in
     let is = inserted start old between hs e tag tpid walk pushed in
@@ -97,12 +96,7 @@ joined list m =
 
 pieces_len : (list : List ℕ) (m : ℕ) → m + 4 ≤ length list
     → length (take m list ++ (slice_range list m (m + 2) ++ slice_range list (m + 2) (m + 4))) ≡ m + 4
-pieces_len list m le =
-    let join = part_join list m (m + 2) (m + 4) (omega arith) (omega arith) in
-    let a = length-take-le m list (omega arith) in
-    let b = length-part list m (m + 4) le in
-    length-append (take m list) (slice_range list m (m + 2) ++ slice_range list (m + 2) (m + 4))
-    ∙ (λ i. a i + length (join i)) ∙ ap (λ (k : ℕ). m + k) b ∙ omega arith
+pieces_len list m le = search (rules, part_join, length-take-le, length-part, length-append)
 
 pub pushed_after_popped : PushedAfterPopped
 pushed_after_popped start old between new hs ks e f tag ok walk p found pushed =
@@ -112,16 +106,14 @@ pushed_after_popped start old between new hs ks e f tag ok walk p found pushed =
     found p.walk).0 in
     let same =
     first_one pushed.link (with_type p.link tag.ether_type) pushed.later p.later (sym pushed.begins.parts ∙ one) in
-    let len : header_len pushed.link ≡ header_len p.link =
-    ap header_len same ∙ len_kept p.link tag.ether_type p.begins.is_link in
+    let len = ap header_len same ∙ len_kept p.link tag.ether_type p.begins.is_link in
     let n = header_len p.link in
     let m = n - 2 in
     let least = link_least p.link p.begins.is_link in
     let tpid = type_of_link p.link in
     let split = subst (λ (l : List Header). Walk x old l e) p.begins.parts walk in
     let room = header_inside x old (p.link ∷ []) (headers.Vlan tag) p.later e split in
-    let list : drop 4 between ≡ take m old ++ drop (m + 4) old =
-    ap (drop 4) p.bytes ∙ popped_list old m (omega arith) in
+    let list = ap (drop 4) p.bytes ∙ popped_list old m (omega arith) in
     let till : header_len pushed.link + 2 ≡ m + 4 = omega arith in
     let less : m + 4 - 4 ≡ m = omega arith in
     let four_more : 4 + m ≡ m + 4 = omega arith in
@@ -152,8 +144,7 @@ pushed_after_popped start old between new hs ks e f tag ok walk p found pushed =
     let piece : slice_range between 4 (header_len pushed.link + 2) ++ pushed_bytes tpid tag
     ≡ take m old ++ (slice_range old m (m + 2) ++ slice_range old (m + 2) (m + 4)) =
     ap (λ (k : ℕ). slice_range between 4 k ++ pushed_bytes tpid tag) till ∙ (λ i. front i ++ (type i ++ control i)) in
-    let piece_len : length (slice_range between 4 (header_len pushed.link + 2) ++ pushed_bytes tpid tag) ≡ m + 4 =
-    ap length piece ∙ pieces_len old m (omega arith) in
+    let piece_len = ap length piece ∙ pieces_len old m (omega arith) in
     let end : 0 + length (slice_range between 4 (header_len pushed.link + 2) ++ pushed_bytes tpid tag) ≡ 4 + m =
     omega (arith, piece_len) in
     let tail : drop (0 + length (slice_range between 4 (header_len pushed.link + 2) ++ pushed_bytes tpid tag)) between

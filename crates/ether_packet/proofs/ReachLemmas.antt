@@ -1,15 +1,14 @@
 -- How far the headers of a walk reach, header by header.
-use Rattle.std.proofs.Common.{◌≡◌, ℕ, ◌+◌, ◌-◌, ◌≤◌, List, [], ◌∷◌, length, arith, false, refl, sym, ap, ◌∙◌}
+use Rattle.std.proofs.Common.{◌≡◌, ℕ, ◌+◌, ◌-◌, ◌≤◌, List, [], ◌∷◌, length, arith, false, refl, sym, ap, ◌∙◌, rules}
 use Rattle.std.specs.Prelude.{Option, Some, None, Ok, Err, max, is_some, unwrap_or, option_map, slice_range, if◌then◌else◌}
 use Rattle.etherparse.specs.Bytes.{IsBytes}
 use Rattle.etherparse.specs.Header.{Header, header_len, payload_len, trailer_len}
 use Rattle.etherparse.proofs.SubLists.{length-part}
 use Rattle.ether_peel.specs.Grammar.Window.{Window, payload}
 use Rattle.ether_peel.specs.Grammar.Cuts.{reach}
-use Rattle.ether_peel.specs.Grammar.Expectation.{Expectation}
-use Rattle.ether_peel.specs.Grammar.Stack.{Ending, Fault, Accepted, Walk}
+use Rattle.ether_peel.specs.Grammar.Stack.{Ending, Fault, Accepted}
 use Rattle.ether_peel.specs.Walker.State.{State}
-use Rattle.ether_peel.specs.Walker.Next.{Faces, FacesWalk, Gives}
+use Rattle.ether_peel.specs.Walker.Next.{Faces, Gives}
 use Rattle.ether_peel.specs.Walker.UnitHeader.{unit_header}
 use Rattle.ether_peel.specs.declared.peel_unit.PeelUnit.{PeelUnit}
 use Rattle.ether_peel.specs.declared.peel_fault.PeelFault.{PeelFault}
@@ -34,25 +33,14 @@ payload_named : (list : List ℕ) (start finish : ℕ) (o : Option ℕ) (rest : 
     → unwrap_or (option_map (λ n. start + n) o) finish ≤ length list
     → (if is_some o then length rest else 0) ≡ unwrap_or o 0
 payload_named list start finish None rest le is inside = refl
-payload_named list start finish (Some n) rest le is inside =
-    let len = length-part list start (start + n) inside in
-    ap length is ∙ len ∙ (omega arith)
+payload_named list start finish (Some n) rest le is inside = search (rules, length-part)
 
 -- where a unit ends, in the list
 ends_inside : (list : List ℕ) (w : Window) (t : State) (hs : List Header) (e : Ending) (o : Option ℕ)
     → Faces list w t hs e
     → t.offset + (if is_some o then length t.rest else 0) ≤ length list
-ends_inside list w t hs e None faces =
-    let at = faces.offset in
-    let a = faces.inside.ordered in
-    let b = faces.inside.inside in
-    omega arith
-ends_inside list w t hs e (Some n) faces =
-    let at = faces.offset in
-    let a = faces.inside.ordered in
-    let b = faces.inside.inside in
-    let len = ap length faces.rest ∙ length-part list w.start w.finish b in
-    omega arith
+ends_inside list w t hs e None faces = search rules
+ends_inside list w t hs e (Some n) faces = search (rules, length-part)
 
 unit_of : (list : List ℕ) (w : Window) (left : List Header) (s t : State) (e : Ending) (len all : ℕ) (u : PeelUnit)
     → IsBytes list → Faces list w s left e → s.over ≡ false → max len (reach s.offset left) ≡ all → len ≤ length list
@@ -70,14 +58,7 @@ unit_of list w (h ∷ hs) s t e len all u ok faces going rest le gives =
     let place : t.offset ≡ s.offset + header_len h = at.offset ∙ ap (λ n. n + header_len h) (sym faces.offset) in
     let later = ap (λ n. reach n hs) place in
     let inside = ends_inside list (payload w h) t hs e (payload_len (unit_header u)) at in
-    record {
-      window = payload w h;
-      left = hs;
-      faces = at;
-      going = n.3;
-      rest = rw (same, named) (omega arith);
-      inside = omega arith;
-    }
+    search rules
 
 none_of : (list : List ℕ) (w : Window) (left : List Header) (s t : State) (e : Ending) (len all : ℕ)
     → Faces list w s left e → s.over ≡ false → max len (reach s.offset left) ≡ all → Gives s None t → len ≡ all
@@ -104,16 +85,10 @@ reached_unit list s t e len all u ok r gives =
 -- nothing was given
 pub reached_none : (list : List ℕ) (s t : State) (e : Ending) (len all : ℕ) → Reached list s e len all
     → Gives s None t → len ≡ all
-reached_none list s t e len all r gives =
-    none_of list r.window r.left s t e len all r.faces r.going r.rest gives
+reached_none list s t e len all r gives = none_of list r.window r.left s t e len all r.faces r.going r.rest gives
 
 -- a fault was given
 pub reached_fault : (list : List ℕ) (s t : State) (e : Ending) (len all : ℕ) (fault : PeelFault)
     → Reached list s e len all → Gives s (Some (Err fault)) t → len ≡ all
 reached_fault list s t e len all fault r gives =
     fault_of list r.window r.left s t e len all fault r.faces r.going r.rest gives
-
--- so far any walk reaches in the list
-pub reached_inside : (x : Expectation) (list : List ℕ) (s begun : State) (len : ℕ) → FacesWalk x list begun
-    → ((hs : List Header) (e : Ending) → Walk x list hs e → Reached list s e len (reach 0 hs)) → len ≤ length list
-reached_inside x list s begun len w reached = (reached w.headers w.ending w.walk).inside

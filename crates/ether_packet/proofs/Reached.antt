@@ -1,5 +1,5 @@
 -- The header before which a walk stands, by how many extensions it has passed.
-use Rattle.std.proofs.Common.{◌≡◌, ℕ, ◌+◌, ◌≤◌, List, [], ◌∷◌, ◌++◌, length, arith, append_assoc, append-nil, false, true, refl, sym, ap, subst, ◌∙◌}
+use Rattle.std.proofs.Common.{◌≡◌, ℕ, ◌+◌, ◌≤◌, List, [], ◌∷◌, ◌++◌, length, arith, append_assoc, append-nil, false, true, refl, sym, ap, subst, ◌∙◌, rules}
 use Rattle.std.specs.Prelude.{Some, None, Ok, Err}
 use Rattle.etherparse.specs.LinkExt.{ext_header_view}
 use Rattle.etherparse.specs.Types.LinkExtHeader.{LinkExtHeader}
@@ -69,16 +69,7 @@ pub is_given : (list : List ℕ) (w : Window) (left : List Header) (e : Ending) 
 is_given list w left e s t u ok faces going gives =
     let n = is_next list w left e s t u ok faces (gives.next going list w left e faces) in
     let h = n.given.header in
-    let same : h ≡ unit_header u = sym n.value in
-    record {
-      later = n.given.later;
-      parts = n.given.parts ∙ ap (λ (k : Header). k ∷ n.given.later) same;
-      faces = subst (λ (k : Header). Faces list (payload w k) t n.given.later e) same n.given.faces;
-      going = n.given.going;
-      room =
-          subst (λ (k : Header). header_len k ≤ length s.rest) same
-          (subst (λ (l : List ℕ). header_len h ≤ length l) (sym faces.rest) n.unit.means.whole);
-    }
+    search rules
 
 -- one header more
 abbrev pub reached_unit : (list : List ℕ) (s t : State) (hs : List Header) (e : Ending) (i : ℕ) (u : PeelUnit)
@@ -110,14 +101,7 @@ pub reached_ext : (list : List ℕ) (s t : State) (hs : List Header) (e : Ending
     → is_extension (kind_of h) ≡ true → IsReached hs i p.done h
 reached_ext list s t hs e i u h ok p gives is extension =
     let n = is_given list p.window p.left e s t u ok p.faces p.going gives in
-    record {
-      later = n.later;
-      found = record {
-        parts = p.parts ∙ ap (λ (l : List Header). p.done ++ l) (n.parts ∙ ap (λ (k : Header). k ∷ n.later) is);
-        extension = extension;
-        before = p.count;
-      };
-    }
+    search rules
 
 pub is_ext_header : (x : LinkExtHeader) → is_extension (kind_of (ext_header_view x)) ≡ true
 is_ext_header (values.Vlan h) = refl
@@ -137,11 +121,7 @@ placed_ext list s t hs e i u f ok p gives is at =
 -- .. lies in the list
 pub ext_room : (start : Expectation) (list : List ℕ) (hs : List Header) (e : Ending) (i : ℕ) (f : PlacedExt)
     → Walk start list hs e → IsPlacedExt hs i f → f.at + header_len (ext_header_view f.header) ≤ length list
-ext_room start list hs e i f walk p =
-    let split = subst (λ (l : List Header). Walk start list l e) p.found.parts walk in
-    let inside = header_inside start list p.front (ext_header_view f.header) p.later e split in
-    let begins = p.begins in
-    omega (arith, inside, begins)
+ext_room start list hs e i f walk p = search (rules, header_inside)
 
 -- the walk ends
 pub left_none : (list : List ℕ) (w : Window) (left : List Header) (s t : State) (e : Ending)
@@ -193,12 +173,4 @@ ext_least at (h ∷ hs) =
 pub index_inside : (x : Expectation) (list : List ℕ) (s t begun : State) (i : ℕ) (u : PeelUnit) → IsBytes list
     → FacesWalk x list begun → ((hs : List Header) (e : Ending) → Walk x list hs e → Reached list s hs e i)
     → Gives s (Some (Ok u)) t → i + ext_count (unit_header u ∷ []) ≤ s.offset + length s.rest
-index_inside x list s t begun i u ok w passed gives =
-    let p = passed w.headers w.ending w.walk in
-    let n = is_given list p.window p.left w.ending s t u ok p.faces p.going gives in
-    let before = ext_least 0 p.done in
-    let one = ext_least 0 (unit_header u ∷ []) in
-    let at = p.faces.offset ∙ p.begins in
-    let count = p.count in
-    let room = n.room in
-    omega (arith, before, one, at, count, room)
+index_inside x list s t begun i u ok w passed gives = search (rules, ext_least)

@@ -1,8 +1,8 @@
 -- How far the headers of a packet reach, extension by extension.
-use Rattle.std.proofs.Common.{◌≡◌, ℕ, suc, ◌+◌, ◌*◌, ◌<◌, ◌≤◌, List, [], ◌∷◌, ◌++◌, length, take, sym, ap, ◌∙◌, arith, append_assoc}
+use Rattle.std.proofs.Common.{◌≡◌, ℕ, suc, ◌+◌, ◌*◌, ◌<◌, ◌≤◌, List, [], ◌∷◌, ◌++◌, length, take, sym, ap, ◌∙◌, arith, append_assoc, rules}
 use Rattle.std.specs.Prelude.{map, max, slice_get, Some, None, unwrap_or}
 use Rattle.std.proofs.Math.Seq.{take-suc}
-use Rattle.std.proofs.lemmas.List.{append-nil, map-append, take_all}
+use Rattle.std.proofs.lemmas.List.{append-nil, map-append}
 use Rattle.std.proofs.lemmas.Option.{slice_get_within, get_or_from_slice_get}
 use Rattle.etherparse.specs.Arp.{ArpValue, arp_front_in, arp_len, arp_of}
 use Rattle.etherparse.specs.Kind as kinds
@@ -53,19 +53,6 @@ pub record Reaches (link : LinkKind) (xs : List ExtPlace) (n at end : ℕ) : Typ
   pub near : at ≤ 16 + 16 * n
   pub most : end ≤ 80 + 16 * n
 
-pub reaches_first : (link : LinkKind) (xs : List ExtPlace) (at : ℕ)
-    → ((frame : List ℕ) → at ≡ place 0 (map header_of (link_units frame link)))
-    → ((frame : List ℕ) → at ≡ reach 0 (map header_of (link_units frame link)))
-    → at ≤ 16 → Reaches link xs 0 at at
-reaches_first link xs at ends reaches near =
-    let same = λ (frame : List ℕ). sym (append-nil (map header_of (link_units frame link))) in
-    record {
-      ends = λ frame. ends frame ∙ ap (place 0) (same frame);
-      reaches = λ frame. reaches frame ∙ ap (reach 0) (same frame);
-      near = omega arith;
-      most = omega arith;
-    }
-
 -- with one header more
 place_next : (hs ks : List Header) (h : Header) (at len : ℕ) → ks ≡ hs ++ h ∷ [] → at ≡ place 0 hs → len ≡ header_len h
     → at + len ≡ place 0 ks
@@ -99,28 +86,6 @@ reaches_next link xs i x h at end len named is value r len_is few named_is less 
       most = omega arith;
     }
 
-pub reaches_all : (frame : List ℕ) (link : LinkKind) (xs : List ExtPlace) (n at end : ℕ) → Reaches link xs n at end
-    → length xs ≤ n
-    → (at ≡ place 0 (headers_so_far frame link xs)) × (end ≡ reach 0 (headers_so_far frame link xs))
-reaches_all frame link xs n at end r past =
-    let all = ap (headers_so_far frame link) (take_all n xs past) in
-    (r.ends frame ∙ ap (place 0) all, r.reaches frame ∙ ap (reach 0) all)
-
--- without an ARP packet
-pub headers_before : (frame : List ℕ) (link : LinkKind) (xs : List ExtPlace)
-    → headers_at frame link xs None ≡ headers_so_far frame link xs
-headers_before frame link xs =
-    ap (map header_of) (append-nil (link_units frame link ++ map ext_unit xs))
-    ∙ map-append header_of (link_units frame link) (map ext_unit xs)
-
-pub reaches_before : (frame : List ℕ) (link : LinkKind) (xs : List ExtPlace) (n at end : ℕ) → Reaches link xs n at end
-    → length xs ≤ n
-    → (at ≡ place 0 (headers_at frame link xs None)) × (end ≡ reach 0 (headers_at frame link xs None))
-reaches_before frame link xs n at end r past =
-    let all = reaches_all frame link xs n at end r past in
-    let same = sym (headers_before frame link xs) in
-    (all.0 ∙ ap (place 0) same, all.1 ∙ ap (reach 0) same)
-
 pub packet_len : (bytes packet : List ℕ) → arp_of packet ≡ arp_of bytes → length packet ≡ arp_len (arp_front_in packet)
     → header_len (headers.Arp (arp_of bytes)) ≡ length packet
 packet_len bytes packet same len =
@@ -132,13 +97,4 @@ pub reach_with_arp : (frame : List ℕ) (link : LinkKind) (xs : List ExtPlace) (
     → header_len (header_of (unit_at kinds.Arp p)) ≡ n
     → reach 0 (headers_at frame link xs (Some p))
     ≡ max (reach 0 (headers_at frame link xs None)) (place 0 (headers_at frame link xs None) + n)
-reach_with_arp frame link xs p n own =
-    let first = headers_at frame link xs None in
-    let h = header_of (unit_at kinds.Arp p) in
-    let units = link_units frame link ++ map ext_unit xs in
-    let split : headers_at frame link xs (Some p) ≡ first ++ h ∷ [] =
-    map-append header_of units (unit_at kinds.Arp p ∷ [])
-    ∙ ap (λ (l : List PacketUnit). map header_of l ++ h ∷ []) (sym (append-nil units)) in
-    ap (reach 0) split ∙ reach-append 0 first h
-    ∙ ap (λ (k : ℕ). max (reach 0 first) (place 0 first + k))
-    (let e : unit_len h ≡ header_len h = omega arith in e ∙ own)
+reach_with_arp frame link xs p n own = search (rules, map-append, append-nil, reach-append)

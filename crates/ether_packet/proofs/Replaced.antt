@@ -1,25 +1,24 @@
 -- A header of a walk that is replaced in place: the walk is the one before with the other header.
-use Rattle.std.proofs.Common.{◌≡◌, ℕ, ◌+◌, ◌-◌, ◌*◌, ◌≤◌, List, [], ◌∷◌, ◌++◌, length, take, drop, refl, sym, ap, subst, ◌∙◌, arith, Bool, true, false}
+use Rattle.std.proofs.Common.{◌≡◌, ℕ, ◌+◌, ◌-◌, ◌*◌, ◌≤◌, List, [], ◌∷◌, ◌++◌, length, take, drop, refl, sym, ap, subst, ◌∙◌, arith, Bool, true, false, rules}
 use Rattle.std.specs.Prelude.{slice_range, Option, Some, unwrap_or}
 use Rattle.std.proofs.lemmas.List.{append_assoc, drop_at, drop-drop, length-append, length-drop, length-take-le}
 use Rattle.std.proofs.lemmas.Slice.{between_from_start}
 use Rattle.etherparse.specs.Types.LenSource.{LenSource}
-use Rattle.etherparse.specs.Types.LenSource.TheVariants as sources
 use Rattle.etherparse.specs.Bytes.{overwritten}
 use Rattle.etherparse.specs.LinuxSll.{LinuxSllValue, is_supported}
-use Rattle.etherparse.specs.Macsec.{BeginsSecTag, encrypted_of, changed_of, sci_present_of, ether_type_len, known_len, sec_tag_front_of}
+use Rattle.etherparse.specs.Macsec.{BeginsSecTag, encrypted_of, changed_of, sci_present_of, sec_tag_front_of}
 use Rattle.etherparse.specs.Arp.{arp_front_of}
 use Rattle.etherparse.specs.Kind as kinds
 use Rattle.etherparse.specs.Header.{Header, kind_of, header_len, payload_len, trailer_len, header_bytes, FitsHeader, Means, Spells}
 use Rattle.etherparse.specs.Header as headers
-use Rattle.etherparse.specs.Refusal.{Refuses, Accepts}
+use Rattle.etherparse.specs.Refusal.{Accepts}
 use Rattle.etherparse.specs.Refusal as rows
 use Rattle.etherparse.proofs.SubLists.{length-part, part-append, part_after_front, part_of_front, part_of_part}
 use Rattle.etherparse.proofs.Rows.{at_least, accepts_ethernet2, accepts_ethernet2_fcs, accepts_linux_sll, accepts_vlan, accepts_macsec, accepts_arp, version_zero}
 use Rattle.etherparse.proofs.Means.{arp_begins, begins_whole, tag_begins, unit_fits}
 use Rattle.etherparse.proofs.ReadBack.{length-header_bytes, sec_tag_front_back, spells-header_bytes}
 use Rattle.ether_peel.specs.Grammar.Window.{Window, within, IsIn, payload}
-use Rattle.ether_peel.specs.Grammar.Expectation.{Expectation, next_after, after, after_capture, after_payload, has_fcs, is_extension, lowered}
+use Rattle.ether_peel.specs.Grammar.Expectation.{Expectation, after}
 use Rattle.ether_peel.specs.Grammar.Places.{place}
 use Rattle.ether_peel.specs.Grammar.Stack.{Ending, Accepted, Fault, IsUnit, Stack, whole, Walk}
 use Rattle.ether_peel.proofs.Grammar.Windows.{payload_from, payload_in}
@@ -47,18 +46,12 @@ part_before list bytes at i j le ij ja =
 -- the bytes
 pub part_at : (list bytes : List ℕ) (at : ℕ) → at + length bytes ≤ length list
     → slice_range (overwritten list at bytes) at (at + length bytes) ≡ bytes
-part_at list bytes at le =
-    part_after_front (take at list) bytes (drop (at + length bytes) list) at (at + length bytes)
-    (length-take-le at list (omega arith)) refl
+part_at list bytes at le = search (rules, part_after_front, length-take-le)
 
 -- what follows them
 rest_after : (list bytes : List ℕ) (at : ℕ) → at + length bytes ≤ length list
     → drop (at + length bytes) (overwritten list at bytes) ≡ drop (at + length bytes) list
-rest_after list bytes at le =
-    let end = at + length bytes in
-    let len : length (take at list ++ bytes) ≡ end =
-    length-append (take at list) bytes ∙ ap (λ (n : ℕ). n + length bytes) (length-take-le at list (omega arith)) in
-    drop_at (take at list ++ bytes) (drop end list) end len
+rest_after list bytes at le = search (rules, length-append, length-take-le, drop_at)
 
 pub part_after : (list bytes : List ℕ) (at i j : ℕ) → at + length bytes ≤ length list → at + length bytes ≤ i
     → slice_range (overwritten list at bytes) i j ≡ slice_range list i j
@@ -75,12 +68,10 @@ part_after list bytes at i j le past =
 -- ---- headers that say the same
 
 pub same_self : (h : Header) → Agree h h
-same_self (headers.Ethernet2 e) = refl
-same_self (headers.Ethernet2Fcs e) = refl
 same_self (headers.LinuxSll s) = (refl, refl)
-same_self (headers.Vlan v) = refl
 same_self (headers.Macsec t) = (refl, refl, refl)
 same_self (headers.Arp a) = (refl, refl)
+same_self h = refl
 
 -- two headers are of one kind and length, and name the same length of a payload or none
 abbrev pub LookAlike : Header → Header → Type 0
@@ -105,68 +96,32 @@ look_alike (headers.Macsec g) (headers.Macsec h) same = (ap encrypted_of same.0,
 look_alike (headers.Arp g) (headers.Arp h) same = same
 look_alike _ _ same = absurd same
 
+alike_shape : (g h : Header) → LookAlike g h
+    → (kind_of g ≡ kind_of h) × (header_len g ≡ header_len h) × (payload_len g ≡ payload_len h)
+    × (trailer_len g ≡ trailer_len h)
+alike_shape (headers.Ethernet2 g) (headers.Ethernet2 h) alike = (refl, refl, refl, refl)
+alike_shape (headers.Ethernet2Fcs g) (headers.Ethernet2Fcs h) alike = (refl, refl, refl, refl)
+alike_shape (headers.LinuxSll g) (headers.LinuxSll h) alike = (refl, refl, refl, refl)
+alike_shape (headers.Vlan g) (headers.Vlan h) alike = (refl, refl, refl, refl)
+alike_shape (headers.Macsec g) (headers.Macsec h) alike = search rules
+alike_shape (headers.Arp g) (headers.Arp h) alike = (refl, λ i. 8 + 2 * alike.0 i + 2 * alike.1 i, refl, refl)
+alike_shape _ _ alike = absurd alike
+
 pub alike_kind : (g h : Header) → LookAlike g h → kind_of g ≡ kind_of h
-alike_kind (headers.Ethernet2 g) (headers.Ethernet2 h) alike = refl
-alike_kind (headers.Ethernet2Fcs g) (headers.Ethernet2Fcs h) alike = refl
-alike_kind (headers.LinuxSll g) (headers.LinuxSll h) alike = refl
-alike_kind (headers.Vlan g) (headers.Vlan h) alike = refl
-alike_kind (headers.Macsec g) (headers.Macsec h) alike = refl
-alike_kind (headers.Arp g) (headers.Arp h) alike = refl
-alike_kind _ _ alike = absurd alike
+alike_kind g h alike = (alike_shape g h alike).0
 
 pub alike_len : (g h : Header) → LookAlike g h → header_len g ≡ header_len h
-alike_len (headers.Ethernet2 g) (headers.Ethernet2 h) alike = refl
-alike_len (headers.Ethernet2Fcs g) (headers.Ethernet2Fcs h) alike = refl
-alike_len (headers.LinuxSll g) (headers.LinuxSll h) alike = refl
-alike_len (headers.Vlan g) (headers.Vlan h) alike = refl
-alike_len (headers.Macsec g) (headers.Macsec h) alike = λ i. 6 + 8 * alike.3 i + ether_type_len (alike.0 i) (alike.1 i)
-alike_len (headers.Arp g) (headers.Arp h) alike = λ i. 8 + 2 * alike.0 i + 2 * alike.1 i
-alike_len _ _ alike = absurd alike
+alike_len g h alike = (alike_shape g h alike).1
 
 pub same_len : (g h : Header) → Agree g h → header_len g ≡ header_len h
 same_len g h same = alike_len g h (look_alike g h same)
 
-alike_payload_len : (g h : Header) → LookAlike g h → payload_len g ≡ payload_len h
-alike_payload_len (headers.Ethernet2 g) (headers.Ethernet2 h) alike = refl
-alike_payload_len (headers.Ethernet2Fcs g) (headers.Ethernet2Fcs h) alike = refl
-alike_payload_len (headers.LinuxSll g) (headers.LinuxSll h) alike = refl
-alike_payload_len (headers.Vlan g) (headers.Vlan h) alike = refl
-alike_payload_len (headers.Macsec g) (headers.Macsec h) alike =
-    λ i. known_len (ether_type_len (alike.0 i) (alike.1 i)) (alike.2 i)
-alike_payload_len (headers.Arp g) (headers.Arp h) alike = refl
-alike_payload_len _ _ alike = absurd alike
-
-alike_trailer : (g h : Header) → LookAlike g h → trailer_len g ≡ trailer_len h
-alike_trailer (headers.Ethernet2 g) (headers.Ethernet2 h) alike = refl
-alike_trailer (headers.Ethernet2Fcs g) (headers.Ethernet2Fcs h) alike = refl
-alike_trailer (headers.LinuxSll g) (headers.LinuxSll h) alike = refl
-alike_trailer (headers.Vlan g) (headers.Vlan h) alike = refl
-alike_trailer (headers.Macsec g) (headers.Macsec h) alike = refl
-alike_trailer (headers.Arp g) (headers.Arp h) alike = refl
-alike_trailer _ _ alike = absurd alike
-
 pub alike_payload : (w : Window) (g h : Header) → LookAlike g h → payload w g ≡ payload w h
 alike_payload w g h alike =
-    λ i. payload_from (w.start + alike_len g h alike i) (alike_trailer g h alike i) (alike_payload_len g h alike i) w
-
-same_next : (g h : Header) → Agree g h → next_after g ≡ next_after h
-same_next (headers.Ethernet2 g) (headers.Ethernet2 h) same =
-    λ i. next_after (headers.Ethernet2 (record g { ether_type = same i }))
-same_next (headers.Ethernet2Fcs g) (headers.Ethernet2Fcs h) same =
-    λ i. next_after (headers.Ethernet2Fcs (record g { ether_type = same i }))
-same_next (headers.LinuxSll g) (headers.LinuxSll h) same = λ i. after_capture (same.0 i) (same.1 i)
-same_next (headers.Vlan g) (headers.Vlan h) same = λ i. next_after (headers.Vlan (record g { ether_type = same i }))
-same_next (headers.Macsec g) (headers.Macsec h) same = ap after_payload same.0
-same_next (headers.Arp g) (headers.Arp h) same = refl
-same_next _ _ same = absurd same
+    let shape = alike_shape g h alike in λ i. payload_from (w.start + shape.1 i) (shape.3 i) (shape.2 i) w
 
 same_after : (x : Expectation) (g h : Header) → Agree g h → after x g ≡ after x h
-same_after x g h same =
-    λ i.
-    record {
-      next = same_next g h same i;
-      limit = lowered (is_extension (alike_kind g h (look_alike g h same) i)) x.limit;
-    }
+same_after x g h same = search rules
 
 -- ---- a header that is read again
 
@@ -210,7 +165,7 @@ accepts_alike bound old new (headers.Macsec g) (headers.Macsec h) ok m n len ali
     let six : 6 ≤ length old = omega arith in
     let version : a.0 ≡ 0 = version_zero bound old c six a.2 (ok _) in
     let fits = unit_fits bound old (headers.Macsec h) ok m in
-    let as_long = alike_len (headers.Macsec g) (headers.Macsec h) alike in
+    let as_long = (alike_shape (headers.Macsec g) (headers.Macsec h) alike).1 in
     accepts_macsec bound new (sec_tag_front_of 0 sound.0 g) (omega arith) sound.1 refl
     (λ s.
     ok _
@@ -223,7 +178,7 @@ accepts_alike bound old new (headers.Macsec g) (headers.Macsec h) ok m n len ali
     l
     (λ p e. let named =
     fits_named (payload_len (headers.Macsec h)) (header_len (headers.Macsec h)) p 0 (length old)
-    (sym (alike_payload_len (headers.Macsec g) (headers.Macsec h) alike) ∙ e) fits in omega
+    (sym (alike_shape (headers.Macsec g) (headers.Macsec h) alike).2 ∙ e) fits in omega
     (arith, as_long, named, len))
 accepts_alike bound old new (headers.Arp g) (headers.Arp h) ok m n len alike sound =
     let k = n.whole in accepts_arp bound new (arp_front_of g) (omega arith) (arp_begins new g n) k
@@ -232,29 +187,21 @@ accepts_alike bound old new _ _ ok m n len alike sound = absurd alike
 pub unit_alike : (old new : List ℕ) (x : Expectation) (w : Window) (g h : Header) → IsUnit old x w h
     → Means (within new w) g → length (within new w) ≡ length (within old w) → LookAlike g h → IsSound (within new w) g
     → IsUnit new x w g
-unit_alike old new x w g h u m len alike sound = record {
-  announced = u.announced ∙ ap Some (sym (alike_kind g h alike));
-  accepted = accepts_alike w.bound (within old w) (within new w) g h u.accepted u.means m len alike sound;
-  means = m;
-}
+unit_alike old new x w g h u m len alike sound = search (rules, alike_kind, accepts_alike)
 
 -- a header whose own bytes are the same
 pub sound_kept : (bound : LenSource) (old new : List ℕ) (h : Header) → Accepts bound old (kind_of h) → Means old h
     → slice_range new 0 (header_len h) ≡ slice_range old 0 (header_len h) → IsSound new h
-sound_kept bound old new (headers.Ethernet2 e) ok m part = tt
-sound_kept bound old new (headers.Ethernet2Fcs e) ok m part = tt
 sound_kept bound old new (headers.LinuxSll s) ok m part = packet_type_of bound old s ok m
-sound_kept bound old new (headers.Vlan v) ok m part = tt
 sound_kept bound old new (headers.Macsec t) ok m part =
     let n = header_len (headers.Macsec t) in
     let c = sec_tag_front_of m.spells.version m.spells.reserved t in
-    let k = m.whole in
     let version : m.spells.version ≡ 0 =
     version_zero bound old c (omega arith) (begins_whole old n c (omega arith) m.spells.front) (ok _) in
     let begins =
     begins_whole new n c (omega arith) (subst (λ (l : List ℕ). BeginsSecTag l c) (sym part) m.spells.front) in
     (m.spells.reserved, subst (λ (v : ℕ). BeginsSecTag new (sec_tag_front_of v m.spells.reserved t)) version begins)
-sound_kept bound old new (headers.Arp a) ok m part = tt
+sound_kept bound old new h ok m part = tt
 
 -- a header that a sender may write: of a cooked capture with a packet type that is supported
 abbrev pub IsSendable : Header → Type 0
@@ -263,17 +210,14 @@ IsSendable h = Unit {0}
 
 sound_written : (new : List ℕ) (g : Header) → FitsHeader g → IsSendable g
     → slice_range new 0 (header_len g) ≡ header_bytes g → IsSound new g
-sound_written new (headers.Ethernet2 e) fits sendable part = tt
-sound_written new (headers.Ethernet2Fcs e) fits sendable part = tt
 sound_written new (headers.LinuxSll s) fits sendable part = sendable
-sound_written new (headers.Vlan v) fits sendable part = tt
 sound_written new (headers.Macsec t) fits sendable part =
     let c = sec_tag_front_of 0 0 t in (
       0,
       begins_whole new (header_len (headers.Macsec t)) c (omega arith)
           (subst (λ (l : List ℕ). BeginsSecTag l c) (sym part) (sec_tag_front_back t fits)),
     )
-sound_written new (headers.Arp a) fits sendable part = tt
+sound_written new g fits sendable part = tt
 
 -- ---- stacks
 
@@ -282,23 +226,10 @@ pub later_stack : (list bytes : List ℕ) (at : ℕ) (x : Expectation) (w : Wind
     → at + length bytes ≤ length list → at + length bytes ≤ w.start → Stack list x w hs e
     → Stack (overwritten list at bytes) x w hs e
 later_stack list bytes at x w [] (Accepted v y) fits past s = s
-later_stack list bytes at x w [] (Fault v y r) fits past s = (
-  s.0,
-  s.1,
-  s.2,
-  s.3,
-  subst (λ (l : List ℕ). Refuses w.bound l s.2 r) (sym (part_after list bytes at w.start w.finish fits past)) s.4,
-)
+later_stack list bytes at x w [] (Fault v y r) fits past s = search (rules, part_after)
 later_stack list bytes at x w (h ∷ hs) e fits past s =
-    let same : within (overwritten list at bytes) w ≡ within list w =
-    part_after list bytes at w.start w.finish fits past in (
-      record {
-        announced = s.0.announced;
-        accepted = subst (λ (l : List ℕ). Accepts w.bound l (kind_of h)) (sym same) s.0.accepted;
-        means = subst (λ (l : List ℕ). Means l h) (sym same) s.0.means;
-      },
-      later_stack list bytes at (after x h) (payload w h) hs e fits (omega arith) s.1,
-    )
+    let more = later_stack list bytes at (after x h) (payload w h) hs e fits (omega arith) s.1 in
+    search (rules, part_after)
 
 -- the front of a window
 pub front_is : (list : List ℕ) (w : Window) (n : ℕ) → w.start + n ≤ w.finish
@@ -331,13 +262,8 @@ replaced_stack list x w [] h g later e at is room inside same fits sendable s =
       whole = omega arith;
       spells = subst (λ (l : List ℕ). Spells l g) (sym own) (spells-header_bytes g fits);
     } in
-    let rest = later_stack list bytes at (after x h) (payload w h) later e fit (omega arith) s.1 in (
-      unit_alike list new x w g h s.0 means (omega arith) (look_alike g h same)
-          (sound_written (within new w) g fits sendable own),
-      subst (λ (y : Expectation). Stack new y (payload w g) later e) (sym (same_after x g h same))
-          (subst (λ (v : Window). Stack new (after x h) v later e) (sym (alike_payload w g h (look_alike g h same)))
-          rest),
-    )
+    let rest = later_stack list bytes at (after x h) (payload w h) later e fit (omega arith) s.1 in
+    search (rules, unit_alike, look_alike, sound_written, same_after, alike_payload)
 replaced_stack list x w (k ∷ front) h g later e at is room inside same fits sendable s =
     let bytes = header_bytes g in
     let new = overwritten list at bytes in
@@ -384,18 +310,4 @@ pub replaced_walk : (start : Expectation) (list : List ℕ) (front : List Header
     → Walk start list (front ++ h ∷ later) e
     → Walk start (overwritten list (place 0 front) (header_bytes g)) (front ++ g ∷ later) e
 replaced_walk start list front h g later e same fits sendable s =
-    let at = place 0 front in
-    let new = overwritten list at (header_bytes g) in
-    let as_long = same_len g h same in
-    let inside = header_inside start list front h later e s in
-    let room : at + header_len g ≤ length list = omega arith in
-    let bytes_len = length-header_bytes g fits in
-    let len = length-overwritten list (header_bytes g) at (omega arith) in
-    let stack =
-    replaced_stack list start (whole start list) front h g later e at refl room (whole_in start list) same fits
-    sendable s in
-    subst
-    (λ (n : ℕ).
-    Stack new start (record { start = 0; finish = n; closed = has_fcs start; bound = sources.Slice })
-    (front ++ g ∷ later) e)
-    (sym len) stack
+    search (rules, same_len, header_inside, length-header_bytes, length-overwritten, replaced_stack, whole_in)

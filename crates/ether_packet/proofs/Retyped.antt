@@ -1,10 +1,9 @@
 -- The ether type that announces a VLAN tag, set in place: the walk is the one before, with the header before the tag
 -- announcing it
 -- by another type.
-use Rattle.std.proofs.Common.{◌≡◌, ℕ, ◌+◌, ◌-◌, ◌*◌, ◌^◌, ◌<◌, ◌≤◌, List, [], ◌∷◌, ◌++◌, length, refl, sym, ap, subst, ◌∙◌, arith, Bool, true, false, ◌&&◌}
+use Rattle.std.proofs.Common.{◌≡◌, ℕ, ◌+◌, ◌-◌, ◌*◌, ◌^◌, ◌<◌, ◌≤◌, List, [], ◌∷◌, ◌++◌, length, refl, sym, ap, subst, ◌∙◌, arith, Bool, true, false, ◌&&◌, rules}
 use Rattle.std.specs.Prelude.{slice_range, Option, Some, None, ◌==◌, if◌then◌else◌}
 use Rattle.etherparse.specs.Types.LenSource.{LenSource}
-use Rattle.etherparse.specs.Types.LenSource.TheVariants as sources
 use Rattle.etherparse.specs.LinuxSll.{LinuxSllValue}
 use Rattle.etherparse.specs.LinuxSllProtocolType.{link_protocol_of}
 use Rattle.etherparse.specs.Bytes.{IsBytes, number, spelled, overwritten}
@@ -21,15 +20,15 @@ use Rattle.etherparse.proofs.SubLists.{IsBytes-part, length-part, number-part_jo
 use Rattle.etherparse.proofs.Rows.{version_zero}
 use Rattle.etherparse.proofs.Means.{begins_whole}
 use Rattle.ether_peel.specs.Grammar.Window.{Window, within, IsIn, payload}
-use Rattle.ether_peel.specs.Grammar.Expectation.{Expectation, EtherType, Sll, announced, announced_next, permitted, is_extension, is_spent, lowered, next_after, after, after_capture, after_payload, has_fcs}
+use Rattle.ether_peel.specs.Grammar.Expectation.{Expectation, EtherType, Sll, announced_next, permitted, is_extension, is_spent, lowered, next_after, after, after_capture, after_payload}
 use Rattle.ether_peel.specs.Grammar.Places.{place}
-use Rattle.ether_peel.specs.Grammar.Stack.{Ending, Stack, whole, Walk}
+use Rattle.ether_peel.specs.Grammar.Stack.{Ending, Stack, Walk}
 use Rattle.ether_peel.proofs.Grammar.Places.{place_least}
 use Rattle.ether_peel.proofs.Grammar.Windows.{header_least, payload_in}
 use Rattle.ether_peel.proofs.Grammar.Cleared.{whole_in}
 use Rattle.ether_packet.specs.Building.{retyped}
 use Rattle.ether_packet.specs.TypedLink.{with_type}
-use Rattle.ether_packet.proofs.Replaced.{LookAlike, IsSound, same_self, look_alike, alike_kind, alike_payload, packet_type_of, unit_alike, sound_kept, front_is, part_before, part_at, length-overwritten, later_stack, header_inside}
+use Rattle.ether_packet.proofs.Replaced.{LookAlike, IsSound, same_self, look_alike, packet_type_of, unit_alike, sound_kept, front_is, part_before, part_at, length-overwritten, later_stack, header_inside}
 use Rattle.ether_packet.proofs.TypedLinks.{IsRetyped, retyped_means, announced_vlan}
 use Rattle.ether_packet.proofs.Popped.{tag_numbers}
 use Rattle.ether_packet.proofs.Pushed.{tpid_fits}
@@ -39,17 +38,13 @@ use Rattle.ether_packet.proofs.Pushed.{tpid_fits}
 retyped_bits : (p : PayloadType) (t : ℕ)
     → (encrypted_of (retyped p t) ≡ encrypted_of p) × (changed_of (retyped p t) ≡ changed_of p)
 retyped_bits (payloads.Unmodified u) t = (refl, refl)
-retyped_bits payloads.Modified t = (refl, refl)
-retyped_bits payloads.EncryptedUnmodified t = (refl, refl)
-retyped_bits payloads.Encrypted t = (refl, refl)
+retyped_bits p t = (refl, refl)
 
 retyped_alike : (h : Header) (t : ℕ) → LookAlike (with_type h t) h
-retyped_alike (headers.Ethernet2 e) t = tt
-retyped_alike (headers.Ethernet2Fcs e) t = tt
 retyped_alike (headers.LinuxSll s) t = refl
-retyped_alike (headers.Vlan v) t = tt
 retyped_alike (headers.Macsec m) t = let bits = retyped_bits m.payload_type t in (bits.0, bits.1, refl, refl)
 retyped_alike (headers.Arp a) t = (refl, refl)
+retyped_alike h t = tt
 
 -- the list begins with the header with that type, and no row on its content holds
 record RetypedMeans (new : List ℕ) (h : Header) (t : ℕ) : Type 0 where
@@ -60,18 +55,11 @@ retyped_vlan : (old new : List ℕ) (v : VlanValue) (t : ℕ) → IsBytes old �
     → IsRetyped old new 4 t → Means new (headers.Vlan (record v { ether_type = t }))
 retyped_vlan old new v t ok m len r =
     let a = (tag_numbers old 0 v ok m.whole m.spells).0 in
-    let join : number (slice_range new 0 4) ≡ number (slice_range new 0 2) * 65536 + number (slice_range new 2 4) =
-    number-part_join new 0 2 4 (omega arith) (omega arith) len in
+    let join = number-part_join new 0 2 4 (omega arith) (omega arith) len in
     let same : number (slice_range new 0 2) ≡ number (slice_range old 0 2) = ap number r.front in
     let n = r.number in
     let f = m.spells.fits in
-    record {
-      whole = len;
-      spells = record {
-        sum = omega arith;
-        fits = record { pcp = f.pcp; dei = f.dei; vid = f.vid; ether_type = r.fits };
-      };
-    }
+    search rules
 
 -- parts before the last two bytes of the first n
 front_part : (old new : List ℕ) (n i j : ℕ) → slice_range new 0 (n - 2) ≡ slice_range old 0 (n - 2) → i ≤ j → j ≤ n - 2
@@ -97,7 +85,6 @@ retyped_sec_tag : (bound : LenSource) (old new : List ℕ) (m : SecTagValue) (u 
 retyped_sec_tag bound old new m u t is ok means len r =
     let n = 6 + 8 * sci_present_of m.sci + 2 in
     let s = means.spells in
-    let k = means.whole in
     let less : n - 2 ≡ 6 + 8 * sci_present_of m.sci = omega arith in
     let before : slice_range new 0 (6 + 8 * sci_present_of m.sci)
     ≡ slice_range old 0 (6 + 8 * sci_present_of m.sci) =
@@ -141,30 +128,17 @@ announced_sll : (s : LinuxSllValue) (t : ℕ) (b : Bool) → (s.hardware_type ==
     → announced_next (after_capture s.hardware_type s.protocol) ≡ Some kinds.Vlan
     → after_capture s.hardware_type t ≡ EtherType t
 announced_sll s t true e a = λ i. if e i then EtherType t else Sll (link_protocol_of s.hardware_type t)
-announced_sll s t false e a =
-    let none : None ≡ Some kinds.Vlan =
-    (λ i.
-    announced_next
-    (if sym e i then EtherType s.protocol else Sll (link_protocol_of s.hardware_type s.protocol)))
-    ∙ a in
-    absurd cc
+announced_sll s t false e a = search rules
 
 unmodified : (p : PayloadType) → announced_next (after_payload p) ≡ Some kinds.Vlan
     → (u : ℕ) × (p ≡ payloads.Unmodified u)
 unmodified (payloads.Unmodified u) a = (u, refl)
-unmodified payloads.Modified a = absurd cc
-unmodified payloads.EncryptedUnmodified a = absurd cc
-unmodified payloads.Encrypted a = absurd cc
+unmodified p a = absurd cc
 
 retyped_next : (h : Header) (t : ℕ) → announced_next (next_after h) ≡ Some kinds.Vlan
     → next_after (with_type h t) ≡ EtherType t
-retyped_next (headers.Ethernet2 e) t a = refl
-retyped_next (headers.Ethernet2Fcs e) t a = refl
 retyped_next (headers.LinuxSll s) t a = announced_sll s t (s.hardware_type == 1) refl a
-retyped_next (headers.Vlan v) t a = refl
-retyped_next (headers.Macsec m) t a =
-    let u = unmodified m.payload_type a in ap (λ (p : PayloadType). after_payload (retyped p t)) u.1
-retyped_next (headers.Arp r) t a = absurd cc
+retyped_next h t a = search rules
 
 retyped_header : (bound : LenSource) (old new : List ℕ) (h : Header) (t : ℕ) → IsBytes old
     → announced_next (next_after h) ≡ Some kinds.Vlan → Accepts bound old (kind_of h) → Means old h
@@ -188,8 +162,7 @@ retyped_header bound old new (headers.Vlan v) t ok a accepted m len r = record {
 retyped_header bound old new (headers.Macsec m) t ok a accepted means len r =
     let u = unmodified m.payload_type a in
     let same : m ≡ record m { payload_type = payloads.Unmodified u.0 } = λ i. record m { payload_type = u.1 i } in
-    let n : header_len (headers.Macsec m) ≡ 6 + 8 * sci_present_of m.sci + 2 =
-    ap (λ (k : SecTagValue). header_len (headers.Macsec k)) same in
+    let n = ap (λ (k : SecTagValue). header_len (headers.Macsec k)) same in
     subst (λ (k : SecTagValue). RetypedMeans new (headers.Macsec k) t) (sym same)
     (retyped_sec_tag bound old new m u.0 t u.1 accepted
     (subst (λ (k : SecTagValue). Means old (headers.Macsec k)) same means) (omega arith)
@@ -213,34 +186,13 @@ within_limit limit (Some j) k e = ap Some (permitted_some (is_extension j && is_
 by_type : (t : ℕ) → is_vlan_ether_type t ≡ true → announced_next (EtherType t) ≡ Some kinds.Vlan
 by_type t is = within_limit None (announced_next (EtherType t)) kinds.Vlan (announced_vlan t is)
 
-announced_alike : (x : Expectation) (g h : Header) → kind_of g ≡ kind_of h
-    → announced_next (next_after g) ≡ Some kinds.Vlan → announced (after x h) ≡ Some kinds.Vlan
-    → announced (after x g) ≡ Some kinds.Vlan
-announced_alike x g h kind a b =
-    let limit = lowered (is_extension (kind_of h)) x.limit in
-    let old : announced_next (next_after h) ≡ Some kinds.Vlan =
-    within_limit limit (announced_next (next_after h)) kinds.Vlan b in
-    (λ i. permitted (lowered (is_extension (kind i)) x.limit) ((a ∙ sym old) i)) ∙ b
-
 -- a stack that begins with a VLAN tag, after another header that announces it
 stack_alike : (list : List ℕ) (x : Expectation) (w : Window) (g h : Header) (tag : VlanValue) (later : List Header)
     (e : Ending)
     → LookAlike g h → announced_next (next_after g) ≡ Some kinds.Vlan
     → Stack list (after x h) (payload w h) (headers.Vlan tag ∷ later) e
     → Stack list (after x g) (payload w g) (headers.Vlan tag ∷ later) e
-stack_alike list x w g h tag later e alike a s =
-    let kind = alike_kind g h alike in
-    let there : Stack list (after x g) (payload w h) (headers.Vlan tag ∷ later) e = (
-      record { announced = announced_alike x g h kind a s.0.announced; accepted = s.0.accepted; means = s.0.means },
-      subst
-          (λ (k : Kind).
-          Stack list
-          (record { next = EtherType tag.ether_type; limit = lowered true (lowered (is_extension k) x.limit) })
-          (payload (payload w h) (headers.Vlan tag)) later e)
-          (sym kind) s.1,
-    ) in
-    subst (λ (v : Window). Stack list (after x g) v (headers.Vlan tag ∷ later) e) (sym (alike_payload w g h alike))
-    there
+stack_alike list x w g h tag later e alike a s = search rules
 
 -- ---- stacks
 
@@ -333,15 +285,4 @@ pub retyped_walk : (start : Expectation) (list : List ℕ) (front : List Header)
     → Walk start list (front ++ h ∷ headers.Vlan tag ∷ later) e
     → Walk start (overwritten list at (spelled 2 t)) (front ++ with_type h t ∷ headers.Vlan tag ∷ later) e
 retyped_walk start list front h tag later e at t ok is announces s =
-    let new = overwritten list at (spelled 2 t) in
-    let inside = header_inside start list front h (headers.Vlan tag ∷ later) e s in
-    let two : length (spelled 2 t) ≡ 2 = length-spelled 2 t in
-    let len = length-overwritten list (spelled 2 t) at (omega arith) in
-    let stack =
-    retyped_stack list start (whole start list) front h tag later e at t ok is (omega arith)
-    (whole_in start list) announces s in
-    subst
-    (λ (n : ℕ).
-    Stack new start (record { start = 0; finish = n; closed = has_fcs start; bound = sources.Slice })
-    (front ++ with_type h t ∷ headers.Vlan tag ∷ later) e)
-    (sym len) stack
+    search (rules, header_inside, length-spelled, length-overwritten, retyped_stack, whole_in)

@@ -1,5 +1,5 @@
 -- A VLAN tag that is changed in place.
-use Rattle.std.proofs.Common.{◌≡◌, ℕ, ◌-◌, ◌<◌, ◌≤◌, List, [], ◌∷◌, ◌++◌, sym, ap, subst, ◌∙◌, arith, append_assoc, true}
+use Rattle.std.proofs.Common.{◌≡◌, ℕ, ◌-◌, ◌<◌, ◌≤◌, List, [], ◌∷◌, ◌++◌, sym, ap, subst, ◌∙◌, arith, append_assoc, true, rules}
 use Rattle.etherparse.specs.LinkExt.{ext_header_view}
 use Rattle.etherparse.specs.Bytes.{IsBytes, spelled, overwritten}
 use Rattle.etherparse.specs.Macsec.{SecTagValue}
@@ -16,23 +16,10 @@ use Rattle.ether_packet.specs.declared.setting.PlacedVlan.{PlacedVlan}
 use Rattle.ether_packet.specs.declared.tag_error.TagError.TheVariants as errors
 use Rattle.ether_packet.specs.Replacing.{ext_count, IsExtAt, IsPlacedExt}
 use Rattle.ether_packet.specs.Setting.{IsPlacedVlan, SetsTag, RefusesTag, none, sec_tag, SetsTpid, RefusesTpid, unannounced}
-use Rattle.ether_packet.specs.TypedLink.{with_type}
 use Rattle.ether_packet.proofs.Retyped.{retyped_walk}
 use Rattle.ether_packet.proofs.Replaced.{replaced_walk}
 
 -- ---- how it is found
-
--- an extension that is a VLAN tag
-pub placed_vlan : (hs : List Header) (i : ℕ) (found : PlacedExt) (f : PlacedVlan)
-    → IsPlacedExt hs i found → f.at ≡ found.at → headers.Vlan (vlan_view f.tag) ≡ ext_header_view found.header
-    → IsPlacedVlan hs i f
-placed_vlan hs i found f p at value =
-    record {
-      front = p.front;
-      later = p.later;
-      found = subst (λ (h : Header). IsExtAt hs i p.front h p.later) (sym value) p.found;
-      begins = at ∙ p.begins;
-    }
 
 -- .. a SecTag
 pub is_sec_tag : (hs : List Header) (i : ℕ) (found : PlacedExt) (m : SecTagValue)
@@ -55,8 +42,7 @@ pub is_set : (start : Expectation) (old new : List ℕ) (hs : List Header) (e : 
     → SetsTag start old hs e i change new
 is_set start old new hs e i f change p fits same bytes walk =
     let g = headers.Vlan (change (vlan_view f.tag)) in
-    let same_place : new ≡ overwritten old (place 0 p.front) (vlan_bytes (change (vlan_view f.tag))) =
-    bytes ∙ ap (λ (n : ℕ). overwritten old n (vlan_bytes (change (vlan_view f.tag)))) p.begins in
+    let same_place = bytes ∙ ap (λ (n : ℕ). overwritten old n (vlan_bytes (change (vlan_view f.tag)))) p.begins in
     let split = subst (λ (l : List Header). Walk start old l e) p.found.parts walk in
     record {
       front = p.front;
@@ -85,10 +71,7 @@ last_of [] = nothing
 last_of (h ∷ hs) = last_after h hs (last_of hs)
 
 place_past : (front : List Header) (h : Header) → 4 ≤ place 0 (front ++ h ∷ [])
-place_past front h =
-    let a = place-append 0 front (h ∷ []) in
-    let b = header_least h in
-    omega arith
+place_past front h = search (rules, place-append, header_least)
 
 none_before : (hs : List Header) (i t : ℕ) (v : VlanValue) (front later : List Header) → Last front
     → is_vlan_ether_type t ≡ true → place 0 front < 2 → IsExtAt hs i front (headers.Vlan v) later
@@ -111,29 +94,9 @@ retyped_last : (start : Expectation) (old new : List ℕ) (hs : List Header) (e 
 retyped_last start old new hs e i t at v front later ok nothing announces le begins found bytes walk =
     absurd (omega arith)
 retyped_last start old new hs e i t at v front later ok (last k h) announces le begins found bytes walk =
-    let same : new ≡ overwritten old (place 0 (k ++ h ∷ []) - 2) (spelled 2 t) =
-    bytes ∙ ap (λ (n : ℕ). overwritten old (n - 2) (spelled 2 t)) begins in
-    let after_all = place-append 0 k (h ∷ []) in
-    let past = place_past k h in
-    let split =
-    subst (λ (l : List Header). Walk start old l e)
-    (found.parts ∙ append_assoc k (h ∷ []) (headers.Vlan v ∷ later)) walk in
-    record {
-      front = k;
-      before = h;
-      tag = v;
-      later = later;
-      found = found;
-      announces = announces;
-      bytes = same;
-      walk =
-          subst (λ (l : List ℕ). Walk start l (k ++ with_type h t ∷ headers.Vlan v ∷ later) e) (sym same)
-          (retyped_walk start old k h v later e (place 0 (k ++ h ∷ []) - 2) t ok (omega arith) announces split);
-    }
+    search (rules, place-append, place_past, append_assoc, retyped_walk)
 
 pub is_retyped : (start : Expectation) (old new : List ℕ) (hs : List Header) (e : Ending) (i t : ℕ) (f : PlacedVlan)
     → IsBytes old → is_vlan_ether_type t ≡ true → 2 ≤ f.at → IsPlacedVlan hs i f
     → new ≡ overwritten old (f.at - 2) (spelled 2 t) → Walk start old hs e → SetsTpid start old hs e i t new
-is_retyped start old new hs e i t f ok announces le p bytes walk =
-    retyped_last start old new hs e i t f.at (vlan_view f.tag) p.front p.later ok (last_of p.front) announces le
-    p.begins p.found bytes walk
+is_retyped start old new hs e i t f ok announces le p bytes walk = search (rules, retyped_last, last_of)

@@ -1,11 +1,11 @@
 -- The cuts of a list that keep its headers.
-use Rattle.std.proofs.Common.{◌≡◌, ℕ, ◌+◌, ◌<◌, ◌≤◌, List, [], ◌∷◌, ◌++◌, length, take, drop, sym, ap, subst, ◌∙◌, arith, inl, inr, false, refl}
-use Rattle.std.specs.Prelude.{Some, None, Bool, IsTrue, ◌↔◌}
+use Rattle.std.proofs.Common.{◌≡◌, ℕ, ◌+◌, ◌<◌, ◌≤◌, List, [], ◌∷◌, ◌++◌, length, take, drop, sym, ap, subst, ◌∙◌, arith, inl, inr, false, refl, rules}
+use Rattle.std.specs.Prelude.{Some, None}
 use Rattle.std.proofs.lemmas.Bool.{cases_lt}
 use Rattle.std.proofs.lemmas.List.{append-nil, length-append, length-take, take-append-drop}
 use Rattle.etherparse.specs.Bytes.{IsBytes}
 use Rattle.etherparse.specs.Header.{Header, kind_of}
-use Rattle.etherparse.specs.Refusal.{Refusal, Length, UnsupportedPacketType, UnsupportedHardwareType, UnexpectedVersion, InvalidShortLen}
+use Rattle.etherparse.specs.Refusal.{Refusal, Length}
 use Rattle.ether_peel.specs.Grammar.Window.{Window, within}
 use Rattle.ether_peel.specs.Grammar.Expectation.{Expectation, has_fcs}
 use Rattle.ether_peel.specs.Grammar.Stack.{Ending, Accepted, Fault, last_window, last_expected, Stack, whole, Walk}
@@ -17,7 +17,7 @@ use Rattle.ether_peel.proofs.Grammar.Extensions.{walk_open_to_end, kept}
 use Rattle.ether_peel.proofs.Grammar.Cuts.{reach_least, common, wants_unit}
 use Rattle.ether_packet.specs.declared.packet_slice.PacketSlice.{PacketSlice}
 use Rattle.ether_packet.specs.Packet.{packet_headers}
-use Rattle.ether_packet.specs.Getters.{IsLeastSnap, SnapsAt, TellsAccepted}
+use Rattle.ether_packet.specs.Getters.{IsLeastSnap, SnapsAt}
 
 not_longer : (ks later : List Header) (unit : Header) → ks ++ unit ∷ later ≡ ks → ⊥
 not_longer ks later unit same =
@@ -54,14 +54,7 @@ cut_before start cut more hs ks e (Fault v y (Length required len source layer))
           let least = reach_least 0 ks in_unit.later in_unit.unit in
           subst (λ (l : List Header). length cut < reach 0 l) (sym in_unit.units) (omega arith)
     ]
-cut_before start cut more hs ks e (Fault v y (UnsupportedPacketType n)) unit later last h t s c parts rest =
-    absurd (stays start cut more hs ks e v y (UnsupportedPacketType n) unit later h t s parts tt)
-cut_before start cut more hs ks e (Fault v y (UnsupportedHardwareType n)) unit later last h t s c parts rest =
-    absurd (stays start cut more hs ks e v y (UnsupportedHardwareType n) unit later h t s parts tt)
-cut_before start cut more hs ks e (Fault v y UnexpectedVersion) unit later last h t s c parts rest =
-    absurd (stays start cut more hs ks e v y UnexpectedVersion unit later h t s parts tt)
-cut_before start cut more hs ks e (Fault v y InvalidShortLen) unit later last h t s c parts rest =
-    absurd (stays start cut more hs ks e v y InvalidShortLen unit later h t s parts tt)
+cut_before start cut more hs ks e k unit later last h t s c parts rest = absurd (search (rules, stays))
 
 -- what a cut has of the headers of the whole
 record HasOf (n : ℕ) (hs ks : List Header) : Type 0 where
@@ -72,15 +65,8 @@ has_of : (start : Expectation) (cut more : List ℕ) (hs ks rest : List Header) 
     → has_fcs start ≡ false
     → Walk start (cut ++ more) hs e → Walk start cut ks f → Carries cut (cut ++ more) more (last_window f) last
     → hs ≡ ks ++ rest → Stack (cut ++ more) (last_expected f) last rest e → HasOf (length cut) hs ks
-has_of start cut more hs ks [] e f last h t s c parts rest =
-    let all = parts ∙ append-nil ks in
-    let short = (walk_open_to_end start cut ks f h s).reaches in
-    let reaches : reach 0 hs ≤ length cut = subst (λ (l : List Header). reach 0 l ≤ length cut) (sym all) short in
-    record { keeps = λ le. sym all; loses = λ lt. absurd (omega arith) }
-has_of start cut more hs ks (unit ∷ later) e f last h t s c parts rest =
-    let lt = cut_before start cut more hs ks e f unit later last h t s c parts rest in
-    let len : length hs ≡ length (ks ++ unit ∷ later) = ap length parts in
-    record { keeps = λ le. absurd (omega arith); loses = λ _. omega (arith, length-append ks (unit ∷ later)) }
+has_of start cut more hs ks [] e f last h t s c parts rest = search (rules, append-nil, walk_open_to_end)
+has_of start cut more hs ks (unit ∷ later) e f last h t s c parts rest = search (rules, cut_before, length-append)
 
 cut_has : (start : Expectation) (list : List ℕ) (hs ks : List Header) (e f : Ending) (n : ℕ) → IsBytes list
     → has_fcs start ≡ false → n ≤ length list → Walk start list hs e → Walk start (take n list) ks f → HasOf n hs ks
@@ -94,29 +80,13 @@ cut_has start list hs ks e f n ok h le t s =
 
 pub least_snap : (start : Expectation) (list : List ℕ) (hs : List Header) (e : Ending) → IsBytes list
     → has_fcs start ≡ false → Walk start list hs e → IsLeastSnap start list hs (reach 0 hs)
-least_snap start list hs e ok h t =
-    let inside = (walk_open_to_end start list hs e h t).reaches in
-    record {
-      inside = inside;
-      keeps = λ n ks f le most s. (cut_has start list hs ks e f n ok h most t s).keeps le;
-      loses = λ n ks f lt s. (cut_has start list hs ks e f n ok h (omega arith) t s).loses lt;
-    }
+least_snap start list hs e ok h t = search (rules, walk_open_to_end, cut_has)
 
 pub snaps_at : (p : PacketSlice) (n : ℕ) → n ≡ reach 0 (packet_headers p) → SnapsAt p n
-snaps_at p n is start list ok h packet =
-    subst (IsLeastSnap start list (packet_headers p)) (sym is)
-    (least_snap start list (packet_headers p) packet.ending ok h packet.walk)
+snaps_at p n is start list ok h packet = search (rules, least_snap)
 
 -- ---- faults
-
-pub no_refusal : (e : Ending) → fault_of e ≡ None → refusal_of e ≡ None
-no_refusal (Accepted v y) none = refl
-no_refusal (Fault v y r) none = absurd cc
 
 pub no_fault : (e : Ending) → refusal_of e ≡ None → fault_of e ≡ None
 no_fault (Accepted v y) none = refl
 no_fault (Fault v y r) none = absurd cc
-
-pub tells_accepted : (p : PacketSlice) (complete : Bool) → IsTrue complete ↔ (p.fault ≡ None) → TellsAccepted p complete
-tells_accepted p complete value start list is =
-    (λ yes. no_refusal is.ending (sym is.fault ∙ value.0 yes), λ none. value.1 (is.fault ∙ no_fault is.ending none))

@@ -1,19 +1,18 @@
 -- A VLAN tag is taken off, put in or changed, or that is refused.
-use Rattle.std.proofs.Common.{◌≡◌, ◌≢◌, ℕ, zero, suc, ◌+◌, ◌-◌, ◌<◌, ◌≤◌, List, [], ◌∷◌, ◌++◌, length, take, drop, refl, sym, ap, subst, ◌∙◌, arith, inl, inr, Bool, true, false, ◌⊎◌}
-use Rattle.std.specs.Prelude.{Some, None, slice_range, ◌==◌, if◌then◌else◌}
+use Rattle.std.proofs.Common.{◌≡◌, ◌≢◌, ℕ, suc, ◌+◌, ◌-◌, ◌<◌, ◌≤◌, List, [], ◌∷◌, ◌++◌, length, take, drop, refl, sym, ap, subst, ◌∙◌, arith, inl, inr, Bool, true, false, ◌⊎◌, rules}
+use Rattle.std.specs.Prelude.{slice_range, ◌==◌, if◌then◌else◌}
 use Rattle.std.proofs.lemmas.Bool.{eqb-true, eqb-false}
 use Rattle.std.proofs.lemmas.List.{length-append, length-take-le}
 use Rattle.std.proofs.lemmas.List.Elements.{All-nil}
 use Rattle.etherparse.specs.Bytes.{IsBytes, spelled, overwritten}
 use Rattle.etherparse.specs.Vlan.{VlanValue, FitsVlan, IsVlan, is_vlan_ether_type, vlan_bytes, vlan_number}
-use Rattle.etherparse.specs.Kind as kinds
 use Rattle.etherparse.specs.Header.{Header, kind_of, header_len}
 use Rattle.etherparse.specs.Header as headers
 use Rattle.etherparse.specs.LinuxSll.{LinuxSllValue}
 use Rattle.etherparse.specs.LinuxSllProtocolType.{link_protocol_of}
 use Rattle.etherparse.proofs.Numbers.{length-spelled}
 use Rattle.etherparse.proofs.SubLists.{length-part}
-use Rattle.ether_peel.specs.Grammar.Expectation.{Expectation, EtherType, Sll, announced, after, next_after}
+use Rattle.ether_peel.specs.Grammar.Expectation.{Expectation, EtherType, Sll, next_after}
 use Rattle.ether_peel.specs.Grammar.Places.{place}
 use Rattle.ether_peel.specs.Grammar.Stack.{Ending, whole, Walk}
 use Rattle.ether_peel.specs.Walker.Start.{start_of}
@@ -30,10 +29,10 @@ use Rattle.ether_packet.specs.Popping as popping
 use Rattle.ether_packet.specs.Pushing.{IsPushed, RefusesPush, pushed_bytes, other_tpid}
 use Rattle.ether_packet.specs.Pushing as pushing
 use Rattle.ether_packet.proofs.FindVlan.{lacks_append, lacks_tag}
-use Rattle.ether_packet.proofs.Popped.{is_popped, vlan_header}
+use Rattle.ether_packet.proofs.Popped.{is_popped}
 use Rattle.ether_packet.proofs.Pushed.{is_pushed}
 use Rattle.ether_packet.proofs.Replaced.{header_inside, length-overwritten, replaced_walk}
-use Rattle.ether_packet.proofs.TypedLinks.{announced_vlan, link_after, link_least, means_whole_list}
+use Rattle.ether_packet.proofs.TypedLinks.{link_least, means_whole_list}
 use Rattle.ether_packet.proofs.VlanIds.{own_bytes}
 
 -- ---- the link
@@ -64,23 +63,10 @@ captured_typed s later false is =
     )
 
 typed_or_not : (hs : List Header) → HasTyped hs ⊎ ((error : TagError) × RefusesTyped hs error)
-typed_or_not [] = inr (errors.NoLink, no_link refl)
-typed_or_not (headers.Ethernet2 e ∷ later) =
-    inl (record {
-      link = headers.Ethernet2 e;
-      later = later;
-      begins = record { parts = refl; is_link = refl; typed = refl };
-    })
-typed_or_not (headers.Ethernet2Fcs e ∷ later) =
-    inl (record {
-      link = headers.Ethernet2Fcs e;
-      later = later;
-      begins = record { parts = refl; is_link = refl; typed = refl };
-    })
+typed_or_not (headers.Ethernet2 e ∷ later) = search rules
+typed_or_not (headers.Ethernet2Fcs e ∷ later) = search rules
 typed_or_not (headers.LinuxSll s ∷ later) = captured_typed s later (s.hardware_type == 1) refl
-typed_or_not (headers.Vlan v ∷ later) = inr (errors.NoLink, no_link refl)
-typed_or_not (headers.Macsec m ∷ later) = inr (errors.NoLink, no_link refl)
-typed_or_not (headers.Arp a ∷ later) = inr (errors.NoLink, no_link refl)
+typed_or_not hs = inr (errors.NoLink, no_link refl)
 
 -- ---- a tag that is taken off
 
@@ -95,12 +81,7 @@ follows_type : (start : Start) (old : List ℕ) (link g : Header) (later : List 
     → is_link (kind_of link) ≡ true → next_after link ≡ EtherType (type_of_link link)
     → is_vlan_ether_type (type_of_link link) ≡ true → Walk (start_of start) old (link ∷ g ∷ later) e
     → (v : VlanValue) × (g ≡ headers.Vlan v)
-follows_type start old link g later e linked typed is walk =
-    let expected : after (start_of start) link ≡ record { next = EtherType (type_of_link link); limit = None } =
-    link_after start link linked ∙ ap (λ n. record { next = n; limit = None }) typed in
-    let both : Some (kind_of g) ≡ Some kinds.Vlan =
-    sym walk.1.0.announced ∙ ap announced expected ∙ announced_vlan (type_of_link link) is in
-    vlan_header g cc
+follows_type start old link g later e linked typed is walk = search rules
 
 popped_tag : (start : Start) (old : List ℕ) (hs : List Header) (e : Ending) (link : Header) (v : VlanValue)
     (later : List Header) (m : ℕ)
@@ -110,8 +91,7 @@ popped_tag start old hs e link v later m ok begins len walk =
     let x = start_of start in
     let split = subst (λ (l : List Header). Walk x old l e) begins.parts walk in
     let room = header_inside x old (link ∷ []) (headers.Vlan v) later e split in
-    let own : IsVlan (slice_range old (0 + header_len link) (0 + header_len link + 4)) v =
-    own_bytes old x (whole x old) (link ∷ []) (headers.Vlan v) later e (whole_in x old) split in
+    let own = own_bytes old x (whole x old) (link ∷ []) (headers.Vlan v) later e (whole_in x old) split in
     let from : 0 + header_len link ≡ m + 2 = omega (arith, len) in
     let till : 0 + header_len link + 4 ≡ m + 6 = omega (arith, len) in
     let front = length-take-le m old (omega (arith, room, len)) in
@@ -186,19 +166,15 @@ pushed_tag start old hs e tag tpid link later m ok fits announces begins len wal
     }
 
 free_bytes : (old : List ℕ) → IsBytes old → IsBytes (0 ∷ 0 ∷ 0 ∷ 0 ∷ old)
-free_bytes old ok zero = omega arith
-free_bytes old ok (suc zero) = omega arith
-free_bytes old ok (suc (suc zero)) = omega arith
-free_bytes old ok (suc (suc (suc zero))) = omega arith
 free_bytes old ok (suc (suc (suc (suc i)))) = ok i
+free_bytes old ok h = omega arith
 
 pushed_announced : (start : Start) (old : List ℕ) (hs : List Header) (e : Ending) (tag : VlanValue) (tpid : ℕ)
     (b : Bool)
     → IsBytes old → FitsVlan tag → is_vlan_ether_type tpid ≡ b → Walk (start_of start) old hs e
     → Pushed start (0 ∷ 0 ∷ 0 ∷ 0 ∷ old) hs e tag tpid
     ⊎ ((error : TagError) × RefusesPush (0 ∷ 0 ∷ 0 ∷ 0 ∷ old) hs tpid error)
-pushed_announced start old hs e tag tpid false ok fits is walk =
-    inr (errors.Tpid (record { 0 = tpid }), other_tpid is)
+pushed_announced start old hs e tag tpid false ok fits is walk = inr (errors.Tpid (record { 0 = tpid }), other_tpid is)
 pushed_announced start old hs e tag tpid true ok fits is walk =
     elim (typed_or_not hs) [
       | inl t ↦
@@ -283,8 +259,7 @@ set_found start old hs e vid i new_vid lt f walk =
     let v = f.tag in
     let w : VlanValue = record v { vid = new_vid } in
     let split = subst (λ (l : List Header). Walk start old l e) f.found.parts walk in
-    let own : IsVlan (slice_range old (place 0 f.front) (place 0 f.front + 4)) v =
-    own_bytes old start (whole start old) f.front (headers.Vlan v) f.later e (whole_in start old) split in
+    let own = own_bytes old start (whole start old) f.front (headers.Vlan v) f.later e (whole_in start old) split in
     let fits : FitsVlan w = record {
       pcp = own.fits.pcp;
       dei = own.fits.dei;

@@ -1,5 +1,5 @@
 -- The header of a link with another type, and what follows it moved: the walk of the new list.
-use Rattle.std.proofs.Common.{◌≡◌, ℕ, ◌+◌, ◌-◌, ◌*◌, ◌^◌, ◌<◌, ◌≤◌, List, [], ◌∷◌, length, take, drop, refl, sym, ap, subst, ◌∙◌, arith, Bool, true, false}
+use Rattle.std.proofs.Common.{◌≡◌, ℕ, ◌+◌, ◌-◌, ◌^◌, ◌<◌, ◌≤◌, List, [], ◌∷◌, length, take, drop, refl, sym, ap, subst, ◌∙◌, arith, Bool, true, false, rules}
 use Rattle.std.specs.Prelude.{slice_range, Option, Some, None, nat_eq, ◌==◌, if◌then◌else◌}
 use Rattle.std.proofs.lemmas.List.{length-drop}
 use Rattle.etherparse.specs.Types.LenSource.{LenSource}
@@ -21,9 +21,9 @@ use Rattle.etherparse.proofs.LinuxSllFields.{linux_sll_begins, linux_sll_means}
 use Rattle.etherparse.proofs.SubLists.{number-part_below, number-part_join}
 use Rattle.etherparse.proofs.Rows.{at_least, accepts_ethernet2, accepts_ethernet2_fcs, accepts_linux_sll}
 use Rattle.ether_peel.specs.Grammar.Window.{Window, within, payload}
-use Rattle.ether_peel.specs.Grammar.Expectation.{Next, Expectation, EtherType, Sll, announced, announced_by, permitted, next_after, after, after_capture, has_fcs}
+use Rattle.ether_peel.specs.Grammar.Expectation.{Expectation, EtherType, Sll, announced, announced_by, permitted, next_after, after, after_capture, has_fcs}
 use Rattle.ether_peel.specs.Grammar.Places.{moved_ending}
-use Rattle.ether_peel.specs.Grammar.Stack.{Ending, Accepted, Fault, IsUnit, Stack, whole, Walk}
+use Rattle.ether_peel.specs.Grammar.Stack.{Ending, Accepted, IsUnit, Stack, whole, Walk}
 use Rattle.ether_peel.specs.Walker.Start.{start_of}
 use Rattle.ether_peel.specs.declared.start.Start.{Start}
 use Rattle.ether_peel.specs.declared.start.Start.TheVariants as starts
@@ -35,7 +35,6 @@ use Rattle.ether_packet.specs.ReplacingLink.{is_link, has_link}
 use Rattle.ether_packet.specs.TypedLink.{type_of_link, with_type, link_len, IsTypedLink, IsEthernetCapture, IsOtherCapture, RefusesTyped, no_link, hardware_type}
 use Rattle.ether_packet.proofs.Gathering.{whole_part}
 use Rattle.ether_packet.proofs.Replaced.{packet_type_of, supported}
-use Rattle.ether_packet.proofs.PacketExts.{kind_kept as header_kind}
 use Rattle.ether_packet.proofs.Links.{first_header}
 
 -- ---- a header whose last two bytes are others
@@ -44,66 +43,31 @@ retyped_ethernet2 : (old new : List ℕ) (e : Ethernet2Value) (t : ℕ) → IsBy
     → slice_range new 0 12 ≡ slice_range old 0 12 → number (slice_range new 12 14) ≡ t → t < 2 ^ 16
     → IsEthernet2 (slice_range old 0 14) e → IsEthernet2 (slice_range new 0 14) (record e { ether_type = t })
 retyped_ethernet2 old new e t ok le len front is lt m =
-    let a : number (slice_range old 0 14) ≡ number (slice_range old 0 12) * 65536 + number (slice_range old 12 14) =
-    number-part_join old 0 12 14 (omega arith) (omega arith) le in
-    let b : number (slice_range new 0 14) ≡ number (slice_range new 0 12) * 65536 + number (slice_range new 12 14) =
-    number-part_join new 0 12 14 (omega arith) (omega arith) len in
+    let a = number-part_join old 0 12 14 (omega arith) (omega arith) le in
+    let b = number-part_join new 0 12 14 (omega arith) (omega arith) len in
     let same : number (slice_range new 0 12) ≡ number (slice_range old 0 12) = ap number front in
     let below : number (slice_range old 12 14) < 65536 = number-part_below old 12 14 ok le in
     let sum = m.sum in
     let f = m.fits.ether_type in
-    record {
-      sum = omega arith;
-      fits = record { destination = m.fits.destination; source = m.fits.source; ether_type = lt };
-    }
+    search rules
 
 retyped_linux_sll : (old new : List ℕ) (s : LinuxSllValue) (t : ℕ) → IsBytes old → 16 ≤ length old → 16 ≤ length new
     → slice_range new 0 14 ≡ slice_range old 0 14 → number (slice_range new 14 16) ≡ t → t < 2 ^ 16
     → IsLinuxSll (slice_range old 0 16) s → IsLinuxSll (slice_range new 0 16) (record s { protocol = t })
 retyped_linux_sll old new s t ok le len front is lt m =
-    let a : number (slice_range old 0 16) ≡ number (slice_range old 0 14) * 65536 + number (slice_range old 14 16) =
-    number-part_join old 0 14 16 (omega arith) (omega arith) le in
-    let b : number (slice_range new 0 16) ≡ number (slice_range new 0 14) * 65536 + number (slice_range new 14 16) =
-    number-part_join new 0 14 16 (omega arith) (omega arith) len in
+    let a = number-part_join old 0 14 16 (omega arith) (omega arith) le in
+    let b = number-part_join new 0 14 16 (omega arith) (omega arith) len in
     let same : number (slice_range new 0 14) ≡ number (slice_range old 0 14) = ap number front in
     let below : number (slice_range old 14 16) < 65536 = number-part_below old 14 16 ok le in
     let sum = m.sum in
     let f = m.fits.protocol in
-    record {
-      sum = omega arith;
-      fits =
-          record {
-            packet_type = m.fits.packet_type;
-            hardware_type = m.fits.hardware_type;
-            address_len = m.fits.address_len;
-            address = m.fits.address;
-            protocol = lt;
-          };
-    }
+    search rules
 
 -- the number that they have in the list
 pub link_type_read : (list : List ℕ) (h : Header) → IsBytes list → is_link (kind_of h) ≡ true → Means list h
     → number (slice_range list (header_len h - 2) (header_len h)) ≡ type_of_link h
-link_type_read list (headers.Ethernet2 e) ok link m =
-    let a : number (slice_range list 0 14)
-    ≡ number (slice_range list 0 12) * 65536 + number (slice_range list 12 14) =
-    number-part_join list 0 12 14 (omega arith) (omega arith) m.whole in
-    let below : number (slice_range list 12 14) < 65536 = number-part_below list 12 14 ok m.whole in
-    let sum = m.spells.sum in
-    let f = m.spells.fits.ether_type in
-    omega arith
-link_type_read list (headers.Ethernet2Fcs e) ok link m =
-    let a : number (slice_range list 0 14)
-    ≡ number (slice_range list 0 12) * 65536 + number (slice_range list 12 14) =
-    number-part_join list 0 12 14 (omega arith) (omega arith) m.whole in
-    let below : number (slice_range list 12 14) < 65536 = number-part_below list 12 14 ok m.whole in
-    let sum = m.spells.sum in
-    let f = m.spells.fits.ether_type in
-    omega arith
 link_type_read list (headers.LinuxSll s) ok link m =
-    let a : number (slice_range list 0 16)
-    ≡ number (slice_range list 0 14) * 65536 + number (slice_range list 14 16) =
-    number-part_join list 0 14 16 (omega arith) (omega arith) m.whole in
+    let a = number-part_join list 0 14 16 (omega arith) (omega arith) m.whole in
     let below : number (slice_range list 14 16) < 65536 = number-part_below list 14 16 ok m.whole in
     let sum = m.spells.sum in
     let f = m.spells.fits.protocol in
@@ -111,6 +75,12 @@ link_type_read list (headers.LinuxSll s) ok link m =
 link_type_read list (headers.Vlan v) ok link m = absurd cc
 link_type_read list (headers.Macsec t) ok link m = absurd cc
 link_type_read list (headers.Arp a) ok link m = absurd cc
+link_type_read list h ok link m =
+    let a = number-part_join list 0 12 14 (omega arith) (omega arith) m.whole in
+    let below : number (slice_range list 12 14) < 65536 = number-part_below list 12 14 ok m.whole in
+    let sum = m.spells.sum in
+    let f = m.spells.fits.ether_type in
+    omega arith
 
 -- the first bytes of a list are those of a link's header, and the two after them are others
 pub record IsRetyped (old new : List ℕ) (n t : ℕ) : Type 0 where
@@ -132,9 +102,7 @@ retyped_means old new (headers.LinuxSll s) t ok link m len r = record {
   whole = len;
   spells = retyped_linux_sll old new s t ok m.whole len r.front r.number r.fits m.spells;
 }
-retyped_means old new (headers.Vlan v) t ok link m len r = absurd cc
-retyped_means old new (headers.Macsec m) t ok link n len r = absurd cc
-retyped_means old new (headers.Arp a) t ok link m len r = absurd cc
+retyped_means old new h t ok link k len r = absurd cc
 
 retyped_accepts : (bound : LenSource) (old new : List ℕ) (h : Header) (t : ℕ) → is_link (kind_of h) ≡ true
     → Accepts bound old (kind_of h) → Means old h → Means new (with_type h t)
@@ -144,33 +112,23 @@ retyped_accepts bound old new (headers.Ethernet2Fcs e) t link ok m n len = accep
 retyped_accepts bound old new (headers.LinuxSll s) t link ok m n len =
     accepts_linux_sll bound new (record s { protocol = t }) n.whole n.spells (packet_type_of bound old s ok m)
     (supported bound old s _ refl ok m)
-retyped_accepts bound old new (headers.Vlan v) t link ok m n len = absurd cc
-retyped_accepts bound old new (headers.Macsec v) t link ok m n len = absurd cc
-retyped_accepts bound old new (headers.Arp a) t link ok m n len = absurd cc
+retyped_accepts bound old new h t link ok m n len = absurd cc
 
 pub kind_kept : (h : Header) (t : ℕ) → kind_of (with_type h t) ≡ kind_of h
 kind_kept (headers.Ethernet2 e) t = refl
-kind_kept (headers.Ethernet2Fcs e) t = refl
-kind_kept (headers.LinuxSll s) t = refl
-kind_kept (headers.Vlan v) t = refl
-kind_kept (headers.Macsec m) t = refl
-kind_kept (headers.Arp a) t = refl
+kind_kept h t = refl
 
 pub len_kept : (h : Header) (t : ℕ) → is_link (kind_of h) ≡ true → header_len (with_type h t) ≡ header_len h
-len_kept (headers.Ethernet2 e) t link = refl
-len_kept (headers.Ethernet2Fcs e) t link = refl
-len_kept (headers.LinuxSll s) t link = refl
 len_kept (headers.Vlan v) t link = absurd cc
 len_kept (headers.Macsec m) t link = absurd cc
 len_kept (headers.Arp a) t link = absurd cc
+len_kept h t link = refl
 
 pub link_least : (h : Header) → is_link (kind_of h) ≡ true → 14 ≤ header_len h
-link_least (headers.Ethernet2 e) link = omega arith
-link_least (headers.Ethernet2Fcs e) link = omega arith
-link_least (headers.LinuxSll s) link = omega arith
 link_least (headers.Vlan v) link = absurd cc
 link_least (headers.Macsec m) link = absurd cc
 link_least (headers.Arp a) link = absurd cc
+link_least h link = omega arith
 
 -- a header of a whole list
 pub means_whole_list : (start : Expectation) (list : List ℕ) (h : Header) → IsUnit list start (whole start list) h
@@ -185,23 +143,14 @@ retyped_unit start old new h t ok link u len r =
     let m = means_whole_list start old h u in
     let n = retyped_means old new h t ok link m (omega arith) r in
     let accepted = subst (λ (l : List ℕ). Accepts sources.Slice l (kind_of h)) (whole_part old) u.accepted in
-    record {
-      announced = u.announced ∙ ap Some (sym (kind_kept h t));
-      accepted =
-          subst (λ (l : List ℕ). Accepts sources.Slice l (kind_of (with_type h t))) (sym (whole_part new))
-          (retyped_accepts sources.Slice old new h t link accepted m n len);
-      means = subst (λ (l : List ℕ). Means l (with_type h t)) (sym (whole_part new)) n;
-    }
+    search (rules, kind_kept, whole_part, retyped_accepts)
 
 -- ---- what it announces
 
 captured_next : (s : LinuxSllValue) (t : ℕ) (b : Bool) → (s.hardware_type == 1) ≡ b
     → after_capture s.hardware_type s.protocol ≡ EtherType s.protocol → after_capture s.hardware_type t ≡ EtherType t
 captured_next s t true e typed = λ i. if e i then EtherType t else Sll (link_protocol_of s.hardware_type t)
-captured_next s t false e typed =
-    let other : Sll (link_protocol_of s.hardware_type s.protocol) ≡ EtherType s.protocol =
-    (λ i. if sym e i then EtherType s.protocol else Sll (link_protocol_of s.hardware_type s.protocol)) ∙ typed in
-    absurd cc
+captured_next s t false e typed = search rules
 
 -- with another type, the header of a link announces by it as before
 pub announces_kept : (h : Header) (t : ℕ) → is_link (kind_of h) ≡ true → next_after h ≡ EtherType (type_of_link h)
@@ -209,19 +158,15 @@ pub announces_kept : (h : Header) (t : ℕ) → is_link (kind_of h) ≡ true →
 announces_kept (headers.Ethernet2 e) t link typed = refl
 announces_kept (headers.Ethernet2Fcs e) t link typed = refl
 announces_kept (headers.LinuxSll s) t link typed = captured_next s t (s.hardware_type == 1) refl typed
-announces_kept (headers.Vlan v) t link typed = absurd cc
-announces_kept (headers.Macsec m) t link typed = absurd cc
-announces_kept (headers.Arp a) t link typed = absurd cc
+announces_kept h t link typed = absurd cc
 
 -- what is expected after the header of a link, and where
 pub link_after : (start : Start) (h : Header) → is_link (kind_of h) ≡ true
     → after (start_of start) h ≡ record { next = next_after h; limit = None }
-link_after start (headers.Ethernet2 e) link = refl
-link_after start (headers.Ethernet2Fcs e) link = refl
-link_after start (headers.LinuxSll s) link = refl
 link_after start (headers.Vlan v) link = absurd cc
 link_after start (headers.Macsec m) link = absurd cc
 link_after start (headers.Arp a) link = absurd cc
+link_after start h link = refl
 
 abbrev pub link_payload : Expectation → List ℕ → Header → Window
 link_payload x list h = record {
@@ -233,25 +178,10 @@ link_payload x list h = record {
 
 pub payload_is : (x : Expectation) (list : List ℕ) (h : Header) → is_link (kind_of h) ≡ true
     → payload (whole x list) h ≡ link_payload x list h
-payload_is x list (headers.Ethernet2 e) link = refl
-payload_is x list (headers.Ethernet2Fcs e) link = refl
-payload_is x list (headers.LinuxSll s) link = refl
 payload_is x list (headers.Vlan v) link = absurd cc
 payload_is x list (headers.Macsec m) link = absurd cc
 payload_is x list (headers.Arp a) link = absurd cc
-
--- so a stack of a payload is one of these
-pub stack_after : (start : Start) (list : List ℕ) (h : Header) (hs : List Header) (e : Ending)
-    → is_link (kind_of h) ≡ true → next_after h ≡ EtherType (type_of_link h)
-    → Stack list (after (start_of start) h) (payload (whole (start_of start) list) h) hs e
-    → Stack list (record { next = EtherType (type_of_link h); limit = None }) (link_payload (start_of start) list h) hs
-    e
-stack_after start list h hs e link typed s =
-    let is : after (start_of start) h ≡ record { next = EtherType (type_of_link h); limit = None } =
-    link_after start h link ∙ ap (λ (n : Next). record { next = n; limit = None }) typed in
-    subst (λ (w : Window). Stack list (record { next = EtherType (type_of_link h); limit = None }) w hs e)
-    (payload_is (start_of start) list h link)
-    (subst (λ (x : Expectation). Stack list x (payload (whole (start_of start) list) h) hs e) is s)
+payload_is x list h link = refl
 
 other_kind : (a b : Bool)
     → permitted None (if a then Some kinds.Macsec else (if b then Some kinds.Arp else None)) ≡ Some kinds.Vlan → ⊥
@@ -262,24 +192,11 @@ other_kind false false e = absurd cc
 -- an ether type that announces a VLAN tag
 pub announced_vlan : (t : ℕ) → is_vlan_ether_type t ≡ true
     → announced (record { next = EtherType t; limit = None }) ≡ Some kinds.Vlan
-announced_vlan t is =
-    λ i.
-    permitted None
-    (if is i then Some kinds.Vlan
-    else (if nat_eq t 0x88E5 then Some kinds.Macsec else (if nat_eq t 0x0806 then Some kinds.Arp else None)))
+announced_vlan t is = search rules
 
 pub announced_other : (t : ℕ) → is_vlan_ether_type t ≡ false
     → announced (record { next = EtherType t; limit = None }) ≡ Some kinds.Vlan → ⊥
-announced_other t is e =
-    other_kind (nat_eq t 0x88E5) (nat_eq t 0x0806)
-    (sym
-    (λ i.
-    permitted None
-    (if is i then Some kinds.Vlan
-    else
-    (if nat_eq t 0x88E5 then Some kinds.Macsec
-    else (if nat_eq t 0x0806 then Some kinds.Arp else None))))
-    ∙ e)
+announced_other t is e = search rules
 
 -- ---- the bytes after it
 
@@ -320,27 +237,14 @@ never k o e f = let same : None ≡ Some k = sym e ∙ f in cc
 pub unit_there : (list : List ℕ) (x : Expectation) (w : Window) (kind : Kind) (hs : List Header) (e : Ending)
     → announced x ≡ Some kind → Accepts w.bound (within list w) kind → Stack list x w hs e → HasUnit list x w kind hs e
 unit_there list x w kind [] (Accepted v y) a accepted s = absurd (never kind (announced x) s.2 a)
-unit_there list x w kind [] (Fault v y r) a accepted s =
-    let same = same_kind s.2 kind (announced x) s.3 a in
-    absurd (accepted r (subst (λ (k : Kind). Refuses w.bound (within list w) k r) same s.4))
-unit_there list x w kind (h ∷ hs) e a accepted s =
-    record {
-      header = h;
-      later = hs;
-      parts = refl;
-      of_kind = same_kind (kind_of h) kind (announced x) s.0.announced a;
-      unit = s.0;
-      rest = s.1;
-    }
+unit_there list x w kind h e a accepted s = search rules
 
 -- if a row holds there, no header is
 pub no_unit_there : (list : List ℕ) (x : Expectation) (w : Window) (kind : Kind) (r : rows.Refusal) (hs : List Header)
     (e : Ending)
     → announced x ≡ Some kind → Refuses w.bound (within list w) kind r → Stack list x w hs e → hs ≡ []
 no_unit_there list x w kind r [] e a row s = refl
-no_unit_there list x w kind r (h ∷ hs) e a row s =
-    let same = same_kind kind (kind_of h) (announced x) a s.0.announced in
-    absurd (s.0.accepted r (subst (λ (k : Kind). Refuses w.bound (within list w) k r) same row))
+no_unit_there list x w kind r (h ∷ hs) e a row s = search rules
 
 -- ---- the header that a list begins with
 
@@ -352,16 +256,7 @@ pub is_typed : (start : Start) (kind : Kind) (list : List ℕ) (hs : List Header
     → link_len start + l.payload_len + trailer_len (header_in kind list) ≡ length list
     → l.ether_type.0 ≡ type_of_link (header_in kind list)
     → Walk (start_of start) list hs e → IsTypedLink start list hs l
-is_typed start kind list hs e l ok a accepted link typed len payload_len ether_type walk =
-    let first = first_header (start_of start) kind list hs e ok a accepted walk in
-    record {
-      link = header_in kind list;
-      later = first.0;
-      begins = record { parts = first.1; is_link = ap is_link (header_kind kind list) ∙ link; typed = typed };
-      len = len;
-      payload = payload_len;
-      ether_type = ether_type;
-    }
+is_typed start kind list hs e l ok a accepted link typed len payload_len ether_type walk = search (rules, first_header)
 
 -- a header that is refused
 pub refused_link : (start : Start) (kind : Kind) (list : List ℕ) (r : rows.Refusal) (hs : List Header) (e : Ending)
@@ -406,12 +301,7 @@ other_link start list hs e hardware ok a other never walk =
 
 unpermitted : (o : Option Kind) → o ≡ permitted None o
 unpermitted None = refl
-unpermitted (Some kinds.Ethernet2) = refl
-unpermitted (Some kinds.Ethernet2Fcs) = refl
-unpermitted (Some kinds.LinuxSll) = refl
-unpermitted (Some kinds.Vlan) = refl
-unpermitted (Some kinds.Macsec) = refl
-unpermitted (Some kinds.Arp) = refl
+unpermitted h = search rules
 
 abbrev is_link_of : Option Kind → Bool
 is_link_of None = false
@@ -422,17 +312,14 @@ not_announced : (a b c : Bool) (kind : Kind)
     → (if a then Some kinds.Vlan else (if b then Some kinds.Macsec else (if c then Some kinds.Arp else None)))
     ≡ Some kind
     → is_link kind ≡ false
-not_announced true b c kind e = ap is_link_of (sym e)
-not_announced false true c kind e = ap is_link_of (sym e)
-not_announced false false true kind e = ap is_link_of (sym e)
 not_announced false false false kind e = absurd cc
+not_announced a b c kind e = ap is_link_of (sym e)
 
 pub unlinked : (start : Start) (t : EtherTypeNumber) (list : List ℕ) (hs : List Header) (e : Ending)
     → start ≡ starts.EtherType t → Walk (start_of start) list hs e → RefusesTyped hs errors.NoLink
 unlinked start t list [] e is walk = no_link refl
 unlinked start t list (h ∷ hs) e is walk =
-    let a : announced (start_of (starts.EtherType t)) ≡ Some (kind_of h) =
-    ap (λ (s : Start). announced (start_of s)) (sym is) ∙ walk.0.announced in
+    let a = ap (λ (s : Start). announced (start_of s)) (sym is) ∙ walk.0.announced in
     no_link
     (not_announced (is_vlan_ether_type t.0) (nat_eq t.0 0x88E5) (nat_eq t.0 0x0806) (kind_of h)
     (unpermitted (announced_by t.0) ∙ a))

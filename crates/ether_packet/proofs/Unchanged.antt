@@ -1,5 +1,5 @@
 -- A target that is filled from its front on, header by header.
-use Rattle.std.proofs.Common.{◌≡◌, ℕ, ◌+◌, ◌<◌, ◌≤◌, List, [], ◌∷◌, ◌++◌, length, take, drop, slice_index_or, refl, sym, ap, subst, ◌∙◌, arith, append_assoc}
+use Rattle.std.proofs.Common.{◌≡◌, ℕ, ◌+◌, ◌<◌, ◌≤◌, List, [], ◌∷◌, ◌++◌, length, take, drop, slice_index_or, refl, sym, ap, ◌∙◌, arith, append_assoc, rules}
 use Rattle.std.specs.Prelude.{flat_map}
 use Rattle.std.proofs.lemmas.Grind.{flat_map-append}
 use Rattle.std.proofs.lemmas.List.{append-nil, drop_at, drop-drop, length-append, take_at, take_all}
@@ -40,11 +40,8 @@ fit_append (h ∷ hs) ks fit more = (fit.0, fit_append hs ks fit.1 more)
 pub length-fit : (hs : List Header) → AllFit hs → length (flat_map header_bytes hs) ≡ place 0 hs
 length-fit [] fit = refl
 length-fit (h ∷ hs) fit =
-    let own = length-header_bytes h fit.0 in
-    let others = length-fit hs fit.1 in
-    let all = length-append (header_bytes h) (flat_map header_bytes hs) in
-    let sum = place-first 0 h hs in
-    omega (arith, own, others, all, sum)
+    let more = length-fit hs fit.1 in
+    search (rules, length-header_bytes, length-append, place-first)
 
 -- ---- header by header
 
@@ -74,32 +71,13 @@ whole_len p i =
 pub laid_link : (p : PacketBuilder) (old target : List ℕ) (at : ℕ) → at ≡ header_len (link_header p.link)
     → target ≡ overwritten old 0 (header_bytes (link_header p.link)) → FitsHeader (link_header p.link)
     → Laid p old target 0 at
-laid_link p old target at is bytes fits =
-    let h = link_header p.link in
-    let own : length (header_bytes h) ≡ at = length-header_bytes h fits ∙ sym is in
-    let zero : 0 + length (header_bytes h) ≡ length (header_bytes h) = omega arith in
-    record {
-      bytes =
-          bytes ∙ ap (λ (k : ℕ). header_bytes h ++ drop k old) (zero ∙ own)
-          ∙ ap (λ (l : List ℕ). l ++ drop at old) (sym (append-nil (header_bytes h)));
-      fit = (fits, tt);
-      long = let e : 0 + header_len h ≡ header_len h = omega arith in is ∙ sym e;
-    }
+laid_link p old target at is bytes fits = search (rules, length-header_bytes, append-nil)
 
 -- there is room for the next one
 pub room_next : (p : PacketBuilder) (old target : List ℕ) (i at : ℕ) (x : LinkExtHeader) → i < length p.link_exts.now
     → x ≡ slice_index_or p.link_exts.now i x → Laid p old target i at
     → at + header_len (ext_header_view x) ≤ packet_len p
-room_next p old target i at x lt is so_far =
-    let m = length (content_payload p.content) in
-    let next : place m (later p i)
-    ≡ header_len (ext_header_view (slice_index_or p.link_exts.now i x)) + place m (later p (i + 1)) =
-    ap (λ (l : List Header). place m (l ++ content_headers p.content)) (drop_next p.link_exts.now i x lt)
-    ∙ place-first m (ext_header_view (slice_index_or p.link_exts.now i x)) (later p (i + 1)) in
-    let own = ap (λ (y : LinkExtHeader). header_len (ext_header_view y)) is in
-    let whole = whole_len p i in
-    let long = so_far.long in
-    omega (arith, next, own, whole, long)
+room_next p old target i at x lt is so_far = search (rules, slice_index_or, drop_next, place-first, whole_len)
 
 pub laid_next : (p : PacketBuilder) (old target new : List ℕ) (i at next : ℕ) (x : LinkExtHeader)
     → i < length p.link_exts.now → x ≡ slice_index_or p.link_exts.now i x → Laid p old target i at
@@ -118,15 +96,7 @@ laid_next p old target new i at next x lt is so_far bytes fits ends =
     ap (λ (l : List ℕ). flat_map header_bytes fs ++ l) (sym (append-nil (header_bytes h)))
     ∙ sym (flat_map-append header_bytes fs (h ∷ [])) ∙ ap (flat_map header_bytes) (sym more) in
     let sum : place 0 (fs ++ h ∷ []) ≡ place 0 fs + header_len h = place-append 0 fs (h ∷ []) in
-    record {
-      bytes =
-          bytes ∙ laid old (flat_map header_bytes fs) target (header_bytes h) at so_far.bytes len
-          ∙ (λ k. all k ++ drop (end k) old);
-      fit = subst AllFit (sym more) (fit_append fs (h ∷ []) so_far.fit (fits, tt));
-      long =
-          ends ∙ ap (λ (k : ℕ). k + header_len h) so_far.long ∙ sym sum
-          ∙ ap (place 0) (sym more);
-    }
+    search (rules, laid, drop, fit_append)
 
 -- ---- the content
 
@@ -136,9 +106,7 @@ content_parts (contents.Arp packet) = sym (append-nil _ ∙ append-nil _)
 
 all_front : (p : PacketBuilder) (i : ℕ) → length p.link_exts.now ≤ i
     → front p i ++ content_headers p.content ≡ given_headers p
-all_front p i over =
-    ap (λ (l : List LinkExtHeader). link_header p.link ∷ views l ++ content_headers p.content)
-    (take_all i p.link_exts.now over)
+all_front p i over = search (rules, take_all)
 
 last_later : (p : PacketBuilder) (i : ℕ) → length p.link_exts.now ≤ i
     → packet_len p ≡ place 0 (front p i) + content_len p.content
@@ -154,10 +122,7 @@ last_later p i over =
 
 pub room_content : (p : PacketBuilder) (old target : List ℕ) (i at : ℕ) → length p.link_exts.now ≤ i
     → Laid p old target i at → at + content_len p.content ≡ packet_len p
-room_content p old target i at over so_far =
-    let whole = last_later p i over in
-    let long = so_far.long in
-    omega (arith, whole, long)
+room_content p old target i at over so_far = search (rules, last_later)
 
 pub laid_all : (p : PacketBuilder) (old target new : List ℕ) (i at : ℕ) → length p.link_exts.now ≤ i
     → packet_len p ≤ length old → Laid p old target i at
@@ -168,16 +133,10 @@ laid_all p old target new i at over room so_far bytes fits =
     let fs = front p i in
     let f = flat_map header_bytes fs in
     let len : length f ≡ at = length-fit fs so_far.fit ∙ sym so_far.long in
-    let end : at + length (content_bytes c) ≡ packet_len p =
-    ap (λ (k : ℕ). at + k) (content_long c fits) ∙ room_content p old target i at over so_far in
+    let end = ap (λ (k : ℕ). at + k) (content_long c fits) ∙ room_content p old target i at over so_far in
     let parts : f ++ content_bytes c ≡ flat_map header_bytes (given_headers p) ++ content_payload c =
     ap (λ (l : List ℕ). f ++ l) (content_parts c)
     ∙ sym (append_assoc f (flat_map header_bytes (content_headers c)) (content_payload c))
     ∙ ap (λ (l : List ℕ). l ++ content_payload c) (sym (flat_map-append header_bytes fs (content_headers c)))
     ∙ ap (λ (l : List Header). flat_map header_bytes l ++ content_payload c) (all_front p i over) in
-    record {
-      ends = refl;
-      room = room;
-      fit = subst AllFit (all_front p i over) (fit_append fs (content_headers c) so_far.fit fits);
-      bytes = bytes ∙ laid old f target (content_bytes c) at so_far.bytes len ∙ (λ k. parts k ++ drop (end k) old);
-    }
+    search (rules, all_front, fit_append, laid, drop)

@@ -1,5 +1,5 @@
 -- The identifier of the outermost VLAN tag, set in place.
-use Rattle.std.proofs.Common.{◌≡◌, ◌≢◌, ℕ, zero, suc, ◌+◌, ◌-◌, ◌*◌, ◌/◌, ◌%◌, ◌^◌, ◌<◌, ◌≤◌, List, [], ◌∷◌, ◌++◌, length, take, drop, refl, sym, ap, subst, ◌∙◌, arith, append_assoc, Bool, true}
+use Rattle.std.proofs.Common.{◌≡◌, ◌≢◌, ℕ, zero, suc, ◌+◌, ◌-◌, ◌*◌, ◌/◌, ◌%◌, ◌^◌, ◌<◌, ◌≤◌, List, [], ◌∷◌, ◌++◌, length, take, drop, refl, sym, ap, subst, ◌∙◌, arith, append_assoc, Bool, true, rules}
 use Rattle.std.specs.Prelude.{map, slice_get, slice_index, slice_range, Some, if◌then◌else◌}
 use Rattle.std.specs.Option.{option_and_then}
 use Rattle.std.proofs.Math.Seq.{get_or-append_seam}
@@ -8,7 +8,7 @@ use Rattle.std.proofs.lemmas.Option.{option_and_then_some}
 use Rattle.etherparse.specs.Bytes.{IsBytes, spelled, overwritten}
 use Rattle.etherparse.specs.Kind.{Kind}
 use Rattle.etherparse.specs.Kind as kinds
-use Rattle.etherparse.specs.Vlan.{VlanValue, FitsVlan, IsVlan, vlan_number, vlan_bytes, vlan_of}
+use Rattle.etherparse.specs.Vlan.{VlanValue, FitsVlan, vlan_number, vlan_bytes, vlan_of}
 use Rattle.etherparse.specs.Header.{Header, kind_of, header_len, header_bytes, Spells}
 use Rattle.etherparse.specs.Header as headers
 use Rattle.etherparse.proofs.Numbers.{length-spelled}
@@ -48,25 +48,18 @@ same_ext : (front other_front : List Header) (h k : Header) (later other_later :
     → is_extension (kind_of h) ≡ true → is_extension (kind_of k) ≡ true → ext_count front ≡ ext_count other_front
     → (front ≡ other_front) × (h ≡ k) × (later ≡ other_later)
 same_ext [] [] h k later other_later e a b n = (refl, cc, cc)
-same_ext [] (y ∷ ys) h k later other_later e a b n =
-    let first : h ≡ y = cc in
-    absurd (one_more y (ext_count ys) (subst (λ (x : Header). is_extension (kind_of x) ≡ true) first a) (sym n))
-same_ext (x ∷ xs) [] h k later other_later e a b n =
-    let first : k ≡ x = cc in
-    absurd (one_more x (ext_count xs) (subst (λ (y : Header). is_extension (kind_of y) ≡ true) first b) n)
 same_ext (x ∷ xs) (y ∷ ys) h k later other_later e a b n =
     let first : x ≡ y = cc in
     let rest : xs ++ h ∷ later ≡ ys ++ k ∷ other_later = cc in
     let r = same_ext xs ys h k later other_later rest a b (same_count x y (ext_count xs) (ext_count ys) first n) in
     ((λ i. first i ∷ r.0 i), r.1, r.2)
+same_ext d f h k later other_later e a b n = search rules
 
 pub one_ext : (hs : List Header) (i : ℕ) (front other_front : List Header) (h k : Header)
     (later other_later : List Header)
     → IsExtAt hs i front h later → IsExtAt hs i other_front k other_later
     → (front ≡ other_front) × (h ≡ k) × (later ≡ other_later)
-one_ext hs i front other_front h k later other_later f g =
-    same_ext front other_front h k later other_later (sym f.parts ∙ g.parts) f.extension g.extension
-    (f.before ∙ sym g.before)
+one_ext hs i front other_front h k later other_later f g = search (rules, same_ext)
 
 pub same_vlan : (v w : VlanValue) → headers.Vlan v ≡ headers.Vlan w → v ≡ w
 same_vlan v w e = cc
@@ -75,10 +68,7 @@ same_vlan v w e = cc
 pub never_refused : (hs : List Header) (i : ℕ) (front : List Header) (tag : VlanValue) (later : List Header)
     (e : TagError)
     → IsExtAt hs i front (headers.Vlan tag) later → RefusesTag hs i e → ⊥
-never_refused hs i front tag later e found (none few) =
-    let all = ap ext_count found.parts ∙ ext_count-append front (headers.Vlan tag ∷ later) in
-    let before = found.before in
-    omega (arith, all, before, few)
+never_refused hs i front tag later e found (none few) = search (rules, ext_count-append)
 never_refused hs i front tag later e found (sec_tag other_front m other_later there) =
     let same = (one_ext hs i front other_front (headers.Vlan tag) (headers.Macsec m) later other_later found there).1 in
     absurd cc
@@ -91,12 +81,8 @@ no_ids_before us i x s untagged =
     ids_of s.front ∙ ap (map vid_at) (vlans_found s.front ∙ ap vlans_of s.before ∙ untagged)
 
 tag_is : (k : Kind) (bytes tag : List ℕ) → vlan_in k bytes ≡ Some tag → header_in k bytes ≡ headers.Vlan (vlan_of tag)
-tag_is kinds.Ethernet2 bytes tag e = absurd cc
-tag_is kinds.Ethernet2Fcs bytes tag e = absurd cc
-tag_is kinds.LinuxSll bytes tag e = absurd cc
 tag_is kinds.Vlan bytes tag e = let same : bytes ≡ tag = cc in ap (λ (l : List ℕ). headers.Vlan (vlan_of l)) same
-tag_is kinds.Macsec bytes tag e = absurd cc
-tag_is kinds.Arp bytes tag e = absurd cc
+tag_is k bytes tag e = absurd cc
 
 -- after extensions that are no VLAN tags
 is_tag : (us : List PacketUnit) (i : ℕ) (x : PacketUnit) (bytes : List ℕ) (tag : VlanValue) → Untagged (exts_of us) i
@@ -128,11 +114,7 @@ pub own_bytes : (list : List ℕ) (x : Expectation) (w : Window) (front : List H
     (e : Ending)
     → IsIn list w → Stack list x w (front ++ h ∷ later) e
     → Spells (slice_range list (place w.start front) (place w.start front + header_len h)) h
-own_bytes list x w [] h later e inside s =
-    let whole = s.0.means.whole in
-    let ordered = inside.ordered in
-    let len = length-part list w.start w.finish inside.inside in
-    subst (λ (l : List ℕ). Spells l h) (front_is list w (header_len h) (omega arith)) s.0.means.spells
+own_bytes list x w [] h later e inside s = search (rules, length-part, front_is)
 own_bytes list x w (k ∷ front) h later e inside s =
     own_bytes list (after x k) (payload w k) front h later e (payload_in list x w k inside s.0) s.1
 
@@ -140,33 +122,21 @@ two_changed : (front : List ℕ) (a b p q : ℕ) (tail : List ℕ) (i : ℕ) →
     → slice_index (front ++ a ∷ b ∷ tail) i ≡ slice_index (front ++ p ∷ q ∷ tail) i
 two_changed [] a b p q tail zero h k = absurd (h refl)
 two_changed [] a b p q tail (suc zero) h k = absurd (k refl)
-two_changed [] a b p q tail (suc (suc i)) h k = refl
-two_changed (x ∷ front) a b p q tail zero h k = refl
 two_changed (x ∷ front) a b p q tail (suc i) h k =
     two_changed front a b p q tail i (λ e. h (omega arith)) (λ e. k (omega arith))
+two_changed front a b p q tail i h k = refl
 
 two_set : (front tail : List ℕ) (a b p q vid : ℕ) → a / 16 ≡ p / 16 → a % 16 * 256 + b ≡ vid
     → SetsVid (front ++ p ∷ q ∷ tail) (length front) vid (front ++ a ∷ b ∷ tail)
 two_set front tail a b p q vid upper set =
-    let new_a = get_or-append_seam front a (b ∷ tail) 0 in
-    let new_b = get_or-append-add front (a ∷ b ∷ tail) 1 0 in
-    let old_p = get_or-append_seam front p (q ∷ tail) 0 in
-    record {
-      len = length-append front (a ∷ b ∷ tail) ∙ sym (length-append front (p ∷ q ∷ tail));
-      others = λ i h k. two_changed front a b p q tail i h k;
-      upper = (λ i. new_a i / 16) ∙ upper ∙ sym (λ i. old_p i / 16);
-      set = (λ i. new_a i % 16 * 256 + new_b i) ∙ set;
-    }
+    search (rules, get_or-append_seam, get_or-append-add, length-append, two_changed)
 
 vlan_spelled : (v : VlanValue)
     → vlan_bytes v
     ≡ vlan_number v / 256 ^ 3 % 256 ∷ vlan_number v / 256 ^ 2 % 256 ∷ vlan_number v / 256 % 256 ∷ vlan_number v
     % 256 ∷ []
 unfolding spelled
-vlan_spelled v =
-    let c : vlan_number v / 256 ^ 1 % 256 ≡ vlan_number v / 256 % 256 = omega arith in
-    let d : vlan_number v / 256 ^ 0 % 256 ≡ vlan_number v % 256 = omega arith in
-    λ i. vlan_number v / 256 ^ 3 % 256 ∷ vlan_number v / 256 ^ 2 % 256 ∷ c i ∷ d i ∷ []
+vlan_spelled v = search rules
 
 -- a tag with another identifier differs in 12 bits
 tag_set : (front rest : List ℕ) (v : VlanValue) (vid : ℕ) → FitsVlan v → vid < 4096
@@ -175,17 +145,11 @@ tag_set front rest v vid fits lt =
     let n = vlan_number v in
     let w : VlanValue = record v { vid = vid } in
     let m = vlan_number w in
-    let p = fits.pcp in
-    let d = fits.dei in
-    let f = fits.vid in
-    let t = fits.ether_type in
     let third : m / 256 % 256 ≡ n / 256 % 256 = omega arith in
     let fourth : m % 256 ≡ n % 256 = omega arith in
     let upper : m / 256 ^ 3 % 256 / 16 ≡ n / 256 ^ 3 % 256 / 16 = omega arith in
     let set : m / 256 ^ 3 % 256 % 16 * 256 + m / 256 ^ 2 % 256 ≡ vid = omega arith in
-    let old : front ++ vlan_bytes v ++ rest
-    ≡ front ++ n / 256 ^ 3 % 256 ∷ n / 256 ^ 2 % 256 ∷ n / 256 % 256 ∷ n % 256 ∷ rest =
-    append_assoc front (vlan_bytes v) rest ∙ ap (λ (l : List ℕ). front ++ (l ++ rest)) (vlan_spelled v) in
+    let old = append_assoc front (vlan_bytes v) rest ∙ ap (λ (l : List ℕ). front ++ (l ++ rest)) (vlan_spelled v) in
     let new : front ++ vlan_bytes w ++ rest
     ≡ front ++ m / 256 ^ 3 % 256 ∷ m / 256 ^ 2 % 256 ∷ n / 256 % 256 ∷ n % 256 ∷ rest =
     append_assoc front (vlan_bytes w) rest ∙ ap (λ (l : List ℕ). front ++ (l ++ rest)) (vlan_spelled w)
@@ -214,12 +178,10 @@ vid_set start old new front v later e vid ok lt walk bytes =
     let w : VlanValue = record v { vid = vid } in
     let room : at + 4 ≤ length old = header_inside start old front (headers.Vlan v) later e walk in
     let part = slice_range old at (at + 4) in
-    let spells : IsVlan part v =
-    own_bytes old start (whole start old) front (headers.Vlan v) later e (whole_in start old) walk in
+    let spells = own_bytes old start (whole start old) front (headers.Vlan v) later e (whole_in start old) walk in
     let len : length part ≡ 4 = length-part old at (at + 4) room ∙ omega arith in
     let same : vlan_bytes v ≡ part = vlan_bytes-read part v (IsBytes-part at (at + 4) old ok) len spells in
-    let old_is : take at old ++ vlan_bytes v ++ drop (at + 4) old ≡ old =
-    ap (λ (l : List ℕ). take at old ++ l ++ drop (at + 4) old) same ∙ own_over old at 4 in
+    let old_is = ap (λ (l : List ℕ). take at old ++ l ++ drop (at + 4) old) same ∙ own_over old at 4 in
     let new_is : new ≡ take at old ++ vlan_bytes w ++ drop (at + 4) old =
     bytes ∙ ap (λ (n : ℕ). take at old ++ vlan_bytes w ++ drop (at + n) old) (length-spelled 4 (vlan_number w)) in
     let begins : length (take at old) ≡ at = length-take-le at old (omega arith) in

@@ -1,5 +1,5 @@
 -- Headers that are written one after the other are found by the walk.
-use Rattle.std.proofs.Common.{◌≡◌, ℕ, ◌+◌, ◌≤◌, List, [], ◌∷◌, ◌++◌, length, drop, refl, sym, ap, subst, ◌∙◌, arith, append_assoc}
+use Rattle.std.proofs.Common.{◌≡◌, ℕ, ◌+◌, ◌≤◌, List, [], ◌∷◌, ◌++◌, length, drop, refl, sym, ap, subst, ◌∙◌, arith, append_assoc, rules}
 use Rattle.std.specs.Prelude.{slice_range, flat_map, Option, Some, None}
 use Rattle.std.proofs.lemmas.List.{length-append}
 use Rattle.std.proofs.Math.Seq.{drop-append_seam}
@@ -51,12 +51,8 @@ pub length-headers : (x : Expectation) (hs : List Header) (rest : List ℕ) → 
     → length (flat_map header_bytes hs ++ rest) ≡ place (length rest) hs
 length-headers x [] rest fits = refl
 length-headers x (h ∷ hs) rest (here, later) =
-    let tail = flat_map header_bytes hs ++ rest in
-    ap (λ (l : List ℕ). length l) (append_assoc (header_bytes h) (flat_map header_bytes hs) rest)
-    ∙ length-append (header_bytes h) tail
-    ∙ ap (λ (k : ℕ). k + length tail) (length-header_bytes h here.fits)
-    ∙ ap (λ (k : ℕ). header_len h + k) (length-headers (after x h) hs rest later)
-    ∙ sym (place-first (length rest) h hs)
+    let more = length-headers (after x h) hs rest later in
+    search (rules, append_assoc, length-append, length-header_bytes, place-first)
 
 -- from a window that holds them the headers lead to the one that holds the rest
 pub record LeadsTo (list : List ℕ) (x : Expectation) (w : Window) (hs : List Header) (rest : List ℕ) : Type 0 where

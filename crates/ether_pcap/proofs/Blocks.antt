@@ -1,5 +1,5 @@
 -- Blocks: one for each list of bytes, or one refusal; and one where the lengths are the same.
-use Rattle.std.proofs.Common.{◌≡◌, ℕ, ◌+◌, ◌-◌, ◌≤◌, List, length, refl, sym, ap, subst, ◌∙◌, arith}
+use Rattle.std.proofs.Common.{◌≡◌, ℕ, ◌+◌, ◌-◌, ◌≤◌, List, length, refl, sym, ap, subst, ◌∙◌, arith, rules}
 use Rattle.std.specs.Prelude.{slice_range}
 use Rattle.ether_base.proofs.SubLists.{length-part}
 use Rattle.ether_pcap.specs.Numbers.{Order, field}
@@ -7,19 +7,12 @@ use Rattle.ether_pcap.specs.Block.{BlockValue, IsTotalLen, BeginsBlock, BlockRef
 
 pub block_one : (order : Order) (bytes : List ℕ) (b c : BlockValue) → BeginsBlock order bytes b
     → BeginsBlock order bytes c → b ≡ c
-block_one order bytes b c h k =
-    let t : 12 + length b.body ≡ 12 + length c.body = sym h.total_len ∙ k.total_len in
-    let n : length b.body ≡ length c.body = omega arith in
-    let p : b.block_type ≡ c.block_type = sym h.block_type ∙ k.block_type in
-    let q : b.body ≡ c.body = sym h.body ∙ ap (λ (m : ℕ). slice_range bytes 8 (8 + m)) n ∙ k.body in
-    λ i. record { block_type = p i; body = q i }
+block_one order bytes b c h k = search rules
 
 -- the length at the end, by the place at which the block ends
 same_trailer : (order : Order) (bytes : List ℕ) (len n m : ℕ) → field order bytes (8 + len) (12 + len) ≡ 12 + len
     → n ≡ 12 + len → field order bytes (n - 4) n ≡ m → m ≡ n
-same_trailer order bytes len n m end e at =
-    let a : n - 4 ≡ 8 + len = omega arith in
-    sym at ∙ ap (λ (k : ℕ). field order bytes k n) a ∙ ap (field order bytes (8 + len)) e ∙ end ∙ sym e
+same_trailer order bytes len n m end e at = search rules
 
 pub block_apart : (order : Order) (bytes : List ℕ) (b : BlockValue) (r : BlockRefusal) → BeginsBlock order bytes b
     → RefusesBlock order bytes r → ⊥

@@ -1,19 +1,13 @@
 -- Bodies and section headers: one for each list of bytes, or one refusal.
-use Rattle.std.proofs.Common.{◌≡◌, ℕ, ◌+◌, List, length, drop, refl, sym, ap, ◌∙◌, arith}
-use Rattle.std.specs.Prelude.{slice_range}
+use Rattle.std.proofs.Common.{◌≡◌, ℕ, ◌+◌, List, length, refl, sym, ap, ◌∙◌, arith, rules}
 use Rattle.ether_pcap.specs.Numbers.{Order}
-use Rattle.ether_pcap.specs.Options.{padded}
 use Rattle.ether_pcap.specs.Bodies.{BodyRefusal, InterfaceValue, IsInterface, RefusesInterface, interface, EnhancedPacketValue, IsEnhancedPacket, RefusesEnhancedPacket, enhanced, enhanced_too_long, enhanced_packet, SimplePacketValue, IsSimplePacket, RefusesSimplePacket, simple, simple_too_long, simple_packet, Short, TooLong}
 
 -- ---- interface descriptions
 
 pub interface_one : (order : Order) (body : List ℕ) (v w : InterfaceValue) → IsInterface order body v
     → IsInterface order body w → v ≡ w
-interface_one order body v w h k =
-    let a : v.link_type ≡ w.link_type = sym h.link_type ∙ k.link_type in
-    let b : v.snap_len ≡ w.snap_len = sym h.snap_len ∙ k.snap_len in
-    let c : v.options ≡ w.options = sym h.options ∙ k.options in
-    λ i. record { link_type = a i; snap_len = b i; options = c i }
+interface_one order body v w h k = search rules
 
 pub interface_apart : (order : Order) (body : List ℕ) (v : InterfaceValue) (r : BodyRefusal) → IsInterface order body v
     → RefusesInterface body r → ⊥
@@ -26,14 +20,7 @@ interface_refused body r s (interface lt) (interface m) = refl
 
 pub enhanced_one : (number_len : ℕ) (order : Order) (body : List ℕ) (v w : EnhancedPacketValue)
     → IsEnhancedPacket number_len order body v → IsEnhancedPacket number_len order body w → v ≡ w
-enhanced_one number_len order body v w h k =
-    let n : length v.packet ≡ length w.packet = sym h.captured_len ∙ k.captured_len in
-    let a : v.interface ≡ w.interface = sym h.interface ∙ k.interface in
-    let b : v.time ≡ w.time = sym h.time ∙ k.time in
-    let c : v.original_len ≡ w.original_len = sym h.original_len ∙ k.original_len in
-    let p : v.packet ≡ w.packet = sym h.packet ∙ ap (λ (m : ℕ). slice_range body 20 (20 + m)) n ∙ k.packet in
-    let o : v.options ≡ w.options = sym h.options ∙ ap (λ (m : ℕ). drop (20 + padded m) body) n ∙ k.options in
-    λ i. record { interface = a i; time = b i; original_len = c i; packet = p i; options = o i }
+enhanced_one number_len order body v w h k = search rules
 
 pub enhanced_apart : (number_len : ℕ) (order : Order) (body : List ℕ) (v : EnhancedPacketValue) (r : BodyRefusal)
     → IsEnhancedPacket number_len order body v → RefusesEnhancedPacket order body r → ⊥
@@ -43,27 +30,21 @@ enhanced_apart number_len order body v r h (enhanced_packet le small lt) = omega
 
 pub enhanced_refused : (order : Order) (body : List ℕ) (r s : BodyRefusal) → RefusesEnhancedPacket order body r
     → RefusesEnhancedPacket order body s → r ≡ s
-enhanced_refused order body r s (enhanced lt) (enhanced m) = refl
 enhanced_refused order body r s (enhanced lt) (enhanced_too_long le m) = absurd (omega (arith, lt, le))
 enhanced_refused order body r s (enhanced lt) (enhanced_packet le small m) = absurd (omega (arith, lt, le))
 enhanced_refused order body r s (enhanced_too_long le lt) (enhanced m) = absurd (omega (arith, le, m))
-enhanced_refused order body r s (enhanced_too_long le lt) (enhanced_too_long le2 m) = refl
 enhanced_refused order body r s (enhanced_too_long le lt) (enhanced_packet le2 small m) =
     absurd (omega (arith, lt, small))
 enhanced_refused order body r s (enhanced_packet le small lt) (enhanced m) = absurd (omega (arith, le, m))
 enhanced_refused order body r s (enhanced_packet le small lt) (enhanced_too_long le2 m) =
     absurd (omega (arith, small, m))
-enhanced_refused order body r s (enhanced_packet le small lt) (enhanced_packet le2 small2 m) = refl
+enhanced_refused order body r s h k = refl
 
 -- ---- simple packets
 
 pub simple_one : (order : Order) (snap_len : ℕ) (body : List ℕ) (v w : SimplePacketValue)
     → IsSimplePacket order snap_len body v → IsSimplePacket order snap_len body w → v ≡ w
-simple_one order snap_len body v w h k =
-    let n : length v.packet ≡ length w.packet = sym h.captured_len ∙ k.captured_len in
-    let c : v.original_len ≡ w.original_len = sym h.original_len ∙ k.original_len in
-    let p : v.packet ≡ w.packet = sym h.packet ∙ ap (λ (m : ℕ). slice_range body 4 (4 + m)) n ∙ k.packet in
-    λ i. record { original_len = c i; packet = p i }
+simple_one order snap_len body v w h k = search rules
 
 pub simple_apart : (order : Order) (snap_len : ℕ) (body : List ℕ) (v : SimplePacketValue) (r : BodyRefusal)
     → IsSimplePacket order snap_len body v → RefusesSimplePacket order snap_len body r → ⊥

@@ -1,9 +1,9 @@
 -- The packets that are left to read, as further units are read.
-use Rattle.std.proofs.Common.{◌≡◌, ℕ, ◌+◌, List, [], ◌∷◌, length, drop, Option, Some, None, true, false, refl, sym, ap, subst, ◌∙◌, arith}
+use Rattle.std.proofs.Common.{◌≡◌, ℕ, ◌+◌, List, [], ◌∷◌, length, drop, Option, Some, None, true, false, refl, sym, ap, subst, ◌∙◌, arith, rules}
 use Rattle.std.proofs.lemmas.List.{drop-drop}
 use Rattle.std.specs.Prelude.{Result, Ok, Err}
 use Rattle.ether_base.specs.Bytes.{IsBytes}
-use Rattle.ether_pcap.specs.Capture.{PacketValue, Expectation, CaptureRefusal, Begins, Refuses, IsEnd, HasPackets, ended, refused, unit, packet}
+use Rattle.ether_pcap.specs.Capture.{PacketValue, Expectation, CaptureRefusal, Begins, Refuses, IsEnd, HasPackets, refused, unit, packet}
 use Rattle.ether_pcap.specs.CaptureReading.{State, FirstPacket, here, later, GivesNext, Gives}
 use Rattle.ether_pcap.specs.CaptureViews.{captured_packet_view, capture_refusal_view}
 use Rattle.ether_pcap.specs.declared.capture.captured_packet.CapturedPacket.{CapturedPacket}
@@ -32,13 +32,6 @@ pub record Passed (x : Expectation) (bytes : List ℕ) (y : Expectation) (rest :
   pub rest_is : rest ≡ drop len bytes
   pub first : (p : PacketValue) (more : ℕ) (z : Expectation) → FirstPacket y rest p more z
       → FirstPacket x bytes p (len + more) z
-
-pub passed_nothing : (x : Expectation) (bytes : List ℕ) → Passed x bytes x bytes
-passed_nothing x bytes = record {
-  len = 0;
-  rest_is = refl;
-  first = λ p more z is. subst (λ (n : ℕ). FirstPacket x bytes p n z) (omega arith) is;
-}
 
 pub passed_unit : (x y z : Expectation) (bytes rest next : List ℕ) (len : ℕ) → Passed x bytes y rest
     → Begins rest y len None z → next ≡ drop len rest
@@ -79,20 +72,11 @@ gives_packet s t bytes len x q packets left fault ok passed begins rest over has
       over,
     )
 
-ended_rest : (x : Expectation) (bytes : List ℕ) → IsEnd x bytes → HasPackets x bytes [] bytes None
-ended_rest x [] end = ended x [] end
-ended_rest x (b ∷ bytes) end = let e = end.1 in absurd cc
-
 -- at the end nothing is left
 pub gives_none : (s t : State) (packets : List PacketValue) (left : List ℕ) (fault : Option CaptureRefusal)
     → IsBytes t.rest → IsEnd t.expected t.rest → t.over ≡ false
     → HasPackets t.expected t.rest packets left fault → GivesNext packets left fault s None t
-gives_none s t packets left fault ok end over has =
-    let none =
-    subst (λ (l : List ℕ). HasPackets t.expected t.rest [] l None) end.1 (ended_rest t.expected t.rest end) in
-    let same = packets_one t.expected t.rest packets [] left [] fault None ok has none in
-    subst (λ (ps : List PacketValue). GivesNext ps left fault s None t) (sym same.0)
-    (subst (λ (f : Option CaptureRefusal). GivesNext [] left f s None t) (sym same.2) (refl, end, over))
+gives_none s t packets left fault ok end over has = search rules
 
 -- a refusal is what is left
 pub gives_fault : (s t : State) (f : CaptureFault) (packets : List PacketValue) (left : List ℕ)
@@ -114,8 +98,4 @@ pub gives : (s t : State) (r : Option (Result CapturedPacket CaptureFault)) → 
     → ((packets : List PacketValue) (left : List ℕ) (fault : Option CaptureRefusal)
     → HasPackets s.expected s.rest packets left fault → GivesNext packets left fault s r t)
     → t.offset + length t.rest ≡ s.offset + length s.rest → Gives s r t
-gives s t r fresh next place = record {
-  over = λ set. let e : true ≡ false = sym set ∙ fresh in absurd cc;
-  next = λ _. next;
-  place = λ _. place;
-}
+gives s t r fresh next place = search rules

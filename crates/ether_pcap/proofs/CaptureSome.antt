@@ -1,5 +1,5 @@
 -- Bytes begin with a unit, or are refused; and so a file has packets.
-use Rattle.std.proofs.Common.{◌≡◌, ℕ, zero, suc, ◌+◌, ◌-◌, ◌*◌, ◌%◌, ◌^◌, ◌<◌, ◌≤◌, List, [], ◌∷◌, ◌++◌, length, drop, length-drop, refl, sym, ap, ◌∙◌, arith, inl, inr, Some, None}
+use Rattle.std.proofs.Common.{◌≡◌, ℕ, zero, suc, ◌+◌, ◌-◌, ◌*◌, ◌%◌, ◌^◌, ◌<◌, ◌≤◌, List, [], ◌∷◌, ◌++◌, length, drop, length-drop, refl, sym, ap, ◌∙◌, arith, inl, inr, Some, None, rules}
 use Rattle.std.specs.Prelude.{◌⊎◌, Option, slice_range}
 use Rattle.std.proofs.lemmas.Bool.{cases_lt, cases_eq}
 use Rattle.ether_base.specs.Bytes.{number}
@@ -170,17 +170,7 @@ Section_of bytes =
     ((o : Order) × (b : BlockValue) × IsSection bytes o b) ⊎ ((r : SectionRefusal) × RefusesSection bytes r)
 
 some_version : (major minor : ℕ) → IsVersion major minor ⊎ (IsVersion major minor → ⊥)
-some_version major minor =
-    elim (cases_eq major 1) [
-      | inr other ↦ inr (λ v. other v.0)
-      | inl one ↦ elim (cases_eq minor 0) [
-        | inl e ↦ inl (one, inl e)
-        | inr a ↦ elim (cases_eq minor 2) [
-          | inl e ↦ inl (one, inr e)
-          | inr b ↦ inr (λ v. elim v.1 [ inl e ↦ a e | inr e ↦ b e ])
-        ]
-      ]
-    ]
+some_version major minor = search rules
 
 with_block : (bytes : List ℕ) (o : Order) (b : BlockValue) → HasSectionType bytes → HasOrder bytes o
     → BeginsBlock o bytes b → Section_of bytes
@@ -427,10 +417,9 @@ some_unit (Blocks m order interfaces) bytes =
 -- whether a file has ended
 pub at_end : (x : Expectation) (bytes : List ℕ) → IsEnd x bytes ⊎ (IsEnd x bytes → ⊥)
 at_end (Beginning m) bytes = inr (λ e. e.0)
-at_end (Records h) [] = inl (tt, refl)
 at_end (Records h) (b ∷ bytes) = inr (λ e. let n = e.1 in absurd cc)
-at_end (Blocks m order interfaces) [] = inl (tt, refl)
 at_end (Blocks m order interfaces) (b ∷ bytes) = inr (λ e. let n = e.1 in absurd cc)
+at_end x [] = inl (tt, refl)
 
 goes_on : (x y : Expectation) (bytes : List ℕ) (len : ℕ) (p : Option PacketValue) → Begins bytes x len p y
     → Packets y (drop len bytes) → Packets x bytes

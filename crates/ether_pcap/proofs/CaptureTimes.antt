@@ -1,7 +1,7 @@
 -- Times of a number of units, if a second has so many.
-use Rattle.std.proofs.Common.{◌≡◌, ℕ, ◌+◌, ◌*◌, ◌/◌, ◌%◌, ◌^◌, ◌<◌, ◌≤◌, sym, ap, ◌∙◌, arith, inl, inr, Some, Bool, mul_assoc}
+use Rattle.std.proofs.Common.{◌≡◌, ℕ, ◌+◌, ◌*◌, ◌/◌, ◌%◌, ◌^◌, ◌<◌, ◌≤◌, ap, ◌∙◌, arith, Some, Bool, mul_assoc, rules}
 use Rattle.std.specs.Prelude.{min, if◌then◌else◌, ◌-◌}
-use Rattle.std.proofs.Math.Nat.{div-add-mod, add-mul-div_left, div-lt_iff_lt-mul, div-eq_of_lt, pow-le-pow_right, one-le-pow}
+use Rattle.std.proofs.Math.Nat.{div-add-mod, add-mul-div_left, div-eq_of_lt, pow-le-pow_right, one-le-pow}
 use Rattle.std.proofs.lemmas.Bool.{cases_lt, lt-ltb}
 use Rattle.ether_pcap.specs.Capture.{time_of, units_of}
 
@@ -14,18 +14,11 @@ split n u some =
     ap (λ (k : ℕ). k / u) s ∙ add-mul-div_left (n % u * 1000000000) (n / u * 1000000000) some
 
 below_a_second : (n u : ℕ) → 0 < u → n % u * 1000000000 / u < 1000000000
-below_a_second n u some =
-    let r : n % u < u = omega arith in
-    (div-lt_iff_lt-mul {k = u} {x = n % u * 1000000000} {y = 1000000000} some).1 (omega (arith, r))
+below_a_second n u some = search rules
 
 pub same_time : (n u : ℕ) → 0 < u
     → record { seconds = n / u; nanoseconds = n % u * 1000000000 / u } ≡ time_of (n * 1000000000 / u)
-same_time n u some =
-    let s = split n u some in
-    let b = below_a_second n u some in
-    let p : n / u ≡ n * 1000000000 / u / 1000000000 = omega (arith, s, b) in
-    let q : n % u * 1000000000 / u ≡ n * 1000000000 / u % 1000000000 = omega (arith, s, b) in
-    λ i. record { seconds = p i; nanoseconds = q i }
+same_time n u some = search (rules, split, below_a_second)
 
 -- ---- how many units a second has
 
@@ -46,21 +39,11 @@ below_a_nanosecond n ticks le lt =
 
 same_quotient : (n ticks : ℕ) → ticks < 18446744073709551616
     → ticks * 1000000000 / 10 ^ min n 29 ≡ ticks * 1000000000 / 10 ^ n
-same_quotient n ticks lt =
-    elim (cases_lt n 29) [
-      | inl small ↦ let e : min n 29 ≡ n = omega arith in ap (λ (k : ℕ). ticks * 1000000000 / 10 ^ k) e
-      | inr le ↦
-          let e : min n 29 ≡ 29 = omega arith in
-          ap (λ (k : ℕ). ticks * 1000000000 / 10 ^ k) e ∙ below_a_nanosecond 29 ticks (omega arith) lt
-          ∙ sym (below_a_nanosecond n ticks le lt)
-    ]
+same_quotient n ticks lt = search (rules, cases_lt, below_a_nanosecond)
 
 units_of_ten : (n : ℕ) → n < 128 → units_of (Some n) ≡ 10 ^ n
 units_of_ten n lt = ap (λ (b : Bool). if b then 10 ^ n else 2 ^ (n - 128)) (lt-ltb n 128 lt)
 
 pub same_times : (n m ticks : ℕ) → n < 128 → m ≡ min n 29 → ticks < 18446744073709551616
     → ticks * 1000000000 / 10 ^ m ≡ ticks * 1000000000 / units_of (Some n)
-same_times n m ticks below is lt =
-    ap (λ (k : ℕ). ticks * 1000000000 / 10 ^ k) is
-    ∙ same_quotient n ticks lt
-    ∙ ap (λ (k : ℕ). ticks * 1000000000 / k) (sym (units_of_ten n below))
+same_times n m ticks below is lt = search (rules, same_quotient, units_of_ten)

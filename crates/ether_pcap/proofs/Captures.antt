@@ -1,12 +1,12 @@
 -- What a reader of capture files knows.
-use Rattle.std.proofs.Common.{◌≡◌, ℕ, zero, suc, ◌+◌, ◌^◌, ◌<◌, ◌≤◌, List, [], ◌∷◌, length, refl, sym, ap, subst, arith, inl, inr, Some, None}
-use Rattle.std.specs.Prelude.{slice_range, slice_index_or, Option, unwrap_or}
+use Rattle.std.proofs.Common.{◌≡◌, ℕ, zero, suc, ◌+◌, ◌<◌, ◌≤◌, List, [], ◌∷◌, length, refl, sym, ap, subst, arith, Some, None, rules}
+use Rattle.std.specs.Prelude.{slice_index_or, Option, unwrap_or}
 use Rattle.std.specs.Option.{option_map}
 use Rattle.std.proofs.Math.Nat.{pow-le-pow_right}
 use Rattle.std.proofs.lemmas.Bool.{cases_lt}
-use Rattle.ether_base.specs.Bytes.{IsBytes, number}
+use Rattle.ether_base.specs.Bytes.{IsBytes}
 use Rattle.ether_base.proofs.Numbers.{number_below}
-use Rattle.ether_base.proofs.SubLists.{length-part-is, IsBytes-part}
+use Rattle.ether_base.proofs.SubLists.{length-part-is}
 use Rattle.ether_pcap.specs.Numbers.{Order}
 use Rattle.ether_pcap.specs.Section.{HasSectionType, IsSection, SectionRefusal, RefusesSection}
 use Rattle.ether_pcap.specs.Options.{OptionValue, HasOptions, value_of, byte_of, number_of}
@@ -27,17 +27,7 @@ use Rattle.ether_pcap.specs.declared.capture.capture_interface.CaptureInterface.
 
 -- bytes that begin with a section's type are at least four
 pub section_len : (bytes : List ℕ) → IsBytes bytes → HasSectionType bytes → 4 ≤ length bytes
-section_len bytes ok is =
-    elim (cases_lt (length bytes) 4) [
-      | inl lt ↦
-          let part = slice_range bytes 0 4 in
-          let len : length part ≤ 3 = omega (arith, length-part-is bytes 0 4) in
-          let most : 256 ^ length part ≤ 16777216 =
-          pow-le-pow_right {n = 256} (omega arith) {i = length part} {j = 3} len in
-          let below : number part < 256 ^ length part = number_below part (IsBytes-part 0 4 bytes ok) in
-          absurd (omega (arith, most, below, is))
-      | inr le ↦ le
-    ]
+section_len bytes ok is = grind (arith, cases_lt, length, length-part-is, pow-le-pow_right, number_below)
 
 -- the interface that an interface description describes
 pub describes : (order : Order) (body : List ℕ) (d : InterfaceDescription) (fcs_len resolution : Option ℕ) (offset : ℕ)
@@ -53,22 +43,7 @@ pub describes : (order : Order) (body : List ℕ) (d : InterfaceDescription) (fc
       resolution = resolution;
       offset = offset;
     })
-describes order body d fcs_len resolution offset options is has f r s =
-    record {
-      interface = interface_view d;
-      options = options;
-      is_interface = is;
-      has_options = has;
-      value =
-          λ i.
-          record {
-            link_type = d.link_type.0;
-            snap_len = d.snap_len;
-            fcs_len = sym f i;
-            resolution = sym r i;
-            offset = sym s i;
-          };
-    }
+describes order body d fcs_len resolution offset options is has f r s = search rules
 
 -- the interface at a place
 pub is_at : (interfaces : List CaptureInterface) (n : ℕ) (other : CaptureInterface) → n < length interfaces
@@ -76,8 +51,7 @@ pub is_at : (interfaces : List CaptureInterface) (n : ℕ) (other : CaptureInter
 is_at [] n other lt = absurd (omega arith)
 is_at (x ∷ xs) zero other lt = record { before = []; after = interfaces_view xs; parts = refl; number = refl }
 is_at (x ∷ xs) (suc n) other lt =
-    let at : IsAt (interfaces_view xs) n (capture_interface_view (slice_index_or xs n other)) =
-    is_at xs n other (omega arith) in
+    let at = is_at xs n other (omega arith) in
     record {
       before = capture_interface_view x ∷ at.before;
       after = at.after;

@@ -1,15 +1,14 @@
 -- What a unit is, after it and why there is none: one for each list of bytes and each expectation.
-use Rattle.std.proofs.Common.{◌≡◌, ℕ, ◌+◌, ◌<◌, List, [], ◌∷◌, ◌++◌, length, length-append, refl, sym, ap, subst, ◌∙◌, arith, Some}
+use Rattle.std.proofs.Common.{◌≡◌, ℕ, ◌+◌, ◌<◌, List, [], ◌∷◌, ◌++◌, length, length-append, refl, sym, ap, subst, ◌∙◌, arith, Some, rules}
 use Rattle.std.specs.Prelude.{Option, slice_get}
 use Rattle.ether_base.specs.Bytes.{IsBytes}
 use Rattle.ether_pcap.specs.Numbers.{Order}
-use Rattle.ether_pcap.specs.Record.{RecordValue, record_len}
 use Rattle.ether_pcap.specs.Block.{BlockValue}
 use Rattle.ether_pcap.specs.Options.{OptionValue, HasOptions}
-use Rattle.ether_pcap.specs.Bodies.{InterfaceValue, EnhancedPacketValue, SimplePacketValue, IsSimplePacket, RefusesSimplePacket}
-use Rattle.ether_pcap.specs.Capture.{PacketValue, packet_of_record, CaptureInterfaceValue, described_by, Describes, IsAt, packet_on, simple_packet_on, Expectation, Records, Blocks, BlockKind, InterfaceDescription, SimplePacket, EnhancedPacket, Other, kind_of_block, IsBody, CaptureRefusal, File, Record, Section, Block, Body, NoInterface, RefusesBody, interface, too_many, simple_alone, simple, enhanced, enhanced_alone, Begins, file_header, file_record, first_section, section, block, Refuses, file_header_refused, file_record_refused, first_section_refused, section_refused, block_refused, body_refused}
+use Rattle.ether_pcap.specs.Bodies.{EnhancedPacketValue, SimplePacketValue, IsSimplePacket, RefusesSimplePacket}
+use Rattle.ether_pcap.specs.Capture.{PacketValue, CaptureInterfaceValue, Describes, IsAt, packet_on, simple_packet_on, Expectation, Records, Blocks, BlockKind, InterfaceDescription, SimplePacket, EnhancedPacket, Other, kind_of_block, IsBody, CaptureRefusal, File, Record, Section, Block, Body, NoInterface, RefusesBody, interface, too_many, simple_alone, simple, enhanced, enhanced_alone, Begins, file_header, file_record, first_section, section, block, Refuses, file_header_refused, file_record_refused, first_section_refused, section_refused, block_refused, body_refused}
 use Rattle.ether_pcap.proofs.FileHeaders.{one_header, apart, refused_once}
-use Rattle.ether_pcap.proofs.Records.{record_one, record_apart, refusal_one}
+use Rattle.ether_pcap.proofs.Records.{record_apart, refusal_one}
 use Rattle.ether_pcap.proofs.Blocks.{block_one, block_apart, block_refusal_one}
 use Rattle.ether_pcap.proofs.Sections as sections
 use Rattle.ether_pcap.proofs.Options.{same_options}
@@ -23,30 +22,17 @@ get_middle [] after i = refl
 get_middle (x ∷ before) after i = get_middle before after i
 
 get_at : (l : List CaptureInterfaceValue) (n : ℕ) (i : CaptureInterfaceValue) → IsAt l n i → slice_get l n ≡ Some i
-get_at l n i at =
-    ap (λ (m : List CaptureInterfaceValue). slice_get m n) at.parts
-    ∙ ap (slice_get (at.before ++ i ∷ at.after)) (sym at.number) ∙ get_middle at.before at.after i
+get_at l n i at = search (rules, get_middle)
 
 pub at_one : (l : List CaptureInterfaceValue) (n : ℕ) (i j : CaptureInterfaceValue) → IsAt l n i → IsAt l n j → i ≡ j
 at_one l n i j a b = let e = get_at l n i a in let f = get_at l n j b in cc
 
 pub at_within : (l : List CaptureInterfaceValue) (n : ℕ) (i : CaptureInterfaceValue) → IsAt l n i → n < length l
-at_within l n i at =
-    let e : length l ≡ length at.before + length (i ∷ at.after) =
-    ap length at.parts ∙ length-append at.before (i ∷ at.after) in
-    omega (arith, e, at.number)
+at_within l n i at = search (rules, length-append)
 
 described_one : (order : Order) (body : List ℕ) (v w : CaptureInterfaceValue) → Describes order body v
     → Describes order body w → v ≡ w
-described_one order body v w d e =
-    let s : d.interface ≡ e.interface =
-    interface_one order body d.interface e.interface d.is_interface e.is_interface in
-    let m : HasOptions order d.interface.options e.options =
-    subst (λ (k : InterfaceValue). HasOptions order k.options e.options) (sym s) e.has_options in
-    let o : d.options ≡ e.options = same_options order d.interface.options d.options e.options d.has_options m in
-    let p : described_by order d.interface d.options ≡ described_by order e.interface e.options =
-    λ i. described_by order (s i) (o i) in
-    sym d.value ∙ p ∙ e.value
+described_one order body v w d e = search (rules, interface_one, same_options)
 
 -- ---- bodies
 
@@ -111,8 +97,6 @@ body_refusal_one kind most order before body r s (interface a refused) (too_many
     absurd (interface_apart order body d.interface a d.is_interface refused)
 body_refusal_one kind most order before body r s (too_many i d full) (interface a refused) =
     absurd (interface_apart order body d.interface a d.is_interface refused)
-body_refusal_one kind most order before body r s (too_many i d full) (too_many j d2 full2) = refl
-body_refusal_one kind most order before body r s (simple_alone none) (simple_alone none2) = refl
 body_refusal_one kind most order before body r s (simple_alone none) (simple i a at refused) =
     absurd (omega (arith, at_within before 0 i at, none))
 body_refusal_one kind most order before body r s (simple i a at refused) (simple_alone none) =
@@ -130,6 +114,7 @@ body_refusal_one kind most order before body r s (enhanced_alone n v is none) (e
     absurd (enhanced_apart n order body v a is refused)
 body_refusal_one kind most order before body r s (enhanced_alone n v is none) (enhanced_alone n2 w is2 none2) =
     ap (λ (k : EnhancedPacketValue). NoInterface k.interface) (enhanced_one n order body v w is is2)
+body_refusal_one kind most order before body r s h k = refl
 
 -- ---- units
 
@@ -138,16 +123,12 @@ pub unit_one : (bytes : List ℕ) (x y z : Expectation) (len n : ℕ) (p q : Opt
 unit_one bytes x y z len n p q ok (file_header m h other is) (file_header m2 k other2 is2) =
     (refl, refl, ap Records (one_header bytes h k ok is is2))
 unit_one bytes x y z len n p q ok (file_header m h other is) (first_section m2 order b is2) = absurd (other is2.section)
-unit_one bytes x y z len n p q ok (file_record h r is) (file_record k s is2) =
-    let e = record_one h.order bytes r s is is2 in
-    (ap record_len e, ap (λ (v : RecordValue). Some (packet_of_record h v)) e, refl)
+unit_one bytes x y z len n p q ok (file_record h r is) (file_record k s is2) = search rules
 unit_one bytes x y z len n p q ok (first_section m order b is) (file_header m2 h other is2) = absurd (other is.section)
 unit_one bytes x y z len n p q ok (first_section m order b is) (first_section m2 order2 c is2) =
-    let e = sections.section_one bytes order order2 b c ok is is2 in
-    (ap (λ (v : BlockValue). 12 + length v.body) e.1, refl, ap (λ (o : Order). Blocks m o []) e.0)
+    search (rules, sections.section_one)
 unit_one bytes x y z len n p q ok (section m order next interfaces b is) (section m2 order2 next2 interfaces2 c is2) =
-    let e = sections.section_one bytes next next2 b c ok is is2 in
-    (ap (λ (v : BlockValue). 12 + length v.body) e.1, refl, ap (λ (o : Order). Blocks m o []) e.0)
+    search (rules, sections.section_one)
 unit_one bytes x y z len n p q ok (section m order next interfaces b is)
     (block m2 order2 interfaces2 after packet c other begins is2) =
     absurd (other is.section)

@@ -1,21 +1,21 @@
 -- What a copy has of a unit is a unit of the copy.
-use Rattle.std.proofs.Common.{◌≡◌, ◌⊎◌, ℕ, ◌+◌, ◌<◌, ◌≤◌, Bool, true, false, List, [], ◌∷◌, ◌++◌, length, map, refl, sym, ap, subst, ◌∙◌, arith, inl, inr, Some, None}
+use Rattle.std.proofs.Common.{◌≡◌, ◌⊎◌, ℕ, ◌+◌, ◌<◌, ◌≤◌, Bool, true, false, List, [], ◌∷◌, ◌++◌, length, map, refl, sym, ap, subst, ◌∙◌, arith, inl, inr, Some, None, rules}
 use Rattle.std.specs.Prelude.{Option, unwrap_or, nat_eq, slice_range, if◌then◌else◌}
 use Rattle.std.proofs.lemmas.Bool.{cases_eq, eq-eqb, ne_eqb, eqb-true}
 use Rattle.std.proofs.lemmas.List.{map-append, length-map}
 use Rattle.ether_base.specs.Bytes.{number}
 use Rattle.ether_pcap.specs.Numbers.{Order, field}
 use Rattle.ether_pcap.specs.Block.{BlockValue, BeginsBlock}
-use Rattle.ether_pcap.specs.Section.{section_type, HasSectionType, IsSection}
+use Rattle.ether_pcap.specs.Section.{HasSectionType, IsSection}
 use Rattle.ether_pcap.specs.Bodies.{captured_by, IsSimplePacket}
 use Rattle.ether_pcap.specs.Writing.{bytes_of}
 use Rattle.ether_pcap.specs.Capture.{PacketValue, IsWithinSnap, packet_of_record, packet_on, simple_packet_on, CaptureInterfaceValue, Describes, IsAt, Expectation, Beginning, Records, Blocks, BlockKind, InterfaceDescription, SimplePacket, EnhancedPacket, Other, kind_of_block, IsBody, HasBegun, Begins, file_header, file_record, first_section, section, block}
 use Rattle.ether_pcap.specs.Editing.{EditedValue, edited_block, edited_unit}
 use Rattle.ether_pcap.specs.CopiedUnits.{ModeValue, Exact, Changed, raised_len, raised_header, raised_interface, expected_in, with_bytes, no_section_len, changed_block, changed_unit, other_unit, packet_in, is_kept, packet_unit, unit_after, packet_after}
 use Rattle.ether_pcap.proofs.CaptureLengths.{unit_some}
-use Rattle.ether_pcap.proofs.EditPackets.{edited_begins, why_not_edited, fits_if}
+use Rattle.ether_pcap.proofs.EditPackets.{edited_begins, why_not_edited}
 use Rattle.ether_pcap.proofs.PacketUnits.{record_of_unit, block_of_unit, type_of, is_interface, is_obsolete, is_simple, is_enhanced, is_other, same_packet, begun, begun_before}
-use Rattle.ether_pcap.proofs.WithBytes.{length-with_bytes, raised_none, raised_some, raised_room, header_raised, with_bytes-before, section_in, interface_begins, interface_len, interface_described}
+use Rattle.ether_pcap.proofs.WithBytes.{length-with_bytes, raised_none, raised_room, header_raised, with_bytes-before, section_in, interface_begins, interface_len, interface_described}
 
 -- ---- lengths
 
@@ -31,33 +31,16 @@ interface_room : (kind : BlockKind) (most : ℕ) (order : Order) (before after :
     (body : List ℕ) (p : Option PacketValue) → kind ≡ InterfaceDescription
     → IsBody kind most order before body p after → 8 ≤ length body
 interface_room InterfaceDescription most order before after body p e (i, d, lt, f, g) = d.is_interface.len
-interface_room SimplePacket most order before after body p e is = absurd cc
-interface_room (EnhancedPacket n) most order before after body p e is = absurd cc
-interface_room Other most order before after body p e is = absurd cc
+interface_room kind most order before after body p e is = absurd cc
 
 -- a unit without a packet
 room_if : (bytes : List ℕ) (x y : Expectation) (len : ℕ) (p : Option PacketValue) → p ≡ None
     → Begins bytes x len p y → HasRoom y bytes
 room_if bytes x y len p e (file_header m h other is) = is.len
 room_if bytes x y len p e (file_record h r is) = absurd cc
-room_if bytes x y len p e (first_section m order b is) =
-    let whole : 12 + length b.body ≤ length bytes = is.block.whole in
-    let long : 16 ≤ length b.body = is.len in
-    (omega (arith, whole), λ has. omega (arith, whole, long), λ one. omega (arith, whole, long))
-room_if bytes x y len p e (section m order next interfaces b is) =
-    let whole : 12 + length b.body ≤ length bytes = is.block.whole in
-    let long : 16 ≤ length b.body = is.len in
-    (omega (arith, whole), λ has. omega (arith, whole, long), λ one. omega (arith, whole, long))
-room_if bytes x y len p e (block m order interfaces after q b other begins body) =
-    let whole : 12 + length b.body ≤ length bytes = begins.whole in (
-      omega (arith, whole),
-      λ has. absurd (other has),
-      λ one.
-          let kind : kind_of_block b.block_type ≡ InterfaceDescription =
-          ap kind_of_block (sym begins.block_type ∙ one) in
-          let long = interface_room (kind_of_block b.block_type) m order interfaces after b.body q kind body in
-          omega (arith, whole, long),
-    )
+room_if bytes x y len p e (first_section m order b is) = search rules
+room_if bytes x y len p e (section m order next interfaces b is) = search rules
+room_if bytes x y len p e (block m order interfaces after q b other begins body) = search rules
 
 pub unit_room : (bytes : List ℕ) (x y : Expectation) (len : ℕ) → Begins bytes x len None y → HasRoom y bytes
 unit_room bytes x y len begins = room_if bytes x y len None refl begins
@@ -73,16 +56,12 @@ InCopy mode bytes x y =
 pub section_changed : (raise m : ℕ) (order : Order) (interfaces : List CaptureInterfaceValue) (bytes : List ℕ)
     → HasSectionType bytes
     → changed_unit raise (Blocks m order interfaces) bytes ≡ with_bytes 16 no_section_len bytes
-section_changed raise m order interfaces bytes is =
-    ap (λ (b : Bool). if b then with_bytes 16 no_section_len bytes else changed_block raise order bytes)
-    (eq-eqb (number (slice_range bytes 0 4)) section_type is)
+section_changed raise m order interfaces bytes is = search rules
 
 pub other_changed : (raise m : ℕ) (order : Order) (interfaces : List CaptureInterfaceValue) (bytes : List ℕ)
     → (HasSectionType bytes → ⊥)
     → changed_unit raise (Blocks m order interfaces) bytes ≡ changed_block raise order bytes
-other_changed raise m order interfaces bytes other =
-    ap (λ (b : Bool). if b then with_bytes 16 no_section_len bytes else changed_block raise order bytes)
-    (ne_eqb (number (slice_range bytes 0 4)) section_type other)
+other_changed raise m order interfaces bytes other = search rules
 
 module _ (raise : ℕ) where
   abbrev raised : List CaptureInterfaceValue → List CaptureInterfaceValue
@@ -91,9 +70,7 @@ module _ (raise : ℕ) where
   -- a unit of the copy, by its length
   as_unit : (new unit : List ℕ) (x y : Expectation) (n : ℕ) → new ≡ unit → n ≡ length new
       → Begins new x n None y → Begins unit x (length unit) None y
-  as_unit new unit x y n same len begins =
-      subst (λ (l : List ℕ). Begins l x (length l) None y) same
-      (subst (λ (k : ℕ). Begins new x k None y) len begins)
+  as_unit new unit x y n same len begins = search rules
 
   section_unit : (bytes : List ℕ) (x z : Expectation) (m n : ℕ) (order : Order) (b : BlockValue)
       → n ≡ length bytes → n ≡ 12 + length b.body → IsSection bytes order b
@@ -124,14 +101,12 @@ module _ (raise : ℕ) where
       let room : 16 ≤ length bytes = omega (arith, len, whole) in
       let c : BlockValue = record { block_type = b.block_type; body = slice_range new 8 (8 + length b.body) } in
       let is = interface_begins raise order bytes b begins v d in
-      let kind : kind_of_block b.block_type ≡ InterfaceDescription =
-      ap kind_of_block (sym begins.block_type ∙ one) in
+      let kind = ap kind_of_block (sym begins.block_type ∙ one) in
       let type_same : slice_range new 0 4 ≡ slice_range bytes 0 4 =
       with_bytes-before 12 (bytes_of order 4 n) bytes
       (raised_room order raise (field order bytes 12 16) 12 bytes room) 0 4 (omega arith) (omega arith) in
       let not_section : HasSectionType new → ⊥ = λ (has : HasSectionType new). other (sym (ap number type_same) ∙ has) in
-      let in_after : raised after ≡ raised before ++ w ∷ [] =
-      ap raised is_after ∙ map-append (raised_interface raise) before (v ∷ []) in
+      let in_after = ap raised is_after ∙ map-append (raised_interface raise) before (v ∷ []) in
       let few : length (raised before) < m = omega (arith, lt, length-map before (raised_interface raise)) in
       let described = interface_described raise order bytes b begins v d in
       let body : IsBody InterfaceDescription m order (raised before) c.body None (raised after) =
@@ -201,9 +176,7 @@ module _ (raise : ℕ) where
       plain_unit bytes m order before after b len other begins not_one kind g
     where
       not_one : field order bytes 0 4 ≡ 1 → ⊥
-      not_one one =
-          let bad : InterfaceDescription ≡ Other = ap kind_of_block (sym (sym begins.block_type ∙ one)) ∙ kind in
-          absurd cc
+      not_one one = absurd cc
 
   changed_if : (bytes : List ℕ) (x y : Expectation) (len : ℕ) (p : Option PacketValue) → p ≡ None
       → len ≡ length bytes → Begins bytes x len p y → InCopy (Changed raise) bytes x y
@@ -237,28 +210,13 @@ unit_in_copy (Changed raise) bytes x y begins = changed_if raise bytes x y (leng
 -- .. which is not left out at the beginning of a file
 pub some_in_copy : (mode : ModeValue) (bytes : List ℕ) (x y : Expectation) → Begins bytes x (length bytes) None y
     → ¬ (HasBegun x) → other_unit mode y bytes ≡ [] → ⊥
-some_in_copy mode bytes x y begins first empty =
-    elim (unit_in_copy mode bytes x y begins) [
-      | inl (none, same) ↦ first (subst HasBegun same (begun bytes x y (length bytes) None begins))
-      | inr is ↦
-          let n = unit_some (other_unit mode y bytes) (expected_in mode x) (expected_in mode y)
-          (length (other_unit mode y bytes)) None is in
-          let none : length (other_unit mode y bytes) ≡ 0 = ap length empty in
-          omega (arith, n, none)
-    ]
+some_in_copy mode bytes x y begins first empty = grind (arith, unit_in_copy, begun, length, unit_some)
 
 -- ---- packets
 
 raised_at : (raise : ℕ) (interfaces : List CaptureInterfaceValue) (n : ℕ) (i : CaptureInterfaceValue)
     → IsAt interfaces n i → IsAt (map (raised_interface raise) interfaces) n (raised_interface raise i)
-raised_at raise interfaces n i at = record {
-  before = map (raised_interface raise) at.before;
-  after = map (raised_interface raise) at.after;
-  parts =
-      ap (map (raised_interface raise)) at.parts
-      ∙ map-append (raised_interface raise) at.before (i ∷ at.after);
-  number = length-map at.before (raised_interface raise) ∙ at.number;
-}
+raised_at raise interfaces n i at = search (rules, map-append, length-map)
 
 kept_if : (b : Bool) (unit new : List ℕ) → (if b then Some unit else None) ≡ Some new → (b ≡ true) × (unit ≡ new)
 kept_if true unit new is = (refl, ap (λ (o : Option (List ℕ)). unwrap_or o unit) is)
@@ -278,8 +236,7 @@ module _ (raise : ℕ) where
   raised_body InterfaceDescription m order interfaces body p (i, d, lt, e, f) kept = absurd cc
   raised_body SimplePacket m order interfaces body p (i, v, at, is, e, f) kept =
       let same : p ≡ simple_packet_on i v = same_packet p (simple_packet_on i v) e in
-      let len : captured_by (raised_len raise p.snap_len) p.original_len ≡ length p.packet =
-      eqb-true (captured_by (raised_len raise p.snap_len) p.original_len) (length p.packet) kept in
+      let len = eqb-true (captured_by (raised_len raise p.snap_len) p.original_len) (length p.packet) kept in
       let here : captured_by (raised_len raise i.snap_len) v.original_len ≡ length v.packet =
       subst (λ (q : PacketValue). captured_by (raised_len raise q.snap_len) q.original_len ≡ length q.packet) same len in
       let fits : IsSimplePacket order (raised_len raise i.snap_len) body v = record {
@@ -312,8 +269,7 @@ module _ (raise : ℕ) where
       → packet_unit (Changed raise) x p u ≡ Some u
       → Begins u (expected_in (Changed raise) x) (length u) (Some (packet_in (Changed raise) p))
       (expected_in (Changed raise) x)
-  raised_unit (Beginning m) u p begins kept =
-      absurd (begun_before u (Beginning m) (Beginning m) (length u) p begins)
+  raised_unit (Beginning m) u p begins kept = absurd (begun_before u (Beginning m) (Beginning m) (length u) p begins)
   raised_unit (Records h) u p begins kept =
       let s = record_of_unit u (Records h) (length u) h p begins in
       let g = raised_header raise h in
@@ -327,8 +283,7 @@ module _ (raise : ℕ) where
       let x = Blocks m order (map (raised_interface raise) interfaces) in
       let kind = kind_of_block b.value.block_type in
       let is = kept_if (is_kept raise (kind_of_block (field order u 0 4)) p) u u kept in
-      let keeps : is_kept raise kind p ≡ true =
-      ap (λ (n : ℕ). is_kept raise (kind_of_block n) p) (sym b.begins.block_type) ∙ is.0 in
+      let keeps = ap (λ (n : ℕ). is_kept raise (kind_of_block n) p) (sym b.begins.block_type) ∙ is.0 in
       subst (λ (k : ℕ). Begins u x k (Some (packet_in (Changed raise) p)) x) (sym found.1)
       (block m order (map (raised_interface raise) interfaces) (map (raised_interface raise) interfaces)
       (Some (packet_in (Changed raise) p)) b.value b.other b.begins
@@ -337,10 +292,8 @@ module _ (raise : ℕ) where
   -- what is edited is no simple packet
   kept_edited : (kind : BlockKind) (order : Order) (m : ℕ) (e : EditedValue) (u new : List ℕ) (p : PacketValue)
       → edited_block kind order m e u ≡ Some new → is_kept raise kind p ≡ true
-  kept_edited InterfaceDescription order m e u new p is = absurd cc
-  kept_edited SimplePacket order m e u new p is = absurd cc
   kept_edited (EnhancedPacket n) order m e u new p is = refl
-  kept_edited Other order m e u new p is = absurd cc
+  kept_edited h order m e u new p is = absurd (search rules)
 
   edited_unit_kept : (x : Expectation) (u new : List ℕ) (p : PacketValue) (e : EditedValue)
       → edited_unit x (length p.packet) e u ≡ Some new
@@ -348,12 +301,7 @@ module _ (raise : ℕ) where
       × (edited_unit (expected_in (Changed raise) x) (length p.packet) e u ≡ Some new)
   edited_unit_kept (Beginning m) u new p e is = (refl, is)
   edited_unit_kept (Records h) u new p e is = (refl, is)
-  edited_unit_kept (Blocks m order interfaces) u new p e is = (
-    ap (λ (b : Bool). if b then Some u else None)
-        (kept_edited (kind_of_block (field order u 0 4)) order (length p.packet) e u new p
-        (fits_if (Blocks m order interfaces) (length p.packet) e u new is).is),
-    is,
-  )
+  edited_unit_kept (Blocks m order interfaces) u new p e is = search rules
 
 -- the unit of a packet is one of the copy
 pub packet_in_copy : (mode : ModeValue) (x : Expectation) (u new : List ℕ) (p : PacketValue) (o : Option EditedValue)
@@ -389,31 +337,19 @@ WhyNot p o =
 simple_if : (kind : BlockKind) (raise m : ℕ) (order : Order) (interfaces : List CaptureInterfaceValue)
     (body : List ℕ) (p : PacketValue)
     → IsBody kind m order interfaces body (Some p) interfaces → is_kept raise kind p ≡ false → p.time ≡ None
-simple_if InterfaceDescription raise m order interfaces body p is e = absurd cc
 simple_if SimplePacket raise m order interfaces body p (i, v, at, is, f, g) e =
     ap (λ (q : PacketValue). q.time) (same_packet p (simple_packet_on i v) f)
-simple_if (EnhancedPacket n) raise m order interfaces body p is e = absurd cc
-simple_if Other raise m order interfaces body p is e = absurd cc
+simple_if kind raise m order interfaces body p is e = absurd cc
 
 left_out : (mode : ModeValue) (x : Expectation) (u : List ℕ) (p : PacketValue) → Begins u x (length u) (Some p) x
     → packet_unit mode x p u ≡ None → p.time ≡ None
-left_out Exact x u p begins is = absurd cc
-left_out (Changed raise) (Beginning m) u p begins is = absurd cc
-left_out (Changed raise) (Records h) u p begins is = absurd cc
-left_out (Changed raise) (Blocks m order interfaces) u p begins is =
-    let b = (block_of_unit u (Blocks m order interfaces) (length u) m order interfaces p begins).0 in
-    let left = left_if (is_kept raise (kind_of_block (field order u 0 4)) p) u is in
-    simple_if (kind_of_block b.value.block_type) raise m order interfaces b.value.body p b.body
-    (ap (λ (n : ℕ). is_kept raise (kind_of_block n) p) (sym b.begins.block_type) ∙ left)
+left_out (Changed raise) (Blocks m order interfaces) u p begins is = search (rules, block_of_unit, left_if, simple_if)
+left_out mode x u p begins is = absurd cc
 
 pub why_not_copied : (mode : ModeValue) (x : Expectation) (u : List ℕ) (p : PacketValue) (o : Option EditedValue)
     → Begins u x (length u) (Some p) x → unit_after mode x p o u ≡ None → WhyNot p o
 why_not_copied mode x u p None begins is = inl (left_out mode x u p begins is)
-why_not_copied mode x u p (Some e) begins is =
-    elim (why_not_edited x u p e begins is) [
-      | inl simple ↦ inl simple
-      | inr long ↦ inr (e, refl, long)
-    ]
+why_not_copied mode x u p (Some e) begins is = search (rules, why_not_edited)
 
 -- ---- snap lengths
 
@@ -421,8 +357,4 @@ why_not_copied mode x u p (Some e) begins is =
 pub raised_within : (raise : ℕ) (p q : PacketValue) → IsWithinSnap p → q.snap_len ≡ raised_len raise p.snap_len
     → length q.packet ≤ length p.packet + raise → length q.packet ≤ 262144 → IsWithinSnap q
 raised_within raise p q (inl none) e more room = inl (e ∙ raised_none raise p.snap_len none)
-raised_within raise p q (inr le) e more room =
-    elim (cases_eq p.snap_len 0) [
-      | inl none ↦ inl (e ∙ raised_none raise p.snap_len none)
-      | inr some ↦ let is = raised_some raise p.snap_len some in inr (omega (arith, e, is, le, more, room))
-    ]
+raised_within raise p q (inr le) e more room = search rules

@@ -1,6 +1,6 @@
 -- What a copy of a capture file has.
-use Rattle.std.proofs.Common.{◌≡◌, ◌≢◌, ◌⊎◌, ℕ, zero, suc, ◌+◌, ◌<◌, ◌≤◌, Bool, true, false, List, [], ◌∷◌, ◌++◌, length, drop, length-drop, append_assoc, refl, sym, ap, subst, ◌∙◌, arith, inl, inr, Some, None}
-use Rattle.std.specs.Prelude.{Option, IsTrue, All, take, ⊤, unwrap_or}
+use Rattle.std.proofs.Common.{◌≡◌, ◌≢◌, ◌⊎◌, ℕ, zero, suc, ◌+◌, ◌<◌, ◌≤◌, Bool, true, false, List, [], ◌∷◌, ◌++◌, length, drop, length-drop, append_assoc, refl, sym, subst, arith, inl, inr, Some, None, rules}
+use Rattle.std.specs.Prelude.{Option, IsTrue, All, take, ⊤}
 use Rattle.std.proofs.lemmas.List.{length-take-le, take-append-drop, drop_at}
 use Rattle.std.proofs.lemmas.List.Elements.{All-cons, All-head, All-tail}
 use Rattle.ether_pcap.specs.Capture.{PacketValue, IsWithinSnap, Expectation, CaptureRefusal, HasBegun, Begins, Refuses, IsEnd, HasPackets}
@@ -30,17 +30,12 @@ unit_taken bytes x y len p begins =
 -- a unit without a packet, by its own bytes
 pub other_taken : (bytes : List ℕ) (x y : Expectation) (len : ℕ) → Begins bytes x len None y
     → Begins (take len bytes) x (length (take len bytes)) None y
-other_taken bytes x y len begins =
-    let s = unit_taken bytes x y len None begins in
-    subst (λ (k : ℕ). Begins (take len bytes) x k None y) (sym s.1) s.0
+other_taken bytes x y len begins = search (rules, unit_taken)
 
 -- the unit of a packet, by its own bytes
 pub packet_taken : (bytes : List ℕ) (x y : Expectation) (len : ℕ) (p : PacketValue) → Begins bytes x len (Some p) y
     → Begins (take len bytes) x (length (take len bytes)) (Some p) x
-packet_taken bytes x y len p begins =
-    let s = unit_taken bytes x y len (Some p) begins in
-    subst (λ (k : ℕ). Begins (take len bytes) x k (Some p) x) (sym s.1)
-    (subst (λ (z : Expectation). Begins (take len bytes) x len (Some p) z) (same_after bytes x y len p begins) s.0)
+packet_taken bytes x y len p begins = search (rules, unit_taken, same_after)
 
 -- a packet that is copied
 pub packet_copied : (mode : ModeValue) (bytes front copy : List ℕ) (x y : Expectation) (len : ℕ) (p : PacketValue)
@@ -48,12 +43,7 @@ pub packet_copied : (mode : ModeValue) (bytes front copy : List ℕ) (x y : Expe
     → Begins bytes x len (Some p) y → unit_after mode x p o (take len bytes) ≡ Some front
     → Begins (front ++ copy) (expected_in mode x) (length front) (Some (packet_after mode p o)) (expected_in mode y)
 packet_copied mode bytes front copy x y len p o begins is =
-    let here = packet_taken bytes x y len p begins in
-    let z = expected_in mode x in
-    subst (λ (w : Expectation). Begins (front ++ copy) z (length front) (Some (packet_after mode p o)) (expected_in mode w))
-    (sym (same_after bytes x y len p begins))
-    (unit_local front copy z z (length front) (Some (packet_after mode p o))
-    (packet_in_copy mode x (take len bytes) front p o here is))
+    search (rules, packet_taken, same_after, unit_local, packet_in_copy)
 
 -- ---- all packets up to what is left
 
@@ -205,21 +195,7 @@ module _ (mode : ModeValue) (Keeps : PacketValue → Type 0) (Edits : PacketValu
   stopped_at x bytes copy kept edited rest fault q (ended _ _ end) e = absurd cc
   stopped_at x bytes copy kept edited rest fault q (refused _ _ r more is) e = absurd cc
   stopped_at x bytes copy kept edited rest fault q (not_edited _ y _ len p o begins is edits no_front) e =
-      let same : p ≡ q = cc in
-      let here =
-      subst (λ (z : Expectation). Begins bytes x len (Some p) z) (same_after bytes x y len p begins) begins in
-      let why = why_not_copied mode x (take len bytes) p o (packet_taken bytes x y len p begins) no_front in
-      subst (IsNotEdited mode Keeps Edits bytes) same
-      (record {
-        expected = x;
-        len = len;
-        edited = o;
-        begins = here;
-        kept = is;
-        edits = edits;
-        not_written = no_front;
-        why = why;
-      })
+      search (rules, same_after, why_not_copied, packet_taken)
   stopped_at x bytes copy kept edited rest fault q (unit _ y _ others len _ _ _ _ begins copies) e =
       stopped_at y (drop len bytes) others kept edited rest fault q copies e
   stopped_at x bytes copy kept edited rest fault q (keeps _ y _ front others len p o ps qs _ _ begins is edits fits copies) e =
@@ -269,22 +245,17 @@ module _ (Edits : PacketValue → Option EditedValue → Type 0) (stays : EditsN
   pub all_unedited : (kept edited : List PacketValue) → AreEdited Exact Edits kept edited → edited ≡ kept
   all_unedited _ _ none_edited = refl
   all_unedited _ _ (one_edited p o kept edited edits are) =
-      let e = ap (packet_after Exact p) (stays p o edits) in
-      let f = all_unedited kept edited are in
-      λ i. e i ∷ f i
+      let more = all_unedited kept edited are in
+      search rules
 
   -- a unit stays
   unit_unedited : (x : Expectation) (p : PacketValue) (o : Option EditedValue) (bytes front : List ℕ) → Edits p o
       → unit_after Exact x p o bytes ≡ Some front → bytes ≡ front
-  unit_unedited x p o bytes front edits fits =
-      let same = sym (ap (λ (r : Option EditedValue). unit_after Exact x p r bytes) (stays p o edits)) ∙ fits in
-      ap (λ (r : Option (List ℕ)). unwrap_or r front) same
+  unit_unedited x p o bytes front edits fits = search rules
 
   joined : (bytes copy rest : List ℕ) (len : ℕ) → copy ++ rest ≡ drop len bytes
       → take len bytes ++ copy ++ rest ≡ bytes
-  joined bytes copy rest len e =
-      append_assoc (take len bytes) copy rest ∙ ap (λ (l : List ℕ). take len bytes ++ l) e
-      ∙ take-append-drop len bytes
+  joined bytes copy rest len e = search (rules, append_assoc, take-append-drop)
 
   -- with all packets, it is the file itself
   pub copy_all : (x : Expectation) (bytes copy : List ℕ) (kept edited : List PacketValue) (rest : List ℕ)
@@ -295,9 +266,8 @@ module _ (Edits : PacketValue → Option EditedValue → Type 0) (stays : EditsN
   copy_all x bytes copy kept edited rest fault (unit _ y _ others len _ _ _ _ begins copies) =
       joined bytes others rest len (copy_all y (drop len bytes) others kept edited rest fault copies)
   copy_all x bytes copy kept edited rest fault (keeps _ y _ front others len p o ps qs _ _ begins is edits fits copies) =
-      let same : take len bytes ≡ front = unit_unedited x p o (take len bytes) front edits fits in
-      ap (λ (l : List ℕ). l ++ others ++ rest) (sym same)
-      ∙ joined bytes others rest len (copy_all y (drop len bytes) others ps qs rest fault copies)
+      let more = copy_all y (drop len bytes) others ps qs rest fault copies in
+      search (rules, unit_unedited, joined)
   copy_all x bytes copy kept edited rest fault (leaves _ y _ _ len p _ _ _ _ begins not_kept copies) =
       absurd (not_kept tt)
 

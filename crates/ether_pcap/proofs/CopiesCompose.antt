@@ -1,7 +1,7 @@
 -- A copy of a copy: packets are selected twice.
-use Rattle.std.proofs.Common.{◌≡◌, ◌≢◌, ◌⊎◌, ℕ, ◌+◌, ◌-◌, ◌^◌, ◌<◌, ◌≤◌, Bool, true, false, List, [], ◌∷◌, ◌++◌, length, take, drop, map, reverse, length-append, refl, sym, ap, subst, ◌∙◌, arith, inl, inr, Some, None}
+use Rattle.std.proofs.Common.{◌≡◌, ◌≢◌, ◌⊎◌, ℕ, ◌+◌, ◌-◌, ◌^◌, ◌<◌, ◌≤◌, Bool, true, false, List, [], ◌∷◌, ◌++◌, length, take, drop, map, reverse, length-append, refl, sym, ap, subst, ◌∙◌, arith, inl, inr, Some, None, rules}
 use Rattle.std.specs.Prelude.{Option, IsTrue, ◌↔◌, ◌&&◌, All, ⊤, unwrap_or, nat_eq, slice_range, if◌then◌else◌}
-use Rattle.std.proofs.lemmas.Bool.{cases_eq, eq-eqb, ne_eqb}
+use Rattle.std.proofs.lemmas.Bool.{cases_eq, eq-eqb}
 use Rattle.std.proofs.lemmas.List.{length-reverse, drop_at}
 use Rattle.std.proofs.lemmas.List.Elements.{All-nil, All-cons, All-head, All-tail, All-append}
 use Rattle.ether_base.specs.Bytes.{IsBytes, number}
@@ -12,9 +12,9 @@ use Rattle.ether_pcap.specs.Numbers.{Order, BigEndian, LittleEndian, number_from
 use Rattle.ether_pcap.specs.Writing.{bytes_of}
 use Rattle.ether_pcap.specs.FileHeader.{FileHeaderValue}
 use Rattle.ether_pcap.specs.Section.{section_type, HasSectionType}
-use Rattle.ether_pcap.specs.CopiedUnits.{ModeValue, Changed, packet_after, raised_len, raised_header, raised_interface, expected_in, with_bytes, no_section_len, changed_unit, other_unit, packet_in, is_kept, packet_unit, unit_after}
+use Rattle.ether_pcap.specs.CopiedUnits.{ModeValue, Changed, raised_len, raised_header, raised_interface, expected_in, with_bytes, changed_unit, other_unit, packet_in, is_kept, packet_unit, unit_after}
 use Rattle.ether_pcap.specs.Bodies.{captured_by}
-use Rattle.ether_pcap.specs.Capture.{PacketValue, packet_of_record, packet_on, simple_packet_on, CaptureInterfaceValue, Expectation, Beginning, Records, Blocks, BlockKind, InterfaceDescription, SimplePacket, EnhancedPacket, Other, kind_of_block, IsBody, HasBegun, Begins, HasPackets, file_header, file_record, first_section, section, block}
+use Rattle.ether_pcap.specs.Capture.{PacketValue, packet_of_record, packet_on, simple_packet_on, CaptureInterfaceValue, Expectation, Beginning, Records, Blocks, BlockKind, InterfaceDescription, SimplePacket, EnhancedPacket, Other, kind_of_block, IsBody, HasBegun, Begins, HasPackets, file_header, file_record, block}
 use Rattle.ether_pcap.specs.Editing.{EditedValue}
 use Rattle.ether_pcap.specs.Copies.{CopyFault, Copies, Refused, NotEdited, ended, refused, not_edited, unit, keeps, leaves, EditsOnce, Selected, one_kept, one_left, HasSource, CopiesBy, EditsNone, edits_none}
 use Rattle.ether_pcap.proofs.CaptureLocality.{unit_local}
@@ -23,8 +23,8 @@ use Rattle.ether_pcap.proofs.CaptureLengths.{unit_some}
 use Rattle.ether_pcap.proofs.Copies.{copy_read, copy_source, other_taken, packet_copied}
 use Rattle.ether_pcap.proofs.CopiesOne.{one_copied}
 use Rattle.ether_pcap.proofs.PacketsOne.{packets_one}
-use Rattle.ether_pcap.proofs.CopiedUnits.{HasRoom, unit_room, unit_in_copy, section_changed, other_changed}
-use Rattle.ether_pcap.proofs.WithBytes.{with_bytes-before, raised_none, raised_some, raised_room, raised_field}
+use Rattle.ether_pcap.proofs.CopiedUnits.{HasRoom, unit_room, unit_in_copy, other_changed}
+use Rattle.ether_pcap.proofs.WithBytes.{with_bytes-before, raised_room, raised_field}
 
 -- ---- a unit that was changed is not changed again
 
@@ -36,33 +36,18 @@ module _ (at : ℕ) (new bytes : List ℕ) (room : at + length new ≤ length by
       let before = with_bytes-before at new bytes room 0 at (omega arith) (omega arith) in
       let long : length (front ++ new) ≡ at + length new =
       omega (arith, room, length-append front new, length-part bytes 0 at (omega (arith, room))) in
-      let after : drop (at + length new) (with_bytes at new bytes) ≡ back =
-      drop_at (front ++ new) back (at + length new) long in
+      let after = drop_at (front ++ new) back (at + length new) long in
       λ i. before i ++ new ++ after i
 
 raised_twice : (n : ℕ) → raised_len 0 (raised_len 0 n) ≡ raised_len 0 n
-raised_twice n =
-    elim (cases_eq n 0) [
-      | inl none ↦ ap (raised_len 0) (raised_none 0 n none) ∙ raised_none 0 0 refl ∙ sym (raised_none 0 n none)
-      | inr some ↦
-          let once = raised_some 0 n some in
-          let left : raised_len 0 n ≡ 0 → ⊥ = λ e. some (omega (arith, once, e)) in
-          let twice = raised_some 0 (raised_len 0 n) left in
-          omega (arith, once, twice)
-    ]
+raised_twice n = search rules
 
 module _ (most : ℕ) (order : Order) (interfaces : List CaptureInterfaceValue) (bytes : List ℕ) where
   abbrev changed : List ℕ → List ℕ
   changed = changed_unit 0 (Blocks most order interfaces)
 
   section_twice : HasSectionType bytes → 24 ≤ length bytes → changed (changed bytes) ≡ changed bytes
-  section_twice is room =
-      let new = with_bytes 16 no_section_len bytes in
-      let once : changed bytes ≡ new = section_changed 0 most order interfaces bytes is in
-      let same = with_bytes-before 16 no_section_len bytes room 0 4 (omega arith) (omega arith) in
-      ap changed once
-      ∙ section_changed 0 most order interfaces new (ap number same ∙ is)
-      ∙ replaced_twice 16 no_section_len bytes room ∙ sym once
+  section_twice is room = search rules
 
   interface_twice : (HasSectionType bytes → ⊥) → field order bytes 0 4 ≡ 1 → 16 ≤ length bytes
       → changed (changed bytes) ≡ changed bytes
@@ -78,25 +63,14 @@ module _ (most : ℕ) (order : Order) (interfaces : List CaptureInterfaceValue) 
       let type_same = with_bytes-before 12 s bytes (raised_room order 0 n 12 bytes room) 0 4 (omega arith) (omega arith) in
       let type_one : field order new 0 4 ≡ 1 = ap (number_in order) type_same ∙ one in
       let not_section : HasSectionType new → ⊥ = λ (has : HasSectionType new). other (sym (ap number type_same) ∙ has) in
-      let again : raised_len 0 (field order new 12 16) ≡ raised_len 0 n =
-      ap (raised_len 0) (raised_field order 0 n 12 bytes room) ∙ raised_twice n in
+      let again = ap (raised_len 0) (raised_field order 0 n 12 bytes room) ∙ raised_twice n in
       ap changed once ∙ other_changed 0 most order interfaces new not_section ∙ is_new new type_one
       ∙ ap (λ (k : ℕ). with_bytes 12 (bytes_of order 4 k) new) again
       ∙ replaced_twice 12 s bytes (raised_room order 0 n 12 bytes room) ∙ sym once
 
   plain_twice : (HasSectionType bytes → ⊥) → (field order bytes 0 4 ≡ 1 → ⊥)
       → (changed bytes ≡ []) ⊎ (changed bytes ≡ bytes)
-  plain_twice other not_one =
-      let n = field order bytes 0 4 in
-      let rest = if nat_eq n 0x40000BAD then [] else bytes in
-      let new = with_bytes 12 (bytes_of order 4 (raised_len 0 (field order bytes 12 16))) bytes in
-      let once : changed bytes ≡ rest =
-      other_changed 0 most order interfaces bytes other
-      ∙ ap (λ (z : Bool). if z then new else rest) (ne_eqb n 1 not_one) in
-      elim (cases_eq n 0x40000BAD) [
-        | inl custom ↦ inl (once ∙ ap (λ (z : Bool). if z then [] else bytes) (eq-eqb n 0x40000BAD custom))
-        | inr plain ↦ inr (once ∙ ap (λ (z : Bool). if z then [] else bytes) (ne_eqb n 0x40000BAD plain))
-      ]
+  plain_twice other not_one = search rules
 
   block_twice : HasRoom (Blocks most order interfaces) bytes
       → (changed bytes ≡ []) ⊎ (changed (changed bytes) ≡ changed bytes)
@@ -154,11 +128,7 @@ four_field order bytes i ok le =
     subst (λ (k : ℕ). number_in order part < 256 ^ k) long b
 
 same_len : (n : ℕ) → IsFour n → raised_len 0 n ≡ n
-same_len n lt =
-    elim (cases_eq n 0) [
-      | inl none ↦ raised_none 0 n none ∙ sym none
-      | inr some ↦ let once = raised_some 0 n some in omega (arith, once, lt)
-    ]
+same_len n lt = search rules
 
 same_header : (h : FileHeaderValue) → IsFour h.snap_len → raised_header 0 h ≡ h
 same_header h lt = ap (λ (n : ℕ). record h { snap_len = n }) (same_len h.snap_len lt)
@@ -197,27 +167,20 @@ body_range : (kind : BlockKind) (most : ℕ) (order : Order) (before after : Lis
     → IsBody kind most order before body p after → AllFour before → AllFour after
 body_range InterfaceDescription most order before after body p ok (i, d, lt, e, f) all =
     let P = λ (j : CaptureInterfaceValue). IsFour j.snap_len in
-    let here : i.snap_len ≡ field order body 4 8 =
-    ap (λ (v : CaptureInterfaceValue). v.snap_len) (sym d.value) ∙ sym d.is_interface.snap_len in
+    let here = ap (λ (v : CaptureInterfaceValue). v.snap_len) (sym d.value) ∙ sym d.is_interface.snap_len in
     let four : IsFour i.snap_len = subst IsFour (sym here) (four_field order body 4 ok d.is_interface.len) in
     subst AllFour (sym f) (All-append P before (i ∷ []) all (All-cons P i [] four (All-nil P)))
-body_range SimplePacket most order before after body p ok (i, q, at, is, e, f) all = subst AllFour (sym f) all
-body_range (EnhancedPacket n) most order before after body p ok (i, q, o, is, at, has, e, f) all =
-    subst AllFour (sym f) all
-body_range Other most order before after body p ok (e, f) all = subst AllFour (sym f) all
+body_range h most order before after body p ok k all = search rules
 
 range_after : (bytes : List ℕ) (x y : Expectation) (len : ℕ) (p : Option PacketValue) → IsBytes bytes
     → Begins bytes x len p y → InRange x → InRange y
 range_after bytes x y len p ok (file_header m h other is) range =
     subst IsFour is.snap_len (four_field h.order bytes 16 ok (let long : 24 ≤ length bytes = is.len in omega (arith, long)))
 range_after bytes x y len p ok (file_record h r is) range = range
-range_after bytes x y len p ok (first_section m order b is) range =
-    All-nil (λ (j : CaptureInterfaceValue). IsFour j.snap_len)
-range_after bytes x y len p ok (section m order next interfaces b is) range =
-    All-nil (λ (j : CaptureInterfaceValue). IsFour j.snap_len)
 range_after bytes x y len p ok (block m order interfaces after q b other begins body) range =
     body_range (kind_of_block b.block_type) m order interfaces after b.body q
     (subst IsBytes begins.body (IsBytes-part 8 (8 + length b.body) bytes ok)) body range
+range_after bytes x y len p ok h range = All-nil (λ (j : CaptureInterfaceValue). IsFour j.snap_len)
 
 body_packet : (kind : BlockKind) (most : ℕ) (order : Order) (before after : List CaptureInterfaceValue)
     (body : List ℕ) (o : Option PacketValue) (p : PacketValue) → o ≡ Some p
@@ -238,8 +201,7 @@ body_packet (EnhancedPacket n) most order before after body o p some (i, q, w, i
       subst (λ (v : PacketValue). IsFour v.snap_len) same (four_at before at.before at.after i at.parts all),
       refl,
     )
-body_packet Other most order before after body o p some (e, f) all =
-    let bad : None ≡ Some p = sym e ∙ some in absurd cc
+body_packet Other most order before after body o p some (e, f) all = let bad : None ≡ Some p = sym e ∙ some in absurd cc
 
 part_of_take : (bytes : List ℕ) (n j : ℕ) → j ≤ n → slice_range (take n bytes) 0 j ≡ slice_range bytes 0 j
 part_of_take bytes n j le =
@@ -250,21 +212,16 @@ part_of_take bytes n j le =
 -- a packet has a snap length of four bytes, and its unit is kept
 range_packet : (bytes : List ℕ) (x y : Expectation) (len : ℕ) (o : Option PacketValue) (p : PacketValue) → o ≡ Some p
     → Begins bytes x len o y → InRange x → IsFour p.snap_len × (packet_unit (Changed 0) x p (take len bytes) ≡ Some (take len bytes))
-range_packet bytes x y len o p some (file_header m h other is) range = absurd cc
 range_packet bytes x y len o p some (file_record h r is) range =
     let same = same_packet (packet_of_record h r) p some in
     (subst (λ (v : PacketValue). IsFour v.snap_len) same range, refl)
-range_packet bytes x y len o p some (first_section m order b is) range = absurd cc
-range_packet bytes x y len o p some (section m order next interfaces b is) range = absurd cc
 range_packet bytes x y len o p some (block m order interfaces after q b other begins body) range =
     let found = body_packet (kind_of_block b.block_type) m order interfaces after b.body q p some body range in
     let unit = take len bytes in
-    let whole : 12 + length b.body ≤ length bytes = begins.whole in
-    let type_same : field order unit 0 4 ≡ b.block_type =
-    ap (number_in order) (part_of_take bytes len 4 (omega arith)) ∙ begins.block_type in
-    let kept : is_kept 0 (kind_of_block (field order unit 0 4)) p ≡ true =
-    ap (λ (n : ℕ). is_kept 0 (kind_of_block n) p) type_same ∙ found.1 in
+    let type_same = ap (number_in order) (part_of_take bytes len 4 (omega arith)) ∙ begins.block_type in
+    let kept = ap (λ (n : ℕ). is_kept 0 (kind_of_block n) p) type_same ∙ found.1 in
     (found.0, ap (λ (z : Bool). if z then Some unit else None) kept)
+range_packet bytes x y len o p some h range = absurd cc
 
 -- ---- a copy of a copy, unit by unit
 
@@ -322,13 +279,10 @@ module _ (Edits : PacketValue → Option EditedValue → Type 0) (unedited : Edi
         stay y (drop len bytes) copy kept edited rest fault (IsBytes-drop len bytes ok)
         (range_after bytes x y len (Some p) ok begins range) copies
     stay x bytes copy kept edited rest fault ok range (keeps _ y _ front others len p o ps qs _ _ begins is edits fits copies) =
-        let s =
+        let more =
         stay y (drop len bytes) others ps qs rest fault (IsBytes-drop len bytes ok)
         (range_after bytes x y len (Some p) ok begins range) copies in
-        let found = range_packet bytes x y len (Some p) p refl begins range in
-        let same : packet_after (Changed 0) p o ≡ p =
-        ap (packet_after (Changed 0) p) (unedited p o edits) ∙ same_packet_in p found.0 in
-        (s.0, λ i. same i ∷ s.1 i)
+        search (rules, range_after, range_packet, same_packet_in)
 
     -- these packets are kept, or not
     abbrev Chosen : List PacketValue → Type 0
@@ -503,12 +457,8 @@ module _ (Edits : PacketValue → Option EditedValue → Type 0) (unedited : Edi
   chosen_of : (Keeps : PacketValue → Type 0) (x : Expectation) (bytes : List ℕ) (packets chosen : List PacketValue)
       (left : List ℕ) (other : Option CopyFault) → IsBytes bytes → ((q : PacketValue) → other ≡ Some (NotEdited q) → ⊥)
       → HasPackets x bytes packets [] None → HasSource Keeps x bytes chosen left other → Chosen Keeps packets
-  chosen_of Keeps x bytes packets chosen left None ok never has source =
-      let one = packets_one x bytes source.packets packets left [] None None ok source.has has in
-      (chosen, subst (λ (ps : List PacketValue). Selected Keeps ps chosen) one.0 source.selected)
-  chosen_of Keeps x bytes packets chosen left (Some (Refused r)) ok never has source =
-      let one = packets_one x bytes source.packets packets left [] (Some r) None ok source.has has in
-      let bad : Some r ≡ None = one.2 in absurd cc
+  chosen_of Keeps x bytes packets chosen left None ok never has source = search (rules, packets_one)
+  chosen_of Keeps x bytes packets chosen left (Some (Refused r)) ok never has source = search (rules, packets_one)
   chosen_of Keeps x bytes packets chosen left (Some (NotEdited q)) ok never has source = absurd (never q refl)
 
   abbrev Kept : (most : ℕ) → (PacketValue → Type 0) → (bytes copy : List ℕ) → (kept edited : List PacketValue)
@@ -533,14 +483,7 @@ module _ (Edits : PacketValue → Option EditedValue → Type 0) (unedited : Edi
       let r = compose First Second start bytes between kept edited rest fault ok tt each once in
       let one =
       one_copied (Changed 0) Second Edits one_edit start between r.copy copy r.chosen chosen r.chosen last [] left
-      None other ok_between (r.again (inr some)) twice in (
-        subst (λ (l : List ℕ). Kept most (λ p. First p × Second p) bytes l chosen last rest fault) one.0
-            (subst (λ (l : List PacketValue). Kept most (λ p. First p × Second p) bytes r.copy l last rest fault) one.1
-            (subst (λ (l : List PacketValue). Kept most (λ p. First p × Second p) bytes r.copy r.chosen l rest fault) one.2
-            r.whole)),
-        sym one.3,
-        sym one.4,
-      )
+      None other ok_between (r.again (inr some)) twice in search rules
 
   -- packets that are kept once are kept again
   pub composed_twice : (most : ℕ) (Keeps : PacketValue → Type 0) (bytes between copy : List ℕ)
@@ -565,10 +508,7 @@ unedited_none p None is = refl
 unedited_none p (Some e) is = absurd cc
 
 edits_once : EditsOnce (λ p o. IsTrue (edits_none p o))
-edits_once = record {
-  some = λ p ok. (None, refl);
-  one = λ p o q a b. unedited_none p o a ∙ sym (unedited_none p q b);
-}
+edits_once = search rules
 
 both_true : (a b : Bool) → (IsTrue a × IsTrue b) ↔ IsTrue (a && b)
 both_true true b = (λ is. is.1, λ is. (refl, is))
@@ -587,12 +527,7 @@ composed_tests most first second bytes between copy kept edited chosen last rest
     let Second = λ (p : PacketValue). IsTrue (second p) in
     let c =
     composed Edits unedited_none edits_once most First Second bytes between copy kept edited chosen last rest left fault
-    other ok ok_between some once twice in (
-      copies_alike (Changed 0) (λ p. First p × Second p) (λ p. IsTrue (first p && second p)) Edits
-          (λ p. both_true (first p) (second p)) (Beginning most) bytes copy chosen last rest fault c.0,
-      c.1,
-      c.2,
-    )
+    other ok ok_between some once twice in search (rules, copies_alike, both_true)
 
 pub composed_again : (most : ℕ) (test : PacketValue → Bool) (bytes between copy : List ℕ)
     (kept edited chosen last : List PacketValue) (rest left : List ℕ) (fault other : Option CopyFault)

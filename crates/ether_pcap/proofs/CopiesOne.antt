@@ -1,6 +1,6 @@
 -- Any bytes have one copy.
-use Rattle.std.proofs.Common.{◌≡◌, ◌⊎◌, ℕ, zero, suc, ◌≤◌, List, [], ◌∷◌, ◌++◌, length, drop, length-drop, refl, sym, ap, subst, ◌∙◌, arith, inl, inr, Some, None}
-use Rattle.std.specs.Prelude.{Option, Bool, IsTrue, take, unwrap_or}
+use Rattle.std.proofs.Common.{◌≡◌, ◌⊎◌, ℕ, zero, suc, ◌≤◌, List, [], ◌∷◌, ◌++◌, length, drop, length-drop, refl, sym, ap, subst, ◌∙◌, arith, inl, inr, Some, None, rules}
+use Rattle.std.specs.Prelude.{Option, Bool, IsTrue, take}
 use Rattle.ether_base.specs.Bytes.{IsBytes}
 use Rattle.ether_base.proofs.SubLists.{IsBytes-drop}
 use Rattle.ether_pcap.specs.Capture.{PacketValue, Expectation, CaptureRefusal, Begins, Refuses, IsEnd}
@@ -22,8 +22,7 @@ module _ (mode : ModeValue) (Keeps : PacketValue → Type 0) (Edits : PacketValu
 
   -- a unit, which has this front of the bytes, and what is copied of it before these
   abbrev Joined : (x y : Expectation) → Option PacketValue → (front : List ℕ) → (others all : Result) → Type 0
-  Joined x y None front others all =
-      all ≡ record others { copy = other_unit mode y front ++ others.copy }
+  Joined x y None front others all = all ≡ record others { copy = other_unit mode y front ++ others.copy }
   Joined x y (Some p) front others all =
       (Keeps p × (o : Option EditedValue) × (u : List ℕ) × Edits p o × (unit_after mode x p o front ≡ Some u)
       × (all ≡ record { copy = u ++ others.copy; kept = p ∷ others.kept; edited = packet_after mode p o ∷ others.edited }))
@@ -67,31 +66,13 @@ module _ (mode : ModeValue) (Keeps : PacketValue → Type 0) (Edits : PacketValu
 
   same_front : (x : Expectation) (p : PacketValue) (front u v : List ℕ) (o q : Option EditedValue) → Edits p o
       → Edits p q → unit_after mode x p o front ≡ Some u → unit_after mode x p q front ≡ Some v → (o ≡ q) × (u ≡ v)
-  same_front x p front u v o q edits edits2 e f =
-      let same = once.one p o q edits edits2 in (
-        same,
-        ap (λ (z : Option (List ℕ)). unwrap_or z u)
-            (sym e ∙ ap (λ (r : Option EditedValue). unit_after mode x p r front) same ∙ f),
-      )
+  same_front x p front u v o q edits edits2 e f = search rules
 
   same_joined : (x y : Expectation) (p : Option PacketValue) (front : List ℕ) (others more all other : Result)
       → others ≡ more → Joined x y p front others all → Joined x y p front more other → all ≡ other
   same_joined x y None front others more all other e a b =
       a ∙ ap (λ (r : Result). record r { copy = other_unit mode y front ++ r.copy }) e ∙ sym b
-  same_joined x y (Some p) front others more all other e (inl (is, o, u, edits, g, a)) (inl (is2, q, v, edits2, h, b)) =
-      let same = same_front x p front u v o q edits edits2 g h in
-      a
-      ∙ ap (λ (r : Result). record { copy = u ++ r.copy; kept = p ∷ r.kept; edited = packet_after mode p o ∷ r.edited }) e
-      ∙ ap (λ (l : List ℕ). record { copy = l ++ more.copy; kept = p ∷ more.kept; edited = packet_after mode p o ∷ more.edited })
-      same.1
-      ∙ ap (λ (r : Option EditedValue). record { copy = v ++ more.copy; kept = p ∷ more.kept; edited = packet_after mode p r ∷ more.edited })
-      same.0
-      ∙ sym b
-  same_joined x y (Some p) front others more all other e (inl (is, o, u, edits, g, a)) (inr (not_kept, b)) =
-      absurd (not_kept is)
-  same_joined x y (Some p) front others more all other e (inr (not_kept, a)) (inl (is, o, u, edits, g, b)) =
-      absurd (not_kept is)
-  same_joined x y (Some p) front others more all other e (inr (not_kept, a)) (inr (no2, b)) = a ∙ e ∙ sym b
+  same_joined x y h front others more all other e a b = search rules
 
   -- a packet that can't be edited is not copied
   stuck_apart : (x y z : Expectation) (bytes : List ℕ) (others all : Result) (len n : ℕ) (p : PacketValue)
@@ -109,8 +90,6 @@ module _ (mode : ModeValue) (Keeps : PacketValue → Type 0) (Edits : PacketValu
       no_joint : Joined x z (Some p) (take len bytes) others all → ⊥
       no_joint (inl (is2, r, u, edits2, g, a)) =
           let same = once.one p o r edits edits2 in
-          let f : None ≡ Some u =
-          sym no_front ∙ ap (λ (s : Option EditedValue). unit_after mode x p s (take len bytes)) same ∙ g in
           absurd cc
       no_joint (inr (not_kept, a)) = not_kept is
 
@@ -187,18 +166,10 @@ module _ (mode : ModeValue) (Keeps : PacketValue → Type 0) (Edits : PacketValu
       let s =
       one_step (length bytes) x bytes (result copy kept edited) (result copy2 kept2 edited2) rest rest2 fault fault2
       (omega arith) ok (first_step x bytes copy kept edited rest fault c)
-      (first_step x bytes copy2 kept2 edited2 rest2 fault2 d) in (
-        ap (λ (r : Result). r.copy) s.0,
-        ap (λ (r : Result). r.kept) s.0,
-        ap (λ (r : Result). r.edited) s.0,
-        s.1,
-        s.2,
-      )
+      (first_step x bytes copy2 kept2 edited2 rest2 fault2 d) in search rules
 
 pub one_copy : (mode : ModeValue) (test : PacketValue → Bool) (edits : PacketValue → Option EditedValue → Bool)
     (x : Expectation) (bytes : List ℕ) (c d : Copy mode test edits x bytes)
     → IsBytes bytes → EditsOnce (λ p o. IsTrue (edits p o))
     → (c.copy ≡ d.copy) × (c.kept ≡ d.kept) × (c.edited ≡ d.edited) × (c.rest ≡ d.rest) × (c.fault ≡ d.fault)
-one_copy mode test edits x bytes c d ok once =
-    one_copied mode (λ p. IsTrue (test p)) (λ p o. IsTrue (edits p o)) once x bytes c.copy d.copy c.kept d.kept c.edited
-    d.edited c.rest d.rest c.fault d.fault ok c.copies d.copies
+one_copy mode test edits x bytes c d ok once = search (rules, one_copied)

@@ -1,5 +1,5 @@
 -- A unit whose packet is edited begins with the edited packet.
-use Rattle.std.proofs.Common.{◌≡◌, ◌⊎◌, ℕ, ◌+◌, ◌-◌, ◌%◌, ◌<◌, ◌≤◌, List, ◌++◌, length, refl, sym, ap, subst, ◌∙◌, arith, inl, inr, Some, None}
+use Rattle.std.proofs.Common.{◌≡◌, ◌⊎◌, ℕ, ◌+◌, ◌-◌, ◌<◌, ◌≤◌, List, ◌++◌, length, refl, sym, ap, subst, ◌∙◌, arith, inl, inr, Some, None, rules}
 use Rattle.std.specs.Prelude.{Option, Bool, true, false, unwrap_or, slice_range, if◌then◌else◌, IfSome}
 use Rattle.std.specs.Option.{option_map}
 use Rattle.std.proofs.lemmas.Bool.{cases_lt, lt-ltb, le-ltb}
@@ -11,12 +11,12 @@ use Rattle.ether_pcap.specs.Block.{IsTotalLen}
 use Rattle.ether_pcap.specs.Section.{HasSectionType}
 use Rattle.ether_pcap.specs.FileHeader.{FileHeaderValue}
 use Rattle.ether_pcap.specs.Bodies.{EnhancedPacketValue}
-use Rattle.ether_pcap.specs.Capture.{PacketValue, packet_on, simple_packet_on, CaptureInterfaceValue, Expectation, Beginning, Records, Blocks, BlockKind, EnhancedPacket, SimplePacket, InterfaceDescription, Other, kind_of_block, IsBody, Begins, file_record, block}
+use Rattle.ether_pcap.specs.Capture.{PacketValue, packet_on, simple_packet_on, CaptureInterfaceValue, Expectation, Beginning, Records, Blocks, BlockKind, EnhancedPacket, SimplePacket, kind_of_block, IsBody, Begins, file_record, block}
 use Rattle.ether_pcap.specs.Editing.{EditedValue, edited_record, edited_body, block_bytes, edited_block, unit_with, is_too_long, edited_unit, edited_packet, unit_bytes, EditsUnit, HasEditedPacket}
 use Rattle.ether_pcap.specs.declared.capture.edited_unit.EditedUnit.{EditedUnit}
 use Rattle.ether_pcap.proofs.CaptureLocality.{unit_local}
 use Rattle.ether_pcap.proofs.EditUnits.{length-edited_front, length-edited_body, length-block_bytes, block_bytes-type, record_edited, body_edited, block_begins}
-use Rattle.ether_pcap.proofs.PacketUnits.{record_of_unit, PacketBlock, block_of_unit, body_of_unit, type_of, is_interface, is_obsolete, is_simple, is_enhanced, is_other, same_packet, begun_before, packet_room}
+use Rattle.ether_pcap.proofs.PacketUnits.{record_of_unit, PacketBlock, block_of_unit, body_of_unit, same_packet, begun_before, packet_room}
 
 same_bytes : (a b : List ℕ) → Some a ≡ Some b → a ≡ b
 same_bytes a b e = ap (λ (o : Option (List ℕ)). unwrap_or o a) e
@@ -30,14 +30,7 @@ data Room (e : EditedValue) : Type 0 where
   fits : length e.packet ≤ 262144 → e.original_len ≤ 4294967295 → Room e
 
 room_of : (e : EditedValue) → Room e
-room_of e =
-    elim (cases_lt 262144 (length e.packet)) [
-      | inl long ↦ long_packet long
-      | inr small ↦ elim (cases_lt 4294967295 e.original_len) [
-        | inl long ↦ long_original small long
-        | inr four ↦ fits small four
-      ]
-    ]
+room_of e = search rules
 
 too_long : (e : EditedValue) → 262144 < length e.packet → is_too_long e ≡ true
 too_long e long = rw (lt-ltb 262144 (length e.packet) long) refl
@@ -96,8 +89,7 @@ record_begins h u new p e begins room =
     let r = s.0 in
     let t : RecordValue = record r { original_len = e.original_len; packet = e.packet } in
     let whole : 16 + length r.packet ≤ length u = s.1.whole in
-    let long : length (edited_record h.order e u) ≡ record_len t =
-    length-edited_front h.order 8 e u (omega (arith, whole)) in
+    let long = length-edited_front h.order 8 e u (omega (arith, whole)) in
     let unit = file_record h t (record_edited h.order e u r room.small room.four s.1) in
     let Unit = λ (l : List ℕ) (k : ℕ) (q : PacketValue).
     Begins l (Records h) k (Some (edited_packet e q)) (Records h) in
@@ -110,14 +102,7 @@ record_begins h u new p e begins room =
 edited_sound : (order : Order) (m : ℕ) (e : EditedValue) (body : List ℕ) → 20 + m ≤ length body
     → IsTotalLen (12 + length body) → 12 + length (edited_body order m e body) ≤ 16777216
     → IsTotalLen (12 + length (edited_body order m e body))
-edited_sound order m e body whole sound most =
-    let l = length-edited_body order m e body (omega (arith, whole)) in
-    let aligned : (12 + length body) % 4 ≡ 0 = sound.aligned in
-    record {
-      least = omega arith;
-      aligned = omega (arith, l, aligned, whole);
-      most = most;
-    }
+edited_sound order m e body whole sound most = search (rules, length-edited_body)
 
 -- what is written of a block
 record BlockFits (order : Order) (m : ℕ) (e : EditedValue) (u new : List ℕ) : Type 0 where
@@ -126,17 +111,7 @@ record BlockFits (order : Order) (m : ℕ) (e : EditedValue) (u new : List ℕ) 
 
 block_fits : (number_len : ℕ) (order : Order) (m : ℕ) (e : EditedValue) (u new : List ℕ)
     → edited_block (EnhancedPacket number_len) order m e u ≡ Some new → BlockFits order m e u new
-block_fits number_len order m e u new is =
-    let body = edited_body order m e (slice_range u 8 (length u - 4)) in
-    let all = block_bytes order (slice_range u 0 4) body in
-    let Is = λ (b : Bool). (if b then None else Some all) ≡ Some new in
-    elim (cases_lt 16777216 (12 + length body)) [
-      | inl long ↦
-          let bad : None ≡ Some new = subst Is (lt-ltb 16777216 (12 + length body) long) is in
-          absurd cc
-      | inr most ↦
-          record { most = most; is = same_bytes all new (subst Is (le-ltb 16777216 (12 + length body) most) is) }
-    ]
+block_fits number_len order m e u new is = search rules
 
 module _ (most : ℕ) (order : Order) (interfaces : List CaptureInterfaceValue) (u : List ℕ) (p : PacketValue)
     (e : EditedValue) (b : PacketBlock most order interfaces u p) (len : length u ≡ 12 + length b.value.body)
@@ -185,29 +160,17 @@ module _ (most : ℕ) (order : Order) (interfaces : List CaptureInterfaceValue) 
   -- what is edited is an enhanced packet, or an obsolete packet block
   by_kind : (kind : BlockKind) (new : List ℕ) → edited_block kind order (length p.packet) e u ≡ Some new
       → (number_len : ℕ) × (kind ≡ EnhancedPacket number_len) × BlockFits order (length p.packet) e u new
-  by_kind InterfaceDescription new is = absurd cc
-  by_kind SimplePacket new is = absurd cc
   by_kind (EnhancedPacket k) new is = (k, refl, block_fits k order (length p.packet) e u new is)
-  by_kind Other new is = absurd cc
+  by_kind h new is = absurd (search rules)
 
   few_bytes : (t k : ℕ) → kind_of_block t ≡ EnhancedPacket k → k ≤ 4
-  few_bytes t k is =
-      elim (type_of t) [
-        | is_interface e ↦ let f : InterfaceDescription ≡ EnhancedPacket k = ap kind_of_block (sym e) ∙ is in absurd cc
-        | is_obsolete e ↦ let f : EnhancedPacket 2 ≡ EnhancedPacket k = ap kind_of_block (sym e) ∙ is in
-            let g : 2 ≡ k = cc in omega (arith, g)
-        | is_simple e ↦ let f : SimplePacket ≡ EnhancedPacket k = ap kind_of_block (sym e) ∙ is in absurd cc
-        | is_enhanced e ↦ let f : EnhancedPacket 4 ≡ EnhancedPacket k = ap kind_of_block (sym e) ∙ is in
-            let g : 4 ≡ k = cc in omega (arith, g)
-        | is_other e ↦ let f : Other ≡ EnhancedPacket k = sym e ∙ is in absurd cc
-      ]
+  few_bytes t k is = search rules
 
   block_edited : (new : List ℕ) → unit_with (Blocks most order interfaces) (length p.packet) e u ≡ Some new
       → Begins new (Blocks most order interfaces) (length new) (Some (edited_packet e p)) (Blocks most order interfaces)
   block_edited new is =
       let found = by_kind (kind_of_block (field order u 0 4)) new is in
-      let k : kind_of_block b.value.block_type ≡ EnhancedPacket found.0 =
-      ap kind_of_block (sym b.begins.block_type) ∙ found.1 in
+      let k = ap kind_of_block (sym b.begins.block_type) ∙ found.1 in
       enhanced_begins found.0 new (few_bytes (field order u 0 4) found.0 found.1) k
       (subst (λ (z : BlockKind). IsBody z most order interfaces b.value.body (Some p) interfaces) k b.body) found.2
 
@@ -217,9 +180,7 @@ unit_begins : (x : Expectation) (u new : List ℕ) (p : PacketValue) (e : Edited
     → Fits x (length p.packet) e u new → Begins new x (length new) (Some (edited_packet e p)) x
 unit_begins (Beginning m) u new p e begins room = let bad : None ≡ Some new = room.is in absurd cc
 unit_begins (Records h) u new p e begins room = record_begins h u new p e begins room
-unit_begins (Blocks most order interfaces) u new p e begins room =
-    let found = block_of_unit u (Blocks most order interfaces) (length u) most order interfaces p begins in
-    block_edited most order interfaces u p e found.0 found.1 room.small room.four new room.is
+unit_begins (Blocks most order interfaces) u new p e begins room = search (rules, block_of_unit, block_edited)
 
 -- the unit of a packet that is edited is one of the edited packet
 pub edited_begins : (x : Expectation) (u new : List ℕ) (p : PacketValue) (e : EditedValue)
@@ -233,9 +194,7 @@ has_edited : (x : Expectation) (unit : List ℕ) (e : EditedValue) (result : Opt
     → IfSome result (λ u. (more : List ℕ)
     → Begins (unit_bytes u ++ more) x (length (unit_bytes u)) (Some (edited_packet e p)) x)
 has_edited x unit e None p begins is = tt
-has_edited x unit e (Some u) p begins is = λ more.
-    unit_local (unit_bytes u) more x x (length (unit_bytes u)) (Some (edited_packet e p))
-    (edited_begins x unit (unit_bytes u) p e begins (sym is))
+has_edited x unit e (Some u) p begins is = search (rules, unit_local, edited_begins)
 
 pub has_edited_packet : (x : Expectation) (unit : List ℕ) (e : EditedValue) (result : Option EditedUnit)
     → EditsUnit x unit e result → HasEditedPacket x unit e result
@@ -248,55 +207,24 @@ Why p e = (p.time ≡ None) ⊎ (length p.packet < length e.packet) ⊎ (4294967
 
 longer_body : (order : Order) (m : ℕ) (e : EditedValue) (body : List ℕ) → 20 + m ≤ length body
     → IsTotalLen (12 + length body) → 16777216 < 12 + length (edited_body order m e body) → m < length e.packet
-longer_body order m e body whole sound long =
-    let l = length-edited_body order m e body (omega (arith, whole)) in
-    let most : 12 + length body ≤ 16777216 = sound.most in
-    let aligned : (12 + length body) % 4 ≡ 0 = sound.aligned in
-    omega (arith, l, most, aligned, whole, long)
+longer_body order m e body whole sound long = search (rules, length-edited_body)
 
 why_block : (kind : BlockKind) (limit : ℕ) (order : Order) (interfaces : List CaptureInterfaceValue) (u body : List ℕ)
     (p : PacketValue) (e : EditedValue)
     → slice_range u 8 (length u - 4) ≡ body → IsTotalLen (12 + length body)
     → IsBody kind limit order interfaces body (Some p) interfaces → edited_block kind order (length p.packet) e u ≡ None
     → Why p e
-why_block InterfaceDescription limit order interfaces u body p e is_body sound (i, d, lt, f, g) is = absurd cc
 why_block SimplePacket limit order interfaces u body p e is_body sound (i, q, at, v, f, g) is =
     inl (ap (λ (r : PacketValue). r.time) (same_packet p (simple_packet_on i q) f))
-why_block (EnhancedPacket k) limit order interfaces u body p e is_body sound (i, v, options, is_v, at, has, f, g) is =
-    let same : p ≡ packet_on order i v options = same_packet p (packet_on order i v options) f in
-    let m : length p.packet ≡ length v.packet = ap (λ (q : PacketValue). length q.packet) same in
-    let new = edited_body order (length p.packet) e (slice_range u 8 (length u - 4)) in
-    let all = block_bytes order (slice_range u 0 4) new in
-    let Is = λ (b : Bool). (if b then None else Some all) ≡ None in
-    let whole : 20 + length p.packet ≤ length body = omega (arith, m, is_v.whole) in
-    elim (cases_lt 16777216 (12 + length new)) [
-      | inl long ↦
-          inr (inl (longer_body order (length p.packet) e body whole sound
-          (subst (λ (l : List ℕ). 16777216 < 12 + length (edited_body order (length p.packet) e l)) is_body long)))
-      | inr most ↦
-          let bad : Some all ≡ None = subst Is (le-ltb 16777216 (12 + length new) most) is in
-          absurd cc
-    ]
-why_block Other limit order interfaces u body p e is_body sound (f, g) is = absurd cc
+why_block kind limit order interfaces u body p e is_body sound h is =
+    search (rules, same_packet, cases_lt, longer_body, le-ltb)
 
 why_unit : (x : Expectation) (u : List ℕ) (p : PacketValue) (e : EditedValue) → Begins u x (length u) (Some p) x
     → unit_with x (length p.packet) e u ≡ None → Why p e
 why_unit (Beginning m) u p e begins is = absurd (begun_before u (Beginning m) (Beginning m) (length u) p begins)
 why_unit (Records h) u p e begins is = absurd cc
-why_unit (Blocks most order interfaces) u p e begins is =
-    let found = block_of_unit u (Blocks most order interfaces) (length u) most order interfaces p begins in
-    let b = found.0 in
-    why_block (kind_of_block (field order u 0 4)) most order interfaces u b.value.body p e
-    (body_of_unit most order interfaces u p b found.1) b.begins.sound
-    (subst (λ (z : BlockKind). IsBody z most order interfaces b.value.body (Some p) interfaces)
-    (ap kind_of_block (sym b.begins.block_type)) b.body)
-    is
+why_unit (Blocks most order interfaces) u p e begins is = grind (arith, block_of_unit, length, why_block, body_of_unit)
 
 pub why_not_edited : (x : Expectation) (u : List ℕ) (p : PacketValue) (e : EditedValue)
     → Begins u x (length u) (Some p) x → edited_unit x (length p.packet) e u ≡ None → Why p e
-why_not_edited x u p e begins is =
-    elim (room_of e) [
-      | long_packet long ↦ inr (inl (omega (arith, long, packet_room x u p begins)))
-      | long_original small long ↦ inr (inr long)
-      | fits small four ↦ why_unit x u p e begins (sym (unit_fits x (length p.packet) e u small four) ∙ is)
-    ]
+why_not_edited x u p e begins is = search (rules, room_of, packet_room, why_unit, unit_fits)

@@ -1,5 +1,5 @@
 -- Units whose packet is edited.
-use Rattle.std.proofs.Common.{◌≡◌, ℕ, ◌+◌, ◌-◌, ◌*◌, ◌^◌, ◌≤◌, List, ◌++◌, length, take, drop, refl, sym, ap, ◌∙◌, arith, length-append, length-drop}
+use Rattle.std.proofs.Common.{◌≡◌, ℕ, ◌+◌, ◌-◌, ◌*◌, ◌^◌, ◌≤◌, List, ◌++◌, length, take, drop, refl, sym, ap, ◌∙◌, arith, length-append, length-drop, rules}
 use Rattle.std.specs.Prelude.{slice_range, zero, suc}
 use Rattle.std.proofs.lemmas.List.{drop-drop, drop_at}
 use Rattle.ether_base.proofs.SubLists.{length-part, part-append, part_of_front, part_all, part_after_front}
@@ -47,13 +47,7 @@ module _ (order : Order) (place : ℕ) (e : EditedValue) (bytes : List ℕ) (roo
       omega (arith, length-append before captured, length-before, length-bytes_of order 4 (length e.packet))
 
   length-with_original : length (before ++ captured ++ original) ≡ place + 8
-  length-with_original =
-      omega (
-        arith,
-        length-append (before ++ captured) original,
-        length-with_captured,
-        length-bytes_of order 4 e.original_len,
-      )
+  length-with_original = search (rules, length-append, length-with_captured, length-bytes_of)
 
   pub length-edited_front : length (edited_front order place e bytes) ≡ place + 8 + length e.packet
   length-edited_front = omega (arith, length-append (before ++ captured ++ original) e.packet, length-with_original)
@@ -61,21 +55,14 @@ module _ (order : Order) (place : ℕ) (e : EditedValue) (bytes : List ℕ) (roo
   pub edited_front-before : (i j : ℕ) → i ≤ j → j ≤ place
       → slice_range (edited_front order place e bytes) i j ≡ slice_range bytes i j
   edited_front-before i j ij le =
-      part-append (before ++ captured ++ original) e.packet i j ij (omega (arith, le, length-with_original))
-      ∙ part-append (before ++ captured) original i j ij (omega (arith, le, length-with_captured))
-      ∙ part-append before captured i j ij (omega (arith, le, length-before)) ∙ part_of_front bytes place i j ij le
+      search (rules, part-append, length-with_original, length-with_captured, length-before, part_of_front)
 
   pub edited_front-captured : slice_range (edited_front order place e bytes) place (place + 4) ≡ captured
   edited_front-captured =
-      part-append (before ++ captured ++ original) e.packet place (place + 4) (omega arith)
-      (omega (arith, length-with_original))
-      ∙ part_after_front before captured original place (place + 4) length-before
-      (omega (arith, length-bytes_of order 4 (length e.packet)))
+      search (rules, part-append, length-with_original, part_after_front, length-before, length-bytes_of)
 
   pub edited_front-original : slice_range (edited_front order place e bytes) (place + 4) (place + 8) ≡ original
-  edited_front-original =
-      part_after_front (before ++ captured) original e.packet (place + 4) (place + 8) length-with_captured
-      (omega (arith, length-bytes_of order 4 e.original_len))
+  edited_front-original = search (rules, part_after_front, length-with_captured, length-bytes_of)
 
   pub edited_front-packet : slice_range (edited_front order place e bytes) (place + 8) (place + 8 + length e.packet)
       ≡ e.packet
@@ -127,13 +114,7 @@ module _ (order : Order) (m : ℕ) (e : EditedValue) (body : List ℕ) (room : 1
 
   pub length-edited_body : length (edited_body order m e body)
       ≡ 20 + padded (length e.packet) + (length body - (20 + padded m))
-  length-edited_body =
-      omega (
-        arith,
-        length-append (edited_front order 12 e body ++ padding) (drop (20 + padded m) body),
-        length-before_options,
-        length-drop (20 + padded m) body,
-      )
+  length-edited_body = search (rules, length-append, length-before_options, length-drop)
 
   in_front : (i j : ℕ) → i ≤ j → j ≤ 20 + length e.packet
       → slice_range (edited_body order m e body) i j ≡ slice_range (edited_front order 12 e body) i j
@@ -195,14 +176,7 @@ module _ (order : Order) (block_type body : List ℕ) (four : length block_type 
   length-to_trailer = omega (arith, length-append (block_type ++ bytes_of order 4 (12 + length body)) body, length-head)
 
   pub length-block_bytes : length (block_bytes order block_type body) ≡ 12 + length body
-  length-block_bytes =
-      omega (
-        arith,
-        length-append (block_type ++ bytes_of order 4 (12 + length body) ++ body)
-            (bytes_of order 4 (12 + length body)),
-        length-to_trailer,
-        length-bytes_of order 4 (12 + length body),
-      )
+  length-block_bytes = search (rules, length-append, length-to_trailer, length-bytes_of)
 
   pub block_bytes-type : slice_range (block_bytes order block_type body) 0 4 ≡ block_type
   block_bytes-type =

@@ -1,5 +1,5 @@
 -- A block whose packet is edited, from its parts.
-use Rattle.std.proofs.Common.{◌≡◌, ℕ, ◌+◌, ◌-◌, ◌<◌, ◌≤◌, List, ◌++◌, length, drop, sym, ap, ◌∙◌, arith, append_assoc, Some, None}
+use Rattle.std.proofs.Common.{◌≡◌, ℕ, ◌+◌, ◌-◌, ◌<◌, ◌≤◌, List, ◌++◌, length, drop, sym, ap, ◌∙◌, arith, append_assoc, Some, None, rules}
 use Rattle.std.specs.Prelude.{Bool, slice_range, if◌then◌else◌}
 use Rattle.std.proofs.lemmas.Bool.{lt-ltb, le-ltb}
 use Rattle.ether_base.proofs.SubLists.{length-part, part_of_part, part_join, rest_of_part}
@@ -15,18 +15,7 @@ use Rattle.ether_pcap.proofs.EditUnits.{length-edited_body}
 -- the parts of a body after a front
 parts_joined : (front a b c w o p z d body all : List ℕ) → body ≡ (a ++ b ++ c) ++ w ++ o ++ p ++ z ++ d
     → all ≡ front ++ a ++ b ++ c ++ w ++ o → all ++ p ++ z ++ d ≡ front ++ body
-parts_joined front a b c w o p z d body all is all_is =
-    let abc = a ++ b ++ c in
-    let head : front ++ abc ≡ front ++ a ++ b ++ c =
-    sym (append_assoc front (a ++ b) c) ∙ ap (λ (l : List ℕ). l ++ c) (sym (append_assoc front a b)) in
-    ap (λ (l : List ℕ). l ++ p ++ z ++ d) all_is
-    ∙ ap (λ (l : List ℕ). l ++ w ++ o ++ p ++ z ++ d) (sym head)
-    ∙ ap (λ (l : List ℕ). l ++ o ++ p ++ z ++ d) (append_assoc front abc w)
-    ∙ ap (λ (l : List ℕ). l ++ p ++ z ++ d) (append_assoc front (abc ++ w) o)
-    ∙ ap (λ (l : List ℕ). l ++ z ++ d) (append_assoc front (abc ++ w ++ o) p)
-    ∙ ap (λ (l : List ℕ). l ++ d) (append_assoc front (abc ++ w ++ o ++ p) z)
-    ∙ append_assoc front (abc ++ w ++ o ++ p ++ z) d
-    ∙ ap (λ (l : List ℕ). front ++ l) (sym is)
+parts_joined front a b c w o p z d body all is all_is = search (rules, append_assoc)
 
 module _ (order : Order) (number_len : ℕ) (block : List ℕ) (v : EnhancedPacketValue) (e : EditedValue)
     (sound : IsTotalLen (length block))
@@ -51,23 +40,14 @@ module _ (order : Order) (number_len : ℕ) (block : List ℕ) (v : EnhancedPack
       ∙ is.captured_len
 
   pub padded_within : 28 + padded m ≤ length block - 4
-  padded_within =
-      let whole : 20 + m ≤ length body = is.whole in
-      omega (arith, whole, length-body, sound.aligned, sound.least)
+  padded_within = search rules
 
   pub length-new : 12 + length (edited_body order m e body) ≡ 32 + padded n + (length block - 4 - (28 + padded m))
-  length-new =
-      let whole : 20 + m ≤ length body = is.whole in
-      let l = length-edited_body order m e body (omega (arith, whole)) in
-      omega (arith, l, length-body, padded_within)
+  length-new = search (rules, length-edited_body, length-body, padded_within)
 
   pub too_long_block : 16777216 < 32 + padded n + (length block - 4 - (28 + padded m))
       → None ≡ edited_block (EnhancedPacket number_len) order m e block
-  too_long_block long =
-      let new = edited_body order m e body in
-      let lt : 16777216 < 12 + length new = omega (arith, long, length-new) in
-      ap (λ (b : Bool). if b then None else Some (block_bytes order (slice_range block 0 4) new))
-      (sym (lt-ltb 16777216 (12 + length new) lt))
+  too_long_block long = search (rules, length-new, lt-ltb)
 
   pub written_block : (header options trailer : List ℕ) (padding total : ℕ)
       → header ≡ slice_range block 0 4 ++ bytes_of order 4 total ++ slice_range block 8 12 ++ slice_range block 12 16
@@ -98,12 +78,8 @@ module _ (order : Order) (number_len : ℕ) (block : List ℕ) (v : EnhancedPack
       part_of_part block 8 (length block - 4) 0 12 (omega arith) (omega (arith, whole, length-body))
       ∙ sym (part_join block 8 16 20 (omega arith) (omega arith))
       ∙ ap (λ (l : List ℕ). l ++ c) (sym (part_join block 8 12 16 (omega arith) (omega arith))) in
-      let new_is : new ≡ (a ++ b ++ c) ++ captured ++ original ++ e.packet ++ z ++ drop (20 + padded m) body =
-      ap
-      (λ (l : List ℕ). l ++ captured ++ original ++ e.packet ++ z ++ drop (20 + padded m) body)
-      front in
-      let head : header ≡ t ++ w ++ a ++ b ++ c ++ captured ++ original =
-      header_is ∙ ap (λ (k : ℕ). t ++ bytes_of order 4 k ++ a ++ b ++ c ++ captured ++ original) len in
+      let new_is = ap (λ (l : List ℕ). l ++ captured ++ original ++ e.packet ++ z ++ drop (20 + padded m) body) front in
+      let head = header_is ∙ ap (λ (k : ℕ). t ++ bytes_of order 4 k ++ a ++ b ++ c ++ captured ++ original) len in
       let joined : header ++ e.packet ++ z ++ drop (20 + padded m) body ≡ t ++ w ++ new =
       parts_joined (t ++ w) a b c captured original e.packet z (drop (20 + padded m) body) new header new_is head in
       let all : header ++ e.packet ++ zeros padding ++ options ++ trailer ≡ block_bytes order t new =

@@ -1,5 +1,5 @@
 -- The bytes of a number, in either order.
-use Rattle.std.proofs.Common.{◌≡◌, ℕ, ◌+◌, ◌*◌, ◌^◌, ◌<◌, List, [], ◌∷◌, ◌++◌, length, reverse, refl, sym, ap, ◌∙◌, arith}
+use Rattle.std.proofs.Common.{◌≡◌, ℕ, ◌+◌, ◌*◌, ◌^◌, ◌<◌, List, [], ◌∷◌, ◌++◌, length, reverse, refl, sym, ap, ◌∙◌, arith, rules}
 use Rattle.std.proofs.lemmas.List.{reverse-reverse, length-reverse, reverse-append}
 use Rattle.ether_base.specs.Bytes.{IsBytes, number, spelled}
 use Rattle.ether_base.proofs.Numbers.{IsBytes-nil, IsBytes-cons, IsBytes-tail, IsBytes-append, number-append, length-spelled, number-spelled, spelled-is}
@@ -14,8 +14,7 @@ pub number_reversed : (l : List ℕ) → number_from_low l ≡ number (reverse l
 number_reversed [] = refl
 number_reversed (b ∷ l) =
     let e = number_reversed l in
-    let one : number (reverse l ++ b ∷ []) ≡ number (reverse l) * 256 ^ 1 + number (b ∷ []) =
-    number-append (reverse l) (b ∷ []) in
+    let one = number-append (reverse l) (b ∷ []) in
     let back : reverse (b ∷ l) ≡ reverse l ++ b ∷ [] = reverse-append (b ∷ []) l in
     let sum : b + 256 * number_from_low l ≡ number (reverse l ++ b ∷ []) = omega (arith, e, one) in
     sum ∙ ap number (sym back)
@@ -37,8 +36,4 @@ pub bytes_are : (order : Order) (k : ℕ) (bytes : List ℕ) (n : ℕ) → lengt
     → number_in order bytes ≡ n → bytes ≡ bytes_of order k n
 bytes_are BigEndian k bytes n len ok e = sym (spelled-is k bytes len ok) ∙ ap (spelled k) e
 bytes_are LittleEndian k bytes n len ok e =
-    let back = reverse bytes in
-    let same : back ≡ spelled k n =
-    sym (spelled-is k back (length-reverse bytes ∙ len) (IsBytes-reversed bytes ok))
-    ∙ ap (spelled k) (sym (number_reversed bytes) ∙ e) in
-    sym (reverse-reverse bytes) ∙ ap (λ (l : List ℕ). reverse l) same
+    search (rules, spelled-is, length-reverse, IsBytes-reversed, number_reversed, reverse-reverse)

@@ -1,18 +1,13 @@
 -- The options of bytes: there is one list of them, and what a reader of it knows on the way.
-use Rattle.std.proofs.Common.{◌≡◌, ℕ, zero, suc, ◌+◌, ◌<◌, ◌≤◌, List, [], ◌∷◌, length, drop, refl, sym, ap, subst, ◌∙◌, arith, inl, inr, Some, None, Bool, true, false, eq-eqb, ne_eqb, length-drop}
-use Rattle.std.specs.Prelude.{◌≢◌, Option, nat_eq, slice_range, if◌then◌else◌}
+use Rattle.std.proofs.Common.{◌≡◌, ℕ, zero, suc, ◌+◌, ◌<◌, ◌≤◌, List, [], ◌∷◌, length, drop, refl, sym, subst, ◌∙◌, arith, inl, inr, Some, None, length-drop, rules}
+use Rattle.std.specs.Prelude.{◌≢◌, Option, slice_range}
 use Rattle.std.proofs.lemmas.Bool.{cases_lt, cases_eq}
-use Rattle.ether_base.proofs.SubLists.{length-part}
 use Rattle.ether_pcap.specs.Numbers.{Order, field}
 use Rattle.ether_pcap.specs.Options.{OptionValue, BeginsOption, HasOptions, padded, value_of}
 
 pub option_one : (order : Order) (bytes : List ℕ) (o p : OptionValue) → BeginsOption order bytes o
     → BeginsOption order bytes p → o ≡ p
-option_one order bytes o p h k =
-    let n : length o.value ≡ length p.value = sym h.len ∙ k.len in
-    let a : o.code ≡ p.code = sym h.code ∙ k.code in
-    let b : o.value ≡ p.value = sym h.value ∙ ap (λ (m : ℕ). slice_range bytes 4 (4 + m)) n ∙ k.value in
-    λ i. record { code = a i; value = b i }
+option_one order bytes o p h k = search rules
 
 -- no option of fewer than four bytes, with code 0, or with more bytes than there are
 
@@ -35,22 +30,13 @@ Agrees order code whole rest =
     (options : List OptionValue) → HasOptions order whole options
     → (left : List OptionValue) × HasOptions order rest left × (value_of code options ≡ value_of code left)
 
-pub agrees_start : (order : Order) (code : ℕ) (whole : List ℕ) → Agrees order code whole whole
-agrees_start order code whole options has = (options, has, refl)
-
 skipped : (order : Order) (code : ℕ) (rest : List ℕ) (o : OptionValue) (found : Option (List ℕ))
     (left : List OptionValue)
     → BeginsOption order rest o → o.code ≢ code → HasOptions order rest left → found ≡ value_of code left
     → (others : List OptionValue) × HasOptions order (drop (4 + padded (length o.value)) rest) others
     × (found ≡ value_of code others)
 skipped order code rest o found [] h other has e = absurd (has o h)
-skipped order code rest o found (p ∷ left) h other has e =
-    let s = option_one order rest p o has.0 h in
-    let t : HasOptions order (drop (4 + padded (length o.value)) rest) left =
-    subst (λ (v : OptionValue). HasOptions order (drop (4 + padded (length v.value)) rest) left) s has.1 in
-    let n : nat_eq p.code code ≡ false =
-    ne_eqb p.code code (λ q. other (ap (λ (v : OptionValue). v.code) (sym s) ∙ q)) in
-    (left, t, e ∙ ap (λ (b : Bool). if b then Some p.value else value_of code left) n)
+skipped order code rest o found (p ∷ left) h other has e = search rules
 
 pub agrees_next : (order : Order) (code : ℕ) (whole rest : List ℕ) (o : OptionValue) → Agrees order code whole rest
     → BeginsOption order rest o → o.code ≢ code → Agrees order code whole (drop (4 + padded (length o.value)) rest)
@@ -63,17 +49,12 @@ found_first : (order : Order) (code : ℕ) (rest : List ℕ) (o : OptionValue) (
     → BeginsOption order rest o → o.code ≡ code → HasOptions order rest left → found ≡ value_of code left
     → found ≡ Some o.value
 found_first order code rest o found [] h is has e = absurd (has o h)
-found_first order code rest o found (p ∷ left) h is has e =
-    let s = option_one order rest p o has.0 h in
-    let n : nat_eq p.code code ≡ true = eq-eqb p.code code (ap (λ (v : OptionValue). v.code) s ∙ is) in
-    e ∙ ap (λ (b : Bool). if b then Some p.value else value_of code left) n ∙ ap (λ (v : OptionValue). Some v.value) s
+found_first order code rest o found (p ∷ left) h is has e = search rules
 
 pub agrees_found : (order : Order) (code : ℕ) (whole rest : List ℕ) (o : OptionValue) → Agrees order code whole rest
     → BeginsOption order rest o → o.code ≡ code → (options : List OptionValue) → HasOptions order whole options
     → value_of code options ≡ Some o.value
-agrees_found order code whole rest o agrees h is options has =
-    let a = agrees options has in
-    found_first order code rest o (value_of code options) a.0 h is a.1 a.2
+agrees_found order code whole rest o agrees h is options has = grind (arith, found_first)
 
 none_left : (order : Order) (code : ℕ) (rest : List ℕ) (found : Option (List ℕ)) (left : List OptionValue)
     → ((o : OptionValue) → BeginsOption order rest o → ⊥) → HasOptions order rest left → found ≡ value_of code left
@@ -84,9 +65,7 @@ none_left order code rest found (p ∷ left) none has e = absurd (none p has.0)
 pub agrees_end : (order : Order) (code : ℕ) (whole rest : List ℕ) → Agrees order code whole rest
     → ((o : OptionValue) → BeginsOption order rest o → ⊥) → (options : List OptionValue)
     → HasOptions order whole options → value_of code options ≡ None
-agrees_end order code whole rest agrees none options has =
-    let a = agrees options has in
-    none_left order code rest (value_of code options) a.0 none a.1 a.2
+agrees_end order code whole rest agrees none options has = search (rules, none_left)
 
 pub smaller : (order : Order) (rest : List ℕ) (o : OptionValue) → BeginsOption order rest o
     → length (drop (4 + padded (length o.value)) rest) < length rest
@@ -112,16 +91,7 @@ option_of order bytes = record { code = field order bytes 0 2; value = slice_ran
 begins : (order : Order) (bytes : List ℕ) → field order bytes 0 2 ≢ 0 → 4 + field order bytes 2 4 ≤ length bytes
     → BeginsOption order bytes (option_of order bytes)
 unfolding option_of
-begins order bytes some whole =
-    let n = field order bytes 2 4 in
-    let len : length (slice_range bytes 4 (4 + n)) ≡ n = length-part bytes 4 (4 + n) whole ∙ omega arith in
-    record {
-      code = refl;
-      no_end = some;
-      len = sym len;
-      value = ap (λ (m : ℕ). slice_range bytes 4 (4 + m)) len;
-      whole = omega (arith, len, whole);
-    }
+begins order bytes some whole = search rules
 
 abbrev Some_of : Order → List ℕ → Type 0
 Some_of order bytes = (options : List OptionValue) × HasOptions order bytes options

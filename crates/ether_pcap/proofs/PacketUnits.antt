@@ -1,7 +1,6 @@
 -- Units that are packets: a record, or a block of one of three types.
-use Rattle.std.proofs.Common.{◌≡◌, ℕ, ◌+◌, ◌-◌, ◌≤◌, List, length, refl, sym, ap, subst, ◌∙◌, arith, inl, inr, Some, None}
+use Rattle.std.proofs.Common.{◌≡◌, ℕ, ◌+◌, ◌-◌, ◌≤◌, List, length, refl, sym, ap, subst, ◌∙◌, arith, Some, None, rules}
 use Rattle.std.specs.Prelude.{Option, unwrap_or, slice_range}
-use Rattle.std.proofs.lemmas.Bool.{cases_eq, ne_eqb}
 use Rattle.ether_base.specs.Bytes.{IsBytes}
 use Rattle.ether_base.proofs.SubLists.{IsBytes-part}
 use Rattle.ether_pcap.specs.Numbers.{Order, field}
@@ -11,7 +10,7 @@ use Rattle.ether_pcap.specs.Section.{HasSectionType}
 use Rattle.ether_pcap.specs.FileHeader.{FileHeaderValue}
 use Rattle.ether_pcap.specs.Bodies.{EnhancedPacketValue, IsEnhancedPacket}
 use Rattle.ether_pcap.specs.Editing.{EditedValue, edited_block, unit_with}
-use Rattle.ether_pcap.specs.Capture.{PacketValue, packet_of_record, packet_on, simple_packet_on, CaptureInterfaceValue, Expectation, Beginning, Records, Blocks, BlockKind, InterfaceDescription, SimplePacket, EnhancedPacket, Other, kind_of_block, IsBody, HasBegun, Begins, file_header, file_record, first_section, section, block}
+use Rattle.ether_pcap.specs.Capture.{PacketValue, packet_of_record, packet_on, simple_packet_on, CaptureInterfaceValue, Expectation, Beginning, Records, Blocks, BlockKind, InterfaceDescription, SimplePacket, EnhancedPacket, Other, kind_of_block, IsBody, HasBegun, Begins, file_header, file_record, block}
 
 pub same_packet : (p q : PacketValue) → Some p ≡ Some q → p ≡ q
 same_packet p q e = ap (λ (o : Option PacketValue). unwrap_or o p) e
@@ -21,17 +20,8 @@ same_packet p q e = ap (λ (o : Option PacketValue). unwrap_or o p) e
 record_if : (bytes : List ℕ) (x y : Expectation) (len : ℕ) (packet : Option PacketValue) (h : FileHeaderValue)
     (p : PacketValue) → x ≡ Records h → packet ≡ Some p → Begins bytes x len packet y
     → (r : RecordValue) × BeginsRecord h.order bytes r × (len ≡ record_len r) × (p ≡ packet_of_record h r)
-record_if bytes x y len packet h p e f (file_header m g other is) = absurd cc
-record_if bytes x y len packet h p e f (file_record g r is) =
-    let same : g ≡ h = cc in (
-      r,
-      subst (λ (z : FileHeaderValue). BeginsRecord z.order bytes r) same is,
-      refl,
-      sym (same_packet (packet_of_record g r) p f) ∙ ap (λ (z : FileHeaderValue). packet_of_record z r) same,
-    )
-record_if bytes x y len packet h p e f (first_section m order b is) = absurd cc
-record_if bytes x y len packet h p e f (section m order next interfaces b is) = absurd cc
-record_if bytes x y len packet h p e f (block m order interfaces after q b other begins is) = absurd cc
+record_if bytes x y len packet h p e f (file_record g r is) = search rules
+record_if bytes x y len packet h p e f k = absurd cc
 
 pub record_of_unit : (bytes : List ℕ) (y : Expectation) (len : ℕ) (h : FileHeaderValue) (p : PacketValue)
     → Begins bytes (Records h) len (Some p) y
@@ -49,20 +39,7 @@ pub data TypeOf (n : ℕ) : Type 0 where
   is_other : kind_of_block n ≡ Other → TypeOf n
 
 pub type_of : (n : ℕ) → TypeOf n
-type_of n =
-    elim (cases_eq n 1) [
-      | inl a ↦ is_interface a
-      | inr a ↦ elim (cases_eq n 2) [
-        | inl b ↦ is_obsolete b
-        | inr b ↦ elim (cases_eq n 3) [
-          | inl c ↦ is_simple c
-          | inr c ↦ elim (cases_eq n 6) [
-            | inl d ↦ is_enhanced d
-            | inr d ↦ is_other (rw (ne_eqb n 1 a, ne_eqb n 2 b, ne_eqb n 3 c, ne_eqb n 6 d) refl)
-          ]
-        ]
-      ]
-    ]
+type_of n = search rules
 
 -- a block that is a packet
 pub record PacketBlock (most : ℕ) (order : Order) (interfaces : List CaptureInterfaceValue) (bytes : List ℕ)
@@ -84,12 +61,10 @@ same_interfaces Other most order before after body packet p is (e, f) = f
 
 same_if : (bytes : List ℕ) (x y : Expectation) (len : ℕ) (packet : Option PacketValue) (p : PacketValue)
     → packet ≡ Some p → Begins bytes x len packet y → y ≡ x
-same_if bytes x y len packet p e (file_header m h other is) = absurd cc
 same_if bytes x y len packet p e (file_record h r is) = refl
-same_if bytes x y len packet p e (first_section m order b is) = absurd cc
-same_if bytes x y len packet p e (section m order next interfaces b is) = absurd cc
 same_if bytes x y len packet p e (block m order interfaces after q b other begins is) =
     ap (Blocks m order) (same_interfaces (kind_of_block b.block_type) m order interfaces after b.body q p e is)
+same_if bytes x y len packet p e h = absurd cc
 
 -- after a packet the same is expected as before it
 pub same_after : (bytes : List ℕ) (x y : Expectation) (len : ℕ) (p : PacketValue) → Begins bytes x len (Some p) y
@@ -102,10 +77,7 @@ same_after bytes x y len p begins = same_if bytes x y len (Some p) p refl begins
 pub begun : (bytes : List ℕ) (x y : Expectation) (len : ℕ) (p : Option PacketValue) → Begins bytes x len p y
     → HasBegun y
 begun bytes x y len p (file_header m h other is) = tt
-begun bytes x y len p (file_record h r is) = tt
-begun bytes x y len p (first_section m order b is) = tt
-begun bytes x y len p (section m order next interfaces b is) = tt
-begun bytes x y len p (block m order interfaces after packet b other begins is) = tt
+begun bytes x y len p h = tt
 
 pub begun_before : (bytes : List ℕ) (x y : Expectation) (len : ℕ) (p : PacketValue)
     → Begins bytes x len (Some p) y → HasBegun x
@@ -116,10 +88,6 @@ block_if : (bytes : List ℕ) (x y : Expectation) (len : ℕ) (packet : Option P
     (interfaces : List CaptureInterfaceValue) (p : PacketValue)
     → x ≡ Blocks most order interfaces → packet ≡ Some p → Begins bytes x len packet y
     → (b : PacketBlock most order interfaces bytes p) × (len ≡ 12 + length b.value.body)
-block_if bytes x y len packet most order interfaces p e f (file_header m h other is) = absurd cc
-block_if bytes x y len packet most order interfaces p e f (file_record h r is) = absurd cc
-block_if bytes x y len packet most order interfaces p e f (first_section m o b is) = absurd cc
-block_if bytes x y len packet most order interfaces p e f (section m o next i b is) = absurd cc
 block_if bytes x y len packet most order interfaces p e f (block m o i after q b other begins is) =
     let a : o ≡ order = cc in
     let c : i ≡ interfaces = cc in
@@ -140,6 +108,7 @@ block_if bytes x y len packet most order interfaces p e f (block m o i after q b
       },
       refl,
     )
+block_if bytes x y len packet most order interfaces p e f h = absurd cc
 
 pub block_of_unit : (bytes : List ℕ) (y : Expectation) (len most : ℕ) (order : Order)
     (interfaces : List CaptureInterfaceValue) (p : PacketValue)
@@ -152,9 +121,7 @@ block_of_unit bytes y len most order interfaces p begins =
 pub body_of_unit : (most : ℕ) (order : Order) (interfaces : List CaptureInterfaceValue) (bytes : List ℕ)
     (p : PacketValue) (b : PacketBlock most order interfaces bytes p)
     → length bytes ≡ 12 + length b.value.body → slice_range bytes 8 (length bytes - 4) ≡ b.value.body
-body_of_unit most order interfaces bytes p b len =
-    let e : length bytes - 4 ≡ 8 + length b.value.body = omega (arith, len) in
-    ap (slice_range bytes 8) e ∙ b.begins.body
+body_of_unit most order interfaces bytes p b len = search rules
 
 -- ---- how many bytes a packet has
 
@@ -162,27 +129,13 @@ body_of_unit most order interfaces bytes p b len =
 few_in_body : (kind : BlockKind) (most : ℕ) (order : Order) (interfaces : List CaptureInterfaceValue)
     (body : List ℕ) (p : PacketValue) → IsBody kind most order interfaces body (Some p) interfaces
     → length p.packet ≤ 262144
-few_in_body InterfaceDescription most order interfaces body p (i, d, lt, e, f) = absurd cc
-few_in_body SimplePacket most order interfaces body p (i, v, at, is, e, f) =
-    let m : length p.packet ≡ length v.packet =
-    ap (λ (r : PacketValue). length r.packet) (same_packet p (simple_packet_on i v) e) in
-    omega (arith, m, is.room)
-few_in_body (EnhancedPacket n) most order interfaces body p (i, v, o, is, at, has, e, f) =
-    let m : length p.packet ≡ length v.packet =
-    ap (λ (r : PacketValue). length r.packet) (same_packet p (packet_on order i v o) e) in
-    omega (arith, m, is.room)
-few_in_body Other most order interfaces body p (e, f) = absurd cc
+few_in_body SimplePacket most order interfaces body p (i, v, at, is, e, f) = search rules
+few_in_body kind most order interfaces body p h = search rules
 
 pub packet_room : (x : Expectation) (u : List ℕ) (p : PacketValue) → Begins u x (length u) (Some p) x
     → length p.packet ≤ 262144
 packet_room (Beginning m) u p begins = absurd (begun_before u (Beginning m) (Beginning m) (length u) p begins)
-packet_room (Records h) u p begins =
-    let s = record_of_unit u (Records h) (length u) h p begins in
-    let m : length p.packet ≡ length s.0.packet = ap (λ (q : PacketValue). length q.packet) s.3 in
-    omega (arith, m, s.1.room)
-packet_room (Blocks m order interfaces) u p begins =
-    let b = (block_of_unit u (Blocks m order interfaces) (length u) m order interfaces p begins).0 in
-    few_in_body (kind_of_block b.value.block_type) m order interfaces b.value.body p b.body
+packet_room h u p begins = search (rules, record_of_unit, block_of_unit, few_in_body)
 
 -- the captured bytes of a packet
 bytes_in_body : (kind : BlockKind) (most : ℕ) (order : Order) (before after : List CaptureInterfaceValue)
@@ -198,21 +151,18 @@ bytes_in_body (EnhancedPacket n) most order before after body packet p e ok (i, 
     let same : p ≡ packet_on order i v o = same_packet p (packet_on order i v o) (sym e ∙ f) in
     subst (λ (q : PacketValue). IsBytes q.packet) (sym same)
     (subst IsBytes is.packet (IsBytes-part 20 (20 + length v.packet) body ok))
-bytes_in_body Other most order before after body packet p e ok (f, g) =
-    let bad : None ≡ Some p = sym f ∙ e in absurd cc
+bytes_in_body Other most order before after body packet p e ok (f, g) = let bad : None ≡ Some p = sym f ∙ e in absurd cc
 
 bytes_if : (bytes : List ℕ) (x y : Expectation) (len : ℕ) (packet : Option PacketValue) (p : PacketValue)
     → packet ≡ Some p → IsBytes bytes → Begins bytes x len packet y → IsBytes p.packet
-bytes_if bytes x y len packet p e ok (file_header m h other is) = absurd cc
 bytes_if bytes x y len packet p e ok (file_record h r is) =
     let same : p ≡ packet_of_record h r = same_packet p (packet_of_record h r) (sym e) in
     subst (λ (q : PacketValue). IsBytes q.packet) (sym same)
     (subst IsBytes is.packet (IsBytes-part 16 (16 + length r.packet) bytes ok))
-bytes_if bytes x y len packet p e ok (first_section m order b is) = absurd cc
-bytes_if bytes x y len packet p e ok (section m order next interfaces b is) = absurd cc
 bytes_if bytes x y len packet p e ok (block m order interfaces after q b other begins is) =
     bytes_in_body (kind_of_block b.block_type) m order interfaces after b.body q p e
     (subst IsBytes begins.body (IsBytes-part 8 (8 + length b.body) bytes ok)) is
+bytes_if bytes x y len packet p e ok h = absurd cc
 
 pub packet_bytes : (bytes : List ℕ) (x y : Expectation) (len : ℕ) (p : PacketValue) → IsBytes bytes
     → Begins bytes x len (Some p) y → IsBytes p.packet
@@ -227,11 +177,7 @@ module _ (most : ℕ) (order : Order) (interfaces : List CaptureInterfaceValue) 
 
   unit_body : (kind : BlockKind) → kind_of_block (field order u 0 4) ≡ kind
       → Is kind (slice_range u 8 (length u - 4))
-  unit_body kind is =
-      let found = block_of_unit u (Blocks most order interfaces) (length u) most order interfaces p begins in
-      let b = found.0 in
-      subst (Is kind) (sym (body_of_unit most order interfaces u p b found.1))
-      (subst (λ (z : BlockKind). Is z b.value.body) (ap kind_of_block (sym b.begins.block_type) ∙ is) b.body)
+  unit_body kind is = grind (arith, block_of_unit, length, body_of_unit)
 
   -- an enhanced packet, or an obsolete packet block
   pub enhanced_edited : (number_len : ℕ) (e : EditedValue) (new : Option (List ℕ))
@@ -240,14 +186,7 @@ module _ (most : ℕ) (order : Order) (interfaces : List CaptureInterfaceValue) 
       → IsEnhancedPacket k order (slice_range u 8 (length u - 4)) v
       → new ≡ edited_block (EnhancedPacket k) order (length v.packet) e u)
       → new ≡ unit_with (Blocks most order interfaces) (length p.packet) e u
-  enhanced_edited number_len e new kind edits =
-      let found = block_of_unit u (Blocks most order interfaces) (length u) most order interfaces p begins in
-      let (i, v, options, is, at, has, f, g) = unit_body (EnhancedPacket number_len) kind in
-      let m : length p.packet ≡ length v.packet =
-      ap (λ (q : PacketValue). length q.packet) (same_packet p (packet_on order i v options) f) in
-      let sound : IsTotalLen (length u) = subst IsTotalLen (sym found.1) found.0.begins.sound in
-      edits number_len v sound is ∙ ap (λ (k : ℕ). edited_block (EnhancedPacket number_len) order k e u) (sym m)
-      ∙ ap (λ (z : BlockKind). edited_block z order (length p.packet) e u) (sym kind)
+  enhanced_edited number_len e new kind edits = grind (arith, block_of_unit, length, unit_body, same_packet)
 
   -- .. no other block is edited
   pub other_edited : (e : EditedValue) → (field order u 0 4 ≡ 2 → ⊥) → (field order u 0 4 ≡ 6 → ⊥)
@@ -264,5 +203,4 @@ module _ (most : ℕ) (order : Order) (interfaces : List CaptureInterfaceValue) 
       none : (kind : BlockKind) → kind_of_block (field order u 0 4) ≡ kind
           → None ≡ edited_block kind order (length p.packet) e u
           → None ≡ unit_with (Blocks most order interfaces) (length p.packet) e u
-      none kind is e_none =
-          e_none ∙ ap (λ (z : BlockKind). edited_block z order (length p.packet) e u) (sym is)
+      none kind is e_none = e_none ∙ ap (λ (z : BlockKind). edited_block z order (length p.packet) e u) (sym is)

@@ -1,27 +1,22 @@
 -- The packets of a file: one list of them, however it is read.
-use Rattle.std.proofs.Common.{◌≡◌, ℕ, List, ◌∷◌, length, drop, refl, sym, ap, subst, arith, Some, None}
+use Rattle.std.proofs.Common.{◌≡◌, ℕ, List, ◌∷◌, drop, refl, ap, Some, None, rules}
 use Rattle.std.specs.Prelude.{Option}
 use Rattle.ether_base.specs.Bytes.{IsBytes}
 use Rattle.ether_base.proofs.SubLists.{IsBytes-drop}
 use Rattle.ether_pcap.specs.Capture.{PacketValue, Expectation, CaptureRefusal, Begins, IsEnd, HasPackets, ended, refused, unit, packet}
-use Rattle.ether_pcap.proofs.CaptureLengths.{unit_within, unit_some}
 use Rattle.ether_pcap.proofs.CapturesOne.{unit_one, unit_apart, unit_refusal_one}
 
 -- no unit at the end
 pub none_at_end : (x y : Expectation) (bytes : List ℕ) (len : ℕ) (p : Option PacketValue) → IsEnd x bytes
     → Begins bytes x len p y → ⊥
-none_at_end x y bytes len p end begins =
-    let none : length bytes ≡ 0 = ap length end.1 in
-    omega (arith, none, unit_within bytes x y len p begins, unit_some bytes x y len p begins)
+none_at_end x y bytes len p end begins = search rules
 
 -- what follows a unit, after another that is the same
 after_same : (y z : Expectation) (bytes : List ℕ) (len n : ℕ) (packets : List PacketValue) (rest : List ℕ)
     (fault : Option CaptureRefusal)
     → len ≡ n → y ≡ z
     → HasPackets z (drop n bytes) packets rest fault → HasPackets y (drop len bytes) packets rest fault
-after_same y z bytes len n packets rest fault e f has =
-    subst (λ (m : ℕ). HasPackets y (drop m bytes) packets rest fault) (sym e)
-    (subst (λ (w : Expectation). HasPackets w (drop n bytes) packets rest fault) (sym f) has)
+after_same y z bytes len n packets rest fault e f has = search rules
 
 pub packets_one : (x : Expectation) (bytes : List ℕ) (packets others : List PacketValue) (rest left : List ℕ)
     (fault other : Option CaptureRefusal)
@@ -73,7 +68,6 @@ packets_one x bytes packets others rest left fault other ok (packet _ y _ len p 
 packets_one x bytes packets others rest left fault other ok (packet _ y _ len p ps _ _ begins has)
     (packet _ z _ n q qs _ _ begins2 has2) =
     let e = unit_one bytes x y z len n (Some p) (Some q) ok begins begins2 in
-    let f = e.1 in
     let s : p ≡ q = cc in
     let m =
     packets_one y (drop len bytes) ps qs rest left fault other (IsBytes-drop len bytes ok) has

@@ -1,9 +1,8 @@
 -- Records: one for each list of bytes, or one refusal; and what a reader gives.
-use Rattle.std.proofs.Common.{◌≡◌, ℕ, zero, suc, ◌+◌, ◌≤◌, List, [], ◌∷◌, length, drop, refl, sym, ap, subst, ◌∙◌, arith, inl, inr, Ok, Err, Some, None, true, false, length-drop}
+use Rattle.std.proofs.Common.{◌≡◌, ℕ, zero, suc, ◌+◌, ◌≤◌, List, [], ◌∷◌, length, drop, refl, sym, ap, subst, ◌∙◌, arith, inl, inr, Ok, Err, Some, None, true, false, length-drop, rules}
 use Rattle.std.specs.Prelude.{◌≢◌, ◌-◌, ◌==◌, take, Bool, slice_range, Option}
 use Rattle.std.proofs.lemmas.Grind.{common_steps}
 use Rattle.std.proofs.lemmas.Bool.{cases_lt}
-use Rattle.ether_base.proofs.SubLists.{length-part}
 use Rattle.ether_pcap.specs.Numbers.{Order, field}
 use Rattle.ether_pcap.specs.Record.{RecordValue, RecordRefusal, Short, TooLong, BeginsRecord, RefusesRecord, header, too_long, packet, HasRecords, record_len, max_captured_len}
 use Rattle.ether_pcap.specs.Laws.{Contents}
@@ -14,13 +13,7 @@ use Rattle.ether_pcap.specs.declared.classic.record_fault.RecordFault.{RecordFau
 
 pub record_one : (order : Order) (bytes : List ℕ) (r s : RecordValue) → BeginsRecord order bytes r
     → BeginsRecord order bytes s → r ≡ s
-record_one order bytes r s h k =
-    let n : length r.packet ≡ length s.packet = sym h.captured_len ∙ k.captured_len in
-    let a : r.seconds ≡ s.seconds = sym h.seconds ∙ k.seconds in
-    let b : r.fraction ≡ s.fraction = sym h.fraction ∙ k.fraction in
-    let c : r.original_len ≡ s.original_len = sym h.original_len ∙ k.original_len in
-    let p : r.packet ≡ s.packet = sym h.packet ∙ ap (λ (m : ℕ). slice_range bytes 16 (16 + m)) n ∙ k.packet in
-    λ i. record { seconds = a i; fraction = b i; original_len = c i; packet = p i }
+record_one order bytes r s h k = search rules
 
 pub record_apart : (order : Order) (bytes : List ℕ) (r : RecordValue) (e : RecordRefusal) → BeginsRecord order bytes r
     → RefusesRecord order bytes e → ⊥
@@ -30,66 +23,38 @@ record_apart order bytes r e h (packet le small lt) = omega (arith, h.whole, h.c
 
 pub refusal_one : (order : Order) (bytes : List ℕ) (e f : RecordRefusal) → RefusesRecord order bytes e
     → RefusesRecord order bytes f → e ≡ f
-refusal_one order bytes e f (header lt) (header m) = refl
 refusal_one order bytes e f (header lt) (too_long le m) = absurd (omega (arith, lt, le))
 refusal_one order bytes e f (header lt) (packet le small m) = absurd (omega (arith, lt, le))
 refusal_one order bytes e f (too_long le lt) (header m) = absurd (omega (arith, le, m))
-refusal_one order bytes e f (too_long le lt) (too_long le2 m) = refl
 refusal_one order bytes e f (too_long le lt) (packet le2 small m) = absurd (omega (arith, lt, small))
 refusal_one order bytes e f (packet le small lt) (header m) = absurd (omega (arith, le, m))
 refusal_one order bytes e f (packet le small lt) (too_long le2 m) = absurd (omega (arith, small, m))
-refusal_one order bytes e f (packet le small lt) (packet le2 small2 m) = refl
+refusal_one order bytes e f h k = refl
 
 -- ---- what a reader gives
 
 not_empty : (order : Order) (bytes : List ℕ) (r : RecordValue) → BeginsRecord order bytes r → bytes ≢ []
 not_empty order bytes r h e = let l : length bytes ≡ 0 = ap length e in omega (arith, h.whole, l)
 
-next_record : (order : Order) (s : State) (p : PcapRecord) (records : List RecordValue) (rest : List ℕ)
-    (fault : Option RecordRefusal)
-    → BeginsRecord order s.rest (record_view p) → HasRecords order s.rest records rest fault
-    → GivesNext records fault s (Some (Ok p))
-    (record s { rest = drop (record_len (record_view p)) s.rest; offset = s.offset + record_len (record_view p) })
-next_record order s p [] rest None h has = absurd (not_empty order s.rest (record_view p) h has.0)
-next_record order s p [] rest (Some refusal) h has = absurd (record_apart order s.rest (record_view p) refusal h has.2)
-next_record order s p (r ∷ records) rest fault h has =
-    let e = record_one order s.rest (record_view p) r h has.0 in (
-      p,
-      refl,
-      e,
-      ap
-          (λ (v : RecordValue). let t : State =
-          record s { rest = drop (record_len v) s.rest; offset = s.offset + record_len v } in t)
-          e,
-    )
-
 pub gives_record : (s : State) (p : PcapRecord) → s.over ≡ false
     → BeginsRecord (order_of s.header.byte_order) s.rest (record_view p)
     → Gives s (Some (Ok p))
     (record s { rest = drop (record_len (record_view p)) s.rest; offset = s.offset + record_len (record_view p) })
-gives_record s p more h = record {
-  over = λ o. absurd cc;
-  next = λ o records rest fault has. next_record (order_of s.header.byte_order) s p records rest fault h has;
-}
+gives_record s p more h = grind (arith)
 
 next_fault : (order : Order) (s : State) (f : RecordFault) (records : List RecordValue) (rest : List ℕ)
     (fault : Option RecordRefusal)
     → s.rest ≢ [] → f.offset ≡ s.offset → RefusesRecord order s.rest (record_refusal_view f.error)
     → HasRecords order s.rest records rest fault
     → GivesNext records fault s (Some (Err f)) (record s { over = true })
-next_fault order s f [] rest None some at h has = absurd (some has.0)
 next_fault order s f [] rest (Some refusal) some at h has =
     (f, refl, at, refusal_one order s.rest (record_refusal_view f.error) refusal h has.2, refl)
-next_fault order s f (r ∷ records) rest fault some at h has =
-    absurd (record_apart order s.rest r (record_refusal_view f.error) has.0 h)
+next_fault order s f k rest fault some at h has = absurd (search (rules, record_apart))
 
 pub gives_fault : (s : State) (f : RecordFault) → s.over ≡ false → s.rest ≢ [] → f.offset ≡ s.offset
     → RefusesRecord (order_of s.header.byte_order) s.rest (record_refusal_view f.error)
     → Gives s (Some (Err f)) (record s { over = true })
-gives_fault s f more some at h = record {
-  over = λ o. absurd cc;
-  next = λ o records rest fault has. next_fault (order_of s.header.byte_order) s f records rest fault some at h has;
-}
+gives_fault s f more some at h = search (rules, next_fault)
 
 -- ---- all records of a list
 
@@ -105,18 +70,7 @@ record_of order bytes = record {
 begins : (order : Order) (bytes : List ℕ) → field order bytes 8 12 ≤ max_captured_len
     → 16 + field order bytes 8 12 ≤ length bytes → BeginsRecord order bytes (record_of order bytes)
 unfolding record_of
-begins order bytes room whole =
-    let n = field order bytes 8 12 in
-    let len : length (slice_range bytes 16 (16 + n)) ≡ n = length-part bytes 16 (16 + n) whole ∙ omega arith in
-    record {
-      seconds = refl;
-      fraction = refl;
-      captured_len = sym len;
-      original_len = refl;
-      packet = ap (λ (m : ℕ). slice_range bytes 16 (16 + m)) len;
-      whole = omega (arith, len, whole);
-      room = omega (arith, len, room);
-    }
+begins order bytes room whole = search rules
 
 goes_on : (order : Order) (bytes : List ℕ) (r : RecordValue) → BeginsRecord order bytes r
     → Contents order (drop (record_len r) bytes) → Contents order bytes
@@ -164,20 +118,15 @@ same : (order : Order) (bytes : List ℕ) (records others : List RecordValue) (r
     → HasRecords order bytes records rest fault → HasRecords order bytes others left other
     → (records ≡ others) × (rest ≡ left) × (fault ≡ other)
 same order bytes [] [] rest left None None h k = (refl, h.1 ∙ sym k.1, refl)
-same order bytes [] [] rest left None (Some f) h k = absurd (k.0 h.0)
-same order bytes [] [] rest left (Some e) None h k = absurd (h.0 k.0)
 same order bytes [] [] rest left (Some e) (Some f) h k =
     (refl, h.1 ∙ sym k.1, ap Some (refusal_one order bytes e f h.2 k.2))
-same order bytes [] (s ∷ others) rest left None other h k = absurd (not_empty order bytes s k.0 h.0)
-same order bytes [] (s ∷ others) rest left (Some e) other h k = absurd (record_apart order bytes s e k.0 h.2)
-same order bytes (r ∷ records) [] rest left fault None h k = absurd (not_empty order bytes r h.0 k.0)
-same order bytes (r ∷ records) [] rest left fault (Some f) h k = absurd (record_apart order bytes r f h.0 k.2)
 same order bytes (r ∷ records) (s ∷ others) rest left fault other h k =
     let e = record_one order bytes r s h.0 k.0 in
     let m : HasRecords order (drop (record_len r) bytes) others left other =
     subst (λ (v : RecordValue). HasRecords order (drop (record_len v) bytes) others left other) (sym e) k.1 in
     let t = same order (drop (record_len r) bytes) records others rest left fault other h.1 m in
     (let p = t.0 in λ i. e i ∷ p i, t.1, t.2)
+same order bytes a b rest left fault other h k = absurd (search (rules, not_empty, record_apart))
 
 pub one_contents : (order : Order) (bytes : List ℕ) (c d : Contents order bytes)
     → (c.records ≡ d.records) × (c.rest ≡ d.rest) × (c.fault ≡ d.fault)

@@ -1,5 +1,5 @@
 -- Section headers: one for each list of bytes, or one refusal.
-use Rattle.std.proofs.Common.{◌≡◌, ℕ, ◌<◌, ◌≤◌, List, [], ◌∷◌, length, refl, sym, ap, subst, ◌∙◌, arith}
+use Rattle.std.proofs.Common.{◌≡◌, ℕ, ◌<◌, ◌≤◌, List, [], ◌∷◌, length, refl, sym, ap, subst, ◌∙◌, arith, rules}
 use Rattle.std.specs.Prelude.{slice_range}
 use Rattle.ether_base.specs.Bytes.{IsBytes, number}
 use Rattle.ether_base.proofs.SubLists.{length-part, IsBytes-part}
@@ -10,25 +10,20 @@ use Rattle.ether_pcap.proofs.Blocks.{block_one, block_apart, block_refusal_one}
 
 -- no four bytes are the byte-order magic in both orders
 ends : (l : List ℕ) → length l ≡ 4 → IsBytes l → number l ≡ 0x1A2B3C4D → number_from_low l ≡ 0x1A2B3C4D → ⊥
-ends [] len ok p q = omega arith
-ends (a ∷ []) len ok p q = omega arith
-ends (a ∷ b ∷ []) len ok p q = omega arith
-ends (a ∷ b ∷ c ∷ []) len ok p q = omega arith
 ends (a ∷ b ∷ c ∷ d ∷ []) len ok p q =
     let x = ok 0 in let y = ok 1 in let z = ok 2 in let w = ok 3 in omega (arith, x, y, z, w, p, q)
-ends (a ∷ b ∷ c ∷ d ∷ e ∷ l) len ok p q = omega arith
+ends l len ok p q = omega arith
 
 part : (bytes : List ℕ) → 12 ≤ length bytes → length (slice_range bytes 8 12) ≡ 4
 part bytes le = length-part bytes 8 12 le ∙ omega arith
 
 order_one : (bytes : List ℕ) (o p : Order) → IsBytes bytes → 12 ≤ length bytes → HasOrder bytes o → HasOrder bytes p
     → o ≡ p
-order_one bytes BigEndian BigEndian ok le h k = refl
-order_one bytes LittleEndian LittleEndian ok le h k = refl
 order_one bytes BigEndian LittleEndian ok le h k =
     absurd (ends (slice_range bytes 8 12) (part bytes le) (IsBytes-part 8 12 bytes ok) h k)
 order_one bytes LittleEndian BigEndian ok le h k =
     absurd (ends (slice_range bytes 8 12) (part bytes le) (IsBytes-part 8 12 bytes ok) k h)
+order_one bytes o p ok le h k = refl
 
 enough : (bytes : List ℕ) (o : Order) (b : BlockValue) → BeginsBlock o bytes b → 12 ≤ length bytes
 enough bytes o b h = omega (arith, h.whole)
@@ -39,9 +34,7 @@ moved bytes o p c e k = subst (λ (q : Order). BeginsBlock q bytes c) (sym e) k
 
 pub section_one : (bytes : List ℕ) (o p : Order) (b c : BlockValue) → IsBytes bytes → IsSection bytes o b
     → IsSection bytes p c → (o ≡ p) × (b ≡ c)
-section_one bytes o p b c ok h k =
-    let e = order_one bytes o p ok (enough bytes o b h.block) h.magic k.magic in
-    (e, block_one o bytes b c h.block (moved bytes o p c e k.block))
+section_one bytes o p b c ok h k = search (rules, order_one, enough, block_one, moved)
 
 pub section_apart : (bytes : List ℕ) (o : Order) (b : BlockValue) (r : SectionRefusal) → IsBytes bytes
     → IsSection bytes o b → RefusesSection bytes r → ⊥
@@ -81,19 +74,13 @@ refused_block bytes o p r c ok le m n h k =
 
 one_refusal : (bytes : List ℕ) (o p : Order) (r s : BlockRefusal) → IsBytes bytes → 12 ≤ length bytes → HasOrder bytes o
     → HasOrder bytes p → RefusesBlock o bytes r → RefusesBlock p bytes s → r ≡ s
-one_refusal bytes o p r s ok le m n h k =
-    block_refusal_one o bytes r s h
-    (subst (λ (q : Order). RefusesBlock q bytes s) (sym (order_one bytes o p ok le m n)) k)
+one_refusal bytes o p r s ok le m n h k = search (rules, block_refusal_one, order_one)
 
 one_version : (bytes : List ℕ) (o p : Order) (a b c d : ℕ) → IsBytes bytes → 12 ≤ length bytes → HasOrder bytes o
     → HasOrder bytes p
     → field o bytes 12 14 ≡ a → field o bytes 14 16 ≡ b → field p bytes 12 14 ≡ c → field p bytes 14 16 ≡ d
     → Version a b ≡ Version c d
-one_version bytes o p a b c d ok le m n ea eb ec ed =
-    let e = order_one bytes o p ok le m n in
-    let i : a ≡ c = sym ea ∙ ap (λ (q : Order). field q bytes 12 14) e ∙ ec in
-    let j : b ≡ d = sym eb ∙ ap (λ (q : Order). field q bytes 14 16) e ∙ ed in
-    λ k. Version (i k) (j k)
+one_version bytes o p a b c d ok le m n ea eb ec ed = search rules
 
 pub section_refused : (bytes : List ℕ) (r s : SectionRefusal) → IsBytes bytes → RefusesSection bytes r
     → RefusesSection bytes s → r ≡ s

@@ -1,7 +1,7 @@
 -- Bytes in place of as many others, and what they are in a file header, a section header and an interface description.
-use Rattle.std.proofs.Common.{◌≡◌, ℕ, ◌+◌, ◌-◌, ◌%◌, ◌^◌, ◌<◌, ◌≤◌, List, ◌++◌, length, take, drop, min, refl, sym, ap, subst, ◌∙◌, arith, inl, inr}
+use Rattle.std.proofs.Common.{◌≡◌, ℕ, ◌+◌, ◌-◌, ◌%◌, ◌^◌, ◌<◌, ◌≤◌, List, ◌++◌, length, take, drop, min, refl, sym, ap, subst, ◌∙◌, arith, rules}
 use Rattle.std.specs.Prelude.{Bool, slice_range, if◌then◌else◌}
-use Rattle.std.proofs.lemmas.Bool.{cases_eq, eq-eqb, ne_eqb}
+use Rattle.std.proofs.lemmas.Bool.{eq-eqb}
 use Rattle.std.proofs.lemmas.List.{drop-drop, length-append, length-drop}
 use Rattle.ether_base.specs.Bytes.{number}
 use Rattle.ether_base.proofs.SubLists.{length-part, part-append, part_of_part, part_of_front, part_after_front}
@@ -29,23 +29,13 @@ module _ (at : ℕ) (new bytes : List ℕ) (room : at + length new ≤ length by
   length-with_new = omega (arith, length-append front new, length-front)
 
   pub length-with_bytes : length (with_bytes at new bytes) ≡ length bytes
-  length-with_bytes =
-      omega (
-        arith,
-        room,
-        length-append (front ++ new) (drop (at + length new) bytes),
-        length-with_new,
-        length-drop (at + length new) bytes,
-      )
+  length-with_bytes = search (rules, room, length-append, length-with_new, length-drop)
 
   pub with_bytes-before : (i j : ℕ) → i ≤ j → j ≤ at → slice_range (with_bytes at new bytes) i j ≡ slice_range bytes i j
-  with_bytes-before i j ij le =
-      part-append (front ++ new) (drop (at + length new) bytes) i j ij (omega (arith, le, length-with_new))
-      ∙ part-append front new i j ij (omega (arith, le, length-front)) ∙ part_of_front bytes at i j ij le
+  with_bytes-before i j ij le = search (rules, part-append, length-with_new, length-front, part_of_front)
 
   pub with_bytes-new : slice_range (with_bytes at new bytes) at (at + length new) ≡ new
-  with_bytes-new =
-      part_after_front front new (drop (at + length new) bytes) at (at + length new) length-front refl
+  with_bytes-new = part_after_front front new (drop (at + length new) bytes) at (at + length new) length-front refl
 
   pub with_bytes-after : (i j : ℕ) → at + length new ≤ i → i ≤ j
       → slice_range (with_bytes at new bytes) i j ≡ slice_range bytes i j
@@ -61,19 +51,10 @@ module _ (at : ℕ) (new bytes : List ℕ) (room : at + length new ≤ length by
 -- ---- a raised snap length
 
 pub raised_none : (raise n : ℕ) → n ≡ 0 → raised_len raise n ≡ 0
-raised_none raise n is =
-    ap (λ (b : Bool). if b then 0 else min (n + raise) (2 ^ 32 - 1)) (eq-eqb n 0 is)
-
-pub raised_some : (raise n : ℕ) → (n ≡ 0 → ⊥) → raised_len raise n ≡ min (n + raise) (2 ^ 32 - 1)
-raised_some raise n some =
-    ap (λ (b : Bool). if b then 0 else min (n + raise) (2 ^ 32 - 1)) (ne_eqb n 0 some)
+raised_none raise n is = ap (λ (b : Bool). if b then 0 else min (n + raise) (2 ^ 32 - 1)) (eq-eqb n 0 is)
 
 raised_below : (raise n : ℕ) → raised_len raise n < 256 ^ 4
-raised_below raise n =
-    elim (cases_eq n 0) [
-      | inl none ↦ let e = raised_none raise n none in omega (arith, e)
-      | inr some ↦ let e = raised_some raise n some in omega (arith, e)
-    ]
+raised_below raise n = search rules
 
 module _ (order : Order) (raise n at : ℕ) (bytes : List ℕ) (room : at + 4 ≤ length bytes) where
   abbrev raised : List ℕ
@@ -86,10 +67,7 @@ module _ (order : Order) (raise n at : ℕ) (bytes : List ℕ) (room : at + 4 �
   raised_room = omega (arith, room, four)
 
   pub raised_field : field order (with_bytes at raised bytes) at (at + 4) ≡ raised_len raise n
-  raised_field =
-      ap (λ (k : ℕ). field order (with_bytes at raised bytes) at (at + k)) (sym four)
-      ∙ ap (number_in order) (with_bytes-new at raised bytes raised_room)
-      ∙ number-bytes_of order 4 (raised_len raise n) (raised_below raise n)
+  raised_field = search (rules, four, with_bytes-new, raised_room, number-bytes_of, raised_below)
 
   pub raised_before : (i j : ℕ) → i ≤ j → j ≤ at
       → field order (with_bytes at raised bytes) i j ≡ field order bytes i j
@@ -139,9 +117,7 @@ module _ (order : Order) (at : ℕ) (new bytes : List ℕ) (b : BlockValue) (is 
   body_in = slice_range all 8 (8 + length b.body)
 
   pub length-body_in : length body_in ≡ length b.body
-  length-body_in =
-      length-part all 8 (8 + length b.body) (omega (arith, length-with_bytes at new bytes block_room, whole))
-      ∙ omega arith
+  length-body_in = search (rules, length-part, length-with_bytes, block_room, whole)
 
   abbrev pub block_in : BlockValue
   block_in = record { block_type = b.block_type; body = body_in }
@@ -184,9 +160,7 @@ section_in order bytes b is =
     let high : 24 ≤ 8 + length b.body = omega (arith, long) in
     let room = block_room order 16 no_section_len bytes b is.block (omega arith) high in
     let len = length-body_in order 16 no_section_len bytes b is.block (omega arith) high in
-    let same : (i j : ℕ) → i ≤ j → j ≤ 16
-    → slice_range (with_bytes 16 no_section_len bytes) i j ≡ slice_range bytes i j =
-    with_bytes-before 16 no_section_len bytes room in
+    let same = with_bytes-before 16 no_section_len bytes room in
     let major = ap (number_in order) (same 12 14 (omega arith) (omega arith)) in
     let minor = ap (number_in order) (same 14 16 (omega arith) (omega arith)) in (
       block_in order 16 no_section_len bytes b is.block (omega arith) high,

@@ -1,7 +1,6 @@
 -- What is written is read back.
-use Rattle.std.proofs.Common.{◌≡◌, ℕ, ◌+◌, ◌*◌, ◌/◌, ◌%◌, ◌^◌, ◌<◌, ◌≤◌, List, ◌++◌, length, refl, ap, ◌∙◌, arith, Bool}
-use Rattle.std.specs.Prelude.{Option, Some, None, if◌then◌else◌}
-use Rattle.std.proofs.lemmas.Bool.{ne_eqb, eq-eqb}
+use Rattle.std.proofs.Common.{◌≡◌, ℕ, ◌+◌, ◌%◌, ◌^◌, ◌<◌, ◌≤◌, List, ◌++◌, length, refl, ap, ◌∙◌, arith, rules}
+use Rattle.std.specs.Prelude.{Option, Some, None}
 use Rattle.std.proofs.lemmas.List.{append_assoc, length-append}
 use Rattle.ether_base.proofs.SubLists.{part-append, part_after_front}
 use Rattle.ether_pcap.specs.Numbers.{Order, number_in, field}
@@ -14,16 +13,8 @@ link_type_back t None lt = omega arith
 link_type_back t (Some n) lt = omega arith
 
 fcs_len_back : (t : ℕ) (f : Option ℕ) → t < 65536 → HasFcsLen f → fcs_len_of (link_word_of t f) ≡ f
-fcs_len_back t None lt has =
-    ap (λ (b : Bool). if b then Some (2 * (t / 2 ^ 28)) else None)
-    (ne_eqb (t / 2 ^ 26 % 2) 1 (λ e. omega (arith, e, lt)))
-fcs_len_back t (Some n) lt has =
-    let word = link_word_of t (Some n) in
-    let even = has.0 in
-    let le = has.1 in
-    ap (λ (b : Bool). if b then Some (2 * (word / 2 ^ 28)) else None)
-    (eq-eqb (word / 2 ^ 26 % 2) 1 (omega (arith, lt, even, le)))
-    ∙ ap Some (omega (arith, lt, even, le))
+fcs_len_back t None lt has = search rules
+fcs_len_back t (Some n) lt has = search rules
 
 pub file_header_back : (bytes rest : List ℕ) (h : FileHeaderValue) → length bytes ≡ 24 → WritesFileHeader bytes h
     → h.link_type < 65536 → HasFcsLen h.fcs_len → IsFileHeader (bytes ++ rest) h
@@ -31,15 +22,7 @@ file_header_back bytes rest h len w lt has =
     let at : (i j : ℕ) → i ≤ j → j ≤ 24 → field h.order (bytes ++ rest) i j ≡ field h.order bytes i j =
     λ i j ij le. ap (number_in h.order) (part-append bytes rest i j ij (omega (arith, len, le))) in
     let word = at 20 24 (omega arith) (omega arith) ∙ w.link in
-    record {
-      len = omega (arith, length-append bytes rest, len);
-      magic = at 0 4 (omega arith) (omega arith) ∙ w.magic;
-      major = at 4 6 (omega arith) (omega arith) ∙ w.major;
-      minor = at 6 8 (omega arith) (omega arith) ∙ w.minor;
-      snap_len = at 16 20 (omega arith) (omega arith) ∙ w.snap_len;
-      link_type = ap (λ (n : ℕ). n % 2 ^ 16) word ∙ link_type_back h.link_type h.fcs_len lt;
-      fcs_len = ap fcs_len_of word ∙ fcs_len_back h.link_type h.fcs_len lt has;
-    }
+    search (rules, length-append, link_type_back, fcs_len_back)
 
 pub record_back : (order : Order) (bytes rest : List ℕ) (r : RecordValue) → length bytes ≡ 16
     → WritesRecordHeader order bytes r → length r.packet ≤ 262144 → BeginsRecord order (bytes ++ r.packet ++ rest) r

@@ -1,5 +1,5 @@
 -- Blocks that are written are read back.
-use Rattle.std.proofs.Common.{◌≡◌, ℕ, ◌+◌, ◌-◌, ◌/◌, ◌%◌, ◌^◌, ◌<◌, ◌≤◌, List, [], ◌∷◌, ◌++◌, length, take, drop, reverse, refl, sym, ap, subst, ◌∙◌, arith, inl, append_assoc, length-append}
+use Rattle.std.proofs.Common.{◌≡◌, ℕ, ◌+◌, ◌-◌, ◌/◌, ◌%◌, ◌^◌, ◌<◌, ◌≤◌, List, [], ◌∷◌, ◌++◌, length, drop, reverse, refl, sym, ap, subst, ◌∙◌, arith, append_assoc, length-append, rules}
 use Rattle.std.specs.Prelude.{slice_range}
 use Rattle.std.proofs.lemmas.List.{take_all, drop_at}
 use Rattle.ether_base.specs.Bytes.{spelled}
@@ -13,7 +13,6 @@ use Rattle.ether_pcap.specs.Writing.{bytes_of}
 use Rattle.ether_pcap.specs.Editing.{block_bytes}
 use Rattle.ether_pcap.specs.WritingBlocks.{section_body, interface_head, interface_body, interface_block_len, InterfaceIsRead, nanosecond_bytes, packet_head, packet_padding, packet_body, packet_block_len, PacketIsRead}
 use Rattle.ether_pcap.proofs.Numbers.{length-bytes_of, number-bytes_of}
-use Rattle.ether_pcap.proofs.Options.{none_at_end}
 use Rattle.ether_pcap.proofs.CaptureLocality.{block_local}
 use Rattle.ether_pcap.proofs.EditUnits.{length-zeros, part_past, block_begins}
 
@@ -22,12 +21,7 @@ use Rattle.ether_pcap.proofs.EditUnits.{length-zeros, part_past, block_begins}
 -- a length that has more than four bytes is written modulo 2^32
 low_bytes : (n : ℕ) → spelled 4 (n % 4294967296) ≡ spelled 4 n
 unfolding spelled
-low_bytes n =
-    let a : n % 4294967296 / 256 ^ 3 % 256 ≡ n / 256 ^ 3 % 256 = omega arith in
-    let b : n % 4294967296 / 256 ^ 2 % 256 ≡ n / 256 ^ 2 % 256 = omega arith in
-    let c : n % 4294967296 / 256 ^ 1 % 256 ≡ n / 256 ^ 1 % 256 = omega arith in
-    let d : n % 4294967296 / 256 ^ 0 % 256 ≡ n / 256 ^ 0 % 256 = omega arith in
-    λ i. a i ∷ b i ∷ c i ∷ d i ∷ []
+low_bytes n = search rules
 
 pub written_modulo : (order : Order) (n : ℕ) → bytes_of order 4 (n % 4294967296) ≡ bytes_of order 4 n
 written_modulo BigEndian n = low_bytes n
@@ -47,12 +41,7 @@ framed_read : (order : Order) (n len : ℕ) (body rest : List ℕ) → n < 42949
     → IsTotalLen len
     → BeginsBlock order (bytes_of order 4 n ++ bytes_of order 4 len ++ body ++ bytes_of order 4 len ++ rest)
     (record { block_type = n; body = body })
-framed_read order n len body rest lt long sound =
-    subst
-    (λ (k : ℕ). BeginsBlock order (bytes_of order 4 n ++ bytes_of order 4 k ++ body ++ bytes_of order 4 k ++ rest)
-    (record { block_type = n; body = body }))
-    (sym long)
-    (block_read order n body rest lt (subst IsTotalLen long sound))
+framed_read order n len body rest lt long sound = search (rules, block_read)
 
 -- ---- section headers
 
@@ -80,15 +69,7 @@ pub section_read : (order : Order) (rest : List ℕ)
     (record { block_type = section_type; body = section_body order })
 section_read order rest =
     let f = section_fields order rest in
-    let len : 12 + length (section_body order) ≡ 28 = omega (arith, f.4) in
-    let sound : IsTotalLen 28 = record { least = omega arith; aligned = refl; most = omega arith } in
-    record {
-      section = f.0;
-      magic = f.1;
-      block = block_read order section_type (section_body order) rest (omega arith) (subst IsTotalLen (sym len) sound);
-      len = omega (arith, f.4);
-      version = (f.2, inl f.3);
-    }
+    search (rules, block_read)
 
 -- ---- interface descriptions
 
@@ -112,12 +93,7 @@ interface_value order i link snap =
     let body = interface_body order i in
     let long : length body ≡ 8 + length i.options =
     omega (arith, length-append (interface_head order i) i.options, length-interface_head order i) in
-    record {
-      len = omega (arith, long);
-      link_type = ap (number_in order) f.0 ∙ link;
-      snap_len = ap (number_in order) f.1 ∙ snap;
-      options = ap (take (length body - 8)) f.2 ∙ take_all (length body - 8) i.options (omega (arith, long));
-    }
+    search (rules, take_all)
 
 pub interface_read : (order : Order) (header : List ℕ) (i : InterfaceValue)
     → header ≡ bytes_of order 4 1 ++ bytes_of order 4 (interface_block_len i) ++ interface_head order i
@@ -129,8 +105,7 @@ interface_read order header i is link snap sound rest =
     let front = bytes_of order 4 1 ++ n in
     let h = interface_head order i in
     let body = interface_body order i in
-    let long : len ≡ 12 + length body =
-    omega (arith, length-append h i.options, length-interface_head order i) in
+    let long : len ≡ 12 + length body = omega (arith, length-append h i.options, length-interface_head order i) in
     let joined : front ++ body ++ n ++ rest ≡ header ++ i.options ++ n ++ rest =
     ap (λ (l : List ℕ). l ++ n ++ rest)
     (sym (append_assoc front h i.options) ∙ ap (λ (l : List ℕ). l ++ i.options) (sym is)) in (
@@ -142,14 +117,8 @@ interface_read order header i is link snap sound rest =
 pub nanoseconds_read : (order : Order)
     → HasOptions order (nanosecond_bytes order) (record { code = 9; value = 9 ∷ [] } ∷ [])
 unfolding spelled
-nanoseconds_read BigEndian = (
-  record { code = refl; no_end = λ e. omega (arith, e); len = refl; value = refl; whole = omega arith },
-  λ o begins. none_at_end BigEndian (0 ∷ 0 ∷ 0 ∷ 0 ∷ []) refl o begins,
-)
-nanoseconds_read LittleEndian = (
-  record { code = refl; no_end = λ e. omega (arith, e); len = refl; value = refl; whole = omega arith },
-  λ o begins. none_at_end LittleEndian (0 ∷ 0 ∷ 0 ∷ 0 ∷ []) refl o begins,
-)
+nanoseconds_read BigEndian = search rules
+nanoseconds_read LittleEndian = search rules
 
 -- ---- enhanced packets
 
@@ -189,14 +158,7 @@ module _ (order : Order) (p : EnhancedPacketValue) where
   length-padding = length-zeros (padded (length p.packet) - length p.packet)
 
   pub length-to_options : length (packet_head order p ++ p.packet ++ packet_padding p) ≡ 20 + padded (length p.packet)
-  length-to_options =
-      omega (
-        arith,
-        length-append (packet_head order p ++ p.packet) (packet_padding p),
-        length-append (packet_head order p) p.packet,
-        length-packet_head order p,
-        length-padding,
-      )
+  length-to_options = search (rules, length-append, length-packet_head, length-padding)
 
   packet_value : PacketFits order p → length p.packet ≤ 262144 → IsEnhancedPacket 4 order (packet_body order p) p
   packet_value fits room =

@@ -1,29 +1,16 @@
 -- A file that is written has the packets of its records.
-use Rattle.std.proofs.Common.{◌≡◌, ℕ, List, [], ◌∷◌, ◌++◌, length, refl, sym, ap, subst, ◌∙◌, arith}
-use Rattle.std.specs.Prelude.{slice_range, map, None}
+use Rattle.std.proofs.Common.{◌≡◌, ℕ, List, [], ◌++◌, length, refl, sym, ap, subst, ◌∙◌, arith, rules}
+use Rattle.std.specs.Prelude.{map, None}
 use Rattle.std.proofs.lemmas.List.{drop_at, length-append}
 use Rattle.ether_base.specs.Bytes.{IsBytes, number}
-use Rattle.ether_base.proofs.SubLists.{length-part, IsBytes-part, part-append}
-use Rattle.ether_pcap.specs.Numbers.{Order, BigEndian, LittleEndian, number_from_low}
+use Rattle.ether_base.proofs.SubLists.{part-append}
+use Rattle.ether_pcap.specs.Numbers.{Order, BigEndian, LittleEndian}
 use Rattle.ether_pcap.specs.FileHeader.{Resolution, Microseconds, Nanoseconds, magic_of, HasMagic, FileHeaderValue}
 use Rattle.ether_pcap.specs.Record.{RecordValue, record_len}
 use Rattle.ether_pcap.specs.Section.{HasSectionType}
 use Rattle.ether_pcap.specs.Capture.{packet_of_record, Beginning, Records, file_header, file_record, HasPackets, ended, unit, packet}
 use Rattle.ether_pcap.specs.Writing.{WritesRecords, none, more, WrittenFilesAreRead}
 use Rattle.ether_pcap.proofs.Writing.{file_header_back, record_back}
-
--- four bytes that are a magic number in the other order are no type of a section header
-not_from_low : (l : List ℕ) → length l ≡ 4 → IsBytes l → (r : Resolution) → number_from_low l ≡ magic_of r
-    → number l ≡ 0x0A0D0D0A → ⊥
-not_from_low [] len ok r p q = omega arith
-not_from_low (a ∷ []) len ok r p q = omega arith
-not_from_low (a ∷ b ∷ []) len ok r p q = omega arith
-not_from_low (a ∷ b ∷ c ∷ []) len ok r p q = omega arith
-not_from_low (a ∷ b ∷ c ∷ d ∷ []) len ok Microseconds p q =
-    let x = ok 0 in let y = ok 1 in let z = ok 2 in let w = ok 3 in omega (arith, x, y, z, w, p, q)
-not_from_low (a ∷ b ∷ c ∷ d ∷ []) len ok Nanoseconds p q =
-    let x = ok 0 in let y = ok 1 in let z = ok 2 in let w = ok 3 in omega (arith, x, y, z, w, p, q)
-not_from_low (a ∷ b ∷ c ∷ d ∷ e ∷ l) len ok r p q = omega arith
 
 not_from_high : (n : ℕ) (r : Resolution) → n ≡ magic_of r → n ≡ 0x0A0D0D0A → ⊥
 not_from_high n Microseconds p q = omega (arith, p, q)
@@ -32,10 +19,7 @@ not_from_high n Nanoseconds p q = omega (arith, p, q)
 no_section : (header : List ℕ) (order : Order) (r : Resolution) → IsBytes header → length header ≡ 24
     → HasMagic header order r → HasSectionType header → ⊥
 no_section header BigEndian r ok len has is = not_from_high _ r has is
-no_section header LittleEndian r ok len has is =
-    not_from_low (slice_range header 0 4) (length-part header 0 4 (omega (arith, len)) ∙ omega arith)
-    (IsBytes-part 0 4 header ok)
-    r has is
+no_section header LittleEndian r ok len has is = search rules
 
 written_records : (h : FileHeaderValue) (bytes : List ℕ) (records : List RecordValue)
     → WritesRecords h.order bytes records → HasPackets (Records h) bytes (map (packet_of_record h) records) [] None

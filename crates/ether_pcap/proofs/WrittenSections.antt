@@ -1,5 +1,5 @@
 -- A pcapng file that is written has the packets of its blocks.
-use Rattle.std.proofs.Common.{◌≡◌, ℕ, ◌+◌, ◌/◌, ◌%◌, ◌^◌, List, [], ◌∷◌, ◌++◌, length, drop, refl, sym, subst, arith}
+use Rattle.std.proofs.Common.{◌≡◌, ℕ, ◌+◌, List, [], ◌∷◌, ◌++◌, length, drop, refl, sym, subst, arith, rules}
 use Rattle.std.specs.Prelude.{None, Some}
 use Rattle.std.proofs.lemmas.List.{drop_at, length-append}
 use Rattle.ether_base.specs.Bytes.{spelled}
@@ -8,7 +8,7 @@ use Rattle.ether_pcap.specs.Block.{BlockValue}
 use Rattle.ether_pcap.specs.Section.{section_type, HasSectionType}
 use Rattle.ether_pcap.specs.Bodies.{InterfaceValue, EnhancedPacketValue}
 use Rattle.ether_pcap.specs.Writing.{bytes_of}
-use Rattle.ether_pcap.specs.WritingBlocks.{section_body, section_bytes, interface_head, interface_body, interface_block_len, interface_bytes, packet_head, packet_padding, packet_body, packet_block_len, packet_bytes, FitsPacket, WritesBlocks, end, section, interface, packet, WrittenSectionsAreRead}
+use Rattle.ether_pcap.specs.WritingBlocks.{section_body, section_bytes, interface_head, interface_body, interface_block_len, interface_bytes, packet_head, packet_body, packet_block_len, packet_bytes, FitsPacket, WritesBlocks, end, section, interface, packet, WrittenSectionsAreRead}
 use Rattle.ether_pcap.specs.Capture.{Expectation, Beginning, Blocks, CaptureInterfaceValue, PacketValue, Describes, described_by, packet_on, HasPackets}
 use Rattle.ether_pcap.specs.Capture as capture
 use Rattle.ether_pcap.proofs.Numbers.{length-bytes_of, number-bytes_of}
@@ -37,52 +37,16 @@ length-section_bytes LittleEndian = refl
 
 length-interface_bytes : (order : Order) (i : InterfaceValue)
     → length (interface_bytes order i) ≡ 12 + length (interface_body order i)
-length-interface_bytes order i =
-    let len = bytes_of order 4 (interface_block_len i) in
-    let one = bytes_of order 4 1 in
-    let head = interface_head order i in
-    omega (
-      arith,
-      length-append (one ++ len ++ head ++ i.options) len,
-      length-append (one ++ len ++ head) i.options,
-      length-append (one ++ len) head,
-      length-append one len,
-      length-append head i.options,
-      length-bytes_of order 4 1,
-      length-bytes_of order 4 (interface_block_len i),
-    )
+length-interface_bytes order i = search (rules, length-append, length-bytes_of)
 
 length-packet_bytes : (order : Order) (p : EnhancedPacketValue)
     → length (packet_bytes order p) ≡ 12 + length (packet_body order p)
-length-packet_bytes order p =
-    let len = bytes_of order 4 (packet_block_len p) in
-    let six = bytes_of order 4 6 in
-    let head = packet_head order p in
-    let z = packet_padding p in
-    omega (
-      arith,
-      length-append (six ++ len ++ head ++ p.packet ++ z ++ p.options) len,
-      length-append (six ++ len ++ head ++ p.packet ++ z) p.options,
-      length-append (six ++ len ++ head ++ p.packet) z,
-      length-append (six ++ len ++ head) p.packet,
-      length-append (six ++ len) head,
-      length-append six len,
-      length-append (head ++ p.packet ++ z) p.options,
-      length-append (head ++ p.packet) z,
-      length-append head p.packet,
-      length-bytes_of order 4 6,
-      length-bytes_of order 4 (packet_block_len p),
-    )
+length-packet_bytes order p = search (rules, length-append, length-bytes_of)
 
 -- ---- the blocks
 
 packet_fits : (order : Order) (p : EnhancedPacketValue) → FitsPacket p → PacketFits order p
-packet_fits order p fits = record {
-  interface = number-bytes_of order 4 p.interface fits.interface;
-  upper = number-bytes_of order 4 (p.time / 2 ^ 32) (omega (arith, fits.time));
-  lower = number-bytes_of order 4 (p.time % 2 ^ 32) (omega arith);
-  original_len = number-bytes_of order 4 p.original_len fits.original_len;
-}
+packet_fits order p fits = search (rules, number-bytes_of)
 
 has_rest : (x : Expectation) (front bytes : List ℕ) (n : ℕ) (packets : List PacketValue) → length front ≡ n
     → HasPackets x bytes packets [] None → HasPackets x (drop n (front ++ bytes)) packets [] None

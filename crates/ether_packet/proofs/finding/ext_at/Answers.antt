@@ -1,9 +1,9 @@
-use Rattle.std.proofs.Common.{ap, arith, ◌+◌, ◌≡◌, subst, ℕ, [], ◌∷◌}
+use Rattle.std.proofs.Common.{ap, arith, ◌+◌, ◌≡◌, subst, ℕ, [], ◌∷◌, rules}
 use Rattle.ether_peel.specs.Walker.Start.{start_of}
 use Rattle.ether_peel.specs.Walker.State.{State}
 use Rattle.ether_peel.specs.Walker.UnitHeader.{unit_header}
-use Rattle.ether_packet.specs.Replacing.{ext_count, IsPlacedExt}
-use Rattle.ether_packet.proofs.Reached.{Reached, reached_first, reached_unit, reached_none, reached_fault, placed_ext, ext_room, one_counted}
+use Rattle.ether_packet.specs.Replacing.{ext_count}
+use Rattle.ether_packet.proofs.Reached.{Reached, reached_first, reached_unit, placed_ext, ext_room, one_counted}
 use Rattle.ether_packet.proofs.finding.ext_at.Goals as goal
 
 pub loop-unit-init : goal.loop-unit-init
@@ -14,12 +14,7 @@ loop-unit-init c = (
 )
 
 is_placed : goal.returns-then-count-index-clause-ok
-is_placed c hs e walk =
-    let gives = rw c.in-Some-Ok.field-0-is at c.in-Some-Ok.ensures.steps in
-    subst (λ (n : ℕ). IsPlacedExt hs n (record { at = c.offset-at.result; header = c.in-Some.header })) c.if-count-index.true
-    (placed_ext c.args.frame.now c.loop-unit.peel c.next.new.self hs e c.loop-unit.count c.in-Some-Ok.unit
-    (record { at = c.offset-at.result; header = c.in-Some.header }) (λ i. omega (arith, c.type_inv.frame i))
-    (c.loop-unit.invariant.1 hs e walk) gives c.in-Some.ensures c.offset-at.ensures.value)
+is_placed c hs e walk = search (rules, placed_ext)
 
 pub returns-then-count-index-clause-ok : goal.returns-then-count-index-clause-ok
 returns-then-count-index-clause-ok c hs e walk = is_placed c hs e walk
@@ -54,16 +49,7 @@ loop-unit-preserved c = (
 )
 
 pub returns-in-Some-Err-clause-none : goal.returns-in-Some-Err-clause-none
-returns-in-Some-Err-clause-none c hs e walk =
-    let gives = rw c.in-Some-Err.field-0-is at c.in-Some-Err.ensures.steps in (
-      reached_fault c.args.frame.now c.loop-unit.peel c.next.new.self hs e c.loop-unit.count c.in-Some-Err.field-0-0
-          (c.loop-unit.invariant.1 hs e walk) gives,
-      c.loop-unit.invariant.0,
-    )
+returns-in-Some-Err-clause-none c hs e walk = search rules
 
 pub returns-in-None-clause-none : goal.returns-in-None-clause-none
-returns-in-None-clause-none c hs e walk = (
-  reached_none c.args.frame.now c.loop-unit.peel c.next.new.self hs e c.loop-unit.count
-      (c.loop-unit.invariant.1 hs e walk) c.in-None.ensures.steps,
-  c.loop-unit.invariant.0,
-)
+returns-in-None-clause-none c hs e walk = search rules

@@ -9,5 +9,4 @@ returns-in-Ok c hs e walk =
     (rw (c.chunk_at.ensures, c.link_len.ensures) at c.from_bytes.ensures.value) walk
 
 pub returns-in-Err : goal.returns-in-Err
-returns-in-Err c hs e walk =
-    none_popped c.args.start c.args.frame.now hs e _ walk (c.in-Err.ensures.refused hs e walk)
+returns-in-Err c hs e walk = none_popped c.args.start c.args.frame.now hs e _ walk (c.in-Err.ensures.refused hs e walk)

@@ -10,7 +10,6 @@ loop-index-preserved c =
     let xs = c.args.exts.now in
     let i = c.loop-index.index in
     let lt : i < length xs = let n = c.len-index-end.ensures.value in
-    let test = c.loop-index-test.true in
     omega arith in
     elim c.match-get.branch [
       | in-Some w ↦

@@ -44,7 +44,7 @@ returns-in_err-require_tag-in-LinuxSll-clause-none c =
     let at = c.in_err-require_tag-in-LinuxSll in
     let h : (hs : List Header) (e : Ending) → Walk (start_of c.args.start) c.args.frame.now hs e → outer_tag hs ≡ None =
     λ hs e walk. none_popped c.args.start c.args.frame.now hs e at.field-0.0 walk (at.ensures.refused hs e walk) in
-    search (rules, h)
+    search rules
 
 pub returns-in_err-require_tag-in_default-clause-none :
     goal.returns-in_err-require_tag-in_default-clause-none
@@ -52,4 +52,4 @@ returns-in_err-require_tag-in_default-clause-none c =
     let at = c.in_err-require_tag-in_default in
     let h : (hs : List Header) (e : Ending) → Walk (start_of c.args.start) c.args.frame.now hs e → outer_tag hs ≡ None =
     λ hs e walk. none_popped c.args.start c.args.frame.now hs e at.field-0.0 walk (at.ensures.refused hs e walk) in
-    search (rules, h)
+    search rules

@@ -11,7 +11,7 @@ returns-in_err-link-clause-refused c =
     let h : (hs : List Header) (e : Ending) → Walk (start_of c.args.start) c.args.frame.now hs e
     → RefusesPop hs c.in_err-link.field-0.0 =
     λ hs e walk. link c.in_err-link.field-0.0 (c.in_err-link.ensures.refused hs e walk) in
-    search (rules, h)
+    search rules
 
 pub returns-then-not-announces_vlan-clause-refused :
     goal.returns-then-not-announces_vlan-clause-refused
@@ -20,11 +20,7 @@ returns-then-not-announces_vlan-clause-refused c hs e walk =
     (sym c.announces_vlan.ensures ∙ c.if-not-announces_vlan.true)
 
 pub returns-then-link-lt-LEN-clause-refused : goal.returns-then-link-lt-LEN-clause-refused
-returns-then-link-lt-LEN-clause-refused c hs e walk =
-    cut_tag c.args.start c.args.frame.now hs e c.in_ok-link.link (c.in_ok-link.ensures.ok hs e walk)
-    (sym c.announces_vlan.ensures ∙ c.if-not-announces_vlan.false) c.if-link-lt-LEN.true walk
+returns-then-link-lt-LEN-clause-refused c hs e walk = search (rules, cut_tag)
 
 pub returns-clause-ok : goal.returns-clause-ok
-returns-clause-ok c hs e walk =
-    is_tagged c.args.start c.args.frame.now hs e c.in_ok-link.link (c.in_ok-link.ensures.ok hs e walk)
-    (sym c.announces_vlan.ensures ∙ c.if-not-announces_vlan.false) c.if-link-lt-LEN.false walk
+returns-clause-ok c hs e walk = search (rules, is_tagged)

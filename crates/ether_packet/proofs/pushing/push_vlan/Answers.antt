@@ -36,7 +36,7 @@ returns-in_err-require_link-in-LinuxSll-clause-untyped c is room =
     → link_type hs ≡ None =
     λ hs e walk.
     none_pushed c.args.buffer.now hs c.args.tpid.0 at.field-0.0 is room (at.ensures.refused hs e walk) in
-    search (rules, h)
+    search rules
 
 pub returns-in_err-require_link-in_default-clause-untyped :
     goal.returns-in_err-require_link-in_default-clause-untyped
@@ -46,4 +46,4 @@ returns-in_err-require_link-in_default-clause-untyped c is room =
     → link_type hs ≡ None =
     λ hs e walk.
     none_pushed c.args.buffer.now hs c.args.tpid.0 at.field-0.0 is room (at.ensures.refused hs e walk) in
-    search (rules, h)
+    search rules

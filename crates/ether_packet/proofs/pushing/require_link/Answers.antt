@@ -1,4 +1,4 @@
-use Rattle.std.proofs.Common.{ℕ, List, drop, sym, subst, ◌∙◌}
+use Rattle.std.proofs.Common.{ℕ, List, drop, sym, subst, ◌∙◌, rules}
 use Rattle.std.proofs.lemmas.Result.{err_from_is_err_and}
 use Rattle.etherparse.specs.Header.{Header}
 use Rattle.ether_peel.specs.Grammar.Stack.{Ending, Walk}
@@ -29,7 +29,4 @@ returns-in_err-typed_link-clause-refused c =
     rw (p.1, p.2) h
 
 pub returns-clause-ok : goal.returns-clause-ok
-returns-clause-ok c hs e walk =
-    is_linked c.args.start _ hs c.in_ok-typed_link.field-0
-    (c.in_ok-typed_link.ensures.ok hs e
-    (subst (λ (l : List ℕ). Walk (start_of c.args.start) l hs e) (sym (after_four c.args.buffer.now)) walk))
+returns-clause-ok c hs e walk = search (rules, is_linked, after_four)

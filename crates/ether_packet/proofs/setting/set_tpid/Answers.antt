@@ -1,4 +1,4 @@
-use Rattle.std.proofs.Common.{◌-◌, List, sym, ap, ◌∙◌}
+use Rattle.std.proofs.Common.{◌-◌, List, sym, ap, ◌∙◌, rules}
 use Rattle.std.proofs.lemmas.Result.{err_from_is_err_and}
 use Rattle.etherparse.specs.Bytes.{overwritten}
 use Rattle.etherparse.specs.Header.{Header}
@@ -25,10 +25,7 @@ returns-in_err-found-clause-refused c =
     rw (p.1, p.2) h
 
 pub returns-then-found-lt2-clause-refused : goal.returns-then-found-lt2-clause-refused
-returns-then-found-lt2-clause-refused c hs e walk =
-    begins_frame hs c.args.index c.args.tpid.0 c.in_ok-found.found
-    (sym c.announces_vlan.ensures ∙ c.if-not-announces_vlan.false) c.if-found-lt2.true
-    (c.in_ok-found.ensures.ok hs e walk)
+returns-then-found-lt2-clause-refused c hs e walk = search (rules, begins_frame)
 
 pub returns-clause-ok : goal.returns-clause-ok
 returns-clause-ok c hs e walk =

@@ -1,4 +1,4 @@
-use Rattle.std.proofs.Common.{◌≡◌, sym, true, false, ap, arith, ◌∙◌, refl}
+use Rattle.std.proofs.Common.{ap, arith, ◌∙◌, refl, rules}
 use Rattle.etherparse.specs.Ethernet2.{Frame, ethernet2_of}
 use Rattle.etherparse.specs.Kind as kinds
 use Rattle.ether_peel.specs.Grammar.Expectation.{announced}
@@ -18,9 +18,7 @@ returns-in-Ok-clause-ok c hs e walk =
     (c.ether_type.ensures ∙ ap (λ (f : Frame). (ethernet2_of f.bytes).ether_type) at.ensures.frame) walk
 
 pub returns-in-Err-clause-refused : goal.returns-in-Err-clause-refused
-returns-in-Err-clause-refused c hs e walk =
-    refused_link c.args.start kinds.Ethernet2 c.args.frame.now _ hs e
-    (ap (λ (s : Start). announced (start_of s)) c.in-Ethernet2.is) c.in-Err.ensures.refused.row walk
+returns-in-Err-clause-refused c hs e walk = search (rules, refused_link)
 
 pub returns-in-Ok-from_slice_with_crc32_fcs-clause-ok :
     goal.returns-in-Ok-from_slice_with_crc32_fcs-clause-ok
@@ -42,24 +40,13 @@ returns-in-Err-from_slice_with_crc32_fcs-clause-refused c hs e walk =
     c.in-Err-from_slice_with_crc32_fcs.ensures.refused.row walk
 
 pub returns-in-LinuxSll-clause-ok : goal.returns-in-LinuxSll-clause-ok
-returns-in-LinuxSll-clause-ok c hs e walk =
-    is_captured c.args.start c.args.frame.now hs e _ (λ i. omega (arith, c.type_inv.frame i))
-    (ap (λ (s : Start). announced (start_of s)) c.in-LinuxSll.is)
-    (c.is_ethernet_capture.ensures.0 c.if-is_ethernet_capture.true) (ap link_len c.in-LinuxSll.is) refl
-    c.u16_at.ensures walk
+returns-in-LinuxSll-clause-ok c hs e walk = search (rules, is_captured)
 
 pub returns-in-Some-clause-refused : goal.returns-in-Some-clause-refused
-returns-in-Some-clause-refused c hs e walk =
-    other_link c.args.start c.args.frame.now hs e c.in-Some.hardware_type (λ i. omega (arith, c.type_inv.frame i))
-    (ap (λ (s : Start). announced (start_of s)) c.in-LinuxSll-2.is) c.in-Some.ensures
-    (λ is. let both : true ≡ false =
-    sym (c.is_ethernet_capture.ensures.1 is) ∙ c.if-is_ethernet_capture.false in absurd cc)
-    walk
+returns-in-Some-clause-refused c hs e walk = search (rules, other_link)
 
 pub returns-in-None-clause-refused : goal.returns-in-None-clause-refused
-returns-in-None-clause-refused c hs e walk =
-    refused_link c.args.start kinds.LinuxSll c.args.frame.now _ hs e
-    (ap (λ (s : Start). announced (start_of s)) c.in-LinuxSll-2.is) c.in-None.ensures.1 walk
+returns-in-None-clause-refused c hs e walk = search (rules, refused_link)
 
 pub returns-in-EtherType-clause-refused : goal.returns-in-EtherType-clause-refused
 returns-in-EtherType-clause-refused c hs e walk =

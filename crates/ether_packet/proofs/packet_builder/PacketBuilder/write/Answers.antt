@@ -1,4 +1,4 @@
-use Rattle.std.proofs.Common.{ℕ, length, refl, subst, arith}
+use Rattle.std.proofs.Common.{ℕ, length, refl, subst, rules}
 use Rattle.etherparse.specs.Types.Layer.TheVariants as layers
 use Rattle.etherparse.specs.WriteFront.{IsRefusedSpace}
 use Rattle.ether_packet.specs.Builder.{hardware_type, sealed, space, inner_headers}
@@ -32,8 +32,4 @@ returns-then-len-required_len-clause-refused c =
     (record { short = c.if-len-required_len.true; error = refl }))
 
 pub returns-clause-accepted : goal.returns-clause-accepted
-returns-clause-accepted c =
-    let ends = c.write_whole.ensures.ends in
-    let room = c.write_whole.ensures.room in
-    accepts_packet c.args.self.now c.args.target.now (c.in_default.ensures.none refl) c.in-Ok.ensures.chain
-    (omega arith)
+returns-clause-accepted c = search (rules, accepts_packet)

@@ -1,4 +1,4 @@
-use Rattle.std.proofs.Common.{◌+◌, length, ◌∙◌, arith}
+use Rattle.std.proofs.Common.{◌+◌, length, arith, rules}
 use Rattle.ether_packet.proofs.Chains.{link_len}
 use Rattle.ether_packet.proofs.Filling.{room_for_link}
 use Rattle.ether_packet.proofs.Unchanged.{laid_link, room_next, laid_next, room_content, laid_all}
@@ -8,10 +8,7 @@ pub write_link_header-requires : goal.write_link_header-requires
 write_link_header-requires c = room_for_link c.args.self.now (length c.args.target.now) c.requires
 
 pub loop-ext-init : goal.loop-ext-init
-loop-ext-init c =
-    let link = c.write_link_header in
-    laid_link c.args.self.now c.args.target.now link.new.target c.header_len-at.result
-    (c.header_len-at.ensures ∙ link_len c.args.self.now.link) link.ensures.bytes link.ensures.fits
+loop-ext-init c = search (rules, laid_link, link_len)
 
 pub write_ext-requires : goal.write_ext-requires
 write_ext-requires c =
@@ -29,7 +26,6 @@ overflow_add-at c =
     let l = c.loop-ext in
     let room = c.requires in
     let len = c.header_len-at-in-loop-ext.ensures.value in
-    let bound = c.type_inv.target in
     let next =
     room_next c.args.self.now c.args.target.now l.target l.ext-index l.at c.ext-item.result c.loop-ext-test.true
     c.ext-item.is l.invariant in
@@ -57,9 +53,4 @@ write_content_at-requires c =
     omega (arith, end, room, same, first)
 
 pub returns-clause-written : goal.returns-clause-written
-returns-clause-written c =
-    let l = c.loop-ext in
-    let over = c.loop-ext-test.false in
-    let content = c.write_content_at in
-    laid_all c.args.self.now c.args.target.now l.target content.new.target l.ext-index l.at (omega (arith, over))
-    c.requires l.invariant content.ensures.bytes content.ensures.fits
+returns-clause-written c = search (rules, laid_all)

@@ -1,4 +1,4 @@
-use Rattle.std.proofs.Common.{◌≡◌, ℕ, ◌-◌, List, length, sym, ap, subst, ◌∙◌, arith}
+use Rattle.std.proofs.Common.{◌≡◌, ℕ, ◌-◌, List, sym, ap, subst, ◌∙◌, arith, rules}
 use Rattle.etherparse.specs.LinkExt.{ext_header_view}
 use Rattle.etherparse.specs.Header.{Header}
 use Rattle.ether_packet.specs.Builder.{content_type, inner_headers, IsWritten}
@@ -6,10 +6,7 @@ use Rattle.ether_packet.proofs.Filling.{Filled, later, later_none, later_before,
 use Rattle.ether_packet.proofs.packet_builder.PacketBuilder.write_whole.Goals as goal
 
 pub write_content-front-requires-clause-start : goal.write_content-front-requires-clause-start
-write_content-front-requires-clause-start c =
-    let room = room_for_content c.args.self.now in
-    let len = c.requires.len in
-    omega (arith, room, len)
+write_content-front-requires-clause-start c = search (rules, room_for_content)
 
 pub loop-i-init : goal.loop-i-init
 loop-i-init c =
@@ -26,10 +23,7 @@ loop-i-init c =
     content.vlan_type)
 
 pub write_ext_before-front-requires-clause-start : goal.write_ext_before-front-requires-clause-start
-write_ext_before-front-requires-clause-start c =
-    let l = c.loop-i in
-    room_before c.args.self.now c.args.target.now l.target l.i c.index-exts-i.result l.front.at l.front.ether_type.0
-    l.front.vlan_type.0 c.loop-i-test.true l.auto.i c.index-exts-i.is l.invariant
+write_ext_before-front-requires-clause-start c = search (rules, room_before)
 
 pub loop-i-preserved : goal.loop-i-preserved
 loop-i-preserved c =
@@ -54,12 +48,7 @@ loop-i-preserved c =
     (tag.ether_type (later p l.i) (content_type p.content) l.invariant.tag) (tag.vlan_type (later p l.i)))
 
 pub write_link-requires : goal.write_link-requires
-write_link-requires c =
-    let len = c.requires.len in
-    let room = c.requires.room in
-    let same = c.loop-i.auto.target in
-    let first = c.write_content-front.auto.target in
-    room_for_link c.args.self.now (length c.loop-i.target) (omega (arith, len, room, same, first))
+write_link-requires c = search (rules, room_for_link)
 
 pub returns : goal.returns
 returns c =

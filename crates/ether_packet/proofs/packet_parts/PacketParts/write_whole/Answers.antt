@@ -1,4 +1,4 @@
-use Rattle.std.proofs.Common.{refl, arith}
+use Rattle.std.proofs.Common.{arith, rules}
 use Rattle.ether_packet.specs.declared.packet_builder.PacketBuilder.{PacketBuilder}
 use Rattle.ether_packet.proofs.Frames.{headers_alone, size_is, all_written}
 use Rattle.ether_packet.proofs.packet_parts.PacketParts.write_whole.Goals as goal
@@ -36,10 +36,4 @@ write_at-requires-2 c =
     omega (arith, size, room, len, same, rest)
 
 pub returns : goal.returns
-returns c =
-    let p = c.args.self.now in
-    let b : PacketBuilder = record c.builder.result { content = c.without_rest.result } in
-    let h = headers_alone p c.builder.result c.without_rest.result c.builder.ensures c.without_rest.ensures.headers in
-    all_written p b c.args.target.now c.write_parts.new.target c.write_at.new.target c.write_at-2.new.target
-    c.size-rest_at.result _ h c.without_rest.ensures.payload c.builder.ensures.link c.requires c.size-rest_at.ensures
-    c.write_parts.ensures.written c.write_parts.ensures.packet_type c.write_at.ensures refl c.write_at-2.ensures
+returns c = search (rules, headers_alone, all_written)

@@ -1,22 +1,18 @@
-use Rattle.std.proofs.Common.{◌≤◌, refl, sym, ap, subst, arith}
-use Rattle.std.specs.Prelude.{Some, None}
-use Rattle.ether_peel.specs.Grammar.Stack.{whole}
+use Rattle.std.proofs.Common.{◌≤◌, refl, sym, ap, subst, arith, rules}
+use Rattle.std.specs.Prelude.{None}
 use Rattle.ether_peel.specs.Walker.State.{State}
-use Rattle.ether_peel.specs.Walker.Start.{start_of, next_of as start_next}
 use Rattle.ether_peel.specs.declared.start.Start.{Start}
 use Rattle.ether_peel.specs.declared.start.Start.TheVariants as starts
 use Rattle.ether_peel.proofs.Walker.Limits.{cut_off}
 use Rattle.ether_packet.specs.Gathered.{UnderWay, headers_left}
-use Rattle.ether_packet.specs.Packet.{link_exts_cap, packet_start}
+use Rattle.ether_packet.specs.Packet.{packet_start}
 use Rattle.ether_packet.proofs.Gathering.{gathered_first, is_packet}
 use Rattle.ether_packet.proofs.packet_slice.PacketSlice.from_slice.Goals as goal
 use Rattle.ether_packet.proofs.packet_slice.PacketSlice.from_slice.Goals.{After-new}
 
 few_left : (start : Start) → headers_left (packet_start start) ≤ 5
 few_left starts.Ethernet2 = omega arith
-few_left starts.Ethernet2Fcs = omega arith
-few_left starts.LinuxSll = omega arith
-few_left (starts.EtherType t) = omega arith
+few_left start = omega arith
 
 -- the walk begins
 begins : (c : After-new)
@@ -50,6 +46,4 @@ returns-clause-packet c =
     c.read_all.new.self.fault w.gathered w.gives e.read e.rest e.offset e.kind e.fault
 
 pub returns-clause-front : goal.returns-clause-front
-returns-clause-front c hs ks e f s t =
-    cut_off c.args.bytes.now (start_next c.args.start) (Some link_exts_cap)
-    (whole (start_of c.args.start) c.args.bytes.now) hs ks e f s t
+returns-clause-front c hs ks e f s t = search (rules, cut_off)

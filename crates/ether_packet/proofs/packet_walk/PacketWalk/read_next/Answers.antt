@@ -1,9 +1,6 @@
-use Rattle.std.proofs.Common.{ℕ, List, sym, subst}
-use Rattle.std.specs.Prelude.{Option}
+use Rattle.std.proofs.Common.{ℕ, List, rules}
 use Rattle.ether_peel.specs.Grammar.Expectation.{Expectation}
-use Rattle.ether_peel.specs.Walker.Next.{Gives}
-use Rattle.ether_peel.specs.declared.peel_fault.PeelFault.{PeelFault}
-use Rattle.ether_packet.specs.Gathered.{UnderWay, item_of}
+use Rattle.ether_packet.specs.Gathered.{UnderWay}
 use Rattle.ether_packet.proofs.Gathering.{NextOf, next_of, fits, readable, gathered_next, fewer_come}
 use Rattle.ether_packet.proofs.packet_walk.PacketWalk.read_next.Goals as goal
 use Rattle.ether_packet.proofs.packet_walk.PacketWalk.read_next.Goals.{In-Some-Ok}
@@ -33,30 +30,4 @@ add-requires-clause-readable c =
 
 pub returns-in-Some-Ok : goal.returns-in-Some-Ok
 returns-in-Some-Ok c start list w =
-    let n = next (goal.at.returns-in-Some-Ok c).In-Some-Ok start list w in (
-      record {
-        bytes = w.bytes;
-        gathered =
-            gathered_next start list c.args.self.now.peel c.next.new.self c.args.self.now.read c.add.new.self
-            (record { start = c.offset.result; bytes = c.rest.result }) c.in-Some-Ok.unit w.gathered w.bytes n
-            (record { start = c.offset.ensures.value; bytes = c.rest.ensures }) c.add.ensures;
-        no_fault = w.no_fault;
-      },
-      fewer_come start list c.args.self.now.peel c.next.new.self c.args.self.now.read c.in-Some-Ok.unit w.gathered n,
-    )
-
-pub returns-in-Some-Err : goal.returns-in-Some-Err
-returns-in-Some-Err c start list w = record {
-  before = c.args.self.now.peel;
-  gathered = w.gathered;
-  gives = rw c.in-Some-Err.field-0-is at c.in-Some-Err.ensures.steps;
-}
-
-pub returns-in-None : goal.returns-in-None
-returns-in-None c start list w = record {
-  before = c.args.self.now.peel;
-  gathered = w.gathered;
-  gives =
-      subst (λ (met : Option PeelFault). Gives c.args.self.now.peel (item_of met) c.next.new.self) (sym w.no_fault)
-      c.in-None.ensures.steps;
-}
+    let n = next (goal.at.returns-in-Some-Ok c).In-Some-Ok start list w in search (rules, gathered_next, fewer_come)

@@ -1,5 +1,5 @@
-use Rattle.std.proofs.Common.{◌∙◌, ap, ℕ, Option, Some, refl}
-use Rattle.ether_pcap.specs.Capture.{enhanced_alone, fcs_of}
+use Rattle.std.proofs.Common.{rules}
+use Rattle.ether_pcap.specs.Capture.{enhanced_alone}
 use Rattle.ether_pcap.specs.PcapngViews.{enhanced_packet_view}
 use Rattle.ether_pcap.specs.CaptureViews.{capture_interface_view}
 use Rattle.ether_pcap.specs.Views.{order_of}
@@ -15,24 +15,4 @@ returns-clause-packet c most =
     let p = enhanced_packet_view c.in-Ok.packet in
     let i = capture_interface_view c.in-Some.interface in
     let all = some_options (order_of c.args.byte_order) p.options in
-    let fcs = c.first_of.ensures ∙ ap (λ (n : Option ℕ). fcs_of n i.fcs_len) (c.fcs_len.ensures all.0 all.1) in
-    let time = c.time.ensures in (
-      i,
-      p,
-      all.0,
-      c.in-Ok.ensures.packet,
-      c.in-Some.ensures,
-      all.1,
-      (λ k.
-          Some
-          (record {
-            time = time k;
-            interface = Some p.interface;
-            original_len = p.original_len;
-            link_type = i.link_type;
-            snap_len = i.snap_len;
-            fcs_len = fcs k;
-            packet = p.packet;
-          })),
-      refl,
-    )
+    let time = c.time.ensures in search rules

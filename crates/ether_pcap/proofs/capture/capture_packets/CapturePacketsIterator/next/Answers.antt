@@ -1,10 +1,10 @@
-use Rattle.std.proofs.Common.{rules, ℕ, List, length, length-drop, None, refl, sym, ap, subst, ◌∙◌, arith, true}
+use Rattle.std.proofs.Common.{rules, ℕ, List, length, length-drop, sym, ap, subst, ◌∙◌, arith}
 use Rattle.ether_base.proofs.SubLists.{IsBytes-drop}
 use Rattle.ether_base.specs.Bytes.{IsBytes}
 use Rattle.ether_pcap.specs.Capture.{HasPackets}
 use Rattle.ether_pcap.specs.CaptureReading.{State}
 use Rattle.ether_pcap.proofs.Records.{rest_after}
-use Rattle.ether_pcap.proofs.CaptureReadingLemmas.{after_unit, passed_nothing, passed_unit, gives, gives_packet, gives_none, gives_fault}
+use Rattle.ether_pcap.proofs.CaptureReadingLemmas.{after_unit, passed_unit, gives, gives_packet, gives_none, gives_fault}
 use Rattle.ether_pcap.proofs.capture.capture_packets.CapturePacketsIterator.next.Goals as goal
 
 pub returns-in-Some-clause-steps : goal.returns-in-Some-clause-steps
@@ -50,41 +50,10 @@ loop-self-preserved c =
     }
 
 pub returns-in-Err-clause-steps : goal.returns-in-Err-clause-steps
-returns-in-Err-clause-steps c =
-    let i = c.self.inside in
-    let a = c.loop-self.self-inside in
-    let inv = c.loop-self.invariant in
-    let s : State = record { expected = i.reader; rest = i.rest.now; offset = i.offset; over = i.is_over } in
-    let g =
-    gives s (record { expected = a.reader; rest = a.rest.now; offset = a.offset; over = true }) _ c.if-self.false
-    (λ packets l fault has.
-    gives_fault s _ (record { offset = a.offset; error = c.in-Err.error }) packets l fault inv.bytes
-    (λ end. let t = c.is_at_end.ensures.1 end in let f = c.loop-self-test.true in absurd cc)
-    c.in-Err.ensures.refused refl refl (inv.left packets l fault has))
-    inv.place in
-    rw (← c.self.view_is, c.in-Err.ensures.same) g
+returns-in-Err-clause-steps c = search (rules, gives, gives_fault)
 
 pub returns-clause-steps : goal.returns-clause-steps
-returns-clause-steps c =
-    let i = c.self.inside in
-    let a = c.loop-self.self-inside in
-    let inv = c.loop-self.invariant in
-    let s : State = record { expected = i.reader; rest = i.rest.now; offset = i.offset; over = i.is_over } in
-    let g =
-    gives s (record { expected = a.reader; rest = a.rest.now; offset = a.offset; over = a.is_over }) None
-    c.if-self.false
-    (λ packets l fault has.
-    gives_none s _ packets l fault inv.bytes (c.is_at_end.ensures.0 (search rules)) inv.going
-    (inv.left packets l fault has))
-    inv.place in
-    rw (← c.self.view_is) g
+returns-clause-steps c = search (rules, gives, gives_none)
 
 pub loop-self-init : goal.loop-self-init
-loop-self-init c = record {
-  bytes = c.self.invariant.1;
-  going = c.if-self.false;
-  shrinks = omega arith;
-  place = refl;
-  left = λ packets l fault has. has;
-  passed = passed_nothing _ _;
-}
+loop-self-init c = search rules

@@ -1,19 +1,14 @@
 use Rattle.std.proofs.Common.{rules, subst, sym, ◌∙◌}
 use Rattle.std.specs.Prelude.{None}
 use Rattle.ether_pcap.specs.Section.{HasSectionType}
-use Rattle.ether_pcap.specs.Capture.{Expectation, Records, Begins, Refuses, Section, File, file_header, file_header_refused}
+use Rattle.ether_pcap.specs.Capture.{Expectation, Records, Begins, Refuses, File, file_header, file_header_refused}
 use Rattle.ether_pcap.specs.Views.{order_of, file_header_view, file_refusal_view}
-use Rattle.ether_pcap.specs.PcapngViews.{block_view, section_refusal_view}
+use Rattle.ether_pcap.specs.PcapngViews.{block_view}
 use Rattle.ether_pcap.proofs.Captures.{section_unit, section_not_read, nothing_read}
 use Rattle.ether_pcap.proofs.capture.capture_reader.CaptureReader.read_unit.Goals as goal
 
 pub returns-in-Err-clause-refused : goal.returns-in-Err-clause-refused
-returns-in-Err-clause-refused g c =
-    let r = section_refusal_view c.in-Err.error in
-    let has : HasSectionType c.args.bytes.now = c.if-begins_section.ensures.0 (search rules) in
-    subst (λ (x : Expectation). Refuses c.args.bytes.now x (Section r)) c.self.view_is
-    (section_not_read _ c.self.inside.progress _ c.args.bytes.now r c.in_default.not-Classic
-    has c.in-Err.ensures.refused)
+returns-in-Err-clause-refused g c = search (rules, section_not_read)
 
 pub returns-then-begins_section-clause-unit : goal.returns-then-begins_section-clause-unit
 returns-then-begins_section-clause-unit g c =

@@ -1,5 +1,5 @@
-use Rattle.std.proofs.Common.{arith, rules, sym, ◌∙◌}
-use Rattle.ether_pcap.specs.Section.{short, block_type, magic, block, body, version, IsVersion}
+use Rattle.std.proofs.Common.{arith, sym, ◌∙◌}
+use Rattle.ether_pcap.specs.Section.{short, block_type, magic, block, body, version}
 use Rattle.ether_pcap.specs.Views.{order_of}
 use Rattle.ether_pcap.specs.PcapngViews.{block_view, block_refusal_view}
 use Rattle.ether_pcap.proofs.pcapng.section_header.SectionHeader.from_slice.Goals as goal
@@ -36,14 +36,3 @@ returns-then-not-is_version-clause-refused c =
     c.if-block-lt16.false
     (sym c.u16_at-major.ensures) (sym c.u16_at-minor.ensures)
     (λ v. let t = c.if-not-is_version.ensures.1 v in absurd cc)
-
-pub returns-clause-section : goal.returns-clause-section
-returns-clause-section c =
-    let v : IsVersion c.u16_at-major.result c.u16_at-minor.result = c.if-not-is_version.ensures.0 (search rules) in
-    record {
-      section = sym c.u32_at-block_type.ensures ∙ c.if-block_type-ne-SECTION_HEADER.false;
-      magic = c.in-Some.ensures;
-      block = c.in-Ok.ensures.block;
-      len = c.if-block-lt16.false;
-      version = rw (c.u16_at-major.ensures, c.u16_at-minor.ensures) at v;
-    }
