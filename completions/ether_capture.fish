@@ -3,7 +3,7 @@ complete -c ether_capture -l set-vlan -d 'give the outermost VLAN tag with ident
 complete -c ether_capture -l select -d 'only packets that match an expression' -r
 complete -c ether_capture -l undecided -d 'keep or drop packets that were cut too short to tell' -r
 complete -c ether_capture -l limit -d 'read so many VLAN tags and SecTags of each packet at most' -r
-complete -c ether_capture -l format -d 'print lines, or each packet as an object of JSON: lines or json' -r
+complete -c ether_capture -l format -d 'print lines, or each packet on one line: lines, brief or json' -r
 complete -c ether_capture -s c -d 'end with so many of these packets' -r
 complete -c ether_capture -s r -d 'read this file alone' -r -F
 complete -c ether_capture -s w -d 'write a copy to this file' -r -F

@@ -82,7 +82,7 @@ ARTEFACTS = {
         "ether_content/src/laws.rt": ["edits_are_one", "edits_are_some", "edits_grow", "popped_after_pushed",
                                       "cut_once", "set_back"],
     },
-    "Packets as JSON": {
+    "Packets on one line": {
         "ether_format/src/packet.rt": ["write_packet"],
     },
     "Captures": {
@@ -177,9 +177,9 @@ ORDER = {
         ether_sll2: LinuxSll2
         ether_content: Content ContentViews Selecting Headers Editing EditingViews
     """,
-    "Packets as JSON": """
+    "Packets on one line": """
         ether_text: OutputBuffer Decimals
-        ether_format: Calendar Members Told Spelling Json Texts
+        ether_format: Calendar Members Told Spelling Json Brief Texts
     """,
     "Captures": """
         ether_pcap: Capture

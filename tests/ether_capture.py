@@ -25,7 +25,7 @@ from capture_streams import streams
 from json_lines import examples
 from programs import count, on_a_full_disk, run, run_apart, run_until_a_fault, without_memory
 
-USAGE = ("usage: ether_capture [[--plain | --format lines|json] [--limit N] | --write [-w COPY] [--cut-to-headers | --pop-vlan | --push-vlan TPID:ID | --set-vlan A:B]] "
+USAGE = ("usage: ether_capture [[--plain | --format lines|brief|json] [--limit N] | --write [-w COPY] [--cut-to-headers | --pop-vlan | --push-vlan TPID:ID | --set-vlan A:B]] "
          "[--select EXPR [--undecided keep|drop]] [-c N] [--progress] [-r FILE | FILE..]\n")
 
 
@@ -274,7 +274,7 @@ CLASH = "ether_capture: these options do not go together; try --help\n"
 EDIT = "ether_capture: expected at most one edit, as --push-vlan 0x8100:5 or --set-vlan 5:6; try --help\n"
 COUNT = "ether_capture: -c: expected a number from 1 to 4294967295; try --help\n"
 LIMIT = "ether_capture: --limit: expected a number up to 4294967295; try --help\n"
-FORMAT = "ether_capture: --format: expected lines or json; try --help\n"
+FORMAT = "ether_capture: --format: expected lines, brief or json; try --help\n"
 UNDECIDED = "ether_capture: --undecided: expected keep or drop; try --help\n"
 WRONG = [
     ("no number of packets", ["-c"], OPTION),

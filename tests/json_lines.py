@@ -1,4 +1,4 @@
-"""Tests `ether_capture --format json`: by worked examples, and with programs that read JSON or captures.
+"""Tests `ether_capture --format json` and `--format brief`: by worked examples, and with programs that read JSON or captures.
 
 `ether_capture.py` runs `examples`, `other_programs.py` runs `readers`.
 """
@@ -13,7 +13,7 @@ from shutil import which
 from captures import CLASSIC, INPUT, SECTIONS, SIX, WITH_FCS, classic, cooked, joined, record_is_cut
 from programs import run, run_apart
 
-JSON = ["--format", "json"]
+JSON, BRIEF = ["--format", "json"], ["--format", "brief"]
 BROADCAST, STATION = "ff:ff:ff:ff:ff:ff", "3a:ee:b6:2f:f6:d7"
 
 
@@ -123,6 +123,41 @@ PACKETS = [
     ]),
 ]
 
+# The same packets as lines for the eye, in which a person reads what the members say.
+BRIEF_LINES = {
+    "a classic capture": [
+        f"1 2023-11-14T22:13:20.123456Z {STATION} > {BROADCAST} vlan 1 pcp 0 fault at 18: needs 4 bytes, has 1 (19 of 60 bytes)",
+        f"2 2023-11-14T22:13:21.000005Z {STATION} > {BROADCAST} vlan 291 pcp 5 dei IPv4 28 bytes"],
+    "check sequences": [
+        "1 1970-01-01T00:00:01.000000002Z 02:00:00:00:00:02 > 02:00:00:00:00:01 0x88B5 2 bytes",
+        "2 1970-01-01T00:00:01.999999999Z 02:00:00:00:00:02 > 02:00:00:00:00:01 0x88B5 2 bytes (18 of 20 bytes)"],
+    "sections": [
+        f"1 2023-11-14T22:13:20.123456Z {STATION} > {BROADCAST} fault at 14: needs 4 bytes, has 0 (14 of 46 bytes)",
+        "2 2023-11-14T22:13:20.123456789Z cooked type 4 from 02:00:00:00:00:01 IPv4 1 bytes",
+        f"3 - {STATION} > {BROADCAST} vlan 291 pcp 5 dei IPv4 0 bytes", "4 1970-01-01T00:00:00.000001Z skipped 1 bytes"],
+    "ARP": [
+        f"1 2023-11-14T22:13:20.000000Z 02:00:00:00:00:01 > {BROADCAST} ARP who-has 10.0.0.2 tell 10.0.0.1",
+        f"2 2023-11-14T22:13:20.000000Z 02:00:00:00:00:01 > {BROADCAST} ARP reply 01:02 is-at 02:00:00:00:00:01"],
+    "SecTags": [
+        f"1 2023-11-14T22:13:20.000000Z 02:00:00:00:00:01 > {BROADCAST} macsec an 1 pn 7 IPv4 6 bytes",
+        f"2 2023-11-14T22:13:20.000000Z 02:00:00:00:00:01 > {BROADCAST} macsec an 2 pn 1 sealed 2 bytes",
+        f"3 2023-11-14T22:13:20.000000Z 02:00:00:00:00:01 > {BROADCAST} fault at 14: version 1 of MACsec",
+        f"4 2023-11-14T22:13:20.000000Z 02:00:00:00:00:01 > {BROADCAST} fault at 14: short length 1"],
+    "cooked capture v1": ["1 2023-11-14T22:13:20.000000Z cooked type 0 from 00:00:00:00:00:00 vlan 5 pcp 0 IPv4 0 bytes"],
+    "netlink": ["1 2023-11-14T22:13:20.000000Z cooked type 4 from  sll_netlink 1 bytes"],
+    "a packet type without a meaning": ["1 2023-11-14T22:13:20.000000Z fault at 0: packet type 8"],
+    "cooked capture v2": [
+        "1 2023-11-14T22:13:20.000000Z if 3 cooked type 2 from 02:00:00:00:00:01 vlan 5 pcp 0 IPv4 0 bytes",
+        "2 2023-11-14T22:13:20.000000Z if 3 cooked type 4 from 0a:00:00:01:00:00:00:00 sll_gre 1 bytes",
+        "3 2023-11-14T22:13:20.000000Z fault at 0: needs 20 bytes, has 6"],
+}
+# The names of protocols (the IEEE registry of ether types), and other operations of ARP.
+BRIEF_ENDS = [
+    ("86dd 60", "IPv6 1 bytes"), ("8847", "MPLS 0 bytes"), ("8863", "PPPoE discovery 0 bytes"), ("8864", "PPPoE 0 bytes"), ("888e", "EAPOL 0 bytes"),
+    ("88cc", "LLDP 0 bytes"), ("88f7", "PTP 0 bytes"), ("05dc", "0x05DC 0 bytes"),
+    ("0806 0001 0800 06 04 0003 020000000001 0a000001 000000000000 0a000002", "ARP op 3 from 10.0.0.1 to 10.0.0.2"),
+]
+
 # Seconds since 1970 at the ends of months and of leap days, as `date -u -d @SECONDS` prints them.
 MOMENTS = [
     (0, "1970-01-01T00:00:00"), (86399, "1970-01-01T23:59:59"), (68169599, "1972-02-28T23:59:59"), (68169600, "1972-02-29T00:00:00"),
@@ -142,9 +177,14 @@ def examples(program):
         # keys stand in this order, without spaces, and each object on a line of its own
         lines = "".join(json.dumps(it, separators=(",", ":")) + "\n" for it in packets)
         tried.append((f"{name} as JSON, byte for byte", text, lines))
+        tried.append((f"{name} for the eye", run(program, BRIEF, capture), ("".join(f"{it}\n" for it in BRIEF_LINES[name]), status)))
     for seconds, date in MOMENTS:
         capture = classic() + seconds.to_bytes(4, "big") + joined("0000002a", "00000001" * 2, "00")
         tried.append((f"the date of {seconds}", json.loads(run(program, JSON, capture)[0])["time"], f"{date}.000042000Z"))
+        tried.append((f"the date of {seconds} for the eye", run(program, BRIEF, capture)[0].split()[1], f"{date}.000042Z"))
+    for words, end in BRIEF_ENDS:
+        text, _ = run(program, BRIEF, classic(joined("ffffffffffff 020000000001", words)))
+        tried.append((f"{words} for the eye", text, f"1 2023-11-14T22:13:20.000000Z 02:00:00:00:00:01 > {BROADCAST} {end}\n"))
     whole = run(program, JSON, CLASSIC)[0]
     first, second = whole.splitlines(keepends=True)
     tried += [

@@ -78,7 +78,7 @@ fn command<'a>(alloc: Global) -> Result<Command<'a>, AllocError>
 
 /// What the program's arguments ask for. The first of them is its own name.
 ///
-/// Options go before, between and after the names of files: `--plain`, `--limit` with a number of headers and `--format` with `lines` or `json`; or `--write`, or `-w` with the name
+/// Options go before, between and after the names of files: `--plain`, `--limit` with a number of headers and `--format` with `lines`, `brief` or `json`; or `--write`, or `-w` with the name
 /// of the copy, and with it one of `--cut-to-headers`, `--pop-vlan`, `--push-vlan` with a tag and `--set-vlan` with two identifiers; `--select`
 /// with the text of a filter, and with it `--undecided` with `keep` or `drop`; `-c` with a number of packets; `-r` with the name of the only
 /// file; and `--progress`. `--help` and `--version` need no others.

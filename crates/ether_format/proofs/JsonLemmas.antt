@@ -1,9 +1,8 @@
 -- Members as they are written are those of an object.
-use Rattle.std.proofs.Common.{◌≡◌, ℕ, Bool, true, false, List, [], ◌∷◌, ◌++◌, map, length, Option, refl, sym, ap, ◌∙◌, append_assoc, append-nil}
+use Rattle.std.proofs.Common.{◌≡◌, ℕ, Bool, true, false, List, [], ◌∷◌, ◌++◌, map, length, Option, refl, sym, ap, ◌∙◌, append_assoc}
 use Rattle.std.specs.Prelude.{codes}
 use Rattle.std.specs.List.{flat_map}
 use Rattle.ether_pcap.specs.Capture.{PacketValue}
-use Rattle.ether_format.specs.declared.format.Format.{Format}
 use Rattle.ether_format.specs.declared.moment.Moment.{Moment}
 use Rattle.ether_format.specs.declared.value.Member.{Member as DeclaredMember}
 use Rattle.ether_format.specs.Members.{Member, Value, Number, Flag, Word, Time, if_some, member, packet_members}
@@ -112,7 +111,3 @@ json_text (h ∷ hs) end =
     let object = json_object (told_members h) in
     ap (λ t. object ++ t) (later_text hs end)
     ∙ sym (append_assoc object (flat_map (λ k. codes "," ++ json_object (told_members k)) hs) (json_end end))
-
--- there is no other format
-pub is_json : (f : Format) → f ≡ Json
-is_json Json = refl

@@ -32,7 +32,7 @@ use Rattle.ether_text.proofs.OutputBufferLemmas.{Takes-none, Takes-then}
 use Rattle.ether_format.specs.declared.format.Format.{Format}
 use Rattle.ether_format.specs.declared.place.Place.{Place as DeclaredPlace}
 use Rattle.ether_format.specs.Members.{ethernet2_members}
-use Rattle.ether_format.specs.Told.{Place, Told, Walked, ToldEnd, Rest, fcs_in, place_of, placed_members, told_in, told_stack, told_end, told_members, TellsPayload, TellsWalk}
+use Rattle.ether_format.specs.Told.{Told, Walked, ToldEnd, Rest, fcs_in, placed_members, told_in, told_stack, told_end, told_members, TellsPayload}
 use Rattle.ether_format.specs.Json.{json_object}
 use Rattle.ether_format.specs.Walking.{header_of, fcs_shown, place_view, told_view, fault_shown, header_text, end_text, told_text, AnswersTold}
 

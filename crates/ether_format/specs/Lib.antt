@@ -3,5 +3,6 @@ pub mod Members
 pub mod Told
 pub mod Spelling
 pub mod Json
+pub mod Brief
 pub mod Texts
 pub mod Walking

@@ -1,5 +1,5 @@
 -- Text as it is written along a walk: for the contracts of private functions.
-use Rattle.std.specs.Prelude.{◌≡◌, ℕ, ◌+◌, List, [], ◌∷◌, ◌++◌, length, take, codes, Bool, true, false, Option, Some, None, if◌then◌else◌, map}
+use Rattle.std.specs.Prelude.{◌≡◌, ℕ, ◌+◌, List, [], ◌∷◌, ◌++◌, length, take, codes, Bool, true, false, Option, None, if◌then◌else◌, map}
 use Rattle.etherparse.specs.Ethernet2.{ethernet2_of, fcs_of}
 use Rattle.etherparse.specs.LinuxSll.{linux_sll_of}
 use Rattle.etherparse.specs.Vlan.{vlan_of}
@@ -20,7 +20,7 @@ use Rattle.ether_peel.specs.declared.peel_fault.PeelFault.{PeelFault}
 use Rattle.ether_pcap.specs.Capture.{PacketValue}
 use Rattle.ether_content.specs.Content.{content_of}
 use Rattle.ether_format.specs.declared.format.Format.{Format}
-use Rattle.ether_format.specs.declared.format.Format.TheVariants.{Json}
+use Rattle.ether_format.specs.declared.format.Format.TheVariants.{Json, Brief}
 use Rattle.ether_format.specs.declared.place.Place.{Place as DeclaredPlace}
 use Rattle.ether_format.specs.declared.value.Value.{Value as DeclaredValue}
 use Rattle.ether_format.specs.declared.value.Value.TheVariants as values
@@ -28,7 +28,9 @@ use Rattle.ether_format.specs.declared.value.Member.{Member as DeclaredMember}
 use Rattle.ether_format.specs.Members.{Value, Nothing, Number, Protocol, Flag, Bytes, Dotted, Word, Time, Member}
 use Rattle.ether_format.specs.Told.{Place, Told, Walked, Cause, Length, UnknownPacketType, UnknownHardwareType, Version, ShortLength, ToldEnd, Fault, Tells, TellsCookedV2, TellsWalk, told_members}
 use Rattle.ether_format.specs.Spelling.{json_value, quoted}
-use Rattle.ether_format.specs.Json.{json_end, json_object}
+use Rattle.ether_format.specs.Json.{json_end, json_front, json_object}
+use Rattle.ether_format.specs.Brief.{brief_cut, brief_end, brief_front, brief_told}
+use Rattle.ether_format.specs.declared.moment.Moment.{Moment}
 
 -- ---- values and members
 
@@ -124,9 +126,11 @@ comma_if false = codes ","
 -- a header, if it is the first or not
 abbrev pub header_text : Format → (first : Bool) → Told → List ℕ
 header_text Json first h = comma_if first ++ json_object (told_members h)
+header_text Brief first h = brief_told h
 
 abbrev pub end_text : Format → ToldEnd → List ℕ
 end_text Json end = json_end end
+end_text Brief end = brief_end end
 
 -- headers, of which the first is the packet's first or not, and the end
 abbrev pub told_text : Format → (first : Bool) → List Told → ToldEnd → List ℕ
@@ -140,16 +144,25 @@ pub record AnswersTold (format : Format) (first : Bool) (at : ℕ) (start : Expe
   pub tells : TellsWalk at start frame headers end accepted
   pub is_text : text ≡ told_text format first headers end
 
+-- what comes before all headers, and after the end
+abbrev pub front_text : Format → ℕ → PacketValue → Option Moment → List ℕ
+front_text Json number p moment = json_front number p moment
+front_text Brief number p moment = brief_front number moment
+
+abbrev pub tail_text : Format → PacketValue → List ℕ
+tail_text Json p = []
+tail_text Brief p = brief_cut p ++ codes "\n"
+
 -- what is told of a packet of cooked capture v2
-pub record AnswersCookedV2 (limit : Option ℕ) (bytes text : List ℕ) (accepted : Bool) : Type 0 where
+pub record AnswersCookedV2 (format : Format) (limit : Option ℕ) (bytes text : List ℕ) (accepted : Bool) : Type 0 where
   pub headers : List Told
   pub end : ToldEnd
   pub tells : TellsCookedV2 limit bytes headers end accepted
-  pub is_text : text ≡ told_text Json true headers end
+  pub is_text : text ≡ told_text format true headers end
 
 -- .. of any packet
-pub record AnswersContent (limit : Option ℕ) (p : PacketValue) (text : List ℕ) (accepted : Bool) : Type 0 where
+pub record AnswersContent (format : Format) (limit : Option ℕ) (p : PacketValue) (text : List ℕ) (accepted : Bool) : Type 0 where
   pub headers : List Told
   pub end : ToldEnd
   pub tells : Tells limit (length p.packet) (content_of p) headers end accepted
-  pub is_text : text ≡ told_text Json true headers end
+  pub is_text : text ≡ told_text format true headers end

@@ -38,7 +38,7 @@ pub(crate) fn skipped<'a>(len: usize) -> [Member<'a>; 4]
 }
 
 /// The word for what a rest is announced as.
-fn kind_word(kind: &RestKind) -> &'static str
+pub(crate) fn kind_word(kind: &RestKind) -> &'static str
     ensures { result.now ≡ kind_word kind.now }
 {
     match kind {

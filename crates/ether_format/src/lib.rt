@@ -1,6 +1,7 @@
 //! The text of a captured packet for other programs and for people, in one of several formats. No call allocates memory.
 #![tactic(auto)]
 
+mod brief;
 mod calendar;
 mod endings;
 mod format;

@@ -7,8 +7,9 @@ ghost use Rattle.ether_format.specs.Calendar.{AreMoments};
 ghost use Rattle.ether_format.specs.Json.{json_front};
 ghost use Rattle.ether_format.specs.Texts.{HasText};
 ghost use Rattle.ether_format.specs.Told.{cooked_place};
-ghost use Rattle.ether_format.specs.Walking.{AnswersContent, AnswersCookedV2, place_view};
+ghost use Rattle.ether_format.specs.Walking.{AnswersContent, AnswersCookedV2, front_text, place_view, tail_text};
 
+use crate::brief::{write_brief_front, write_brief_tail};
 use crate::calendar::moment_of;
 use crate::json::write_members;
 use crate::place::Place;
@@ -57,12 +58,10 @@ pub fn write_packet<W: Sink>(
     ensures { TakesAnswer W.contents W.can_fail (HasText format limit number (captured_packet_view packet.now))
         out.old out.new result }
 {
-    match format {
-        Format::Json => {
-            write_front(number, packet, moment_if(packet.time), out);
-            write_content(limit, packet, out)
-        }
-    }
+    write_front(format, number, packet, moment_if(packet.time), out);
+    let accepted = write_content(format, limit, packet, out);
+    write_tail(format, packet, out);
+    accepted
 }
 
 /// The moment of a time, if there is one.
@@ -77,6 +76,22 @@ fn moment_if(time: Option<Timestamp>) -> Option<Moment>
 
 /// Writes what comes before the headers of a packet.
 fn write_front<W: Sink>(
+    format: Format,
+    number: usize,
+    packet: &CapturedPacket<'_>,
+    moment: Option<Moment>,
+    out: &mut OutputBuffer<'_, W>,
+)
+    ensures { Takes W.contents W.can_fail out.old (front_text format number (captured_packet_view packet.now) moment) out.new }
+{
+    match format {
+        Format::Json => write_json_front(number, packet, moment, out),
+        Format::Brief => write_brief_front(number, moment, out),
+    }
+}
+
+/// Writes what comes before the headers of a packet as JSON has it.
+fn write_json_front<W: Sink>(
     number: usize,
     packet: &CapturedPacket<'_>,
     moment: Option<Moment>,
@@ -88,25 +103,44 @@ fn write_front<W: Sink>(
     out.append(b",\"headers\":[");
 }
 
+/// Writes what comes after the end of a packet.
+fn write_tail<W: Sink>(format: Format, packet: &CapturedPacket<'_>, out: &mut OutputBuffer<'_, W>)
+    ensures { Takes W.contents W.can_fail out.old (tail_text format (captured_packet_view packet.now)) out.new }
+{
+    match format {
+        Format::Json => {}
+        Format::Brief => write_brief_tail(packet, out),
+    }
+}
+
 /// Writes the headers of a packet, and how the walk through them ends.
 fn write_content<W: Sink>(
+    format: Format,
     limit: Option<usize>,
     packet: &CapturedPacket<'_>,
     out: &mut OutputBuffer<'_, W>,
 ) -> bool
-    ensures { TakesAnswer W.contents W.can_fail (AnswersContent limit (captured_packet_view packet.now)) out.old out.new result }
+    ensures { TakesAnswer W.contents W.can_fail (AnswersContent format limit (captured_packet_view packet.now)) out.old out.new result }
 {
     match Content::of(packet) {
-        Content::Frame(start, bytes) => write_walk(true, 0, start, limit, bytes, out),
+        Content::Frame(start, bytes) => write_walk(format, true, 0, start, limit, bytes, out),
         Content::LinuxSll(header, payload) => {
             let len = CookedHeader::LEN + payload.len();
-            write_cooked(cooked_place(CookedHeader::LEN, len), &header, out);
+            write_cooked(format, cooked_place(CookedHeader::LEN, len), &header, out);
             let start = Start::EtherType(header.protocol);
-            write_walk(false, CookedHeader::LEN as u8, start, limit, payload, out)
+            write_walk(
+                format,
+                false,
+                CookedHeader::LEN as u8,
+                start,
+                limit,
+                payload,
+                out,
+            )
         }
-        Content::LinuxSll2(bytes) => write_cooked_v2(limit, bytes, out),
+        Content::LinuxSll2(bytes) => write_cooked_v2(format, limit, bytes, out),
         Content::Unknown => {
-            write_skipped(packet.packet.len(), out);
+            write_skipped(format, packet.packet.len(), out);
             true
         }
     }
@@ -114,25 +148,40 @@ fn write_content<W: Sink>(
 
 /// Writes the headers of a packet of cooked capture v2, and how the walk through them ends.
 fn write_cooked_v2<W: Sink>(
+    format: Format,
     limit: Option<usize>,
     bytes: &[u8],
     out: &mut OutputBuffer<'_, W>,
 ) -> bool
-    ensures { TakesAnswer W.contents W.can_fail (AnswersCookedV2 limit bytes.now) out.old out.new result }
+    ensures { TakesAnswer W.contents W.can_fail (AnswersCookedV2 format limit bytes.now) out.old out.new result }
 {
     let packet = match LinuxSll2Slice::from_slice(bytes) {
         Ok(packet) => packet,
         Err(error) => {
-            write_linux_sll2_fault(&error, out);
+            write_linux_sll2_fault(format, &error, out);
             return false;
         }
     };
     let len = LinuxSll2Header::LEN;
-    write_linux_sll2(cooked_place(len, bytes.len()), &packet, out);
+    write_linux_sll2(format, cooked_place(len, bytes.len()), &packet, out);
     match packet.start() {
-        Some(start) => write_walk(false, len as u8, start, limit, packet.payload_slice(), out),
+        Some(start) => write_walk(
+            format,
+            false,
+            len as u8,
+            start,
+            limit,
+            packet.payload_slice(),
+            out,
+        ),
         None => {
-            write_rest(len, bytes.len(), RestKind::Sll(packet.protocol_type()), out);
+            write_rest(
+                format,
+                len,
+                bytes.len(),
+                RestKind::Sll(packet.protocol_type()),
+                out,
+            );
             true
         }
     }

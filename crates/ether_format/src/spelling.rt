@@ -196,7 +196,7 @@ fn after_year(moment: &Moment) -> [u8; 26]
 
 /// The two digits of a number below 100.
 #[inline(always)]
-fn two_digits(number: u8) -> [u8; 2]
+pub(crate) fn two_digits(number: u8) -> [u8; 2]
     ensures { result ≡ two_digits number }
 {
     [b'0' + number / 10, b'0' + number % 10]

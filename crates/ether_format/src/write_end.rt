@@ -1,25 +1,23 @@
-//! Writes how the walk through a packet ends, as JSON has it.
-ghost use Rattle.std.specs.Prelude.{false};
+//! Writes how the walk through a packet ends, in a format.
+ghost use Rattle.std.specs.Prelude.{◌≤◌, false};
 ghost use Rattle.ether_sll2.specs.Views.{refusal_view};
 ghost use Rattle.ether_text.specs.OutputBuffer.{Takes};
 ghost use Rattle.ether_format.specs.declared.format.Format.TheVariants.{Json};
 ghost use Rattle.ether_format.specs.Told.{Fault, Rest, Skipped, cause_of_v2};
 ghost use Rattle.ether_format.specs.Walking.{cause_shown, end_text};
 
-use crate::endings;
+use crate::brief::{
+    write_brief_fault, write_brief_linux_sll2_fault, write_brief_rest, write_brief_skipped,
+};
 use crate::json::write_object;
+use crate::{Format, endings};
 use ether_peel::{PeelError, RestKind};
 use ether_sll2::LinuxSll2Error;
 use ether_text::{OutputBuffer, Sink};
 
 /// Writes what is left, from a place to a place.
 #[inline(always)]
-pub(crate) fn write_rest<W: Sink>(
-    start: usize,
-    end: usize,
-    kind: RestKind,
-    out: &mut OutputBuffer<'_, W>,
-)
+fn write_json_rest<W: Sink>(start: usize, end: usize, kind: RestKind, out: &mut OutputBuffer<'_, W>)
     ensures { Takes W.contents W.can_fail out.old (end_text Json (Rest start end kind)) out.new }
 {
     out.append(b"],\"rest\":");
@@ -28,7 +26,7 @@ pub(crate) fn write_rest<W: Sink>(
 }
 
 /// Writes that a packet of so many bytes is of a link type that the walk does not know.
-pub(crate) fn write_skipped<W: Sink>(len: usize, out: &mut OutputBuffer<'_, W>)
+fn write_json_skipped<W: Sink>(len: usize, out: &mut OutputBuffer<'_, W>)
     ensures { Takes W.contents W.can_fail out.old (end_text Json (Skipped len)) out.new }
 {
     out.append(b"],\"rest\":");
@@ -37,7 +35,7 @@ pub(crate) fn write_skipped<W: Sink>(len: usize, out: &mut OutputBuffer<'_, W>)
 }
 
 /// Writes a fault.
-pub(crate) fn write_fault<W: Sink>(
+fn write_json_fault<W: Sink>(
     start: usize,
     closed: bool,
     error: &PeelError,
@@ -51,7 +49,7 @@ pub(crate) fn write_fault<W: Sink>(
 }
 
 /// Writes the fault of a header of cooked capture v2.
-pub(crate) fn write_linux_sll2_fault<W: Sink>(error: &LinuxSll2Error, out: &mut OutputBuffer<'_, W>)
+fn write_json_linux_sll2_fault<W: Sink>(error: &LinuxSll2Error, out: &mut OutputBuffer<'_, W>)
     ensures { Takes W.contents W.can_fail out.old (end_text Json (Fault 0 false (cause_of_v2 (refusal_view error.now)))) out.new }
 {
     out.append(b"],\"fault\":");
@@ -61,4 +59,62 @@ pub(crate) fn write_linux_sll2_fault<W: Sink>(error: &LinuxSll2Error, out: &mut 
         out,
     );
     out.append(b"}\n");
+}
+
+/// Writes what is left, from a place to a place.
+#[inline(always)]
+pub(crate) fn write_rest<W: Sink>(
+    format: Format,
+    start: usize,
+    end: usize,
+    kind: RestKind,
+    out: &mut OutputBuffer<'_, W>,
+)
+    requires { start ≤ end }
+    ensures { Takes W.contents W.can_fail out.old (end_text format (Rest start end kind)) out.new }
+{
+    match format {
+        Format::Json => write_json_rest(start, end, kind, out),
+        Format::Brief => write_brief_rest(end - start, kind, out),
+    }
+}
+
+/// Writes that a packet of so many bytes is of a link type that the walk does not know.
+pub(crate) fn write_skipped<W: Sink>(format: Format, len: usize, out: &mut OutputBuffer<'_, W>)
+    ensures { Takes W.contents W.can_fail out.old (end_text format (Skipped len)) out.new }
+{
+    match format {
+        Format::Json => write_json_skipped(len, out),
+        Format::Brief => write_brief_skipped(len, out),
+    }
+}
+
+/// Writes a fault.
+pub(crate) fn write_fault<W: Sink>(
+    format: Format,
+    start: usize,
+    closed: bool,
+    error: &PeelError,
+    out: &mut OutputBuffer<'_, W>,
+)
+    ensures { Takes W.contents W.can_fail out.old (end_text format (Fault start closed (cause_shown error.now))) out.new }
+{
+    match format {
+        Format::Json => write_json_fault(start, closed, error, out),
+        Format::Brief => write_brief_fault(start, error, out),
+    }
+}
+
+/// Writes the fault of a header of cooked capture v2.
+pub(crate) fn write_linux_sll2_fault<W: Sink>(
+    format: Format,
+    error: &LinuxSll2Error,
+    out: &mut OutputBuffer<'_, W>,
+)
+    ensures { Takes W.contents W.can_fail out.old (end_text format (Fault 0 false (cause_of_v2 (refusal_view error.now)))) out.new }
+{
+    match format {
+        Format::Json => write_json_linux_sll2_fault(error, out),
+        Format::Brief => write_brief_linux_sll2_fault(error, out),
+    }
 }

@@ -1,4 +1,4 @@
-//! Writes a header of a walk as JSON has it.
+//! Writes a header of a walk in a format.
 ghost use Rattle.std.specs.Prelude.{None, true};
 ghost use Rattle.ether_content.specs.ContentViews.{cooked_view};
 ghost use Rattle.ether_sll2.specs.LinuxSll2.{linux_sll2_of};
@@ -9,9 +9,10 @@ ghost use Rattle.ether_format.specs.Json.{json_object};
 ghost use Rattle.ether_format.specs.Told.{Walked, CookedV2, told_members};
 ghost use Rattle.ether_format.specs.Walking.{comma_if, header_text, place_view, told_view};
 
+use crate::brief::{write_brief_cooked, write_brief_header, write_brief_linux_sll2};
 use crate::json::write_object;
-use crate::members;
 use crate::place::Place;
+use crate::{Format, members};
 use ether_content::CookedHeader;
 use ether_peel::PeelUnit;
 use ether_sll2::LinuxSll2Slice;
@@ -20,15 +21,52 @@ use ether_text::{OutputBuffer, Sink};
 /// Writes a header, which is the first of its packet or not.
 #[inline(always)]
 pub(crate) fn write_header<W: Sink>(
+    format: Format,
     is_first: bool,
     place: Place,
     unit: &PeelUnit<'_>,
     out: &mut OutputBuffer<'_, W>,
 )
-    ensures { Takes W.contents W.can_fail out.old (header_text Json is_first (told_view place unit.now)) out.new }
+    ensures { Takes W.contents W.can_fail out.old (header_text format is_first (told_view place unit.now)) out.new }
 {
-    write_comma(is_first, out);
-    write_json_header(place, unit, out);
+    match format {
+        Format::Json => {
+            write_comma(is_first, out);
+            write_json_header(place, unit, out);
+        }
+        Format::Brief => write_brief_header(unit, out),
+    }
+}
+
+/// Writes the first header of a packet, one of cooked capture v1 that is not walked.
+pub(crate) fn write_cooked<W: Sink>(
+    format: Format,
+    place: Place,
+    header: &CookedHeader,
+    out: &mut OutputBuffer<'_, W>,
+)
+    ensures { Takes W.contents W.can_fail out.old
+        (header_text format true (Walked (place_view place) (headers.LinuxSll (cooked_view header.now)) None)) out.new }
+{
+    match format {
+        Format::Json => write_json_cooked(place, header, out),
+        Format::Brief => write_brief_cooked(header, out),
+    }
+}
+
+/// Writes the first header of a packet, one of cooked capture v2.
+pub(crate) fn write_linux_sll2<W: Sink>(
+    format: Format,
+    place: Place,
+    packet: &LinuxSll2Slice<'_>,
+    out: &mut OutputBuffer<'_, W>,
+)
+    ensures { Takes W.contents W.can_fail out.old (header_text format true (CookedV2 (place_view place) (linux_sll2_of packet.now))) out.new }
+{
+    match format {
+        Format::Json => write_json_linux_sll2(place, packet, out),
+        Format::Brief => write_brief_linux_sll2(packet, out),
+    }
 }
 
 /// Writes a comma, but not before the first header.
@@ -70,12 +108,8 @@ fn write_json_header<W: Sink>(place: Place, unit: &PeelUnit<'_>, out: &mut Outpu
     }
 }
 
-/// Writes the first header of a packet, one of cooked capture v1 that is not walked.
-pub(crate) fn write_cooked<W: Sink>(
-    place: Place,
-    header: &CookedHeader,
-    out: &mut OutputBuffer<'_, W>,
-)
+/// Writes a header of cooked capture v1 that is not walked as an object of JSON.
+fn write_json_cooked<W: Sink>(place: Place, header: &CookedHeader, out: &mut OutputBuffer<'_, W>)
     ensures { Takes W.contents W.can_fail out.old
         (header_text Json true (Walked (place_view place) (headers.LinuxSll (cooked_view header.now)) None)) out.new }
 {
@@ -83,8 +117,8 @@ pub(crate) fn write_cooked<W: Sink>(
     write_object(&first, &members::cooked(header), out);
 }
 
-/// Writes the first header of a packet, one of cooked capture v2.
-pub(crate) fn write_linux_sll2<W: Sink>(
+/// Writes a header of cooked capture v2 as an object of JSON.
+fn write_json_linux_sll2<W: Sink>(
     place: Place,
     packet: &LinuxSll2Slice<'_>,
     out: &mut OutputBuffer<'_, W>,

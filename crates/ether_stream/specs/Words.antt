@@ -7,7 +7,7 @@ use Rattle.ether_filter.specs.Refusals.{RefusesText}
 use Rattle.ether_filter.specs.declared.filter_error.FilterError.{FilterError}
 use Rattle.ether_content.specs.Editing.{EditValue, CutToHeaders, PopVlan}
 use Rattle.ether_format.specs.declared.format.Format.{Format}
-use Rattle.ether_format.specs.declared.format.Format.TheVariants.{Json}
+use Rattle.ether_format.specs.declared.format.Format.TheVariants.{Json, Brief}
 use Rattle.ether_stream.specs.Tags.{IsTagEdit}
 use Rattle.ether_stream.specs.declared.selection.Undecided.{Undecided}
 use Rattle.ether_stream.specs.declared.selection.Undecided.TheVariants.{Dropped, Kept}
@@ -36,6 +36,7 @@ abbrev pub IsFormat : Option (List ℕ) → Option Format → Type 0
 IsFormat None format = format ≡ None
 IsFormat (Some text) None = text ≡ codes "lines"
 IsFormat (Some text) (Some Json) = text ≡ codes "json"
+IsFormat (Some text) (Some Brief) = text ≡ codes "brief"
 
 -- one edit at most
 abbrev pub IsOneEdit : (cuts pops : Bool) → (push set : Option (List ℕ)) → Option EditValue → Type 0

@@ -48,7 +48,7 @@ impl Usage {
             Usage::Count => "-c: expected a number from 1 to 4294967295",
             Usage::Limit => "--limit: expected a number up to 4294967295",
             Usage::Undecided => "--undecided: expected keep or drop",
-            Usage::Format => "--format: expected lines or json",
+            Usage::Format => "--format: expected lines, brief or json",
         }
     }
 }
@@ -144,6 +144,7 @@ pub fn format_of(text: Option<&str>) -> Result<Option<Format>, Usage>
     match text {
         None | Some("lines") => Ok(None),
         Some("json") => Ok(Some(Format::Json)),
+        Some("brief") => Ok(Some(Format::Brief)),
         Some(_) => Err(Usage::Format),
     }
 }

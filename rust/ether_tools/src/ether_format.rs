@@ -1,5 +1,6 @@
 //! The text of a captured packet for other programs and for people, in one of several formats. No call allocates memory.
 
+mod brief;
 mod calendar;
 mod endings;
 mod format;

@@ -21,7 +21,7 @@ const OPTIONS: [(&str, &str); 6] = [
     ("select", "only packets that match an expression"),
     ("undecided", "keep or drop packets that were cut too short to tell"),
     ("limit", "read so many VLAN tags and SecTags of each packet at most"),
-    ("format", "print lines, or each packet as an object of JSON: lines or json"),
+    ("format", "print lines, or each packet on one line: lines, brief or json"),
 ];
 
 /// The program's arguments.

@@ -28,7 +28,7 @@ pub(crate) fn skipped<'a>(len: usize) -> [Member<'a>; 4] {
 }
 
 /// The word for what a rest is announced as.
-fn kind_word(kind: &RestKind) -> &'static str {
+pub(crate) fn kind_word(kind: &RestKind) -> &'static str {
     match kind {
         RestKind::Start => "start",
         RestKind::EtherType(_) => "ether_type",

@@ -5,4 +5,6 @@
 pub enum Format {
     /// A line of JSON (RFC 8259): an object with the packet's members, a list of its headers, and what is left or wrong.
     Json,
+    /// A line for the eye: number and time, addresses, tags and types by name, and what is left or wrong.
+    Brief,
 }

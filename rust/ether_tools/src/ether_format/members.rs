@@ -189,7 +189,7 @@ pub(crate) fn cooked<'a>(header: &'a CookedHeader) -> [Member<'a>; 5] {
 }
 
 /// As much of an address as its length says.
-fn used(address: &[u8], len: usize) -> &[u8] {
+pub(crate) fn used(address: &[u8], len: usize) -> &[u8] {
     first_of(address, len)
 }
 

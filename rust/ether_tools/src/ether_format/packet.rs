@@ -1,5 +1,6 @@
 //! Writes a captured packet in a format.
 
+use crate::ether_format::brief::{write_brief_front, write_brief_tail};
 use crate::ether_format::calendar::moment_of;
 use crate::ether_format::json::write_members;
 use crate::ether_format::place::Place;
@@ -64,12 +65,10 @@ pub fn write_packet<W: Sink>(
     packet: &CapturedPacket<'_>,
     out: &mut OutputBuffer<'_, W>,
 ) -> bool {
-    match format {
-        Format::Json => {
-            write_front(number, packet, moment_if(packet.time), out);
-            write_content(limit, packet, out)
-        }
-    }
+    write_front(format, number, packet, moment_if(packet.time), out);
+    let accepted = write_content(format, limit, packet, out);
+    write_tail(format, packet, out);
+    accepted
 }
 
 /// The moment of a time, if there is one.
@@ -82,6 +81,20 @@ fn moment_if(time: Option<Timestamp>) -> Option<Moment> {
 
 /// Writes what comes before the headers of a packet.
 fn write_front<W: Sink>(
+    format: Format,
+    number: usize,
+    packet: &CapturedPacket<'_>,
+    moment: Option<Moment>,
+    out: &mut OutputBuffer<'_, W>,
+) {
+    match format {
+        Format::Json => write_json_front(number, packet, moment, out),
+        Format::Brief => write_brief_front(number, moment, out),
+    }
+}
+
+/// Writes what comes before the headers of a packet as JSON has it.
+fn write_json_front<W: Sink>(
     number: usize,
     packet: &CapturedPacket<'_>,
     moment: Option<Moment>,
@@ -91,23 +104,40 @@ fn write_front<W: Sink>(
     out.append(b",\"headers\":[");
 }
 
+/// Writes what comes after the end of a packet.
+fn write_tail<W: Sink>(format: Format, packet: &CapturedPacket<'_>, out: &mut OutputBuffer<'_, W>) {
+    match format {
+        Format::Json => {}
+        Format::Brief => write_brief_tail(packet, out),
+    }
+}
+
 /// Writes the headers of a packet, and how the walk through them ends.
 fn write_content<W: Sink>(
+    format: Format,
     limit: Option<usize>,
     packet: &CapturedPacket<'_>,
     out: &mut OutputBuffer<'_, W>,
 ) -> bool {
     match Content::of(packet) {
-        Content::Frame(start, bytes) => write_walk(true, 0, start, limit, bytes, out),
+        Content::Frame(start, bytes) => write_walk(format, true, 0, start, limit, bytes, out),
         Content::LinuxSll(header, payload) => {
             let len = CookedHeader::LEN + payload.len();
-            write_cooked(cooked_place(CookedHeader::LEN, len), &header, out);
+            write_cooked(format, cooked_place(CookedHeader::LEN, len), &header, out);
             let start = Start::EtherType(header.protocol);
-            write_walk(false, CookedHeader::LEN as u8, start, limit, payload, out)
+            write_walk(
+                format,
+                false,
+                CookedHeader::LEN as u8,
+                start,
+                limit,
+                payload,
+                out,
+            )
         }
-        Content::LinuxSll2(bytes) => write_cooked_v2(limit, bytes, out),
+        Content::LinuxSll2(bytes) => write_cooked_v2(format, limit, bytes, out),
         Content::Unknown => {
-            write_skipped(packet.packet.len(), out);
+            write_skipped(format, packet.packet.len(), out);
             true
         }
     }
@@ -115,6 +145,7 @@ fn write_content<W: Sink>(
 
 /// Writes the headers of a packet of cooked capture v2, and how the walk through them ends.
 fn write_cooked_v2<W: Sink>(
+    format: Format,
     limit: Option<usize>,
     bytes: &[u8],
     out: &mut OutputBuffer<'_, W>,
@@ -122,16 +153,30 @@ fn write_cooked_v2<W: Sink>(
     let packet = match LinuxSll2Slice::from_slice(bytes) {
         Ok(packet) => packet,
         Err(error) => {
-            write_linux_sll2_fault(&error, out);
+            write_linux_sll2_fault(format, &error, out);
             return false;
         }
     };
     let len = LinuxSll2Header::LEN;
-    write_linux_sll2(cooked_place(len, bytes.len()), &packet, out);
+    write_linux_sll2(format, cooked_place(len, bytes.len()), &packet, out);
     match packet.start() {
-        Some(start) => write_walk(false, len as u8, start, limit, packet.payload_slice(), out),
+        Some(start) => write_walk(
+            format,
+            false,
+            len as u8,
+            start,
+            limit,
+            packet.payload_slice(),
+            out,
+        ),
         None => {
-            write_rest(len, bytes.len(), RestKind::Sll(packet.protocol_type()), out);
+            write_rest(
+                format,
+                len,
+                bytes.len(),
+                RestKind::Sll(packet.protocol_type()),
+                out,
+            );
             true
         }
     }

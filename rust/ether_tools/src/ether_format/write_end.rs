@@ -1,33 +1,31 @@
-//! Writes how the walk through a packet ends, as JSON has it.
+//! Writes how the walk through a packet ends, in a format.
 
-use crate::ether_format::endings;
+use crate::ether_format::brief::{
+    write_brief_fault, write_brief_linux_sll2_fault, write_brief_rest, write_brief_skipped,
+};
 use crate::ether_format::json::write_object;
+use crate::ether_format::{Format, endings};
 use etherpeel::ether_peel::{PeelError, RestKind};
 use etherpeel::ether_sll2::LinuxSll2Error;
 use crate::ether_text::{OutputBuffer, Sink};
 
 /// Writes what is left, from a place to a place.
 #[inline(always)]
-pub(crate) fn write_rest<W: Sink>(
-    start: usize,
-    end: usize,
-    kind: RestKind,
-    out: &mut OutputBuffer<'_, W>,
-) {
+fn write_json_rest<W: Sink>(start: usize, end: usize, kind: RestKind, out: &mut OutputBuffer<'_, W>) {
     out.append(b"],\"rest\":");
     write_object(&endings::rest(start, end, kind), &[], out);
     out.append(b"}\n");
 }
 
 /// Writes that a packet of so many bytes is of a link type that the walk does not know.
-pub(crate) fn write_skipped<W: Sink>(len: usize, out: &mut OutputBuffer<'_, W>) {
+fn write_json_skipped<W: Sink>(len: usize, out: &mut OutputBuffer<'_, W>) {
     out.append(b"],\"rest\":");
     write_object(&endings::skipped(len), &[], out);
     out.append(b"}\n");
 }
 
 /// Writes a fault.
-pub(crate) fn write_fault<W: Sink>(
+fn write_json_fault<W: Sink>(
     start: usize,
     closed: bool,
     error: &PeelError,
@@ -39,7 +37,7 @@ pub(crate) fn write_fault<W: Sink>(
 }
 
 /// Writes the fault of a header of cooked capture v2.
-pub(crate) fn write_linux_sll2_fault<W: Sink>(error: &LinuxSll2Error, out: &mut OutputBuffer<'_, W>) {
+fn write_json_linux_sll2_fault<W: Sink>(error: &LinuxSll2Error, out: &mut OutputBuffer<'_, W>) {
     out.append(b"],\"fault\":");
     write_object(
         &endings::fault(0, false),
@@ -47,4 +45,53 @@ pub(crate) fn write_linux_sll2_fault<W: Sink>(error: &LinuxSll2Error, out: &mut 
         out,
     );
     out.append(b"}\n");
+}
+
+/// Writes what is left, from a place to a place.
+#[inline(always)]
+pub(crate) fn write_rest<W: Sink>(
+    format: Format,
+    start: usize,
+    end: usize,
+    kind: RestKind,
+    out: &mut OutputBuffer<'_, W>,
+) {
+    match format {
+        Format::Json => write_json_rest(start, end, kind, out),
+        Format::Brief => write_brief_rest(end - start, kind, out),
+    }
+}
+
+/// Writes that a packet of so many bytes is of a link type that the walk does not know.
+pub(crate) fn write_skipped<W: Sink>(format: Format, len: usize, out: &mut OutputBuffer<'_, W>) {
+    match format {
+        Format::Json => write_json_skipped(len, out),
+        Format::Brief => write_brief_skipped(len, out),
+    }
+}
+
+/// Writes a fault.
+pub(crate) fn write_fault<W: Sink>(
+    format: Format,
+    start: usize,
+    closed: bool,
+    error: &PeelError,
+    out: &mut OutputBuffer<'_, W>,
+) {
+    match format {
+        Format::Json => write_json_fault(start, closed, error, out),
+        Format::Brief => write_brief_fault(start, error, out),
+    }
+}
+
+/// Writes the fault of a header of cooked capture v2.
+pub(crate) fn write_linux_sll2_fault<W: Sink>(
+    format: Format,
+    error: &LinuxSll2Error,
+    out: &mut OutputBuffer<'_, W>,
+) {
+    match format {
+        Format::Json => write_json_linux_sll2_fault(error, out),
+        Format::Brief => write_brief_linux_sll2_fault(error, out),
+    }
 }

@@ -1,8 +1,9 @@
-//! Writes a header of a walk as JSON has it.
+//! Writes a header of a walk in a format.
 
+use crate::ether_format::brief::{write_brief_cooked, write_brief_header, write_brief_linux_sll2};
 use crate::ether_format::json::write_object;
-use crate::ether_format::members;
 use crate::ether_format::place::Place;
+use crate::ether_format::{Format, members};
 use etherpeel::ether_content::CookedHeader;
 use etherpeel::ether_peel::PeelUnit;
 use etherpeel::ether_sll2::LinuxSll2Slice;
@@ -11,13 +12,45 @@ use crate::ether_text::{OutputBuffer, Sink};
 /// Writes a header, which is the first of its packet or not.
 #[inline(always)]
 pub(crate) fn write_header<W: Sink>(
+    format: Format,
     is_first: bool,
     place: Place,
     unit: &PeelUnit<'_>,
     out: &mut OutputBuffer<'_, W>,
 ) {
-    write_comma(is_first, out);
-    write_json_header(place, unit, out);
+    match format {
+        Format::Json => {
+            write_comma(is_first, out);
+            write_json_header(place, unit, out);
+        }
+        Format::Brief => write_brief_header(unit, out),
+    }
+}
+
+/// Writes the first header of a packet, one of cooked capture v1 that is not walked.
+pub(crate) fn write_cooked<W: Sink>(
+    format: Format,
+    place: Place,
+    header: &CookedHeader,
+    out: &mut OutputBuffer<'_, W>,
+) {
+    match format {
+        Format::Json => write_json_cooked(place, header, out),
+        Format::Brief => write_brief_cooked(header, out),
+    }
+}
+
+/// Writes the first header of a packet, one of cooked capture v2.
+pub(crate) fn write_linux_sll2<W: Sink>(
+    format: Format,
+    place: Place,
+    packet: &LinuxSll2Slice<'_>,
+    out: &mut OutputBuffer<'_, W>,
+) {
+    match format {
+        Format::Json => write_json_linux_sll2(place, packet, out),
+        Format::Brief => write_brief_linux_sll2(packet, out),
+    }
 }
 
 /// Writes a comma, but not before the first header.
@@ -55,18 +88,14 @@ fn write_json_header<W: Sink>(place: Place, unit: &PeelUnit<'_>, out: &mut Outpu
     }
 }
 
-/// Writes the first header of a packet, one of cooked capture v1 that is not walked.
-pub(crate) fn write_cooked<W: Sink>(
-    place: Place,
-    header: &CookedHeader,
-    out: &mut OutputBuffer<'_, W>,
-) {
+/// Writes a header of cooked capture v1 that is not walked as an object of JSON.
+fn write_json_cooked<W: Sink>(place: Place, header: &CookedHeader, out: &mut OutputBuffer<'_, W>) {
     let first = members::placed("sll", place);
     write_object(&first, &members::cooked(header), out);
 }
 
-/// Writes the first header of a packet, one of cooked capture v2.
-pub(crate) fn write_linux_sll2<W: Sink>(
+/// Writes a header of cooked capture v2 as an object of JSON.
+fn write_json_linux_sll2<W: Sink>(
     place: Place,
     packet: &LinuxSll2Slice<'_>,
     out: &mut OutputBuffer<'_, W>,

@@ -1,10 +1,9 @@
-use Rattle.std.proofs.Common.{List, ℕ, [], ◌∷◌, ◌+◌, length, None, true, refl, subst}
+use Rattle.std.proofs.Common.{[], ◌+◌, length, None, true, refl, subst}
 use Rattle.etherparse.specs.Header as headers
 use Rattle.ether_pcap.specs.CaptureViews.{captured_packet_view}
 use Rattle.ether_content.specs.Content.{ContentValue}
 use Rattle.ether_content.specs.ContentViews.{cooked_view}
 use Rattle.ether_text.proofs.OutputBufferLemmas.{Takes-same}
-use Rattle.ether_format.specs.declared.format.Format.TheVariants.{Json}
 use Rattle.ether_format.specs.Told.{Place, Skipped, Tells, Walked, cooked_place}
 use Rattle.ether_format.specs.Walking.{header_text}
 use Rattle.ether_format.proofs.WalkLemmas.{payload_told}
@@ -18,7 +17,7 @@ returns-in-LinuxSll g c =
     let is = rw c.in-LinuxSll.is at c.of.ensures in
     let first = Walked (cooked_place 16 (16 + length c.in-LinuxSll.payload.now)) (headers.LinuxSll s) None in
     let header =
-    Takes-same (ap (λ (q : Place). header_text Json true (Walked q (headers.LinuxSll s) None)) c.cooked_place.ensures)
+    Takes-same (ap (λ (q : Place). header_text c.args.format true (Walked q (headers.LinuxSll s) None)) c.cooked_place.ensures)
     c.write_cooked.ensures in
     let told = payload_told first header c.write_walk-in-LinuxSll.ensures in
     record {

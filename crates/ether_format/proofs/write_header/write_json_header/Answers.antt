@@ -1,4 +1,4 @@
-use Rattle.std.proofs.Common.{List, ℕ, ◌≡◌, sym, ap, ◌∙◌}
+use Rattle.std.proofs.Common.{List, ℕ, sym, ap, ◌∙◌}
 use Rattle.etherparse.specs.Arp.{arp_of}
 use Rattle.std.specs.Prelude.{codes}
 use Rattle.etherparse.specs.Ethernet2.{ethernet2_of, fcs_of}

@@ -1,10 +1,10 @@
+use Rattle.std.specs.Prelude.{codes}
 use Rattle.ether_text.proofs.OutputBufferLemmas.{Takes-then, Takes-same}
-use Rattle.ether_format.specs.Told.{kind_word, kind_value}
+use Rattle.ether_format.specs.Members.{Nothing}
 use Rattle.ether_format.proofs.JsonLemmas.{rest_object}
-use Rattle.ether_format.proofs.write_end.write_rest.Goals as goal
+use Rattle.ether_format.proofs.write_end.write_json_skipped.Goals as goal
 
 pub returns : goal.returns
 returns g c =
-    let k = c.args.kind in
-    let object = rest_object c.args.start c.args.end (kind_word k) (kind_value k) c.rest.result c.rest.ensures in
+    let object = rest_object 0 c.args.len (codes "skipped") Nothing c.skipped.result c.skipped.ensures in
     Takes-then c.append.ensures (Takes-then (Takes-same object c.write_object.ensures) c.append-2.ensures)

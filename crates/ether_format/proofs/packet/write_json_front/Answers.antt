@@ -1,11 +1,11 @@
-use Rattle.std.proofs.Common.{List, [], ◌∷◌, length, ◌∙◌, append_assoc}
+use Rattle.std.proofs.Common.{append_assoc}
 use Rattle.std.specs.Prelude.{codes}
 use Rattle.ether_pcap.specs.CaptureViews.{captured_packet_view}
 use Rattle.ether_text.proofs.OutputBufferLemmas.{Takes-then, Takes-same}
 use Rattle.ether_format.specs.Json.{json_members}
 use Rattle.ether_format.specs.Members.{packet_members}
 use Rattle.ether_format.proofs.JsonLemmas.{written_packet}
-use Rattle.ether_format.proofs.packet.write_front.Goals as goal
+use Rattle.ether_format.proofs.packet.write_json_front.Goals as goal
 
 pub returns : goal.returns
 returns g c =

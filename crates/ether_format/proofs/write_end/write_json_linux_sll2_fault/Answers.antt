@@ -3,7 +3,7 @@ use Rattle.ether_sll2.specs.Views.{refusal_view}
 use Rattle.ether_text.proofs.OutputBufferLemmas.{Takes-then, Takes-same}
 use Rattle.ether_format.specs.Told.{cause_of_v2}
 use Rattle.ether_format.proofs.JsonLemmas.{fault_object}
-use Rattle.ether_format.proofs.write_end.write_linux_sll2_fault.Goals as goal
+use Rattle.ether_format.proofs.write_end.write_json_linux_sll2_fault.Goals as goal
 
 pub returns : goal.returns
 returns g c =

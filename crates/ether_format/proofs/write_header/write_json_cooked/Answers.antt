@@ -4,7 +4,7 @@ use Rattle.std.specs.Prelude.{codes}
 use Rattle.ether_format.specs.Walking.{place_view}
 use Rattle.ether_format.specs.Members.{linux_sll_members}
 use Rattle.ether_format.proofs.JsonLemmas.{placed_object}
-use Rattle.ether_format.proofs.write_header.write_cooked.Goals as goal
+use Rattle.ether_format.proofs.write_header.write_json_cooked.Goals as goal
 
 pub returns : goal.returns
 returns g c =

@@ -1,7 +1,7 @@
 use Rattle.ether_text.proofs.OutputBufferLemmas.{Takes-then, Takes-same}
 use Rattle.ether_format.specs.Walking.{cause_shown}
 use Rattle.ether_format.proofs.JsonLemmas.{fault_object}
-use Rattle.ether_format.proofs.write_end.write_fault.Goals as goal
+use Rattle.ether_format.proofs.write_end.write_json_fault.Goals as goal
 
 pub returns : goal.returns
 returns g c =

@@ -1,0 +1,159 @@
+-- A packet as a line for the eye.
+use Rattle.std.specs.Prelude.{ℕ, ◌-◌, ◌%◌, nat_eq, List, [], ◌∷◌, ◌++◌, length, take, codes, Bool, Option, Some, None, if◌then◌else◌}
+use Rattle.std.specs.List.{flat_map}
+use Rattle.std.specs.Fmt.{decimal}
+use Rattle.etherparse.specs.Bytes.{spelled}
+use Rattle.etherparse.specs.Ethernet2.{Ethernet2Value}
+use Rattle.etherparse.specs.Vlan.{VlanValue}
+use Rattle.etherparse.specs.Macsec.{SecTagValue}
+use Rattle.etherparse.specs.Arp.{ArpValue}
+use Rattle.etherparse.specs.NumberText.{hex_number}
+use Rattle.etherparse.specs.Header.{Header}
+use Rattle.etherparse.specs.Header as headers
+use Rattle.ether_base.specs.Texts.NumberText.{description_in}
+use Rattle.ether_sll2.specs.LinuxSll2.{LinuxSll2Value}
+use Rattle.ether_pcap.specs.Capture.{PacketValue}
+use Rattle.ether_content.specs.Content.{is_cut}
+use Rattle.ether_peel.specs.declared.rest_kind.RestKind.{RestKind}
+use Rattle.ether_peel.specs.declared.rest_kind.RestKind.TheVariants as rests
+use Rattle.ether_text.specs.Decimals.{two_digits}
+use Rattle.ether_format.specs.declared.moment.Moment.{Moment}
+use Rattle.ether_format.specs.Members.{protocol_address}
+use Rattle.ether_format.specs.Told.{Told, Walked, CookedV2, Cause, Length, UnknownPacketType, UnknownHardwareType, Version, ShortLength, ToldEnd, Rest, Skipped, Fault, kind_word}
+use Rattle.ether_format.specs.Spelling.{colon_text, column_value, nine_digits}
+
+-- ---- headers, each after a space
+
+-- the sender, and the station that it sends to
+abbrev pub brief_ethernet2 : Ethernet2Value → List ℕ
+brief_ethernet2 e = codes " " ++ (colon_text (spelled 6 e.source) ++ (codes " > " ++ colon_text (spelled 6 e.destination)))
+
+-- a word that is there or not
+abbrev pub word_if : Bool → List ℕ → List ℕ
+word_if holds word = if holds then word else []
+
+abbrev pub brief_vlan : VlanValue → List ℕ
+brief_vlan v = codes " vlan " ++ (decimal v.vid ++ (codes " pcp " ++ (decimal v.pcp ++ word_if (nat_eq v.dei 1) (codes " dei"))))
+
+abbrev pub brief_macsec : SecTagValue → List ℕ
+brief_macsec t = codes " macsec an " ++ (decimal t.association_number ++ (codes " pn " ++ decimal t.packet_number))
+
+-- an address of a protocol, of IPv4 with dots
+abbrev pub address_text : (protocol : ℕ) → List ℕ → List ℕ
+address_text protocol bytes = column_value (protocol_address protocol bytes)
+
+-- who is asked for (RFC 826, "Packet Generation")
+abbrev pub arp_request : ArpValue → List ℕ
+arp_request a =
+    codes " ARP who-has "
+    ++ (address_text a.protocol_type a.target_protocol ++ (codes " tell " ++ address_text a.protocol_type a.sender_protocol))
+
+-- who answers
+abbrev pub arp_reply : ArpValue → List ℕ
+arp_reply a =
+    codes " ARP reply " ++ (address_text a.protocol_type a.sender_protocol ++ (codes " is-at " ++ colon_text a.sender_hardware))
+
+-- another operation
+abbrev pub arp_other : ArpValue → List ℕ
+arp_other a =
+    codes " ARP op "
+    ++ (decimal a.operation
+    ++ (codes " from " ++ (address_text a.protocol_type a.sender_protocol
+    ++ (codes " to " ++ address_text a.protocol_type a.target_protocol))))
+
+-- ares_op$REQUEST is 1, ares_op$REPLY 2 (RFC 826, "Definitions")
+abbrev pub brief_arp : ArpValue → List ℕ
+brief_arp a = if nat_eq a.operation 1 then arp_request a else (if nat_eq a.operation 2 then arp_reply a else arp_other a)
+
+-- a cooked header: how the packet was sent, and the sender's address
+abbrev pub cooked_text : (packet_type : ℕ) → (address : List ℕ) → List ℕ
+cooked_text packet_type address = codes " cooked type " ++ (decimal packet_type ++ (codes " from " ++ colon_text address))
+
+abbrev pub brief_cooked : (packet_type len address : ℕ) → List ℕ
+brief_cooked packet_type len address = cooked_text packet_type (take len (spelled 8 address))
+
+abbrev pub brief_header : Header → List ℕ
+brief_header (headers.Ethernet2 e) = brief_ethernet2 e
+brief_header (headers.Ethernet2Fcs e) = brief_ethernet2 e
+brief_header (headers.LinuxSll s) = brief_cooked s.packet_type s.address_len s.address
+brief_header (headers.Vlan v) = brief_vlan v
+brief_header (headers.Macsec t) = brief_macsec t
+brief_header (headers.Arp a) = brief_arp a
+
+abbrev pub brief_cooked_v2 : LinuxSll2Value → List ℕ
+brief_cooked_v2 s = codes " if " ++ (decimal s.interface_index ++ brief_cooked s.packet_type s.address_len s.address)
+
+abbrev pub brief_told : Told → List ℕ
+brief_told (Walked place h fcs) = brief_header h
+brief_told (CookedV2 place s) = brief_cooked_v2 s
+
+-- ---- the end
+
+-- the protocols of some ether types (the IEEE registry)
+abbrev pub type_names : List (ℕ × List ℕ)
+type_names =
+    (0x0800, codes "IPv4") ∷ (0x86DD, codes "IPv6") ∷ (0x0806, codes "ARP") ∷ (0x8847, codes "MPLS") ∷ (0x8863, codes "PPPoE discovery")
+    ∷ (0x8864, codes "PPPoE") ∷ (0x888E, codes "EAPOL") ∷ (0x88CC, codes "LLDP") ∷ (0x88F7, codes "PTP") ∷ []
+
+abbrev pub name_or_number : Option (List ℕ) → ℕ → List ℕ
+name_or_number (Some name) t = name
+name_or_number None t = hex_number t
+
+abbrev pub type_text : ℕ → List ℕ
+type_text t = name_or_number (description_in type_names t) t
+
+-- what is left, and its length; the padding after an ARP packet is not told
+abbrev pub brief_rest : (len : ℕ) → RestKind → List ℕ
+brief_rest len rests.AfterArp = []
+brief_rest len (rests.EtherType t) = codes " " ++ (type_text t.0 ++ (codes " " ++ (decimal len ++ codes " bytes")))
+brief_rest len kind = codes " " ++ (kind_word kind ++ (codes " " ++ (decimal len ++ codes " bytes")))
+
+abbrev pub lengths_text : (required available : ℕ) → List ℕ
+lengths_text required available = codes "needs " ++ (decimal required ++ (codes " bytes, has " ++ decimal available))
+
+abbrev pub brief_cause : Cause → List ℕ
+brief_cause (Length required available source) = lengths_text required available
+brief_cause (UnknownPacketType n) = codes "packet type " ++ decimal n
+brief_cause (UnknownHardwareType n) = codes "hardware type " ++ decimal n
+brief_cause Version = codes "version 1 of MACsec"
+brief_cause ShortLength = codes "short length 1"
+
+abbrev pub fault_text : (start : ℕ) → Cause → List ℕ
+fault_text start cause = codes " fault at " ++ (decimal start ++ (codes ": " ++ brief_cause cause))
+
+abbrev pub brief_end : ToldEnd → List ℕ
+brief_end (Rest start finish kind) = brief_rest (finish - start) kind
+brief_end (Skipped len) = codes " skipped " ++ (decimal len ++ codes " bytes")
+brief_end (Fault start closed cause) = fault_text start cause
+
+-- ---- the packet
+
+-- the date and the time of day as in ISO 8601
+abbrev pub date_text : Moment → List ℕ
+date_text m =
+    decimal m.year
+    ++ (codes "-" ++ two_digits m.month ++ codes "-" ++ two_digits m.day ++ codes "T" ++ two_digits m.hour ++ codes ":"
+    ++ two_digits m.minute ++ codes ":" ++ two_digits m.second)
+
+-- .. with six decimals, or nine if the last three are not 0
+abbrev pub fraction_text : ℕ → List ℕ
+fraction_text n = if nat_eq (n % 1000) 0 then take 6 (nine_digits n) else nine_digits n
+
+abbrev pub brief_moment : Moment → List ℕ
+brief_moment m = date_text m ++ (codes "." ++ (fraction_text m.nanoseconds ++ codes "Z"))
+
+abbrev pub brief_time : Option Moment → List ℕ
+brief_time None = codes "-"
+brief_time (Some m) = brief_moment m
+
+-- how much of it was captured, if that is not all
+abbrev pub brief_cut : PacketValue → List ℕ
+brief_cut p = if is_cut p then codes " (" ++ (decimal (length p.packet) ++ (codes " of " ++ (decimal p.original_len ++ codes " bytes)"))) else []
+
+-- the number and the time
+abbrev pub brief_front : ℕ → Option Moment → List ℕ
+brief_front number moment = decimal number ++ (codes " " ++ brief_time moment)
+
+abbrev pub brief_line : ℕ → PacketValue → Option Moment → List Told → ToldEnd → List ℕ
+brief_line number p moment headers end =
+    brief_front number moment ++ (flat_map brief_told headers ++ (brief_end end ++ (brief_cut p ++ codes "\n")))

@@ -1,0 +1,311 @@
+//! Writes headers, and how a walk ends, for the eye.
+
+use crate::ether_format::Moment;
+use crate::ether_format::endings::kind_word;
+use crate::ether_format::members::used;
+use crate::ether_format::spelling::{first_of, nine_digits, two_digits, write_colons, write_dotted};
+use etherpeel::ether_content::{CookedHeader, is_cut};
+use etherpeel::ether_pcap::CapturedPacket;
+use etherpeel::ether_peel::{PeelError, PeelUnit, RestKind};
+use etherpeel::ether_sll2::{LinuxSll2Error, LinuxSll2Slice};
+use crate::ether_text::{OutputBuffer, Sink, hex_type, write_decimal, write_number};
+use etherpeel::{
+    ArpPacketSlice, EtherType, Ethernet2Slice, LinuxSllSlice, MacsecHeaderSlice, SingleVlanSlice,
+    err,
+};
+
+/// Writes a header.
+pub(crate) fn write_brief_header<W: Sink>(unit: &PeelUnit<'_>, out: &mut OutputBuffer<'_, W>) {
+    match unit {
+        PeelUnit::Ethernet2(slice) => write_ethernet2(slice, out),
+        PeelUnit::LinuxSll(slice) => write_linux_sll(slice, out),
+        PeelUnit::Vlan(slice) => write_vlan(slice, out),
+        PeelUnit::Macsec(slice) => write_macsec(&slice.header, out),
+        PeelUnit::Arp(slice) => write_arp(slice, out),
+    }
+}
+
+/// Writes the addresses of a header of Ethernet II.
+fn write_ethernet2<W: Sink>(slice: &Ethernet2Slice<'_>, out: &mut OutputBuffer<'_, W>) {
+    out.append(b" ");
+    write_colons(&slice.source(), out);
+    out.append(b" > ");
+    write_colons(&slice.destination(), out);
+}
+
+/// Writes a VLAN tag.
+fn write_vlan<W: Sink>(slice: &SingleVlanSlice<'_>, out: &mut OutputBuffer<'_, W>) {
+    write_number(out, b" vlan ", usize::from(slice.vlan_identifier().value()));
+    write_number(
+        out,
+        b" pcp ",
+        usize::from(slice.priority_code_point().value()),
+    );
+    if slice.drop_eligible_indicator() {
+        out.append(b" dei");
+    }
+}
+
+/// Writes a SecTag.
+fn write_macsec<W: Sink>(tag: &MacsecHeaderSlice<'_>, out: &mut OutputBuffer<'_, W>) {
+    write_number(out, b" macsec an ", usize::from(tag.an().value()));
+    write_number(out, b" pn ", tag.packet_nr() as usize);
+}
+
+/// Writes an ARP packet.
+fn write_arp<W: Sink>(packet: &ArpPacketSlice<'_>, out: &mut OutputBuffer<'_, W>) {
+    let operation = packet.operation().0;
+    if operation == 1 {
+        write_arp_request(packet, out);
+    } else if operation == 2 {
+        write_arp_reply(packet, out);
+    } else {
+        write_arp_other(packet, out);
+    }
+}
+
+/// Writes who is asked for.
+fn write_arp_request<W: Sink>(packet: &ArpPacketSlice<'_>, out: &mut OutputBuffer<'_, W>) {
+    let protocol = packet.proto_addr_type();
+    out.append(b" ARP who-has ");
+    write_address(protocol, packet.target_protocol_addr(), out);
+    out.append(b" tell ");
+    write_address(protocol, packet.sender_protocol_addr(), out);
+}
+
+/// Writes who answers.
+fn write_arp_reply<W: Sink>(packet: &ArpPacketSlice<'_>, out: &mut OutputBuffer<'_, W>) {
+    let protocol = packet.proto_addr_type();
+    out.append(b" ARP reply ");
+    write_address(protocol, packet.sender_protocol_addr(), out);
+    out.append(b" is-at ");
+    write_colons(packet.sender_hw_addr(), out);
+}
+
+/// Writes another operation.
+fn write_arp_other<W: Sink>(packet: &ArpPacketSlice<'_>, out: &mut OutputBuffer<'_, W>) {
+    let protocol = packet.proto_addr_type();
+    write_number(out, b" ARP op ", usize::from(packet.operation().0));
+    out.append(b" from ");
+    write_address(protocol, packet.sender_protocol_addr(), out);
+    out.append(b" to ");
+    write_address(protocol, packet.target_protocol_addr(), out);
+}
+
+/// Writes an address of a protocol.
+fn write_address<W: Sink>(protocol: EtherType, bytes: &[u8], out: &mut OutputBuffer<'_, W>) {
+    if protocol == EtherType::IPV4 && bytes.len() == 4 {
+        write_dotted(bytes, out);
+    } else {
+        write_colons(bytes, out);
+    }
+}
+
+/// Writes a header of cooked capture v1.
+fn write_linux_sll<W: Sink>(slice: &LinuxSllSlice<'_>, out: &mut OutputBuffer<'_, W>) {
+    let packet_type = usize::from(u16::from(slice.packet_type()));
+    let len = usize::from(slice.sender_address_valid_length());
+    write_sender(packet_type, &slice.sender_address_full(), len, out);
+}
+
+/// Writes how a packet of cooked capture was sent, and the sender's address.
+pub(crate) fn write_sender<W: Sink>(
+    packet_type: usize,
+    address: &[u8; 8],
+    len: usize,
+    out: &mut OutputBuffer<'_, W>,
+) {
+    write_number(out, b" cooked type ", packet_type);
+    out.append(b" from ");
+    write_colons(first_of(address, len), out);
+}
+
+/// Writes a header of cooked capture v1 that is not walked.
+pub(crate) fn write_brief_cooked<W: Sink>(header: &CookedHeader, out: &mut OutputBuffer<'_, W>) {
+    write_number(out, b" cooked type ", usize::from(header.packet_type));
+    out.append(b" from ");
+    write_colons(used(&header.address, usize::from(header.address_len)), out);
+}
+
+/// Writes a header of cooked capture v2.
+pub(crate) fn write_brief_linux_sll2<W: Sink>(
+    packet: &LinuxSll2Slice<'_>,
+    out: &mut OutputBuffer<'_, W>,
+) {
+    let packet_type = usize::from(u16::from(packet.packet_type()));
+    let len = usize::from(packet.sender_address_valid_length());
+    write_number(out, b" if ", packet.interface_index() as usize);
+    write_sender(packet_type, &packet.sender_address_full(), len, out);
+}
+
+/// Writes what is left, and its length.
+pub(crate) fn write_brief_rest<W: Sink>(len: usize, kind: RestKind, out: &mut OutputBuffer<'_, W>) {
+    match kind {
+        RestKind::AfterArp => {}
+        RestKind::EtherType(ether_type) => {
+            out.append(b" ");
+            write_type(ether_type, out);
+            write_len(len, out);
+        }
+        _ => {
+            out.append(b" ");
+            out.append(kind_word(&kind).as_bytes());
+            write_len(len, out);
+        }
+    }
+}
+
+/// Writes so many bytes, after a space.
+fn write_len<W: Sink>(len: usize, out: &mut OutputBuffer<'_, W>) {
+    write_number(out, b" ", len);
+    out.append(b" bytes");
+}
+
+/// Writes an ether type by its name, or as a number.
+fn write_type<W: Sink>(ether_type: EtherType, out: &mut OutputBuffer<'_, W>) {
+    match name_of(ether_type.0) {
+        Some(name) => out.append(name.as_bytes()),
+        None => out.append(&hex_type(ether_type)),
+    }
+}
+
+/// The name of the protocol of an ether type.
+fn name_of(ether_type: u16) -> Option<&'static str> {
+    match ether_type {
+        0x0800 => Some("IPv4"),
+        0x86DD => Some("IPv6"),
+        0x0806 => Some("ARP"),
+        0x8847 => Some("MPLS"),
+        0x8863 => Some("PPPoE discovery"),
+        0x8864 => Some("PPPoE"),
+        0x888E => Some("EAPOL"),
+        0x88CC => Some("LLDP"),
+        0x88F7 => Some("PTP"),
+        _ => None,
+    }
+}
+
+/// Writes a packet that is skipped.
+pub(crate) fn write_brief_skipped<W: Sink>(len: usize, out: &mut OutputBuffer<'_, W>) {
+    write_number(out, b" skipped ", len);
+    out.append(b" bytes");
+}
+
+/// Writes a fault.
+pub(crate) fn write_brief_fault<W: Sink>(
+    start: usize,
+    error: &PeelError,
+    out: &mut OutputBuffer<'_, W>,
+) {
+    write_number(out, b" fault at ", start);
+    out.append(b": ");
+    match error {
+        PeelError::Len(error) => write_lengths(error.required_len, error.len, out),
+        PeelError::LinuxSll(error) => write_linux_sll_cause(error, out),
+        PeelError::Macsec(error) => write_macsec_cause(error, out),
+    }
+}
+
+/// Writes how many bytes are needed, and how many there are.
+fn write_lengths<W: Sink>(required: usize, len: usize, out: &mut OutputBuffer<'_, W>) {
+    write_number(out, b"needs ", required);
+    write_number(out, b" bytes, has ", len);
+}
+
+/// Writes what is wrong in a header of cooked capture v1.
+fn write_linux_sll_cause<W: Sink>(
+    error: &err::linux_sll::HeaderError,
+    out: &mut OutputBuffer<'_, W>,
+) {
+    match error {
+        err::linux_sll::HeaderError::UnsupportedPacketTypeField { packet_type } => {
+            write_number(out, b"packet type ", usize::from(*packet_type));
+        }
+        err::linux_sll::HeaderError::UnsupportedArpHardwareId { arp_hardware_type } => {
+            write_number(out, b"hardware type ", usize::from(arp_hardware_type.0));
+        }
+    }
+}
+
+/// Writes what is wrong in a SecTag.
+fn write_macsec_cause<W: Sink>(error: &err::macsec::HeaderError, out: &mut OutputBuffer<'_, W>) {
+    match error {
+        err::macsec::HeaderError::UnexpectedVersion => out.append(b"version 1 of MACsec"),
+        err::macsec::HeaderError::InvalidUnmodifiedShortLen => out.append(b"short length 1"),
+    }
+}
+
+/// Writes the fault of a header of cooked capture v2.
+pub(crate) fn write_brief_linux_sll2_fault<W: Sink>(
+    error: &LinuxSll2Error,
+    out: &mut OutputBuffer<'_, W>,
+) {
+    write_number(out, b" fault at ", 0);
+    out.append(b": ");
+    match error {
+        LinuxSll2Error::Len { required_len, len } => write_lengths(*required_len, *len, out),
+        LinuxSll2Error::PacketType(number) => {
+            write_number(out, b"packet type ", usize::from(*number));
+        }
+    }
+}
+
+/// Writes the number and the time of a packet.
+pub(crate) fn write_brief_front<W: Sink>(
+    number: usize,
+    moment: Option<Moment>,
+    out: &mut OutputBuffer<'_, W>,
+) {
+    write_decimal(out, number);
+    out.append(b" ");
+    match moment {
+        Some(moment) => write_brief_moment(&moment, out),
+        None => out.append(b"-"),
+    }
+}
+
+/// Writes a moment, with as many decimals as it needs.
+fn write_brief_moment<W: Sink>(moment: &Moment, out: &mut OutputBuffer<'_, W>) {
+    write_date(moment, out);
+    out.append(b".");
+    write_fraction(moment.nanoseconds, out);
+    out.append(b"Z");
+}
+
+/// Writes a date and a time of day.
+fn write_date<W: Sink>(moment: &Moment, out: &mut OutputBuffer<'_, W>) {
+    write_decimal(out, moment.year as usize);
+    out.append_array(month_to_second(moment));
+}
+
+/// What follows the year of a date, up to the second.
+fn month_to_second(moment: &Moment) -> [u8; 15] {
+    let m = two_digits(moment.month);
+    let d = two_digits(moment.day);
+    let h = two_digits(moment.hour);
+    let i = two_digits(moment.minute);
+    let s = two_digits(moment.second);
+    [
+        b'-', m[0], m[1], b'-', d[0], d[1], b'T', h[0], h[1], b':', i[0], i[1], b':', s[0], s[1],
+    ]
+}
+
+/// Writes six decimals, or nine if the last three are not 0.
+fn write_fraction<W: Sink>(nanoseconds: u32, out: &mut OutputBuffer<'_, W>) {
+    let digits = nine_digits(nanoseconds);
+    if nanoseconds % 1_000 == 0 {
+        out.append(&digits[..6]);
+    } else {
+        out.append(&digits);
+    }
+}
+
+/// Writes how much of a packet was captured, if that is not all, and ends the line.
+pub(crate) fn write_brief_tail<W: Sink>(packet: &CapturedPacket<'_>, out: &mut OutputBuffer<'_, W>) {
+    if is_cut(packet) {
+        write_number(out, b" (", packet.packet.len());
+        write_number(out, b" of ", packet.original_len as usize);
+        out.append(b" bytes)");
+    }
+    out.append(b"\n");
+}
