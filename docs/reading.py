@@ -84,6 +84,7 @@ ARTEFACTS = {
     },
     "Packets on one line": {
         "ether_format/src/packet.rt": ["write_packet"],
+        "ether_format/src/laws.rt": ["texts_are_one"],
     },
     "Captures": {
         "ether_stream/src/run.rt": ["run"],
@@ -179,7 +180,7 @@ ORDER = {
     """,
     "Packets on one line": """
         ether_text: OutputBuffer Decimals
-        ether_format: Calendar Members Told Spelling Json Brief Texts
+        ether_format: Calendar Members Told Spelling Json Brief Texts Laws
     """,
     "Captures": """
         ether_pcap: Capture

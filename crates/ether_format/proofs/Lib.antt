@@ -4,5 +4,7 @@ pub mod CookedLemmas
 pub mod JsonLemmas
 pub mod FormatLemmas
 pub mod ListLemmas
+pub mod OneMoment
+pub mod OneText
 pub mod SpellingLemmas
 pub mod WalkLemmas

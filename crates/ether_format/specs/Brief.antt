@@ -16,11 +16,10 @@ use Rattle.ether_pcap.specs.Capture.{PacketValue}
 use Rattle.ether_content.specs.Content.{is_cut}
 use Rattle.ether_peel.specs.declared.rest_kind.RestKind.{RestKind}
 use Rattle.ether_peel.specs.declared.rest_kind.RestKind.TheVariants as rests
-use Rattle.ether_text.specs.Decimals.{two_digits}
 use Rattle.ether_format.specs.declared.moment.Moment.{Moment}
 use Rattle.ether_format.specs.Members.{protocol_address}
 use Rattle.ether_format.specs.Told.{Told, Walked, CookedV2, Cause, Length, UnknownPacketType, UnknownHardwareType, Version, ShortLength, ToldEnd, Rest, Skipped, Fault, kind_word}
-use Rattle.ether_format.specs.Spelling.{colon_text, column_value, nine_digits}
+use Rattle.ether_format.specs.Spelling.{colon_text, column_value, date_text, nine_digits}
 
 -- ---- headers, each after a space
 
@@ -128,14 +127,7 @@ brief_end (Fault start closed cause) = fault_text start cause
 
 -- ---- the packet
 
--- the date and the time of day as in ISO 8601
-abbrev pub date_text : Moment → List ℕ
-date_text m =
-    decimal m.year
-    ++ (codes "-" ++ two_digits m.month ++ codes "-" ++ two_digits m.day ++ codes "T" ++ two_digits m.hour ++ codes ":"
-    ++ two_digits m.minute ++ codes ":" ++ two_digits m.second)
-
--- .. with six decimals, or nine if the last three are not 0
+-- six decimals, or nine if the last three are not 0
 abbrev pub fraction_text : ℕ → List ℕ
 fraction_text n = if nat_eq (n % 1000) 0 then take 6 (nine_digits n) else nine_digits n
 

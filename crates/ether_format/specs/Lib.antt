@@ -5,4 +5,5 @@ pub mod Spelling
 pub mod Json
 pub mod Brief
 pub mod Texts
+pub mod Laws
 pub mod Walking

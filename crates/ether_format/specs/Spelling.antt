@@ -24,12 +24,16 @@ nine_digits n =
     (48 + n / 10 ^ 8 % 10) ∷ (48 + n / 10 ^ 7 % 10) ∷ (48 + n / 10 ^ 6 % 10) ∷ (48 + n / 10 ^ 5 % 10) ∷ (48 + n / 10 ^ 4 % 10)
     ∷ (48 + n / 10 ^ 3 % 10) ∷ (48 + n / 10 ^ 2 % 10) ∷ (48 + n / 10 % 10) ∷ (48 + n % 10) ∷ []
 
--- a moment as in ISO 8601 (RFC 3339, 5.6), with nine decimals
-unfoldable pub moment_text : Moment → List ℕ
-moment_text m =
+-- the date and the time of day of a moment as in ISO 8601 (RFC 3339, 5.6)
+unfoldable pub date_text : Moment → List ℕ
+date_text m =
     decimal m.year
     ++ (codes "-" ++ two_digits m.month ++ codes "-" ++ two_digits m.day ++ codes "T" ++ two_digits m.hour ++ codes ":"
-    ++ two_digits m.minute ++ codes ":" ++ two_digits m.second ++ codes "." ++ nine_digits m.nanoseconds ++ codes "Z")
+    ++ two_digits m.minute ++ codes ":" ++ two_digits m.second)
+
+-- .. with nine decimals
+unfoldable pub moment_text : Moment → List ℕ
+moment_text m = date_text m ++ (codes "." ++ (nine_digits m.nanoseconds ++ codes "Z"))
 
 -- ---- in JSON (RFC 8259, 3)
 

@@ -14,7 +14,7 @@ ghost use Rattle.ether_pcap.specs.CaptureViews.{captured_packet_view};
 ghost use Rattle.ether_sll2.specs.LinuxSll2.{linux_sll2_of};
 ghost use Rattle.ether_sll2.specs.Views.{refusal_view};
 ghost use Rattle.ether_text.specs.OutputBuffer.{Takes};
-ghost use Rattle.ether_format.specs.Brief.{address_text, arp_other, arp_reply, arp_request, brief_arp, brief_cause, brief_cooked_v2, brief_cut, brief_ethernet2, brief_front, brief_header, brief_macsec, brief_moment, brief_rest, brief_vlan, cooked_text, date_text, fault_text, fraction_text, lengths_text, type_names, type_text};
+ghost use Rattle.ether_format.specs.Brief.{address_text, arp_other, arp_reply, arp_request, brief_arp, brief_cause, brief_cooked_v2, brief_cut, brief_ethernet2, brief_front, brief_header, brief_macsec, brief_moment, brief_rest, brief_vlan, cooked_text, fault_text, fraction_text, lengths_text, type_names, type_text};
 ghost use Rattle.ether_text.specs.Decimals.{two_digits};
 ghost use Rattle.ether_format.specs.Spelling.{colon_text};
 ghost use Rattle.ether_format.specs.Told.{cause_of_v2};
@@ -23,7 +23,7 @@ ghost use Rattle.ether_format.specs.Walking.{cause_shown, header_of, linux_sll_c
 use crate::Moment;
 use crate::endings::kind_word;
 use crate::members::used;
-use crate::spelling::{first_of, nine_digits, two_digits, write_colons, write_dotted};
+use crate::spelling::{first_of, nine_digits, write_colons, write_date, write_dotted};
 use ether_content::{CookedHeader, is_cut};
 use ether_pcap::CapturedPacket;
 use ether_peel::{PeelError, PeelUnit, RestKind};
@@ -340,29 +340,6 @@ fn write_brief_moment<W: Sink>(moment: &Moment, out: &mut OutputBuffer<'_, W>)
     out.append(b".");
     write_fraction(moment.nanoseconds, out);
     out.append(b"Z");
-}
-
-/// Writes a date and a time of day.
-fn write_date<W: Sink>(moment: &Moment, out: &mut OutputBuffer<'_, W>)
-    ensures { Takes W.contents W.can_fail out.old (date_text moment.now) out.new }
-{
-    write_decimal(out, moment.year as usize);
-    out.append_array(month_to_second(moment));
-}
-
-/// What follows the year of a date, up to the second.
-fn month_to_second(moment: &Moment) -> [u8; 15]
-    ensures { result ≡ codes "-" ++ two_digits moment.now.month ++ codes "-" ++ two_digits moment.now.day ++ codes "T"
-        ++ two_digits moment.now.hour ++ codes ":" ++ two_digits moment.now.minute ++ codes ":" ++ two_digits moment.now.second }
-{
-    let m = two_digits(moment.month);
-    let d = two_digits(moment.day);
-    let h = two_digits(moment.hour);
-    let i = two_digits(moment.minute);
-    let s = two_digits(moment.second);
-    [
-        b'-', m[0], m[1], b'-', d[0], d[1], b'T', h[0], h[1], b':', i[0], i[1], b':', s[0], s[1],
-    ]
 }
 
 /// Writes six decimals, or nine if the last three are not 0.

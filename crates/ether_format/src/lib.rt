@@ -6,6 +6,7 @@ mod calendar;
 mod endings;
 mod format;
 mod json;
+pub mod laws;
 mod members;
 mod moment;
 mod packet;

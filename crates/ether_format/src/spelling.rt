@@ -5,7 +5,7 @@ ghost use Rattle.std.specs.List.{flat_map};
 ghost use Rattle.ether_base.specs.Texts.NumberText.{hex_byte};
 ghost use Rattle.ether_text.specs.OutputBuffer.{Takes};
 ghost use Rattle.ether_text.specs.Decimals.{two_digits};
-ghost use Rattle.ether_format.specs.Spelling.{colon_text, dotted_text, flag_text, json_value, moment_text, nine_digits, quoted};
+ghost use Rattle.ether_format.specs.Spelling.{colon_text, date_text, dotted_text, flag_text, json_value, moment_text, nine_digits, quoted};
 ghost use Rattle.ether_format.specs.Walking.{value_view};
 
 use crate::Moment;
@@ -171,26 +171,32 @@ fn digit(number: u8) -> u8
 pub(crate) fn write_moment<W: Sink>(moment: &Moment, out: &mut OutputBuffer<'_, W>)
     ensures { Takes W.contents W.can_fail out.old (moment_text moment.now) out.new }
 {
-    write_decimal(out, moment.year as usize);
-    out.append_array(after_year(moment));
+    write_date(moment, out);
+    out.append(b".");
+    out.append_array(nine_digits(moment.nanoseconds));
+    out.append(b"Z");
 }
 
-/// What follows the year of a moment.
-#[inline(always)]
-fn after_year(moment: &Moment) -> [u8; 26]
+/// Writes a date and a time of day.
+pub(crate) fn write_date<W: Sink>(moment: &Moment, out: &mut OutputBuffer<'_, W>)
+    ensures { Takes W.contents W.can_fail out.old (date_text moment.now) out.new }
+{
+    write_decimal(out, moment.year as usize);
+    out.append_array(month_to_second(moment));
+}
+
+/// What follows the year of a date, up to the second.
+fn month_to_second(moment: &Moment) -> [u8; 15]
     ensures { result ≡ codes "-" ++ two_digits moment.now.month ++ codes "-" ++ two_digits moment.now.day ++ codes "T"
-        ++ two_digits moment.now.hour ++ codes ":" ++ two_digits moment.now.minute ++ codes ":" ++ two_digits moment.now.second
-        ++ codes "." ++ nine_digits moment.now.nanoseconds ++ codes "Z" }
+        ++ two_digits moment.now.hour ++ codes ":" ++ two_digits moment.now.minute ++ codes ":" ++ two_digits moment.now.second }
 {
     let m = two_digits(moment.month);
     let d = two_digits(moment.day);
     let h = two_digits(moment.hour);
     let i = two_digits(moment.minute);
     let s = two_digits(moment.second);
-    let n = nine_digits(moment.nanoseconds);
     [
         b'-', m[0], m[1], b'-', d[0], d[1], b'T', h[0], h[1], b':', i[0], i[1], b':', s[0], s[1],
-        b'.', n[0], n[1], n[2], n[3], n[4], n[5], n[6], n[7], n[8], b'Z',
     ]
 }
 

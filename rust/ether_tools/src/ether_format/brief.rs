@@ -3,7 +3,7 @@
 use crate::ether_format::Moment;
 use crate::ether_format::endings::kind_word;
 use crate::ether_format::members::used;
-use crate::ether_format::spelling::{first_of, nine_digits, two_digits, write_colons, write_dotted};
+use crate::ether_format::spelling::{first_of, nine_digits, write_colons, write_date, write_dotted};
 use etherpeel::ether_content::{CookedHeader, is_cut};
 use etherpeel::ether_pcap::CapturedPacket;
 use etherpeel::ether_peel::{PeelError, PeelUnit, RestKind};
@@ -270,24 +270,6 @@ fn write_brief_moment<W: Sink>(moment: &Moment, out: &mut OutputBuffer<'_, W>) {
     out.append(b".");
     write_fraction(moment.nanoseconds, out);
     out.append(b"Z");
-}
-
-/// Writes a date and a time of day.
-fn write_date<W: Sink>(moment: &Moment, out: &mut OutputBuffer<'_, W>) {
-    write_decimal(out, moment.year as usize);
-    out.append_array(month_to_second(moment));
-}
-
-/// What follows the year of a date, up to the second.
-fn month_to_second(moment: &Moment) -> [u8; 15] {
-    let m = two_digits(moment.month);
-    let d = two_digits(moment.day);
-    let h = two_digits(moment.hour);
-    let i = two_digits(moment.minute);
-    let s = two_digits(moment.second);
-    [
-        b'-', m[0], m[1], b'-', d[0], d[1], b'T', h[0], h[1], b':', i[0], i[1], b':', s[0], s[1],
-    ]
 }
 
 /// Writes six decimals, or nine if the last three are not 0.

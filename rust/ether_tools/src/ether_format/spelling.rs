@@ -132,22 +132,27 @@ fn digit(number: u8) -> u8 {
 
 /// Writes a moment as in ISO 8601.
 pub(crate) fn write_moment<W: Sink>(moment: &Moment, out: &mut OutputBuffer<'_, W>) {
-    write_decimal(out, moment.year as usize);
-    out.append_array(after_year(moment));
+    write_date(moment, out);
+    out.append(b".");
+    out.append_array(nine_digits(moment.nanoseconds));
+    out.append(b"Z");
 }
 
-/// What follows the year of a moment.
-#[inline(always)]
-fn after_year(moment: &Moment) -> [u8; 26] {
+/// Writes a date and a time of day.
+pub(crate) fn write_date<W: Sink>(moment: &Moment, out: &mut OutputBuffer<'_, W>) {
+    write_decimal(out, moment.year as usize);
+    out.append_array(month_to_second(moment));
+}
+
+/// What follows the year of a date, up to the second.
+fn month_to_second(moment: &Moment) -> [u8; 15] {
     let m = two_digits(moment.month);
     let d = two_digits(moment.day);
     let h = two_digits(moment.hour);
     let i = two_digits(moment.minute);
     let s = two_digits(moment.second);
-    let n = nine_digits(moment.nanoseconds);
     [
         b'-', m[0], m[1], b'-', d[0], d[1], b'T', h[0], h[1], b':', i[0], i[1], b':', s[0], s[1],
-        b'.', n[0], n[1], n[2], n[3], n[4], n[5], n[6], n[7], n[8], b'Z',
     ]
 }
 

@@ -1,0 +1,7 @@
+//! The laws on the text of packets. Each is the contract of a function that does nothing.
+ghost use Rattle.ether_format.specs.Laws.{TextsAreOne};
+
+/// A time is one moment at most, and a packet has one text.
+pub fn texts_are_one()
+    ensures { TextsAreOne }
+{}
