@@ -158,6 +158,13 @@ BRIEF_ENDS = [
     ("0806 0001 0800 06 04 0003 020000000001 0a000001 000000000000 0a000002", "ARP op 3 from 10.0.0.1 to 10.0.0.2"),
 ]
 
+# The example of `write_packet`: 14 of 60 bytes, captured a microsecond after a full second.
+DOCUMENTED = joined("a1b23c4d 0002 0004 00000000 00000000 00040000 00000001", "6553f100 000003e8 0000000e 0000003c", "ffffffffffff 020000000001 0800")
+DOCUMENTED_LINE = (
+    '{"number":1,"time":"2023-11-14T22:13:20.000001000Z","link":1,"captured":14,"original":60,"headers":[{"header":"eth",'
+    '"start":0,"end":14,"payload_end":14,"closed":false,"dst":"ff:ff:ff:ff:ff:ff","src":"02:00:00:00:00:01","type":2048,'
+    '"fcs":null}],"rest":{"start":14,"end":14,"kind":"ether_type","type":2048}}\n')
+
 # Seconds since 1970 at the ends of months and of leap days, as `date -u -d @SECONDS` prints them.
 MOMENTS = [
     (0, "1970-01-01T00:00:00"), (86399, "1970-01-01T23:59:59"), (68169599, "1972-02-28T23:59:59"), (68169600, "1972-02-29T00:00:00"),
@@ -185,6 +192,7 @@ def examples(program):
     for words, end in BRIEF_ENDS:
         text, _ = run(program, BRIEF, classic(joined("ffffffffffff 020000000001", words)))
         tried.append((f"{words} for the eye", text, f"1 2023-11-14T22:13:20.000000Z 02:00:00:00:00:01 > {BROADCAST} {end}\n"))
+    tried.append(("the example of the documentation", run(program, JSON, DOCUMENTED), (DOCUMENTED_LINE, 0)))
     whole = run(program, JSON, CLASSIC)[0]
     first, second = whole.splitlines(keepends=True)
     tried += [
