@@ -96,6 +96,19 @@ def walk_input(packet, data):
     return mode, data[: max(0, max(packet.original, len(data)) - packet.fcs_len)]
 
 
+def beyond_a_cooked_header(tool, frame):
+    """The line of a cooked header whose hardware type the tool refuses, and the tool's lines of the payload, whose places count from the packet."""
+    packet_type, hardware, length = (int.from_bytes(frame[at:at + 2], "big") for at in (0, 2, 4))
+    protocol = frame[14:16].hex().upper()
+    lines = [f"linux_sll 0 packet {packet_type} hw {hardware} alen {length} addr {frame[6:14].hex()} 0x{protocol}"]
+    for line in run([tool, "type", protocol], frame[16:].hex().encode() + b"\n")[1].splitlines():
+        words = line.split()
+        for at in (1, 2) if words[0] == "rest" else (1,):
+            words[at] = str(int(words[at]) + 16)
+        lines.append(" ".join(words))
+    return lines
+
+
 def walks(program, tool, inputs):
     """The lines of the walk of each input, by the tool or by a plain capture; None for a frame that the tool can't read."""
     lines = {}
@@ -105,6 +118,8 @@ def walks(program, tool, inputs):
         if tool:
             for n, frame in zip(chosen, frames):
                 lines[n] = run([tool, mode], frame.hex().encode() + b"\n")[1].splitlines()
+                if mode == "sll" and " content sll_hardware_type " in lines[n][0]:
+                    lines[n] = beyond_a_cooked_header(tool, frame)
         elif chosen:
             plain = make.classic("plain", "<", make.whole(frames), link, fcs_len=fcs_len)
             packets, _ = packets_of(run([program], plain.data())[1])
