@@ -1,5 +1,5 @@
 -- The packet of a walk, and what its units as structs of C say of it.
-use Rattle.std.proofs.Common.{◌≡◌, ℕ, suc, get_or, ◌+◌, ◌-◌, ◌<◌, ◌≤◌, List, [], ◌∷◌, ◌++◌, length, take, drop, set, append_assoc, refl, sym, ap, subst, ◌∙◌, arith, Bool, true, false, cond, inl, inr}
+use Rattle.std.proofs.Common.{◌≡◌, ℕ, suc, get_or, ◌+◌, ◌-◌, ◌<◌, ◌≤◌, List, [], ◌∷◌, ◌++◌, length, take, drop, set, append_assoc, refl, sym, ap, subst, ◌∙◌, arith, Bool, true, false, cond, inl, inr, rules}
 use Rattle.std.specs.Prelude.{map, max, slice_get, Option, Some, None, unwrap_or, option_map, nat_lt}
 use Rattle.std.specs.List.{filter_map, cons_option}
 use Rattle.std.proofs.Math.Seq.{drop-cons, take-append_seam}
@@ -65,10 +65,7 @@ unit_reach-header w (headers.Ethernet2 e) = omega arith
 unit_reach-header w (headers.Ethernet2Fcs e) = omega arith
 unit_reach-header w (headers.LinuxSll s) = omega arith
 unit_reach-header w (headers.Vlan v) = omega arith
-unit_reach-header w (headers.Macsec t) =
-    let et = ether_type_len (encrypted_of t.payload_type) (changed_of t.payload_type) in
-    let named = named_reach (w.start + header_len (headers.Macsec t)) (w.finish - 0) et t.short_len in
-    named ∙ omega arith
+unit_reach-header w (headers.Macsec t) = search (rules, named_reach)
 unit_reach-header w (headers.Arp a) = omega arith
 
 pub reach_of_units : (w : Window) (hs : List Header) → units_reach (c_units w hs) ≡ reach w.start hs
@@ -99,16 +96,10 @@ pub are_few : (list : List ℕ) (x : Expectation) (w : Window) (hs : List Header
     → x.limit ≡ Some free → Stack list x w hs e → AreFew x hs free
 are_few list x w [] e free limit stack = record { headers = omega arith; ids = omega arith }
 are_few list x w (h ∷ hs) e free limit stack =
-    let known = stack.0.announced in
-    let later =
+    let more =
     are_few list (after x h) (payload w h) hs e (cond (is_extension (kind_of h)) (free - 1) free)
     (lowered_limit (is_extension (kind_of h)) x.limit free limit) stack.1 in
-    let fewer = fewer_left x h free limit known in
-    let few = later.headers in
-    record {
-      headers = omega (arith, fewer, few);
-      ids = fewer_ids x h hs free (λ extends. may_read x (kind_of h) free limit extends known) later.ids;
-    }
+    search (rules, lowered_limit, fewer_left, fewer_ids, may_read)
 
 -- ---- the packet
 
@@ -119,8 +110,7 @@ units_in list w (h ∷ hs) =
 
 units_there : (list : List ℕ) (w : Window) (hs : List Header) → AreUnitsAt list w hs (units_in list w hs)
 units_there list w [] = tt
-units_there list w (h ∷ hs) =
-    (record { kind = refl; offset = refl; bytes = refl }, units_there list (payload w h) hs)
+units_there list w (h ∷ hs) = (record { kind = refl; offset = refl; bytes = refl }, units_there list (payload w h) hs)
 
 units_mean : (list : List ℕ) (x : Expectation) (w : Window) (hs : List Header) (e : Ending) → IsBytes list
     → Stack list x w hs e → map header_of (units_in list w hs) ≡ hs
@@ -188,9 +178,7 @@ id_set (a ∷ b ∷ c ∷ l) vid lt = absurd (omega (arith, lt))
 
 -- the next one, and those after it
 next_unit : (us : List EtherUnit) (i : ℕ) (d : EtherUnit) → i < length us → drop i us ≡ get_or us i d ∷ drop (i + 1) us
-next_unit us i d lt =
-    let e : suc i ≡ i + 1 = omega arith in
-    drop-cons us i d lt ∙ ap (λ (n : ℕ). get_or us i d ∷ drop n us) e
+next_unit us i d lt = search (rules, drop-cons)
 
 next_ids : (us : List EtherUnit) (i : ℕ) (d : EtherUnit) (o : Option ℕ) → i < length us → unit_id (get_or us i d) ≡ o
     → unit_ids (drop i us) ≡ cons_option o (unit_ids (drop (i + 1) us))
@@ -200,10 +188,7 @@ next_ids us i d o lt is =
 next_reach : (us : List EtherUnit) (i : ℕ) (d : EtherUnit) (most end total : ℕ) → i < length us
     → end ≡ unit_reach (get_or us i d)
     → max most (units_reach (drop i us)) ≡ total → max (max end most) (units_reach (drop (i + 1) us)) ≡ total
-next_reach us i d most end total lt is all =
-    max_turned end most (units_reach (drop (i + 1) us))
-    ∙ ap (λ (r : ℕ). max most (max r (units_reach (drop (i + 1) us)))) is
-    ∙ ap (λ (l : List EtherUnit). max most (units_reach l)) (sym (next_unit us i d lt)) ∙ all
+next_reach us i d most end total lt is all = search (rules, max_turned, next_unit)
 
 -- it is a VLAN tag
 pub facts_tag : (us : List EtherUnit) (i : ℕ) (vids : List ℕ) (vlans most end : ℕ) (d : EtherUnit)
@@ -216,8 +201,7 @@ facts_tag us i vids vlans most end d a lt few tag is =
     let vid = (get_or us i d).vlan.vid in
     let more : unit_ids (drop i us) ≡ vid ∷ unit_ids rest =
     next_ids us i d (Some vid) lt (ap (λ (b : Bool). cond b (Some vid) None) (eq-eqb (get_or us i d).kind 3 tag)) in
-    let all : a.front ++ vid ∷ unit_ids rest ≡ unit_ids us =
-    ap (λ (l : List ℕ). a.front ++ l) (sym more) ∙ a.later in
+    let all : a.front ++ vid ∷ unit_ids rest ≡ unit_ids us = ap (λ (l : List ℕ). a.front ++ l) (sym more) ∙ a.later in
     let len : length (a.front ++ vid ∷ unit_ids rest) ≡ length (unit_ids us) = ap length all in
     let two : length (a.front ++ vid ∷ unit_ids rest) ≡ length a.front + length (vid ∷ unit_ids rest) =
     length-append a.front (vid ∷ unit_ids rest) in
