@@ -1,5 +1,5 @@
 -- Packets are selected twice.
-use Rattle.std.proofs.Common.{◌≡◌, ◌≢◌, ℕ, List, [], Option, Some, None, refl, sym, subst, ◌∙◌}
+use Rattle.std.proofs.Common.{◌≡◌, ◌≢◌, ℕ, List, [], Option, Some, None, refl, sym, subst, ◌∙◌, rules}
 use Rattle.std.specs.Prelude.{◌↔◌}
 use Rattle.ether_base.specs.Bytes.{IsBytes}
 use Rattle.etherparse.specs.Header.{Header}
@@ -24,20 +24,7 @@ use Rattle.ether_stream.proofs.CopiesLemmas.{is_copy}
 holds_both : (x y : Expression) (next : Next) (frame : List ℕ) (captured original : ℕ)
     → HoldsOf x next frame captured original → HoldsOf y next frame captured original
     → HoldsOf (Join And x y) next frame captured original
-holds_both x y next frame captured original a b =
-    let start : Expectation = record { next = next; limit = None } in
-    let one = one_stack frame start (whole start frame) b.headers a.headers b.ending a.ending b.walk a.walk in
-    record {
-      headers = a.headers;
-      ending = a.ending;
-      walk = a.walk;
-      holds = (
-        a.holds,
-        subst (λ (hs : List Header). Holds y (record { start = next; headers = hs; ending = a.ending; captured = captured; original = original })) one.0
-            (subst (λ (e : Ending). Holds y (record { start = next; headers = b.headers; ending = e; captured = captured; original = original })) one.1
-            b.holds),
-      );
-    }
+holds_both x y next frame captured original a b = search (rules, one_stack)
 
 selects_both : (x y : Expression) (p : PacketValue) → (Selects x p × Selects y p) ↔ Selects (Join And x y) p
 selects_both x y p = (
@@ -97,5 +84,4 @@ pub selected_again : (x : Expression) (bytes between copy rest left : List ℕ) 
     → IsBytes bytes → IsBytes between → between ≢ []
     → SelectsTo x bytes between rest fault → SelectsTo x between copy left other → copy ≡ between
 selected_again x bytes between copy rest left fault other ok ok_between some once twice =
-    composed_twice (EditsIf None) unedited one_edit 65536 (Selects x) bytes between copy once.kept once.edited twice.kept
-    twice.edited rest left fault other ok ok_between some once.copies twice.copies
+    search (rules, composed_twice, unedited, one_edit)

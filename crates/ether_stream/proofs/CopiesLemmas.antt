@@ -1,5 +1,5 @@
 -- Copies of a capture, as further units are read.
-use Rattle.std.proofs.Common.{◌≡◌, ◌≢◌, ◌⊎◌, ℕ, ◌≤◌, List, [], ◌∷◌, ◌++◌, length, take, drop, Option, Some, None, refl, sym, ap, subst, ◌∙◌, arith, append_assoc, append-nil, inl, inr, zero, suc}
+use Rattle.std.proofs.Common.{◌≡◌, ◌≢◌, ◌⊎◌, ℕ, ◌≤◌, List, [], ◌∷◌, ◌++◌, length, take, drop, Option, Some, None, refl, sym, ap, subst, ◌∙◌, arith, append_assoc, append-nil, inl, inr, zero, suc, rules}
 use Rattle.std.proofs.lemmas.List.{take-append-le, take_all, length-take-le}
 use Rattle.ether_stream.specs.declared.selection.Selection.{Selection}
 use Rattle.ether_pcap.specs.Capture.{PacketValue, Expectation, HasBegun, CaptureRefusal, Begins, Refuses, IsEnd, HasPackets}
@@ -21,10 +21,7 @@ use Rattle.ether_stream.proofs.PacketsLemmas.{unit_front, after_front}
 -- a unit is the front of what is left with it
 own_front : (buffered later : List ℕ) (len : ℕ) → len ≤ length buffered
     → take len (take len buffered ++ later) ≡ take len buffered
-own_front buffered later len within =
-    let front = take len buffered in
-    let long : length front ≡ len = length-take-le len buffered within in
-    take-append-le len front later (omega (arith, long)) ∙ take_all len front (omega (arith, long))
+own_front buffered later len within = search (rules, length-take-le, take-append-le, take_all)
 
 -- no packet is edited, if no edit is asked for
 none_edited : (asked : Option EditValue) → asked ≡ None → EditsNone (EditsIf asked)
@@ -53,9 +50,7 @@ module _ (mode : ModeValue) (select : Option Selection) (asked : Option EditValu
   copied_read : (bytes copy : List ℕ) (kept edited : List PacketValue) (rest : List ℕ) (fault : Option CopyFault)
       → Copied capture_start bytes copy kept edited rest fault → copy ≢ []
       → HasPackets capture_start copy edited [] None
-  copied_read bytes copy kept edited rest fault copies some =
-      subst (λ (x : Expectation). HasPackets x copy edited [] None) (start_in mode)
-      (copy_read mode (IsChosen select) (EditsIf asked) capture_start bytes copy kept edited rest fault copies (inr some))
+  copied_read bytes copy kept edited rest fault copies some = search (rules, start_in, copy_read)
 
   -- what is known of a copy
   pub is_copy : (bytes copy : List ℕ) (kept edited : List PacketValue) (rest : List ℕ) (fault : Option CopyFault)
@@ -174,11 +169,7 @@ module _ (mode : ModeValue) (select : Option Selection) (asked : Option EditValu
   ended_copy : (bytes copy : List ℕ) (kept edited : List PacketValue) (rest : List ℕ) (fault : Option CopyFault)
       → Copied capture_start bytes (copy ++ []) (kept ++ []) (edited ++ []) rest fault
       → Copied capture_start bytes copy kept edited rest fault
-  ended_copy bytes copy kept edited rest fault copies =
-      subst (λ (l : List ℕ). Copied capture_start bytes l kept edited rest fault) (append-nil copy)
-      (subst (λ (l : List PacketValue). Copied capture_start bytes (copy ++ []) l edited rest fault) (append-nil kept)
-      (subst (λ (l : List PacketValue). Copied capture_start bytes (copy ++ []) (kept ++ []) l rest fault)
-      (append-nil edited) copies))
+  ended_copy bytes copy kept edited rest fault copies = search (rules, append-nil)
 
   -- .. at the end of a capture that has begun
   pub copied_to_end : (front copy : List ℕ) (kept edited : List PacketValue) (x : Expectation) → HasBegun x

@@ -1,5 +1,5 @@
 -- What is made of the units of a capture, one after another.
-use Rattle.std.proofs.Common.{◌≡◌, ℕ, ◌+◌, ◌≤◌, ◌⊎◌, List, [], ◌∷◌, ◌++◌, length, take, drop, Bool, true, false, ◌&&◌, Option, Some, None, unwrap_or, refl, sym, ap, subst, ◌∙◌, arith, append_assoc, append-nil, inl, inr}
+use Rattle.std.proofs.Common.{◌≡◌, ℕ, ◌+◌, ◌≤◌, ◌⊎◌, List, [], ◌∷◌, ◌++◌, length, take, drop, Bool, true, false, ◌&&◌, Option, Some, None, unwrap_or, refl, sym, ap, subst, ◌∙◌, arith, append_assoc, append-nil, inl, inr, rules}
 use Rattle.std.proofs.Math.Bool.{and_assoc}
 use Rattle.std.proofs.lemmas.List.{length-append, take-append-drop, length-take-le}
 use Rattle.std.proofs.lemmas.List.Sums.{sum_by-append}
@@ -83,9 +83,7 @@ some_none a e = absurd cc
 -- the front with a unit more
 pub front_after : (input front buffered : List ℕ) (len : ℕ) → input ≡ front ++ buffered
     → input ≡ (front ++ take len buffered) ++ drop len buffered
-front_after input front buffered len is =
-    is ∙ ap (λ (l : List ℕ). front ++ l) (sym (take-append-drop len buffered))
-    ∙ sym (append_assoc front (take len buffered) (drop len buffered))
+front_after input front buffered len is = search (rules, take-append-drop, append_assoc)
 
 pub front_len : (front buffered : List ℕ) (len : ℕ) → len ≤ length buffered
     → length (front ++ take len buffered) ≡ length front + len
@@ -124,8 +122,7 @@ with_packet packets (Some p) = packets ++ p ∷ []
 abbrev pub KeptMore : (select : Option Selection) → (old : List PacketValue) → Option PacketValue
     → (new : List PacketValue) → Type 0
 KeptMore select old None new = new ≡ old
-KeptMore select old (Some p) new =
-    (IsChosen select p × (new ≡ old ++ p ∷ [])) ⊎ (¬ (IsChosen select p) × (new ≡ old))
+KeptMore select old (Some p) new = (IsChosen select p × (new ≡ old ++ p ∷ [])) ⊎ (¬ (IsChosen select p) × (new ≡ old))
 
 -- what is made with a unit more
 pub record MadeMore (select : Option Selection) (form : FormValue) (packets old : List PacketValue)
@@ -181,8 +178,7 @@ copied_more mode select edit packets kept front copy all x y buffered len packet
     }
 copied_more mode select edit packets kept front copy all x y buffered len packet own more text within begins unit_is
     selected made is (writes_nothing p not_chosen) =
-    let same : copy ≡ copy ++ more =
-    sym (append-nil copy) ∙ ap (λ (l : List ℕ). copy ++ l) (some_text [] more is) in
+    let same : copy ≡ copy ++ more = sym (append-nil copy) ∙ ap (λ (l : List ℕ). copy ++ l) (some_text [] more is) in
     record {
       kept = kept;
       more = inr (not_chosen, refl);
@@ -279,7 +275,4 @@ own_unit buffered x y len packet within begins =
 pub packet_of_unit : (buffered : List ℕ) (x y : Expectation) (len : ℕ) (packet : Option PacketValue)
     → len ≤ length buffered → Begins buffered x len packet y → IsUnitOf y (take len buffered) packet
 packet_of_unit buffered x y len None within begins = (x, own_unit buffered x y len None within begins)
-packet_of_unit buffered x y len (Some p) within begins =
-    let front = take len buffered in
-    subst (λ (z : Expectation). Begins front z (length front) (Some p) y) (sym (same_after buffered x y len p begins))
-    (own_unit buffered x y len (Some p) within begins)
+packet_of_unit buffered x y len (Some p) within begins = search (rules, same_after, own_unit)

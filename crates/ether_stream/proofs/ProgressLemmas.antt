@@ -1,5 +1,5 @@
 -- How far a run has come, one unit of the capture after another.
-use Rattle.std.proofs.Common.{◌≡◌, ◌≢◌, ℕ, zero, suc, ◌+◌, ◌-◌, ◌<◌, ◌≤◌, List, [], ◌∷◌, ◌++◌, length, take, drop, slice_range, Bool, true, ◌&&◌, Option, Some, None, unwrap_or, Result, Ok, Err, IsErrAnd, IfErr, refl, sym, ap, subst, ◌∙◌, arith, append_assoc, inl, inr}
+use Rattle.std.proofs.Common.{◌≡◌, ◌≢◌, ℕ, zero, suc, ◌+◌, ◌-◌, ◌<◌, ◌≤◌, List, [], ◌∷◌, ◌++◌, length, take, drop, slice_range, Bool, true, ◌&&◌, Option, Some, None, unwrap_or, Result, Ok, Err, IsErrAnd, IfErr, refl, sym, ap, subst, ◌∙◌, arith, append_assoc, inl, inr, rules}
 use Rattle.std.proofs.lemmas.List.{length-append, length-drop, take_all, length-take-le}
 use Rattle.std.specs.List.{sum_by}
 use Rattle.std.specs.Io.KnownBytes.{Appends}
@@ -107,17 +107,11 @@ left_more : (select : Option Selection) (count : Option ℕ) (kept kept' : List 
     (packet : Option PacketValue) (old new : Option ℕ)
     → IsLeftOf count (length kept) old → old ≢ Some 0 → KeptMore select kept packet kept'
     → LeftMore select packet old new → IsLeftOf count (length kept') new
-left_more select count kept kept' None old new is some more less =
-    subst (λ (l : List PacketValue). IsLeftOf count (length l) new) (sym more)
-    (subst (λ (o : Option ℕ). IsLeftOf count (length kept) o) (sym less) is)
+left_more select count kept kept' None old new is some more less = search rules
 left_more select None kept kept' (Some p) None new is some more less = less
 left_more select (Some n) kept kept' (Some p) None new (l, left, sum) some more less = absurd cc
-left_more select count kept kept' (Some p) (Some m) new is some (inl more) (inl less) =
-    subst (λ (l : List PacketValue). IsLeftOf count (length l) new) (sym more.1)
-    (chosen_left count kept p m new (λ e. some (ap (λ (k : ℕ). Some k) e)) is less.1)
-left_more select count kept kept' (Some p) (Some m) new is some (inr more) (inr less) =
-    subst (λ (l : List PacketValue). IsLeftOf count (length l) new) (sym more.1)
-    (subst (λ (o : Option ℕ). IsLeftOf count (length kept) o) (sym less.1) is)
+left_more select count kept kept' (Some p) (Some m) new is some (inl more) (inl less) = search (rules, chosen_left)
+left_more select count kept kept' (Some p) (Some m) new is some (inr more) (inr less) = search rules
 left_more select count kept kept' (Some p) (Some m) new is some (inl more) (inr less) = absurd (less.0 more.0)
 left_more select count kept kept' (Some p) (Some m) new is some (inr more) (inl less) = absurd (more.0 less.0)
 
@@ -127,10 +121,7 @@ last_left : (count : Option ℕ) (k m : ℕ) (new : Option ℕ) → m ≢ 0 → 
 last_left None k zero new some is e done = absurd cc
 last_left None k (suc m) new some is e done = absurd cc
 last_left (Some n) k zero new some is e done = absurd (some refl)
-last_left (Some n) k (suc m) new some (l, left, sum) e done =
-    let same = some_number (suc m) l left in
-    let last = some_number (suc m - 1) 0 (sym e ∙ done) in
-    ap (λ (j : ℕ). Some j) (omega (arith, same, last, sum))
+last_left (Some n) k (suc m) new some (l, left, sum) e done = search (rules, some_number)
 
 -- the front ends with it
 ends_more : (select : Option Selection) (count : Option ℕ) (packets kept : List PacketValue) (front : List ℕ)
@@ -193,14 +184,7 @@ module _ {W X : Type 0} (task : TaskValue) (contents : W → Option (List ℕ)) 
   -- how many packets were read
   pub Reached-counted : (held : Option (List ℕ)) (input buffered : List ℕ) (at : Progress X) (out : OutputBuffer W)
       → (so_far : Reached task contents held input buffered at out) → AreCounted task so_far.packets (counts_at at)
-  Reached-counted held input buffered at out so_far = record {
-    kept = so_far.kept;
-    selected = so_far.selected;
-    is_number = so_far.is_count;
-    is_skipped = so_far.is_skipped;
-    undecided = so_far.undecided;
-    is_left = so_far.is_left;
-  }
+  Reached-counted held input buffered at out so_far = search rules
 
   -- nothing is read
   pub Reached-start : (start : Progress X) (out : OutputBuffer W) → IsStart task start
@@ -233,51 +217,13 @@ module _ {W X : Type 0} (task : TaskValue) (contents : W → Option (List ℕ)) 
       (old new : OutputBuffer W)
       → WritesOut contents old new → Reached task contents held input buffered at old
       → Reached task contents held input buffered at new
-  Reached-written_out held input buffered at old new drains so_far = record {
-    packets = so_far.packets;
-    kept = so_far.kept;
-    front = so_far.front;
-    text = so_far.text;
-    all_accepted = so_far.all_accepted;
-    place = so_far.place;
-    parts = so_far.parts;
-    selected = so_far.selected;
-    made = so_far.made;
-    is_verdict = so_far.is_verdict;
-    is_count = so_far.is_count;
-    is_skipped = so_far.is_skipped;
-    undecided = so_far.undecided;
-    is_offset = so_far.is_offset;
-    is_left = so_far.is_left;
-    at_count = so_far.at_count;
-    written =
-        Appends-written_out held (contents old.writer.now) (contents new.writer.now) old.waiting.items new.waiting.items
-        so_far.text so_far.written drains.written drains.none_waits;
-  }
+  Reached-written_out held input buffered at old new drains so_far = search rules
 
   -- more bytes are read
   pub Reached-more : (held : Option (List ℕ)) (input buffered chunk : List ℕ) (at : Progress X) (out : OutputBuffer W)
       → Reached task contents held input buffered at out
       → Reached task contents held (input ++ chunk) (buffered ++ chunk) at out
-  Reached-more held input buffered chunk at out so_far = record {
-    packets = so_far.packets;
-    kept = so_far.kept;
-    front = so_far.front;
-    text = so_far.text;
-    all_accepted = so_far.all_accepted;
-    place = ap (λ (l : List ℕ). l ++ chunk) so_far.place ∙ append_assoc so_far.front buffered chunk;
-    parts = so_far.parts;
-    selected = so_far.selected;
-    made = so_far.made;
-    is_verdict = so_far.is_verdict;
-    is_count = so_far.is_count;
-    is_skipped = so_far.is_skipped;
-    undecided = so_far.undecided;
-    is_offset = so_far.is_offset;
-    is_left = so_far.is_left;
-    at_count = so_far.at_count;
-    written = so_far.written;
-  }
+  Reached-more held input buffered chunk at out so_far = search (rules, append_assoc)
 
   -- a unit is taken
   pub Reached-unit : (held : Option (List ℕ)) (input buffered : List ℕ) (old new : Progress X) (y : Expectation)

@@ -1,5 +1,5 @@
 -- What a run has read and written, one read after another.
-use Rattle.std.proofs.Common.{◌⊎◌, ◌+◌, ◌-◌, ◌^◌, ◌≡◌, ◌≢◌, ℕ, ◌<◌, ◌≤◌, List, [], ◌∷◌, ◌++◌, length, drop, Bool, Option, Some, None, unwrap_or, Result, Ok, Err, IfOk, IfErr, IsErrAnd, OnOk, refl, sym, ap, subst, ◌∙◌, arith, append_assoc, append-nil, inl, inr, IfSome}
+use Rattle.std.proofs.Common.{◌⊎◌, ◌+◌, ◌-◌, ◌^◌, ◌≡◌, ◌≢◌, ℕ, ◌<◌, ◌≤◌, List, [], ◌∷◌, ◌++◌, length, drop, Bool, Option, Some, None, unwrap_or, Result, Ok, Err, IfOk, IfErr, IsErrAnd, OnOk, refl, sym, ap, subst, ◌∙◌, arith, append_assoc, append-nil, inl, inr, IfSome, rules}
 use Rattle.std.specs.List.{sum_by}
 use Rattle.std.specs.Io.KnownBytes.{Appends, Consumes, IsAtEnd, Keeps}
 use Rattle.ether_stream.specs.declared.selection.Selection.{Selection}
@@ -54,10 +54,7 @@ same_left left more none = ap (λ (l : List ℕ). left ++ l) (no_bytes more none
 pub has_room : (left : List ℕ) (x : Expectation) (r : CaptureRefusal) (n : ℕ) (held : List ℕ) (space : ℕ)
     → Refuses left x r → required_len r ≡ Some n
     → held ≡ left → n ≤ space → length held < space
-has_room left x r n held space refused needs same fits =
-    let short = required_above left x r n refused needs in
-    let e = ap length same in
-    omega (arith, short, e, fits)
+has_room left x r n held space refused needs same fits = search (rules, required_above)
 
 -- nothing is first in nothing
 nothing_first : (xs ys : List ℕ) → xs ++ ys ≡ [] → xs ≡ []
@@ -165,33 +162,8 @@ module _ (select : Option Selection) (bytes front text : List ℕ) (packets kept
   broken : (Needs : Option ℕ → Type 0) (form : FormValue) (rest : List ℕ) (reason : CaptureRefusal)
       → bytes ≡ front ++ rest → Refuses rest x reason → Needs (required_len reason) → HasFewer select count front
       → Made select form packets kept front text all x → EndsInUnit Needs select count form packets bytes text
-  broken Needs (Lines options) rest reason place refused unfinished fewer made = record {
-    front = front;
-    rest = rest;
-    expected = x;
-    all_accepted = all;
-    reason = reason;
-    parts = go;
-    place = place;
-    begun = refused;
-    unfinished = unfinished;
-    fewer = fewer;
-    answered = made;
-  }
-  broken Needs (Copy mode edit) rest reason place refused unfinished fewer made = record {
-    kept = kept;
-    edited = made.0;
-    front = front;
-    rest = rest;
-    expected = x;
-    reason = reason;
-    parts = made.1;
-    place = place;
-    begun = refused;
-    unfinished = unfinished;
-    fewer = fewer;
-    is_read = λ some. read_so_far mode select edit front text kept made.0 x rest reason refused made.1 some;
-  }
+  broken Needs (Lines options) rest reason place refused unfinished fewer made = search rules
+  broken Needs (Copy mode edit) rest reason place refused unfinished fewer made = search (rules, read_so_far)
 
 -- what is counted is said of the outcomes that count
 if_read : (r : Result Verdict RunFault) {P : Type 0} → P → IfRead r P
@@ -335,9 +307,7 @@ module _ {W X : Type 0} (task : TaskValue) (contents : W → Option (List ℕ)) 
     -- the writer fails, and nothing is said
     output_failed : (at : Progress X) (to : OutputBuffer W) (fault : RunFault) → fault ≡ faults.Output
         → HasCounted task before after held (contents_of contents to) (Err fault) (counts_at at)
-    output_failed at to fault failed =
-        subst (λ (f : RunFault). HasCounted task before after held (contents_of contents to) (Err f) (counts_at at))
-        (sym failed) (record { packets = []; run = tt; counted = tt })
+    output_failed at to fault failed = search rules
 
     -- all units are taken
     pub finished : (input buffered : List ℕ) (at : Progress X) (from to : OutputBuffer W) (r : Result Verdict RunFault)
@@ -444,8 +414,7 @@ module _ {W X : Type 0} (task : TaskValue) (contents : W → Option (List ℕ)) 
         → at.left ≢ Some 0 → Refuses buffered at.reader reason → required_len reason ≢ None
         → Reached task contents held input buffered at out
         → HasCounted task before after held (contents_of contents out) r (counts_at at)
-    broken_off mid (Ok verdict) input buffered at out reason read kept is some refused needed so_far =
-        absurd is
+    broken_off mid (Ok verdict) input buffered at out reason read kept is some refused needed so_far = absurd is
     broken_off mid (Err fault) input buffered at out reason read kept is some refused needed so_far =
         counted_as input buffered at out (contents_of contents out) (Err fault) so_far
         (subst (λ (f : RunFault). HasRunOver task so_far.packets before after held (contents_of contents out) (Err f))
@@ -522,11 +491,7 @@ pub HasCounted-flushed : {W : Type 0} (task : TaskValue) (contents : W → Optio
     (counts : PacketCounts)
     → WritesOut contents from to → HasCounted task before after held (contents_of contents from) r counts
     → HasCounted task before after held (contents to.writer.now) r counts
-HasCounted-flushed task contents before after held from to r counts drains h = record {
-  packets = h.packets;
-  run = HasRunOver-flushed task contents before after held from to r h.packets drains h.run;
-  counted = h.counted;
-}
+HasCounted-flushed task contents before after held from to r counts drains h = search (rules, HasRunOver-flushed)
 
 -- what is said of known bytes is said of the same bytes
 pub HasCounted-same : (task : TaskValue) (r : Result Verdict RunFault) (counts counts' : PacketCounts)

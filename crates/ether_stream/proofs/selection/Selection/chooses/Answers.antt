@@ -1,4 +1,4 @@
-use Rattle.std.proofs.Common.{Bool, true, false, Some, refl, inl, inr}
+use Rattle.std.proofs.Common.{Bool, true, false, Some, refl, inl, inr, rules}
 use Rattle.std.specs.Prelude.{◌↔◌, IsTrue}
 use Rattle.ether_stream.specs.Task.{IsChosenOf, chosen_by}
 use Rattle.ether_stream.specs.declared.selection.Undecided.{Undecided}
@@ -14,8 +14,7 @@ chosen_alike Kept S U false o selects leaves = (
 )
 chosen_alike Dropped S U false o selects leaves =
     (λ is. absurd cc, λ chosen. absurd (let bad = selects.1 chosen.0 in cc))
-chosen_alike Dropped S U true true selects leaves =
-    (λ is. absurd cc, λ chosen. absurd (chosen.1 (leaves.0 refl)))
+chosen_alike Dropped S U true true selects leaves = (λ is. absurd cc, λ chosen. absurd (chosen.1 (leaves.0 refl)))
 chosen_alike Dropped S U true false selects leaves =
     (λ is. (selects.0 refl, λ has. let bad = leaves.1 has in absurd cc), λ chosen. refl)
 
