@@ -1,5 +1,5 @@
 -- The fields of a walk that is under way, in an array.
-use Rattle.std.proofs.Common.{◌≡◌, ℕ, ◌+◌, ◌*◌, ◌≤◌, List, [], ◌∷◌, ◌++◌, length, take, drop, map, false, refl, sym, ap, ◌∙◌, arith, rules}
+use Rattle.std.proofs.Common.{◌≡◌, ℕ, ◌+◌, ◌*◌, ◌≤◌, List, [], ◌∷◌, ◌++◌, length, take, drop, map, false, sym, ap, ◌∙◌, arith, rules}
 use Rattle.std.specs.Prelude.{Some, None, Err}
 use Rattle.std.proofs.Math.Seq.{take-nil}
 use Rattle.std.proofs.lemmas.List.{append_assoc, append-nil, length-append, map-append}
@@ -14,7 +14,6 @@ use Rattle.ether_peel.specs.declared.peel_unit.PeelUnit.{PeelUnit}
 use Rattle.ether_peel.specs.declared.peel_fault.PeelFault.{PeelFault}
 use Rattle.ether_peel.proofs.Walker.Summarizing.{fault_next, none_next}
 use Rattle.ether_peel.proofs.Grammar.Stacks.{one_stack}
-use Rattle.ether_c.specs.declared.ether_unit.EtherUnit.{EtherUnit}
 use Rattle.ether_c.specs.declared.ether_field.EtherField.{EtherField}
 use Rattle.ether_c.specs.Views.{header_of}
 use Rattle.ether_c.specs.FieldTables.{header_fields, trailer_fields, moved}
@@ -52,11 +51,7 @@ trailer_in : (list : List ℕ) (w : Window) (h : Header) → w.finish ≤ length
     → (payload w h).start ≤ (payload w h).finish
     → (payload w h).finish ≤ length list → (payload w h).finish + trailer_len h ≤ length list
 trailer_in list w (headers.Ethernet2 e) whole ordered inside = omega arith
-trailer_in list w (headers.Ethernet2Fcs e) whole ordered inside = omega arith
-trailer_in list w (headers.LinuxSll s) whole ordered inside = omega arith
-trailer_in list w (headers.Vlan v) whole ordered inside = omega arith
-trailer_in list w (headers.Macsec t) whole ordered inside = omega arith
-trailer_in list w (headers.Arp a) whole ordered inside = omega arith
+trailer_in list w h whole ordered inside = search rules
 
 -- the unit that is given is in the list
 pub record UnitPlaced (list : List ℕ) (w : Window) (s t : State) (u : PeelUnit) (h : Header) : Type 0 where

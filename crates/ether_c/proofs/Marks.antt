@@ -30,9 +30,6 @@ pub record MarkedSoFar (x : Expression) (packets : List EtherCaptured) (old new 
   pub are : AreMarks x (take at packets) marks
   pub held : new ≡ marks ++ drop at old
 
-pub marked_first : (x : Expression) (packets : List EtherCaptured) (old : List ℕ) → MarkedSoFar x packets old old 0
-marked_first x packets old = record { marks = []; are = tt; held = refl }
-
 pub marked_next : (x : Expression) (packets : List EtherCaptured) (old mid new : List ℕ) (at mark : ℕ)
     (d : EtherCaptured) → at < length packets
     → length packets ≤ length old → MarkedSoFar x packets old mid at → IsMark x (slice_index_or packets at d) mark

@@ -1,14 +1,13 @@
 -- The packet of a walk, and what its units as structs of C say of it.
-use Rattle.std.proofs.Common.{◌≡◌, ℕ, suc, get_or, ◌+◌, ◌-◌, ◌<◌, ◌≤◌, List, [], ◌∷◌, ◌++◌, length, take, drop, set, append_assoc, refl, sym, ap, subst, ◌∙◌, arith, Bool, true, false, cond, inl, inr, rules}
-use Rattle.std.specs.Prelude.{map, max, slice_get, Option, Some, None, unwrap_or, option_map, nat_lt}
-use Rattle.std.specs.List.{filter_map, cons_option}
+use Rattle.std.proofs.Common.{◌≡◌, ℕ, get_or, ◌+◌, ◌-◌, ◌<◌, ◌≤◌, List, [], ◌∷◌, ◌++◌, length, take, drop, set, append_assoc, refl, sym, ap, subst, ◌∙◌, arith, Bool, true, cond, rules}
+use Rattle.std.specs.Prelude.{map, max, Option, Some, None}
+use Rattle.std.specs.List.{cons_option}
 use Rattle.std.proofs.Math.Seq.{drop-cons, take-append_seam}
 use Rattle.std.proofs.lemmas.List.{length-append, take_all}
 use Rattle.std.proofs.lemmas.Bool.{eq-eqb, ne_eqb}
 use Rattle.std.specs.Borrow.{Bor}
 use Rattle.etherparse.specs.Bytes.{IsBytes}
-use Rattle.etherparse.specs.Macsec.{SecTagValue, encrypted_of, changed_of, ether_type_len, known_len}
-use Rattle.etherparse.specs.Header.{Header, kind_of, header_len, payload_len, unit_len}
+use Rattle.etherparse.specs.Header.{Header, kind_of, unit_len}
 use Rattle.etherparse.specs.Header as headers
 use Rattle.etherparse.proofs.SubLists.{IsBytes-part}
 use Rattle.ether_peel.specs.Grammar.Window.{Window, within, payload}
@@ -43,11 +42,7 @@ use Rattle.ether_c.proofs.UnitsGiven.{length-given}
 
 unit_id-header : (w : Window) (h : Header) → unit_id (c_unit w h) ≡ vid_of h
 unit_id-header w (headers.Ethernet2 e) = refl
-unit_id-header w (headers.Ethernet2Fcs e) = refl
-unit_id-header w (headers.LinuxSll s) = refl
-unit_id-header w (headers.Vlan v) = refl
-unit_id-header w (headers.Macsec t) = refl
-unit_id-header w (headers.Arp a) = refl
+unit_id-header w h = search rules
 
 pub ids_of_units : (w : Window) (hs : List Header) → unit_ids (c_units w hs) ≡ vlan_ids_of hs
 ids_of_units w [] = refl
@@ -55,18 +50,9 @@ ids_of_units w (h ∷ hs) = λ i. cons_option (unit_id-header w h i) (ids_of_uni
 
 -- ---- ends
 
-named_reach : (start finish et short : ℕ)
-    → cond (nat_lt et short) (unwrap_or (option_map (λ n. start + n) (known_len et short)) finish) start
-    ≡ start + unwrap_or (known_len et short) 0
-named_reach start finish et short = grind arith
-
 unit_reach-header : (w : Window) (h : Header) → unit_reach (c_unit w h) ≡ w.start + unit_len h
 unit_reach-header w (headers.Ethernet2 e) = omega arith
-unit_reach-header w (headers.Ethernet2Fcs e) = omega arith
-unit_reach-header w (headers.LinuxSll s) = omega arith
-unit_reach-header w (headers.Vlan v) = omega arith
-unit_reach-header w (headers.Macsec t) = search (rules, named_reach)
-unit_reach-header w (headers.Arp a) = omega arith
+unit_reach-header w h = search rules
 
 pub reach_of_units : (w : Window) (hs : List Header) → units_reach (c_units w hs) ≡ reach w.start hs
 reach_of_units w [] = refl
@@ -78,19 +64,11 @@ pub record AreFew (x : Expectation) (hs : List Header) (free : ℕ) : Type 0 whe
   pub headers : length hs ≤ headers_left x
   pub ids : length (vlan_ids_of hs) ≤ free
 
-length-cons_option : (o : Option ℕ) (l : List ℕ) → length (cons_option o l) ≤ length l + 1
-length-cons_option None l = omega arith
-length-cons_option (Some x) l = omega arith
-
 fewer_ids : (x : Expectation) (h : Header) (hs : List Header) (free : ℕ)
     (more : is_extension (kind_of h) ≡ true → 0 < free)
     → length (vlan_ids_of hs) ≤ cond (is_extension (kind_of h)) (free - 1) free → length (vlan_ids_of (h ∷ hs)) ≤ free
 fewer_ids x (headers.Ethernet2 e) hs free more few = few
-fewer_ids x (headers.Ethernet2Fcs e) hs free more few = few
-fewer_ids x (headers.LinuxSll s) hs free more few = few
-fewer_ids x (headers.Vlan v) hs free more few = let lt = more refl in omega (arith, lt, few)
-fewer_ids x (headers.Macsec t) hs free more few = let lt = more refl in omega (arith, lt, few)
-fewer_ids x (headers.Arp a) hs free more few = few
+fewer_ids x h hs free more few = search rules
 
 pub are_few : (list : List ℕ) (x : Expectation) (w : Window) (hs : List Header) (e : Ending) (free : ℕ)
     → x.limit ≡ Some free → Stack list x w hs e → AreFew x hs free

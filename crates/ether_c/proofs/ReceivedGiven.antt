@@ -1,6 +1,6 @@
 -- A frame that was received is read back from its numbers.
-use Rattle.std.proofs.Common.{◌≡◌, ◌≤◌, ℕ, Bool, true, false, not, nat_eq, if◌then◌else◌, Option, Some, None, refl, ap, ◌∙◌, ◌&&◌, rules}
-use Rattle.std.specs.Prelude.{Ok, nat_le}
+use Rattle.std.proofs.Common.{◌≡◌, ◌≤◌, ℕ, Bool, true, false, not, nat_eq, Some, refl, rules}
+use Rattle.std.specs.Prelude.{Ok}
 use Rattle.std.proofs.lemmas.Bool.{le-leb}
 use Rattle.etherparse.specs.Bytes.{bit}
 use Rattle.ether_switch.specs.declared.kind.BridgeKind.{BridgeKind}
@@ -8,7 +8,7 @@ use Rattle.ether_switch.specs.declared.kind.BridgeKind.TheVariants.{Customer, Pr
 use Rattle.ether_switch.specs.declared.received.Forwarding.{Forwarding}
 use Rattle.ether_switch.specs.declared.received.Forwarding.TheVariants.{Port, Discard, Flood}
 use Rattle.ether_switch.specs.declared.received.Received.{Received}
-use Rattle.ether_c.specs.Switching.{kind_numbered, kind_number, forwarding_number, forwarding_port, forwarding_numbered, are_vlan_and_priority, c_answer, received_by, received_of}
+use Rattle.ether_c.specs.Switching.{kind_numbered, kind_number, forwarding_number, forwarding_port, forwarding_numbered, are_vlan_and_priority, c_answer, received_of}
 
 kind_is : (kind : BridgeKind) → kind_numbered (kind_number kind) ≡ Some kind
 kind_is Customer = refl
