@@ -2,11 +2,9 @@
 use Rattle.std.proofs.Common.{◌≡◌, ◌≢◌, ℕ, List, [], Option, Some, None, refl, sym, subst, ◌∙◌, rules}
 use Rattle.std.specs.Prelude.{◌↔◌}
 use Rattle.ether_base.specs.Bytes.{IsBytes}
-use Rattle.etherparse.specs.Header.{Header}
-use Rattle.ether_peel.specs.Grammar.Expectation.{Next, Expectation}
-use Rattle.ether_peel.specs.Grammar.Stack.{Ending, whole}
+use Rattle.ether_peel.specs.Grammar.Expectation.{Next}
 use Rattle.ether_peel.proofs.Grammar.Stacks.{one_stack}
-use Rattle.ether_filter.specs.Expressions.{Expression, Join, Holds}
+use Rattle.ether_filter.specs.Expressions.{Expression, Join}
 use Rattle.ether_filter.specs.declared.node.Operator.TheVariants.{And}
 use Rattle.ether_pcap.specs.Capture.{PacketValue}
 use Rattle.ether_pcap.specs.CopiedUnits.{Changed}

@@ -14,7 +14,7 @@ use Rattle.ether_text.specs.OutputBuffer.{contents_of, WritesOut}
 use Rattle.ether_text.specs.Verdict.{verdict_with}
 use Rattle.ether_text.specs.declared.output_buffer.OutputBuffer.{OutputBuffer}
 use Rattle.ether_text.specs.declared.verdict.Verdict.{Verdict}
-use Rattle.ether_text.proofs.KnownBytesLemmas.{Appends-none, Appends-then, Appends-written_out}
+use Rattle.ether_text.proofs.KnownBytesLemmas.{Appends-none, Appends-then}
 use Rattle.ether_stream.specs.Copying.{EditsIf}
 use Rattle.ether_stream.specs.Counting.{AreCounted}
 use Rattle.ether_stream.specs.FrameLines.{skip_count}
@@ -108,12 +108,7 @@ left_more : (select : Option Selection) (count : Option ℕ) (kept kept' : List 
     → IsLeftOf count (length kept) old → old ≢ Some 0 → KeptMore select kept packet kept'
     → LeftMore select packet old new → IsLeftOf count (length kept') new
 left_more select count kept kept' None old new is some more less = search rules
-left_more select None kept kept' (Some p) None new is some more less = less
-left_more select (Some n) kept kept' (Some p) None new (l, left, sum) some more less = absurd cc
-left_more select count kept kept' (Some p) (Some m) new is some (inl more) (inl less) = search (rules, chosen_left)
-left_more select count kept kept' (Some p) (Some m) new is some (inr more) (inr less) = search rules
-left_more select count kept kept' (Some p) (Some m) new is some (inl more) (inr less) = absurd (less.0 more.0)
-left_more select count kept kept' (Some p) (Some m) new is some (inr more) (inl less) = absurd (more.0 less.0)
+left_more select count kept kept' h old new is some more less = search (rules, chosen_left)
 
 -- the last packet that is asked for
 last_left : (count : Option ℕ) (k m : ℕ) (new : Option ℕ) → m ≢ 0 → IsLeftOf count k (Some m) → new ≡ Some (m - 1)
@@ -132,29 +127,8 @@ ends_more : (select : Option Selection) (count : Option ℕ) (packets kept : Lis
     → HasBegun y × EndsAtCount select count (front ++ take len buffered)
 ends_more select count packets kept front x y buffered len None old new within begins go selected is some less done =
     absurd (some (sym less ∙ done))
-ends_more select count packets kept front x y buffered len (Some p) None new within begins go selected is some less
-    done = absurd cc
-ends_more select count packets kept front x y buffered len (Some p) (Some m) new within begins go selected is some
-    (inr less) done = absurd (some (sym less.1 ∙ done))
-ends_more select count packets kept front x y buffered len (Some p) (Some m) new within begins go selected is some
-    (inl less) done = (
-      begun buffered x y len (Some p) begins,
-      record {
-        before = front;
-        unit = take len buffered;
-        packets = packets;
-        kept = kept;
-        expected = y;
-        last = p;
-        place = refl;
-        parts = subst (λ (z : Expectation). GoesOn front packets z) (sym (same_after buffered x y len p begins)) go;
-        begins = packet_of_unit buffered x y len (Some p) within begins;
-        chosen = less.0;
-        selected = selected;
-        is_count =
-            last_left count (length kept) m new (λ e. some (ap (λ (k : ℕ). Some k) e)) is less.1 done;
-      },
-    )
+ends_more select count packets kept front x y buffered len h old new within begins go selected is some less done =
+    search (rules, begun, take, same_after, packet_of_unit, last_left)
 
 -- none are chosen at first
 pub all_left : (count : Option ℕ) → IsLeftOf count 0 count
@@ -385,16 +359,8 @@ unit_unwritten task contents whole bytes buffered y len packet first old begin f
     some is begins stops reached = λ held input so_far.
     Reached-stopped task.select task.count contents task.form held input buffered old y from to len packet bytes offset
     some begins is stops (reached held input so_far)
-unit_unwritten task contents whole bytes buffered y len packet first old begin from to (faults.Capture f) some is begins
-    stops reached = tt
-unit_unwritten task contents whole bytes buffered y len packet first old begin from to faults.Input some is begins stops
-    reached = tt
-unit_unwritten task contents whole bytes buffered y len packet first old begin from to faults.Output some is begins
-    stops
-    reached = tt
-unit_unwritten task contents whole bytes buffered y len packet first old begin from to faults.Memory some is begins
-    stops
-    reached = tt
+unit_unwritten task contents whole bytes buffered y len packet first old begin from to h some is begins stops reached =
+    search rules
 
 -- ---- the unit that is taken
 

@@ -168,11 +168,7 @@ module _ (select : Option Selection) (bytes front text : List ℕ) (packets kept
 -- what is counted is said of the outcomes that count
 if_read : (r : Result Verdict RunFault) {P : Type 0} → P → IfRead r P
 if_read (Ok verdict) p = p
-if_read (Err (faults.Capture fault)) p = p
-if_read (Err (faults.NotEdited offset)) p = tt
-if_read (Err faults.Input) p = p
-if_read (Err faults.Output) p = tt
-if_read (Err faults.Memory) p = p
+if_read h p = search rules
 
 -- ---- a run
 

@@ -1,4 +1,4 @@
-use Rattle.std.proofs.Common.{◌≤◌, sym, subst, rules}
+use Rattle.std.proofs.Common.{◌≤◌, sym, subst}
 use Rattle.ether_pcap.specs.Editing.{padding_of, unit_bytes}
 use Rattle.ether_pcap.specs.declared.capture.edited_unit.EditedUnit.{EditedUnit}
 use Rattle.ether_text.specs.OutputBuffer.{Takes}

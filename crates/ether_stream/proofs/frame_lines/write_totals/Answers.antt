@@ -1,4 +1,4 @@
-use Rattle.std.proofs.Common.{Bool, sym, ap, rules}
+use Rattle.std.proofs.Common.{Bool, sym, ap}
 use Rattle.ether_text.proofs.OutputBufferLemmas.{Takes-then, Takes-same}
 use Rattle.ether_stream.specs.FrameLines.{totals_line_if}
 use Rattle.ether_stream.proofs.frame_lines.write_totals.Goals as goal

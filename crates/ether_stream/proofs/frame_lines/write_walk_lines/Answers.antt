@@ -1,4 +1,4 @@
-use Rattle.std.proofs.Common.{ℕ, ◌+◌, List, [], ◌++◌, Option, Bor, true, refl, sym, subst, append-nil, rules}
+use Rattle.std.proofs.Common.{ℕ, ◌+◌, List, ◌++◌, Option, Bor, refl, sym, subst, append-nil, rules}
 use Rattle.std.specs.Prelude.{codes}
 use Rattle.ether_peel.specs.Grammar.Expectation.{Next, EtherType}
 use Rattle.ether_peel.specs.Walker.Start.{start_with}

@@ -1,4 +1,4 @@
-use Rattle.std.proofs.Common.{sym, ap, ◌∙◌, arith, rules}
+use Rattle.std.proofs.Common.{sym, ap, ◌∙◌, arith}
 use Rattle.ether_base.specs.Bytes.{IsBytes}
 use Rattle.ether_base.proofs.ArrayElements.{cells-all}
 use Rattle.ether_base.proofs.Numbers.{spelled-is}

@@ -1,4 +1,4 @@
-use Rattle.std.proofs.Common.{Option, subst, sym, rules}
+use Rattle.std.proofs.Common.{Option, subst, sym}
 use Rattle.std.specs.Option.{option_map}
 use Rattle.ether_pcap.specs.CaptureViews.{captured_packet_view}
 use Rattle.ether_pcap.specs.declared.capture.captured_packet.CapturedPacket.{CapturedPacket}

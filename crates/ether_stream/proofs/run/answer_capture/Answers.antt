@@ -1,4 +1,3 @@
-use Rattle.std.proofs.Common.{rules}
 use Rattle.ether_text.specs.OutputBuffer.{contents_of}
 use Rattle.ether_stream.specs.Progress.{counts_at}
 use Rattle.ether_stream.specs.Task.{task_view}

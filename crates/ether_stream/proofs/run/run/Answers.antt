@@ -1,5 +1,4 @@
 use Rattle.std.proofs.Common.{rules}
-use Rattle.ether_stream.specs.Task.{task_view}
 use Rattle.ether_stream.proofs.RunLemmas.{has_run}
 use Rattle.ether_stream.proofs.run.run.Goals as goal
 

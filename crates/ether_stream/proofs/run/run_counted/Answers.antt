@@ -1,10 +1,6 @@
-use Rattle.std.proofs.Common.{rules, ap, sym, ◌∙◌, List, ℕ}
-use Rattle.std.specs.Io.KnownBytes.{append_known}
+use Rattle.std.proofs.Common.{rules}
 use Rattle.ether_text.proofs.KnownBytesLemmas.{append_known_nil}
 use Rattle.ether_text.proofs.RunLemmas.{run_fails}
-use Rattle.ether_stream.specs.Task.{task_view}
-use Rattle.ether_stream.specs.Run.{stream_of}
-use Rattle.ether_stream.proofs.RunLemmas.{HasCounted-same}
 use Rattle.ether_stream.proofs.run.run_counted.Goals as goal
 
 pub returns-clause-run : goal.returns-clause-run

@@ -1,4 +1,4 @@
-use Rattle.std.proofs.Common.{Some, ap, arith, rules}
+use Rattle.std.proofs.Common.{Some, ap, arith}
 use Rattle.ether_stream.proofs.RunLemmas.{slice_answered}
 use Rattle.ether_stream.proofs.run.run_slice.Goals as goal
 

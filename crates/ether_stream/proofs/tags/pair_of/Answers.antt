@@ -1,4 +1,3 @@
-use Rattle.std.proofs.Common.{rules}
 use Rattle.ether_stream.proofs.TagsLemmas.{if_none, no_split, no_numbers}
 use Rattle.ether_stream.proofs.tags.pair_of.Goals as goal
 

@@ -1,5 +1,4 @@
 use Rattle.std.proofs.Common.{rules}
-use Rattle.ether_content.specs.EditingViews.{edit_view}
 use Rattle.ether_stream.specs.Tags.{tag_word}
 use Rattle.ether_stream.proofs.TagsLemmas.{if_none, no_pair, none_then, some_then, is_push, is_set, no_push, no_set}
 use Rattle.ether_stream.proofs.tags.tag_edit_of.Goals as goal

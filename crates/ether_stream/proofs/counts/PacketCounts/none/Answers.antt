@@ -1,4 +1,4 @@
-use Rattle.std.proofs.Common.{[], Option, ℕ, refl, sym, subst, arith, rules}
+use Rattle.std.proofs.Common.{[], Option, ℕ, refl, sym, subst, arith}
 use Rattle.ether_pcap.specs.Copies.{none}
 use Rattle.ether_stream.specs.Packets.{IsLeftOf}
 use Rattle.ether_stream.specs.Task.{task_view}

@@ -1,5 +1,4 @@
-use Rattle.std.proofs.Common.{◌≡◌, ◌+◌, ◌++◌, List, ℕ, ap, ◌∙◌, arith, rules}
-use Rattle.std.specs.Prelude.{length, slice_range}
+use Rattle.std.proofs.Common.{rules}
 use Rattle.ether_base.proofs.SubLists.{length-part}
 use Rattle.ether_stream.proofs.InputBufferLemmas.{grown}
 use Rattle.ether_stream.proofs.input_buffer.InputBuffer.read.Goals as goal

@@ -1,8 +1,5 @@
-use Rattle.std.proofs.Common.{List, ℕ, ◌≤◌, ◌+◌, sym, ap, arith, rules}
-use Rattle.std.specs.Prelude.{slice_range}
+use Rattle.std.proofs.Common.{rules}
 use Rattle.ether_base.proofs.SubLists.{rest_of_part, length-part_min}
-use Rattle.ether_stream.specs.InputBuffer.{items}
-use Rattle.ether_stream.specs.Task.{task_view}
 use Rattle.ether_stream.proofs.RunLemmas.{units_left}
 use Rattle.ether_stream.proofs.input_buffer.InputBuffer.take_units.Goals as goal
 

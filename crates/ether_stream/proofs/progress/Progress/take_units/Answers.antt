@@ -1,11 +1,11 @@
-use Rattle.std.proofs.Common.{◌≡◌, Some, ◌+◌, ◌≤◌, ℕ, List, length, drop, refl, sym, subst, ◌∙◌, arith, rules}
+use Rattle.std.proofs.Common.{◌≡◌, Some, ◌+◌, ◌≤◌, ℕ, List, length, drop, subst, ◌∙◌, arith, rules}
 use Rattle.std.specs.Prelude.{slice_range}
 use Rattle.std.specs.Option.{option_map}
 use Rattle.std.proofs.lemmas.List.{drop-drop, length-drop}
 use Rattle.ether_pcap.specs.Capture.{Begins}
 use Rattle.ether_pcap.specs.CaptureViews.{captured_packet_view}
-use Rattle.ether_text.proofs.OutputBufferLemmas.{Marks-none, Marks-then}
-use Rattle.ether_stream.specs.Progress.{Reached, IsUnitOf, OnNotEdited, StopsAfter}
+use Rattle.ether_text.proofs.OutputBufferLemmas.{Marks-then}
+use Rattle.ether_stream.specs.Progress.{Reached, OnNotEdited, StopsAfter}
 use Rattle.ether_stream.specs.Task.{task_view}
 use Rattle.ether_stream.proofs.MadeLemmas.{packet_of_unit}
 use Rattle.ether_stream.proofs.ProgressLemmas.{Reached-unit, unit_is, unit_unwritten, err_is, rest_is}

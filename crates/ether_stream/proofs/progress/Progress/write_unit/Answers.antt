@@ -5,7 +5,7 @@ use Rattle.ether_pcap.specs.CaptureViews.{captured_packet_view}
 use Rattle.ether_pcap.specs.declared.capture.captured_packet.CapturedPacket.{CapturedPacket}
 use Rattle.ether_text.proofs.OutputBufferLemmas.{Takes-none}
 use Rattle.ether_stream.specs.Packets.{counted}
-use Rattle.ether_stream.specs.Progress.{IsChoice, MakesText, Makes, other_text, writes_packet}
+use Rattle.ether_stream.specs.Progress.{IsChoice, MakesText, Makes, writes_packet}
 use Rattle.ether_stream.specs.Task.{form_view, IsChosen}
 use Rattle.ether_stream.specs.declared.selection.Selection.{Selection}
 use Rattle.ether_stream.specs.declared.task.Form.{Form}

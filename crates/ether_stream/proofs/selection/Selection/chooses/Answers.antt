@@ -1,4 +1,4 @@
-use Rattle.std.proofs.Common.{Bool, true, false, Some, refl, inl, inr, rules}
+use Rattle.std.proofs.Common.{Bool, true, false, Some, refl, inl, inr}
 use Rattle.std.specs.Prelude.{◌↔◌, IsTrue}
 use Rattle.ether_stream.specs.Task.{IsChosenOf, chosen_by}
 use Rattle.ether_stream.specs.declared.selection.Undecided.{Undecided}
