@@ -25,34 +25,7 @@ holds_both : (x y : Expression) (next : Next) (frame : List ℕ) (captured origi
 holds_both x y next frame captured original a b = search (rules, one_stack)
 
 selects_both : (x y : Expression) (p : PacketValue) → (Selects x p × Selects y p) ↔ Selects (Join And x y) p
-selects_both x y p = (
-  λ both.
-      let one = walked_once (content_of p) both.1.next both.0.next both.1.frame both.0.frame both.1.walked both.0.walked in
-      record {
-        next = both.0.next;
-        frame = both.0.frame;
-        walked = both.0.walked;
-        holds =
-            holds_both x y both.0.next both.0.frame _ _ both.0.holds
-            (subst (λ (n : Next). HoldsOf y n both.0.frame _ _) one.0
-            (subst (λ (f : List ℕ). HoldsOf y both.1.next f _ _) one.1 both.1.holds));
-      },
-  λ is.
-      let h = is.holds in (
-        record {
-          next = is.next;
-          frame = is.frame;
-          walked = is.walked;
-          holds = record { headers = h.headers; ending = h.ending; walk = h.walk; holds = h.holds.0 };
-        },
-        record {
-          next = is.next;
-          frame = is.frame;
-          walked = is.walked;
-          holds = record { headers = h.headers; ending = h.ending; walk = h.walk; holds = h.holds.1 };
-        },
-      ),
-)
+selects_both x y p = search (rules, walked_once, holds_both)
 
 -- ---- no packet is edited
 

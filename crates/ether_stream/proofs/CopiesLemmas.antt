@@ -93,8 +93,7 @@ module _ (mode : ModeValue) (select : Option Selection) (asked : Option EditValu
       (rest : List ℕ) (fault : Option CopyFault)
       → len ≤ length buffered → Copied y later more others changed rest fault
       → Copied y (drop len (take len buffered ++ later)) more others changed rest fault
-  left_copied y buffered later more len others changed rest fault within copies =
-      subst (λ (l : List ℕ). Copied y l more others changed rest fault) (sym (after_front buffered later len within)) copies
+  left_copied y buffered later more len others changed rest fault within copies = search (rules, after_front)
 
   -- nothing is read
   pub CopiesOn-start : Goes [] [] [] [] capture_start
@@ -217,8 +216,7 @@ module _ (mode : ModeValue) (select : Option Selection) (asked : Option EditValu
 pub unit_there : (mode : ModeValue) (x y : Expectation) (own bytes : List ℕ) (p : PacketValue) (o : Option EditedValue)
     (text : Option (List ℕ))
     → x ≡ y → own ≡ bytes → unit_after mode x p o own ≡ text → unit_after mode y p o bytes ≡ text
-unit_there mode x y own bytes p o text at unit_is e =
-    ap (λ (z : Expectation). unit_after mode z p o bytes) (sym at) ∙ ap (unit_after mode x p o) (sym unit_is) ∙ e
+unit_there mode x y own bytes p o text at unit_is e = search rules
 
 -- the padding, from at most three zeros
 pub zeros_of_three : (k : ℕ) → k ≤ 3 → take k (0 ∷ 0 ∷ 0 ∷ []) ≡ zeros k

@@ -23,5 +23,4 @@ between_words seconds nanoseconds =
 
 pub recent_time : (seconds nanoseconds : ℕ) → 10 ^ 9 ≤ seconds → seconds < 10 ^ 10
     → between_words (ten_digits seconds) nanoseconds ≡ between_words (decimal seconds) nanoseconds
-recent_time seconds nanoseconds most few =
-    ap (λ (l : List ℕ). between_words l nanoseconds) (of_ten_digits seconds most few)
+recent_time seconds nanoseconds most few = search (rules, of_ten_digits)

@@ -32,13 +32,3 @@ left_part : (bytes mid : List ℕ) (start end taken : ℕ) → start ≤ end →
     ≡ drop taken (slice_range bytes start end)
 left_part bytes mid start end taken ordered within len most same =
     search (rules, length-part, consumed, between-put_mid)
-
-pub left_between : {E : Type 0} (r : Result (ℕ × E) RunFault) (bytes mid : List ℕ) (start end : ℕ) → start ≤ end
-    → end ≤ length bytes → length mid ≡ length (slice_range bytes start end)
-    → IfOk r (λ found. found.0 ≤ length (slice_range bytes start end))
-    → IfOk r (λ found. drop found.0 mid ≡ drop found.0 (slice_range bytes start end))
-    → IfOk r (λ found. slice_range (put_mid start (end - start) bytes mid) (start + found.0) end
-    ≡ drop found.0 (slice_range bytes start end))
-left_between (Ok found) bytes mid start end ordered within len most same =
-    left_part bytes mid start end found.0 ordered within len most same
-left_between (Err fault) bytes mid start end ordered within len most same = tt

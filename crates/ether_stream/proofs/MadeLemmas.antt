@@ -42,16 +42,7 @@ pub AreAnswered-push : (select : Option Selection) (options : LineOptions) (befo
     → AnswersPacket select options (counted (before + length packets + 1)) p more accepted
     → AreAnswered select options before (packets ++ p ∷ []) (text ++ more) (all && accepted)
 AreAnswered-push select options before [] text all p more accepted so_far is =
-    let n : before + length {A = PacketValue} [] + 1 ≡ before + 1 = omega arith in (
-      more,
-      accepted,
-      [],
-      true,
-      subst (λ (k : ℕ). AnswersPacket select options (counted k) p more accepted) n is,
-      (refl, refl),
-      ap (λ (t : List ℕ). t ++ more) so_far.0 ∙ sym (append-nil more),
-      ap (λ (b : Bool). b && accepted) so_far.1 ∙ and_true accepted,
-    )
+    let n : before + length {A = PacketValue} [] + 1 ≡ before + 1 = omega arith in search (rules, append-nil, and_true)
 AreAnswered-push select options before (first ∷ others) text all p more accepted so_far is =
     let (one, one_accepted, rest, others_accepted, here, there, whole, every) = so_far in
     let n : before + length (first ∷ others) + 1 ≡ before + 1 + length others + 1 = omega arith in (
@@ -87,8 +78,7 @@ front_after input front buffered len is = search (rules, take-append-drop, appen
 
 pub front_len : (front buffered : List ℕ) (len : ℕ) → len ≤ length buffered
     → length (front ++ take len buffered) ≡ length front + len
-front_len front buffered len within =
-    length-append front (take len buffered) ∙ ap (λ (n : ℕ). length front + n) (length-take-le len buffered within)
+front_len front buffered len within = search (rules, length-append, length-take-le)
 
 -- ---- what is chosen
 
@@ -232,14 +222,7 @@ made_more select (Lines options) packets kept front text all x y buffered len nu
     let same : text ≡ text ++ more =
     sym (append-nil text) ∙ ap (λ (l : List ℕ). text ++ l) (sym (some_text more [] makes.0)) in
     let same_all : all ≡ (all && accepted) = sym (and_is_true all) ∙ ap (λ (b : Bool). all && b) (sym makes.1) in
-    record {
-      kept = kept;
-      more = refl;
-      selected = selected;
-      made =
-          subst (λ (b : Bool). AreListed select options packets (text ++ more) b) same_all
-          (subst (λ (l : List ℕ). AreListed select options packets l all) same made);
-    }
+    search rules
 made_more select (Lines options) packets kept front text all x y buffered len number (Some p) own more accepted within
     begins unit_is is selected made (lines, answers, e) =
     let same : lines ≡ more = sym (some_text more lines e) in

@@ -49,8 +49,7 @@ counts_more : {X : Type 0} (select : Option Selection) (before : ℕ) (packets :
     → (new.count ≡ counted (before + length (with_packet packets packet)))
     × (new.skipped ≡ counted (sum_by skip_count (with_packet packets packet)))
     × HasOpen select (with_packet packets packet) new.undecided
-counts_more select before packets None old new counts count skipped so_far =
-    (counts.0 ∙ count, counts.1 ∙ skipped, subst (HasOpen select packets) (sym counts.2) so_far)
+counts_more select before packets None old new counts count skipped so_far = search rules
 counts_more select before packets (Some p) old new counts count skipped so_far =
     let more = length-append packets (p ∷ []) in
     let skips = skipped-push packets p in
@@ -66,11 +65,7 @@ counts_more select before packets (Some p) old new counts count skipped so_far =
           selected = chosen-push (IsOpen select) packets has.undecided p is has.selected;
           is_count = omega (arith, one, was, long);
         }
-    open_more (inr (not, same)) has = record {
-      undecided = has.undecided;
-      selected = left-push (IsOpen select) packets has.undecided p not has.selected;
-      is_count = same ∙ has.is_count;
-    }
+    open_more (inr (not, same)) has = search (rules, left-push)
 
 -- ---- how many packets are left that are asked for
 
@@ -128,7 +123,7 @@ ends_more : (select : Option Selection) (count : Option ℕ) (packets kept : Lis
 ends_more select count packets kept front x y buffered len None old new within begins go selected is some less done =
     absurd (some (sym less ∙ done))
 ends_more select count packets kept front x y buffered len h old new within begins go selected is some less done =
-    search (rules, begun, take, same_after, packet_of_unit, last_left)
+    search (rules, begun, same_after, packet_of_unit, last_left)
 
 -- none are chosen at first
 pub all_left : (count : Option ℕ) → IsLeftOf count 0 count
@@ -146,14 +141,7 @@ module _ {W X : Type 0} (task : TaskValue) (contents : W → Option (List ℕ)) 
   pub Reached-fewer : (held : Option (List ℕ)) (input buffered : List ℕ) (at : Progress X) (out : OutputBuffer W)
       → at.left ≢ Some 0 → (so_far : Reached task contents held input buffered at out)
       → HasFewer task.select task.count so_far.front
-  Reached-fewer held input buffered at out some so_far = record {
-    packets = so_far.packets;
-    kept = so_far.kept;
-    expected = at.reader;
-    parts = so_far.parts;
-    selected = so_far.selected;
-    below = is_below task.count (length so_far.kept) at.left so_far.is_left some;
-  }
+  Reached-fewer held input buffered at out some so_far = search (rules, is_below)
 
   -- how many packets were read
   pub Reached-counted : (held : Option (List ℕ)) (input buffered : List ℕ) (at : Progress X) (out : OutputBuffer W)
@@ -359,8 +347,7 @@ unit_unwritten task contents whole bytes buffered y len packet first old begin f
     some is begins stops reached = λ held input so_far.
     Reached-stopped task.select task.count contents task.form held input buffered old y from to len packet bytes offset
     some begins is stops (reached held input so_far)
-unit_unwritten task contents whole bytes buffered y len packet first old begin from to h some is begins stops reached =
-    search rules
+unit_unwritten task contents whole bytes buffered y len packet first old begin from to h some is begins stops reached = search rules
 
 -- ---- the unit that is taken
 

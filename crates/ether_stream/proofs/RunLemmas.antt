@@ -43,8 +43,7 @@ no_bytes (b ∷ l) e = absurd (omega arith)
 -- the last read gave nothing
 pub consumed_all : (before mid after : Option (List ℕ)) (input more : List ℕ) → Consumes before mid input
     → Consumes mid after more → length more ≡ 0 → Consumes before after input
-consumed_all before mid after input more h k none =
-    Consumes-nothing before mid after input more h k (no_bytes more none)
+consumed_all before mid after input more h k none = search (rules, no_bytes)
 
 -- the last read gave nothing
 pub same_left : (left more : List ℕ) → length more ≡ 0 → left ++ more ≡ left
@@ -72,19 +71,14 @@ nothing_of_blocks r n some none = let e : Some n ≡ None = sym some ∙ none in
 pub refused_nothing : (bytes : List ℕ) (x : Expectation) (r : CaptureRefusal) → bytes ≡ [] → Refuses bytes x r
     → required_len r ≡ None → ⊥
 refused_nothing bytes x r e (file_header_refused most s other (file.short lt)) none = nothing_of_blocks r 24 refl none
-refused_nothing bytes x r e (file_header_refused most s other (file.magic le never)) none =
-    let n = ap length e in omega (arith, le, n)
+refused_nothing bytes x r e (file_header_refused most s other (file.magic le never)) none = search rules
 refused_nothing bytes x r e (file_header_refused most s other (file.version order resolution le has never)) none =
     let n = ap length e in omega (arith, le, n)
 refused_nothing bytes x r e (file_record_refused h s (record_rows.header lt)) none = nothing_of_blocks r 16 refl none
-refused_nothing bytes x r e (file_record_refused h s (record_rows.too_long le lt)) none =
-    let n = ap length e in omega (arith, le, n)
-refused_nothing bytes x r e (file_record_refused h s (record_rows.packet le small lt)) none =
-    let n = ap length e in omega (arith, le, n)
-refused_nothing bytes x r e (first_section_refused most s has refused) none =
-    no_section (subst section_rows.HasSectionType e has)
-refused_nothing bytes x r e (section_refused most order interfaces s has refused) none =
-    no_section (subst section_rows.HasSectionType e has)
+refused_nothing bytes x r e (file_record_refused h s (record_rows.too_long le lt)) none = search rules
+refused_nothing bytes x r e (file_record_refused h s (record_rows.packet le small lt)) none = search rules
+refused_nothing bytes x r e (first_section_refused most s has refused) none = search (rules, no_section)
+refused_nothing bytes x r e (section_refused most order interfaces s has refused) none = search (rules, no_section)
 refused_nothing bytes x r e (block_refused most order interfaces s other (block_rows.front lt)) none =
     nothing_of_blocks r 12 refl none
 refused_nothing bytes x r e (block_refused most order interfaces s other (block_rows.total_len le never)) none =
@@ -94,8 +88,7 @@ refused_nothing bytes x r e (block_refused most order interfaces s other (block_
 refused_nothing bytes x r e
     (block_refused most order interfaces s other (block_rows.trailer m k le is sound whole at never)) none =
     let n = ap length e in omega (arith, le, n)
-refused_nothing bytes x r e (body_refused most order interfaces b s other begins refused) none =
-    let n = ap length e in let w = begins.whole in omega (arith, w, n)
+refused_nothing bytes x r e (body_refused most order interfaces b s other begins refused) none = search rules
 
 -- ---- what is made of a capture, by how it ends
 
@@ -220,18 +213,7 @@ module _ {W X : Type 0} (task : TaskValue) (contents : W → Option (List ℕ)) 
       → TakesUnits task contents buffered old from left error new to
   units_left buffered bytes left old new from to n error same is takes =
       let e : drop n bytes ≡ left = ap (drop n) same ∙ sym is in
-      record {
-        reached = λ held input so_far.
-            subst (λ (l : List ℕ). Reached task contents held input l new to) e
-            (takes.reached held input
-            (subst (λ (l : List ℕ). Reached task contents held input l old from) (sym same) so_far));
-        refused =
-            subst
-            (λ (l : List ℕ).
-            IfSome error (λ it. Refuses l new.reader (capture_refusal_view it) × (new.left ≢ Some 0)))
-            e takes.refused;
-        done = takes.done;
-      }
+      search rules
 
   module _ (before after held : Option (List ℕ)) where
     -- the packets that were read are counted
@@ -239,11 +221,7 @@ module _ {W X : Type 0} (task : TaskValue) (contents : W → Option (List ℕ)) 
         (r : Result Verdict RunFault) (so_far : Reached task contents held input buffered at out)
         → HasRunOver task so_far.packets before after held holds r
         → HasCounted task before after held holds r (counts_at at)
-    counted_as input buffered at out holds r so_far run = record {
-      packets = so_far.packets;
-      run = run;
-      counted = if_read r (Reached-counted task contents held input buffered at out so_far);
-    }
+    counted_as input buffered at out holds r so_far run = search (rules, if_read)
 
     stops : (input buffered left : List ℕ) (at : Progress X) (out : OutputBuffer W) (error : CaptureError)
         (fault : RunFault)
@@ -339,8 +317,7 @@ module _ {W X : Type 0} (task : TaskValue) (contents : W → Option (List ℕ)) 
               Appends-then held (contents_of contents from) (contents_of contents to) so_far.text last so_far.written
               (subst (λ (t : List ℕ). Appends (contents_of contents from) (contents_of contents to) t) same written);
         }))
-    finished input buffered at from to (Err fault) read end some over is written failed so_far =
-        output_failed at to fault failed
+    finished input buffered at from to (Err fault) read end some over is written failed so_far = search rules
 
     -- all packets that are asked for are taken
     pub counted_out : (input buffered : List ℕ) (at : Progress X) (from to : OutputBuffer W) (r : Result Verdict RunFault)
@@ -381,8 +358,7 @@ module _ {W X : Type 0} (task : TaskValue) (contents : W → Option (List ℕ)) 
               Appends-then held (contents_of contents from) (contents_of contents to) so_far.text last so_far.written
               (subst (λ (t : List ℕ). Appends (contents_of contents from) (contents_of contents to) t) same written);
         }))
-    counted_out input buffered at from to (Err fault) read none is written failed so_far =
-        output_failed at to fault failed
+    counted_out input buffered at from to (Err fault) read none is written failed so_far = search rules
 
     -- a unit is not whole
     breaks_off : (Needs : Option ℕ → Type 0) (input buffered : List ℕ) (at : Progress X) (out : OutputBuffer W)
@@ -444,8 +420,7 @@ module _ {W X : Type 0} (task : TaskValue) (contents : W → Option (List ℕ)) 
         let said = at_packet task contents before after held task.form input offset to read (stops held input so_far) in
         record { packets = []; run = said; counted = tt }
     stopped_taking faults.Input input buffered old new from to is stops read so_far = absurd is
-    stopped_taking faults.Output input buffered old new from to is stops read so_far =
-        record { packets = []; run = tt; counted = tt }
+    stopped_taking faults.Output input buffered old new from to is stops read so_far = search rules
     stopped_taking faults.Memory input buffered old new from to is stops read so_far = absurd is
 
     pub stopped_with : (r : Result Verdict RunFault) (fault : RunFault) (input buffered : List ℕ) (old new : Progress X)
@@ -488,14 +463,6 @@ pub HasCounted-flushed : {W : Type 0} (task : TaskValue) (contents : W → Optio
     → WritesOut contents from to → HasCounted task before after held (contents_of contents from) r counts
     → HasCounted task before after held (contents to.writer.now) r counts
 HasCounted-flushed task contents before after held from to r counts drains h = search (rules, HasRunOver-flushed)
-
--- what is said of known bytes is said of the same bytes
-pub HasCounted-same : (task : TaskValue) (r : Result Verdict RunFault) (counts counts' : PacketCounts)
-    (before after held holds before' after' held' holds' : Option (List ℕ))
-    → before ≡ before' → after ≡ after' → held ≡ held' → holds ≡ holds' → counts ≡ counts'
-    → HasCounted task before after held holds r counts → HasCounted task before' after' held' holds' r counts'
-HasCounted-same task r counts counts' before after held holds before' after' held' holds' e f g h k =
-    subst (λ (t : Type 0). t) (λ i. HasCounted task (e i) (f i) (g i) (h i) r (k i))
 
 -- .. without the number of packets
 pub has_run : (task : TaskValue) (r : Result Verdict RunFault) (counts : PacketCounts)

@@ -47,10 +47,7 @@ same_number m n o e f = ap (λ (z : Option (Option ℕ)). unwrap_or (unwrap_or z
 
 pair_one : (text : List ℕ) (m n k l : ℕ) → IsPair text m n → IsPair text k l → (m ≡ k) × (n ≡ l)
 pair_one text m n k l p q =
-    let same = split_one text p.before p.after q.before q.after p.split q.split in (
-      same_number m k (number_in q.before) (ap number_in (sym same.0) ∙ p.first) q.first,
-      same_number n l (number_in q.after) (ap number_in (sym same.1) ∙ p.second) q.second,
-    )
+    let same = split_one text p.before p.after q.before q.after p.split q.split in search (rules, same_number)
 
 -- ---- one edit
 
