@@ -140,8 +140,7 @@ captured_packet file s t q count old mid new c a gives is put =
 
 all_given : (file : List ℕ) (s : State) (count : ℕ) (old new : List EtherCaptured)
     (a : CapturedSoFar file s count old new) → a.todo ≡ [] → a.packets ≡ a.before
-all_given file s count old new a none =
-    a.parts ∙ ap (λ (l : List PacketValue). a.before ++ l) none ∙ append-nil a.before
+all_given file s count old new a none = search (rules, append-nil)
 
 pub captured_fault : (file : List ℕ) (s t : State) (f : CaptureFault) (count : ℕ) (old new : List EtherCaptured)
     → CapturedSoFar file s count old new

@@ -160,8 +160,7 @@ next_unit us i d lt = search (rules, drop-cons)
 
 next_ids : (us : List EtherUnit) (i : ℕ) (d : EtherUnit) (o : Option ℕ) → i < length us → unit_id (get_or us i d) ≡ o
     → unit_ids (drop i us) ≡ cons_option o (unit_ids (drop (i + 1) us))
-next_ids us i d o lt is =
-    ap unit_ids (next_unit us i d lt) ∙ ap (λ (o : Option ℕ). cons_option o (unit_ids (drop (i + 1) us))) is
+next_ids us i d o lt is = search (rules, next_unit)
 
 next_reach : (us : List EtherUnit) (i : ℕ) (d : EtherUnit) (most end total : ℕ) → i < length us
     → end ≡ unit_reach (get_or us i d)
@@ -184,16 +183,7 @@ facts_tag us i vids vlans most end d a lt few tag is =
     let two : length (a.front ++ vid ∷ unit_ids rest) ≡ length a.front + length (vid ∷ unit_ids rest) =
     length-append a.front (vid ∷ unit_ids rest) in
     let count = a.count in
-    record {
-      front = a.front ++ vid ∷ [];
-      ids = (λ i. set (a.ids i) (count i) vid) ∙ id_set a.front vid (omega (arith, len, two, few));
-      count =
-          let one : length (a.front ++ vid ∷ []) ≡ length a.front + length (vid ∷ []) =
-          length-append a.front (vid ∷ []) in
-          omega (arith, count, one);
-      later = append_assoc a.front (vid ∷ []) (unit_ids rest) ∙ all;
-      reaches = next_reach us i d most end (units_reach us) lt is a.reaches;
-    }
+    search (rules, id_set, length-append, append_assoc, next_reach)
 
 -- it is none
 pub facts_other : (us : List EtherUnit) (i : ℕ) (vids : List ℕ) (vlans most end : ℕ) (d : EtherUnit)
@@ -204,13 +194,7 @@ facts_other us i vids vlans most end d a lt other is =
     let vid = (get_or us i d).vlan.vid in
     let more : unit_ids (drop i us) ≡ unit_ids (drop (i + 1) us) =
     next_ids us i d None lt (ap (λ (b : Bool). cond b (Some vid) None) (ne_eqb (get_or us i d).kind 3 other)) in
-    record {
-      front = a.front;
-      ids = a.ids;
-      count = a.count;
-      later = ap (λ (l : List ℕ). a.front ++ l) (sym more) ∙ a.later;
-      reaches = next_reach us i d most end (units_reach us) lt is a.reaches;
-    }
+    search (rules, next_reach)
 
 -- ---- the units of a packet
 
@@ -225,8 +209,7 @@ FewOf start hs = AreFew (packet_start start) hs 3
 
 pub few_of : (start : Start) (list : List ℕ) (old new : List EtherUnit) (count : ℕ)
     (g : GivesUnits (packet_start start) list old new count) → FewOf start g.headers
-few_of start list old new count g =
-    are_few list (packet_start start) (whole (packet_start start) list) g.headers g.ending 3 refl g.walk
+few_of start list old new count g = search (rules, are_few)
 
 pub few_units : (start : Start) (list : List ℕ) (old new : List EtherUnit) (count : ℕ)
     → GivesUnits (packet_start start) list old new count → count ≤ 5

@@ -1,5 +1,5 @@
 -- Packets are selected twice.
-use Rattle.std.proofs.Common.{◌≡◌, ◌≢◌, ℕ, List, [], Option, Some, None, refl, sym, subst, ◌∙◌, rules}
+use Rattle.std.proofs.Common.{◌≡◌, ◌≢◌, ℕ, List, [], Option, Some, None, refl, sym, ◌∙◌, rules}
 use Rattle.std.specs.Prelude.{◌↔◌}
 use Rattle.ether_base.specs.Bytes.{IsBytes}
 use Rattle.ether_peel.specs.Grammar.Expectation.{Next}
@@ -10,7 +10,6 @@ use Rattle.ether_pcap.specs.Capture.{PacketValue}
 use Rattle.ether_pcap.specs.CopiedUnits.{Changed}
 use Rattle.ether_pcap.specs.Copies.{CopyFault, EditsNone, EditsOnce}
 use Rattle.ether_pcap.proofs.CopiesCompose.{composed, composed_twice, copies_alike}
-use Rattle.ether_content.specs.Content.{content_of}
 use Rattle.ether_content.specs.Selecting.{HoldsOf, Selects}
 use Rattle.ether_content.proofs.ContentLemmas.{walked_once}
 use Rattle.ether_stream.specs.Composition.{SelectsTo}

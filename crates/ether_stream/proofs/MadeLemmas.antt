@@ -12,7 +12,7 @@ use Rattle.ether_pcap.proofs.CaptureLocality.{unit_alone}
 use Rattle.ether_pcap.proofs.PacketUnits.{same_after}
 use Rattle.ether_content.specs.Editing.{EditValue}
 use Rattle.ether_text.specs.Verdict.{verdict_of, verdict_with}
-use Rattle.ether_stream.specs.Answering.{AreAnswered, AreListed}
+use Rattle.ether_stream.specs.Answering.{AreAnswered}
 use Rattle.ether_stream.specs.Copying.{CopiesOn}
 use Rattle.ether_stream.specs.FrameLines.{AnswersPacket, skip_count}
 use Rattle.ether_stream.specs.Packets.{capture_start, counted}

@@ -109,9 +109,7 @@ left_more select count kept kept' h old new is some more less = search (rules, c
 last_left : (count : Option ℕ) (k m : ℕ) (new : Option ℕ) → m ≢ 0 → IsLeftOf count k (Some m) → new ≡ Some (m - 1)
     → new ≡ Some 0 → count ≡ Some (suc k)
 last_left None k zero new some is e done = absurd cc
-last_left None k (suc m) new some is e done = absurd cc
-last_left (Some n) k zero new some is e done = absurd (some refl)
-last_left (Some n) k (suc m) new some (l, left, sum) e done = search (rules, some_number)
+last_left h k a new some is e done = search (rules, some_number)
 
 -- the front ends with it
 ends_more : (select : Option Selection) (count : Option ℕ) (packets kept : List PacketValue) (front : List ℕ)

@@ -1,5 +1,5 @@
 -- What a run has read and written, one read after another.
-use Rattle.std.proofs.Common.{◌⊎◌, ◌+◌, ◌-◌, ◌^◌, ◌≡◌, ◌≢◌, ℕ, ◌<◌, ◌≤◌, List, [], ◌∷◌, ◌++◌, length, drop, Bool, Option, Some, None, unwrap_or, Result, Ok, Err, IfOk, IfErr, IsErrAnd, OnOk, refl, sym, ap, subst, ◌∙◌, arith, append_assoc, append-nil, inl, inr, IfSome, rules}
+use Rattle.std.proofs.Common.{◌⊎◌, ◌+◌, ◌-◌, ◌^◌, ◌≡◌, ◌≢◌, ℕ, ◌<◌, ◌≤◌, List, [], ◌∷◌, ◌++◌, length, drop, Bool, Option, Some, None, unwrap_or, Result, Ok, Err, IfOk, IfErr, IsErrAnd, OnOk, refl, sym, ap, subst, ◌∙◌, arith, append_assoc, append-nil, inl, inr, rules}
 use Rattle.std.specs.List.{sum_by}
 use Rattle.std.specs.Io.KnownBytes.{Appends, Consumes, IsAtEnd, Keeps}
 use Rattle.ether_stream.specs.declared.selection.Selection.{Selection}
@@ -18,7 +18,7 @@ use Rattle.ether_text.specs.declared.output_buffer.OutputBuffer.{OutputBuffer}
 use Rattle.ether_text.specs.declared.verdict.Verdict.{Verdict}
 use Rattle.ether_text.proofs.KnownBytesLemmas.{Appends-then, Consumes-kept}
 use Rattle.ether_text.specs.Run.{IsLeft, BreaksOffAfter, IsEndless}
-use Rattle.ether_text.proofs.RunLemmas.{IsLeft-left_of, IsLeft-end, Consumes-nothing, answers_flushed, stops_flushed, breaks_flushed, answers_slice, stops_slice, breaks_slice, no_endless_slice}
+use Rattle.ether_text.proofs.RunLemmas.{IsLeft-left_of, IsLeft-end, answers_flushed, stops_flushed, breaks_flushed, answers_slice, stops_slice, breaks_slice, no_endless_slice}
 use Rattle.ether_stream.specs.Copying.{IsCopy}
 use Rattle.ether_stream.specs.Counting.{HasCounted, IfRead}
 use Rattle.ether_stream.specs.FrameLines.{if_selected, skip_count}
@@ -32,7 +32,7 @@ use Rattle.ether_stream.specs.declared.outcome.RunFault.TheVariants as faults
 use Rattle.ether_stream.specs.declared.progress.Progress.{Progress}
 use Rattle.ether_stream.proofs.CopiesLemmas.{is_copy, copied_to_end, copied_to_refusal, copied_to_packet, read_so_far}
 use Rattle.ether_stream.proofs.PacketsLemmas.{GoesOn-ended, GoesOn-refused}
-use Rattle.ether_stream.proofs.ProgressLemmas.{Reached-fewer, Reached-counted}
+use Rattle.ether_stream.proofs.ProgressLemmas.{Reached-fewer}
 
 -- ---- what is left
 
@@ -415,13 +415,10 @@ module _ {W X : Type 0} (task : TaskValue) (contents : W → Option (List ℕ)) 
         → IsTakingFault fault → OnNotEdited fault (λ offset. StopsAfter task contents buffered old from offset to)
         → Consumes before after input → Reached task contents held input buffered old from
         → HasCounted task before after held (contents_of contents to) (Err fault) (counts_at new)
-    stopped_taking (faults.Capture fault) input buffered old new from to is stops read so_far = absurd is
     stopped_taking (faults.NotEdited offset) input buffered old new from to is stops read so_far =
         let said = at_packet task contents before after held task.form input offset to read (stops held input so_far) in
         record { packets = []; run = said; counted = tt }
-    stopped_taking faults.Input input buffered old new from to is stops read so_far = absurd is
-    stopped_taking faults.Output input buffered old new from to is stops read so_far = search rules
-    stopped_taking faults.Memory input buffered old new from to is stops read so_far = absurd is
+    stopped_taking h input buffered old new from to is stops read so_far = search rules
 
     pub stopped_with : (r : Result Verdict RunFault) (fault : RunFault) (input buffered : List ℕ) (old new : Progress X)
         (from to : OutputBuffer W)
