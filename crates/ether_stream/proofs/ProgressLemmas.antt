@@ -345,7 +345,8 @@ unit_unwritten task contents whole bytes buffered y len packet first old begin f
     some is begins stops reached = λ held input so_far.
     Reached-stopped task.select task.count contents task.form held input buffered old y from to len packet bytes offset
     some begins is stops (reached held input so_far)
-unit_unwritten task contents whole bytes buffered y len packet first old begin from to h some is begins stops reached = search rules
+unit_unwritten task contents whole bytes buffered y len packet first old begin from to h some is begins stops reached =
+    search rules
 
 -- ---- the unit that is taken
 
