@@ -1,5 +1,5 @@
 -- Addresses of two lengths, each that of a byte, are those of an ARP packet.
-use Rattle.std.proofs.Common.{◌≡◌, ℕ, ◌+◌, ◌-◌, ◌≤◌, List, length, ap, ◌∙◌, arith}
+use Rattle.std.proofs.Common.{◌≡◌, ℕ, ◌+◌, ◌-◌, ◌≤◌, List, length, arith, rules}
 use Rattle.etherparse.proofs.SubLists.{length-part}
 use Rattle.etherparse.specs.Arp.{bytes_at}
 use Rattle.etherparse.specs.ArpAddresses.{RefusesAddrs, hardware_unequal, protocol_unequal}
@@ -8,14 +8,11 @@ use Rattle.ether_base.specs.declared.err.arp.arp_new_error.ArpNewError.{ArpNewEr
 
 pub address_len : (bytes address : List ℕ) (at n : ℕ) → (at + n ≤ length bytes) × (address ≡ bytes_at bytes at n)
     → length address ≡ n
-address_len bytes address at n is =
-    let whole : at + n - at ≡ n = omega arith in ap length is.1 ∙ length-part bytes at (at + n) is.0 ∙ whole
+address_len bytes address at n is = search (rules, length-part)
 
 pub never_refused : (n m a b c d : ℕ) (e : ArpNewError) → a ≡ n → b ≡ m → c ≡ n → d ≡ m → n ≤ 255 → m ≤ 255
     → RefusesAddrs a b c d e → ⊥
 never_refused n m a b c d e an bm cn dm few short (hardware_unequal differ) = differ (omega (arith, an, cn))
 never_refused n m a b c d e an bm cn dm few short (protocol_unequal same differ) = differ (omega (arith, bm, dm))
-never_refused n m a b c d e an bm cn dm few short (hardware_too_long same alike long) =
-    absurd (omega (arith, an, few, long))
-never_refused n m a b c d e an bm cn dm few short (protocol_too_long same alike most long) =
-    absurd (omega (arith, bm, short, long))
+never_refused n m a b c d e an bm cn dm few short (hardware_too_long same alike long) = search rules
+never_refused n m a b c d e an bm cn dm few short (protocol_too_long same alike most long) = search rules

@@ -1,6 +1,6 @@
 -- The tags of a packet, one after the other.
-use Rattle.std.proofs.Common.{◌≡◌, ℕ, suc, ◌+◌, ◌≤◌, ◌<◌, List, [], ◌∷◌, ◌++◌, length, drop, set, take}
-use Rattle.std.proofs.Common.{sym, ap, subst, ◌∙◌, arith}
+use Rattle.std.proofs.Common.{◌≡◌, ℕ, suc, ◌+◌, ◌≤◌, ◌<◌, List, [], ◌∷◌, ◌++◌, length, drop, set, take, rules}
+use Rattle.std.proofs.Common.{subst, ◌∙◌, arith}
 use Rattle.std.specs.Prelude.{slice_index_or}
 use Rattle.std.proofs.Math.Seq.{take-suc, take-suc-set, split_at}
 use Rattle.std.proofs.lemmas.List.{length-take-le}
@@ -21,14 +21,7 @@ pub next_ext : (us : List EtherUnit) (old new : List LinkExtHeader) (i : ℕ) (d
     → i < length us → i < length old → AreExts (take i us) (take i old)
     → PassesExt (slice_index_or us i d) (ext_header_view x) → new ≡ set old i x
     → AreExts (take (i + 1) us) (take (i + 1) new)
-next_ext us old new i d x lt room are is put =
-    let more : i + 1 ≡ suc i = omega arith in
-    let u = slice_index_or us i d in
-    let units : take (i + 1) us ≡ take i us ++ u ∷ [] = ap (λ (k : ℕ). take k us) more ∙ take-suc us i d lt in
-    let exts : take (i + 1) new ≡ take i old ++ x ∷ [] = (λ j. take (more j) (put j)) ∙ take-suc-set old i x room in
-    subst (λ (l : List EtherUnit). AreExts l (take (i + 1) new)) (sym units)
-    (subst (λ (l : List LinkExtHeader). AreExts (take i us ++ u ∷ []) l) (sym exts)
-    (exts-append (take i us) (take i old) u x are is))
+next_ext us old new i d x lt room are is put = search (rules, take-suc, take-suc-set, exts-append)
 
 pub refused_at : (us : List EtherUnit) (xs : List LinkExtHeader) (i : ℕ) (d : EtherUnit) (status : ℕ)
     → i < length us → i ≤ 8 → AreExts (take i us) (take i xs) → PassesNoExt (slice_index_or us i d) status

@@ -1,5 +1,5 @@
 -- The packets of a capture file that is under way, in an array.
-use Rattle.std.proofs.Common.{◌≡◌, ℕ, ◌+◌, suc, List, [], ◌∷◌, ◌++◌, length, set, false, refl, sym, ap, subst, ◌∙◌, arith}
+use Rattle.std.proofs.Common.{◌≡◌, ℕ, ◌+◌, suc, List, [], ◌∷◌, ◌++◌, length, set, false, refl, sym, ap, ◌∙◌, arith, rules}
 use Rattle.std.specs.Prelude.{Option, Some, None, Result, Ok, Err}
 use Rattle.std.proofs.Math.Seq.{take-nil}
 use Rattle.std.proofs.lemmas.List.{append_assoc, append-nil, length-append}
@@ -46,16 +46,7 @@ packet_next : (todo : List PacketValue) (left : List ℕ) (fault : Option Captur
     → PacketNext todo left fault t q
 packet_next [] left None s t q g = let none = g.0 in absurd cc
 packet_next [] left (Some r) s t q g = let given = g.1 in absurd cc
-packet_next (p ∷ ps) left fault s t q g =
-    let given : Returns (Some (Ok q)) (Some (Ok g.0)) = assumption g in
-    let is : g.0 ≡ q = cc in
-    let view : captured_packet_view g.0 ≡ p = assumption g in
-    record {
-      later = ps;
-      parts = ap (λ (v : PacketValue). v ∷ ps) (sym view ∙ ap captured_packet_view is);
-      has = assumption g;
-      going = assumption g;
-    }
+packet_next (p ∷ ps) left fault s t q g = search rules
 
 pub record FaultNext (todo : List PacketValue) (left : List ℕ) (fault : Option CaptureRefusal) (t : State)
     (f : CaptureFault) : Type 0 where
@@ -68,15 +59,7 @@ fault_next : (todo : List PacketValue) (left : List ℕ) (fault : Option Capture
     (f : CaptureFault) → GivesNext todo left fault s (Some (Err f)) t
     → FaultNext todo left fault t f
 fault_next [] left None s t f g = let none = g.0 in absurd cc
-fault_next [] left (Some r) s t f g =
-    let given = g.1 in
-    let is : g.0 ≡ f = cc in
-    record {
-      none_left = refl;
-      refusal = ap Some (sym g.2 ∙ ap (λ (h : CaptureFault). capture_refusal_view h.error) is);
-      place = ap (λ (h : CaptureFault). h.offset) (sym is) ∙ g.3;
-      rest = g.4;
-    }
+fault_next [] left (Some r) s t f g = search rules
 fault_next (p ∷ ps) left fault s t f g = let given : Returns (Some (Err f)) (Some (Ok g.0)) = assumption g in absurd cc
 
 pub record NoneNext (todo : List PacketValue) (fault : Option CaptureRefusal) : Type 0 where
@@ -157,46 +140,14 @@ captured_packet file s t q count old mid new c a gives is put =
 
 all_given : (file : List ℕ) (s : State) (count : ℕ) (old new : List EtherCaptured)
     (a : CapturedSoFar file s count old new) → a.todo ≡ [] → a.packets ≡ a.before
-all_given file s count old new a none =
-    a.parts ∙ ap (λ (l : List PacketValue). a.before ++ l) none ∙ append-nil a.before
+all_given file s count old new a none = search (rules, append-nil)
 
 pub captured_fault : (file : List ℕ) (s t : State) (f : CaptureFault) (count : ℕ) (old new : List EtherCaptured)
     → CapturedSoFar file s count old new
     → Gives s (Some (Err f)) t → HasCaptured file old new count (Some f)
-captured_fault file s t f count old new a gives =
-    let n = fault_next a.todo a.left a.fault s t f (gives.next a.going a.todo a.left a.fault a.rest) in
-    let all = all_given file s count old new a n.none_left in
-    let place = gives.place a.going ∙ a.place in
-    let at = n.place in
-    let rest : length t.rest ≡ length a.left = ap length n.rest in
-    record {
-      packets = a.packets;
-      left = a.left;
-      has =
-          subst (λ (r : Option CaptureRefusal). HasPackets (Beginning max_interfaces) file a.packets a.left r)
-          n.refusal a.has;
-      place = omega arith;
-      given = a.given;
-      are = subst (λ (ps : List PacketValue). HoldPackets a.given ps) (sym all) a.are;
-      counted = a.counted ∙ given-length a.given a.before a.are ∙ ap length (sym all);
-      held = a.held;
-    }
+captured_fault file s t f count old new a gives = search (rules, all_given, given-length)
 
 pub captured_none : (file : List ℕ) (s t : State) (count : ℕ) (old new : List EtherCaptured)
     → CapturedSoFar file s count old new
     → Gives s None t → HasCaptured file old new count None
-captured_none file s t count old new a gives =
-    let n = none_next a.todo a.left a.fault s t (gives.next a.going a.todo a.left a.fault a.rest) in
-    let all = all_given file s count old new a n.none_left in
-    record {
-      packets = a.packets;
-      left = a.left;
-      has =
-          subst (λ (r : Option CaptureRefusal). HasPackets (Beginning max_interfaces) file a.packets a.left r)
-          n.no_fault a.has;
-      place = tt;
-      given = a.given;
-      are = subst (λ (ps : List PacketValue). HoldPackets a.given ps) (sym all) a.are;
-      counted = a.counted ∙ given-length a.given a.before a.are ∙ ap length (sym all);
-      held = a.held;
-    }
+captured_none file s t count old new a gives = search (rules, none_next, all_given, given-length)

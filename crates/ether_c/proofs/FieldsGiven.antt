@@ -1,5 +1,5 @@
 -- The fields of a walk that is under way, in an array.
-use Rattle.std.proofs.Common.{◌≡◌, ℕ, ◌+◌, ◌*◌, ◌≤◌, List, [], ◌∷◌, ◌++◌, length, take, drop, map, false, refl, sym, ap, ◌∙◌, arith}
+use Rattle.std.proofs.Common.{◌≡◌, ℕ, ◌+◌, ◌*◌, ◌≤◌, List, [], ◌∷◌, ◌++◌, length, take, drop, map, false, sym, ap, ◌∙◌, arith, rules}
 use Rattle.std.specs.Prelude.{Some, None, Err}
 use Rattle.std.proofs.Math.Seq.{take-nil}
 use Rattle.std.proofs.lemmas.List.{append_assoc, append-nil, length-append, map-append}
@@ -14,7 +14,6 @@ use Rattle.ether_peel.specs.declared.peel_unit.PeelUnit.{PeelUnit}
 use Rattle.ether_peel.specs.declared.peel_fault.PeelFault.{PeelFault}
 use Rattle.ether_peel.proofs.Walker.Summarizing.{fault_next, none_next}
 use Rattle.ether_peel.proofs.Grammar.Stacks.{one_stack}
-use Rattle.ether_c.specs.declared.ether_unit.EtherUnit.{EtherUnit}
 use Rattle.ether_c.specs.declared.ether_field.EtherField.{EtherField}
 use Rattle.ether_c.specs.Views.{header_of}
 use Rattle.ether_c.specs.FieldTables.{header_fields, trailer_fields, moved}
@@ -43,20 +42,7 @@ pub record FieldsSoFar (start : Expectation) (list : List ℕ) (s : State) (inde
 pub fields_first : (start : Expectation) (list : List ℕ) (s : State) (old : List EtherField) (hs : List Header)
     (e : Ending) → Walk start list hs e
     → Faces list (whole start list) s hs e → s.over ≡ false → FieldsSoFar start list s 0 0 old old
-fields_first start list s old hs e walk faces going = record {
-  headers = hs;
-  ending = e;
-  walk = walk;
-  window = whole start list;
-  left = hs;
-  faces = faces;
-  going = going;
-  front = [];
-  parts = refl;
-  counted = refl;
-  few = omega arith;
-  holds = ap (λ (l : List EtherField). l ++ old) (sym (take-nil (length old)));
-}
+fields_first start list s old hs e walk faces going = search (rules, take-nil)
 
 -- ---- a unit
 
@@ -65,11 +51,7 @@ trailer_in : (list : List ℕ) (w : Window) (h : Header) → w.finish ≤ length
     → (payload w h).start ≤ (payload w h).finish
     → (payload w h).finish ≤ length list → (payload w h).finish + trailer_len h ≤ length list
 trailer_in list w (headers.Ethernet2 e) whole ordered inside = omega arith
-trailer_in list w (headers.Ethernet2Fcs e) whole ordered inside = omega arith
-trailer_in list w (headers.LinuxSll s) whole ordered inside = omega arith
-trailer_in list w (headers.Vlan v) whole ordered inside = omega arith
-trailer_in list w (headers.Macsec t) whole ordered inside = omega arith
-trailer_in list w (headers.Arp a) whole ordered inside = omega arith
+trailer_in list w h whole ordered inside = search rules
 
 -- the unit that is given is in the list
 pub record UnitPlaced (list : List ℕ) (w : Window) (s t : State) (u : PeelUnit) (h : Header) : Type 0 where
@@ -81,23 +63,7 @@ pub record UnitPlaced (list : List ℕ) (w : Window) (s t : State) (u : PeelUnit
 pub unit_placed : (list : List ℕ) (w : Window) (left : List Header) (e : Ending) (s t : State) (u : PeelUnit)
     → Faces list w s left e
     → (n : UnitGiven list w left e s t u) → UnitPlaced list w s t u n.next.header
-unit_placed list w left e s t u faces n =
-    let h = n.next.header in
-    let inner = n.next.faces in
-    let end : t.offset + length t.rest ≡ (payload w h).finish = ap (λ (x : EtherUnit). x.payload_end) n.given in
-    let after = n.after in
-    let at = inner.offset in
-    let ordered = inner.inside.ordered in
-    let inside = inner.inside.inside in
-    let trailer : (payload w h).finish + trailer_len h ≤ length list = trailer_in list w h faces.inside.inside ordered
-    inside in
-    let len = ap trailer_len n.header in
-    record {
-      from = ap (λ (x : EtherUnit). x.offset) n.given;
-      end = end;
-      header = omega arith;
-      trailer = omega arith;
-    }
+unit_placed list w left e s t u faces n = search (rules, trailer_in)
 
 pub fields_unit : (start : Expectation) (list : List ℕ) (s t : State) (u : PeelUnit) (index count next : ℕ)
     (old mid new : List EtherField)
@@ -151,19 +117,7 @@ fields_unit start list s t u index count next old mid new a n put more =
 fields_end : (start : Expectation) (list : List ℕ) (s : State) (index count : ℕ) (old new : List EtherField)
     (a : FieldsSoFar start list s index count old new)
     → a.left ≡ [] → HasFields start list old new count
-fields_end start list s index count old new a none =
-    let all : c_fields list 0 (whole start list) a.headers ≡ a.front =
-    a.parts ∙ ap (λ (l : List Header). a.front ++ c_fields list index a.window l) none ∙ append-nil a.front in
-    record {
-      headers = a.headers;
-      ending = a.ending;
-      walk = a.walk;
-      one = λ ks f other. one_stack list start (whole start list) ks a.headers f a.ending other a.walk;
-      fields = (
-        a.holds ∙ ap (λ (l : List EtherField). take (length old) l ++ drop count old) (sym all),
-        a.counted ∙ sym (ap length all),
-      );
-    }
+fields_end start list s index count old new a none = search (rules, append-nil, one_stack)
 
 pub fields_fault : (start : Expectation) (list : List ℕ) (s t : State) (index count : ℕ) (f : PeelFault)
     (old new : List EtherField)

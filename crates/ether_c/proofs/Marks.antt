@@ -1,5 +1,5 @@
 -- The marks of packets that a filter selects or not.
-use Rattle.std.proofs.Common.{◌≡◌, ℕ, suc, ◌+◌, ◌≤◌, ◌<◌, List, [], ◌∷◌, ◌++◌, length, drop, set, take, refl, sym, ap, subst, ◌∙◌, arith}
+use Rattle.std.proofs.Common.{◌≡◌, ℕ, suc, ◌+◌, ◌≤◌, ◌<◌, List, [], ◌∷◌, ◌++◌, length, drop, set, take, refl, sym, ap, subst, ◌∙◌, arith, rules}
 use Rattle.std.specs.Prelude.{slice_index_or}
 use Rattle.std.proofs.Math.Seq.{take-suc}
 use Rattle.std.proofs.lemmas.List.{append_assoc, length-drop, length-take-le, drop-drop, take_all}
@@ -30,9 +30,6 @@ pub record MarkedSoFar (x : Expression) (packets : List EtherCaptured) (old new 
   pub are : AreMarks x (take at packets) marks
   pub held : new ≡ marks ++ drop at old
 
-pub marked_first : (x : Expression) (packets : List EtherCaptured) (old : List ℕ) → MarkedSoFar x packets old old 0
-marked_first x packets old = record { marks = []; are = tt; held = refl }
-
 pub marked_next : (x : Expression) (packets : List EtherCaptured) (old mid new : List ℕ) (at mark : ℕ)
     (d : EtherCaptured) → at < length packets
     → length packets ≤ length old → MarkedSoFar x packets old mid at → IsMark x (slice_index_or packets at d) mark
@@ -58,13 +55,4 @@ marked_next x packets old mid new at mark d lt room a is put =
 pub marked_all : (x : Expression) (packets : List EtherCaptured) (old new : List ℕ) (at : ℕ) → at ≡ length packets
     → length packets ≤ length old
     → MarkedSoFar x packets old new at → PutsMarks x packets old new done
-marked_all x packets old new at all room a = record {
-  put = λ le. (
-    a.marks,
-    subst (λ (l : List EtherCaptured). AreMarks x l a.marks)
-        (ap (λ (k : ℕ). take k packets) all ∙ take_all (length packets) packets (omega arith)) a.are,
-    a.held ∙ ap (λ (k : ℕ). a.marks ++ drop k old) all,
-    refl,
-  );
-  kept = λ lt. absurd (omega (arith, lt, room));
-}
+marked_all x packets old new at all room a = search (rules, take_all)

@@ -1,14 +1,13 @@
 -- The packet of a walk, and what its units as structs of C say of it.
-use Rattle.std.proofs.Common.{◌≡◌, ℕ, suc, get_or, ◌+◌, ◌-◌, ◌<◌, ◌≤◌, List, [], ◌∷◌, ◌++◌, length, take, drop, set, append_assoc, refl, sym, ap, subst, ◌∙◌, arith, Bool, true, false, cond, inl, inr}
-use Rattle.std.specs.Prelude.{map, max, slice_get, Option, Some, None, unwrap_or, option_map, nat_lt}
-use Rattle.std.specs.List.{filter_map, cons_option}
+use Rattle.std.proofs.Common.{◌≡◌, ℕ, get_or, ◌+◌, ◌-◌, ◌<◌, ◌≤◌, List, [], ◌∷◌, ◌++◌, length, take, drop, set, append_assoc, refl, sym, ap, subst, ◌∙◌, arith, Bool, true, cond, rules}
+use Rattle.std.specs.Prelude.{map, max, Option, Some, None}
+use Rattle.std.specs.List.{cons_option}
 use Rattle.std.proofs.Math.Seq.{drop-cons, take-append_seam}
 use Rattle.std.proofs.lemmas.List.{length-append, take_all}
 use Rattle.std.proofs.lemmas.Bool.{eq-eqb, ne_eqb}
 use Rattle.std.specs.Borrow.{Bor}
 use Rattle.etherparse.specs.Bytes.{IsBytes}
-use Rattle.etherparse.specs.Macsec.{SecTagValue, encrypted_of, changed_of, ether_type_len, known_len}
-use Rattle.etherparse.specs.Header.{Header, kind_of, header_len, payload_len, unit_len}
+use Rattle.etherparse.specs.Header.{Header, kind_of, unit_len}
 use Rattle.etherparse.specs.Header as headers
 use Rattle.etherparse.proofs.SubLists.{IsBytes-part}
 use Rattle.ether_peel.specs.Grammar.Window.{Window, within, payload}
@@ -43,11 +42,7 @@ use Rattle.ether_c.proofs.UnitsGiven.{length-given}
 
 unit_id-header : (w : Window) (h : Header) → unit_id (c_unit w h) ≡ vid_of h
 unit_id-header w (headers.Ethernet2 e) = refl
-unit_id-header w (headers.Ethernet2Fcs e) = refl
-unit_id-header w (headers.LinuxSll s) = refl
-unit_id-header w (headers.Vlan v) = refl
-unit_id-header w (headers.Macsec t) = refl
-unit_id-header w (headers.Arp a) = refl
+unit_id-header w h = search rules
 
 pub ids_of_units : (w : Window) (hs : List Header) → unit_ids (c_units w hs) ≡ vlan_ids_of hs
 ids_of_units w [] = refl
@@ -55,21 +50,9 @@ ids_of_units w (h ∷ hs) = λ i. cons_option (unit_id-header w h i) (ids_of_uni
 
 -- ---- ends
 
-named_reach : (start finish et short : ℕ)
-    → cond (nat_lt et short) (unwrap_or (option_map (λ n. start + n) (known_len et short)) finish) start
-    ≡ start + unwrap_or (known_len et short) 0
-named_reach start finish et short = grind arith
-
 unit_reach-header : (w : Window) (h : Header) → unit_reach (c_unit w h) ≡ w.start + unit_len h
 unit_reach-header w (headers.Ethernet2 e) = omega arith
-unit_reach-header w (headers.Ethernet2Fcs e) = omega arith
-unit_reach-header w (headers.LinuxSll s) = omega arith
-unit_reach-header w (headers.Vlan v) = omega arith
-unit_reach-header w (headers.Macsec t) =
-    let et = ether_type_len (encrypted_of t.payload_type) (changed_of t.payload_type) in
-    let named = named_reach (w.start + header_len (headers.Macsec t)) (w.finish - 0) et t.short_len in
-    named ∙ omega arith
-unit_reach-header w (headers.Arp a) = omega arith
+unit_reach-header w h = search rules
 
 pub reach_of_units : (w : Window) (hs : List Header) → units_reach (c_units w hs) ≡ reach w.start hs
 reach_of_units w [] = refl
@@ -81,34 +64,20 @@ pub record AreFew (x : Expectation) (hs : List Header) (free : ℕ) : Type 0 whe
   pub headers : length hs ≤ headers_left x
   pub ids : length (vlan_ids_of hs) ≤ free
 
-length-cons_option : (o : Option ℕ) (l : List ℕ) → length (cons_option o l) ≤ length l + 1
-length-cons_option None l = omega arith
-length-cons_option (Some x) l = omega arith
-
 fewer_ids : (x : Expectation) (h : Header) (hs : List Header) (free : ℕ)
     (more : is_extension (kind_of h) ≡ true → 0 < free)
     → length (vlan_ids_of hs) ≤ cond (is_extension (kind_of h)) (free - 1) free → length (vlan_ids_of (h ∷ hs)) ≤ free
 fewer_ids x (headers.Ethernet2 e) hs free more few = few
-fewer_ids x (headers.Ethernet2Fcs e) hs free more few = few
-fewer_ids x (headers.LinuxSll s) hs free more few = few
-fewer_ids x (headers.Vlan v) hs free more few = let lt = more refl in omega (arith, lt, few)
-fewer_ids x (headers.Macsec t) hs free more few = let lt = more refl in omega (arith, lt, few)
-fewer_ids x (headers.Arp a) hs free more few = few
+fewer_ids x h hs free more few = search rules
 
 pub are_few : (list : List ℕ) (x : Expectation) (w : Window) (hs : List Header) (e : Ending) (free : ℕ)
     → x.limit ≡ Some free → Stack list x w hs e → AreFew x hs free
 are_few list x w [] e free limit stack = record { headers = omega arith; ids = omega arith }
 are_few list x w (h ∷ hs) e free limit stack =
-    let known = stack.0.announced in
-    let later =
+    let more =
     are_few list (after x h) (payload w h) hs e (cond (is_extension (kind_of h)) (free - 1) free)
     (lowered_limit (is_extension (kind_of h)) x.limit free limit) stack.1 in
-    let fewer = fewer_left x h free limit known in
-    let few = later.headers in
-    record {
-      headers = omega (arith, fewer, few);
-      ids = fewer_ids x h hs free (λ extends. may_read x (kind_of h) free limit extends known) later.ids;
-    }
+    search (rules, lowered_limit, fewer_left, fewer_ids, may_read)
 
 -- ---- the packet
 
@@ -119,8 +88,7 @@ units_in list w (h ∷ hs) =
 
 units_there : (list : List ℕ) (w : Window) (hs : List Header) → AreUnitsAt list w hs (units_in list w hs)
 units_there list w [] = tt
-units_there list w (h ∷ hs) =
-    (record { kind = refl; offset = refl; bytes = refl }, units_there list (payload w h) hs)
+units_there list w (h ∷ hs) = (record { kind = refl; offset = refl; bytes = refl }, units_there list (payload w h) hs)
 
 units_mean : (list : List ℕ) (x : Expectation) (w : Window) (hs : List Header) (e : Ending) → IsBytes list
     → Stack list x w hs e → map header_of (units_in list w hs) ≡ hs
@@ -188,22 +156,16 @@ id_set (a ∷ b ∷ c ∷ l) vid lt = absurd (omega (arith, lt))
 
 -- the next one, and those after it
 next_unit : (us : List EtherUnit) (i : ℕ) (d : EtherUnit) → i < length us → drop i us ≡ get_or us i d ∷ drop (i + 1) us
-next_unit us i d lt =
-    let e : suc i ≡ i + 1 = omega arith in
-    drop-cons us i d lt ∙ ap (λ (n : ℕ). get_or us i d ∷ drop n us) e
+next_unit us i d lt = search (rules, drop-cons)
 
 next_ids : (us : List EtherUnit) (i : ℕ) (d : EtherUnit) (o : Option ℕ) → i < length us → unit_id (get_or us i d) ≡ o
     → unit_ids (drop i us) ≡ cons_option o (unit_ids (drop (i + 1) us))
-next_ids us i d o lt is =
-    ap unit_ids (next_unit us i d lt) ∙ ap (λ (o : Option ℕ). cons_option o (unit_ids (drop (i + 1) us))) is
+next_ids us i d o lt is = search (rules, next_unit)
 
 next_reach : (us : List EtherUnit) (i : ℕ) (d : EtherUnit) (most end total : ℕ) → i < length us
     → end ≡ unit_reach (get_or us i d)
     → max most (units_reach (drop i us)) ≡ total → max (max end most) (units_reach (drop (i + 1) us)) ≡ total
-next_reach us i d most end total lt is all =
-    max_turned end most (units_reach (drop (i + 1) us))
-    ∙ ap (λ (r : ℕ). max most (max r (units_reach (drop (i + 1) us)))) is
-    ∙ ap (λ (l : List EtherUnit). max most (units_reach l)) (sym (next_unit us i d lt)) ∙ all
+next_reach us i d most end total lt is all = search (rules, max_turned, next_unit)
 
 -- it is a VLAN tag
 pub facts_tag : (us : List EtherUnit) (i : ℕ) (vids : List ℕ) (vlans most end : ℕ) (d : EtherUnit)
@@ -216,22 +178,12 @@ facts_tag us i vids vlans most end d a lt few tag is =
     let vid = (get_or us i d).vlan.vid in
     let more : unit_ids (drop i us) ≡ vid ∷ unit_ids rest =
     next_ids us i d (Some vid) lt (ap (λ (b : Bool). cond b (Some vid) None) (eq-eqb (get_or us i d).kind 3 tag)) in
-    let all : a.front ++ vid ∷ unit_ids rest ≡ unit_ids us =
-    ap (λ (l : List ℕ). a.front ++ l) (sym more) ∙ a.later in
+    let all : a.front ++ vid ∷ unit_ids rest ≡ unit_ids us = ap (λ (l : List ℕ). a.front ++ l) (sym more) ∙ a.later in
     let len : length (a.front ++ vid ∷ unit_ids rest) ≡ length (unit_ids us) = ap length all in
     let two : length (a.front ++ vid ∷ unit_ids rest) ≡ length a.front + length (vid ∷ unit_ids rest) =
     length-append a.front (vid ∷ unit_ids rest) in
     let count = a.count in
-    record {
-      front = a.front ++ vid ∷ [];
-      ids = (λ i. set (a.ids i) (count i) vid) ∙ id_set a.front vid (omega (arith, len, two, few));
-      count =
-          let one : length (a.front ++ vid ∷ []) ≡ length a.front + length (vid ∷ []) =
-          length-append a.front (vid ∷ []) in
-          omega (arith, count, one);
-      later = append_assoc a.front (vid ∷ []) (unit_ids rest) ∙ all;
-      reaches = next_reach us i d most end (units_reach us) lt is a.reaches;
-    }
+    search (rules, id_set, length-append, append_assoc, next_reach)
 
 -- it is none
 pub facts_other : (us : List EtherUnit) (i : ℕ) (vids : List ℕ) (vlans most end : ℕ) (d : EtherUnit)
@@ -242,13 +194,7 @@ facts_other us i vids vlans most end d a lt other is =
     let vid = (get_or us i d).vlan.vid in
     let more : unit_ids (drop i us) ≡ unit_ids (drop (i + 1) us) =
     next_ids us i d None lt (ap (λ (b : Bool). cond b (Some vid) None) (ne_eqb (get_or us i d).kind 3 other)) in
-    record {
-      front = a.front;
-      ids = a.ids;
-      count = a.count;
-      later = ap (λ (l : List ℕ). a.front ++ l) (sym more) ∙ a.later;
-      reaches = next_reach us i d most end (units_reach us) lt is a.reaches;
-    }
+    search (rules, next_reach)
 
 -- ---- the units of a packet
 
@@ -263,8 +209,7 @@ FewOf start hs = AreFew (packet_start start) hs 3
 
 pub few_of : (start : Start) (list : List ℕ) (old new : List EtherUnit) (count : ℕ)
     (g : GivesUnits (packet_start start) list old new count) → FewOf start g.headers
-few_of start list old new count g =
-    are_few list (packet_start start) (whole (packet_start start) list) g.headers g.ending 3 refl g.walk
+few_of start list old new count g = search (rules, are_few)
 
 pub few_units : (start : Start) (list : List ℕ) (old new : List EtherUnit) (count : ℕ)
     → GivesUnits (packet_start start) list old new count → count ≤ 5

@@ -1,11 +1,10 @@
 -- The units of a walk that is under way, in an array.
-use Rattle.std.proofs.Common.{◌≡◌, ℕ, ◌+◌, ◌-◌, ◌<◌, ◌≤◌, suc, List, [], ◌∷◌, ◌++◌, length, take, drop, set, false, refl, sym, ap, subst, ◌∙◌, arith, inl, inr}
+use Rattle.std.proofs.Common.{◌≡◌, ℕ, ◌+◌, ◌-◌, ◌<◌, ◌≤◌, suc, List, [], ◌∷◌, ◌++◌, length, take, drop, set, false, refl, sym, ap, subst, ◌∙◌, arith, rules}
 use Rattle.std.specs.Prelude.{Some, None, Err}
 use Rattle.std.proofs.Math.Seq.{take-nil, set_out, set-append_seam}
 use Rattle.std.proofs.lemmas.List.{append_assoc, append-nil, length-append, drop-drop, take_all, drop_all, take-append-le, length-take-le, length-drop}
 use Rattle.std.proofs.lemmas.Bool.{cases_lt}
 use Rattle.etherparse.specs.Bytes.{IsBytes}
-use Rattle.etherparse.specs.Macsec.{sec_tag_of}
 use Rattle.etherparse.specs.Header.{Header, header_len, Means}
 use Rattle.etherparse.specs.Header as headers
 use Rattle.etherparse.proofs.SubLists.{length-part, IsBytes-part}
@@ -36,9 +35,7 @@ header_shown bytes rest (headers.Ethernet2Fcs e) u ok m shows =
 header_shown bytes rest (headers.LinuxSll s) u ok m shows = ap header_of shows
     ∙ ap headers.LinuxSll (linux_sll_shown bytes s ok m)
 header_shown bytes rest (headers.Vlan v) u ok m shows = ap header_of shows ∙ ap headers.Vlan (vlan_shown bytes v ok m)
-header_shown bytes rest (headers.Macsec t) u ok m shows =
-    ap header_of shows.1 ∙ ap (λ (l : List ℕ). headers.Macsec (sec_tag_of l)) shows.2.header
-    ∙ ap headers.Macsec (macsec_shown bytes t ok m)
+header_shown bytes rest (headers.Macsec t) u ok m shows = search (rules, macsec_shown)
 header_shown bytes rest (headers.Arp a) u ok m shows = ap header_of shows ∙ ap headers.Arp (arp_shown bytes a ok m)
 
 -- ---- an array that is filled from its front on
@@ -70,22 +67,12 @@ full : {X : Type 0} (front old mid : List X) (u : X) (count : ℕ) → count ≡
     → Holds front old mid count
     → Holds (front ++ u ∷ []) old (set mid count u) (count + 1)
 full front old mid u count counted le held =
-    let taken = take-append-le (length old) front (u ∷ []) (omega arith) in
-    let none = drop_all count old le in
-    let after = drop_all (count + 1) old (omega arith) in
-    let short : length mid ≤ count =
-    let e = ap length held in let f = length-append (take (length old) front) (drop count old)
-    in let g = length-take-le (length old) front (omega arith) in let h = ap length none in omega arith in
-    set_out mid count u short ∙ held ∙ (λ i. sym taken i ++ (none ∙ sym after) i)
+    search (rules, take-append-le, drop_all, length-append, length-take-le, set_out)
 
 pub put_next : {X : Type 0} (front old mid : List X) (u : X) (count : ℕ) → count ≡ length front
     → Holds front old mid count
     → Holds (front ++ u ∷ []) old (set mid count u) (count + 1)
-put_next front old mid u count counted held =
-    elim (cases_lt count (length old)) [
-      | inl lt ↦ filled front old mid u count counted lt held
-      | inr le ↦ full front old mid u count counted le held
-    ]
+put_next front old mid u count counted held = search (rules, cases_lt, filled, full)
 
 -- ---- a walk that is under way
 
@@ -106,19 +93,7 @@ pub record GivesSoFar (start : Expectation) (list : List ℕ) (s : State) (count
 pub gives_first : (start : Expectation) (list : List ℕ) (s : State) (old : List EtherUnit) (hs : List Header)
     (e : Ending) → Walk start list hs e → Faces list (whole start list) s hs e → s.over ≡ false
     → GivesSoFar start list s 0 old old
-gives_first start list s old hs e walk faces going = record {
-  headers = hs;
-  ending = e;
-  walk = walk;
-  window = whole start list;
-  left = hs;
-  faces = faces;
-  going = going;
-  front = [];
-  parts = refl;
-  counted = refl;
-  holds = ap (λ (l : List EtherUnit). l ++ old) (sym (take-nil (length old)));
-}
+gives_first start list s old hs e walk faces going = search (rules, take-nil)
 
 -- ---- a unit
 
@@ -132,12 +107,7 @@ pub record UnitGiven (list : List ℕ) (w : Window) (left : List Header) (e : En
 
 same_end : (list : List ℕ) (w : Window) (s : State) (hs : List Header) (e : Ending) → Faces list w s hs e
     → s.offset + length s.rest ≡ w.finish
-same_end list w s hs e faces =
-    let ordered = faces.inside.ordered in
-    let at = faces.offset in
-    let len : length s.rest ≡ w.finish - w.start = ap length faces.rest
-    ∙ length-part list w.start w.finish faces.inside.inside in
-    omega arith
+same_end list w s hs e faces = search (rules, length-part)
 
 pub unit_given : (list : List ℕ) (w : Window) (left : List Header) (e : Ending) (s t : State) (u : PeelUnit)
     → IsBytes list → Faces list w s left e → UnitNext list w left e s t u → UnitGiven list w left e s t u
@@ -198,17 +168,7 @@ length-given w (h ∷ hs) = ap suc (length-given (payload w h) hs)
 
 gives_end : (start : Expectation) (list : List ℕ) (s : State) (count : ℕ) (old new : List EtherUnit)
     (a : GivesSoFar start list s count old new) → a.left ≡ [] → GivesUnits start list old new count
-gives_end start list s count old new a none =
-    let all : c_units (whole start list) a.headers ≡ a.front = a.parts
-    ∙ ap (λ (l : List Header). a.front ++ c_units a.window l) none ∙ append-nil a.front in
-    record {
-      headers = a.headers;
-      ending = a.ending;
-      walk = a.walk;
-      one = λ ks f other. one_stack list start (whole start list) ks a.headers f a.ending other a.walk;
-      counted = a.counted ∙ sym (ap length all) ∙ length-given (whole start list) a.headers;
-      units = a.holds ∙ ap (λ (l : List EtherUnit). take (length old) l ++ drop count old) (sym all);
-    }
+gives_end start list s count old new a none = search (rules, append-nil, one_stack, length-given)
 
 pub gives_fault : (start : Expectation) (list : List ℕ) (s t : State) (count : ℕ) (f : PeelFault)
     (old new : List EtherUnit) → GivesSoFar start list s count old new → Gives s (Some (Err f)) t

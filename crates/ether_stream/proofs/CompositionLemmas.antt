@@ -1,18 +1,15 @@
 -- Packets are selected twice.
-use Rattle.std.proofs.Common.{◌≡◌, ◌≢◌, ℕ, List, [], Option, Some, None, refl, sym, subst, ◌∙◌}
+use Rattle.std.proofs.Common.{◌≡◌, ◌≢◌, ℕ, List, [], Option, Some, None, refl, sym, ◌∙◌, rules}
 use Rattle.std.specs.Prelude.{◌↔◌}
 use Rattle.ether_base.specs.Bytes.{IsBytes}
-use Rattle.etherparse.specs.Header.{Header}
-use Rattle.ether_peel.specs.Grammar.Expectation.{Next, Expectation}
-use Rattle.ether_peel.specs.Grammar.Stack.{Ending, whole}
+use Rattle.ether_peel.specs.Grammar.Expectation.{Next}
 use Rattle.ether_peel.proofs.Grammar.Stacks.{one_stack}
-use Rattle.ether_filter.specs.Expressions.{Expression, Join, Holds}
+use Rattle.ether_filter.specs.Expressions.{Expression, Join}
 use Rattle.ether_filter.specs.declared.node.Operator.TheVariants.{And}
 use Rattle.ether_pcap.specs.Capture.{PacketValue}
 use Rattle.ether_pcap.specs.CopiedUnits.{Changed}
 use Rattle.ether_pcap.specs.Copies.{CopyFault, EditsNone, EditsOnce}
 use Rattle.ether_pcap.proofs.CopiesCompose.{composed, composed_twice, copies_alike}
-use Rattle.ether_content.specs.Content.{content_of}
 use Rattle.ether_content.specs.Selecting.{HoldsOf, Selects}
 use Rattle.ether_content.proofs.ContentLemmas.{walked_once}
 use Rattle.ether_stream.specs.Composition.{SelectsTo}
@@ -24,50 +21,10 @@ use Rattle.ether_stream.proofs.CopiesLemmas.{is_copy}
 holds_both : (x y : Expression) (next : Next) (frame : List ℕ) (captured original : ℕ)
     → HoldsOf x next frame captured original → HoldsOf y next frame captured original
     → HoldsOf (Join And x y) next frame captured original
-holds_both x y next frame captured original a b =
-    let start : Expectation = record { next = next; limit = None } in
-    let one = one_stack frame start (whole start frame) b.headers a.headers b.ending a.ending b.walk a.walk in
-    record {
-      headers = a.headers;
-      ending = a.ending;
-      walk = a.walk;
-      holds = (
-        a.holds,
-        subst (λ (hs : List Header). Holds y (record { start = next; headers = hs; ending = a.ending; captured = captured; original = original })) one.0
-            (subst (λ (e : Ending). Holds y (record { start = next; headers = b.headers; ending = e; captured = captured; original = original })) one.1
-            b.holds),
-      );
-    }
+holds_both x y next frame captured original a b = search (rules, one_stack)
 
 selects_both : (x y : Expression) (p : PacketValue) → (Selects x p × Selects y p) ↔ Selects (Join And x y) p
-selects_both x y p = (
-  λ both.
-      let one = walked_once (content_of p) both.1.next both.0.next both.1.frame both.0.frame both.1.walked both.0.walked in
-      record {
-        next = both.0.next;
-        frame = both.0.frame;
-        walked = both.0.walked;
-        holds =
-            holds_both x y both.0.next both.0.frame _ _ both.0.holds
-            (subst (λ (n : Next). HoldsOf y n both.0.frame _ _) one.0
-            (subst (λ (f : List ℕ). HoldsOf y both.1.next f _ _) one.1 both.1.holds));
-      },
-  λ is.
-      let h = is.holds in (
-        record {
-          next = is.next;
-          frame = is.frame;
-          walked = is.walked;
-          holds = record { headers = h.headers; ending = h.ending; walk = h.walk; holds = h.holds.0 };
-        },
-        record {
-          next = is.next;
-          frame = is.frame;
-          walked = is.walked;
-          holds = record { headers = h.headers; ending = h.ending; walk = h.walk; holds = h.holds.1 };
-        },
-      ),
-)
+selects_both x y p = search (rules, walked_once, holds_both)
 
 -- ---- no packet is edited
 
@@ -97,5 +54,4 @@ pub selected_again : (x : Expression) (bytes between copy rest left : List ℕ) 
     → IsBytes bytes → IsBytes between → between ≢ []
     → SelectsTo x bytes between rest fault → SelectsTo x between copy left other → copy ≡ between
 selected_again x bytes between copy rest left fault other ok ok_between some once twice =
-    composed_twice (EditsIf None) unedited one_edit 65536 (Selects x) bytes between copy once.kept once.edited twice.kept
-    twice.edited rest left fault other ok ok_between some once.copies twice.copies
+    search (rules, composed_twice, unedited, one_edit)

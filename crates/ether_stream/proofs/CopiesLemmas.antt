@@ -1,5 +1,5 @@
 -- Copies of a capture, as further units are read.
-use Rattle.std.proofs.Common.{◌≡◌, ◌≢◌, ◌⊎◌, ℕ, ◌≤◌, List, [], ◌∷◌, ◌++◌, length, take, drop, Option, Some, None, refl, sym, ap, subst, ◌∙◌, arith, append_assoc, append-nil, inl, inr, zero, suc}
+use Rattle.std.proofs.Common.{◌≡◌, ◌≢◌, ◌⊎◌, ℕ, ◌≤◌, List, [], ◌∷◌, ◌++◌, length, take, drop, Option, Some, None, refl, sym, ap, subst, ◌∙◌, arith, append_assoc, append-nil, inl, inr, zero, suc, rules}
 use Rattle.std.proofs.lemmas.List.{take-append-le, take_all, length-take-le}
 use Rattle.ether_stream.specs.declared.selection.Selection.{Selection}
 use Rattle.ether_pcap.specs.Capture.{PacketValue, Expectation, HasBegun, CaptureRefusal, Begins, Refuses, IsEnd, HasPackets}
@@ -21,10 +21,7 @@ use Rattle.ether_stream.proofs.PacketsLemmas.{unit_front, after_front}
 -- a unit is the front of what is left with it
 own_front : (buffered later : List ℕ) (len : ℕ) → len ≤ length buffered
     → take len (take len buffered ++ later) ≡ take len buffered
-own_front buffered later len within =
-    let front = take len buffered in
-    let long : length front ≡ len = length-take-le len buffered within in
-    take-append-le len front later (omega (arith, long)) ∙ take_all len front (omega (arith, long))
+own_front buffered later len within = search (rules, length-take-le, take-append-le, take_all)
 
 -- no packet is edited, if no edit is asked for
 none_edited : (asked : Option EditValue) → asked ≡ None → EditsNone (EditsIf asked)
@@ -53,9 +50,7 @@ module _ (mode : ModeValue) (select : Option Selection) (asked : Option EditValu
   copied_read : (bytes copy : List ℕ) (kept edited : List PacketValue) (rest : List ℕ) (fault : Option CopyFault)
       → Copied capture_start bytes copy kept edited rest fault → copy ≢ []
       → HasPackets capture_start copy edited [] None
-  copied_read bytes copy kept edited rest fault copies some =
-      subst (λ (x : Expectation). HasPackets x copy edited [] None) (start_in mode)
-      (copy_read mode (IsChosen select) (EditsIf asked) capture_start bytes copy kept edited rest fault copies (inr some))
+  copied_read bytes copy kept edited rest fault copies some = search (rules, start_in, copy_read)
 
   -- what is known of a copy
   pub is_copy : (bytes copy : List ℕ) (kept edited : List PacketValue) (rest : List ℕ) (fault : Option CopyFault)
@@ -98,8 +93,7 @@ module _ (mode : ModeValue) (select : Option Selection) (asked : Option EditValu
       (rest : List ℕ) (fault : Option CopyFault)
       → len ≤ length buffered → Copied y later more others changed rest fault
       → Copied y (drop len (take len buffered ++ later)) more others changed rest fault
-  left_copied y buffered later more len others changed rest fault within copies =
-      subst (λ (l : List ℕ). Copied y l more others changed rest fault) (sym (after_front buffered later len within)) copies
+  left_copied y buffered later more len others changed rest fault within copies = search (rules, after_front)
 
   -- nothing is read
   pub CopiesOn-start : Goes [] [] [] [] capture_start
@@ -174,11 +168,7 @@ module _ (mode : ModeValue) (select : Option Selection) (asked : Option EditValu
   ended_copy : (bytes copy : List ℕ) (kept edited : List PacketValue) (rest : List ℕ) (fault : Option CopyFault)
       → Copied capture_start bytes (copy ++ []) (kept ++ []) (edited ++ []) rest fault
       → Copied capture_start bytes copy kept edited rest fault
-  ended_copy bytes copy kept edited rest fault copies =
-      subst (λ (l : List ℕ). Copied capture_start bytes l kept edited rest fault) (append-nil copy)
-      (subst (λ (l : List PacketValue). Copied capture_start bytes (copy ++ []) l edited rest fault) (append-nil kept)
-      (subst (λ (l : List PacketValue). Copied capture_start bytes (copy ++ []) (kept ++ []) l rest fault)
-      (append-nil edited) copies))
+  ended_copy bytes copy kept edited rest fault copies = search (rules, append-nil)
 
   -- .. at the end of a capture that has begun
   pub copied_to_end : (front copy : List ℕ) (kept edited : List PacketValue) (x : Expectation) → HasBegun x
@@ -226,8 +216,7 @@ module _ (mode : ModeValue) (select : Option Selection) (asked : Option EditValu
 pub unit_there : (mode : ModeValue) (x y : Expectation) (own bytes : List ℕ) (p : PacketValue) (o : Option EditedValue)
     (text : Option (List ℕ))
     → x ≡ y → own ≡ bytes → unit_after mode x p o own ≡ text → unit_after mode y p o bytes ≡ text
-unit_there mode x y own bytes p o text at unit_is e =
-    ap (λ (z : Expectation). unit_after mode z p o bytes) (sym at) ∙ ap (unit_after mode x p o) (sym unit_is) ∙ e
+unit_there mode x y own bytes p o text at unit_is e = search rules
 
 -- the padding, from at most three zeros
 pub zeros_of_three : (k : ℕ) → k ≤ 3 → take k (0 ∷ 0 ∷ 0 ∷ []) ≡ zeros k

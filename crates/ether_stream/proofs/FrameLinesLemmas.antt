@@ -1,5 +1,5 @@
 -- The text of a time whose seconds have ten digits.
-use Rattle.std.proofs.Common.{◌≡◌, ℕ, ◌+◌, ◌/◌, ◌%◌, ◌^◌, ◌<◌, ◌≤◌, List, ◌∷◌, ◌++◌, ap, ◌∙◌, arith}
+use Rattle.std.proofs.Common.{◌≡◌, ℕ, ◌+◌, ◌/◌, ◌^◌, ◌<◌, ◌≤◌, List, ◌∷◌, ◌++◌, rules}
 use Rattle.std.specs.Prelude.{codes, slice_index_or}
 use Rattle.std.specs.Fmt.{decimal}
 use Rattle.ether_text.specs.Decimals.{eight_digits}
@@ -14,9 +14,7 @@ ten_digits n =
 
 of_ten_digits : (n : ℕ) → 10 ^ 9 ≤ n → n < 10 ^ 10 → ten_digits n ≡ decimal n
 unfolding eight_digits
-of_ten_digits n most few =
-    let tens : n / 10 ^ 8 / 10 % 10 ≡ n / 10 ^ 8 / 10 = omega arith in
-    (λ i. (48 + tens i) ∷ (48 + n / 10 ^ 8 % 10) ∷ eight_digits n) ∙ of_ten n most few
+of_ten_digits n most few = search (rules, of_ten)
 
 -- the text between two words, with the digits of the seconds
 abbrev pub between_words : List ℕ → ℕ → List ℕ
@@ -25,5 +23,4 @@ between_words seconds nanoseconds =
 
 pub recent_time : (seconds nanoseconds : ℕ) → 10 ^ 9 ≤ seconds → seconds < 10 ^ 10
     → between_words (ten_digits seconds) nanoseconds ≡ between_words (decimal seconds) nanoseconds
-recent_time seconds nanoseconds most few =
-    ap (λ (l : List ℕ). between_words l nanoseconds) (of_ten_digits seconds most few)
+recent_time seconds nanoseconds most few = search (rules, of_ten_digits)

@@ -1,11 +1,10 @@
 -- The bytes of a buffer after some are taken, and after more are read to the end of its room.
-use Rattle.std.proofs.Common.{◌≡◌, ℕ, ◌+◌, ◌-◌, ◌≤◌, List, ◌++◌, length, take, drop, Result, Ok, Err, IfOk, sym, ap, subst, ◌∙◌, arith}
+use Rattle.std.proofs.Common.{◌≡◌, ℕ, ◌+◌, ◌-◌, ◌≤◌, List, ◌++◌, length, take, drop, sym, ap, subst, ◌∙◌, arith, rules}
 use borrow.Rule.Slice.PartMut.{put_mid}
 use Rattle.std.specs.Prelude.{slice_range}
 use Rattle.std.proofs.lemmas.List.{drop-take}
 use Rattle.std.proofs.lemmas.Slice.{between-put_mid}
 use Rattle.ether_base.proofs.SubLists.{length-part, rest_of_part, part_join}
-use Rattle.ether_stream.specs.declared.outcome.RunFault.{RunFault}
 
 pub consumed : (xs : List ℕ) (start end count : ℕ) → start + count ≤ end
     → slice_range xs (start + count) end ≡ drop count (slice_range xs start end)
@@ -22,9 +21,7 @@ kept xs ys start end ordered same =
 
 pub grown : (xs ys : List ℕ) (start end n : ℕ) → start ≤ end → take end ys ≡ take end xs
     → slice_range ys start (end + n) ≡ slice_range xs start end ++ slice_range ys end (end + n)
-grown xs ys start end n ordered same =
-    sym (part_join ys start end (end + n) ordered (omega arith))
-    ∙ ap (λ (t : List ℕ). t ++ slice_range ys end (end + n)) (kept xs ys start end ordered same)
+grown xs ys start end n ordered same = search (rules, part_join, kept)
 
 -- what is left of a part that was written, but for its front
 left_part : (bytes mid : List ℕ) (start end taken : ℕ) → start ≤ end → end ≤ length bytes
@@ -33,18 +30,4 @@ left_part : (bytes mid : List ℕ) (start end taken : ℕ) → start ≤ end →
     → slice_range (put_mid start (end - start) bytes mid) (start + taken) end
     ≡ drop taken (slice_range bytes start end)
 left_part bytes mid start end taken ordered within len most same =
-    let new = put_mid start (end - start) bytes mid in
-    let part = length-part bytes start end within in
-    consumed new start end taken (omega (arith, part, most, ordered))
-    ∙ ap (drop taken) (between-put_mid start (end - start) bytes mid end (omega (arith, ordered, within)) (len ∙ part))
-    ∙ same
-
-pub left_between : {E : Type 0} (r : Result (ℕ × E) RunFault) (bytes mid : List ℕ) (start end : ℕ) → start ≤ end
-    → end ≤ length bytes → length mid ≡ length (slice_range bytes start end)
-    → IfOk r (λ found. found.0 ≤ length (slice_range bytes start end))
-    → IfOk r (λ found. drop found.0 mid ≡ drop found.0 (slice_range bytes start end))
-    → IfOk r (λ found. slice_range (put_mid start (end - start) bytes mid) (start + found.0) end
-    ≡ drop found.0 (slice_range bytes start end))
-left_between (Ok found) bytes mid start end ordered within len most same =
-    left_part bytes mid start end found.0 ordered within len most same
-left_between (Err fault) bytes mid start end ordered within len most same = tt
+    search (rules, length-part, consumed, between-put_mid)

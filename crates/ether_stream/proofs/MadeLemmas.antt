@@ -1,5 +1,5 @@
 -- What is made of the units of a capture, one after another.
-use Rattle.std.proofs.Common.{◌≡◌, ℕ, ◌+◌, ◌≤◌, ◌⊎◌, List, [], ◌∷◌, ◌++◌, length, take, drop, Bool, true, false, ◌&&◌, Option, Some, None, unwrap_or, refl, sym, ap, subst, ◌∙◌, arith, append_assoc, append-nil, inl, inr}
+use Rattle.std.proofs.Common.{◌≡◌, ℕ, ◌+◌, ◌≤◌, ◌⊎◌, List, [], ◌∷◌, ◌++◌, length, take, drop, Bool, true, false, ◌&&◌, Option, Some, None, unwrap_or, refl, sym, ap, subst, ◌∙◌, arith, append_assoc, append-nil, inl, inr, rules}
 use Rattle.std.proofs.Math.Bool.{and_assoc}
 use Rattle.std.proofs.lemmas.List.{length-append, take-append-drop, length-take-le}
 use Rattle.std.proofs.lemmas.List.Sums.{sum_by-append}
@@ -12,7 +12,7 @@ use Rattle.ether_pcap.proofs.CaptureLocality.{unit_alone}
 use Rattle.ether_pcap.proofs.PacketUnits.{same_after}
 use Rattle.ether_content.specs.Editing.{EditValue}
 use Rattle.ether_text.specs.Verdict.{verdict_of, verdict_with}
-use Rattle.ether_stream.specs.Answering.{AreAnswered, AreListed}
+use Rattle.ether_stream.specs.Answering.{AreAnswered}
 use Rattle.ether_stream.specs.Copying.{CopiesOn}
 use Rattle.ether_stream.specs.FrameLines.{AnswersPacket, skip_count}
 use Rattle.ether_stream.specs.Packets.{capture_start, counted}
@@ -42,16 +42,7 @@ pub AreAnswered-push : (select : Option Selection) (options : LineOptions) (befo
     → AnswersPacket select options (counted (before + length packets + 1)) p more accepted
     → AreAnswered select options before (packets ++ p ∷ []) (text ++ more) (all && accepted)
 AreAnswered-push select options before [] text all p more accepted so_far is =
-    let n : before + length {A = PacketValue} [] + 1 ≡ before + 1 = omega arith in (
-      more,
-      accepted,
-      [],
-      true,
-      subst (λ (k : ℕ). AnswersPacket select options (counted k) p more accepted) n is,
-      (refl, refl),
-      ap (λ (t : List ℕ). t ++ more) so_far.0 ∙ sym (append-nil more),
-      ap (λ (b : Bool). b && accepted) so_far.1 ∙ and_true accepted,
-    )
+    let n : before + length {A = PacketValue} [] + 1 ≡ before + 1 = omega arith in search (rules, append-nil, and_true)
 AreAnswered-push select options before (first ∷ others) text all p more accepted so_far is =
     let (one, one_accepted, rest, others_accepted, here, there, whole, every) = so_far in
     let n : before + length (first ∷ others) + 1 ≡ before + 1 + length others + 1 = omega arith in (
@@ -83,14 +74,11 @@ some_none a e = absurd cc
 -- the front with a unit more
 pub front_after : (input front buffered : List ℕ) (len : ℕ) → input ≡ front ++ buffered
     → input ≡ (front ++ take len buffered) ++ drop len buffered
-front_after input front buffered len is =
-    is ∙ ap (λ (l : List ℕ). front ++ l) (sym (take-append-drop len buffered))
-    ∙ sym (append_assoc front (take len buffered) (drop len buffered))
+front_after input front buffered len is = search (rules, take-append-drop, append_assoc)
 
 pub front_len : (front buffered : List ℕ) (len : ℕ) → len ≤ length buffered
     → length (front ++ take len buffered) ≡ length front + len
-front_len front buffered len within =
-    length-append front (take len buffered) ∙ ap (λ (n : ℕ). length front + n) (length-take-le len buffered within)
+front_len front buffered len within = search (rules, length-append, length-take-le)
 
 -- ---- what is chosen
 
@@ -124,8 +112,7 @@ with_packet packets (Some p) = packets ++ p ∷ []
 abbrev pub KeptMore : (select : Option Selection) → (old : List PacketValue) → Option PacketValue
     → (new : List PacketValue) → Type 0
 KeptMore select old None new = new ≡ old
-KeptMore select old (Some p) new =
-    (IsChosen select p × (new ≡ old ++ p ∷ [])) ⊎ (¬ (IsChosen select p) × (new ≡ old))
+KeptMore select old (Some p) new = (IsChosen select p × (new ≡ old ++ p ∷ [])) ⊎ (¬ (IsChosen select p) × (new ≡ old))
 
 -- what is made with a unit more
 pub record MadeMore (select : Option Selection) (form : FormValue) (packets old : List PacketValue)
@@ -181,8 +168,7 @@ copied_more mode select edit packets kept front copy all x y buffered len packet
     }
 copied_more mode select edit packets kept front copy all x y buffered len packet own more text within begins unit_is
     selected made is (writes_nothing p not_chosen) =
-    let same : copy ≡ copy ++ more =
-    sym (append-nil copy) ∙ ap (λ (l : List ℕ). copy ++ l) (some_text [] more is) in
+    let same : copy ≡ copy ++ more = sym (append-nil copy) ∙ ap (λ (l : List ℕ). copy ++ l) (some_text [] more is) in
     record {
       kept = kept;
       more = inr (not_chosen, refl);
@@ -236,14 +222,7 @@ made_more select (Lines options) packets kept front text all x y buffered len nu
     let same : text ≡ text ++ more =
     sym (append-nil text) ∙ ap (λ (l : List ℕ). text ++ l) (sym (some_text more [] makes.0)) in
     let same_all : all ≡ (all && accepted) = sym (and_is_true all) ∙ ap (λ (b : Bool). all && b) (sym makes.1) in
-    record {
-      kept = kept;
-      more = refl;
-      selected = selected;
-      made =
-          subst (λ (b : Bool). AreListed select options packets (text ++ more) b) same_all
-          (subst (λ (l : List ℕ). AreListed select options packets l all) same made);
-    }
+    search rules
 made_more select (Lines options) packets kept front text all x y buffered len number (Some p) own more accepted within
     begins unit_is is selected made (lines, answers, e) =
     let same : lines ≡ more = sym (some_text more lines e) in
@@ -279,7 +258,4 @@ own_unit buffered x y len packet within begins =
 pub packet_of_unit : (buffered : List ℕ) (x y : Expectation) (len : ℕ) (packet : Option PacketValue)
     → len ≤ length buffered → Begins buffered x len packet y → IsUnitOf y (take len buffered) packet
 packet_of_unit buffered x y len None within begins = (x, own_unit buffered x y len None within begins)
-packet_of_unit buffered x y len (Some p) within begins =
-    let front = take len buffered in
-    subst (λ (z : Expectation). Begins front z (length front) (Some p) y) (sym (same_after buffered x y len p begins))
-    (own_unit buffered x y len (Some p) within begins)
+packet_of_unit buffered x y len (Some p) within begins = search (rules, same_after, own_unit)

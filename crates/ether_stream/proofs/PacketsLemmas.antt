@@ -1,5 +1,5 @@
 -- The packets of a capture, as further units are read.
-use Rattle.std.proofs.Common.{◌≡◌, ℕ, ◌≤◌, List, [], ◌∷◌, ◌++◌, length, take, drop, Option, Some, None, refl, sym, ap, subst, ◌∙◌, arith, append_assoc, append-nil}
+use Rattle.std.proofs.Common.{◌≡◌, ℕ, ◌≤◌, List, [], ◌∷◌, ◌++◌, length, take, drop, Option, Some, None, refl, sym, subst, arith, append_assoc, append-nil, rules}
 use Rattle.std.proofs.lemmas.List.{drop-append-le, drop_all, take-append-drop, length-take-le}
 use Rattle.ether_pcap.specs.Capture.{PacketValue, Expectation, HasBegun, CaptureRefusal, Begins, Refuses, IsEnd, HasPackets, ended, refused, unit, packet}
 use Rattle.ether_pcap.proofs.CaptureLocality.{unit_local, unit_alone}
@@ -18,11 +18,7 @@ unit_front buffered later x y len p within begins =
 -- .. after which that is left
 pub after_front : (buffered later : List ℕ) (len : ℕ) → len ≤ length buffered
     → drop len (take len buffered ++ later) ≡ later
-after_front buffered later len within =
-    let front = take len buffered in
-    let long : length front ≡ len = length-take-le len buffered within in
-    drop-append-le len front later (omega (arith, long))
-    ∙ ap (λ (l : List ℕ). l ++ later) (drop_all len front (omega (arith, long)))
+after_front buffered later len within = search (rules, length-take-le, drop-append-le, drop_all)
 
 -- nothing is read
 pub GoesOn-start : GoesOn [] [] capture_start

@@ -1,5 +1,5 @@
 -- How far a run has come, one unit of the capture after another.
-use Rattle.std.proofs.Common.{◌≡◌, ◌≢◌, ℕ, zero, suc, ◌+◌, ◌-◌, ◌<◌, ◌≤◌, List, [], ◌∷◌, ◌++◌, length, take, drop, slice_range, Bool, true, ◌&&◌, Option, Some, None, unwrap_or, Result, Ok, Err, IsErrAnd, IfErr, refl, sym, ap, subst, ◌∙◌, arith, append_assoc, inl, inr}
+use Rattle.std.proofs.Common.{◌≡◌, ◌≢◌, ℕ, zero, suc, ◌+◌, ◌-◌, ◌<◌, ◌≤◌, List, [], ◌∷◌, ◌++◌, length, take, drop, slice_range, Bool, true, ◌&&◌, Option, Some, None, unwrap_or, Result, Ok, Err, IsErrAnd, IfErr, refl, sym, ap, subst, ◌∙◌, arith, append_assoc, inl, inr, rules}
 use Rattle.std.proofs.lemmas.List.{length-append, length-drop, take_all, length-take-le}
 use Rattle.std.specs.List.{sum_by}
 use Rattle.std.specs.Io.KnownBytes.{Appends}
@@ -14,7 +14,7 @@ use Rattle.ether_text.specs.OutputBuffer.{contents_of, WritesOut}
 use Rattle.ether_text.specs.Verdict.{verdict_with}
 use Rattle.ether_text.specs.declared.output_buffer.OutputBuffer.{OutputBuffer}
 use Rattle.ether_text.specs.declared.verdict.Verdict.{Verdict}
-use Rattle.ether_text.proofs.KnownBytesLemmas.{Appends-none, Appends-then, Appends-written_out}
+use Rattle.ether_text.proofs.KnownBytesLemmas.{Appends-none, Appends-then}
 use Rattle.ether_stream.specs.Copying.{EditsIf}
 use Rattle.ether_stream.specs.Counting.{AreCounted}
 use Rattle.ether_stream.specs.FrameLines.{skip_count}
@@ -49,8 +49,7 @@ counts_more : {X : Type 0} (select : Option Selection) (before : ℕ) (packets :
     → (new.count ≡ counted (before + length (with_packet packets packet)))
     × (new.skipped ≡ counted (sum_by skip_count (with_packet packets packet)))
     × HasOpen select (with_packet packets packet) new.undecided
-counts_more select before packets None old new counts count skipped so_far =
-    (counts.0 ∙ count, counts.1 ∙ skipped, subst (HasOpen select packets) (sym counts.2) so_far)
+counts_more select before packets None old new counts count skipped so_far = search rules
 counts_more select before packets (Some p) old new counts count skipped so_far =
     let more = length-append packets (p ∷ []) in
     let skips = skipped-push packets p in
@@ -66,11 +65,7 @@ counts_more select before packets (Some p) old new counts count skipped so_far =
           selected = chosen-push (IsOpen select) packets has.undecided p is has.selected;
           is_count = omega (arith, one, was, long);
         }
-    open_more (inr (not, same)) has = record {
-      undecided = has.undecided;
-      selected = left-push (IsOpen select) packets has.undecided p not has.selected;
-      is_count = same ∙ has.is_count;
-    }
+    open_more (inr (not, same)) has = search (rules, left-push)
 
 -- ---- how many packets are left that are asked for
 
@@ -107,30 +102,14 @@ left_more : (select : Option Selection) (count : Option ℕ) (kept kept' : List 
     (packet : Option PacketValue) (old new : Option ℕ)
     → IsLeftOf count (length kept) old → old ≢ Some 0 → KeptMore select kept packet kept'
     → LeftMore select packet old new → IsLeftOf count (length kept') new
-left_more select count kept kept' None old new is some more less =
-    subst (λ (l : List PacketValue). IsLeftOf count (length l) new) (sym more)
-    (subst (λ (o : Option ℕ). IsLeftOf count (length kept) o) (sym less) is)
-left_more select None kept kept' (Some p) None new is some more less = less
-left_more select (Some n) kept kept' (Some p) None new (l, left, sum) some more less = absurd cc
-left_more select count kept kept' (Some p) (Some m) new is some (inl more) (inl less) =
-    subst (λ (l : List PacketValue). IsLeftOf count (length l) new) (sym more.1)
-    (chosen_left count kept p m new (λ e. some (ap (λ (k : ℕ). Some k) e)) is less.1)
-left_more select count kept kept' (Some p) (Some m) new is some (inr more) (inr less) =
-    subst (λ (l : List PacketValue). IsLeftOf count (length l) new) (sym more.1)
-    (subst (λ (o : Option ℕ). IsLeftOf count (length kept) o) (sym less.1) is)
-left_more select count kept kept' (Some p) (Some m) new is some (inl more) (inr less) = absurd (less.0 more.0)
-left_more select count kept kept' (Some p) (Some m) new is some (inr more) (inl less) = absurd (more.0 less.0)
+left_more select count kept kept' None old new is some more less = search rules
+left_more select count kept kept' h old new is some more less = search (rules, chosen_left)
 
 -- the last packet that is asked for
 last_left : (count : Option ℕ) (k m : ℕ) (new : Option ℕ) → m ≢ 0 → IsLeftOf count k (Some m) → new ≡ Some (m - 1)
     → new ≡ Some 0 → count ≡ Some (suc k)
 last_left None k zero new some is e done = absurd cc
-last_left None k (suc m) new some is e done = absurd cc
-last_left (Some n) k zero new some is e done = absurd (some refl)
-last_left (Some n) k (suc m) new some (l, left, sum) e done =
-    let same = some_number (suc m) l left in
-    let last = some_number (suc m - 1) 0 (sym e ∙ done) in
-    ap (λ (j : ℕ). Some j) (omega (arith, same, last, sum))
+last_left h k a new some is e done = search (rules, some_number)
 
 -- the front ends with it
 ends_more : (select : Option Selection) (count : Option ℕ) (packets kept : List PacketValue) (front : List ℕ)
@@ -141,29 +120,8 @@ ends_more : (select : Option Selection) (count : Option ℕ) (packets kept : Lis
     → HasBegun y × EndsAtCount select count (front ++ take len buffered)
 ends_more select count packets kept front x y buffered len None old new within begins go selected is some less done =
     absurd (some (sym less ∙ done))
-ends_more select count packets kept front x y buffered len (Some p) None new within begins go selected is some less
-    done = absurd cc
-ends_more select count packets kept front x y buffered len (Some p) (Some m) new within begins go selected is some
-    (inr less) done = absurd (some (sym less.1 ∙ done))
-ends_more select count packets kept front x y buffered len (Some p) (Some m) new within begins go selected is some
-    (inl less) done = (
-      begun buffered x y len (Some p) begins,
-      record {
-        before = front;
-        unit = take len buffered;
-        packets = packets;
-        kept = kept;
-        expected = y;
-        last = p;
-        place = refl;
-        parts = subst (λ (z : Expectation). GoesOn front packets z) (sym (same_after buffered x y len p begins)) go;
-        begins = packet_of_unit buffered x y len (Some p) within begins;
-        chosen = less.0;
-        selected = selected;
-        is_count =
-            last_left count (length kept) m new (λ e. some (ap (λ (k : ℕ). Some k) e)) is less.1 done;
-      },
-    )
+ends_more select count packets kept front x y buffered len h old new within begins go selected is some less done =
+    search (rules, begun, same_after, packet_of_unit, last_left)
 
 -- none are chosen at first
 pub all_left : (count : Option ℕ) → IsLeftOf count 0 count
@@ -181,26 +139,12 @@ module _ {W X : Type 0} (task : TaskValue) (contents : W → Option (List ℕ)) 
   pub Reached-fewer : (held : Option (List ℕ)) (input buffered : List ℕ) (at : Progress X) (out : OutputBuffer W)
       → at.left ≢ Some 0 → (so_far : Reached task contents held input buffered at out)
       → HasFewer task.select task.count so_far.front
-  Reached-fewer held input buffered at out some so_far = record {
-    packets = so_far.packets;
-    kept = so_far.kept;
-    expected = at.reader;
-    parts = so_far.parts;
-    selected = so_far.selected;
-    below = is_below task.count (length so_far.kept) at.left so_far.is_left some;
-  }
+  Reached-fewer held input buffered at out some so_far = search (rules, is_below)
 
   -- how many packets were read
   pub Reached-counted : (held : Option (List ℕ)) (input buffered : List ℕ) (at : Progress X) (out : OutputBuffer W)
       → (so_far : Reached task contents held input buffered at out) → AreCounted task so_far.packets (counts_at at)
-  Reached-counted held input buffered at out so_far = record {
-    kept = so_far.kept;
-    selected = so_far.selected;
-    is_number = so_far.is_count;
-    is_skipped = so_far.is_skipped;
-    undecided = so_far.undecided;
-    is_left = so_far.is_left;
-  }
+  Reached-counted held input buffered at out so_far = search rules
 
   -- nothing is read
   pub Reached-start : (start : Progress X) (out : OutputBuffer W) → IsStart task start
@@ -233,51 +177,13 @@ module _ {W X : Type 0} (task : TaskValue) (contents : W → Option (List ℕ)) 
       (old new : OutputBuffer W)
       → WritesOut contents old new → Reached task contents held input buffered at old
       → Reached task contents held input buffered at new
-  Reached-written_out held input buffered at old new drains so_far = record {
-    packets = so_far.packets;
-    kept = so_far.kept;
-    front = so_far.front;
-    text = so_far.text;
-    all_accepted = so_far.all_accepted;
-    place = so_far.place;
-    parts = so_far.parts;
-    selected = so_far.selected;
-    made = so_far.made;
-    is_verdict = so_far.is_verdict;
-    is_count = so_far.is_count;
-    is_skipped = so_far.is_skipped;
-    undecided = so_far.undecided;
-    is_offset = so_far.is_offset;
-    is_left = so_far.is_left;
-    at_count = so_far.at_count;
-    written =
-        Appends-written_out held (contents old.writer.now) (contents new.writer.now) old.waiting.items new.waiting.items
-        so_far.text so_far.written drains.written drains.none_waits;
-  }
+  Reached-written_out held input buffered at old new drains so_far = search rules
 
   -- more bytes are read
   pub Reached-more : (held : Option (List ℕ)) (input buffered chunk : List ℕ) (at : Progress X) (out : OutputBuffer W)
       → Reached task contents held input buffered at out
       → Reached task contents held (input ++ chunk) (buffered ++ chunk) at out
-  Reached-more held input buffered chunk at out so_far = record {
-    packets = so_far.packets;
-    kept = so_far.kept;
-    front = so_far.front;
-    text = so_far.text;
-    all_accepted = so_far.all_accepted;
-    place = ap (λ (l : List ℕ). l ++ chunk) so_far.place ∙ append_assoc so_far.front buffered chunk;
-    parts = so_far.parts;
-    selected = so_far.selected;
-    made = so_far.made;
-    is_verdict = so_far.is_verdict;
-    is_count = so_far.is_count;
-    is_skipped = so_far.is_skipped;
-    undecided = so_far.undecided;
-    is_offset = so_far.is_offset;
-    is_left = so_far.is_left;
-    at_count = so_far.at_count;
-    written = so_far.written;
-  }
+  Reached-more held input buffered chunk at out so_far = search (rules, append_assoc)
 
   -- a unit is taken
   pub Reached-unit : (held : Option (List ℕ)) (input buffered : List ℕ) (old new : Progress X) (y : Expectation)
@@ -439,16 +345,8 @@ unit_unwritten task contents whole bytes buffered y len packet first old begin f
     some is begins stops reached = λ held input so_far.
     Reached-stopped task.select task.count contents task.form held input buffered old y from to len packet bytes offset
     some begins is stops (reached held input so_far)
-unit_unwritten task contents whole bytes buffered y len packet first old begin from to (faults.Capture f) some is begins
-    stops reached = tt
-unit_unwritten task contents whole bytes buffered y len packet first old begin from to faults.Input some is begins stops
-    reached = tt
-unit_unwritten task contents whole bytes buffered y len packet first old begin from to faults.Output some is begins
-    stops
-    reached = tt
-unit_unwritten task contents whole bytes buffered y len packet first old begin from to faults.Memory some is begins
-    stops
-    reached = tt
+unit_unwritten task contents whole bytes buffered y len packet first old begin from to h some is begins stops reached =
+    search rules
 
 -- ---- the unit that is taken
 

@@ -1,5 +1,5 @@
 -- What a run has read and written, one read after another.
-use Rattle.std.proofs.Common.{◌⊎◌, ◌+◌, ◌-◌, ◌^◌, ◌≡◌, ◌≢◌, ℕ, ◌<◌, ◌≤◌, List, [], ◌∷◌, ◌++◌, length, drop, Bool, Option, Some, None, unwrap_or, Result, Ok, Err, IfOk, IfErr, IsErrAnd, OnOk, refl, sym, ap, subst, ◌∙◌, arith, append_assoc, append-nil, inl, inr, IfSome}
+use Rattle.std.proofs.Common.{◌⊎◌, ◌+◌, ◌-◌, ◌^◌, ◌≡◌, ◌≢◌, ℕ, ◌<◌, ◌≤◌, List, [], ◌∷◌, ◌++◌, length, drop, Bool, Option, Some, None, unwrap_or, Result, Ok, Err, IfOk, IfErr, IsErrAnd, OnOk, refl, sym, ap, subst, ◌∙◌, arith, append_assoc, append-nil, inl, inr, rules}
 use Rattle.std.specs.List.{sum_by}
 use Rattle.std.specs.Io.KnownBytes.{Appends, Consumes, IsAtEnd, Keeps}
 use Rattle.ether_stream.specs.declared.selection.Selection.{Selection}
@@ -18,7 +18,7 @@ use Rattle.ether_text.specs.declared.output_buffer.OutputBuffer.{OutputBuffer}
 use Rattle.ether_text.specs.declared.verdict.Verdict.{Verdict}
 use Rattle.ether_text.proofs.KnownBytesLemmas.{Appends-then, Consumes-kept}
 use Rattle.ether_text.specs.Run.{IsLeft, BreaksOffAfter, IsEndless}
-use Rattle.ether_text.proofs.RunLemmas.{IsLeft-left_of, IsLeft-end, Consumes-nothing, answers_flushed, stops_flushed, breaks_flushed, answers_slice, stops_slice, breaks_slice, no_endless_slice}
+use Rattle.ether_text.proofs.RunLemmas.{IsLeft-left_of, IsLeft-end, answers_flushed, stops_flushed, breaks_flushed, answers_slice, stops_slice, breaks_slice, no_endless_slice}
 use Rattle.ether_stream.specs.Copying.{IsCopy}
 use Rattle.ether_stream.specs.Counting.{HasCounted, IfRead}
 use Rattle.ether_stream.specs.FrameLines.{if_selected, skip_count}
@@ -32,7 +32,7 @@ use Rattle.ether_stream.specs.declared.outcome.RunFault.TheVariants as faults
 use Rattle.ether_stream.specs.declared.progress.Progress.{Progress}
 use Rattle.ether_stream.proofs.CopiesLemmas.{is_copy, copied_to_end, copied_to_refusal, copied_to_packet, read_so_far}
 use Rattle.ether_stream.proofs.PacketsLemmas.{GoesOn-ended, GoesOn-refused}
-use Rattle.ether_stream.proofs.ProgressLemmas.{Reached-fewer, Reached-counted}
+use Rattle.ether_stream.proofs.ProgressLemmas.{Reached-fewer}
 
 -- ---- what is left
 
@@ -43,8 +43,7 @@ no_bytes (b ∷ l) e = absurd (omega arith)
 -- the last read gave nothing
 pub consumed_all : (before mid after : Option (List ℕ)) (input more : List ℕ) → Consumes before mid input
     → Consumes mid after more → length more ≡ 0 → Consumes before after input
-consumed_all before mid after input more h k none =
-    Consumes-nothing before mid after input more h k (no_bytes more none)
+consumed_all before mid after input more h k none = search (rules, no_bytes)
 
 -- the last read gave nothing
 pub same_left : (left more : List ℕ) → length more ≡ 0 → left ++ more ≡ left
@@ -54,10 +53,7 @@ same_left left more none = ap (λ (l : List ℕ). left ++ l) (no_bytes more none
 pub has_room : (left : List ℕ) (x : Expectation) (r : CaptureRefusal) (n : ℕ) (held : List ℕ) (space : ℕ)
     → Refuses left x r → required_len r ≡ Some n
     → held ≡ left → n ≤ space → length held < space
-has_room left x r n held space refused needs same fits =
-    let short = required_above left x r n refused needs in
-    let e = ap length same in
-    omega (arith, short, e, fits)
+has_room left x r n held space refused needs same fits = search (rules, required_above)
 
 -- nothing is first in nothing
 nothing_first : (xs ys : List ℕ) → xs ++ ys ≡ [] → xs ≡ []
@@ -75,19 +71,14 @@ nothing_of_blocks r n some none = let e : Some n ≡ None = sym some ∙ none in
 pub refused_nothing : (bytes : List ℕ) (x : Expectation) (r : CaptureRefusal) → bytes ≡ [] → Refuses bytes x r
     → required_len r ≡ None → ⊥
 refused_nothing bytes x r e (file_header_refused most s other (file.short lt)) none = nothing_of_blocks r 24 refl none
-refused_nothing bytes x r e (file_header_refused most s other (file.magic le never)) none =
-    let n = ap length e in omega (arith, le, n)
+refused_nothing bytes x r e (file_header_refused most s other (file.magic le never)) none = search rules
 refused_nothing bytes x r e (file_header_refused most s other (file.version order resolution le has never)) none =
     let n = ap length e in omega (arith, le, n)
 refused_nothing bytes x r e (file_record_refused h s (record_rows.header lt)) none = nothing_of_blocks r 16 refl none
-refused_nothing bytes x r e (file_record_refused h s (record_rows.too_long le lt)) none =
-    let n = ap length e in omega (arith, le, n)
-refused_nothing bytes x r e (file_record_refused h s (record_rows.packet le small lt)) none =
-    let n = ap length e in omega (arith, le, n)
-refused_nothing bytes x r e (first_section_refused most s has refused) none =
-    no_section (subst section_rows.HasSectionType e has)
-refused_nothing bytes x r e (section_refused most order interfaces s has refused) none =
-    no_section (subst section_rows.HasSectionType e has)
+refused_nothing bytes x r e (file_record_refused h s (record_rows.too_long le lt)) none = search rules
+refused_nothing bytes x r e (file_record_refused h s (record_rows.packet le small lt)) none = search rules
+refused_nothing bytes x r e (first_section_refused most s has refused) none = search (rules, no_section)
+refused_nothing bytes x r e (section_refused most order interfaces s has refused) none = search (rules, no_section)
 refused_nothing bytes x r e (block_refused most order interfaces s other (block_rows.front lt)) none =
     nothing_of_blocks r 12 refl none
 refused_nothing bytes x r e (block_refused most order interfaces s other (block_rows.total_len le never)) none =
@@ -97,8 +88,7 @@ refused_nothing bytes x r e (block_refused most order interfaces s other (block_
 refused_nothing bytes x r e
     (block_refused most order interfaces s other (block_rows.trailer m k le is sound whole at never)) none =
     let n = ap length e in omega (arith, le, n)
-refused_nothing bytes x r e (body_refused most order interfaces b s other begins refused) none =
-    let n = ap length e in let w = begins.whole in omega (arith, w, n)
+refused_nothing bytes x r e (body_refused most order interfaces b s other begins refused) none = search rules
 
 -- ---- what is made of a capture, by how it ends
 
@@ -165,42 +155,13 @@ module _ (select : Option Selection) (bytes front text : List ℕ) (packets kept
   broken : (Needs : Option ℕ → Type 0) (form : FormValue) (rest : List ℕ) (reason : CaptureRefusal)
       → bytes ≡ front ++ rest → Refuses rest x reason → Needs (required_len reason) → HasFewer select count front
       → Made select form packets kept front text all x → EndsInUnit Needs select count form packets bytes text
-  broken Needs (Lines options) rest reason place refused unfinished fewer made = record {
-    front = front;
-    rest = rest;
-    expected = x;
-    all_accepted = all;
-    reason = reason;
-    parts = go;
-    place = place;
-    begun = refused;
-    unfinished = unfinished;
-    fewer = fewer;
-    answered = made;
-  }
-  broken Needs (Copy mode edit) rest reason place refused unfinished fewer made = record {
-    kept = kept;
-    edited = made.0;
-    front = front;
-    rest = rest;
-    expected = x;
-    reason = reason;
-    parts = made.1;
-    place = place;
-    begun = refused;
-    unfinished = unfinished;
-    fewer = fewer;
-    is_read = λ some. read_so_far mode select edit front text kept made.0 x rest reason refused made.1 some;
-  }
+  broken Needs (Lines options) rest reason place refused unfinished fewer made = search rules
+  broken Needs (Copy mode edit) rest reason place refused unfinished fewer made = search (rules, read_so_far)
 
 -- what is counted is said of the outcomes that count
 if_read : (r : Result Verdict RunFault) {P : Type 0} → P → IfRead r P
 if_read (Ok verdict) p = p
-if_read (Err (faults.Capture fault)) p = p
-if_read (Err (faults.NotEdited offset)) p = tt
-if_read (Err faults.Input) p = p
-if_read (Err faults.Output) p = tt
-if_read (Err faults.Memory) p = p
+if_read h p = search rules
 
 -- ---- a run
 
@@ -252,18 +213,7 @@ module _ {W X : Type 0} (task : TaskValue) (contents : W → Option (List ℕ)) 
       → TakesUnits task contents buffered old from left error new to
   units_left buffered bytes left old new from to n error same is takes =
       let e : drop n bytes ≡ left = ap (drop n) same ∙ sym is in
-      record {
-        reached = λ held input so_far.
-            subst (λ (l : List ℕ). Reached task contents held input l new to) e
-            (takes.reached held input
-            (subst (λ (l : List ℕ). Reached task contents held input l old from) (sym same) so_far));
-        refused =
-            subst
-            (λ (l : List ℕ).
-            IfSome error (λ it. Refuses l new.reader (capture_refusal_view it) × (new.left ≢ Some 0)))
-            e takes.refused;
-        done = takes.done;
-      }
+      search rules
 
   module _ (before after held : Option (List ℕ)) where
     -- the packets that were read are counted
@@ -271,11 +221,7 @@ module _ {W X : Type 0} (task : TaskValue) (contents : W → Option (List ℕ)) 
         (r : Result Verdict RunFault) (so_far : Reached task contents held input buffered at out)
         → HasRunOver task so_far.packets before after held holds r
         → HasCounted task before after held holds r (counts_at at)
-    counted_as input buffered at out holds r so_far run = record {
-      packets = so_far.packets;
-      run = run;
-      counted = if_read r (Reached-counted task contents held input buffered at out so_far);
-    }
+    counted_as input buffered at out holds r so_far run = search (rules, if_read)
 
     stops : (input buffered left : List ℕ) (at : Progress X) (out : OutputBuffer W) (error : CaptureError)
         (fault : RunFault)
@@ -335,9 +281,7 @@ module _ {W X : Type 0} (task : TaskValue) (contents : W → Option (List ℕ)) 
     -- the writer fails, and nothing is said
     output_failed : (at : Progress X) (to : OutputBuffer W) (fault : RunFault) → fault ≡ faults.Output
         → HasCounted task before after held (contents_of contents to) (Err fault) (counts_at at)
-    output_failed at to fault failed =
-        subst (λ (f : RunFault). HasCounted task before after held (contents_of contents to) (Err f) (counts_at at))
-        (sym failed) (record { packets = []; run = tt; counted = tt })
+    output_failed at to fault failed = search rules
 
     -- all units are taken
     pub finished : (input buffered : List ℕ) (at : Progress X) (from to : OutputBuffer W) (r : Result Verdict RunFault)
@@ -373,8 +317,7 @@ module _ {W X : Type 0} (task : TaskValue) (contents : W → Option (List ℕ)) 
               Appends-then held (contents_of contents from) (contents_of contents to) so_far.text last so_far.written
               (subst (λ (t : List ℕ). Appends (contents_of contents from) (contents_of contents to) t) same written);
         }))
-    finished input buffered at from to (Err fault) read end some over is written failed so_far =
-        output_failed at to fault failed
+    finished input buffered at from to (Err fault) read end some over is written failed so_far = search rules
 
     -- all packets that are asked for are taken
     pub counted_out : (input buffered : List ℕ) (at : Progress X) (from to : OutputBuffer W) (r : Result Verdict RunFault)
@@ -415,8 +358,7 @@ module _ {W X : Type 0} (task : TaskValue) (contents : W → Option (List ℕ)) 
               Appends-then held (contents_of contents from) (contents_of contents to) so_far.text last so_far.written
               (subst (λ (t : List ℕ). Appends (contents_of contents from) (contents_of contents to) t) same written);
         }))
-    counted_out input buffered at from to (Err fault) read none is written failed so_far =
-        output_failed at to fault failed
+    counted_out input buffered at from to (Err fault) read none is written failed so_far = search rules
 
     -- a unit is not whole
     breaks_off : (Needs : Option ℕ → Type 0) (input buffered : List ℕ) (at : Progress X) (out : OutputBuffer W)
@@ -444,8 +386,7 @@ module _ {W X : Type 0} (task : TaskValue) (contents : W → Option (List ℕ)) 
         → at.left ≢ Some 0 → Refuses buffered at.reader reason → required_len reason ≢ None
         → Reached task contents held input buffered at out
         → HasCounted task before after held (contents_of contents out) r (counts_at at)
-    broken_off mid (Ok verdict) input buffered at out reason read kept is some refused needed so_far =
-        absurd is
+    broken_off mid (Ok verdict) input buffered at out reason read kept is some refused needed so_far = absurd is
     broken_off mid (Err fault) input buffered at out reason read kept is some refused needed so_far =
         counted_as input buffered at out (contents_of contents out) (Err fault) so_far
         (subst (λ (f : RunFault). HasRunOver task so_far.packets before after held (contents_of contents out) (Err f))
@@ -474,14 +415,10 @@ module _ {W X : Type 0} (task : TaskValue) (contents : W → Option (List ℕ)) 
         → IsTakingFault fault → OnNotEdited fault (λ offset. StopsAfter task contents buffered old from offset to)
         → Consumes before after input → Reached task contents held input buffered old from
         → HasCounted task before after held (contents_of contents to) (Err fault) (counts_at new)
-    stopped_taking (faults.Capture fault) input buffered old new from to is stops read so_far = absurd is
     stopped_taking (faults.NotEdited offset) input buffered old new from to is stops read so_far =
         let said = at_packet task contents before after held task.form input offset to read (stops held input so_far) in
         record { packets = []; run = said; counted = tt }
-    stopped_taking faults.Input input buffered old new from to is stops read so_far = absurd is
-    stopped_taking faults.Output input buffered old new from to is stops read so_far =
-        record { packets = []; run = tt; counted = tt }
-    stopped_taking faults.Memory input buffered old new from to is stops read so_far = absurd is
+    stopped_taking h input buffered old new from to is stops read so_far = search rules
 
     pub stopped_with : (r : Result Verdict RunFault) (fault : RunFault) (input buffered : List ℕ) (old new : Progress X)
         (from to : OutputBuffer W)
@@ -522,19 +459,7 @@ pub HasCounted-flushed : {W : Type 0} (task : TaskValue) (contents : W → Optio
     (counts : PacketCounts)
     → WritesOut contents from to → HasCounted task before after held (contents_of contents from) r counts
     → HasCounted task before after held (contents to.writer.now) r counts
-HasCounted-flushed task contents before after held from to r counts drains h = record {
-  packets = h.packets;
-  run = HasRunOver-flushed task contents before after held from to r h.packets drains h.run;
-  counted = h.counted;
-}
-
--- what is said of known bytes is said of the same bytes
-pub HasCounted-same : (task : TaskValue) (r : Result Verdict RunFault) (counts counts' : PacketCounts)
-    (before after held holds before' after' held' holds' : Option (List ℕ))
-    → before ≡ before' → after ≡ after' → held ≡ held' → holds ≡ holds' → counts ≡ counts'
-    → HasCounted task before after held holds r counts → HasCounted task before' after' held' holds' r counts'
-HasCounted-same task r counts counts' before after held holds before' after' held' holds' e f g h k =
-    subst (λ (t : Type 0). t) (λ i. HasCounted task (e i) (f i) (g i) (h i) r (k i))
+HasCounted-flushed task contents before after held from to r counts drains h = search (rules, HasRunOver-flushed)
 
 -- .. without the number of packets
 pub has_run : (task : TaskValue) (r : Result Verdict RunFault) (counts : PacketCounts)

@@ -1,5 +1,5 @@
 -- A word and a text ask for one edit of VLAN tags at most.
-use Rattle.std.proofs.Common.{◌≡◌, ℕ, ◌+◌, ◌<◌, List, [], ◌∷◌, ◌++◌, codes, length, drop, true, Some, None, refl, sym, ap, subst, ◌∙◌, arith, append_assoc, length-append}
+use Rattle.std.proofs.Common.{◌≡◌, ℕ, ◌+◌, ◌<◌, List, [], ◌∷◌, ◌++◌, codes, length, drop, true, Some, None, refl, sym, ap, subst, ◌∙◌, arith, append_assoc, length-append, rules}
 use Rattle.std.specs.Prelude.{◌==◌, Option, unwrap_or, IfSome, IfNone}
 use Rattle.std.specs.List.{slice_split}
 use Rattle.std.proofs.lemmas.List.{drop_at}
@@ -20,8 +20,7 @@ first_of (x ∷ xs) = x
 
 -- the parts of a text
 parts_are : (text before after : List ℕ) → SplitsAtColon text before after → parts_of text ≡ before ∷ parts_of after
-parts_are text before after is =
-    ap parts_of is.parts ∙ slice_split_at (λ b. b == 58) before 58 after is.no_colon refl
+parts_are text before after is = ap parts_of is.parts ∙ slice_split_at (λ b. b == 58) before 58 after is.no_colon refl
 
 after_is : (text before after : List ℕ) → SplitsAtColon text before after → drop (length before + 1) text ≡ after
 after_is text before after is =
@@ -44,15 +43,11 @@ no_split text before after none is =
     omega (arith, len, some)
 
 pub same_number : (m n : ℕ) (o : Option (Option ℕ)) → o ≡ Some (Some m) → o ≡ Some (Some n) → m ≡ n
-same_number m n o e f =
-    ap (λ (z : Option (Option ℕ)). unwrap_or (unwrap_or z (Some m)) m) (sym e ∙ f)
+same_number m n o e f = ap (λ (z : Option (Option ℕ)). unwrap_or (unwrap_or z (Some m)) m) (sym e ∙ f)
 
 pair_one : (text : List ℕ) (m n k l : ℕ) → IsPair text m n → IsPair text k l → (m ≡ k) × (n ≡ l)
 pair_one text m n k l p q =
-    let same = split_one text p.before p.after q.before q.after p.split q.split in (
-      same_number m k (number_in q.before) (ap number_in (sym same.0) ∙ p.first) q.first,
-      same_number n l (number_in q.after) (ap number_in (sym same.1) ∙ p.second) q.second,
-    )
+    let same = split_one text p.before p.after q.before q.after p.split q.split in search (rules, same_number)
 
 -- ---- one edit
 

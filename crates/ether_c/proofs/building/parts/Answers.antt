@@ -1,4 +1,4 @@
-use Rattle.std.proofs.Common.{take, length}
+use Rattle.std.proofs.Common.{take, length, rules}
 use Rattle.std.proofs.lemmas.List.{nil_from_length}
 use Rattle.ether_c.specs.Building.{no_unit, bad_link}
 use Rattle.ether_c.proofs.BuiltParts.{tags_refused, arp_refused}
@@ -12,11 +12,7 @@ returns-in-Err-clause-refused c =
     bad_link c.in-Some.first.now c.in-Some.inner.now c.in-Err.status c.in-Some.ensures.cases.0 c.in-Err.ensures.none
 
 pub returns-in-Err-put_tags-clause-refused : goal.returns-in-Err-put_tags-clause-refused
-returns-in-Err-put_tags-clause-refused c =
-    tags_refused c.args.units.now c.in-Some.inner.now c.split_at.result.0.now c.in-Some.first.now c.in-Ok.link
-    c.tag_count.result c.args.bytes.now c.in-Err-put_tags.refusal.0 c.in-Err-put_tags.refusal.1
-    c.in-Some.ensures.cases.0 c.in-Ok.ensures.link c.split_at.ensures.front c.tag_count.ensures.split
-    c.in-Err-put_tags.ensures.refused
+returns-in-Err-put_tags-clause-refused c = search (rules, tags_refused)
 
 pub returns-in-Err-passed_arp-clause-refused : goal.returns-in-Err-passed_arp-clause-refused
 returns-in-Err-passed_arp-clause-refused c =

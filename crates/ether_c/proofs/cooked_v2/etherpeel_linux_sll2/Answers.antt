@@ -2,7 +2,7 @@ use Rattle.std.proofs.Common.{ℕ, sym, subst}
 use Rattle.ether_sll2.specs.LinuxSll2.{linux_sll2_of}
 use Rattle.ether_sll2.specs.Views.{refusal_view}
 use Rattle.ether_c.specs.declared.ether_linux_sll2.EtherLinuxSll2.{EtherLinuxSll2}
-use Rattle.ether_c.specs.CookedV2.{GivesLinuxSll2, c_linux_sll2_refusal}
+use Rattle.ether_c.specs.CookedV2.{GivesLinuxSll2}
 use Rattle.ether_c.specs.CookedV2 as cooked
 use Rattle.ether_c.proofs.cooked_v2.etherpeel_linux_sll2.Goals as goal
 

@@ -1,4 +1,4 @@
-use Rattle.std.proofs.Common.{ℕ, ◌^◌, ◌<◌, ◌≤◌, length, arith}
+use Rattle.std.proofs.Common.{ℕ, ◌^◌, ◌<◌, ◌≤◌, length, arith, rules}
 use Rattle.std.proofs.Math.Nat.{pow-le-pow_right}
 use Rattle.std.proofs.lemmas.Grind.{pow_more}
 use Rattle.ether_c.proofs.BitNumbers.{number-take_next}
@@ -27,11 +27,4 @@ overflow_add-number c =
     omega arith
 
 pub loop-byte-preserved : goal.loop-byte-preserved
-loop-byte-preserved c =
-    let next = number-take_next c.args.bytes.now c.loop-byte.byte-index 0 (omega (arith, c.loop-byte-test.true)) in
-    let is = c.loop-byte.invariant.0 in
-    let below = c.loop-byte.invariant.1 in
-    let byte = c.from.ensures in
-    let fits = c.type_inv.bytes c.loop-byte.byte-index in
-    let power = pow_more 256 c.loop-byte.byte-index in
-    (omega arith, omega arith)
+loop-byte-preserved c = search (rules, number-take_next, pow_more)

@@ -1,4 +1,4 @@
-use Rattle.std.proofs.Common.{◌≡◌, ℕ, List, length, sym, subst, ◌∙◌, refl, arith}
+use Rattle.std.proofs.Common.{sym, subst, ◌∙◌, refl, arith, rules}
 use Rattle.std.specs.Prelude.{Option, IfSome}
 use Rattle.ether_peel.specs.declared.start.Start.{Start}
 use Rattle.ether_c.specs.declared.ether_headers.EtherHeaders.{EtherHeaders}
@@ -8,14 +8,10 @@ use Rattle.ether_c.proofs.PacketGiven.{few_units, few_ids, gives_packet}
 use Rattle.ether_c.proofs.reading_packet.etherpeel_packet.Goals as goal
 
 pub shared_ref_as_front-packet_facts : goal.shared_ref_as_front-packet_facts
-shared_ref_as_front-packet_facts c =
-    few_units c.in-Some.start c.args.bytes.now c.args.headers.now.units c.walked-found.new.units
-    c.walked-found.result.units c.walked-found.ensures.units
+shared_ref_as_front-packet_facts c = search (rules, few_units)
 
 pub packet_facts-facts-requires : goal.packet_facts-facts-requires
-packet_facts-facts-requires c =
-    few_ids c.in-Some.start c.args.bytes.now c.args.headers.now.units c.walked-found.new.units
-    c.walked-found.result.units c.walked-found.ensures.units (omega arith)
+packet_facts-facts-requires c = search (rules, few_ids)
 
 pub returns-clause-given : goal.returns-clause-given
 returns-clause-given c =

@@ -12,8 +12,7 @@ unfolding packet_line
 returns g c =
     let p = captured_packet_view c.args.packet.now in
     let n = counted (c.args.count.now + 1) in
-    let number : c.saturating_add.result ≡ n =
-    let a = c.saturating_add.ensures in omega (arith, a) in
+    let number : c.saturating_add.result ≡ n = let a = c.saturating_add.ensures in omega (arith, a) in
     let first = Takes-same (ap decimal number) c.write_decimal.ensures in
     let link = Takes-same (ap decimal c.from.ensures) c.write_decimal-2.ensures in
     let cut = Takes-same (ap (λ (b : Bool). mark b (codes " cut")) c.is_cut.ensures) c.write_mark.ensures in

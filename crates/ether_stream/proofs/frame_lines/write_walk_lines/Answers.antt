@@ -1,4 +1,4 @@
-use Rattle.std.proofs.Common.{ℕ, ◌+◌, List, [], ◌++◌, Option, Bor, true, refl, sym, subst, append-nil}
+use Rattle.std.proofs.Common.{ℕ, ◌+◌, List, ◌++◌, Option, Bor, refl, sym, subst, append-nil, rules}
 use Rattle.std.specs.Prelude.{codes}
 use Rattle.ether_peel.specs.Grammar.Expectation.{Next, EtherType}
 use Rattle.ether_peel.specs.Walker.Start.{start_with}
@@ -36,19 +36,7 @@ returns-in-Err g c =
     }
 
 pub returns-in-Unknown : goal.returns-in-Unknown
-returns-in-Unknown g c =
-    let line = packet_line_if c.args.options.is_plain (counted (c.args.count.now + 1))
-    (captured_packet_view c.args.packet.now) in
-    let is = rw c.in-Unknown.is at c.of-content.ensures in
-    record {
-      text = line;
-      answers = record {
-        lines = [];
-        content = subst (λ (f : ContentValue). AnswersContent c.args.options.limit f [] true) is (refl, refl);
-        whole = sym (append-nil line);
-      };
-      taken = c.write_packet_line.ensures;
-    }
+returns-in-Unknown g c = search (rules, append-nil)
 
 pub returns : goal.returns
 returns g c =

@@ -49,8 +49,7 @@ returns-in_default-clause-run g c =
     c.finish.ensures.written c.finish.ensures.fault (rest.reached _ taken so_far.reached)
 
 pub returns-in_default-clause-marks : goal.returns-in_default-clause-marks
-returns-in_default-clause-marks g c =
-    Marks-then _ _ _ (Marks-then _ _ _ c.loop-edits.invariant.1.marks c.take_units.ensures.marks) c.finish.ensures.marks
+returns-in_default-clause-marks g c = search rules
 
 pub returns-in_default-required_len-clause-run : goal.returns-in_default-required_len-clause-run
 returns-in_default-required_len-clause-run g c =
@@ -164,9 +163,7 @@ pub returns-in_err-error-clause-marks : goal.returns-in_err-error-clause-marks
 returns-in_err-error-clause-marks g c = Marks-then _ _ _ c.loop-edits.invariant.1.marks c.take_units.ensures.marks
 
 pub returns-in_err-write_out-clause-marks : goal.returns-in_err-write_out-clause-marks
-returns-in_err-write_out-clause-marks g c =
-    Marks-then _ _ _ (Marks-then _ _ _ c.loop-edits.invariant.1.marks c.take_units.ensures.marks)
-    c.write_out.ensures.marks
+returns-in_err-write_out-clause-marks g c = search rules
 
 pub returns-in_err-read-clause-cause : goal.returns-in_err-read-clause-cause
 returns-in_err-read-clause-cause g c =
@@ -178,21 +175,13 @@ returns-in_err-read-clause-cause g c =
     on_input stream_of c.from_residual-in_err-read.result _ why
 
 pub returns-in_err-read-clause-marks : goal.returns-in_err-read-clause-marks
-returns-in_err-read-clause-marks g c =
-    Marks-then _ _ _ (Marks-then _ _ _ c.loop-edits.invariant.1.marks c.take_units.ensures.marks)
-    c.write_out.ensures.marks
+returns-in_err-read-clause-marks g c = search rules
 
 pub returns-then-is_over-clause-marks : goal.returns-then-is_over-clause-marks
-returns-then-is_over-clause-marks g c =
-    Marks-then _ _ _
-    (Marks-then _ _ _ (Marks-then _ _ _ c.loop-edits.invariant.1.marks c.take_units.ensures.marks)
-    c.write_out.ensures.marks)
-    c.finish-then-is_over.ensures.marks
+returns-then-is_over-clause-marks g c = search rules
 
 pub returns-then-branch-eq0-clause-marks : goal.returns-then-branch-eq0-clause-marks
-returns-then-branch-eq0-clause-marks g c =
-    Marks-then _ _ _ (Marks-then _ _ _ c.loop-edits.invariant.1.marks c.take_units.ensures.marks)
-    c.write_out.ensures.marks
+returns-then-branch-eq0-clause-marks g c = search rules
 
 pub returns-in_err-error-clause-run : goal.returns-in_err-error-clause-run
 returns-in_err-error-clause-run g c =

@@ -1,35 +1,21 @@
-use Rattle.std.proofs.Common.{◌≡◌, Some, ◌+◌, ◌≤◌, ℕ, List, length, drop, refl, sym, subst, ◌∙◌, arith}
+use Rattle.std.proofs.Common.{◌≡◌, Some, ◌+◌, ◌≤◌, ℕ, List, length, drop, subst, ◌∙◌, arith, rules}
 use Rattle.std.specs.Prelude.{slice_range}
 use Rattle.std.specs.Option.{option_map}
 use Rattle.std.proofs.lemmas.List.{drop-drop, length-drop}
 use Rattle.ether_pcap.specs.Capture.{Begins}
 use Rattle.ether_pcap.specs.CaptureViews.{captured_packet_view}
-use Rattle.ether_text.proofs.OutputBufferLemmas.{Marks-none, Marks-then}
-use Rattle.ether_stream.specs.Progress.{Reached, IsUnitOf, OnNotEdited, StopsAfter}
+use Rattle.ether_text.proofs.OutputBufferLemmas.{Marks-then}
+use Rattle.ether_stream.specs.Progress.{Reached, OnNotEdited, StopsAfter}
 use Rattle.ether_stream.specs.Task.{task_view}
 use Rattle.ether_stream.proofs.MadeLemmas.{packet_of_unit}
 use Rattle.ether_stream.proofs.ProgressLemmas.{Reached-unit, unit_is, unit_unwritten, err_is, rest_is}
 use Rattle.ether_stream.proofs.progress.Progress.take_units.Goals as goal
 
 pub loop-self-init : goal.loop-self-init
-loop-self-init g c = record {
-  same_writer = refl;
-  marks = Marks-none g.W.Sink.can_fail c.args.out.now;
-  within = omega arith;
-  reached = λ held input so_far. so_far;
-}
+loop-self-init g c = search rules
 
 pub take_unit-requires : goal.take_unit-requires
-take_unit-requires g c =
-    let rest = drop c.loop-self.at c.args.bytes.now in
-    let len = c.in-Ok.unit.len in
-    let here = rest_is c.args.bytes.now c.loop-self.at in
-    let packet = option_map captured_packet_view c.in-Ok.unit.packet in
-    let begins =
-    subst (λ (l : List ℕ). Begins l c.loop-self.self.reader len packet c.read.new.self) here c.in-Ok.ensures.unit in
-    let within = subst (λ (l : List ℕ). len ≤ length l) here c.in-Ok.ensures.within in
-    subst (λ (l : List ℕ). IsUnitOf c.read.new.self l packet) (sym (unit_is c.args.bytes.now c.loop-self.at len))
-    (packet_of_unit rest c.loop-self.self.reader c.read.new.self len packet within begins)
+take_unit-requires g c = search (rules, rest_is, unit_is, packet_of_unit)
 
 pub returns-in_err-take_unit-clause-stopped : goal.returns-in_err-take_unit-clause-stopped
 returns-in_err-take_unit-clause-stopped g c =
@@ -67,8 +53,7 @@ loop-self-preserved g c =
     let packet = option_map captured_packet_view c.in-Ok.unit.packet in
     let begins =
     subst (λ (l : List ℕ). Begins l c.loop-self.self.reader len packet c.read.new.self) here c.in-Ok.ensures.unit in
-    let within : len ≤ length (drop at whole) =
-    subst (λ (l : List ℕ). len ≤ length l) here c.in-Ok.ensures.within in
+    let within : len ≤ length (drop at whole) = subst (λ (l : List ℕ). len ≤ length l) here c.in-Ok.ensures.within in
     let long = length-drop at whole in
     record {
       same_writer = c.take_unit.ensures.same_writer ∙ so_far.same_writer;

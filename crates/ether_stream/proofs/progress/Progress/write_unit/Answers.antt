@@ -1,11 +1,11 @@
-use Rattle.std.proofs.Common.{◌≡◌, ◌+◌, [], Some, None, true, false, refl, sym, subst, ◌∙◌}
+use Rattle.std.proofs.Common.{◌≡◌, ◌+◌, [], Some, None, true, false, refl, sym, subst, ◌∙◌, rules}
 use Rattle.std.specs.Prelude.{Option, Bool, IsTrue, ◌↔◌}
 use Rattle.std.specs.Option.{option_map}
 use Rattle.ether_pcap.specs.CaptureViews.{captured_packet_view}
 use Rattle.ether_pcap.specs.declared.capture.captured_packet.CapturedPacket.{CapturedPacket}
 use Rattle.ether_text.proofs.OutputBufferLemmas.{Takes-none}
 use Rattle.ether_stream.specs.Packets.{counted}
-use Rattle.ether_stream.specs.Progress.{IsChoice, MakesText, Makes, other_text, writes_packet}
+use Rattle.ether_stream.specs.Progress.{IsChoice, MakesText, Makes, writes_packet}
 use Rattle.ether_stream.specs.Task.{form_view, IsChosen}
 use Rattle.ether_stream.specs.declared.selection.Selection.{Selection}
 use Rattle.ether_stream.specs.declared.task.Form.{Form}
@@ -19,21 +19,7 @@ choice_of o p select is_chosen is choice =
     subst (λ (q : Option CapturedPacket). IsChoice select (option_map captured_packet_view q) is_chosen) is choice
 
 pub returns-in_default-clause-some : goal.returns-in_default-clause-some
-returns-in_default-clause-some g c =
-    let self = c.args.self.now in
-    let task = c.args.task.now in
-    let unit = c.args.unit.now in
-    let form = form_view task.form in
-    subst
-    (λ (o : Option CapturedPacket).
-    MakesText task.selection form self.reader (counted (self.count + 1)) unit (option_map captured_packet_view o)
-    g.W.Sink.contents g.W.Sink.can_fail c.args.out.now true c.write_other.new.out)
-    (sym c.in_default.is)
-    (record {
-      text = other_text form self.reader unit;
-      makes = other_made task.selection form self.reader (counted (self.count + 1)) unit;
-      taken = c.write_other.ensures;
-    })
+returns-in_default-clause-some g c = search (rules, other_made)
 
 pub returns-then-not-is_chosen-clause-some : goal.returns-then-not-is_chosen-clause-some
 returns-then-not-is_chosen-clause-some g c =

@@ -14,8 +14,7 @@ chosen_alike Kept S U false o selects leaves = (
 )
 chosen_alike Dropped S U false o selects leaves =
     (λ is. absurd cc, λ chosen. absurd (let bad = selects.1 chosen.0 in cc))
-chosen_alike Dropped S U true true selects leaves =
-    (λ is. absurd cc, λ chosen. absurd (chosen.1 (leaves.0 refl)))
+chosen_alike Dropped S U true true selects leaves = (λ is. absurd cc, λ chosen. absurd (chosen.1 (leaves.0 refl)))
 chosen_alike Dropped S U true false selects leaves =
     (λ is. (selects.0 refl, λ has. let bad = leaves.1 has in absurd cc), λ chosen. refl)
 
