@@ -84,7 +84,8 @@ ARTEFACTS = {
     },
     "Packets on one line": {
         "ether_format/src/packet.rt": ["write_packet"],
-        "ether_format/src/laws.rt": ["texts_are_one"],
+        "ether_format/src/columns.rt": ["of_names", "write_heading"],
+        "ether_format/src/laws.rt": ["columns_are_members", "texts_are_one"],
     },
     "Captures": {
         "ether_stream/src/run.rt": ["run"],
@@ -180,7 +181,7 @@ ORDER = {
     """,
     "Packets on one line": """
         ether_text: OutputBuffer Decimals
-        ether_format: Calendar Members Told Spelling Json Brief Texts Laws
+        ether_format: Calendar Members Told Spelling Json Brief Columns Texts Laws
     """,
     "Captures": """
         ether_pcap: Capture

@@ -25,7 +25,7 @@ from capture_streams import streams
 from json_lines import examples
 from programs import count, on_a_full_disk, run, run_apart, run_until_a_fault, without_memory
 
-USAGE = ("usage: ether_capture [[--plain | --format lines|brief|json] [--limit N] | --write [-w COPY] [--cut-to-headers | --pop-vlan | --push-vlan TPID:ID | --set-vlan A:B]] "
+USAGE = ("usage: ether_capture [[--plain | --format lines|brief|json | --fields COLUMNS [--header]] [--limit N] | --write [-w COPY] [--cut-to-headers | --pop-vlan | --push-vlan TPID:ID | --set-vlan A:B]] "
          "[--select EXPR [--undecided keep|drop]] [-c N] [--progress] [-r FILE | FILE..]\n")
 
 
@@ -275,6 +275,7 @@ EDIT = "ether_capture: expected at most one edit, as --push-vlan 0x8100:5 or --s
 COUNT = "ether_capture: -c: expected a number from 1 to 4294967295; try --help\n"
 LIMIT = "ether_capture: --limit: expected a number up to 4294967295; try --help\n"
 FORMAT = "ether_capture: --format: expected lines, brief or json; try --help\n"
+FIELDS = "ether_capture: --fields: expected at most 32 columns, as vlan.vid,eth.src; try --help\n"
 UNDECIDED = "ether_capture: --undecided: expected keep or drop; try --help\n"
 WRONG = [
     ("no number of packets", ["-c"], OPTION),
@@ -300,6 +301,21 @@ WRONG = [
     ("plain JSON", ["--format", "json", "--plain"], CLASH),
     ("JSON and a copy", ["--write", "--format", "json"], CLASH),
     ("JSON and a copy to a file", ["-w", "copy", "--format", "json"], CLASH),
+    ("no columns", ["--fields", ""], FIELDS),
+    ("a column of no section", ["--fields", "ip.src"], FIELDS),
+    ("a column of no member", ["--fields", "vlan.id"], FIELDS),
+    ("a section without its member", ["--fields", "vlan"], FIELDS),
+    ("a member of the place of all headers alone", ["--fields", "headers.vid"], FIELDS),
+    ("a comma after the last column", ["--fields", "vlan.vid,"], FIELDS),
+    ("a space after a comma", ["--fields", "vlan.vid, eth.src"], FIELDS),
+    ("33 columns", ["--fields", ",".join(["eth.src"] * 33)], FIELDS),
+    ("columns in capitals", ["--fields", "VLAN.VID"], FIELDS),
+    ("columns twice", ["--fields", "vlan.vid", "--fields", "eth.src"], OPTION),
+    ("columns without their names", ["--fields"], OPTION),
+    ("a line of names without columns", ["--header"], CLASH),
+    ("columns and JSON", ["--fields", "vlan.vid", "--format", "json"], CLASH),
+    ("plain columns", ["--fields", "vlan.vid", "--plain"], CLASH),
+    ("columns and a copy", ["--fields", "vlan.vid", "--write"], CLASH),
     ("an option that is none", ["--plane"], OPTION),
     ("the beginning of an option", ["--pla"], OPTION),
     ("a letter that is none", ["-p"], OPTION),

@@ -1,4 +1,4 @@
-"""Tests `ether_capture --format json` and `--format brief`: by worked examples, and with programs that read JSON or captures.
+"""Tests `ether_capture --format json`, `--format brief` and `--fields`: by worked examples, and with programs that read JSON or captures.
 
 `ether_capture.py` runs `examples`, `other_programs.py` runs `readers`.
 """
@@ -165,6 +165,51 @@ DOCUMENTED_LINE = (
     '"start":0,"end":14,"payload_end":14,"closed":false,"dst":"ff:ff:ff:ff:ff:ff","src":"02:00:00:00:00:01","type":2048,'
     '"fcs":null}],"rest":{"start":14,"end":14,"kind":"ether_type","type":2048}}\n')
 
+# The rows of columns, by hand from the bytes.
+ROWS = [
+    ("the example of the documentation", classic(joined("ffffffffffff 020000000001 8100 0005 0800"),
+                                                 joined("ffffffffffff 020000000001 88a8 0005 8100 0064 86dd")),
+     "frame.number,eth.src,vlan.vid,rest.type", 0, ["1\t02:00:00:00:00:01\t5\t0x0800", "2\t02:00:00:00:00:01\t5,100\t0x86DD"]),
+    ("tags", classic(joined("ffffffffffff 020000000001 88a8 a001 8100 0005 0800 aabb"), joined("ffffffffffff 020000000001 0800")),
+     "frame.number,vlan.vid,vlan.pcp,vlan.type,eth.type,eth.dst", 0,
+     ["1\t1,5\t5,0\t0x8100,0x0800\t0x88A8\tff:ff:ff:ff:ff:ff", "2\t\t\t\t0x0800\tff:ff:ff:ff:ff:ff"]),
+    ("a classic capture", CLASSIC, "frame.time,frame.captured,frame.original,headers.header,headers.end,rest.end,fault.kind,fault.required", 1,
+     ["2023-11-14T22:13:20.123456000Z\t19\t60\teth,vlan\t14,18\t\tlength\t4", "2023-11-14T22:13:21.000005000Z\t46\t46\teth,vlan\t14,18\t46\t\t"]),
+    ("ARP", classic(joined("ffffffffffff 020000000001 0806 0001 0800 06 04 0001 020000000001 0a000001 000000000000 0a000002")),
+     "arp.op,arp.sha,arp.spa,arp.tpa,arp.pro,eth.fcs,rest.kind", 0, ["1\t02:00:00:00:00:01\t10.0.0.1\t10.0.0.2\t0x0800\t\tafter_arp"]),
+    ("SecTags", classic(joined("ffffffffffff 020000000001 88e5 21 08 00000007 0200000000010001 0800 112233445566 77"),
+                        joined("ffffffffffff 020000000001 88e5 0e 00 00000001 aabb")), "macsec.an,macsec.pn,macsec.sci,macsec.type,macsec.closed", 0,
+     ["1\t7\t02:00:00:00:00:01:00:01\t0x0800\ttrue", "2\t1\t\t\tfalse"]),
+    ("cooked capture v1", cooked("0004 0338 0000 0000000000000000 0010 aa", 1), "sll.hw_type,sll.addr,sll.protocol,rest.type,eth.src", 0,
+     ["824\t\t0x0010\t0x0010\t"]),
+    ("sections", SECTIONS, "frame.link,frame.time,sll.addr,rest.kind,rest.start", 1,
+     ["1\t2023-11-14T22:13:20.123456000Z\t\t\t", "113\t2023-11-14T22:13:20.123456789Z\t02:00:00:00:00:01\tether_type\t16", "1\t\t\tether_type\t18",
+      "101\t1970-01-01T00:00:00.000001000Z\t\tskipped\t0"]),
+]
+PROTOCOLS = {"type", "pro", "protocol"}  # columns in which a number is spelled as an ether type
+
+
+def columns_of(packet):
+    """All columns of a packet, by hand from its members: each section with its members' values, and commas between those of several headers."""
+    sections = [("frame", {it: packet[it] for it in ("number", "time", "link", "captured", "original")})]
+    for it in packet["headers"]:
+        sections += [(it["header"], it), ("headers", {name: it[name] for name in ("header", "start", "end", "payload_end", "closed")})]
+    sections += [(name, packet[name]) for name in ("rest", "fault") if name in packet]
+
+    def spelled(name, value):
+        if value is None:
+            return ""
+        if isinstance(value, bool):
+            return "true" if value else "false"
+        return f"0x{value:04X}" if name in PROTOCOLS and isinstance(value, int) else str(value)
+
+    columns = {}
+    for section, members in sections:
+        for name, value in members.items():
+            columns.setdefault(f"{section}.{name}", []).append(spelled(name, value))
+    return {name: ",".join(values) for name, values in columns.items()}
+
+
 # Seconds since 1970 at the ends of months and of leap days, as `date -u -d @SECONDS` prints them.
 MOMENTS = [
     (0, "1970-01-01T00:00:00"), (86399, "1970-01-01T23:59:59"), (68169599, "1972-02-28T23:59:59"), (68169600, "1972-02-29T00:00:00"),
@@ -192,6 +237,18 @@ def examples(program):
     for words, end in BRIEF_ENDS:
         text, _ = run(program, BRIEF, classic(joined("ffffffffffff 020000000001", words)))
         tried.append((f"{words} for the eye", text, f"1 2023-11-14T22:13:20.000000Z 02:00:00:00:00:01 > {BROADCAST} {end}\n"))
+    for name, capture, columns, status, rows in ROWS:
+        lines = "".join(f"{it}\n" for it in rows)
+        tried.append((f"{name} in columns", run(program, ["--fields", columns], capture), (lines, status)))
+        heading = columns.replace(",", "\t") + "\n"
+        tried.append((f"{name} in columns, with their names", run(program, ["--header", "--fields", columns], capture), (heading + lines, status)))
+    for name, capture, status, packets in PACKETS:
+        found = [columns_of(it) for it in packets]
+        names = sorted({column for it in found for column in it})
+        for at in range(0, len(names), 32):
+            some = names[at:at + 32]
+            lines = "".join("\t".join(it.get(column, "") for column in some) + "\n" for it in found)
+            tried.append((f"{name} in all columns, from {some[0]} on", run(program, ["--fields", ",".join(some)], capture), (lines, status)))
     tried.append(("the example of the documentation", run(program, JSON, DOCUMENTED), (DOCUMENTED_LINE, 0)))
     whole = run(program, JSON, CLASSIC)[0]
     first, second = whole.splitlines(keepends=True)
@@ -201,6 +258,9 @@ def examples(program):
         ("JSON of a filter, with numbers of the capture", run(program, [*JSON, "--select", "not refused"], CLASSIC), (second, 0)),
         ("JSON of one packet", run(program, [*JSON, "-c", "1"], CLASSIC), (first, 1)),
         ("JSON of no packet", run(program, JSON, CLASSIC[:24]), ("", 0)),
+        ("names of columns without a packet", run(program, ["--header", "--fields", "vlan.vid,eth.src"], CLASSIC[:24]), ("vlan.vid\teth.src\n", 0)),
+        ("columns of a filter", run(program, ["--fields", "frame.number", "--select", "not refused"], CLASSIC), ("2\n", 0)),
+        ("32 columns", run(program, ["--fields", ",".join(["frame.link"] * 32)], CLASSIC), (("\t".join(["1"] * 32) + "\n") * 2, 1)),
         ("JSON of six", [json.loads(it)["number"] for it in run(program, JSON, classic(*SIX))[0].splitlines()], [1, 2, 3, 4, 5, 6]),
     ]
     # of a capture that is cut, whole lines alone
@@ -294,7 +354,10 @@ def readers(program):
         pcap.flush()
         packets = [json.loads(line) for line in open(file.name, encoding="ascii")]
         rows = [as_tshark(it) for it in packets]
-        tried = [("20,000 objects of JSON", len(packets), 20_000)]
+        ours = subprocess.run([program, "--fields", "frame.number,frame.captured,eth.dst,eth.src,arp.op,arp.spa,macsec.pn", pcap.name], capture_output=True,
+                              text=True, check=False).stdout.splitlines()
+        theirs = ["\t".join(it[at] for at in (0, 1, 4, 5, 10, 12, 16)) for it in rows]  # equal to the rows of tshark, below
+        tried = [("20,000 objects of JSON", len(packets), 20_000), ("20,000 rows of columns", ours, theirs)]
         words = [word for it in FIELDS for word in ("-e", it)]
         readers_of = {
             "tshark": (["tshark", "-n", "-r", pcap.name, "-T", "fields", *words], lambda text: [line.split("\t") for line in text.splitlines()], rows),

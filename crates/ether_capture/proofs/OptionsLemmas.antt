@@ -50,6 +50,7 @@ module _ (words : List Text) (rows : List Row) (taken : fault_of capture_app wor
   rows_refused (reasons.Usage usages.Limit) nothing = means_nothing usages.Limit nothing
   rows_refused (reasons.Usage usages.Undecided) nothing = means_nothing usages.Undecided nothing
   rows_refused (reasons.Usage usages.Format) nothing = means_nothing usages.Format nothing
+  rows_refused (reasons.Usage usages.Fields) nothing = means_nothing usages.Fields nothing
   rows_refused (reasons.Filter e) never = absurd never
   rows_refused reasons.Memory no_memory = tt
 
@@ -78,6 +79,7 @@ module _ (words : List Text) (rows : List Row) (taken : fault_of capture_app wor
   asked_refused a (Err (reasons.Usage usages.Limit)) asks never = absurd never
   asked_refused a (Err (reasons.Usage usages.Undecided)) asks never = absurd never
   asked_refused a (Err (reasons.Usage usages.Format)) asks never = absurd never
+  asked_refused a (Err (reasons.Usage usages.Fields)) asks never = absurd never
   asked_refused a (Err (reasons.Filter e)) asks no_filter =
       record { asked = a; taken = taken; asks = subst (λ it. Asks it a) is asks; no_filter = no_filter }
   asked_refused a (Err reasons.Memory) asks refused = tt
@@ -112,6 +114,7 @@ module _ (words : List Text) (kind : ErrorKind) (e : Error) (fails : HasKind (fa
   kind_refused (Err (reasons.Usage usages.Limit)) never = absurd never
   kind_refused (Err (reasons.Usage usages.Undecided)) never = absurd never
   kind_refused (Err (reasons.Usage usages.Format)) never = absurd never
+  kind_refused (Err (reasons.Usage usages.Fields)) never = absurd never
   kind_refused (Err (reasons.Usage usages.Words)) (no_help, no_version, no_memory) = by_kind fails
     where
       by_kind : HasKind (fault_of capture_app words) e → RefusesWords words (reasons.Usage usages.Words)

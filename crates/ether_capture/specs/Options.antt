@@ -13,7 +13,9 @@ use Rattle.ether_filter.specs.declared.filter_error.FilterError.{FilterError}
 use Rattle.ether_content.specs.Editing.{EditValue}
 use Rattle.ether_content.specs.EditingViews.{edit_view}
 use Rattle.ether_format.specs.declared.format.Format.{Format}
-use Rattle.ether_stream.specs.Words.{IsCount, IsFormat, IsIfAny, IsLimit, IsOneEdit, IsSelection, MeansUndecided}
+use Rattle.ether_format.specs.declared.format.Format.TheVariants.{Fields}
+use Rattle.ether_format.specs.declared.columns.Columns.{Columns}
+use Rattle.ether_stream.specs.Words.{AreFields, IsCount, IsFormat, IsIfAny, IsLimit, IsOneEdit, IsSelection, MeansUndecided}
 use Rattle.ether_pcap.specs.CopiedUnits.{ModeValue, Exact, Changed}
 use Rattle.ether_stream.specs.Copying.{growth_if}
 use Rattle.ether_stream.specs.declared.selection.Selection.{Selection}
@@ -34,6 +36,7 @@ pub record ListingValue : Type 0 where
   pub select : Option Selection
   pub count : Option ℕ
   pub options : LineOptions
+  pub heading : Option Columns
   pub files : List Text
 
 abbrev pub listing_view : Listing → ListingValue
@@ -41,20 +44,21 @@ listing_view l = record {
   select = l.selection;
   count = option_map non_zero_usize_get l.count;
   options = l.options;
+  heading = l.heading;
   files = map (λ s. s.now) l.files.items;
 }
 
--- this is made of the capture in the file of this name, or of standard input, and goes to the file of that name, or to standard output; or
--- lines of several captures; the usage; the version
+-- this is made of the capture in the file of this name, or of standard input, and goes to the file of that name, or to standard output, after
+-- a line of the names of columns, if that is asked for; or lines of several captures; the usage; the version
 pub data RequestValue : Type 0 where
-  Run : TaskValue → (input output : Option Text) → RequestValue
+  Run : TaskValue → (heading : Option Columns) → (input output : Option Text) → RequestValue
   Lists : ListingValue → RequestValue
   Help : RequestValue
   Version : RequestValue
 
 abbrev pub request_view : Request → RequestValue
 request_view (requests.Run job) =
-    Run (task_view job.task) (option_map (λ s. s.now) job.input) (option_map (λ s. s.now) job.output)
+    Run (task_view job.task) job.heading (option_map (λ s. s.now) job.input) (option_map (λ s. s.now) job.output)
 request_view (requests.List listing) = Lists (listing_view listing)
 request_view requests.Help = Help
 request_view requests.Version = Version
@@ -79,9 +83,10 @@ file_rule = record (new_rule (codes "file")) { action = Some Append }
 
 abbrev pub capture_rules : List Rule
 capture_rules = flag_rule (codes "plain") ∷ flag_rule (codes "write") ∷ flag_rule (codes "cut-to-headers") ∷ flag_rule (codes "pop-vlan")
-    ∷ flag_rule (codes "progress")
+    ∷ flag_rule (codes "progress") ∷ flag_rule (codes "header")
     ∷ option_rule (codes "push-vlan") ∷ option_rule (codes "set-vlan") ∷ option_rule (codes "select") ∷ option_rule (codes "undecided")
-    ∷ option_rule (codes "limit") ∷ option_rule (codes "format") ∷ letter_rule (codes "count") 99 ∷ letter_rule (codes "read") 114 ∷ letter_rule (codes "output") 119
+    ∷ option_rule (codes "limit") ∷ option_rule (codes "format") ∷ option_rule (codes "fields")
+    ∷ letter_rule (codes "count") 99 ∷ letter_rule (codes "read") 114 ∷ letter_rule (codes "output") 119
     ∷ file_rule ∷ []  -- the letters are c, r and w
 
 -- .. with `--help` and `--version`, which `clap` adds
@@ -100,6 +105,8 @@ pub record AskedValue : Type 0 where
   pub count : Option ℕ
   pub limit : Option ℕ
   pub format : Option Format
+  pub fields : Option Columns
+  pub header : Bool
   pub input : Option Text
   pub output : Option Text
   pub files : List Text
@@ -123,6 +130,8 @@ pub record Asks (rows : List Row) (a : AskedValue) : Type 0 where
   pub count : IsIfAny IsCount (first_of (codes "count") rows) a.count
   pub limit : IsIfAny IsLimit (first_of (codes "limit") rows) a.limit
   pub format : IsFormat (first_of (codes "format") rows) a.format
+  pub fields : IsIfAny AreFields (first_of (codes "fields") rows) a.fields
+  pub header : a.header ≡ is_set (codes "header") rows
   pub input : a.input ≡ first_of (codes "read") rows
   pub output : a.output ≡ first_of (codes "output") rows
   pub files : a.files ≡ unwrap_or (all_of (codes "file") rows) []
@@ -143,17 +152,27 @@ abbrev pub is_any : List Text → Bool
 is_any [] = false
 is_any (name ∷ names) = true
 
+-- the format that is asked for: columns are one, too
+abbrev pub format_asked : AskedValue → Option Format
+format_asked a = option_map_or (λ columns. Some (Fields columns)) a.fields a.format
+
+-- the columns whose names are written first, if that is asked for
+abbrev pub heading_of : AskedValue → Option Columns
+heading_of a = if a.header then a.fields else None
+
 -- an option is asked for that does not go with the others: no copy is plain, has a limit or a format, or is of several files; no packet is
--- edited without a copy; lines alone are plain; none is undecided without a filter; and with `-r` no other file is named
+-- edited without a copy; lines alone are plain; none is undecided without a filter; with `-r` no other file is named; names are those of
+-- columns; and columns are no other format
 abbrev pub clashes : AskedValue → Bool
 clashes a =
-    (if makes_copy a then a.plain || (is_some a.limit || (is_some a.format || are_several a.files))
-    else is_some a.edit || (a.plain && is_some a.format))
-    || ((is_some a.undecided && not (is_some a.text)) || (is_some a.input && is_any a.files))
+    (if makes_copy a then a.plain || (is_some a.limit || (is_some (format_asked a) || are_several a.files))
+    else is_some a.edit || (a.plain && is_some (format_asked a)))
+    || ((is_some a.undecided && not (is_some a.text)) || ((is_some a.input && is_any a.files)
+    || ((a.header && not (is_some a.fields)) || (is_some a.format && is_some a.fields))))
 
 -- which lines are asked for; no totals stand among those of another format
 abbrev pub options_of : AskedValue → LineOptions
-options_of a = record { is_plain = a.plain || is_some a.format; format = a.format; limit = a.limit; before = None }
+options_of a = record { is_plain = a.plain || is_some (format_asked a); format = format_asked a; limit = a.limit; before = None }
 
 -- a copy is exact if all packets are copied, and none is edited; else it is another capture, in which packets may have grown
 abbrev pub mode_of : AskedValue → ModeValue
@@ -189,8 +208,8 @@ output_of a = option_and_then named a.output
 abbrev pub request_for : AskedValue → (select : Option Selection) → RequestValue
 request_for a s =
     if are_several a.files
-    then Lists (record { select = s; count = a.count; options = options_of a; files = a.files })
-    else Run (record { select = s; count = a.count; form = form_of a }) (input_of a) (output_of a)
+    then Lists (record { select = s; count = a.count; options = options_of a; heading = heading_of a; files = a.files })
+    else Run (record { select = s; count = a.count; form = form_of a }) (heading_of a) (input_of a) (output_of a)
 
 -- this is what is asked for
 pub record IsRequestOf (a : AskedValue) (request : RequestValue) : Type 0 where
@@ -220,6 +239,7 @@ MeansNothing rows usages.Count = (n : Option ℕ) → ¬ (IsIfAny IsCount (first
 MeansNothing rows usages.Limit = (n : Option ℕ) → ¬ (IsIfAny IsLimit (first_of (codes "limit") rows) n)
 MeansNothing rows usages.Undecided = (u : Option Undecided) → ¬ (IsIfAny MeansUndecided (first_of (codes "undecided") rows) u)
 MeansNothing rows usages.Format = (f : Option Format) → ¬ (IsFormat (first_of (codes "format") rows) f)
+MeansNothing rows usages.Fields = (c : Option Columns) → ¬ (IsIfAny AreFields (first_of (codes "fields") rows) c)
 MeansNothing rows usages.Words = ⊥
 MeansNothing rows usages.Clash = ⊥
 
@@ -268,6 +288,8 @@ asked_view asked = record {
   count = option_map non_zero_usize_get asked.count;
   limit = asked.limit;
   format = asked.format;
+  fields = asked.fields;
+  header = asked.has_header;
   input = option_map (λ s. s.now) asked.input;
   output = option_map (λ s. s.now) asked.output;
   files = map (λ s. s.now) asked.files.items;

@@ -1,9 +1,10 @@
 -- What the program has read and written, and how it ends.
-use Rattle.std.specs.Prelude.{◌≡◌, ◌⊎◌, ℕ, List, Option, Some, None, Result, Ok, Err, IfNone, OnOk, Bool, true, false, map, String, string_bytes}
+use Rattle.std.specs.Prelude.{◌≡◌, ◌≢◌, ◌⊎◌, ℕ, List, [], Option, Some, None, Result, Ok, Err, IfNone, OnOk, Bool, true, false, map, String, string_bytes}
 use Rattle.std.specs.Vec.Iter.{into_iter_items}
 use Rattle.std.specs.declared.vec.IntoIter.{IntoIter}
 use Rattle.std.specs.Io.KnownBytes.{Appends}
 use Rattle.ether_capture.specs.Options.{RequestValue, Run, Lists, Help, Version, NamesRequest, RefusesWords}
+use Rattle.ether_capture.specs.declared.asked.RequestError.{RequestError}
 use Rattle.ether_capture.specs.declared.asked.RequestError.TheVariants as reasons
 use Rattle.ether_capture.specs.Copies.{HasRead, IsCopied}
 use Rattle.ether_capture.specs.Files.{HasListed}
@@ -14,7 +15,9 @@ use Rattle.ether_stream.specs.declared.open_fault.OpenFault.{OpenFault}
 use Rattle.ether_stream.specs.declared.write_fault.WriteFault.{WriteFault}
 use Rattle.ether_stream.specs.declared.outcome.Outcome.{Outcome}
 use Rattle.ether_stream.specs.declared.outcome.Outcome.TheVariants as outcomes
-use Rattle.ether_stream.specs.declared.outcome.RunFault.TheVariants.{Input}
+use Rattle.ether_stream.specs.declared.outcome.RunFault.TheVariants.{Input, Output}
+use Rattle.ether_format.specs.Columns.{columns_view, heading_text}
+use Rattle.ether_format.specs.declared.columns.Columns.{Columns}
 
 -- the arguments, with the program's name first, if they can be read
 abbrev pub arguments_of : {A E : Type 0} → Result (IntoIter (String A) A) E → Option (List (List ℕ))
@@ -71,7 +74,7 @@ HasRunJob has can_fail can_refuse can_read can_write can_keep can_copy task inpu
 abbrev pub HasAnswered : (has : List ℕ → Option (List ℕ) → Type 0) (can_fail : Type 0) (can_refuse : OpenFault → Type 0)
     (can_read can_write can_tell : Type 0) (can_keep : WriteFault → Type 0) (can_copy : Type 0) → RequestValue
     → (before after held holds told tells : Option (List ℕ)) → (had gets : List ℕ → Option (List ℕ)) → Outcome → Type 0
-HasAnswered has can_fail can_refuse can_read can_write can_tell can_keep can_copy (Run task input output) before after held holds told tells had gets
+HasAnswered has can_fail can_refuse can_read can_write can_tell can_keep can_copy (Run task heading input output) before after held holds told tells had gets
     outcome =
     HasRunJob has can_fail can_refuse can_read can_write can_keep can_copy task input output before after held holds had gets outcome
     × (tells ≡ told)
@@ -84,22 +87,49 @@ HasAnswered has can_fail can_refuse can_read can_write can_tell can_keep can_cop
     (after ≡ before) × (holds ≡ held) × (tells ≡ told) × (gets ≡ had)
 HasAnswered has can_fail can_refuse can_read can_write can_tell can_keep can_copy request before after held holds told tells had gets outcome = ⊥
 
+-- the line of the names of columns, if it is asked for
+abbrev pub heading_if : Option Columns → List ℕ
+heading_if None = []
+heading_if (Some columns) = heading_text (columns_view columns)
+
+abbrev pub heading_asked : RequestValue → Option Columns
+heading_asked (Run task heading input output) = heading
+heading_asked (Lists l) = l.heading
+heading_asked request = None
+
+-- That line was written, and then what is asked for was done. Or the writer failed at the line, and nothing was read, told or copied.
+pub data HasBegun (has : List ℕ → Option (List ℕ) → Type 0) (can_fail : Type 0) (can_refuse : OpenFault → Type 0)
+    (can_read can_write can_tell : Type 0) (can_keep : WriteFault → Type 0) (can_copy : Type 0) (request : RequestValue)
+    (before after held holds told tells : Option (List ℕ)) (had gets : List ℕ → Option (List ℕ)) : Outcome → Type 0 where
+  headed : (outcome : Outcome) (mid : Option (List ℕ)) → Appends held mid (heading_if (heading_asked request))
+      → HasAnswered has can_fail can_refuse can_read can_write can_tell can_keep can_copy request before after mid holds told tells had gets outcome
+      → HasBegun has can_fail can_refuse can_read can_write can_tell can_keep can_copy request before after held holds told tells had gets outcome
+  failed : (columns : Columns) → heading_asked request ≡ Some columns → can_write → after ≡ before → tells ≡ told → gets ≡ had
+      → HasBegun has can_fail can_refuse can_read can_write can_tell can_keep can_copy request before after held holds told tells had gets
+      (outcomes.Run (Err Output))
+
+-- how the program answers arguments that ask for nothing
+abbrev pub refusal_outcome : RequestError → Outcome
+refusal_outcome (reasons.Usage usage) = outcomes.Usage usage
+refusal_outcome (reasons.Filter error) = outcomes.NoFilter error
+refusal_outcome reasons.Memory = outcomes.NoMemory
+
 -- The arguments ask for something, and it was done. Or they are wrong, or can't be read, which is a fault of the input, or memory for them was
 -- refused: then nothing is read, written or told.
-abbrev pub HasObeyed : (has : List ℕ → Option (List ℕ) → Type 0) (can_fail : Type 0) (can_refuse : OpenFault → Type 0)
-    (can_read can_write can_tell : Type 0) (can_keep : WriteFault → Type 0) (can_copy : Type 0) → Option (List (List ℕ))
-    → (before after held holds told tells : Option (List ℕ)) → (had gets : List ℕ → Option (List ℕ)) → Outcome → Type 0
-HasObeyed has can_fail can_refuse can_read can_write can_tell can_keep can_copy None before after held holds told tells had gets outcome =
-    (outcome ≡ outcomes.Run (Err Input)) × (after ≡ before) × (holds ≡ held) × (tells ≡ told) × (gets ≡ had)
-HasObeyed has can_fail can_refuse can_read can_write can_tell can_keep can_copy (Some words) before after held holds told tells had gets (outcomes.Usage usage) =
-    RefusesWords words (reasons.Usage usage) × (after ≡ before) × (holds ≡ held) × (tells ≡ told) × (gets ≡ had)
-HasObeyed has can_fail can_refuse can_read can_write can_tell can_keep can_copy (Some words) before after held holds told tells had gets (outcomes.NoFilter error) =
-    RefusesWords words (reasons.Filter error) × (after ≡ before) × (holds ≡ held) × (tells ≡ told) × (gets ≡ had)
-HasObeyed has can_fail can_refuse can_read can_write can_tell can_keep can_copy (Some words) before after held holds told tells had gets outcomes.NoMemory =
-    (after ≡ before) × (holds ≡ held) × (tells ≡ told) × (gets ≡ had)
-HasObeyed has can_fail can_refuse can_read can_write can_tell can_keep can_copy (Some words) before after held holds told tells had gets outcome =
-    (request : RequestValue) × NamesRequest words request
-    × HasAnswered has can_fail can_refuse can_read can_write can_tell can_keep can_copy request before after held holds told tells had gets outcome
+pub data HasObeyed (has : List ℕ → Option (List ℕ) → Type 0) (can_fail : Type 0) (can_refuse : OpenFault → Type 0)
+    (can_read can_write can_tell : Type 0) (can_keep : WriteFault → Type 0) (can_copy : Type 0)
+    : Option (List (List ℕ)) → (before after held holds told tells : Option (List ℕ)) → (had gets : List ℕ → Option (List ℕ)) → Outcome → Type 0 where
+  unread : (before held told : Option (List ℕ)) (had : List ℕ → Option (List ℕ))
+      → HasObeyed has can_fail can_refuse can_read can_write can_tell can_keep can_copy None before before held held told told had had
+      (outcomes.Run (Err Input))
+  refused : (words : List (List ℕ)) (e : RequestError) (before held told : Option (List ℕ)) (had : List ℕ → Option (List ℕ)) → RefusesWords words e
+      → HasObeyed has can_fail can_refuse can_read can_write can_tell can_keep can_copy (Some words) before before held held told told had had
+      (refusal_outcome e)
+  done : (words : List (List ℕ)) (request : RequestValue) (before after held holds told tells : Option (List ℕ))
+      (had gets : List ℕ → Option (List ℕ)) (outcome : Outcome) → NamesRequest words request
+      → HasBegun has can_fail can_refuse can_read can_write can_tell can_keep can_copy request before after held holds told tells had gets outcome
+      → HasObeyed has can_fail can_refuse can_read can_write can_tell can_keep can_copy (Some words) before after held holds told tells had gets
+      outcome
 
 -- if no stream has failed
 abbrev pub IfGone : Outcome → Type 0 → Type 0

@@ -10,7 +10,7 @@ use crate::asked::{Asked, Request, RequestError};
 use clap::error::ErrorKind;
 use clap::{Arg, ArgAction, ArgMatches, Command};
 use ether_content::PacketEdit;
-use ether_stream::{Usage, count_of, edit_of_words, format_of, limit_of, undecided_of};
+use ether_stream::{Usage, count_of, edit_of_words, fields_of, format_of, limit_of, undecided_of};
 use std::alloc::{AllocError, Global};
 use std::env;
 
@@ -63,12 +63,14 @@ fn command<'a>(alloc: Global) -> Result<Command<'a>, AllocError>
         .arg(flag(alloc, "cut-to-headers"))?
         .arg(flag(alloc, "pop-vlan"))?
         .arg(flag(alloc, "progress"))?
+        .arg(flag(alloc, "header"))?
         .arg(option(alloc, "push-vlan"))?
         .arg(option(alloc, "set-vlan"))?
         .arg(option(alloc, "select"))?
         .arg(option(alloc, "undecided"))?
         .arg(option(alloc, "limit"))?
         .arg(option(alloc, "format"))?
+        .arg(option(alloc, "fields"))?
         .arg(letter(alloc, "count", 'c'))?
         .arg(letter(alloc, "read", 'r'))?
         .arg(letter(alloc, "output", 'w'))?
@@ -78,7 +80,8 @@ fn command<'a>(alloc: Global) -> Result<Command<'a>, AllocError>
 
 /// What the program's arguments ask for. The first of them is its own name.
 ///
-/// Options go before, between and after the names of files: `--plain`, `--limit` with a number of headers and `--format` with `lines`, `brief` or `json`; or `--write`, or `-w` with the name
+/// Options go before, between and after the names of files: `--plain`, `--limit` with a number of headers, `--format` with `lines`, `brief` or `json`, and `--fields` with
+/// the names of columns, with it `--header`; or `--write`, or `-w` with the name
 /// of the copy, and with it one of `--cut-to-headers`, `--pop-vlan`, `--push-vlan` with a tag and `--set-vlan` with two identifiers; `--select`
 /// with the text of a filter, and with it `--undecided` with `keep` or `drop`; `-c` with a number of packets; `-r` with the name of the only
 /// file; and `--progress`. `--help` and `--version` need no others.
@@ -116,18 +119,21 @@ impl<'a> Asked<'a> {
         let count = count_of(text_of(matches, "count"))?;
         let limit = limit_of(text_of(matches, "limit"))?;
         let format = format_of(text_of(matches, "format"))?;
+        let fields = fields_of(text_of(matches, "fields"))?;
         let undecided = undecided_of(text_of(matches, "undecided"))?;
         let files = names_of(matches, alloc)?;
         Ok(Asked {
             is_plain: is_set(matches, "plain"),
             is_write: is_set(matches, "write"),
             is_shown: is_set(matches, "progress"),
+            has_header: is_set(matches, "header"),
             edit,
             text: text_of(matches, "select"),
             undecided,
             count,
             limit,
             format,
+            fields,
             input: text_of(matches, "read"),
             output: text_of(matches, "output"),
             files,

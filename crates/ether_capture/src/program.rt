@@ -2,8 +2,11 @@
 ghost use Rattle.std.specs.Prelude.{◌≡◌, ◌≢◌, ◌⊎◌, Bool, true, false, IfErr, Some, map, string_bytes};
 ghost use Rattle.std.specs.Option.{option_map};
 ghost use Rattle.ether_stream.specs.Outcome.{is_message, status_of_program};
-ghost use Rattle.ether_capture.specs.Program.{HasObeyed, HasRunFile, HasRunJob, HasServed, IfGone, PrintsApart, PrintsLast, arguments_of};
+ghost use Rattle.ether_capture.specs.Program.{HasObeyed, HasRunFile, HasRunJob, HasServed, IfGone, heading_if, PrintsApart, PrintsLast, arguments_of};
 ghost use Rattle.ether_capture.specs.Files.{Settles};
+ghost use Rattle.std.specs.Io.KnownBytes.{Appends};
+ghost use Rattle.ether_format.specs.declared.columns.Columns.{Columns as ColumnsValue};
+ghost use Rattle.std.specs.Prelude.{OnErr, OnOk};
 ghost use Rattle.ether_stream.specs.Task.{task_view};
 
 use crate::asked::{Job, Request, RequestError};
@@ -13,8 +16,9 @@ use crate::copy_run::{copy_file, copy_input};
 use crate::files::run_files;
 use crate::options::request_of_words;
 use crate::run_input::run_input;
+use ether_format::Columns;
 use ether_stream::{LineSink, Outcome, RunFault, Task, is_message, last_line, program_status};
-use ether_text::{Sink, Source};
+use ether_text::{OutputBuffer, OutputFault, Sink, Source};
 use std::alloc::Global;
 use std::{env, io};
 
@@ -77,16 +81,34 @@ fn obey<'a, C: Captures, K: Copies, R: Source, W: Sink, M: LineSink>(
     ensures told { Settles M.Sink.is_flushed messages.old messages.new ⊎ M.Sink.can_fail }
 {
     match request_of_words(words, alloc) {
-        Ok(Request::Run(job)) => run_job(&job, alloc, captures, copies, reader, writer),
-        Ok(Request::List(listing)) => {
-            Outcome::Files(run_files(listing, alloc, captures, writer, messages))
-        }
+        Ok(Request::Run(job)) => match write_heading(&job.heading, writer) {
+            Ok(()) => run_job(&job, alloc, captures, copies, reader, writer),
+            Err(OutputFault) => Outcome::Run(Err(RunFault::Output)),
+        },
+        Ok(Request::List(listing)) => match write_heading(&listing.heading, writer) {
+            Ok(()) => Outcome::Files(run_files(listing, alloc, captures, writer, messages)),
+            Err(OutputFault) => Outcome::Run(Err(RunFault::Output)),
+        },
         Ok(Request::Help) => Outcome::Help,
         Ok(Request::Version) => Outcome::Version,
         Err(RequestError::Usage(usage)) => Outcome::Usage(usage),
         Err(RequestError::Memory) => Outcome::NoMemory,
         Err(RequestError::Filter(error)) => Outcome::NoFilter(error),
     }
+}
+
+/// Writes the line of the names of columns, if it is asked for.
+fn write_heading<W: Sink>(heading: &Option<Columns>, writer: &mut W) -> Result<(), OutputFault>
+    ensures written { OnOk result (Appends (W.contents writer.old) (W.contents writer.new) (heading_if heading.now)) }
+    ensures flushed { OnOk result (Settles W.is_flushed writer.old writer.new) }
+    ensures failed { OnErr result (W.can_fail × ((columns : ColumnsValue) × (heading.now ≡ Some columns))) }
+{
+    let Some(columns) = heading else {
+        return Ok(());
+    };
+    let mut out = OutputBuffer::new(writer);
+    columns.write_heading(&mut out);
+    out.flush()
 }
 
 /// Writes what is made of one capture.

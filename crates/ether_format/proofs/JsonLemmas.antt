@@ -8,7 +8,7 @@ use Rattle.ether_format.specs.declared.value.Member.{Member as DeclaredMember}
 use Rattle.ether_format.specs.Members.{Member, Value, Number, Flag, Word, Time, if_some, member, packet_members}
 use Rattle.ether_format.specs.Told.{Place, Told, ToldEnd, Cause, told_members, Fault, placed_members, rest_members, cause_members, end_members}
 use Rattle.ether_format.specs.Spelling.{json_value, quoted}
-use Rattle.ether_format.specs.declared.format.Format.TheVariants.{Json}
+use Rattle.ether_format.specs.declared.format.Part.TheVariants.{Json}
 use Rattle.ether_format.specs.Json.{json_end, json_member, json_members, json_object, json_objects}
 use Rattle.ether_format.specs.Walking.{Keyed, key_of, keyed, keyed_text, keyed_view, member_text, others, told_text}
 

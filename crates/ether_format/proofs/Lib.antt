@@ -1,10 +1,14 @@
 pub mod BriefLemmas
 pub mod CalendarLemmas
+pub mod ColumnNames
+pub mod ColumnLemmas
 pub mod CookedLemmas
 pub mod JsonLemmas
 pub mod FormatLemmas
 pub mod ListLemmas
 pub mod OneMoment
+pub mod ParsingLemmas
+pub mod RowLemmas
 pub mod OneText
 pub mod SpellingLemmas
 pub mod WalkLemmas

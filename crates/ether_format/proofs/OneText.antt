@@ -53,7 +53,7 @@ one_cooked limit bytes _ _ _ _ _ _ (refused r row) (read told end accepted fine 
 one_cooked limit bytes _ _ _ _ _ _ (refused r row) (refused q also) =
     (refl, ap (λ k. Fault 0 false (cause_of_v2 k)) (rows_apart.one bytes r q row also), refl)
 
-one_told : (limit : Option ℕ) (len : ℕ) (f : ContentValue) (told other : List Told) (end last : ToldEnd) (accepted also : Bool)
+pub one_told : (limit : Option ℕ) (len : ℕ) (f : ContentValue) (told other : List Told) (end last : ToldEnd) (accepted also : Bool)
     → Tells limit len f told end accepted → Tells limit len f other last also → Same told other end last accepted also
 one_told limit len (Frame next bytes) told other end last accepted also a b = one_walk 0 _ bytes told other end last accepted also a b
 one_told limit len (LinuxSll s payload) told other end last accepted also a b = one_payload 16 _ _ payload told other end last accepted also a b

@@ -29,12 +29,12 @@ use Rattle.ether_text.specs.Lines.{is_accepted}
 use Rattle.ether_text.specs.OutputBuffer.{Takes, TakesAnswer}
 use Rattle.ether_text.specs.declared.output_buffer.OutputBuffer.{OutputBuffer}
 use Rattle.ether_text.proofs.OutputBufferLemmas.{Takes-none, Takes-then}
-use Rattle.ether_format.specs.declared.format.Format.{Format}
+use Rattle.ether_format.specs.declared.format.Part.{Part}
 use Rattle.ether_format.specs.declared.place.Place.{Place as DeclaredPlace}
 use Rattle.ether_format.specs.Members.{ethernet2_members}
 use Rattle.ether_format.specs.Told.{Told, Walked, ToldEnd, Rest, fcs_in, placed_members, told_in, told_stack, told_end, told_members, TellsPayload}
 use Rattle.ether_format.specs.Json.{json_object}
-use Rattle.ether_format.specs.Walking.{header_of, fcs_shown, place_view, told_view, fault_shown, header_text, end_text, told_text, AnswersTold}
+use Rattle.ether_format.specs.Walking.{header_of, fcs_shown, place_view, told_view, fault_shown, goes_on, header_text, end_text, told_text, AnswersTold}
 
 -- ---- what a walker gives tells what it faces
 
@@ -111,7 +111,7 @@ fault_is at w x InvalidShortLen = refl
 
 -- ---- the text so far, and that which is left
 
-pub record WritesTold {W : Type 0} (contents : W → Option (List ℕ)) (can_fail : Type 0) (format : Format) (first : Bool) (at : ℕ)
+pub record WritesTold {W : Type 0} (contents : W → Option (List ℕ)) (can_fail : Type 0) (part : Part) (first : Bool) (at : ℕ)
     (x : Expectation) (frame : List ℕ) (is_first : Bool) (s : State) (old new : OutputBuffer W) : Type 0 where
   pub all : List Header
   pub ending : Ending
@@ -122,14 +122,14 @@ pub record WritesTold {W : Type 0} (contents : W → Option (List ℕ)) (can_fai
   pub going : s.over ≡ false
   pub text : List ℕ
   pub taken : Takes contents can_fail old text new
-  pub parts : told_text format first (told_stack at frame (whole x frame) all) (told_end at ending)
-      ≡ text ++ told_text format is_first (told_stack at frame window left) (told_end at ending)
+  pub parts : told_text part first (told_stack at frame (whole x frame) all) (told_end at ending)
+      ≡ text ++ told_text part is_first (told_stack at frame window left) (told_end at ending)
 
-module _ {W : Type 0} (contents : W → Option (List ℕ)) (can_fail : Type 0) (format : Format) (first : Bool) (at : ℕ) (x : Expectation)
+module _ {W : Type 0} (contents : W → Option (List ℕ)) (can_fail : Type 0) (part : Part) (first : Bool) (at : ℕ) (x : Expectation)
     (frame : List ℕ) where
   pub walk_starts : (s : State) (out : OutputBuffer W) (all : List Header) (ending : Ending) → Walk x frame all ending
       → Faces frame (whole x frame) s all ending → s.over ≡ false
-      → WritesTold contents can_fail format first at x frame first s out out
+      → WritesTold contents can_fail part first at x frame first s out out
   walk_starts s out all ending walk faces going = record {
     all = all;
     ending = ending;
@@ -145,11 +145,11 @@ module _ {W : Type 0} (contents : W → Option (List ℕ)) (can_fail : Type 0) (
 
   -- a header
   pub walk_unit : (is_first : Bool) (s t : State) (old mid new : OutputBuffer W) (u : PeelUnit) (place : DeclaredPlace)
-      → IsBytes frame → WritesTold contents can_fail format first at x frame is_first s old mid → Gives s (Some (Ok u)) t
+      → IsBytes frame → WritesTold contents can_fail part first at x frame is_first s old mid → Gives s (Some (Ok u)) t
       → place.start ≡ at + s.offset → place.header_end ≡ at + t.offset → place.payload_end ≡ at + (t.offset + length t.rest)
       → place.closed ≡ t.closed
-      → Takes contents can_fail mid (header_text format is_first (told_view place u)) new
-      → WritesTold contents can_fail format first at x frame false t old new
+      → Takes contents can_fail mid (header_text part is_first (told_view place u)) new
+      → WritesTold contents can_fail part first at x frame (goes_on part is_first (told_view place u)) t old new
   walk_unit is_first s t old mid new u place ok a gives from to end mark taken =
       let n =
       unit_next frame a.window a.left a.ending s t u (gives.next a.going frame a.window a.left a.ending a.faces) in
@@ -168,8 +168,9 @@ module _ {W : Type 0} (contents : W → Option (List ℕ)) (can_fail : Type 0) (
       let closed : place.closed ≡ inner.closed = mark ∙ n.faces.closed in
       let is : told_view place u ≡ told_in at frame a.window h =
       λ i. Walked (record { start = begin i; header_end = middle i; payload_end = last i; closed = closed i }) (header i) (fcs i) in
-      let later = told_text format false (told_stack at frame inner hs) (told_end at a.ending) in
-      let written = header_text format is_first (told_in at frame a.window h) in
+      let later =
+      λ (k : Told). told_text part (goes_on part is_first k) (told_stack at frame inner hs) (told_end at a.ending) in
+      let written = header_text part is_first (told_in at frame a.window h) in
       record {
         all = a.all;
         ending = a.ending;
@@ -179,30 +180,31 @@ module _ {W : Type 0} (contents : W → Option (List ℕ)) (can_fail : Type 0) (
         faces = n.faces;
         going = n.going;
         text = a.text ++ written;
-        taken = Takes-then a.taken (subst (λ (k : Told). Takes contents can_fail mid (header_text format is_first k) new) is taken);
+        taken = Takes-then a.taken (subst (λ (k : Told). Takes contents can_fail mid (header_text part is_first k) new) is taken);
         parts =
             a.parts
-            ∙ ap (λ (l : List Header). a.text ++ told_text format is_first (told_stack at frame a.window l) (told_end at a.ending))
+            ∙ ap (λ (l : List Header). a.text ++ told_text part is_first (told_stack at frame a.window l) (told_end at a.ending))
             n.parts
-            ∙ sym (append_assoc a.text written later);
+            ∙ sym (append_assoc a.text written (later (told_in at frame a.window h)))
+            ∙ ap (λ (k : Told). (a.text ++ written) ++ later k) (sym is);
       }
 
   answered : (is_first : Bool) (s : State) (old mid new : OutputBuffer W) (accepted : Bool) (end : ToldEnd)
-      → (a : WritesTold contents can_fail format first at x frame is_first s old mid) → a.left ≡ [] → end ≡ told_end at a.ending
+      → (a : WritesTold contents can_fail part first at x frame is_first s old mid) → a.left ≡ [] → end ≡ told_end at a.ending
       → accepted ≡ is_accepted a.ending
-      → Takes contents can_fail mid (end_text format end) new
-      → TakesAnswer contents can_fail (AnswersTold format first at x frame) old new accepted
+      → Takes contents can_fail mid (end_text part end) new
+      → TakesAnswer contents can_fail (AnswersTold part first at x frame) old new accepted
   answered is_first s old mid new accepted end a none is verdict taken = record {
-    text = a.text ++ end_text format end;
+    text = a.text ++ end_text part end;
     answers = record {
       headers = told_stack at frame (whole x frame) a.all;
       end = told_end at a.ending;
       tells = record { headers = a.all; ending = a.ending; walk = a.walk; is_told = refl; is_end = refl; verdict = verdict };
       is_text =
-          ap (λ (k : ToldEnd). a.text ++ end_text format k) is
+          ap (λ (k : ToldEnd). a.text ++ end_text part k) is
           ∙ sym
           (a.parts
-          ∙ ap (λ (l : List Header). a.text ++ told_text format is_first (told_stack at frame a.window l) (told_end at a.ending))
+          ∙ ap (λ (l : List Header). a.text ++ told_text part is_first (told_stack at frame a.window l) (told_end at a.ending))
           none);
     };
     taken = Takes-then a.taken taken;
@@ -210,9 +212,9 @@ module _ {W : Type 0} (contents : W → Option (List ℕ)) (can_fail : Type 0) (
 
   -- a fault
   pub walk_fault : (is_first : Bool) (s t : State) (old mid new : OutputBuffer W) (f : PeelFault)
-      → WritesTold contents can_fail format first at x frame is_first s old mid → Gives s (Some (Err f)) t
-      → Takes contents can_fail mid (end_text format (fault_shown at f)) new
-      → TakesAnswer contents can_fail (AnswersTold format first at x frame) old new false
+      → WritesTold contents can_fail part first at x frame is_first s old mid → Gives s (Some (Err f)) t
+      → Takes contents can_fail mid (end_text part (fault_shown at f)) new
+      → TakesAnswer contents can_fail (AnswersTold part first at x frame) old new false
   walk_fault is_first s t old mid new f a gives taken =
       let n =
       fault_next frame a.window a.left a.ending s t f (gives.next a.going frame a.window a.left a.ending a.faces) in
@@ -226,10 +228,10 @@ module _ {W : Type 0} (contents : W → Option (List ℕ)) (can_fail : Type 0) (
 
   -- what is left
   pub walk_rest : (is_first : Bool) (s t : State) (old mid new : OutputBuffer W) (start end : ℕ) (k : RestKind)
-      → WritesTold contents can_fail format first at x frame is_first s old mid → Gives s None t
+      → WritesTold contents can_fail part first at x frame is_first s old mid → Gives s None t
       → start ≡ at + s.offset → end ≡ at + (s.offset + length t.rest) → k ≡ kind_shown t.expected
-      → Takes contents can_fail mid (end_text format (Rest start end k)) new
-      → TakesAnswer contents can_fail (AnswersTold format first at x frame) old new true
+      → Takes contents can_fail mid (end_text part (Rest start end k)) new
+      → TakesAnswer contents can_fail (AnswersTold part first at x frame) old new true
   walk_rest is_first s t old mid new start end k a gives from to kind taken =
       let n =
       none_next frame a.window a.left a.ending s t (gives.next a.going frame a.window a.left a.ending a.faces) in
@@ -251,25 +253,25 @@ module _ {W : Type 0} (contents : W → Option (List ℕ)) (can_fail : Type 0) (
 
 -- ---- a cooked header, and the walk of its payload
 
-pub record AnswersPayload (format : Format) (at : ℕ) (first : Told) (x : Expectation) (payload text : List ℕ) (accepted : Bool) : Type 0
+pub record AnswersPayload (part : Part) (at : ℕ) (first : Told) (x : Expectation) (payload text : List ℕ) (accepted : Bool) : Type 0
   where
     pub headers : List Told
     pub end : ToldEnd
     pub tells : TellsPayload at first x payload headers end accepted
-    pub is_text : text ≡ told_text format true headers end
+    pub is_text : text ≡ told_text part true headers end
 
-pub payload_told : {W : Type 0} {contents : W → Option (List ℕ)} {can_fail : Type 0} {format : Format} {at : ℕ} {x : Expectation}
+pub payload_told : {W : Type 0} {contents : W → Option (List ℕ)} {can_fail : Type 0} {part : Part} {at : ℕ} {x : Expectation}
     {payload : List ℕ} {old mid new : OutputBuffer W} {accepted : Bool} (first : Told)
-    → Takes contents can_fail old (header_text format true first) mid
-    → TakesAnswer contents can_fail (AnswersTold format false at x payload) mid new accepted
-    → TakesAnswer contents can_fail (AnswersPayload format at first x payload) old new accepted
-payload_told {format = format} first taken walk = record {
-  text = header_text format true first ++ walk.text;
+    → Takes contents can_fail old (header_text part true first) mid
+    → TakesAnswer contents can_fail (AnswersTold part (goes_on part true first) at x payload) mid new accepted
+    → TakesAnswer contents can_fail (AnswersPayload part at first x payload) old new accepted
+payload_told {part = part} first taken walk = record {
+  text = header_text part true first ++ walk.text;
   answers = record {
     headers = first ∷ walk.answers.headers;
     end = walk.answers.end;
     tells = record { later = walk.answers.headers; walk = walk.answers.tells; whole = refl };
-    is_text = ap (λ t. header_text format true first ++ t) walk.answers.is_text;
+    is_text = ap (λ t. header_text part true first ++ t) walk.answers.is_text;
   };
   taken = Takes-then taken walk.taken;
 }

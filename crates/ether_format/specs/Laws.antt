@@ -1,9 +1,14 @@
 -- Laws on the text of packets.
-use Rattle.std.specs.Prelude.{◌≡◌, ℕ, List, Bool, Option}
+use Rattle.std.specs.Prelude.{◌≡◌, ℕ, List, Bool, Option, map}
 use Rattle.ether_pcap.specs.Capture.{PacketValue, TimeValue}
 use Rattle.ether_format.specs.declared.format.Format.{Format}
 use Rattle.ether_format.specs.declared.moment.Moment.{Moment}
+use Rattle.ether_format.specs.declared.column.Section.{Section}
+use Rattle.ether_format.specs.declared.column.Section.TheVariants.{Frame}
 use Rattle.ether_format.specs.Calendar.{IsMoment}
+use Rattle.ether_format.specs.Columns.{section_members, section_name}
+use Rattle.ether_format.specs.Members.{packet_members}
+use Rattle.ether_format.specs.Told.{Told, ToldEnd, end_members, end_name, told_members, told_name}
 use Rattle.ether_format.specs.Texts.{HasText}
 
 -- A time is one moment at most, and a packet has one text.
@@ -11,3 +16,9 @@ pub record TextsAreOne : Type 0 where
   pub moment : (t : TimeValue) (m n : Moment) → IsMoment t m → IsMoment t n → m ≡ n
   pub text : (format : Format) (limit : Option ℕ) (number : ℕ) (p : PacketValue) (text other : List ℕ) (accepted also : Bool)
       → HasText format limit number p text accepted → HasText format limit number p other also → (text ≡ other) × (accepted ≡ also)
+
+-- What a packet, a header and the end of a walk say has the names of the columns of its section.
+pub record ColumnsAreMembers : Type 0 where
+  pub packet : (number : ℕ) (p : PacketValue) (moment : Option Moment) → map (λ m. m.name) (packet_members number p moment) ≡ section_members Frame
+  pub header : (h : Told) (s : Section) → told_name h ≡ section_name s → map (λ m. m.name) (told_members h) ≡ section_members s
+  pub end : (end : ToldEnd) (s : Section) → end_name end ≡ section_name s → map (λ m. m.name) (end_members end) ≡ section_members s

@@ -4,15 +4,17 @@ use Rattle.ether_pcap.specs.Capture.{PacketValue}
 use Rattle.ether_content.specs.Content.{content_of}
 use Rattle.ether_format.specs.declared.moment.Moment.{Moment}
 use Rattle.ether_format.specs.declared.format.Format.{Format}
-use Rattle.ether_format.specs.declared.format.Format.TheVariants.{Json, Brief}
+use Rattle.ether_format.specs.declared.format.Format.TheVariants.{Json, Brief, Fields}
 use Rattle.ether_format.specs.Calendar.{AreMoments}
 use Rattle.ether_format.specs.Told.{Told, ToldEnd, Tells}
 use Rattle.ether_format.specs.Json.{json_line}
 use Rattle.ether_format.specs.Brief.{brief_line}
+use Rattle.ether_format.specs.Columns.{columns_view, row_text, sections}
 
 abbrev pub format_text : Format → ℕ → PacketValue → Option Moment → List Told → ToldEnd → List ℕ
 format_text Json number p moment headers end = json_line number p moment headers end
 format_text Brief number p moment headers end = brief_line number p moment headers end
+format_text (Fields columns) number p moment headers end = row_text (columns_view columns) (sections number p moment headers end)
 
 -- The text of a packet with a number, of what it tells; and whether no header is refused.
 pub record HasText (format : Format) (limit : Option ℕ) (number : ℕ) (p : PacketValue) (text : List ℕ) (accepted : Bool) : Type 0 where

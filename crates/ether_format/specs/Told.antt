@@ -149,6 +149,10 @@ abbrev pub told_name : Told → List ℕ
 told_name (Walked place h fcs) = header_name h
 told_name (CookedV2 place s) = codes "sll2"
 
+abbrev pub told_place : Told → Place
+told_place (Walked place h fcs) = place
+told_place (CookedV2 place s) = place
+
 abbrev pub header_members : Header → (fcs : Option (List ℕ)) → List Member
 header_members (headers.Ethernet2 e) fcs = ethernet2_members e fcs
 header_members (headers.Ethernet2Fcs e) fcs = ethernet2_members e fcs

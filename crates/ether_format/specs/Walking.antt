@@ -1,5 +1,5 @@
 -- Text as it is written along a walk: for the contracts of private functions.
-use Rattle.std.specs.Prelude.{◌≡◌, ℕ, ◌+◌, List, [], ◌∷◌, ◌++◌, length, take, codes, Bool, true, false, Option, None, if◌then◌else◌, map}
+use Rattle.std.specs.Prelude.{◌≡◌, ℕ, ◌+◌, List, [], ◌∷◌, ◌++◌, length, take, drop, codes, Bool, true, false, Option, Some, None, if◌then◌else◌, map}
 use Rattle.etherparse.specs.Ethernet2.{ethernet2_of, fcs_of}
 use Rattle.etherparse.specs.LinuxSll.{linux_sll_of}
 use Rattle.etherparse.specs.Vlan.{vlan_of}
@@ -19,17 +19,20 @@ use Rattle.ether_peel.specs.declared.peel_error.PeelError.TheVariants as errors
 use Rattle.ether_peel.specs.declared.peel_fault.PeelFault.{PeelFault}
 use Rattle.ether_pcap.specs.Capture.{PacketValue}
 use Rattle.ether_content.specs.Content.{content_of}
-use Rattle.ether_format.specs.declared.format.Format.{Format}
-use Rattle.ether_format.specs.declared.format.Format.TheVariants.{Json, Brief}
+use Rattle.ether_format.specs.declared.format.Part.{Part}
+use Rattle.ether_format.specs.declared.format.Part.TheVariants.{Json, Brief, Column}
+use Rattle.ether_format.specs.declared.column.Section.{Section}
+use Rattle.ether_format.specs.declared.column.Section.TheVariants as parts
 use Rattle.ether_format.specs.declared.place.Place.{Place as DeclaredPlace}
 use Rattle.ether_format.specs.declared.value.Value.{Value as DeclaredValue}
 use Rattle.ether_format.specs.declared.value.Value.TheVariants as values
 use Rattle.ether_format.specs.declared.value.Member.{Member as DeclaredMember}
-use Rattle.ether_format.specs.Members.{Value, Nothing, Number, Protocol, Flag, Bytes, Dotted, Word, Time, Member}
-use Rattle.ether_format.specs.Told.{Place, Told, Walked, Cause, Length, UnknownPacketType, UnknownHardwareType, Version, ShortLength, ToldEnd, Fault, Tells, TellsCookedV2, TellsWalk, told_members}
-use Rattle.ether_format.specs.Spelling.{json_value, quoted}
-use Rattle.ether_format.specs.Json.{json_end, json_front, json_object}
-use Rattle.ether_format.specs.Brief.{brief_cut, brief_end, brief_front, brief_told}
+use Rattle.ether_format.specs.Members.{Value, Nothing, Number, Protocol, Flag, Bytes, Dotted, Word, Time, Member, packet_members}
+use Rattle.ether_format.specs.Told.{Place, Told, Walked, Cause, Length, UnknownPacketType, UnknownHardwareType, Version, ShortLength, ToldEnd, Fault, Tells, TellsCookedV2, TellsWalk, end_members, end_name, placed_members, told_members, told_name, told_place}
+use Rattle.ether_format.specs.Spelling.{column_value, json_value, quoted}
+use Rattle.ether_format.specs.Json.{json_end, json_front, json_line, json_object}
+use Rattle.ether_format.specs.Columns.{ColumnValue, column_text, column_view, row_text, section, sections, values_in}
+use Rattle.ether_format.specs.Brief.{brief_cut, brief_end, brief_front, brief_line, brief_told}
 use Rattle.ether_format.specs.declared.moment.Moment.{Moment}
 
 -- ---- values and members
@@ -116,53 +119,123 @@ cause_shown (errors.Macsec e) = macsec_cause e
 abbrev pub fault_shown : (at : ℕ) → PeelFault → ToldEnd
 fault_shown at f = Fault (at + f.offset) f.closed (cause_shown f.error)
 
--- ---- in a format
+-- ---- in a column
 
--- nothing before the first header
+-- nothing before the first header or value
 abbrev pub comma_if : (first : Bool) → List ℕ
 comma_if true = []
 comma_if false = codes ","
 
+-- its value, if there is one
+abbrev pub if_any : Option Value → List Value
+if_any None = []
+if_any (Some value) = value ∷ []
+
+-- the value at a place, if there is one
+abbrev pub value_at : List Value → ℕ → List Value
+value_at values n = take 1 (drop n values)
+
+abbrev pub values_placed : ColumnValue → (name : List ℕ) → Place → List Value
+values_placed c name place = values_in c (section (codes "headers") (placed_members name place []))
+
+abbrev pub header_values : ColumnValue → Told → List Value
+header_values c h = values_in c (section (told_name h) (told_members h)) ++ values_placed c (told_name h) (told_place h)
+
+abbrev pub end_values : ColumnValue → ToldEnd → List Value
+end_values c end = values_in c (section (end_name end) (end_members end))
+
+-- the section of a view's header
+abbrev pub unit_section : PeelUnit → Section
+unit_section (units.Ethernet2 frame) = parts.Eth
+unit_section (units.LinuxSll bytes) = parts.Sll
+unit_section (units.Vlan bytes) = parts.Vlan
+unit_section (units.Macsec packet) = parts.Macsec
+unit_section (units.Arp bytes) = parts.Arp
+
+-- values with a comma between two, and one before the first if others precede
+abbrev pub column_on : (first : Bool) → List Value → List ℕ
+column_on first [] = []
+column_on first (v ∷ vs) = comma_if first ++ (column_value v ++ column_on false vs)
+
+-- whether the value after these is the first
+abbrev pub still_first : (first : Bool) → List Value → Bool
+still_first first [] = first
+still_first first (v ∷ vs) = false
+
+-- ---- in a format
+
 -- a header, if it is the first or not
-abbrev pub header_text : Format → (first : Bool) → Told → List ℕ
+abbrev pub header_text : Part → (first : Bool) → Told → List ℕ
 header_text Json first h = comma_if first ++ json_object (told_members h)
 header_text Brief first h = brief_told h
+header_text (Column c) first h = column_on first (header_values (column_view c) h)
 
-abbrev pub end_text : Format → ToldEnd → List ℕ
+-- whether the next is the first
+abbrev pub goes_on : Part → (first : Bool) → Told → Bool
+goes_on (Column c) first h = still_first first (header_values (column_view c) h)
+goes_on _ first h = false
+
+abbrev pub end_text : Part → ToldEnd → List ℕ
 end_text Json end = json_end end
 end_text Brief end = brief_end end
+end_text (Column c) end = column_on true (end_values (column_view c) end)
 
 -- headers, of which the first is the packet's first or not, and the end
-abbrev pub told_text : Format → (first : Bool) → List Told → ToldEnd → List ℕ
-told_text format first [] end = end_text format end
-told_text format first (h ∷ hs) end = header_text format first h ++ told_text format false hs end
+abbrev pub told_text : Part → (first : Bool) → List Told → ToldEnd → List ℕ
+told_text part first [] end = end_text part end
+told_text part first (h ∷ hs) end = header_text part first h ++ told_text part (goes_on part first h) hs end
 
 -- what is told of a walk is the text
-pub record AnswersTold (format : Format) (first : Bool) (at : ℕ) (start : Expectation) (frame text : List ℕ) (accepted : Bool) : Type 0 where
+pub record AnswersTold (part : Part) (first : Bool) (at : ℕ) (start : Expectation) (frame text : List ℕ) (accepted : Bool) : Type 0 where
   pub headers : List Told
   pub end : ToldEnd
   pub tells : TellsWalk at start frame headers end accepted
-  pub is_text : text ≡ told_text format first headers end
+  pub is_text : text ≡ told_text part first headers end
 
 -- what comes before all headers, and after the end
-abbrev pub front_text : Format → ℕ → PacketValue → Option Moment → List ℕ
+abbrev pub front_text : Part → ℕ → PacketValue → Option Moment → List ℕ
 front_text Json number p moment = json_front number p moment
 front_text Brief number p moment = brief_front number moment
+front_text (Column c) number p moment =
+    column_on true (values_in (column_view c) (section (codes "frame") (packet_members number p moment)))
 
-abbrev pub tail_text : Format → PacketValue → List ℕ
+abbrev pub tail_text : Part → PacketValue → List ℕ
 tail_text Json p = []
+tail_text (Column c) p = []
 tail_text Brief p = brief_cut p ++ codes "\n"
 
+-- a line, or a column of it
+abbrev pub part_text : Part → ℕ → PacketValue → Option Moment → List Told → ToldEnd → List ℕ
+part_text Json number p moment headers end = json_line number p moment headers end
+part_text Brief number p moment headers end = brief_line number p moment headers end
+part_text (Column c) number p moment headers end = column_text (column_view c) (sections number p moment headers end)
+
 -- what is told of a packet of cooked capture v2
-pub record AnswersCookedV2 (format : Format) (limit : Option ℕ) (bytes text : List ℕ) (accepted : Bool) : Type 0 where
+pub record AnswersCookedV2 (part : Part) (limit : Option ℕ) (bytes text : List ℕ) (accepted : Bool) : Type 0 where
   pub headers : List Told
   pub end : ToldEnd
   pub tells : TellsCookedV2 limit bytes headers end accepted
-  pub is_text : text ≡ told_text format true headers end
+  pub is_text : text ≡ told_text part true headers end
 
 -- .. of any packet
-pub record AnswersContent (format : Format) (limit : Option ℕ) (p : PacketValue) (text : List ℕ) (accepted : Bool) : Type 0 where
+pub record AnswersContent (part : Part) (limit : Option ℕ) (p : PacketValue) (text : List ℕ) (accepted : Bool) : Type 0 where
   pub headers : List Told
   pub end : ToldEnd
   pub tells : Tells limit (length p.packet) (content_of p) headers end accepted
-  pub is_text : text ≡ told_text format true headers end
+  pub is_text : text ≡ told_text part true headers end
+
+-- a packet's line, or a column of it, at a moment
+pub record AnswersPart (part : Part) (limit : Option ℕ) (number : ℕ) (p : PacketValue) (moment : Option Moment) (text : List ℕ) (accepted : Bool)
+    : Type 0 where
+  pub headers : List Told
+  pub end : ToldEnd
+  pub tells : Tells limit (length p.packet) (content_of p) headers end accepted
+  pub is_text : text ≡ part_text part number p moment headers end
+
+-- .. its row
+pub record AnswersRow (columns : List ColumnValue) (limit : Option ℕ) (number : ℕ) (p : PacketValue) (moment : Option Moment) (text : List ℕ)
+    (accepted : Bool) : Type 0 where
+  pub headers : List Told
+  pub end : ToldEnd
+  pub tells : Tells limit (length p.packet) (content_of p) headers end accepted
+  pub is_text : text ≡ row_text columns (sections number p moment headers end)

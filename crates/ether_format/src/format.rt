@@ -1,4 +1,6 @@
 //! How the text of a packet is formed.
+use crate::Columns;
+use crate::column::Column;
 
 /// How the text of a packet is formed.
 #[derive(Clone, Copy, PartialEq, Eq, Debug)]
@@ -7,4 +9,17 @@ pub enum Format {
     Json,
     /// A line for the eye: number and time, addresses, tags and types by name, and what is left or wrong.
     Brief,
+    /// A row of columns, with a tab between two.
+    Fields(Columns),
+}
+
+/// What is written along a walk through the headers of a packet.
+#[derive(Clone, Copy)]
+pub(crate) enum Part {
+    /// The line of JSON.
+    Json,
+    /// The line for the eye.
+    Brief,
+    /// A column of the row.
+    Column(Column),
 }

@@ -1,7 +1,12 @@
 //! The laws on the text of packets. Each is the contract of a function that does nothing.
-ghost use Rattle.ether_format.specs.Laws.{TextsAreOne};
+ghost use Rattle.ether_format.specs.Laws.{ColumnsAreMembers, TextsAreOne};
 
 /// A time is one moment at most, and a packet has one text.
 pub fn texts_are_one()
     ensures { TextsAreOne }
+{}
+
+/// What a packet, its headers and its end say has the names of columns, each once and in this order.
+pub fn columns_are_members()
+    ensures { ColumnsAreMembers }
 {}

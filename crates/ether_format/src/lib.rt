@@ -3,6 +3,9 @@
 
 mod brief;
 mod calendar;
+mod column;
+mod column_value;
+mod columns;
 mod endings;
 mod format;
 mod json;
@@ -11,12 +14,14 @@ mod members;
 mod moment;
 mod packet;
 mod place;
+mod row;
 mod spelling;
 mod value;
 mod walk;
 mod write_end;
 mod write_header;
 
+pub use columns::Columns;
 pub use format::Format;
 pub use moment::Moment;
 pub use packet::write_packet;

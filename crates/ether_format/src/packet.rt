@@ -7,12 +7,14 @@ ghost use Rattle.ether_format.specs.Calendar.{AreMoments};
 ghost use Rattle.ether_format.specs.Json.{json_front};
 ghost use Rattle.ether_format.specs.Texts.{HasText};
 ghost use Rattle.ether_format.specs.Told.{cooked_place};
-ghost use Rattle.ether_format.specs.Walking.{AnswersContent, AnswersCookedV2, front_text, place_view, tail_text};
+ghost use Rattle.ether_format.specs.Walking.{AnswersContent, AnswersCookedV2, AnswersPart, front_text, place_view, tail_text};
 
 use crate::brief::{write_brief_front, write_brief_tail};
 use crate::calendar::moment_of;
+use crate::format::Part;
 use crate::json::write_members;
 use crate::place::Place;
+use crate::row::{write_only, write_row};
 use crate::walk::write_walk;
 use crate::write_end::{write_linux_sll2_fault, write_rest, write_skipped};
 use crate::write_header::{write_cooked, write_linux_sll2};
@@ -39,7 +41,7 @@ use ether_text::{OutputBuffer, Sink};
 /// };
 /// let mut written = ArrayVec::<u8, 512>::new();
 /// let mut out = OutputBuffer::new(&mut written);
-/// assert!(rt; write_packet(Format::Json, None, 1, &packet, &mut out));
+/// assert!(rt; write_packet(&Format::Json, None, 1, &packet, &mut out));
 /// assert_eq!(rt; out.flush(), Ok(()));
 /// assert_eq!(rt;
 ///     written.as_slice(),
@@ -49,18 +51,39 @@ use ether_text::{OutputBuffer, Sink};
 /// );
 /// ```
 pub fn write_packet<W: Sink>(
-    format: Format,
+    format: &Format,
     limit: Option<usize>,
     number: usize,
     packet: &CapturedPacket<'_>,
     out: &mut OutputBuffer<'_, W>,
 ) -> bool
-    ensures { TakesAnswer W.contents W.can_fail (HasText format limit number (captured_packet_view packet.now))
+    ensures { TakesAnswer W.contents W.can_fail (HasText format.now limit number (captured_packet_view packet.now))
         out.old out.new result }
 {
-    write_front(format, number, packet, moment_if(packet.time), out);
-    let accepted = write_content(format, limit, packet, out);
-    write_tail(format, packet, out);
+    let moment = moment_if(packet.time);
+    match format {
+        Format::Json => write_part(Part::Json, limit, number, packet, moment, out),
+        Format::Brief => write_part(Part::Brief, limit, number, packet, moment, out),
+        Format::Fields(columns) => write_row(columns, limit, number, packet, moment, out),
+    }
+}
+
+/// Writes a line, or a column of a row, and returns whether no header of the packet is refused.
+#[inline(always)]
+pub(crate) fn write_part<W: Sink>(
+    part: Part,
+    limit: Option<usize>,
+    number: usize,
+    packet: &CapturedPacket<'_>,
+    moment: Option<Moment>,
+    out: &mut OutputBuffer<'_, W>,
+) -> bool
+    ensures { TakesAnswer W.contents W.can_fail (AnswersPart part limit number (captured_packet_view packet.now) moment)
+        out.old out.new result }
+{
+    write_front(part, number, packet, moment, out);
+    let accepted = write_content(part, limit, packet, out);
+    write_tail(part, packet, out);
     accepted
 }
 
@@ -76,17 +99,18 @@ fn moment_if(time: Option<Timestamp>) -> Option<Moment>
 
 /// Writes what comes before the headers of a packet.
 fn write_front<W: Sink>(
-    format: Format,
+    part: Part,
     number: usize,
     packet: &CapturedPacket<'_>,
     moment: Option<Moment>,
     out: &mut OutputBuffer<'_, W>,
 )
-    ensures { Takes W.contents W.can_fail out.old (front_text format number (captured_packet_view packet.now) moment) out.new }
+    ensures { Takes W.contents W.can_fail out.old (front_text part number (captured_packet_view packet.now) moment) out.new }
 {
-    match format {
-        Format::Json => write_json_front(number, packet, moment, out),
-        Format::Brief => write_brief_front(number, moment, out),
+    match part {
+        Part::Json => write_json_front(number, packet, moment, out),
+        Part::Brief => write_brief_front(number, moment, out),
+        Part::Column(column) => write_only(column.in_packet(number, packet, moment), out),
     }
 }
 
@@ -104,33 +128,34 @@ fn write_json_front<W: Sink>(
 }
 
 /// Writes what comes after the end of a packet.
-fn write_tail<W: Sink>(format: Format, packet: &CapturedPacket<'_>, out: &mut OutputBuffer<'_, W>)
-    ensures { Takes W.contents W.can_fail out.old (tail_text format (captured_packet_view packet.now)) out.new }
+fn write_tail<W: Sink>(part: Part, packet: &CapturedPacket<'_>, out: &mut OutputBuffer<'_, W>)
+    ensures { Takes W.contents W.can_fail out.old (tail_text part (captured_packet_view packet.now)) out.new }
 {
-    match format {
-        Format::Json => {}
-        Format::Brief => write_brief_tail(packet, out),
+    match part {
+        Part::Json | Part::Column(_) => {}
+        Part::Brief => write_brief_tail(packet, out),
     }
 }
 
 /// Writes the headers of a packet, and how the walk through them ends.
 fn write_content<W: Sink>(
-    format: Format,
+    part: Part,
     limit: Option<usize>,
     packet: &CapturedPacket<'_>,
     out: &mut OutputBuffer<'_, W>,
 ) -> bool
-    ensures { TakesAnswer W.contents W.can_fail (AnswersContent format limit (captured_packet_view packet.now)) out.old out.new result }
+    ensures { TakesAnswer W.contents W.can_fail (AnswersContent part limit (captured_packet_view packet.now)) out.old out.new result }
 {
     match Content::of(packet) {
-        Content::Frame(start, bytes) => write_walk(format, true, 0, start, limit, bytes, out),
+        Content::Frame(start, bytes) => write_walk(part, true, 0, start, limit, bytes, out),
         Content::LinuxSll(header, payload) => {
             let len = CookedHeader::LEN + payload.len();
-            write_cooked(format, cooked_place(CookedHeader::LEN, len), &header, out);
+            let place = cooked_place(CookedHeader::LEN, len);
+            let is_first = write_cooked(part, place, &header, out);
             let start = Start::EtherType(header.protocol);
             write_walk(
-                format,
-                false,
+                part,
+                is_first,
                 CookedHeader::LEN as u8,
                 start,
                 limit,
@@ -138,9 +163,9 @@ fn write_content<W: Sink>(
                 out,
             )
         }
-        Content::LinuxSll2(bytes) => write_cooked_v2(format, limit, bytes, out),
+        Content::LinuxSll2(bytes) => write_cooked_v2(part, limit, bytes, out),
         Content::Unknown => {
-            write_skipped(format, packet.packet.len(), out);
+            write_skipped(part, packet.packet.len(), out);
             true
         }
     }
@@ -148,26 +173,26 @@ fn write_content<W: Sink>(
 
 /// Writes the headers of a packet of cooked capture v2, and how the walk through them ends.
 fn write_cooked_v2<W: Sink>(
-    format: Format,
+    part: Part,
     limit: Option<usize>,
     bytes: &[u8],
     out: &mut OutputBuffer<'_, W>,
 ) -> bool
-    ensures { TakesAnswer W.contents W.can_fail (AnswersCookedV2 format limit bytes.now) out.old out.new result }
+    ensures { TakesAnswer W.contents W.can_fail (AnswersCookedV2 part limit bytes.now) out.old out.new result }
 {
     let packet = match LinuxSll2Slice::from_slice(bytes) {
         Ok(packet) => packet,
         Err(error) => {
-            write_linux_sll2_fault(format, &error, out);
+            write_linux_sll2_fault(part, &error, out);
             return false;
         }
     };
     let len = LinuxSll2Header::LEN;
-    write_linux_sll2(format, cooked_place(len, bytes.len()), &packet, out);
+    let is_first = write_linux_sll2(part, cooked_place(len, bytes.len()), &packet, out);
     match packet.start() {
         Some(start) => write_walk(
-            format,
-            false,
+            part,
+            is_first,
             len as u8,
             start,
             limit,
@@ -176,7 +201,7 @@ fn write_cooked_v2<W: Sink>(
         ),
         None => {
             write_rest(
-                format,
+                part,
                 len,
                 bytes.len(),
                 RestKind::Sll(packet.protocol_type()),

@@ -5,12 +5,13 @@ ghost use Rattle.std.specs.List.{flat_map};
 ghost use Rattle.ether_base.specs.Texts.NumberText.{hex_byte};
 ghost use Rattle.ether_text.specs.OutputBuffer.{Takes};
 ghost use Rattle.ether_text.specs.Decimals.{two_digits};
-ghost use Rattle.ether_format.specs.Spelling.{colon_text, date_text, dotted_text, flag_text, json_value, moment_text, nine_digits, quoted};
+ghost use Rattle.ether_format.specs.Spelling.{colon_text, column_value, date_text, dotted_text, flag_text, json_value, moment_text, nine_digits, quoted};
 ghost use Rattle.ether_format.specs.Walking.{value_view};
 
 use crate::Moment;
 use crate::value::Value;
-use ether_text::{OutputBuffer, Sink, eight_digits, write_decimal};
+use ether_text::{OutputBuffer, Sink, eight_digits, hex_type, write_decimal};
+use etherparse::EtherType;
 
 /// Writes a value as JSON has it.
 #[inline(always)]
@@ -30,6 +31,26 @@ pub(crate) fn write_json_value<W: Sink>(value: &Value<'_>, out: &mut OutputBuffe
         Value::Dotted(bytes) => write_quoted_dotted(bytes, out),
         Value::Word(word) => write_quoted_word(word, out),
         Value::Time(moment) => write_quoted_moment(moment, out),
+    }
+}
+
+/// Writes a value as a column has it.
+pub(crate) fn write_column_value<W: Sink>(value: &Value<'_>, out: &mut OutputBuffer<'_, W>)
+    ensures { Takes W.contents W.can_fail out.old (column_value (value_view value.now)) out.new }
+{
+    match value {
+        Value::Nothing => {}
+        Value::Number(number) => write_decimal(out, *number as usize),
+        Value::Protocol(number) => out.append(&hex_type(EtherType(*number))),
+        Value::Flag(holds) => out.append(flag_text(*holds).as_bytes()),
+        Value::Mac(address) => write_colons(address, out),
+        Value::Four(bytes) => write_colons(bytes, out),
+        Value::Eight(bytes) => write_colons(bytes, out),
+        Value::Short(bytes, len) => write_colons(first_of(bytes, *len), out),
+        Value::Bytes(bytes) => write_colons(bytes, out),
+        Value::Dotted(bytes) => write_dotted(bytes, out),
+        Value::Word(word) => out.append(word.as_bytes()),
+        Value::Time(moment) => write_moment(moment, out),
     }
 }
 

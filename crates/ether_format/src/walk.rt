@@ -1,11 +1,11 @@
-//! Writes the headers of a walk, and how it ends, in a format.
+//! Writes the headers of a walk, and how it ends, in a format, or a column of them.
 ghost use Rattle.std.specs.Prelude.{◌≡◌, List, false};
 ghost use Rattle.ether_text.specs.OutputBuffer.{TakesAnswer};
 ghost use Rattle.ether_peel.specs.Walker.Next.{FacesWalk};
 ghost use Rattle.ether_peel.specs.Walker.Start.{start_with};
 ghost use Rattle.ether_format.specs.Walking.{AnswersTold};
 
-use crate::Format;
+use crate::format::Part;
 use crate::place::Place;
 use crate::write_end::{write_fault, write_rest};
 use crate::write_header::write_header;
@@ -16,7 +16,7 @@ use ether_text::{OutputBuffer, Sink};
 /// Each place is counted from `header_len` bytes before the frame.
 #[inline(always)]
 pub(crate) fn write_walk<W: Sink>(
-    format: Format,
+    part: Part,
     first: bool,
     header_len: u8,
     start: Start,
@@ -24,7 +24,7 @@ pub(crate) fn write_walk<W: Sink>(
     frame: &[u8],
     out: &mut OutputBuffer<'_, W>,
 ) -> bool
-    ensures { TakesAnswer W.contents W.can_fail (AnswersTold format first header_len (start_with start limit) frame.now)
+    ensures { TakesAnswer W.contents W.can_fail (AnswersTold part first header_len (start_with start limit) frame.now)
         out.old out.new result }
 {
     let at = usize::from(header_len);
@@ -41,15 +41,14 @@ pub(crate) fn write_walk<W: Sink>(
                     payload_end: header_end + peel.rest().len(),
                     closed: peel.closed(),
                 };
-                write_header(format, is_first, place, &unit, out);
-                is_first = false;
+                is_first = write_header(part, is_first, place, &unit, out);
             }
             Some(Err(fault)) => {
-                write_fault(format, at + fault.offset, fault.closed, &fault.error, out);
+                write_fault(part, at + fault.offset, fault.closed, &fault.error, out);
                 return false;
             }
             None => {
-                write_rest(format, start, start + peel.rest().len(), peel.kind(), out);
+                write_rest(part, start, start + peel.rest().len(), peel.kind(), out);
                 return true;
             }
         }

@@ -2,15 +2,17 @@
 ghost use Rattle.std.specs.Prelude.{◌≤◌, false};
 ghost use Rattle.ether_sll2.specs.Views.{refusal_view};
 ghost use Rattle.ether_text.specs.OutputBuffer.{Takes};
-ghost use Rattle.ether_format.specs.declared.format.Format.TheVariants.{Json};
+ghost use Rattle.ether_format.specs.declared.format.Part.TheVariants.{Json};
 ghost use Rattle.ether_format.specs.Told.{Fault, Rest, Skipped, cause_of_v2};
 ghost use Rattle.ether_format.specs.Walking.{cause_shown, end_text};
 
 use crate::brief::{
     write_brief_fault, write_brief_linux_sll2_fault, write_brief_rest, write_brief_skipped,
 };
+use crate::endings;
+use crate::format::Part;
 use crate::json::write_object;
-use crate::{Format, endings};
+use crate::row::write_only;
 use ether_peel::{PeelError, RestKind};
 use ether_sll2::LinuxSll2Error;
 use ether_text::{OutputBuffer, Sink};
@@ -64,57 +66,61 @@ fn write_json_linux_sll2_fault<W: Sink>(error: &LinuxSll2Error, out: &mut Output
 /// Writes what is left, from a place to a place.
 #[inline(always)]
 pub(crate) fn write_rest<W: Sink>(
-    format: Format,
+    part: Part,
     start: usize,
     end: usize,
     kind: RestKind,
     out: &mut OutputBuffer<'_, W>,
 )
     requires { start ≤ end }
-    ensures { Takes W.contents W.can_fail out.old (end_text format (Rest start end kind)) out.new }
+    ensures { Takes W.contents W.can_fail out.old (end_text part (Rest start end kind)) out.new }
 {
-    match format {
-        Format::Json => write_json_rest(start, end, kind, out),
-        Format::Brief => write_brief_rest(end - start, kind, out),
+    match part {
+        Part::Json => write_json_rest(start, end, kind, out),
+        Part::Brief => write_brief_rest(end - start, kind, out),
+        Part::Column(column) => write_only(column.in_rest(start, end, kind), out),
     }
 }
 
 /// Writes that a packet of so many bytes is of a link type that the walk does not know.
-pub(crate) fn write_skipped<W: Sink>(format: Format, len: usize, out: &mut OutputBuffer<'_, W>)
-    ensures { Takes W.contents W.can_fail out.old (end_text format (Skipped len)) out.new }
+pub(crate) fn write_skipped<W: Sink>(part: Part, len: usize, out: &mut OutputBuffer<'_, W>)
+    ensures { Takes W.contents W.can_fail out.old (end_text part (Skipped len)) out.new }
 {
-    match format {
-        Format::Json => write_json_skipped(len, out),
-        Format::Brief => write_brief_skipped(len, out),
+    match part {
+        Part::Json => write_json_skipped(len, out),
+        Part::Brief => write_brief_skipped(len, out),
+        Part::Column(column) => write_only(column.in_skipped(len), out),
     }
 }
 
 /// Writes a fault.
 pub(crate) fn write_fault<W: Sink>(
-    format: Format,
+    part: Part,
     start: usize,
     closed: bool,
     error: &PeelError,
     out: &mut OutputBuffer<'_, W>,
 )
-    ensures { Takes W.contents W.can_fail out.old (end_text format (Fault start closed (cause_shown error.now))) out.new }
+    ensures { Takes W.contents W.can_fail out.old (end_text part (Fault start closed (cause_shown error.now))) out.new }
 {
-    match format {
-        Format::Json => write_json_fault(start, closed, error, out),
-        Format::Brief => write_brief_fault(start, error, out),
+    match part {
+        Part::Json => write_json_fault(start, closed, error, out),
+        Part::Brief => write_brief_fault(start, error, out),
+        Part::Column(column) => write_only(column.in_fault(start, closed, error), out),
     }
 }
 
 /// Writes the fault of a header of cooked capture v2.
 pub(crate) fn write_linux_sll2_fault<W: Sink>(
-    format: Format,
+    part: Part,
     error: &LinuxSll2Error,
     out: &mut OutputBuffer<'_, W>,
 )
-    ensures { Takes W.contents W.can_fail out.old (end_text format (Fault 0 false (cause_of_v2 (refusal_view error.now)))) out.new }
+    ensures { Takes W.contents W.can_fail out.old (end_text part (Fault 0 false (cause_of_v2 (refusal_view error.now)))) out.new }
 {
-    match format {
-        Format::Json => write_json_linux_sll2_fault(error, out),
-        Format::Brief => write_brief_linux_sll2_fault(error, out),
+    match part {
+        Part::Json => write_json_linux_sll2_fault(error, out),
+        Part::Brief => write_brief_linux_sll2_fault(error, out),
+        Part::Column(column) => write_only(column.in_linux_sll2_fault(error), out),
     }
 }

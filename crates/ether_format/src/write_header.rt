@@ -1,77 +1,103 @@
 //! Writes a header of a walk in a format.
-ghost use Rattle.std.specs.Prelude.{None, true};
+ghost use Rattle.std.specs.Prelude.{◌≡◌, None, true};
 ghost use Rattle.ether_content.specs.ContentViews.{cooked_view};
 ghost use Rattle.ether_sll2.specs.LinuxSll2.{linux_sll2_of};
 ghost use Rattle.etherparse.specs.Header as headers;
 ghost use Rattle.ether_text.specs.OutputBuffer.{Takes};
-ghost use Rattle.ether_format.specs.declared.format.Format.TheVariants.{Json};
+ghost use Rattle.ether_format.specs.declared.format.Part.TheVariants.{Json};
 ghost use Rattle.ether_format.specs.Json.{json_object};
 ghost use Rattle.ether_format.specs.Told.{Walked, CookedV2, told_members};
-ghost use Rattle.ether_format.specs.Walking.{comma_if, header_text, place_view, told_view};
+ghost use Rattle.ether_format.specs.Walking.{comma_if, goes_on, header_text, place_view, told_view};
 
 use crate::brief::{write_brief_cooked, write_brief_header, write_brief_linux_sll2};
+use crate::format::Part;
 use crate::json::write_object;
+use crate::members;
 use crate::place::Place;
-use crate::{Format, members};
+use crate::row::write_value;
 use ether_content::CookedHeader;
 use ether_peel::PeelUnit;
 use ether_sll2::LinuxSll2Slice;
 use ether_text::{OutputBuffer, Sink};
 
-/// Writes a header, which is the first of its packet or not.
+/// Writes a header, which is the first of its packet or not; or its value in a column, the first or not. Returns whether the next is the
+/// first.
 #[inline(always)]
 pub(crate) fn write_header<W: Sink>(
-    format: Format,
+    part: Part,
     is_first: bool,
     place: Place,
     unit: &PeelUnit<'_>,
     out: &mut OutputBuffer<'_, W>,
-)
-    ensures { Takes W.contents W.can_fail out.old (header_text format is_first (told_view place unit.now)) out.new }
+) -> bool
+    ensures text { Takes W.contents W.can_fail out.old (header_text part is_first (told_view place unit.now)) out.new }
+    ensures next { result ≡ goes_on part is_first (told_view place unit.now) }
 {
-    match format {
-        Format::Json => {
+    match part {
+        Part::Json => {
             write_comma(is_first, out);
             write_json_header(place, unit, out);
+            false
         }
-        Format::Brief => write_brief_header(unit, out),
+        Part::Brief => {
+            write_brief_header(unit, out);
+            false
+        }
+        Part::Column(column) => write_value(is_first, column.in_header(place, unit), out),
     }
 }
 
 /// Writes the first header of a packet, one of cooked capture v1 that is not walked.
 pub(crate) fn write_cooked<W: Sink>(
-    format: Format,
+    part: Part,
     place: Place,
     header: &CookedHeader,
     out: &mut OutputBuffer<'_, W>,
-)
-    ensures { Takes W.contents W.can_fail out.old
-        (header_text format true (Walked (place_view place) (headers.LinuxSll (cooked_view header.now)) None)) out.new }
+) -> bool
+    ensures text { Takes W.contents W.can_fail out.old
+        (header_text part true (Walked (place_view place) (headers.LinuxSll (cooked_view header.now)) None)) out.new }
+    ensures next { result ≡ goes_on part true (Walked (place_view place) (headers.LinuxSll (cooked_view header.now)) None) }
 {
-    match format {
-        Format::Json => write_json_cooked(place, header, out),
-        Format::Brief => write_brief_cooked(header, out),
+    match part {
+        Part::Json => {
+            write_json_cooked(place, header, out);
+            false
+        }
+        Part::Brief => {
+            write_brief_cooked(header, out);
+            false
+        }
+        Part::Column(column) => write_value(true, column.in_cooked(place, header), out),
     }
 }
 
 /// Writes the first header of a packet, one of cooked capture v2.
 pub(crate) fn write_linux_sll2<W: Sink>(
-    format: Format,
+    part: Part,
     place: Place,
     packet: &LinuxSll2Slice<'_>,
     out: &mut OutputBuffer<'_, W>,
-)
-    ensures { Takes W.contents W.can_fail out.old (header_text format true (CookedV2 (place_view place) (linux_sll2_of packet.now))) out.new }
+) -> bool
+    ensures text { Takes W.contents W.can_fail out.old
+        (header_text part true (CookedV2 (place_view place) (linux_sll2_of packet.now))) out.new }
+    ensures next { result ≡ goes_on part true (CookedV2 (place_view place) (linux_sll2_of packet.now)) }
 {
-    match format {
-        Format::Json => write_json_linux_sll2(place, packet, out),
-        Format::Brief => write_brief_linux_sll2(packet, out),
+    match part {
+        Part::Json => {
+            write_json_linux_sll2(place, packet, out);
+            false
+        }
+        Part::Brief => {
+            write_brief_linux_sll2(packet, out);
+            false
+        }
+        Part::Column(column) => write_value(true, column.in_linux_sll2(place, packet), out),
     }
 }
 
 /// Writes a comma, but not before the first header.
 #[inline(always)]
-fn write_comma<W: Sink>(is_first: bool, out: &mut OutputBuffer<'_, W>)
+pub(crate) fn write_comma<W: Sink>(is_first: bool, out: &mut OutputBuffer<'_, W>)
     ensures { Takes W.contents W.can_fail out.old (comma_if is_first) out.new }
 {
     if !is_first {

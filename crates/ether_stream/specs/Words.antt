@@ -6,8 +6,10 @@ use Rattle.ether_filter.specs.Numerals.{number_in}
 use Rattle.ether_filter.specs.Refusals.{RefusesText}
 use Rattle.ether_filter.specs.declared.filter_error.FilterError.{FilterError}
 use Rattle.ether_content.specs.Editing.{EditValue, CutToHeaders, PopVlan}
+use Rattle.ether_format.specs.Columns.{AreColumns, columns_view}
+use Rattle.ether_format.specs.declared.columns.Columns.{Columns}
 use Rattle.ether_format.specs.declared.format.Format.{Format}
-use Rattle.ether_format.specs.declared.format.Format.TheVariants.{Json, Brief}
+use Rattle.ether_format.specs.declared.format.Format.TheVariants.{Json, Brief, Fields}
 use Rattle.ether_stream.specs.Tags.{IsTagEdit}
 use Rattle.ether_stream.specs.declared.selection.Undecided.{Undecided}
 use Rattle.ether_stream.specs.declared.selection.Undecided.TheVariants.{Dropped, Kept}
@@ -37,6 +39,11 @@ IsFormat None format = format ≡ None
 IsFormat (Some text) None = text ≡ codes "lines"
 IsFormat (Some text) (Some Json) = text ≡ codes "json"
 IsFormat (Some text) (Some Brief) = text ≡ codes "brief"
+IsFormat (Some text) (Some (Fields columns)) = ⊥
+
+-- the columns of a row
+abbrev pub AreFields : List ℕ → Columns → Type 0
+AreFields text columns = AreColumns text (columns_view columns)
 
 -- one edit at most
 abbrev pub IsOneEdit : (cuts pops : Bool) → (push set : Option (List ℕ)) → Option EditValue → Type 0

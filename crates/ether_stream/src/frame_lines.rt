@@ -22,15 +22,15 @@ use ether_text::{OutputBuffer, Sink, eight_digits, write_decimal, write_walk_aft
 ///
 /// The packet has the number after `count`, which is read only if it is written.
 pub fn write_lines<W: Sink>(
-    options: LineOptions,
+    options: &LineOptions,
     count: &usize,
     packet: &CapturedPacket<'_>,
     out: &mut OutputBuffer<'_, W>,
 ) -> bool
-    ensures { TakesAnswer W.contents W.can_fail (HasLines options (counted (count.now + 1)) (captured_packet_view packet.now))
+    ensures { TakesAnswer W.contents W.can_fail (HasLines options.now (counted (count.now + 1)) (captured_packet_view packet.now))
         out.old out.new result }
 {
-    match options.format {
+    match &options.format {
         None => write_walk_lines(options, count, packet, out),
         Some(format) => {
             let number = count.saturating_add(1);
@@ -45,12 +45,12 @@ pub fn write_lines<W: Sink>(
 /// A packet of another link type than Ethernet and Linux cooked capture is skipped: it has no lines of a walk.
 #[inline(always)]
 fn write_walk_lines<W: Sink>(
-    options: LineOptions,
+    options: &LineOptions,
     count: &usize,
     packet: &CapturedPacket<'_>,
     out: &mut OutputBuffer<'_, W>,
 ) -> bool
-    ensures { TakesAnswer W.contents W.can_fail (HasWalkLines options (counted (count.now + 1)) (captured_packet_view packet.now))
+    ensures { TakesAnswer W.contents W.can_fail (HasWalkLines options.now (counted (count.now + 1)) (captured_packet_view packet.now))
         out.old out.new result }
 {
     let content = Content::of(packet);
@@ -76,13 +76,13 @@ fn write_walk_lines<W: Sink>(
 
 /// Writes the line after those of all packets, unless the capture is one of several.
 pub fn write_totals_of<W: Sink>(
-    options: LineOptions,
+    options: &LineOptions,
     frames: usize,
     skipped: usize,
     undecided: Option<usize>,
     out: &mut OutputBuffer<'_, W>,
 )
-    ensures { Takes W.contents W.can_fail out.old (totals_line_after options.before options.is_plain frames skipped undecided) out.new }
+    ensures { Takes W.contents W.can_fail out.old (totals_line_after options.now.before options.now.is_plain frames skipped undecided) out.new }
 {
     match options.before {
         None => write_totals(options.is_plain, frames, skipped, undecided, out),

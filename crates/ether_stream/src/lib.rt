@@ -44,5 +44,7 @@ pub use outcome::{
 pub use section_table::{MAX_INTERFACES, SectionTable};
 pub use selection::{Selection, Undecided};
 pub use task::{Form, LineOptions, Task};
-pub use words::{Usage, count_of, edit_of_words, filter_of, format_of, limit_of, undecided_of};
+pub use words::{
+    Usage, count_of, edit_of_words, fields_of, filter_of, format_of, limit_of, undecided_of,
+};
 pub use write_fault::WriteFault;

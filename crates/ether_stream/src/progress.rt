@@ -161,16 +161,16 @@ impl<T: InterfaceTable> Progress<T> {
         ensures same_out { IfNone result (out.new ≡ out.old) }
     {
         let Some(packet) = packet else {
-            self.write_other(task.form, unit, out);
+            self.write_other(&task.form, unit, out);
             return Some(true);
         };
         if !is_chosen {
             return Some(true);
         }
-        match task.form {
-            Form::Lines(options) => { Some(write_lines(options, &self.count, packet, out)) }
+        match &task.form {
+            Form::Lines(options) => Some(write_lines(options, &self.count, packet, out)),
             Form::Copy { mode, edit } => {
-                if write_packet(&self.reader, mode, edit, edits, unit, packet, out) {
+                if write_packet(&self.reader, *mode, *edit, edits, unit, packet, out) {
                     Some(true)
                 } else {
                     None
@@ -181,12 +181,12 @@ impl<T: InterfaceTable> Progress<T> {
 
     /// Writes what a copy has of a unit without a packet, if a copy is made.
     #[inline(always)]
-    fn write_other<W: Sink>(&self, form: Form, unit: &[u8], out: &mut OutputBuffer<'_, W>)
+    fn write_other<W: Sink>(&self, form: &Form, unit: &[u8], out: &mut OutputBuffer<'_, W>)
         requires { IsUnitOf self.now.reader unit.now None }
-        ensures { Takes W.contents W.can_fail out.old (other_text (form_view form) self.now.reader unit.now) out.new }
+        ensures { Takes W.contents W.can_fail out.old (other_text (form_view form.now) self.now.reader unit.now) out.new }
     {
         if let Form::Copy { mode, .. } = form {
-            write_other(&self.reader, mode, unit, out);
+            write_other(&self.reader, *mode, unit, out);
         }
     }
 
@@ -247,7 +247,7 @@ impl<T: InterfaceTable> Progress<T> {
         ensures failed { IfErr result (λ fault. out.new.has_failed ≡ true) }
         ensures marks { Marks W.can_fail out.old out.new }
     {
-        if let Form::Lines(options) = task.form {
+        if let Form::Lines(options) = &task.form {
             let undecided = task.if_selected(self.undecided);
             write_totals_of(options, self.count, self.skipped, undecided, out);
         }

@@ -99,7 +99,7 @@ impl Task {
     pub fn packets_before(&self) -> usize
         ensures { result ≡ packets_before (task_view self.now).form }
     {
-        match self.form {
+        match &self.form {
             Form::Lines(options) => options.before.unwrap_or(0),
             Form::Copy { .. } => 0,
         }

@@ -5,16 +5,17 @@ ghost use Rattle.std.specs.Option.{option_map};
 ghost use Rattle.ether_content.specs.Editing.{EditValue};
 ghost use Rattle.ether_content.specs.EditingViews.{edit_view};
 ghost use Rattle.ether_stream.specs.declared.selection.Undecided.{Undecided as UndecidedValue};
+ghost use Rattle.ether_format.specs.declared.columns.Columns.{Columns as ColumnsValue};
 ghost use Rattle.ether_format.specs.declared.format.Format.{Format as FormatValue};
 ghost use Rattle.ether_stream.specs.Outcome.{usage_text};
 ghost use Rattle.ether_stream.specs.Tags.{IsTagEdit, tag_word};
-ghost use Rattle.ether_stream.specs.Words.{IsCount, IsFormat, IsIfAny, IsLimit, IsOneEdit, IsSelection, MeansUndecided, RefusesSelection};
+ghost use Rattle.ether_stream.specs.Words.{AreFields, IsCount, IsFormat, IsIfAny, IsLimit, IsOneEdit, IsSelection, MeansUndecided, RefusesSelection};
 
 use crate::selection::Undecided;
 use crate::tags::{TagEdit, small_number, tag_edit_of};
 use ether_content::PacketEdit;
 use ether_filter::{Filter, FilterError};
-use ether_format::Format;
+use ether_format::{Columns, Format};
 use std::num::NonZeroUsize;
 
 /// What is wrong with the words of a request.
@@ -34,6 +35,8 @@ pub enum Usage {
     Undecided,
     /// There is no such format.
     Format,
+    /// A column is not known, or there are more than 32.
+    Fields,
 }
 
 impl Usage {
@@ -49,6 +52,7 @@ impl Usage {
             Usage::Limit => "--limit: expected a number up to 4294967295",
             Usage::Undecided => "--undecided: expected keep or drop",
             Usage::Format => "--format: expected lines, brief or json",
+            Usage::Fields => "--fields: expected at most 32 columns, as vlan.vid,eth.src",
         }
     }
 }
@@ -132,6 +136,21 @@ pub fn undecided_of(text: Option<&str>) -> Result<Option<Undecided>, Usage>
         Some("keep") => Ok(Some(Undecided::Kept)),
         Some("drop") => Ok(Some(Undecided::Dropped)),
         Some(_) => Err(Usage::Undecided),
+    }
+}
+
+/// The columns that a text names, if there is one.
+pub fn fields_of(text: Option<&str>) -> Result<Option<Columns>, Usage>
+    ensures ok { IfOk result (IsIfAny AreFields (option_map (λ s. s.now) text.entry)) }
+    ensures err { OnErr result ((columns : Option ColumnsValue) → ¬ (IsIfAny AreFields (option_map (λ s. s.now) text.entry) columns)) }
+    ensures usage { IfErr result (λ usage. usage ≡ Usage.Fields) }
+{
+    let Some(text) = text else {
+        return Ok(None);
+    };
+    match Columns::of_names(text) {
+        Some(columns) => Ok(Some(columns)),
+        None => Err(Usage::Fields),
     }
 }
 

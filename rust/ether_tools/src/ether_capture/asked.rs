@@ -2,7 +2,7 @@
 
 use etherpeel::ether_content::PacketEdit;
 use etherpeel::ether_filter::{Filter, FilterError};
-use crate::ether_format::Format;
+use crate::ether_format::{Columns, Format};
 use etherpeel::ether_pcap::CopyMode;
 use crate::ether_stream::{Form, LineOptions, Selection, Task, Undecided, Usage, filter_of};
 use std::num::NonZeroUsize;
@@ -40,12 +40,14 @@ pub enum Request<'a> {
 /// What is made of one capture.
 #[derive(Debug)]
 pub struct Job<'a> {
-    /// Lines or a copy, of which packets.
+    /// Whether lines or a copy are made, and of what packets.
     pub task: Task,
     /// The name of the capture's file, unless it is read from standard input.
     pub input: Option<&'a str>,
     /// The name of the copy's file, unless what is made goes to standard output.
     pub output: Option<&'a str>,
+    /// The columns whose names are written first, if a line of them is asked for.
+    pub heading: Option<Columns>,
     /// Whether is shown how far it is read.
     pub is_shown: bool,
 }
@@ -61,6 +63,8 @@ pub struct Listing<'a> {
     pub options: LineOptions,
     /// The names of their files, two at least.
     pub files: Vec<&'a str>,
+    /// The columns whose names are written first, if a line of them is asked for.
+    pub heading: Option<Columns>,
     /// Whether is shown how far they are read.
     pub is_shown: bool,
 }
@@ -70,12 +74,14 @@ pub(crate) struct Asked<'a> {
     pub(crate) is_plain: bool,
     pub(crate) is_write: bool,
     pub(crate) is_shown: bool,
+    pub(crate) has_header: bool,
     pub(crate) edit: Option<PacketEdit>,
     pub(crate) text: Option<&'a str>,
     pub(crate) undecided: Option<Undecided>,
     pub(crate) count: Option<NonZeroUsize>,
     pub(crate) limit: Option<usize>,
     pub(crate) format: Option<Format>,
+    pub(crate) fields: Option<Columns>,
     pub(crate) input: Option<&'a str>,
     pub(crate) output: Option<&'a str>,
     pub(crate) files: Vec<&'a str>,
@@ -100,11 +106,35 @@ impl<'a> Asked<'a> {
         if self.input.is_some() && !self.files.is_empty() {
             return true;
         }
-        if self.is_copy() {
-            self.is_plain || self.limit.is_some() || self.format.is_some() || self.has_several()
-        } else {
-            self.edit.is_some() || self.is_plain && self.format.is_some()
+        if self.has_header && self.fields.is_none() {
+            return true;
         }
+        if self.format.is_some() && self.fields.is_some() {
+            return true;
+        }
+        if self.is_copy() {
+            self.is_plain || self.limit.is_some() || self.has_format() || self.has_several()
+        } else {
+            self.edit.is_some() || self.is_plain && self.has_format()
+        }
+    }
+
+    /// Tests that another format than lines is asked for.
+    fn has_format(&self) -> bool {
+        self.format.is_some() || self.fields.is_some()
+    }
+
+    /// The format that is asked for, if it is another than lines.
+    fn format(&self) -> Option<Format> {
+        match self.fields {
+            Some(columns) => Some(Format::Fields(columns)),
+            None => self.format,
+        }
+    }
+
+    /// The columns whose names are written first, if a line of them is asked for.
+    fn heading(&self) -> Option<Columns> {
+        if self.has_header { self.fields } else { None }
     }
 
     /// What all options together ask for.
@@ -117,6 +147,7 @@ impl<'a> Asked<'a> {
                 selection: self.selection(filter),
                 count: self.count,
                 options: self.options(),
+                heading: self.heading(),
                 files: self.files,
                 is_shown: self.is_shown,
             })),
@@ -131,6 +162,7 @@ impl<'a> Asked<'a> {
                     task,
                     input: self.input(),
                     output: self.output(),
+                    heading: self.heading(),
                     is_shown: self.is_shown,
                 }))
             }
@@ -196,8 +228,8 @@ impl<'a> Asked<'a> {
     /// Which lines are asked for.
     fn options(&self) -> LineOptions {
         LineOptions {
-            is_plain: self.is_plain || self.format.is_some(),
-            format: self.format,
+            is_plain: self.is_plain || self.has_format(),
+            format: self.format(),
             limit: self.limit,
             before: None,
         }

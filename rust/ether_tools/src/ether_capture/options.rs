@@ -1,27 +1,29 @@
 //! What the arguments ask for, by their words, which `clap` reads. Written by hand, not proved.
 use crate::ether_capture::asked::{Asked, Request, RequestError};
-use crate::ether_stream::{Usage, count_of, edit_of_words, format_of, limit_of, undecided_of};
+use crate::ether_stream::{Usage, count_of, edit_of_words, fields_of, format_of, limit_of, undecided_of};
 use crate::ether_capture::memory::Global;
 use clap::error::ErrorKind;
 use clap::{Arg, ArgAction, ArgMatches, Command, ValueHint};
 
 /// Options without a value, and what the completions of shells say of them.
-const FLAGS: [(&str, &str); 5] = [
+const FLAGS: [(&str, &str); 6] = [
     ("plain", "leave out the lines of packets and the totals"),
     ("write", "write the capture itself"),
     ("cut-to-headers", "cut each packet where its link-layer headers end"),
     ("pop-vlan", "take the VLAN tag after the link's header off each frame"),
     ("progress", "show how many bytes are read"),
+    ("header", "with --fields, print a line of the names first"),
 ];
 
 /// Options with a value.
-const OPTIONS: [(&str, &str); 6] = [
+const OPTIONS: [(&str, &str); 7] = [
     ("push-vlan", "put a VLAN tag after the link's header, as 0x8100:5"),
     ("set-vlan", "give the outermost VLAN tag with identifier A identifier B, as A:B"),
     ("select", "only packets that match an expression"),
     ("undecided", "keep or drop packets that were cut too short to tell"),
     ("limit", "read so many VLAN tags and SecTags of each packet at most"),
     ("format", "print lines, or each packet on one line: lines, brief or json"),
+    ("fields", "print these columns of each packet, as vlan.vid,eth.src"),
 ];
 
 /// The program's arguments.
@@ -60,12 +62,14 @@ fn asked<'a>(matches: &ArgMatches, words: &'a [String]) -> Result<Asked<'a>, Usa
         is_plain: matches.get_flag("plain"),
         is_write: matches.get_flag("write"),
         is_shown: matches.get_flag("progress"),
+        has_header: matches.get_flag("header"),
         edit: edit_of_words(cuts, pops, push, set)?,
         text: text_of(matches, words, "select"),
         undecided: undecided_of(text_of(matches, words, "undecided"))?,
         count: count_of(text_of(matches, words, "count"))?,
         limit: limit_of(text_of(matches, words, "limit"))?,
         format: format_of(text_of(matches, words, "format"))?,
+        fields: fields_of(text_of(matches, words, "fields"))?,
         input: text_of(matches, words, "read"),
         output: text_of(matches, words, "output"),
         files: texts_of(matches, words, "file"),

@@ -7,8 +7,9 @@ use crate::ether_capture::copy_run::{copy_file, copy_input};
 use crate::ether_capture::files::run_files;
 use crate::ether_capture::options::request_of_words;
 use crate::ether_capture::run_input::run_input;
+use crate::ether_format::Columns;
 use crate::ether_stream::{LineSink, Outcome, RunFault, Task, is_message, last_line, program_status};
-use crate::ether_text::{Sink, Source};
+use crate::ether_text::{OutputBuffer, OutputFault, Sink, Source};
 use crate::ether_capture::memory::Global;
 use std::{env, io};
 
@@ -70,16 +71,30 @@ fn obey<'a, C: Captures, K: Copies, R: Source, W: Sink, M: LineSink>(
     messages: &mut M,
 ) -> Outcome<'a> {
     match request_of_words(words, alloc) {
-        Ok(Request::Run(job)) => run_job(&job, alloc, captures, copies, reader, writer),
-        Ok(Request::List(listing)) => {
-            Outcome::Files(run_files(listing, alloc, captures, writer, messages))
-        }
+        Ok(Request::Run(job)) => match write_heading(&job.heading, writer) {
+            Ok(()) => run_job(&job, alloc, captures, copies, reader, writer),
+            Err(OutputFault) => Outcome::Run(Err(RunFault::Output)),
+        },
+        Ok(Request::List(listing)) => match write_heading(&listing.heading, writer) {
+            Ok(()) => Outcome::Files(run_files(listing, alloc, captures, writer, messages)),
+            Err(OutputFault) => Outcome::Run(Err(RunFault::Output)),
+        },
         Ok(Request::Help) => Outcome::Help,
         Ok(Request::Version) => Outcome::Version,
         Err(RequestError::Usage(usage)) => Outcome::Usage(usage),
         Err(RequestError::Memory) => Outcome::NoMemory,
         Err(RequestError::Filter(error)) => Outcome::NoFilter(error),
     }
+}
+
+/// Writes the line of the names of columns, if it is asked for.
+fn write_heading<W: Sink>(heading: &Option<Columns>, writer: &mut W) -> Result<(), OutputFault> {
+    let Some(columns) = heading else {
+        return Ok(());
+    };
+    let mut out = OutputBuffer::new(writer);
+    columns.write_heading(&mut out);
+    out.flush()
 }
 
 /// Writes what is made of one capture.

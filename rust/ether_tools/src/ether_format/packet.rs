@@ -2,8 +2,10 @@
 
 use crate::ether_format::brief::{write_brief_front, write_brief_tail};
 use crate::ether_format::calendar::moment_of;
+use crate::ether_format::format::Part;
 use crate::ether_format::json::write_members;
 use crate::ether_format::place::Place;
+use crate::ether_format::row::{write_only, write_row};
 use crate::ether_format::walk::write_walk;
 use crate::ether_format::write_end::{write_linux_sll2_fault, write_rest, write_skipped};
 use crate::ether_format::write_header::{write_cooked, write_linux_sll2};
@@ -40,7 +42,7 @@ use crate::ether_text::{OutputBuffer, Sink};
 /// };
 /// let mut written = ArrayVec::<u8, 512>::new();
 /// let mut out = OutputBuffer::new(&mut written);
-/// assert!(write_packet(Format::Json, None, 1, &packet, &mut out));
+/// assert!(write_packet(&Format::Json, None, 1, &packet, &mut out));
 /// assert_eq!(out.flush(), Ok(()));
 /// assert_eq!(
 ///     written.as_slice(),
@@ -53,21 +55,39 @@ use crate::ether_text::{OutputBuffer, Sink};
 /// <details><summary>Contract</summary>
 ///
 /// ```text
-/// ensures { TakesAnswer W.contents W.can_fail (HasText format limit number (captured_packet_view packet.now))
+/// ensures { TakesAnswer W.contents W.can_fail (HasText format.now limit number (captured_packet_view packet.now))
 ///     out.old out.new result }
 /// ```
 ///
 /// </details>
 pub fn write_packet<W: Sink>(
-    format: Format,
+    format: &Format,
     limit: Option<usize>,
     number: usize,
     packet: &CapturedPacket<'_>,
     out: &mut OutputBuffer<'_, W>,
 ) -> bool {
-    write_front(format, number, packet, moment_if(packet.time), out);
-    let accepted = write_content(format, limit, packet, out);
-    write_tail(format, packet, out);
+    let moment = moment_if(packet.time);
+    match format {
+        Format::Json => write_part(Part::Json, limit, number, packet, moment, out),
+        Format::Brief => write_part(Part::Brief, limit, number, packet, moment, out),
+        Format::Fields(columns) => write_row(columns, limit, number, packet, moment, out),
+    }
+}
+
+/// Writes a line, or a column of a row, and returns whether no header of the packet is refused.
+#[inline(always)]
+pub(crate) fn write_part<W: Sink>(
+    part: Part,
+    limit: Option<usize>,
+    number: usize,
+    packet: &CapturedPacket<'_>,
+    moment: Option<Moment>,
+    out: &mut OutputBuffer<'_, W>,
+) -> bool {
+    write_front(part, number, packet, moment, out);
+    let accepted = write_content(part, limit, packet, out);
+    write_tail(part, packet, out);
     accepted
 }
 
@@ -81,15 +101,16 @@ fn moment_if(time: Option<Timestamp>) -> Option<Moment> {
 
 /// Writes what comes before the headers of a packet.
 fn write_front<W: Sink>(
-    format: Format,
+    part: Part,
     number: usize,
     packet: &CapturedPacket<'_>,
     moment: Option<Moment>,
     out: &mut OutputBuffer<'_, W>,
 ) {
-    match format {
-        Format::Json => write_json_front(number, packet, moment, out),
-        Format::Brief => write_brief_front(number, moment, out),
+    match part {
+        Part::Json => write_json_front(number, packet, moment, out),
+        Part::Brief => write_brief_front(number, moment, out),
+        Part::Column(column) => write_only(column.in_packet(number, packet, moment), out),
     }
 }
 
@@ -105,29 +126,30 @@ fn write_json_front<W: Sink>(
 }
 
 /// Writes what comes after the end of a packet.
-fn write_tail<W: Sink>(format: Format, packet: &CapturedPacket<'_>, out: &mut OutputBuffer<'_, W>) {
-    match format {
-        Format::Json => {}
-        Format::Brief => write_brief_tail(packet, out),
+fn write_tail<W: Sink>(part: Part, packet: &CapturedPacket<'_>, out: &mut OutputBuffer<'_, W>) {
+    match part {
+        Part::Json | Part::Column(_) => {}
+        Part::Brief => write_brief_tail(packet, out),
     }
 }
 
 /// Writes the headers of a packet, and how the walk through them ends.
 fn write_content<W: Sink>(
-    format: Format,
+    part: Part,
     limit: Option<usize>,
     packet: &CapturedPacket<'_>,
     out: &mut OutputBuffer<'_, W>,
 ) -> bool {
     match Content::of(packet) {
-        Content::Frame(start, bytes) => write_walk(format, true, 0, start, limit, bytes, out),
+        Content::Frame(start, bytes) => write_walk(part, true, 0, start, limit, bytes, out),
         Content::LinuxSll(header, payload) => {
             let len = CookedHeader::LEN + payload.len();
-            write_cooked(format, cooked_place(CookedHeader::LEN, len), &header, out);
+            let place = cooked_place(CookedHeader::LEN, len);
+            let is_first = write_cooked(part, place, &header, out);
             let start = Start::EtherType(header.protocol);
             write_walk(
-                format,
-                false,
+                part,
+                is_first,
                 CookedHeader::LEN as u8,
                 start,
                 limit,
@@ -135,9 +157,9 @@ fn write_content<W: Sink>(
                 out,
             )
         }
-        Content::LinuxSll2(bytes) => write_cooked_v2(format, limit, bytes, out),
+        Content::LinuxSll2(bytes) => write_cooked_v2(part, limit, bytes, out),
         Content::Unknown => {
-            write_skipped(format, packet.packet.len(), out);
+            write_skipped(part, packet.packet.len(), out);
             true
         }
     }
@@ -145,7 +167,7 @@ fn write_content<W: Sink>(
 
 /// Writes the headers of a packet of cooked capture v2, and how the walk through them ends.
 fn write_cooked_v2<W: Sink>(
-    format: Format,
+    part: Part,
     limit: Option<usize>,
     bytes: &[u8],
     out: &mut OutputBuffer<'_, W>,
@@ -153,16 +175,16 @@ fn write_cooked_v2<W: Sink>(
     let packet = match LinuxSll2Slice::from_slice(bytes) {
         Ok(packet) => packet,
         Err(error) => {
-            write_linux_sll2_fault(format, &error, out);
+            write_linux_sll2_fault(part, &error, out);
             return false;
         }
     };
     let len = LinuxSll2Header::LEN;
-    write_linux_sll2(format, cooked_place(len, bytes.len()), &packet, out);
+    let is_first = write_linux_sll2(part, cooked_place(len, bytes.len()), &packet, out);
     match packet.start() {
         Some(start) => write_walk(
-            format,
-            false,
+            part,
+            is_first,
             len as u8,
             start,
             limit,
@@ -171,7 +193,7 @@ fn write_cooked_v2<W: Sink>(
         ),
         None => {
             write_rest(
-                format,
+                part,
                 len,
                 bytes.len(),
                 RestKind::Sll(packet.protocol_type()),

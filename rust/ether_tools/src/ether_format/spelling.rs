@@ -2,7 +2,8 @@
 
 use crate::ether_format::Moment;
 use crate::ether_format::value::Value;
-use crate::ether_text::{OutputBuffer, Sink, eight_digits, write_decimal};
+use crate::ether_text::{OutputBuffer, Sink, eight_digits, hex_type, write_decimal};
+use etherpeel::EtherType;
 
 /// Writes a value as JSON has it.
 #[inline(always)]
@@ -20,6 +21,24 @@ pub(crate) fn write_json_value<W: Sink>(value: &Value<'_>, out: &mut OutputBuffe
         Value::Dotted(bytes) => write_quoted_dotted(bytes, out),
         Value::Word(word) => write_quoted_word(word, out),
         Value::Time(moment) => write_quoted_moment(moment, out),
+    }
+}
+
+/// Writes a value as a column has it.
+pub(crate) fn write_column_value<W: Sink>(value: &Value<'_>, out: &mut OutputBuffer<'_, W>) {
+    match value {
+        Value::Nothing => {}
+        Value::Number(number) => write_decimal(out, *number as usize),
+        Value::Protocol(number) => out.append(&hex_type(EtherType(*number))),
+        Value::Flag(holds) => out.append(flag_text(*holds).as_bytes()),
+        Value::Mac(address) => write_colons(address, out),
+        Value::Four(bytes) => write_colons(bytes, out),
+        Value::Eight(bytes) => write_colons(bytes, out),
+        Value::Short(bytes, len) => write_colons(first_of(bytes, *len), out),
+        Value::Bytes(bytes) => write_colons(bytes, out),
+        Value::Dotted(bytes) => write_dotted(bytes, out),
+        Value::Word(word) => out.append(word.as_bytes()),
+        Value::Time(moment) => write_moment(moment, out),
     }
 }
 

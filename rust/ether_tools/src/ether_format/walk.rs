@@ -1,6 +1,6 @@
-//! Writes the headers of a walk, and how it ends, in a format.
+//! Writes the headers of a walk, and how it ends, in a format, or a column of them.
 
-use crate::ether_format::Format;
+use crate::ether_format::format::Part;
 use crate::ether_format::place::Place;
 use crate::ether_format::write_end::{write_fault, write_rest};
 use crate::ether_format::write_header::write_header;
@@ -11,7 +11,7 @@ use crate::ether_text::{OutputBuffer, Sink};
 /// Each place is counted from `header_len` bytes before the frame.
 #[inline(always)]
 pub(crate) fn write_walk<W: Sink>(
-    format: Format,
+    part: Part,
     first: bool,
     header_len: u8,
     start: Start,
@@ -33,15 +33,14 @@ pub(crate) fn write_walk<W: Sink>(
                     payload_end: header_end + peel.rest().len(),
                     closed: peel.closed(),
                 };
-                write_header(format, is_first, place, &unit, out);
-                is_first = false;
+                is_first = write_header(part, is_first, place, &unit, out);
             }
             Some(Err(fault)) => {
-                write_fault(format, at + fault.offset, fault.closed, &fault.error, out);
+                write_fault(part, at + fault.offset, fault.closed, &fault.error, out);
                 return false;
             }
             None => {
-                write_rest(format, start, start + peel.rest().len(), peel.kind(), out);
+                write_rest(part, start, start + peel.rest().len(), peel.kind(), out);
                 return true;
             }
         }

@@ -3,8 +3,10 @@
 use crate::ether_format::brief::{
     write_brief_fault, write_brief_linux_sll2_fault, write_brief_rest, write_brief_skipped,
 };
+use crate::ether_format::endings;
+use crate::ether_format::format::Part;
 use crate::ether_format::json::write_object;
-use crate::ether_format::{Format, endings};
+use crate::ether_format::row::write_only;
 use etherpeel::ether_peel::{PeelError, RestKind};
 use etherpeel::ether_sll2::LinuxSll2Error;
 use crate::ether_text::{OutputBuffer, Sink};
@@ -50,48 +52,52 @@ fn write_json_linux_sll2_fault<W: Sink>(error: &LinuxSll2Error, out: &mut Output
 /// Writes what is left, from a place to a place.
 #[inline(always)]
 pub(crate) fn write_rest<W: Sink>(
-    format: Format,
+    part: Part,
     start: usize,
     end: usize,
     kind: RestKind,
     out: &mut OutputBuffer<'_, W>,
 ) {
-    match format {
-        Format::Json => write_json_rest(start, end, kind, out),
-        Format::Brief => write_brief_rest(end - start, kind, out),
+    match part {
+        Part::Json => write_json_rest(start, end, kind, out),
+        Part::Brief => write_brief_rest(end - start, kind, out),
+        Part::Column(column) => write_only(column.in_rest(start, end, kind), out),
     }
 }
 
 /// Writes that a packet of so many bytes is of a link type that the walk does not know.
-pub(crate) fn write_skipped<W: Sink>(format: Format, len: usize, out: &mut OutputBuffer<'_, W>) {
-    match format {
-        Format::Json => write_json_skipped(len, out),
-        Format::Brief => write_brief_skipped(len, out),
+pub(crate) fn write_skipped<W: Sink>(part: Part, len: usize, out: &mut OutputBuffer<'_, W>) {
+    match part {
+        Part::Json => write_json_skipped(len, out),
+        Part::Brief => write_brief_skipped(len, out),
+        Part::Column(column) => write_only(column.in_skipped(len), out),
     }
 }
 
 /// Writes a fault.
 pub(crate) fn write_fault<W: Sink>(
-    format: Format,
+    part: Part,
     start: usize,
     closed: bool,
     error: &PeelError,
     out: &mut OutputBuffer<'_, W>,
 ) {
-    match format {
-        Format::Json => write_json_fault(start, closed, error, out),
-        Format::Brief => write_brief_fault(start, error, out),
+    match part {
+        Part::Json => write_json_fault(start, closed, error, out),
+        Part::Brief => write_brief_fault(start, error, out),
+        Part::Column(column) => write_only(column.in_fault(start, closed, error), out),
     }
 }
 
 /// Writes the fault of a header of cooked capture v2.
 pub(crate) fn write_linux_sll2_fault<W: Sink>(
-    format: Format,
+    part: Part,
     error: &LinuxSll2Error,
     out: &mut OutputBuffer<'_, W>,
 ) {
-    match format {
-        Format::Json => write_json_linux_sll2_fault(error, out),
-        Format::Brief => write_brief_linux_sll2_fault(error, out),
+    match part {
+        Part::Json => write_json_linux_sll2_fault(error, out),
+        Part::Brief => write_brief_linux_sll2_fault(error, out),
+        Part::Column(column) => write_only(column.in_linux_sll2_fault(error), out),
     }
 }

@@ -1,61 +1,83 @@
 //! Writes a header of a walk in a format.
 
 use crate::ether_format::brief::{write_brief_cooked, write_brief_header, write_brief_linux_sll2};
+use crate::ether_format::format::Part;
 use crate::ether_format::json::write_object;
+use crate::ether_format::members;
 use crate::ether_format::place::Place;
-use crate::ether_format::{Format, members};
+use crate::ether_format::row::write_value;
 use etherpeel::ether_content::CookedHeader;
 use etherpeel::ether_peel::PeelUnit;
 use etherpeel::ether_sll2::LinuxSll2Slice;
 use crate::ether_text::{OutputBuffer, Sink};
 
-/// Writes a header, which is the first of its packet or not.
+/// Writes a header, which is the first of its packet or not; or its value in a column, the first or not. Returns whether the next is the
+/// first.
 #[inline(always)]
 pub(crate) fn write_header<W: Sink>(
-    format: Format,
+    part: Part,
     is_first: bool,
     place: Place,
     unit: &PeelUnit<'_>,
     out: &mut OutputBuffer<'_, W>,
-) {
-    match format {
-        Format::Json => {
+) -> bool {
+    match part {
+        Part::Json => {
             write_comma(is_first, out);
             write_json_header(place, unit, out);
+            false
         }
-        Format::Brief => write_brief_header(unit, out),
+        Part::Brief => {
+            write_brief_header(unit, out);
+            false
+        }
+        Part::Column(column) => write_value(is_first, column.in_header(place, unit), out),
     }
 }
 
 /// Writes the first header of a packet, one of cooked capture v1 that is not walked.
 pub(crate) fn write_cooked<W: Sink>(
-    format: Format,
+    part: Part,
     place: Place,
     header: &CookedHeader,
     out: &mut OutputBuffer<'_, W>,
-) {
-    match format {
-        Format::Json => write_json_cooked(place, header, out),
-        Format::Brief => write_brief_cooked(header, out),
+) -> bool {
+    match part {
+        Part::Json => {
+            write_json_cooked(place, header, out);
+            false
+        }
+        Part::Brief => {
+            write_brief_cooked(header, out);
+            false
+        }
+        Part::Column(column) => write_value(true, column.in_cooked(place, header), out),
     }
 }
 
 /// Writes the first header of a packet, one of cooked capture v2.
 pub(crate) fn write_linux_sll2<W: Sink>(
-    format: Format,
+    part: Part,
     place: Place,
     packet: &LinuxSll2Slice<'_>,
     out: &mut OutputBuffer<'_, W>,
-) {
-    match format {
-        Format::Json => write_json_linux_sll2(place, packet, out),
-        Format::Brief => write_brief_linux_sll2(packet, out),
+) -> bool {
+    match part {
+        Part::Json => {
+            write_json_linux_sll2(place, packet, out);
+            false
+        }
+        Part::Brief => {
+            write_brief_linux_sll2(packet, out);
+            false
+        }
+        Part::Column(column) => write_value(true, column.in_linux_sll2(place, packet), out),
     }
 }
 
 /// Writes a comma, but not before the first header.
 #[inline(always)]
-fn write_comma<W: Sink>(is_first: bool, out: &mut OutputBuffer<'_, W>) {
+pub(crate) fn write_comma<W: Sink>(is_first: bool, out: &mut OutputBuffer<'_, W>) {
     if !is_first {
         out.append(b",");
     }

@@ -17,18 +17,18 @@ use crate::ether_text::{OutputBuffer, Sink, eight_digits, write_decimal, write_w
 /// <details><summary>Contract</summary>
 ///
 /// ```text
-/// ensures { TakesAnswer W.contents W.can_fail (HasLines options (counted (count.now + 1)) (captured_packet_view packet.now))
+/// ensures { TakesAnswer W.contents W.can_fail (HasLines options.now (counted (count.now + 1)) (captured_packet_view packet.now))
 ///     out.old out.new result }
 /// ```
 ///
 /// </details>
 pub fn write_lines<W: Sink>(
-    options: LineOptions,
+    options: &LineOptions,
     count: &usize,
     packet: &CapturedPacket<'_>,
     out: &mut OutputBuffer<'_, W>,
 ) -> bool {
-    match options.format {
+    match &options.format {
         None => write_walk_lines(options, count, packet, out),
         Some(format) => {
             let number = count.saturating_add(1);
@@ -43,7 +43,7 @@ pub fn write_lines<W: Sink>(
 /// A packet of another link type than Ethernet and Linux cooked capture is skipped: it has no lines of a walk.
 #[inline(always)]
 fn write_walk_lines<W: Sink>(
-    options: LineOptions,
+    options: &LineOptions,
     count: &usize,
     packet: &CapturedPacket<'_>,
     out: &mut OutputBuffer<'_, W>,
@@ -74,12 +74,12 @@ fn write_walk_lines<W: Sink>(
 /// <details><summary>Contract</summary>
 ///
 /// ```text
-/// ensures { Takes W.contents W.can_fail out.old (totals_line_after options.before options.is_plain frames skipped undecided) out.new }
+/// ensures { Takes W.contents W.can_fail out.old (totals_line_after options.now.before options.now.is_plain frames skipped undecided) out.new }
 /// ```
 ///
 /// </details>
 pub fn write_totals_of<W: Sink>(
-    options: LineOptions,
+    options: &LineOptions,
     frames: usize,
     skipped: usize,
     undecided: Option<usize>,

@@ -144,16 +144,16 @@ impl<T: InterfaceTable> Progress<T> {
         out: &mut OutputBuffer<'_, W>,
     ) -> Option<bool> {
         let Some(packet) = packet else {
-            self.write_other(task.form, unit, out);
+            self.write_other(&task.form, unit, out);
             return Some(true);
         };
         if !is_chosen {
             return Some(true);
         }
-        match task.form {
-            Form::Lines(options) => { Some(write_lines(options, &self.count, packet, out)) }
+        match &task.form {
+            Form::Lines(options) => Some(write_lines(options, &self.count, packet, out)),
             Form::Copy { mode, edit } => {
-                if write_packet(&self.reader, mode, edit, edits, unit, packet, out) {
+                if write_packet(&self.reader, *mode, *edit, edits, unit, packet, out) {
                     Some(true)
                 } else {
                     None
@@ -164,9 +164,9 @@ impl<T: InterfaceTable> Progress<T> {
 
     /// Writes what a copy has of a unit without a packet, if a copy is made.
     #[inline(always)]
-    fn write_other<W: Sink>(&self, form: Form, unit: &[u8], out: &mut OutputBuffer<'_, W>) {
+    fn write_other<W: Sink>(&self, form: &Form, unit: &[u8], out: &mut OutputBuffer<'_, W>) {
         if let Form::Copy { mode, .. } = form {
-            write_other(&self.reader, mode, unit, out);
+            write_other(&self.reader, *mode, unit, out);
         }
     }
 
@@ -239,7 +239,7 @@ impl<T: InterfaceTable> Progress<T> {
         task: &Task,
         out: &mut OutputBuffer<'_, W>,
     ) -> Result<Verdict, RunFault> {
-        if let Form::Lines(options) = task.form {
+        if let Form::Lines(options) = &task.form {
             let undecided = task.if_selected(self.undecided);
             write_totals_of(options, self.count, self.skipped, undecided, out);
         }

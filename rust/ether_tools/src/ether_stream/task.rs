@@ -125,7 +125,7 @@ impl Task {
     ///
     /// </details>
     pub fn packets_before(&self) -> usize {
-        match self.form {
+        match &self.form {
             Form::Lines(options) => options.before.unwrap_or(0),
             Form::Copy { .. } => 0,
         }

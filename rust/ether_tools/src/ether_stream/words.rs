@@ -4,7 +4,7 @@ use crate::ether_stream::selection::Undecided;
 use crate::ether_stream::tags::{TagEdit, small_number, tag_edit_of};
 use etherpeel::ether_content::PacketEdit;
 use etherpeel::ether_filter::{Filter, FilterError};
-use crate::ether_format::Format;
+use crate::ether_format::{Columns, Format};
 use std::num::NonZeroUsize;
 
 /// What is wrong with the words of a request.
@@ -24,6 +24,8 @@ pub enum Usage {
     Undecided,
     /// There is no such format.
     Format,
+    /// A column is not known, or there are more than 32.
+    Fields,
 }
 
 impl Usage {
@@ -37,6 +39,7 @@ impl Usage {
             Usage::Limit => "--limit: expected a number up to 4294967295",
             Usage::Undecided => "--undecided: expected keep or drop",
             Usage::Format => "--format: expected lines, brief or json",
+            Usage::Fields => "--fields: expected at most 32 columns, as vlan.vid,eth.src",
         }
     }
 }
@@ -140,6 +143,27 @@ pub fn undecided_of(text: Option<&str>) -> Result<Option<Undecided>, Usage> {
         Some("keep") => Ok(Some(Undecided::Kept)),
         Some("drop") => Ok(Some(Undecided::Dropped)),
         Some(_) => Err(Usage::Undecided),
+    }
+}
+
+/// The columns that a text names, if there is one.
+///
+/// <details><summary>Contract</summary>
+///
+/// ```text
+/// ensures ok { IfOk result (IsIfAny AreFields (option_map (λ s. s.now) text.entry)) }
+/// ensures err { OnErr result ((columns : Option ColumnsValue) → ¬ (IsIfAny AreFields (option_map (λ s. s.now) text.entry) columns)) }
+/// ensures usage { IfErr result (λ usage. usage ≡ Usage.Fields) }
+/// ```
+///
+/// </details>
+pub fn fields_of(text: Option<&str>) -> Result<Option<Columns>, Usage> {
+    let Some(text) = text else {
+        return Ok(None);
+    };
+    match Columns::of_names(text) {
+        Some(columns) => Ok(Some(columns)),
+        None => Err(Usage::Fields),
     }
 }
 

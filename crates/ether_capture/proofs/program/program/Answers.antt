@@ -3,7 +3,8 @@ use Rattle.std.specs.Vec.{vec_items}
 use Rattle.std.specs.Vec.Iter.{into_iter_items}
 use Rattle.std.proofs.lemmas.Iterator.{items_from_collect}
 use Rattle.std.proofs.lemmas.Iterator.Adapters.{YieldsList-from_vec}
-use Rattle.ether_capture.specs.Program.{HasObeyed}
+use Rattle.ether_capture.specs.Program.{HasObeyed, refused, unread}
+use Rattle.ether_capture.specs.declared.asked.RequestError.TheVariants.{Memory}
 use Rattle.ether_stream.specs.declared.outcome.Outcome.TheVariants as outcomes
 use Rattle.ether_stream.specs.declared.outcome.RunFault.TheVariants.{Input}
 use Rattle.ether_capture.proofs.program.program.Goals as goal
@@ -16,7 +17,7 @@ returns-in_default-clause-served g c =
       printed = c.end.ensures.printed.0;
       mid = g.W.Sink.contents c.args.writer.now;
       between = g.M.Sink.contents c.args.messages.now;
-      obeyed = (refl, refl, refl, refl, refl);
+      obeyed = unread _ _ _ _;
       ended = c.end.ensures.printed.1;
       is_status = c.end.ensures.printed.2;
     })
@@ -29,7 +30,7 @@ returns-in_default-collect-clause-served g c =
       printed = c.end-in_default-collect.ensures.printed.0;
       mid = g.W.Sink.contents c.args.writer.now;
       between = g.M.Sink.contents c.args.messages.now;
-      obeyed = (refl, refl, refl, refl);
+      obeyed = refused _ Memory _ _ _ _ tt;
       ended = c.end-in_default-collect.ensures.printed.1;
       is_status = c.end-in_default-collect.ensures.printed.2;
     })

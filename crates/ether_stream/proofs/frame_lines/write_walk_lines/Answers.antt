@@ -20,9 +20,9 @@ use Rattle.ether_stream.proofs.frame_lines.write_walk_lines.Goals as goal
 
 pub returns-in-Err : goal.returns-in-Err
 returns-in-Err g c =
-    let limit = c.args.options.limit in
+    let limit = c.args.options.now.limit in
     let walk = c.in-Err.ensures.ended limit in
-    let line = packet_line_if c.args.options.is_plain (counted (c.args.count.now + 1))
+    let line = packet_line_if c.args.options.now.is_plain (counted (c.args.count.now + 1))
     (captured_packet_view c.args.packet.now) in
     let is = rw c.in-LinuxSll2.is at c.of-content.ensures in
     record {
@@ -40,10 +40,10 @@ returns-in-Unknown g c = search (rules, append-nil)
 
 pub returns : goal.returns
 returns g c =
-    let limit = c.args.options.limit in
+    let limit = c.args.options.now.limit in
     let contents = g.W.Sink.contents in
     let can_fail = g.W.Sink.can_fail in
-    let line = packet_line_if c.args.options.is_plain (counted (c.args.count.now + 1))
+    let line = packet_line_if c.args.options.now.is_plain (counted (c.args.count.now + 1))
     (captured_packet_view c.args.packet.now) in
     let walk = c.write_walk_after.ensures in
     let accepted = c.write_walk_after.result in

@@ -1,0 +1,132 @@
+-- A packet as a row of columns.
+use Rattle.std.specs.Prelude.{◌≡◌, ◌≤◌, ◌==◌, ℕ, List, [], ◌∷◌, ◌++◌, codes, length, map, take, false, Option, Some, None, if◌then◌else◌, slice_index_or}
+use Rattle.std.specs.List.{All, IsAmong, flat_map, join_by, slice_split}
+use Rattle.std.specs.Str.{bytes_eq}
+use Rattle.ether_pcap.specs.Capture.{PacketValue}
+use Rattle.ether_format.specs.declared.moment.Moment.{Moment}
+use Rattle.ether_format.specs.declared.column.Section.{Section as DeclaredSection}
+use Rattle.ether_format.specs.declared.column.Section.TheVariants as declared
+use Rattle.ether_format.specs.declared.column.Column.{Column as DeclaredColumn}
+use Rattle.ether_format.specs.declared.columns.Columns.{Columns as DeclaredColumns}
+use Rattle.ether_format.specs.Members.{Member, Value, packet_members}
+use Rattle.ether_format.specs.Told.{Told, ToldEnd, end_members, end_name, placed_members, told_members, told_name, told_place}
+use Rattle.ether_format.specs.Spelling.{column_value}
+
+-- ---- what a packet tells, in sections
+
+pub record Section : Type 0 where
+  pub name : List ℕ
+  pub members : List Member
+
+abbrev pub section : List ℕ → List Member → Section
+section name members = record { name = name; members = members }
+
+-- a header goes by its own name; and its name and place go by `headers`, too
+abbrev pub header_sections : Told → List Section
+header_sections h =
+    section (told_name h) (told_members h) ∷ section (codes "headers") (placed_members (told_name h) (told_place h) []) ∷ []
+
+-- the packet, its headers, and how the walk through them ends
+abbrev pub sections : ℕ → PacketValue → Option Moment → List Told → ToldEnd → List Section
+sections number p moment headers end =
+    section (codes "frame") (packet_members number p moment)
+    ∷ (flat_map header_sections headers ++ (section (end_name end) (end_members end) ∷ []))
+
+-- ---- a column
+
+-- the members with a name, of the sections with a name
+pub record ColumnValue : Type 0 where
+  pub section : List ℕ
+  pub member : List ℕ
+
+-- as `vlan.vid`
+abbrev pub column_name : ColumnValue → List ℕ
+column_name c = c.section ++ (codes "." ++ c.member)
+
+abbrev pub values_named : List ℕ → List Member → List Value
+values_named name [] = []
+values_named name (m ∷ ms) = if bytes_eq m.name name then m.value ∷ values_named name ms else values_named name ms
+
+abbrev pub values_in : ColumnValue → Section → List Value
+values_in c s = if bytes_eq s.name c.section then values_named c.member s.members else []
+
+-- their values, with a comma between two
+abbrev pub column_text : ColumnValue → List Section → List ℕ
+column_text c parts = join_by column_value (codes ",") (flat_map (values_in c) parts)
+
+-- ---- a row: columns with a tab between two, and the line of their names
+
+abbrev pub row_text : List ColumnValue → List Section → List ℕ
+row_text columns parts = join_by (λ c. column_text c parts) (codes "\t") columns ++ codes "\n"
+
+abbrev pub heading_text : List ColumnValue → List ℕ
+heading_text columns = join_by column_name (codes "\t") columns ++ codes "\n"
+
+-- ---- which columns there are
+
+abbrev pub section_name : DeclaredSection → List ℕ
+section_name declared.Frame = codes "frame"
+section_name declared.Eth = codes "eth"
+section_name declared.Sll = codes "sll"
+section_name declared.Sll2 = codes "sll2"
+section_name declared.Vlan = codes "vlan"
+section_name declared.Macsec = codes "macsec"
+section_name declared.Arp = codes "arp"
+section_name declared.Headers = codes "headers"
+section_name declared.Rest = codes "rest"
+section_name declared.Fault = codes "fault"
+
+-- the names of a header's members, the first of which are its name and its place
+abbrev pub after_place : List (List ℕ) → List (List ℕ)
+after_place names = codes "header" ∷ codes "start" ∷ codes "end" ∷ codes "payload_end" ∷ codes "closed" ∷ names
+
+abbrev pub section_members : DeclaredSection → List (List ℕ)
+section_members declared.Frame = codes "number" ∷ codes "time" ∷ codes "link" ∷ codes "captured" ∷ codes "original" ∷ []
+section_members declared.Eth = after_place (codes "dst" ∷ codes "src" ∷ codes "type" ∷ codes "fcs" ∷ [])
+section_members declared.Sll =
+    after_place (codes "packet_type" ∷ codes "hw_type" ∷ codes "addr_len" ∷ codes "addr" ∷ codes "protocol" ∷ [])
+section_members declared.Sll2 =
+    after_place
+    (codes "protocol" ∷ codes "if_index" ∷ codes "hw_type" ∷ codes "packet_type" ∷ codes "addr_len" ∷ codes "addr" ∷ [])
+section_members declared.Vlan = after_place (codes "pcp" ∷ codes "dei" ∷ codes "vid" ∷ codes "type" ∷ [])
+section_members declared.Macsec =
+    after_place
+    (codes "payload" ∷ codes "es" ∷ codes "scb" ∷ codes "an" ∷ codes "sl" ∷ codes "pn" ∷ codes "sci" ∷ codes "type" ∷ [])
+section_members declared.Arp =
+    after_place
+    (codes "hrd" ∷ codes "pro" ∷ codes "hln" ∷ codes "pln" ∷ codes "op" ∷ codes "sha" ∷ codes "spa" ∷ codes "tha" ∷ codes "tpa" ∷ [])
+section_members declared.Headers = after_place []
+section_members declared.Rest = codes "start" ∷ codes "end" ∷ codes "kind" ∷ codes "type" ∷ []
+section_members declared.Fault =
+    codes "start" ∷ codes "closed" ∷ codes "kind" ∷ codes "required" ∷ codes "available" ∷ codes "source" ∷ codes "value" ∷ []
+
+pub record IsColumn (c : ColumnValue) : Type 0 where
+  pub of : DeclaredSection
+  pub is_section : c.section ≡ section_name of
+  pub is_member : IsAmong (section_members of) c.member
+
+-- a text names them, with a comma (44) between two, 32 at most
+pub record AreColumns (text : List ℕ) (columns : List ColumnValue) : Type 0 where
+  pub names : slice_split (λ b. b == 44) text ≡ map column_name columns
+  pub known : All IsColumn columns
+  pub most : length columns ≤ 32
+
+-- ---- columns as they are declared
+
+abbrev pub column_view : DeclaredColumn → ColumnValue
+column_view c = record { section = section_name c.section; member = slice_index_or (section_members c.section) c.index [] }
+
+abbrev pub columns_view : DeclaredColumns → List ColumnValue
+columns_view c = column_view c.first ∷ map column_view (take c.count c.others)
+
+-- ---- for the contracts of private functions
+
+-- the first byte of a value in a text is between these parts
+pub record SplitsAt (byte : ℕ) (text before after : List ℕ) : Type 0 where
+  pub none_before : All (λ b. (b == byte) ≡ false) before
+  pub parts : text ≡ before ++ byte ∷ after
+
+-- a text begins with a word, which a comma ends, or the text
+abbrev pub SplitsWord : (text word : List ℕ) → (after : Option (List ℕ)) → Type 0
+SplitsWord text word (Some after) = SplitsAt 44 text word after
+SplitsWord text word None = (word ≡ text) × All (λ b. (b == 44) ≡ false) text

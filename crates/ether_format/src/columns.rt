@@ -1,0 +1,112 @@
+//! The columns of a row.
+ghost use Rattle.std.specs.Prelude.{◌≡◌, ◌≤◌, ◌<◌, ◌∷◌, ◌++◌, [], IfNone, IfSome, List, codes, length, map};
+ghost use Rattle.std.specs.List.{flat_map};
+ghost use Rattle.std.specs.Option.{option_map};
+ghost use Rattle.ether_text.specs.OutputBuffer.{Takes};
+ghost use Rattle.ether_format.specs.Columns.{AreColumns, ColumnValue, SplitsWord, column_name, column_view, columns_view, heading_text};
+
+use crate::column::{Column, split_at};
+use ether_text::{OutputBuffer, Sink};
+
+/// How many columns there may be after the first.
+const MOST_OTHERS: usize = 31;
+
+/// The columns of a row, one at least and 32 at most.
+///
+/// The name of a column is that of a section and that of one of its members in [`crate::Format::Json`], with a dot between them:
+/// `frame.number`, `vlan.vid`. The sections are `frame`, the packet itself; `eth`, `sll`, `sll2`, `vlan`, `macsec` and `arp`, its headers;
+/// `headers`, the name and the place of each header; and how the walk through them ends, `rest` or `fault`.
+#[derive(Clone, Copy, PartialEq, Eq, Debug)]
+pub struct Columns {
+    first: Column,
+    others: [Column; MOST_OTHERS],
+    /// How many there are of the others.
+    count: usize,
+}
+
+impl Columns {
+    /// The columns that a text names, with a comma between two: `vlan.vid,eth.src`.
+    ///
+    /// Returns `None` if there is no column of a name, or if there are more than 32.
+    pub fn of_names(text: &str) -> Option<Columns>
+        ensures some { IfSome result (λ it. AreColumns text.now (columns_view it)) }
+        ensures none { IfNone result ((columns : List ColumnValue) → ¬ (AreColumns text.now columns)) }
+    {
+        let (word, mut rest) = first_word(text.as_bytes());
+        let mut columns = Columns::of_one(Column::of_name(word)?);
+        while let Some(text) = rest {
+            let (word, after) = first_word(text);
+            columns.push(Column::of_name(word)?)?;
+            rest = after;
+        }
+        Some(columns)
+    }
+
+    /// One column.
+    fn of_one(column: Column) -> Columns
+        ensures { columns_view result ≡ column_view column ∷ [] }
+    {
+        Columns {
+            first: column,
+            others: [column; MOST_OTHERS],
+            count: 0,
+        }
+    }
+
+    /// Takes a column more, if there is room.
+    fn push(&mut self, column: Column) -> Option<()>
+        ensures some { IfSome result (λ _. columns_view self.new ≡ columns_view self.old ++ (column_view column ∷ [])) }
+        ensures room { IfSome result (λ _. length (columns_view self.old) < 32) }
+        ensures none { IfNone result (32 ≤ length (columns_view self.old)) }
+    {
+        if self.count >= MOST_OTHERS {
+            return None;
+        }
+        self.others[self.count] = column;
+        self.count += 1;
+        Some(())
+    }
+
+    /// The first column.
+    pub(crate) fn first(&self) -> Column
+        ensures { result ≡ self.now.first }
+    {
+        self.first
+    }
+
+    /// The columns after it.
+    pub(crate) fn others(&self) -> &[Column]
+        ensures { columns_view self.now ≡ column_view self.now.first ∷ map column_view result.now }
+    {
+        &self.others[..self.count.min(MOST_OTHERS)]
+    }
+
+    /// Writes the line of their names, with a tab between two.
+    pub fn write_heading<W: Sink>(&self, out: &mut OutputBuffer<'_, W>)
+        ensures { Takes W.contents W.can_fail out.old (heading_text (columns_view self.now)) out.new }
+    {
+        self.first.write_name(out);
+        write_names_after(self.others(), out);
+        out.append(b"\n");
+    }
+}
+
+/// Writes the names of columns, each after a tab.
+fn write_names_after<W: Sink>(columns: &[Column], out: &mut OutputBuffer<'_, W>)
+    ensures { Takes W.contents W.can_fail out.old (flat_map (λ c. codes "\t" ++ column_name (column_view c)) columns.now) out.new }
+{
+    for column in columns {
+        out.append(b"\t");
+        column.write_name(out);
+    }
+}
+
+/// The text before the first comma, and that after it, if there is one.
+fn first_word(text: &[u8]) -> (&[u8], Option<&[u8]>)
+    ensures { SplitsWord text.now result.0.now (option_map (λ t. t.now) result.1) }
+{
+    match split_at(b',', text) {
+        Some((word, after)) => (word, Some(after)),
+        None => (text, None),
+    }
+}

@@ -1,0 +1,193 @@
+//! Columns: which member of which part of a packet each shows.
+
+use crate::ether_text::{OutputBuffer, Sink};
+
+/// A part of what is written of a packet: the packet itself, headers with a name, all headers, or how the walk through them ends.
+#[derive(Clone, Copy, PartialEq, Eq, Debug)]
+pub(crate) enum Section {
+    Frame,
+    Eth,
+    Sll,
+    Sll2,
+    Vlan,
+    Macsec,
+    Arp,
+    Headers,
+    Rest,
+    Fault,
+}
+
+impl Section {
+    /// Its name.
+    pub(crate) fn name(self) -> &'static str {
+        match self {
+            Section::Frame => "frame",
+            Section::Eth => "eth",
+            Section::Sll => "sll",
+            Section::Sll2 => "sll2",
+            Section::Vlan => "vlan",
+            Section::Macsec => "macsec",
+            Section::Arp => "arp",
+            Section::Headers => "headers",
+            Section::Rest => "rest",
+            Section::Fault => "fault",
+        }
+    }
+
+    /// The section of a name.
+    fn of_name(name: &[u8]) -> Option<Section> {
+        match name {
+            b"frame" => Some(Section::Frame),
+            b"eth" => Some(Section::Eth),
+            b"sll" => Some(Section::Sll),
+            b"sll2" => Some(Section::Sll2),
+            b"vlan" => Some(Section::Vlan),
+            b"macsec" => Some(Section::Macsec),
+            b"arp" => Some(Section::Arp),
+            b"headers" => Some(Section::Headers),
+            b"rest" => Some(Section::Rest),
+            b"fault" => Some(Section::Fault),
+            _ => None,
+        }
+    }
+
+    /// The names of its members.
+    fn members(self) -> &'static [&'static str] {
+        match self {
+            Section::Frame => &["number", "time", "link", "captured", "original"],
+            Section::Eth => &[
+                "header",
+                "start",
+                "end",
+                "payload_end",
+                "closed",
+                "dst",
+                "src",
+                "type",
+                "fcs",
+            ],
+            Section::Sll => &[
+                "header",
+                "start",
+                "end",
+                "payload_end",
+                "closed",
+                "packet_type",
+                "hw_type",
+                "addr_len",
+                "addr",
+                "protocol",
+            ],
+            Section::Sll2 => &[
+                "header",
+                "start",
+                "end",
+                "payload_end",
+                "closed",
+                "protocol",
+                "if_index",
+                "hw_type",
+                "packet_type",
+                "addr_len",
+                "addr",
+            ],
+            Section::Vlan => &[
+                "header",
+                "start",
+                "end",
+                "payload_end",
+                "closed",
+                "pcp",
+                "dei",
+                "vid",
+                "type",
+            ],
+            Section::Macsec => &[
+                "header",
+                "start",
+                "end",
+                "payload_end",
+                "closed",
+                "payload",
+                "es",
+                "scb",
+                "an",
+                "sl",
+                "pn",
+                "sci",
+                "type",
+            ],
+            Section::Arp => &[
+                "header",
+                "start",
+                "end",
+                "payload_end",
+                "closed",
+                "hrd",
+                "pro",
+                "hln",
+                "pln",
+                "op",
+                "sha",
+                "spa",
+                "tha",
+                "tpa",
+            ],
+            Section::Headers => &["header", "start", "end", "payload_end", "closed"],
+            Section::Rest => &["start", "end", "kind", "type"],
+            Section::Fault => &[
+                "start",
+                "closed",
+                "kind",
+                "required",
+                "available",
+                "source",
+                "value",
+            ],
+        }
+    }
+}
+
+/// A column: a member of a section.
+#[derive(Clone, Copy, PartialEq, Eq, Debug)]
+pub struct Column {
+    /// The section.
+    pub(crate) section: Section,
+    /// Which of its members, counted from 0.
+    pub(crate) index: u8,
+}
+
+impl Column {
+    /// The column of a name, as `vlan.vid`.
+    pub(crate) fn of_name(name: &[u8]) -> Option<Column> {
+        let (section, member) = split_at(b'.', name)?;
+        let section = Section::of_name(section)?;
+        let index = index_of(section.members(), member)?;
+        Some(Column {
+            section,
+            index: index as u8,
+        })
+    }
+
+    /// Writes the name.
+    pub(crate) fn write_name<W: Sink>(self, out: &mut OutputBuffer<'_, W>) {
+        out.append(self.section.name().as_bytes());
+        out.append(b".");
+        if let Some(member) = self.section.members().get(usize::from(self.index)) {
+            out.append(member.as_bytes());
+        }
+    }
+}
+
+/// What is before and after the first byte of this value.
+pub(crate) fn split_at(byte: u8, text: &[u8]) -> Option<(&[u8], &[u8])> {
+    match text.iter().position(|it| *it == byte) {
+        Some(at) => Some((&text[..at], &text[at + 1..])),
+        None => None,
+    }
+}
+
+/// Where a word is among words.
+fn index_of(words: &[&str], word: &[u8]) -> Option<usize> {
+    words.iter().position(|it| it.as_bytes() == word)
+}
