@@ -282,6 +282,18 @@ module _ (c : Column) where
       ap (λ t. front_text (written.Column c) number p moment ++ t) (append-nil _ ∙ told_values true hs end)
       ∙ parted number p moment hs end ∙ joined _ ∙ ap (join_by column_value (codes ",")) (sym (all_values number p moment hs end))
 
+  -- a column of the packet itself, whatever its headers are
+  pub frame_only : c.section ≡ parts.Frame → (number : ℕ) (p : PacketValue) (moment : Option Moment) (hs : List Told) (end : ToldEnd)
+      → column_on true (values_in (column_view c) (section (codes "frame") (packet_members number p moment)))
+      ≡ column_text (column_view c) (sections number p moment hs end)
+  frame_only same number p moment hs end =
+      let ws = no_headers hs (λ e. let never : 0 ≡ 1 = sym (ap rank same) ∙ e in omega (arith, never)) in
+      let us = no_end end (λ e. let never : 0 ≡ 2 = sym (ap rank same) ∙ e in omega (arith, never)) in
+      joined _
+      ∙ ap (join_by column_value (codes ","))
+      (sym (append-nil (frame_values number p moment))
+      ∙ (λ i. frame_values number p moment ++ (sym ws i ++ sym us i)) ∙ sym (all_values number p moment hs end))
+
 -- ---- the members of a section are those that columns name
 
 names_end : (end : ToldEnd) → map (λ m. m.name) (end_members end) ≡ section_members (end_section end)

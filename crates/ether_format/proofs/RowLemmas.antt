@@ -13,7 +13,7 @@ use Rattle.ether_format.specs.declared.format.Part.TheVariants as written
 use Rattle.ether_format.specs.declared.moment.Moment.{Moment}
 use Rattle.ether_format.specs.Columns.{ColumnValue, Section, column_text, column_view, row_text, sections}
 use Rattle.ether_format.specs.Told.{Told, ToldEnd, Tells}
-use Rattle.ether_format.specs.Walking.{AnswersPart, AnswersRow}
+use Rattle.ether_format.specs.Walking.{AnswersPart, AnswersRow, TakesColumn}
 use Rattle.ether_format.proofs.ListLemmas.{WritesFirst, first_none, first_next, first_all}
 use Rattle.ether_format.proofs.OneText.{one_told}
 
@@ -42,24 +42,27 @@ module _ {W : Type 0} (contents : W → Option (List ℕ)) (can_fail : Type 0) (
     taken = first_none contents can_fail _ list new;
   }
 
-  pub row_goes_on : (first : Column) (list : List Column) (n : ℕ) (d : Column) (accepted also : Bool) (old mid tab new : OutputBuffer W) → n < length list
+  -- a walk for a column finds what another walk found
+  pub walked : (c : Column) (also : Bool) (old new : OutputBuffer W)
+      → TakesAnswer contents can_fail (AnswersPart (written.Column c) limit number p moment) old new also
+      → TakesColumn contents can_fail c limit number p moment old new
+  walked c also old new b headers end accepted tells =
+      let same = one_told limit (length p.packet) (content_of p) b.answers.headers headers b.answers.end end also accepted b.answers.tells tells in
+      Takes-same (b.answers.is_text ∙ (λ i. column_text (column_view c) (sections number p moment (same.0 i) (same.1 i)))) b.taken
+
+  pub row_goes_on : (first : Column) (list : List Column) (n : ℕ) (d : Column) (accepted : Bool) (old mid tab new : OutputBuffer W) → n < length list
       → WritesRow first list n accepted old mid → Takes contents can_fail mid (codes "\t") tab
-      → TakesAnswer contents can_fail (AnswersPart (written.Column (slice_index_or list n d)) limit number p moment) tab new also
+      → TakesColumn contents can_fail (slice_index_or list n d) limit number p moment tab new
       → WritesRow first list (n + 1) accepted old new
-  row_goes_on first list n d accepted also old mid tab new lt a taken b =
-      let same = one_told limit (length p.packet) (content_of p) b.answers.headers a.headers b.answers.end a.end also accepted b.answers.tells a.tells in
-      let text =
-      b.answers.is_text
-      ∙ (λ i. column_text (column_view (slice_index_or list n d)) (sections number p moment (same.0 i) (same.1 i))) in
-      record {
-        headers = a.headers;
-        end = a.end;
-        tells = a.tells;
-        mid = a.mid;
-        begun = a.begun;
-        taken = first_next contents can_fail (after_tab (sections number p moment a.headers a.end)) list n d a.mid mid new lt a.taken
-            (Takes-then taken (Takes-same text b.taken));
-      }
+  row_goes_on first list n d accepted old mid tab new lt a taken column = record {
+    headers = a.headers;
+    end = a.end;
+    tells = a.tells;
+    mid = a.mid;
+    begun = a.begun;
+    taken = first_next contents can_fail (after_tab (sections number p moment a.headers a.end)) list n d a.mid mid new lt a.taken
+        (Takes-then taken (column a.headers a.end accepted a.tells));
+  }
 
   pub row_ends : (columns : List ColumnValue) (first : Column) (list : List Column) (n : ℕ) (accepted : Bool) (old mid new : OutputBuffer W)
       → length list ≤ n → columns ≡ column_view first ∷ map column_view list → WritesRow first list n accepted old mid

@@ -19,8 +19,11 @@ use Rattle.ether_peel.specs.declared.peel_error.PeelError.TheVariants as errors
 use Rattle.ether_peel.specs.declared.peel_fault.PeelFault.{PeelFault}
 use Rattle.ether_pcap.specs.Capture.{PacketValue}
 use Rattle.ether_content.specs.Content.{content_of}
+use Rattle.ether_text.specs.OutputBuffer.{Takes}
+use Rattle.ether_text.specs.declared.output_buffer.OutputBuffer.{OutputBuffer}
 use Rattle.ether_format.specs.declared.format.Part.{Part}
 use Rattle.ether_format.specs.declared.format.Part.TheVariants.{Json, Brief, Column}
+use Rattle.ether_format.specs.declared.column.Column.{Column as DeclaredColumn}
 use Rattle.ether_format.specs.declared.column.Section.{Section}
 use Rattle.ether_format.specs.declared.column.Section.TheVariants as parts
 use Rattle.ether_format.specs.declared.place.Place.{Place as DeclaredPlace}
@@ -239,3 +242,10 @@ pub record AnswersRow (columns : List ColumnValue) (limit : Option ℕ) (number 
   pub end : ToldEnd
   pub tells : Tells limit (length p.packet) (content_of p) headers end accepted
   pub is_text : text ≡ row_text columns (sections number p moment headers end)
+
+-- a column is written of what the packet tells
+abbrev pub TakesColumn : {W : Type 0} → (contents : W → Option (List ℕ)) → (can_fail : Type 0) → DeclaredColumn → (limit : Option ℕ) → ℕ → PacketValue
+    → Option Moment → (old new : OutputBuffer W) → Type 0
+TakesColumn contents can_fail c limit number p moment old new =
+    (headers : List Told) (end : ToldEnd) (accepted : Bool) → Tells limit (length p.packet) (content_of p) headers end accepted
+    → Takes contents can_fail old (column_text (column_view c) (sections number p moment headers end)) new

@@ -23,7 +23,7 @@ ghost use Rattle.ether_format.specs.Walking.{cause_shown, header_of, linux_sll_c
 use crate::Moment;
 use crate::endings::kind_word;
 use crate::members::used;
-use crate::spelling::{first_of, nine_digits, write_colons, write_date, write_dotted};
+use crate::spelling::{first_of, mac_text, nine_digits, write_colons, write_date, write_dotted};
 use ether_content::{CookedHeader, is_cut};
 use ether_pcap::CapturedPacket;
 use ether_peel::{PeelError, PeelUnit, RestKind};
@@ -52,9 +52,9 @@ fn write_ethernet2<W: Sink>(slice: &Ethernet2Slice<'_>, out: &mut OutputBuffer<'
     ensures { Takes W.contents W.can_fail out.old (brief_ethernet2 (ethernet2_of slice.now.bytes)) out.new }
 {
     out.append(b" ");
-    write_colons(&slice.source(), out);
+    out.append_array(mac_text(slice.source()));
     out.append(b" > ");
-    write_colons(&slice.destination(), out);
+    out.append_array(mac_text(slice.destination()));
 }
 
 /// Writes a VLAN tag.

@@ -5,9 +5,9 @@ ghost use Rattle.std.specs.Option.{option_map};
 ghost use Rattle.ether_pcap.specs.CaptureViews.{captured_packet_view};
 ghost use Rattle.ether_text.specs.OutputBuffer.{Takes, TakesAnswer};
 ghost use Rattle.ether_format.specs.Columns.{columns_view};
-ghost use Rattle.ether_format.specs.Walking.{AnswersRow, column_on, if_any, still_first, value_view};
+ghost use Rattle.ether_format.specs.Walking.{AnswersRow, TakesColumn, column_on, if_any, still_first, value_view};
 
-use crate::column::Column;
+use crate::column::{Column, Section};
 use crate::format::Part;
 use crate::packet::write_part;
 use crate::spelling::write_column_value;
@@ -39,10 +39,28 @@ pub(crate) fn write_row<W: Sink>(
     );
     for column in columns.others() {
         out.append(b"\t");
-        write_part(Part::Column(*column), limit, number, packet, moment, out);
+        write_later(*column, limit, number, packet, moment, out);
     }
     out.append(b"\n");
     accepted
+}
+
+/// Writes a column after the first. One of the packet itself needs no walk.
+fn write_later<W: Sink>(
+    column: Column,
+    limit: Option<usize>,
+    number: usize,
+    packet: &CapturedPacket<'_>,
+    moment: Option<Moment>,
+    out: &mut OutputBuffer<'_, W>,
+)
+    ensures { TakesColumn W.contents W.can_fail column limit number (captured_packet_view packet.now) moment out.old out.new }
+{
+    if column.section == Section::Frame {
+        write_only(column.in_packet(number, packet, moment), out);
+    } else {
+        write_part(Part::Column(column), limit, number, packet, moment, out);
+    }
 }
 
 /// Writes a value of a column, if there is one, after a comma unless it is the first. Returns whether the next is the first.

@@ -43,7 +43,7 @@ pub(crate) fn write_column_value<W: Sink>(value: &Value<'_>, out: &mut OutputBuf
         Value::Number(number) => write_decimal(out, *number as usize),
         Value::Protocol(number) => out.append(&hex_type(EtherType(*number))),
         Value::Flag(holds) => out.append(flag_text(*holds).as_bytes()),
-        Value::Mac(address) => write_colons(address, out),
+        Value::Mac(address) => out.append_array(mac_text(*address)),
         Value::Four(bytes) => write_colons(bytes, out),
         Value::Eight(bytes) => write_colons(bytes, out),
         Value::Short(bytes, len) => write_colons(first_of(bytes, *len), out),
@@ -164,6 +164,23 @@ fn quoted_mac(address: [u8; 6]) -> [u8; 19]
     [
         b'"', a[0], a[1], b':', b[0], b[1], b':', c[0], c[1], b':', d[0], d[1], b':', e[0], e[1],
         b':', f[0], f[1], b'"',
+    ]
+}
+
+/// A MAC address.
+#[inline(always)]
+pub(crate) fn mac_text(address: [u8; 6]) -> [u8; 17]
+    ensures { result ≡ colon_text address }
+{
+    let a = digit_pair(address[0]);
+    let b = digit_pair(address[1]);
+    let c = digit_pair(address[2]);
+    let d = digit_pair(address[3]);
+    let e = digit_pair(address[4]);
+    let f = digit_pair(address[5]);
+    [
+        a[0], a[1], b':', b[0], b[1], b':', c[0], c[1], b':', d[0], d[1], b':', e[0], e[1], b':',
+        f[0], f[1],
     ]
 }
 

@@ -3,7 +3,7 @@
 use crate::ether_format::Moment;
 use crate::ether_format::endings::kind_word;
 use crate::ether_format::members::used;
-use crate::ether_format::spelling::{first_of, nine_digits, write_colons, write_date, write_dotted};
+use crate::ether_format::spelling::{first_of, mac_text, nine_digits, write_colons, write_date, write_dotted};
 use etherpeel::ether_content::{CookedHeader, is_cut};
 use etherpeel::ether_pcap::CapturedPacket;
 use etherpeel::ether_peel::{PeelError, PeelUnit, RestKind};
@@ -28,9 +28,9 @@ pub(crate) fn write_brief_header<W: Sink>(unit: &PeelUnit<'_>, out: &mut OutputB
 /// Writes the addresses of a header of Ethernet II.
 fn write_ethernet2<W: Sink>(slice: &Ethernet2Slice<'_>, out: &mut OutputBuffer<'_, W>) {
     out.append(b" ");
-    write_colons(&slice.source(), out);
+    out.append_array(mac_text(slice.source()));
     out.append(b" > ");
-    write_colons(&slice.destination(), out);
+    out.append_array(mac_text(slice.destination()));
 }
 
 /// Writes a VLAN tag.

@@ -1,6 +1,6 @@
 //! Writes a packet as a row of columns.
 
-use crate::ether_format::column::Column;
+use crate::ether_format::column::{Column, Section};
 use crate::ether_format::format::Part;
 use crate::ether_format::packet::write_part;
 use crate::ether_format::spelling::write_column_value;
@@ -29,10 +29,26 @@ pub(crate) fn write_row<W: Sink>(
     );
     for column in columns.others() {
         out.append(b"\t");
-        write_part(Part::Column(*column), limit, number, packet, moment, out);
+        write_later(*column, limit, number, packet, moment, out);
     }
     out.append(b"\n");
     accepted
+}
+
+/// Writes a column after the first. One of the packet itself needs no walk.
+fn write_later<W: Sink>(
+    column: Column,
+    limit: Option<usize>,
+    number: usize,
+    packet: &CapturedPacket<'_>,
+    moment: Option<Moment>,
+    out: &mut OutputBuffer<'_, W>,
+) {
+    if column.section == Section::Frame {
+        write_only(column.in_packet(number, packet, moment), out);
+    } else {
+        write_part(Part::Column(column), limit, number, packet, moment, out);
+    }
 }
 
 /// Writes a value of a column, if there is one, after a comma unless it is the first. Returns whether the next is the first.

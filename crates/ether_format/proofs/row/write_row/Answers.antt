@@ -22,8 +22,8 @@ pub loop-column-preserved : goal.loop-column-preserved
 loop-column-preserved g c =
     row_goes_on g.W.Sink.contents g.W.Sink.can_fail c.args.limit c.args.number (captured_packet_view c.args.packet.now) c.args.moment
     c.args.columns.now.first c.others-column-items.result.now c.loop-column.column-index _ c.write_part-accepted.result
-    c.write_part.result c.args.out.now c.loop-column.out c.append.new.self c.write_part.new.out c.loop-column-test.true
-    c.loop-column.invariant c.append.ensures c.write_part.ensures
+    c.args.out.now c.loop-column.out c.append.new.self c.write_later.new.out c.loop-column-test.true c.loop-column.invariant
+    c.append.ensures c.write_later.ensures
 
 pub returns : goal.returns
 returns g c =
