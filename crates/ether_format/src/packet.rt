@@ -138,6 +138,7 @@ fn write_tail<W: Sink>(part: Part, packet: &CapturedPacket<'_>, out: &mut Output
 }
 
 /// Writes the headers of a packet, and how the walk through them ends.
+#[inline(always)]
 fn write_content<W: Sink>(
     part: Part,
     limit: Option<usize>,
