@@ -3,20 +3,9 @@ ghost use Rattle.std.specs.Prelude.{◌≡◌, ◌↔◌, IsTrue};
 
 use ether_content::{EditedPacket, NoRoom, PacketEdit};
 
-pub(crate) fn same_packet_edit(a: &PacketEdit, b: &PacketEdit) -> bool
-    ensures { IsTrue result ↔ (a.now ≡ b.now) }
-{
-    *a == *b
-}
-
-pub(crate) fn same_edited_packet(a: &EditedPacket, b: &EditedPacket) -> bool
-    ensures { IsTrue result ↔ (a.now ≡ b.now) }
-{
-    *a == *b
-}
-
-pub(crate) fn same_no_room(a: &NoRoom, b: &NoRoom) -> bool
-    ensures { IsTrue result }
-{
-    *a == *b
-}
+/// `==` is equality.
+pub(crate) fn equality()
+    ensures packet_edit { (a b : _) → IsTrue (⟦<PacketEdit as PartialEq>⟧.eq a b) ↔ (a ≡ b) }
+    ensures edited_packet { (a b : _) → IsTrue (⟦<EditedPacket as PartialEq>⟧.eq a b) ↔ (a ≡ b) }
+    ensures no_room { (a b : _) → IsTrue (⟦<NoRoom as PartialEq>⟧.eq a b) }
+{}

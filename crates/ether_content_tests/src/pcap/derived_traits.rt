@@ -1,6 +1,6 @@
 //! What callers learn of the derived traits and of the constants, at each type of this crate. These functions are proved and
 //! never run.
-ghost use Rattle.std.specs.Prelude.{◌≡◌, ◌↔◌, IsTrue, Ok, [], ◌∷◌};
+ghost use Rattle.std.specs.Prelude.{◌≡◌, ◌↔◌, IsTrue, [], ◌∷◌};
 ghost use Rattle.std.specs.Option.{option_map};
 ghost use Rattle.ether_pcap.specs.Views.{record_view};
 ghost use Rattle.ether_pcap.specs.PcapngViews.{block_view, interface_view, enhanced_packet_view, simple_packet_view};
@@ -12,75 +12,77 @@ use ether_pcap::{
     PcapRecord, PcapngBlock, RecordError, RecordFault, SectionError, SectionHeader, SimplePacket,
     Timestamp, TimestampResolution,
 };
-use std::alloc::AllocError;
 
-pub(crate) fn clone_of_file_header(value: &FileHeader) -> Result<FileHeader, AllocError>
-    ensures { result ≡ Ok value.now }
-{
-    value.clone()
-}
+/// A clone is `Ok` and equals its source.
+pub(crate) fn clones()
+    ensures file_header { let it = ⟦<FileHeader as Clone>⟧ in
+        (a b : _) → it.is_infallible a × (it.is_clone a b → b ≡ a) }
+    ensures pcap_record { let it = ⟦<PcapRecord<'static> as Clone>⟧ in
+        (a b : _) → it.is_infallible a × (it.is_clone a b → b ≡ a) }
+    ensures file_header_error { let it = ⟦<FileHeaderError as Clone>⟧ in
+        (a b : _) → it.is_infallible a × (it.is_clone a b → b ≡ a) }
+    ensures record_fault { let it = ⟦<RecordFault as Clone>⟧ in
+        (a b : _) → it.is_infallible a × (it.is_clone a b → b ≡ a) }
+    ensures record_error { let it = ⟦<RecordError as Clone>⟧ in
+        (a b : _) → it.is_infallible a × (it.is_clone a b → b ≡ a) }
+    ensures block_error { let it = ⟦<BlockError as Clone>⟧ in
+        (a b : _) → it.is_infallible a × (it.is_clone a b → b ≡ a) }
+    ensures body_error { let it = ⟦<BodyError as Clone>⟧ in
+        (a b : _) → it.is_infallible a × (it.is_clone a b → b ≡ a) }
+    ensures section_error { let it = ⟦<SectionError as Clone>⟧ in
+        (a b : _) → it.is_infallible a × (it.is_clone a b → b ≡ a) }
+    ensures capture_error { let it = ⟦<CaptureError as Clone>⟧ in
+        (a b : _) → it.is_infallible a × (it.is_clone a b → b ≡ a) }
+    ensures capture_fault { let it = ⟦<CaptureFault as Clone>⟧ in
+        (a b : _) → it.is_infallible a × (it.is_clone a b → b ≡ a) }
+    ensures pcapng_block { let it = ⟦<PcapngBlock<'static> as Clone>⟧ in
+        (a b : _) → it.is_infallible a × (it.is_clone a b → b ≡ a) }
+    ensures section_header { let it = ⟦<SectionHeader<'static> as Clone>⟧ in
+        (a b : _) → it.is_infallible a × (it.is_clone a b → b ≡ a) }
+    ensures interface_description { let it = ⟦<InterfaceDescription<'static> as Clone>⟧ in
+        (a b : _) → it.is_infallible a × (it.is_clone a b → b ≡ a) }
+    ensures enhanced_packet { let it = ⟦<EnhancedPacket<'static> as Clone>⟧ in
+        (a b : _) → it.is_infallible a × (it.is_clone a b → b ≡ a) }
+    ensures simple_packet { let it = ⟦<SimplePacket<'static> as Clone>⟧ in
+        (a b : _) → it.is_infallible a × (it.is_clone a b → b ≡ a) }
+    ensures captured_packet { let it = ⟦<CapturedPacket<'static> as Clone>⟧ in
+        (a b : _) → it.is_infallible a × (it.is_clone a b → b ≡ a) }
+    ensures capture_unit { let it = ⟦<CaptureUnit<'static> as Clone>⟧ in
+        (a b : _) → it.is_infallible a × (it.is_clone a b → b ≡ a) }
+{}
 
-pub(crate) fn clone_of_pcap_record<'a>(value: &PcapRecord<'a>) -> Result<PcapRecord<'a>, AllocError>
-    ensures { result ≡ Ok value.now }
-{
-    value.clone()
-}
-
-pub(crate) fn clone_of_file_header_error(
-    value: &FileHeaderError,
-) -> Result<FileHeaderError, AllocError>
-    ensures { result ≡ Ok value.now }
-{
-    value.clone()
-}
-
-pub(crate) fn clone_of_record_fault(value: &RecordFault) -> Result<RecordFault, AllocError>
-    ensures { result ≡ Ok value.now }
-{
-    value.clone()
-}
-
-pub(crate) fn same_byte_order(a: &ByteOrder, b: &ByteOrder) -> bool
-    ensures { IsTrue result ↔ (a.now ≡ b.now) }
-{
-    *a == *b
-}
-
-pub(crate) fn same_timestamp_resolution(a: &TimestampResolution, b: &TimestampResolution) -> bool
-    ensures { IsTrue result ↔ (a.now ≡ b.now) }
-{
-    *a == *b
-}
-
-pub(crate) fn same_link_type(a: &LinkType, b: &LinkType) -> bool
-    ensures { IsTrue result ↔ (a.now ≡ b.now) }
-{
-    *a == *b
-}
-
-pub(crate) fn same_file_header(a: &FileHeader, b: &FileHeader) -> bool
-    ensures { IsTrue result ↔ (a.now ≡ b.now) }
-{
-    *a == *b
-}
-
-pub(crate) fn same_file_header_error(a: &FileHeaderError, b: &FileHeaderError) -> bool
-    ensures { IsTrue result ↔ (a.now ≡ b.now) }
-{
-    *a == *b
-}
-
-pub(crate) fn same_record_error(a: &RecordError, b: &RecordError) -> bool
-    ensures { IsTrue result ↔ (a.now ≡ b.now) }
-{
-    *a == *b
-}
-
-pub(crate) fn same_record_fault(a: &RecordFault, b: &RecordFault) -> bool
-    ensures { IsTrue result ↔ (a.now ≡ b.now) }
-{
-    *a == *b
-}
+/// `==` is equality.
+pub(crate) fn equality()
+    ensures byte_order { (a b : _) → IsTrue (⟦<ByteOrder as PartialEq>⟧.eq a b) ↔ (a ≡ b) }
+    ensures timestamp_resolution { (a b : _) → IsTrue (⟦<TimestampResolution as PartialEq>⟧.eq a b) ↔ (a ≡ b) }
+    ensures link_type { (a b : _) → IsTrue (⟦<LinkType as PartialEq>⟧.eq a b) ↔ (a ≡ b) }
+    ensures file_header { (a b : _) → IsTrue (⟦<FileHeader as PartialEq>⟧.eq a b) ↔ (a ≡ b) }
+    ensures file_header_error { (a b : _) → IsTrue (⟦<FileHeaderError as PartialEq>⟧.eq a b) ↔ (a ≡ b) }
+    ensures record_error { (a b : _) → IsTrue (⟦<RecordError as PartialEq>⟧.eq a b) ↔ (a ≡ b) }
+    ensures record_fault { (a b : _) → IsTrue (⟦<RecordFault as PartialEq>⟧.eq a b) ↔ (a ≡ b) }
+    ensures block_error { (a b : _) → IsTrue (⟦<BlockError as PartialEq>⟧.eq a b) ↔ (a ≡ b) }
+    ensures body_error { (a b : _) → IsTrue (⟦<BodyError as PartialEq>⟧.eq a b) ↔ (a ≡ b) }
+    ensures section_error { (a b : _) → IsTrue (⟦<SectionError as PartialEq>⟧.eq a b) ↔ (a ≡ b) }
+    ensures pcap_record { (a b : _) → IsTrue (⟦<PcapRecord<'static> as PartialEq>⟧.eq a b)
+        ↔ (record_view a ≡ record_view b) }
+    ensures capture_error { (a b : _) → IsTrue (⟦<CaptureError as PartialEq>⟧.eq a b) ↔ (a ≡ b) }
+    ensures capture_fault { (a b : _) → IsTrue (⟦<CaptureFault as PartialEq>⟧.eq a b) ↔ (a ≡ b) }
+    ensures timestamp { (a b : _) → IsTrue (⟦<Timestamp as PartialEq>⟧.eq a b) ↔ (a ≡ b) }
+    ensures pcapng_block { (a b : _) → IsTrue (⟦<PcapngBlock<'static> as PartialEq>⟧.eq a b)
+        ↔ (block_view a ≡ block_view b) }
+    ensures section_header { (a b : _) → IsTrue (⟦<SectionHeader<'static> as PartialEq>⟧.eq a b)
+        ↔ ((a.byte_order ≡ b.byte_order) × (block_view a.block ≡ block_view b.block)) }
+    ensures interface_description { (a b : _) → IsTrue (⟦<InterfaceDescription<'static> as PartialEq>⟧.eq a b)
+        ↔ ((a.byte_order ≡ b.byte_order) × (interface_view a ≡ interface_view b)) }
+    ensures enhanced_packet { (a b : _) → IsTrue (⟦<EnhancedPacket<'static> as PartialEq>⟧.eq a b)
+        ↔ (enhanced_packet_view a ≡ enhanced_packet_view b) }
+    ensures simple_packet { (a b : _) → IsTrue (⟦<SimplePacket<'static> as PartialEq>⟧.eq a b)
+        ↔ (simple_packet_view a ≡ simple_packet_view b) }
+    ensures captured_packet { (a b : _) → IsTrue (⟦<CapturedPacket<'static> as PartialEq>⟧.eq a b)
+        ↔ (captured_packet_view a ≡ captured_packet_view b) }
+    ensures capture_unit { (a b : _) → IsTrue (⟦<CaptureUnit<'static> as PartialEq>⟧.eq a b)
+        ↔ ((a.len ≡ b.len) × (option_map captured_packet_view a.packet ≡ option_map captured_packet_view b.packet)) }
+{}
 
 pub(crate) fn link_type_of_ethernet() -> u16
     ensures { result ≡ 1 }
@@ -100,48 +102,6 @@ pub(crate) fn greatest_captured_len() -> u32
     PcapRecord::MAX_CAPTURED_LEN
 }
 
-pub(crate) fn clone_of_record_error(value: &RecordError) -> Result<RecordError, AllocError>
-    ensures { result ≡ Ok value.now }
-{
-    value.clone()
-}
-
-pub(crate) fn clone_of_block_error(value: &BlockError) -> Result<BlockError, AllocError>
-    ensures { result ≡ Ok value.now }
-{
-    value.clone()
-}
-
-pub(crate) fn same_block_error(a: &BlockError, b: &BlockError) -> bool
-    ensures { IsTrue result ↔ (a.now ≡ b.now) }
-{
-    *a == *b
-}
-
-pub(crate) fn clone_of_body_error(value: &BodyError) -> Result<BodyError, AllocError>
-    ensures { result ≡ Ok value.now }
-{
-    value.clone()
-}
-
-pub(crate) fn same_body_error(a: &BodyError, b: &BodyError) -> bool
-    ensures { IsTrue result ↔ (a.now ≡ b.now) }
-{
-    *a == *b
-}
-
-pub(crate) fn clone_of_section_error(value: &SectionError) -> Result<SectionError, AllocError>
-    ensures { result ≡ Ok value.now }
-{
-    value.clone()
-}
-
-pub(crate) fn same_section_error(a: &SectionError, b: &SectionError) -> bool
-    ensures { IsTrue result ↔ (a.now ≡ b.now) }
-{
-    *a == *b
-}
-
 pub(crate) fn block_types() -> [u32; 4]
     ensures { result ≡ 0x0A0D0D0A ∷ 1 ∷ 3 ∷ 6 ∷ [] }
 {
@@ -153,147 +113,8 @@ pub(crate) fn block_types() -> [u32; 4]
     ]
 }
 
-pub(crate) fn same_pcap_record(a: &PcapRecord<'_>, b: &PcapRecord<'_>) -> bool
-    ensures { IsTrue result ↔ (record_view a.now ≡ record_view b.now) }
-{
-    *a == *b
-}
-
-pub(crate) fn clone_of_capture_error(value: &CaptureError) -> Result<CaptureError, AllocError>
-    ensures { result ≡ Ok value.now }
-{
-    value.clone()
-}
-
-pub(crate) fn same_capture_error(a: &CaptureError, b: &CaptureError) -> bool
-    ensures { IsTrue result ↔ (a.now ≡ b.now) }
-{
-    *a == *b
-}
-
-pub(crate) fn clone_of_capture_fault(value: &CaptureFault) -> Result<CaptureFault, AllocError>
-    ensures { result ≡ Ok value.now }
-{
-    value.clone()
-}
-
-pub(crate) fn same_capture_fault(a: &CaptureFault, b: &CaptureFault) -> bool
-    ensures { IsTrue result ↔ (a.now ≡ b.now) }
-{
-    *a == *b
-}
-
-pub(crate) fn same_timestamp(a: &Timestamp, b: &Timestamp) -> bool
-    ensures { IsTrue result ↔ (a.now ≡ b.now) }
-{
-    *a == *b
-}
-
 pub(crate) fn greatest_number_of_interfaces() -> usize
     ensures { result ≡ 4096 }
 {
     CapturePackets::MAX_INTERFACES
-}
-
-pub(crate) fn same_pcapng_block(a: &PcapngBlock<'_>, b: &PcapngBlock<'_>) -> bool
-    ensures { IsTrue result ↔ (block_view a.now ≡ block_view b.now) }
-{
-    *a == *b
-}
-
-pub(crate) fn same_section_header(a: &SectionHeader<'_>, b: &SectionHeader<'_>) -> bool
-    ensures { IsTrue result ↔ ((a.now.byte_order ≡ b.now.byte_order)
-        × (block_view a.now.block ≡ block_view b.now.block)) }
-{
-    *a == *b
-}
-
-pub(crate) fn same_interface_description(
-    a: &InterfaceDescription<'_>,
-    b: &InterfaceDescription<'_>,
-) -> bool
-    ensures { IsTrue result ↔ ((a.now.byte_order ≡ b.now.byte_order) × (interface_view a.now ≡ interface_view b.now)) }
-{
-    *a == *b
-}
-
-pub(crate) fn same_enhanced_packet(a: &EnhancedPacket<'_>, b: &EnhancedPacket<'_>) -> bool
-    ensures { IsTrue result ↔ (enhanced_packet_view a.now ≡ enhanced_packet_view b.now) }
-{
-    *a == *b
-}
-
-pub(crate) fn same_simple_packet(a: &SimplePacket<'_>, b: &SimplePacket<'_>) -> bool
-    ensures { IsTrue result ↔ (simple_packet_view a.now ≡ simple_packet_view b.now) }
-{
-    *a == *b
-}
-
-pub(crate) fn same_captured_packet(a: &CapturedPacket<'_>, b: &CapturedPacket<'_>) -> bool
-    ensures { IsTrue result ↔ (captured_packet_view a.now ≡ captured_packet_view b.now) }
-{
-    *a == *b
-}
-
-pub(crate) fn same_capture_unit(a: &CaptureUnit<'_>, b: &CaptureUnit<'_>) -> bool
-    ensures { IsTrue result ↔ ((a.now.len ≡ b.now.len)
-        × (option_map captured_packet_view a.now.packet ≡ option_map captured_packet_view b.now.packet)) }
-{
-    *a == *b
-}
-
-pub(crate) fn clone_of_pcapng_block<'a>(
-    value: &PcapngBlock<'a>,
-) -> Result<PcapngBlock<'a>, AllocError>
-    ensures { result ≡ Ok value.now }
-{
-    value.clone()
-}
-
-pub(crate) fn clone_of_section_header<'a>(
-    value: &SectionHeader<'a>,
-) -> Result<SectionHeader<'a>, AllocError>
-    ensures { result ≡ Ok value.now }
-{
-    value.clone()
-}
-
-pub(crate) fn clone_of_interface_description<'a>(
-    value: &InterfaceDescription<'a>,
-) -> Result<InterfaceDescription<'a>, AllocError>
-    ensures { result ≡ Ok value.now }
-{
-    value.clone()
-}
-
-pub(crate) fn clone_of_enhanced_packet<'a>(
-    value: &EnhancedPacket<'a>,
-) -> Result<EnhancedPacket<'a>, AllocError>
-    ensures { result ≡ Ok value.now }
-{
-    value.clone()
-}
-
-pub(crate) fn clone_of_simple_packet<'a>(
-    value: &SimplePacket<'a>,
-) -> Result<SimplePacket<'a>, AllocError>
-    ensures { result ≡ Ok value.now }
-{
-    value.clone()
-}
-
-pub(crate) fn clone_of_captured_packet<'a>(
-    value: &CapturedPacket<'a>,
-) -> Result<CapturedPacket<'a>, AllocError>
-    ensures { result ≡ Ok value.now }
-{
-    value.clone()
-}
-
-pub(crate) fn clone_of_capture_unit<'a>(
-    value: &CaptureUnit<'a>,
-) -> Result<CaptureUnit<'a>, AllocError>
-    ensures { result ≡ Ok value.now }
-{
-    value.clone()
 }

@@ -1,80 +1,38 @@
 //! What callers learn of clones, equality and hashing at each type of `ether_arp`, of public fields that they write, and of
 //! what is read back. These functions are proved and never run.
 ghost use Rattle.std.specs.Hash as fed;
-ghost use Rattle.std.specs.Hash.DefaultHasher as sip;
-ghost use Rattle.std.specs.Prelude.{◌≡◌, ◌↔◌, ◌++◌, IsTrue, Ok, fold, length};
-ghost use Rattle.ether_arp.specs.ArpEthIpv4.{eth_ipv4_view};
+ghost use Rattle.std.specs.Prelude.{◌≡◌, ◌↔◌, ◌++◌, IsTrue, Ok};
 
 use ether_arp::{ArpEthIpv4Packet, ArpPacket, ArpPacketSlice};
 use ether_base::err::LenError;
 use ether_base::err::arp::ArpEthIpv4FromError;
 use ether_base::{ArpHardwareId, ArpOperation, EtherType};
-use std::alloc::AllocError;
-use std::hash::{DefaultHasher, Hash, Hasher};
+use std::hash::Hash;
 
-pub(crate) fn clone_of_arp_packet(value: &ArpPacket) -> Result<ArpPacket, AllocError>
-    ensures { result ≡ Ok value.now }
-{
-    value.clone()
-}
+/// A clone is `Ok` and equals its source.
+pub(crate) fn clones()
+    ensures arp_packet { let it = ⟦<ArpPacket as Clone>⟧ in
+        (a b : _) → it.is_infallible a × (it.is_clone a b → b ≡ a) }
+    ensures arp_packet_slice { let it = ⟦<ArpPacketSlice<'static> as Clone>⟧ in
+        (a b : _) → it.is_infallible a × (it.is_clone a b → b ≡ a) }
+    ensures arp_eth_ipv4_packet { let it = ⟦<ArpEthIpv4Packet as Clone>⟧ in
+        (a b : _) → it.is_infallible a × (it.is_clone a b → b ≡ a) }
+{}
 
-pub(crate) fn clone_of_arp_packet_slice<'a>(
-    value: &ArpPacketSlice<'a>,
-) -> Result<ArpPacketSlice<'a>, AllocError>
-    ensures { result ≡ Ok value.now }
-{
-    value.clone()
-}
+/// `==` is equality.
+pub(crate) fn equality()
+    ensures arp_packet { (a b : _) → IsTrue (⟦<ArpPacket as PartialEq>⟧.eq a b) ↔ (a ≡ b) }
+    ensures arp_packet_slice { (a b : _) → IsTrue (⟦<ArpPacketSlice<'static> as PartialEq>⟧.eq a b) ↔ (a ≡ b) }
+    ensures arp_eth_ipv4_packet { (a b : _) → IsTrue (⟦<ArpEthIpv4Packet as PartialEq>⟧.eq a b) ↔ (a ≡ b) }
+{}
 
-pub(crate) fn clone_of_arp_eth_ipv4_packet(
-    value: &ArpEthIpv4Packet,
-) -> Result<ArpEthIpv4Packet, AllocError>
-    ensures { result ≡ Ok value.now }
-{
-    value.clone()
-}
-
-pub(crate) fn same_arp_packet(a: &ArpPacket, b: &ArpPacket) -> bool
-    ensures { IsTrue result ↔ (a.now ≡ b.now) }
-{
-    *a == *b
-}
-
-pub(crate) fn same_arp_packet_slice(a: &ArpPacketSlice<'_>, b: &ArpPacketSlice<'_>) -> bool
-    ensures { IsTrue result ↔ (a.now ≡ b.now) }
-{
-    *a == *b
-}
-
-pub(crate) fn same_arp_eth_ipv4_packet(a: &ArpEthIpv4Packet, b: &ArpEthIpv4Packet) -> bool
-    ensures { IsTrue result ↔ (a.now ≡ b.now) }
-{
-    *a == *b
-}
-
-fn hash_of<T: Hash>(value: &T) -> u64
-    ensures { result ≡ sip.finish (fold sip.write sip.initial (T.hash_input value.now)) }
-{
-    let mut state = DefaultHasher::new();
-    value.hash(&mut state);
-    state.finish()
-}
-
-/// Values that `==` calls equal feed a hasher alike, at each type that has a `Hash`.
-pub(crate) fn hashes_alike<T: Hash>(a: &T, b: &T) -> bool
-    ensures { IsTrue result }
-{
-    *a != *b || hash_of(a) == hash_of(b)
-}
-
-pub(crate) fn hash_of_arp_packet(packet: &ArpPacket) -> u64
-    ensures { let p = packet.now in
-        let types = fed.u16 p.hardware_type ++ fed.u16 p.protocol_type ++ fed.u16 p.operation in
-        let addresses = fed.slice fed.u8 p.sender_hardware ++ fed.slice fed.u8 p.sender_protocol ++ fed.slice fed.u8 p.target_hardware ++ fed.slice fed.u8 p.target_protocol in
-        result ≡ sip.finish (fold sip.write sip.initial (types ++ addresses)) }
-{
-    hash_of(packet)
-}
+/// A hash feeds a hasher the numbers, and then the addresses with their lengths.
+pub(crate) fn hashes()
+    ensures { (p : _) → let types = fed.u16 p.hardware_type ++ fed.u16 p.protocol_type ++ fed.u16 p.operation in
+        let senders = fed.slice fed.u8 p.sender_hardware ++ fed.slice fed.u8 p.sender_protocol in
+        let targets = fed.slice fed.u8 p.target_hardware ++ fed.slice fed.u8 p.target_protocol in
+        ⟦<ArpPacket as Hash>⟧.hash_input p ≡ types ++ (senders ++ targets) }
+{}
 
 pub(crate) fn set_hw_addr_type(packet: &mut ArpPacket, hw_addr_type: ArpHardwareId)
     ensures { packet.new ≡ record packet.old { hardware_type = hw_addr_type.0 } }

@@ -8,70 +8,30 @@ use ether_base::EtherType;
 use ether_base::err::linux_sll::HeaderError;
 use ether_sll::{LinkHeader, LinkSlice, LinuxSllHeader, LinuxSllHeaderSlice, LinuxSllSlice};
 use ether_tags::Ethernet2Header;
-use std::alloc::AllocError;
 
-pub(crate) fn clone_of_linux_sll_header(
-    value: &LinuxSllHeader,
-) -> Result<LinuxSllHeader, AllocError>
-    ensures { result ≡ Ok value.now }
-{
-    value.clone()
-}
+/// A clone is `Ok` and equals its source.
+pub(crate) fn clones()
+    ensures linux_sll_header { let it = ⟦<LinuxSllHeader as Clone>⟧ in
+        (a b : _) → it.is_infallible a × (it.is_clone a b → b ≡ a) }
+    ensures link_header { let it = ⟦<LinkHeader as Clone>⟧ in
+        (a b : _) → it.is_infallible a × (it.is_clone a b → b ≡ a) }
+    ensures linux_sll_header_slice { let it = ⟦<LinuxSllHeaderSlice<'static> as Clone>⟧ in
+        (a b : _) → it.is_infallible a × (it.is_clone a b → b ≡ a) }
+    ensures linux_sll_slice { let it = ⟦<LinuxSllSlice<'static> as Clone>⟧ in
+        (a b : _) → it.is_infallible a × (it.is_clone a b → b ≡ a) }
+    ensures link_slice { let it = ⟦<LinkSlice<'static> as Clone>⟧ in
+        (a b : _) → it.is_infallible a × (it.is_clone a b → b ≡ a) }
+{}
 
-pub(crate) fn clone_of_link_header(value: &LinkHeader) -> Result<LinkHeader, AllocError>
-    ensures { result ≡ Ok value.now }
-{
-    value.clone()
-}
-
-pub(crate) fn clone_of_linux_sll_header_slice<'a>(
-    value: &LinuxSllHeaderSlice<'a>,
-) -> Result<LinuxSllHeaderSlice<'a>, AllocError>
-    ensures { result ≡ Ok value.now }
-{
-    value.clone()
-}
-
-pub(crate) fn clone_of_linux_sll_slice<'a>(
-    value: &LinuxSllSlice<'a>,
-) -> Result<LinuxSllSlice<'a>, AllocError>
-    ensures { result ≡ Ok value.now }
-{
-    value.clone()
-}
-
-pub(crate) fn clone_of_link_slice<'a>(value: &LinkSlice<'a>) -> Result<LinkSlice<'a>, AllocError>
-    ensures { result ≡ Ok value.now }
-{
-    value.clone()
-}
-
-pub(crate) fn same_linux_sll_header(a: &LinuxSllHeader, b: &LinuxSllHeader) -> bool
-    ensures { IsTrue result ↔ (a.now ≡ b.now) }
-{
-    *a == *b
-}
-
-pub(crate) fn same_link_header(a: &LinkHeader, b: &LinkHeader) -> bool
-    ensures { IsTrue result ↔ (a.now ≡ b.now) }
-{
-    *a == *b
-}
-
-pub(crate) fn same_linux_sll_header_slice(
-    a: &LinuxSllHeaderSlice<'_>,
-    b: &LinuxSllHeaderSlice<'_>,
-) -> bool
-    ensures { IsTrue result ↔ (a.now ≡ b.now) }
-{
-    *a == *b
-}
-
-pub(crate) fn same_linux_sll_slice(a: &LinuxSllSlice<'_>, b: &LinuxSllSlice<'_>) -> bool
-    ensures { IsTrue result ↔ (a.now ≡ b.now) }
-{
-    *a == *b
-}
+/// `==` is equality.
+pub(crate) fn equality()
+    ensures linux_sll_header { (a b : _) → IsTrue (⟦<LinuxSllHeader as PartialEq>⟧.eq a b) ↔ (a ≡ b) }
+    ensures link_header { (a b : _) → IsTrue (⟦<LinkHeader as PartialEq>⟧.eq a b) ↔ (a ≡ b) }
+    ensures linux_sll_header_slice { (a b : _) → IsTrue (⟦<LinuxSllHeaderSlice<'static> as PartialEq>⟧.eq a b)
+        ↔ (a ≡ b) }
+    ensures linux_sll_slice { (a b : _) → IsTrue (⟦<LinuxSllSlice<'static> as PartialEq>⟧.eq a b) ↔ (a ≡ b) }
+    ensures link_slice { (a b : _) → IsTrue (⟦<LinkSlice<'static> as PartialEq>⟧.eq a b) ↔ SameLink a b }
+{}
 
 pub(crate) fn len() -> usize
     ensures { result ≡ 16 }
@@ -110,10 +70,4 @@ pub(crate) fn replace_linux_sll(link: &mut LinkHeader, header: LinuxSllHeader)
     if let Some(lent) = link.mut_linux_sll() {
         *lent = header;
     }
-}
-
-pub(crate) fn same_link_slice(a: &LinkSlice<'_>, b: &LinkSlice<'_>) -> bool
-    ensures { IsTrue result ↔ SameLink a.now b.now }
-{
-    *a == *b
 }

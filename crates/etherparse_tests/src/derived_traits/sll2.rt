@@ -4,66 +4,27 @@ ghost use Rattle.std.specs.Prelude.{◌≡◌, ◌↔◌, IsTrue, Ok};
 ghost use Rattle.ether_sll2.specs.Views.{HasOwnType};
 
 use ether_sll2::{LinuxSll2Error, LinuxSll2Header, LinuxSll2HeaderSlice, LinuxSll2Slice};
-use std::alloc::AllocError;
 
-pub(crate) fn clone_of_linux_sll2_error(
-    value: &LinuxSll2Error,
-) -> Result<LinuxSll2Error, AllocError>
-    ensures { result ≡ Ok value.now }
-{
-    value.clone()
-}
+/// A clone is `Ok` and equals its source.
+pub(crate) fn clones()
+    ensures linux_sll2_error { let it = ⟦<LinuxSll2Error as Clone>⟧ in
+        (a b : _) → it.is_infallible a × (it.is_clone a b → b ≡ a) }
+    ensures linux_sll2_header { let it = ⟦<LinuxSll2Header as Clone>⟧ in
+        (a b : _) → it.is_infallible a × (it.is_clone a b → b ≡ a) }
+    ensures linux_sll2_header_slice { let it = ⟦<LinuxSll2HeaderSlice<'static> as Clone>⟧ in
+        (a b : _) → it.is_infallible a × (it.is_clone a b → b ≡ a) }
+    ensures linux_sll2_slice { let it = ⟦<LinuxSll2Slice<'static> as Clone>⟧ in
+        (a b : _) → it.is_infallible a × (it.is_clone a b → b ≡ a) }
+{}
 
-pub(crate) fn clone_of_linux_sll2_header(
-    value: &LinuxSll2Header,
-) -> Result<LinuxSll2Header, AllocError>
-    ensures { result ≡ Ok value.now }
-{
-    value.clone()
-}
-
-pub(crate) fn clone_of_linux_sll2_header_slice<'a>(
-    value: &LinuxSll2HeaderSlice<'a>,
-) -> Result<LinuxSll2HeaderSlice<'a>, AllocError>
-    ensures { result ≡ Ok value.now }
-{
-    value.clone()
-}
-
-pub(crate) fn clone_of_linux_sll2_slice<'a>(
-    value: &LinuxSll2Slice<'a>,
-) -> Result<LinuxSll2Slice<'a>, AllocError>
-    ensures { result ≡ Ok value.now }
-{
-    value.clone()
-}
-
-pub(crate) fn same_linux_sll2_error(a: &LinuxSll2Error, b: &LinuxSll2Error) -> bool
-    ensures { IsTrue result ↔ (a.now ≡ b.now) }
-{
-    *a == *b
-}
-
-pub(crate) fn same_linux_sll2_header(a: &LinuxSll2Header, b: &LinuxSll2Header) -> bool
-    ensures { IsTrue result ↔ (a.now ≡ b.now) }
-{
-    *a == *b
-}
-
-pub(crate) fn same_linux_sll2_header_slice(
-    a: &LinuxSll2HeaderSlice<'_>,
-    b: &LinuxSll2HeaderSlice<'_>,
-) -> bool
-    ensures { IsTrue result ↔ (a.now ≡ b.now) }
-{
-    *a == *b
-}
-
-pub(crate) fn same_linux_sll2_slice(a: &LinuxSll2Slice<'_>, b: &LinuxSll2Slice<'_>) -> bool
-    ensures { IsTrue result ↔ (a.now ≡ b.now) }
-{
-    *a == *b
-}
+/// `==` is equality.
+pub(crate) fn equality()
+    ensures linux_sll2_error { (a b : _) → IsTrue (⟦<LinuxSll2Error as PartialEq>⟧.eq a b) ↔ (a ≡ b) }
+    ensures linux_sll2_header { (a b : _) → IsTrue (⟦<LinuxSll2Header as PartialEq>⟧.eq a b) ↔ (a ≡ b) }
+    ensures linux_sll2_header_slice { (a b : _) → IsTrue (⟦<LinuxSll2HeaderSlice<'static> as PartialEq>⟧.eq a b)
+        ↔ (a ≡ b) }
+    ensures linux_sll2_slice { (a b : _) → IsTrue (⟦<LinuxSll2Slice<'static> as PartialEq>⟧.eq a b) ↔ (a ≡ b) }
+{}
 
 pub(crate) fn len() -> usize
     ensures { result ≡ 20 }

@@ -1,103 +1,38 @@
 //! What callers learn of the derived traits, at each type of this crate. These functions are proved and never run.
-ghost use Rattle.std.specs.Prelude.{◌≡◌, ◌↔◌, IsTrue, Ok};
+ghost use Rattle.std.specs.Prelude.{◌≡◌, ◌↔◌, IsTrue};
 ghost use Rattle.ether_peel.specs.Walker.SameUnit.{SameUnit};
 
 use ether_peel::{Feed, PeelError, PeelFault, PeelUnit, RestKind, Start, Summary};
-use std::alloc::AllocError;
 
-pub(crate) fn clone_of_start(value: &Start) -> Result<Start, AllocError>
-    ensures { result ≡ Ok value.now }
-{
-    value.clone()
-}
+/// A clone is `Ok` and equals its source.
+pub(crate) fn clones()
+    ensures start { let it = ⟦<Start as Clone>⟧ in (a b : _) → it.is_infallible a × (it.is_clone a b → b ≡ a) }
+    ensures peel_unit { let it = ⟦<PeelUnit<'static> as Clone>⟧ in
+        (a b : _) → it.is_infallible a × (it.is_clone a b → b ≡ a) }
+    ensures rest_kind { let it = ⟦<RestKind as Clone>⟧ in (a b : _) → it.is_infallible a × (it.is_clone a b → b ≡ a) }
+    ensures peel_error { let it = ⟦<PeelError as Clone>⟧ in
+        (a b : _) → it.is_infallible a × (it.is_clone a b → b ≡ a) }
+    ensures peel_fault { let it = ⟦<PeelFault as Clone>⟧ in
+        (a b : _) → it.is_infallible a × (it.is_clone a b → b ≡ a) }
+    ensures summary { let it = ⟦<Summary as Clone>⟧ in (a b : _) → it.is_infallible a × (it.is_clone a b → b ≡ a) }
+    ensures feed { let it = ⟦<Feed as Clone>⟧ in (a b : _) → it.is_infallible a × (it.is_clone a b → b ≡ a) }
+{}
 
-pub(crate) fn clone_of_peel_unit<'a>(value: &PeelUnit<'a>) -> Result<PeelUnit<'a>, AllocError>
-    ensures { result ≡ Ok value.now }
-{
-    value.clone()
-}
+/// `==` is equality.
+pub(crate) fn equality()
+    ensures start { (a b : _) → IsTrue (⟦<Start as PartialEq>⟧.eq a b) ↔ (a ≡ b) }
+    ensures rest_kind { (a b : _) → IsTrue (⟦<RestKind as PartialEq>⟧.eq a b) ↔ (a ≡ b) }
+    ensures peel_error { (a b : _) → IsTrue (⟦<PeelError as PartialEq>⟧.eq a b) ↔ (a ≡ b) }
+    ensures peel_fault { (a b : _) → IsTrue (⟦<PeelFault as PartialEq>⟧.eq a b) ↔ (a ≡ b) }
+    ensures summary { (a b : _) → IsTrue (⟦<Summary as PartialEq>⟧.eq a b) ↔ (a ≡ b) }
+    ensures feed { (a b : _) → IsTrue (⟦<Feed as PartialEq>⟧.eq a b) ↔ (a ≡ b) }
+    ensures peel_unit { (a b : _) → IsTrue (⟦<PeelUnit<'static> as PartialEq>⟧.eq a b) ↔ SameUnit a b }
+{}
 
-pub(crate) fn clone_of_rest_kind(value: &RestKind) -> Result<RestKind, AllocError>
-    ensures { result ≡ Ok value.now }
+/// Both are `Copy`.
+pub(crate) fn copies(values: (Start, RestKind)) -> ((Start, RestKind), (Start, RestKind))
+    ensures { result ≡ (values, values) }
 {
-    value.clone()
-}
-
-pub(crate) fn clone_of_peel_error(value: &PeelError) -> Result<PeelError, AllocError>
-    ensures { result ≡ Ok value.now }
-{
-    value.clone()
-}
-
-pub(crate) fn clone_of_peel_fault(value: &PeelFault) -> Result<PeelFault, AllocError>
-    ensures { result ≡ Ok value.now }
-{
-    value.clone()
-}
-
-pub(crate) fn clone_of_summary(value: &Summary) -> Result<Summary, AllocError>
-    ensures { result ≡ Ok value.now }
-{
-    value.clone()
-}
-
-pub(crate) fn clone_of_feed(value: &Feed) -> Result<Feed, AllocError>
-    ensures { result ≡ Ok value.now }
-{
-    value.clone()
-}
-
-pub(crate) fn copy_of_start(value: Start) -> (Start, Start)
-    ensures { result ≡ (value, value) }
-{
-    (value, value)
-}
-
-pub(crate) fn copy_of_rest_kind(value: RestKind) -> (RestKind, RestKind)
-    ensures { result ≡ (value, value) }
-{
-    let copy = value;
-    (copy, value)
-}
-
-pub(crate) fn same_start(a: &Start, b: &Start) -> bool
-    ensures { IsTrue result ↔ (a.now ≡ b.now) }
-{
-    *a == *b
-}
-
-pub(crate) fn same_rest_kind(a: &RestKind, b: &RestKind) -> bool
-    ensures { IsTrue result ↔ (a.now ≡ b.now) }
-{
-    *a == *b
-}
-
-pub(crate) fn same_peel_error(a: &PeelError, b: &PeelError) -> bool
-    ensures { IsTrue result ↔ (a.now ≡ b.now) }
-{
-    *a == *b
-}
-
-pub(crate) fn same_peel_fault(a: &PeelFault, b: &PeelFault) -> bool
-    ensures { IsTrue result ↔ (a.now ≡ b.now) }
-{
-    *a == *b
-}
-
-pub(crate) fn same_summary(a: &Summary, b: &Summary) -> bool
-    ensures { IsTrue result ↔ (a.now ≡ b.now) }
-{
-    *a == *b
-}
-
-pub(crate) fn same_feed(a: &Feed, b: &Feed) -> bool
-    ensures { IsTrue result ↔ (a.now ≡ b.now) }
-{
-    *a == *b
-}
-
-pub(crate) fn same_peel_unit(a: &PeelUnit<'_>, b: &PeelUnit<'_>) -> bool
-    ensures { IsTrue result ↔ SameUnit a.now b.now }
-{
-    *a == *b
+    let copy = values;
+    (copy, values)
 }

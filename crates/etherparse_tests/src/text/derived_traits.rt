@@ -5,130 +5,44 @@ use ether_text::tool::command::Command;
 use ether_text::tool::mode::{Mode, Usage};
 use ether_text::tool::outcome::{LastLine, ToolFault};
 use ether_text::{InputFault, OutputFault, Verdict};
-use std::alloc::AllocError;
 
-pub(crate) fn clone_of_input_fault(value: &InputFault) -> Result<InputFault, AllocError>
-    ensures { result ≡ Ok value.now }
-{
-    value.clone()
-}
+/// A clone is `Ok` and equals its source.
+pub(crate) fn clones()
+    ensures input_fault { let it = ⟦<InputFault as Clone>⟧ in
+        (a b : _) → it.is_infallible a × (it.is_clone a b → b ≡ a) }
+    ensures output_fault { let it = ⟦<OutputFault as Clone>⟧ in
+        (a b : _) → it.is_infallible a × (it.is_clone a b → b ≡ a) }
+    ensures verdict { let it = ⟦<Verdict as Clone>⟧ in (a b : _) → it.is_infallible a × (it.is_clone a b → b ≡ a) }
+    ensures mode { let it = ⟦<Mode as Clone>⟧ in (a b : _) → it.is_infallible a × (it.is_clone a b → b ≡ a) }
+    ensures usage { let it = ⟦<Usage as Clone>⟧ in (a b : _) → it.is_infallible a × (it.is_clone a b → b ≡ a) }
+    ensures command { let it = ⟦<Command as Clone>⟧ in (a b : _) → it.is_infallible a × (it.is_clone a b → b ≡ a) }
+    ensures last_line { let it = ⟦<LastLine as Clone>⟧ in (a b : _) → it.is_infallible a × (it.is_clone a b → b ≡ a) }
+{}
 
-pub(crate) fn copy_of_input_fault(value: InputFault) -> (InputFault, InputFault)
-    ensures { result ≡ (value, value) }
-{
-    (value, value)
-}
+/// `==` is equality.
+pub(crate) fn equality()
+    ensures input_fault { (a b : _) → IsTrue (⟦<InputFault as PartialEq>⟧.eq a b) ↔ (a ≡ b) }
+    ensures output_fault { (a b : _) → IsTrue (⟦<OutputFault as PartialEq>⟧.eq a b) ↔ (a ≡ b) }
+    ensures verdict { (a b : _) → IsTrue (⟦<Verdict as PartialEq>⟧.eq a b) ↔ (a ≡ b) }
+    ensures mode { (a b : _) → IsTrue (⟦<Mode as PartialEq>⟧.eq a b) ↔ (a ≡ b) }
+    ensures usage { (a b : _) → IsTrue (⟦<Usage as PartialEq>⟧.eq a b) ↔ (a ≡ b) }
+    ensures last_line { (a b : _) → IsTrue (⟦<LastLine as PartialEq>⟧.eq a b) ↔ (a ≡ b) }
+    ensures tool_fault { (a b : _) → IsTrue (⟦<ToolFault as PartialEq>⟧.eq a b) ↔ (a ≡ b) }
+{}
 
-pub(crate) fn same_input_fault(a: &InputFault, b: &InputFault) -> bool
-    ensures { IsTrue result ↔ (a.now ≡ b.now) }
-{
-    *a == *b
-}
+/// A value of each type that is `Copy`.
+type Values = (
+    InputFault,
+    OutputFault,
+    Verdict,
+    Mode,
+    Usage,
+    Command,
+    LastLine,
+);
 
-pub(crate) fn clone_of_output_fault(value: &OutputFault) -> Result<OutputFault, AllocError>
-    ensures { result ≡ Ok value.now }
+pub(crate) fn copies(values: Values) -> (Values, Values)
+    ensures { result ≡ (values, values) }
 {
-    value.clone()
-}
-
-pub(crate) fn copy_of_output_fault(value: OutputFault) -> (OutputFault, OutputFault)
-    ensures { result ≡ (value, value) }
-{
-    (value, value)
-}
-
-pub(crate) fn same_output_fault(a: &OutputFault, b: &OutputFault) -> bool
-    ensures { IsTrue result ↔ (a.now ≡ b.now) }
-{
-    *a == *b
-}
-
-pub(crate) fn clone_of_verdict(value: &Verdict) -> Result<Verdict, AllocError>
-    ensures { result ≡ Ok value.now }
-{
-    value.clone()
-}
-
-pub(crate) fn copy_of_verdict(value: Verdict) -> (Verdict, Verdict)
-    ensures { result ≡ (value, value) }
-{
-    (value, value)
-}
-
-pub(crate) fn same_verdict(a: &Verdict, b: &Verdict) -> bool
-    ensures { IsTrue result ↔ (a.now ≡ b.now) }
-{
-    *a == *b
-}
-
-pub(crate) fn clone_of_mode(value: &Mode) -> Result<Mode, AllocError>
-    ensures { result ≡ Ok value.now }
-{
-    value.clone()
-}
-
-pub(crate) fn copy_of_mode(value: Mode) -> (Mode, Mode)
-    ensures { result ≡ (value, value) }
-{
-    (value, value)
-}
-
-pub(crate) fn same_mode(a: &Mode, b: &Mode) -> bool
-    ensures { IsTrue result ↔ (a.now ≡ b.now) }
-{
-    *a == *b
-}
-
-pub(crate) fn clone_of_usage(value: &Usage) -> Result<Usage, AllocError>
-    ensures { result ≡ Ok value.now }
-{
-    value.clone()
-}
-
-pub(crate) fn copy_of_usage(value: Usage) -> (Usage, Usage)
-    ensures { result ≡ (value, value) }
-{
-    (value, value)
-}
-
-pub(crate) fn same_usage(a: &Usage, b: &Usage) -> bool
-    ensures { IsTrue result ↔ (a.now ≡ b.now) }
-{
-    *a == *b
-}
-
-pub(crate) fn clone_of_command(value: &Command) -> Result<Command, AllocError>
-    ensures { result ≡ Ok value.now }
-{
-    value.clone()
-}
-
-pub(crate) fn copy_of_command(value: Command) -> (Command, Command)
-    ensures { result ≡ (value, value) }
-{
-    (value, value)
-}
-
-pub(crate) fn clone_of_last_line(value: &LastLine) -> Result<LastLine, AllocError>
-    ensures { result ≡ Ok value.now }
-{
-    value.clone()
-}
-
-pub(crate) fn copy_of_last_line(value: LastLine) -> (LastLine, LastLine)
-    ensures { result ≡ (value, value) }
-{
-    (value, value)
-}
-
-pub(crate) fn same_last_line(a: &LastLine, b: &LastLine) -> bool
-    ensures { IsTrue result ↔ (a.now ≡ b.now) }
-{
-    *a == *b
-}
-
-pub(crate) fn same_tool_fault(a: &ToolFault, b: &ToolFault) -> bool
-    ensures { IsTrue result ↔ (a.now ≡ b.now) }
-{
-    *a == *b
+    (values, values)
 }

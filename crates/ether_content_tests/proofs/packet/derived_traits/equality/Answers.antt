@@ -2,14 +2,13 @@ use Rattle.std.proofs.Common.{rules, ◌≡◌, ℕ, ◌&&◌, Bool, true, ap, �
 use Rattle.std.specs.Bool.{Decides}
 use Rattle.std.specs.Cmp.{unsigned_Decides}
 use Rattle.std.proofs.lemmas.Bool.{and_parts}
-use Rattle.std.proofs.lemmas.Bool.Decides.{Decides-at}
 use Rattle.etherparse.specs.Types.LinkExtSlice.{LinkExtSlice}
 use Rattle.etherparse.specs.Types.LinkExtSlice.TheVariants as exts
 use Rattle.etherparse.specs.LinkExt.{SameExt}
 use Rattle.ether_peel.specs.declared.peel_unit.PeelUnit.TheVariants as units
 use Rattle.ether_peel.proofs.Walker.SameValues.{units_Decides}
 use Rattle.ether_packet.specs.contracts.packet_ext.PacketExtPartialEq.TheImpl as packet_ext
-use Rattle.ether_content_tests.proofs.packet.derived_traits.same_packet_ext.Goals as goal
+use Rattle.ether_content_tests.proofs.packet.derived_traits.equality.Goals as goal
 
 and_true : (x y : Bool) → x ≡ true → y ≡ true → x && y ≡ true
 and_true x y h k = ap (λ (b : Bool). b && y) h ∙ k
@@ -25,7 +24,5 @@ exts_Decides m n (exts.Macsec s) (exts.Macsec t) =
     both _ _ (unsigned_Decides m n) (units_Decides (units.Macsec s) (units.Macsec t))
 exts_Decides m n (exts.Macsec s) b = (search rules, search rules)
 
-pub returns : goal.returns
-returns c =
-    Decides-at c.eq.result _ c.eq.ensures
-    (exts_Decides c.args.a.now.offset c.args.b.now.offset c.args.a.now.slice c.args.b.now.slice)
+pub returns-clause-packet_ext : goal.returns-clause-packet_ext
+returns-clause-packet_ext c = λ a b. exts_Decides a.offset b.offset a.slice b.slice

@@ -4,12 +4,11 @@ use Rattle.std.specs.Cmp.{unsigned_Decides}
 use Rattle.std.specs.Option.{option_eq, option_map}
 use Rattle.std.specs.Prelude.{Option, Some, None}
 use Rattle.std.proofs.lemmas.Bool.{and_parts}
-use Rattle.std.proofs.lemmas.Bool.Decides.{Decides-at}
 use Rattle.ether_pcap.specs.CaptureViews.{captured_packet_view}
 use Rattle.ether_pcap.specs.contracts.capture.captured_packet.CapturedPacketPartialEq.TheImpl as packet
 use Rattle.ether_pcap.specs.declared.capture.capture_unit.CaptureUnit.{CaptureUnit}
 use Rattle.ether_pcap.specs.declared.capture.captured_packet.CapturedPacket.{CapturedPacket}
-use Rattle.ether_content_tests.proofs.pcap.derived_traits.same_capture_unit.Goals as goal
+use Rattle.ether_content_tests.proofs.pcap.derived_traits.equality.Goals as goal
 
 packets_Decides : (a b : CapturedPacket)
     → Decides ((packet.ghosts).eq a b) (captured_packet_view a ≡ captured_packet_view b)
@@ -32,5 +31,8 @@ units_Decides a b =
       λ both. ap (λ t. t && option_eq (packet.ghosts).eq a.packet b.packet) (len.1 both.0) ∙ found.1 both.1,
     )
 
-pub returns : goal.returns
-returns c = Decides-at c.eq.result _ c.eq.ensures (units_Decides c.args.a.now c.args.b.now)
+pub returns-clause-capture_unit : goal.returns-clause-capture_unit
+returns-clause-capture_unit c = units_Decides
+
+pub returns-clause-captured_packet : goal.returns-clause-captured_packet
+returns-clause-captured_packet c = packets_Decides
