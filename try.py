@@ -1,5 +1,10 @@
-"""Runs the tests of each crate and the stored run of each program before any proof: a quick look at what a change does. Only
-`.ci/run` proves. The last line is 'N passed, M failed'.
+"""Runs tests and programs before any proof: a quick look at what a change does. Only `.ci/run` proves.
+
+    python3 try.py               the tests of each crate, and the stored run of each program
+    python3 try.py CRATE         those of one crate
+    python3 try.py CRATE WORD    the tests of one crate whose names have WORD
+
+A failed test is followed by what it printed. The last line is 'N passed, M failed'.
 """
 import concurrent.futures
 import os
@@ -29,14 +34,23 @@ def stored(crate, name):
         return b""
 
 
-def try_tests(crate):
-    """What is to be said of the tests of a crate, and how many passed and failed."""
-    ran = subprocess.run(["rt", "try", "--test", "--seconds", "600"], cwd=f"{CRATES}/{crate}", stdin=subprocess.DEVNULL, capture_output=True, text=True)
+def failures(printed):
+    """The lines of each failed test: its name, and what it printed, which is indented."""
+    lines = printed.splitlines()
+    for i, line in enumerate(lines):
+        if re.match(r"test \S+ \.\.\. FAILED$", line):
+            end = next((k for k in range(i + 1, len(lines)) if not lines[k].startswith(" ")), len(lines))
+            yield from lines[i:end]
+
+
+def try_tests(crate, word=""):
+    """What is to be said of the tests of a crate whose names have the word, and how many passed and failed."""
+    words = ["rt", "try", "--test", "--seconds", "600", *(["--", word] if word else [])]
+    ran = subprocess.run(words, cwd=f"{CRATES}/{crate}", stdin=subprocess.DEVNULL, capture_output=True, text=True)
     told = re.search(r"^test result: .* (\d+) passed; (\d+) failed", ran.stdout, re.M)
     if not told:
         return f"{crate}: its tests did not run:\n{(ran.stdout + ran.stderr)[-2000:]}", 0, 1
-    failed = re.findall(r"^test (\S+) \.\.\. FAILED$", ran.stdout, re.M)
-    return "\n".join([f"{crate}: {told[1]} passed, {told[2]} failed", *failed]), int(told[1]), int(told[2])
+    return "\n".join([f"{crate}: {told[1]} passed, {told[2]} failed", *failures(ran.stdout)]), int(told[1]), int(told[2])
 
 
 def try_program(crate):
@@ -47,18 +61,33 @@ def try_program(crate):
     return f"{crate}: the program printed {'what' if well else 'something else than'} its file stdout has", int(well), int(not well)
 
 
-def main():
+def jobs_of(crate, word=""):
+    """The calls that try a crate: its tests, and unless a word picks some of them, its program."""
+    if has_tests(crate):
+        yield try_tests, crate, word
+    if not word and os.path.isfile(f"{CRATES}/{crate}/src/main.rt"):
+        yield try_program, crate
+
+
+def asked(words):
+    """The calls that the words of the command line ask for, or SystemExit."""
     crates = sorted(os.listdir(CRATES))
-    jobs = [(try_tests, it) for it in crates if has_tests(it)]
-    jobs += [(try_program, it) for it in crates if os.path.isfile(f"{CRATES}/{it}/src/main.rt")]
+    if not words:
+        return sorted((job for crate in crates for job in jobs_of(crate)), key=lambda job: job[0] is try_program)
+    if len(words) > 2 or words[0] not in crates:
+        sys.exit(f"try.py: use it as try.py [CRATE] [WORD], with a crate of {CRATES}")
+    return list(jobs_of(*words)) or sys.exit(f"try.py: {words[0]} has no such tests and no program")
+
+
+def main():
     passed = failed = 0
     with concurrent.futures.ThreadPoolExecutor(len(os.sched_getaffinity(0))) as pool:
-        for run in concurrent.futures.as_completed([pool.submit(call, crate) for call, crate in jobs]):
+        for run in concurrent.futures.as_completed([pool.submit(*job) for job in asked(sys.argv[1:])]):
             text, well, ill = run.result()
             print(text, flush=True)
             passed, failed = passed + well, failed + ill
     print(f"{passed} passed, {failed} failed")
-    return 1 if failed else 0
+    return 1 if failed or not passed else 0
 
 
 if __name__ == "__main__":
