@@ -71,7 +71,7 @@ class Names:
         self.methods = known.METHODS | own | methods
         self.macros = {**known.MACROS, **(known.EXAMPLE_MACROS if tests or where == "example" else {})}
         self.macros |= known.CALL_MACROS if calls else known.PROGRAM_MACROS if programs else {}
-        self.macros |= dict.fromkeys(own, "") if tests else known.EXAMPLE_PROGRAM_MACROS if where == "example program" else {}
+        self.macros |= {**dict.fromkeys(own, ""), **known.TEST_MACROS} if tests else known.EXAMPLE_PROGRAM_MACROS if where == "example program" else {}
 
     def check_path(self, segments, line):
         path = "::".join(segments)

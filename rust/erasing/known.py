@@ -48,14 +48,16 @@ METHODS = set(
 )
 
 # What tests use besides: they have std, and `tests/kit` of the result stands in for the runtime.
-TEST_NAMES = set("kit Fail Abort HostRuntime AllocError AllocGlobal DefaultHasher Ordering drop".split())
+TEST_MACROS = {"stringify": "($", "write": "(text,", "format_args": "("}
+TEST_NAMES = set("ArrayString kit Fail Abort HostRuntime AllocError AllocGlobal DefaultHasher Ordering drop".split())
 TEST_PATHS = set(
-    """std::cmp::Ordering std::error::Error std::fmt std::hash::DefaultHasher std::hash::Hash std::hash::Hasher
+    """arrayvec::ArrayString ArrayString::new std::cmp::Ordering std::error::Error std::fmt std::fmt::Debug std::fmt::Display
+    std::fmt::Write std::hash::DefaultHasher std::hash::Hash std::hash::Hasher
     std::net::Ipv4Addr std::ops::Range usize::saturating_add u8::from DefaultHasher::new
     Ordering::Less Ordering::Equal Ordering::Greater""".split()
 )
 TEST_METHODS = set(
-    """all alloc any count err first_mut get_mut into iter_mut last map_err ok_or skip split_at starts_with
+    """all alloc any as_bytes count err first_mut get_mut into iter_mut last map_err ok_or skip split_at starts_with
     zip""".split()
 )
 

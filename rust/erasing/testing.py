@@ -19,14 +19,21 @@ def test_modules(tokens):
 
 def test_functions(tokens):
     """A test is passed the runtime. In Rust it is passed nothing, and makes what stands in for it."""
-    for i, end in places(tokens, "(rt: HostRuntime)"):
-        start = item_start(tokens, i - 2)
-        if tokens[start].text != "#" or tokens[start + 2].text != "test":
-            raise Refused(tokens[i].line, "a function that is passed the runtime and is no test")
-        body = next(k for k in range(end, len(tokens)) if tokens[k].text == "{")
-        respell(tokens, body + 1, body + 1, "let rt = crate::kit::HostRuntime;")
-        tokens[body + 1].before = "\n    "
-        respell(tokens, i, end, "()")
+    for pattern in ("(rt: HostRuntime)", "(rt: HostRuntime,)"):
+        for i, end in places(tokens, pattern):
+            start = item_start(tokens, i - 2)
+            if tokens[start].text != "#" or tokens[start + 2].text != "test":
+                raise Refused(tokens[i].line, "a function that is passed the runtime and is no test")
+            body = next(k for k in range(end, len(tokens)) if tokens[k].text == "{")
+            respell(tokens, body + 1, body + 1, "let rt = crate::kit::HostRuntime;")
+            tokens[body + 1].before = "\n    "
+            respell(tokens, i, end, "()")
+
+
+def macro_runtimes(tokens):
+    """A macro hands the runtime that it is passed to an assertion, which takes none in Rust."""
+    for i, _ in places(tokens, "!($rt;"):
+        drop(tokens, i + 2, i + 5)
 
 
 def kit_names(tokens):
@@ -37,6 +44,6 @@ def kit_names(tokens):
 
 
 RULES = [
-    *(ghost_items, models, laws, contracts, left_out, test_modules, test_functions, kit_names, runtimes),
+    *(ghost_items, models, laws, contracts, left_out, test_modules, test_functions, kit_names, runtimes, macro_runtimes),
     *(tactics, layout_skips, dropping, formatters, clones),
 ]

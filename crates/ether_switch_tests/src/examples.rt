@@ -1,4 +1,5 @@
 //! The examples of the documentation.
+use crate::checks::equal;
 use ether_switch::{
     Bridge, BridgeKind, Discarded, Forwarding, PortConfig, Received, StationBucket, StationTable,
     Vlan, VlanError, VlanSet,
@@ -19,32 +20,32 @@ fn bridge() -> Bridge<'static> {
 /// Fails if a frame goes elsewhere.
 fn check<R: Abort>(rt: &R, name: &str, found: Result<Received, Discarded>, wanted: Forwarding) {
     match found {
-        Ok(received) => assert!(rt; received.decision == wanted, "{name}"),
-        Err(_) => panic!(rt; "{name}"),
+        Ok(received) => equal!(rt, name; received.decision => wanted),
+        Err(reason) => panic!(rt; "{name}: discarded: {reason:?}"),
     }
 }
 
 #[test]
-fn of_a_frame_that_passes(rt: HostRuntime) -> Result<(), Fail> {
+fn a_request_leaves_a_trunk_with_its_tag(rt: HostRuntime) -> Result<(), Fail> {
     let (access, trunk) = (PortConfig::access(Vlan::try_new(10)?), PortConfig::trunk());
     let mut table = StationTable::<64>::new();
     let mut buffer = *b"____\xFF\xFF\xFF\xFF\xFF\xFF\x02\x00\x00\x00\x00\x01\x08\x06\x00";
     let tagged = *b"\xFF\xFF\xFF\xFF\xFF\xFF\x02\x00\x00\x00\x00\x01\x81\x00\x00\x0A\x08\x06\x00";
     let received = match bridge().receive(&mut table, 0, 1, &access, &buffer[4..]) {
         Ok(received) => received,
-        Err(_) => panic!(rt; "a request"),
+        Err(reason) => panic!(rt; "a request: discarded: {reason:?}"),
     };
     let at = received.send(2, &trunk, &mut buffer);
-    assert!(rt;
-        received.decision == Forwarding::Flood && at == Some(0),
-        "to all ports"
+    equal!(rt, "to all ports, with a tag";
+        received.decision => Forwarding::Flood,
+        at => Some(0),
+        buffer => tagged,
     );
-    assert!(rt; buffer == tagged, "with a tag");
     Ok(())
 }
 
 #[test]
-fn of_the_ageing_time(rt: HostRuntime) -> Result<(), Fail> {
+fn a_station_is_forgotten_after_the_ageing_time(rt: HostRuntime) -> Result<(), Fail> {
     let port = PortConfig::access(Vlan::try_new(10)?);
     let request = b"\xFF\xFF\xFF\xFF\xFF\xFF\x02\x00\x00\x00\x00\x01\x08\x06";
     let reply = b"\x02\x00\x00\x00\x00\x01\x02\x00\x00\x00\x00\x02\x08\x06";
@@ -59,7 +60,7 @@ fn of_the_ageing_time(rt: HostRuntime) -> Result<(), Fail> {
 }
 
 #[test]
-fn of_a_table_of_the_callers(rt: HostRuntime) -> Result<(), Fail> {
+fn a_table_of_the_caller_learns_stations(rt: HostRuntime) -> Result<(), Fail> {
     let port = PortConfig::access(Vlan::try_new(10)?);
     let request = b"\xFF\xFF\xFF\xFF\xFF\xFF\x02\x00\x00\x00\x00\x01\x08\x06";
     let reply = b"\x02\x00\x00\x00\x00\x01\x02\x00\x00\x00\x00\x02\x08\x06";
@@ -72,7 +73,7 @@ fn of_a_table_of_the_callers(rt: HostRuntime) -> Result<(), Fail> {
 }
 
 #[test]
-fn of_a_frame_that_leaves(rt: HostRuntime) -> Result<(), Fail> {
+fn a_frame_does_not_leave_by_the_port_it_came_from(rt: HostRuntime) -> Result<(), Fail> {
     let vlan = Vlan::try_new(10)?;
     let port = PortConfig::access(vlan);
     let received = Received {
@@ -87,32 +88,37 @@ fn of_a_frame_that_leaves(rt: HostRuntime) -> Result<(), Fail> {
         *b"____\x02\x00\x00\x00\x00\x01\x02\x00\x00\x00\x00\x02\x81\x00\x00\x0A\x08\x06\x00";
     let back = received.send(1, &port, &mut buffer);
     let sent = received.send(2, &port, &mut buffer);
-    assert!(rt; back == None && sent == Some(8), "by the other port");
     let untagged: &[u8] = b"\x02\x00\x00\x00\x00\x01\x02\x00\x00\x00\x00\x02\x08\x06\x00";
-    assert!(rt; &buffer[8..] == untagged, "without its tag");
+    equal!(rt, "by the other port, without its tag";
+        back => None,
+        sent => Some(8),
+        buffer.get(8..) => Some(untagged),
+    );
     Ok(())
 }
 
 #[test]
-fn of_vlans(rt: HostRuntime) -> Result<(), Fail> {
+fn a_vlan_is_a_number_from_1_to_4094(rt: HostRuntime) -> Result<(), Fail> {
     let (first, last) = (Vlan::try_new(1)?, Vlan::try_new(4094)?);
-    assert!(rt; last.id().value() == 4094, "the last one");
-    let wrong = (Vlan::try_new(0), Vlan::try_new(4095));
-    assert!(rt;
-        wrong == (Err(VlanError(0)), Err(VlanError(4095))),
-        "0 and 4095"
+    equal!(rt, "the last one, 0 and 4095";
+        last.id().value() => 4094,
+        Vlan::try_new(0) => Err(VlanError(0)),
+        Vlan::try_new(4095) => Err(VlanError(4095)),
     );
     let mut set = VlanSet::new();
     set.insert(first);
-    assert!(rt; set.contains(first) && !set.contains(last), "a set of one");
-    let (access, trunk) = (PortConfig::access(first), PortConfig::trunk());
-    assert!(rt;
-        access.members.contains(first) && access.untagged.contains(first),
-        "an access port"
+    equal!(rt, "a set of one";
+        set.contains(first) => true,
+        set.contains(last) => false,
     );
-    assert!(rt;
-        trunk.members.contains(first) && !trunk.untagged.contains(first),
-        "a trunk"
+    let (access, trunk) = (PortConfig::access(first), PortConfig::trunk());
+    equal!(rt, "an access port";
+        access.members.contains(first) => true,
+        access.untagged.contains(first) => true,
+    );
+    equal!(rt, "a trunk";
+        trunk.members.contains(first) => true,
+        trunk.untagged.contains(first) => false,
     );
     Ok(())
 }

@@ -1,4 +1,5 @@
 //! What a bridge makes of frames one after the other.
+use crate::checks::equal;
 use ether_switch::{Bridge, BridgeKind, Forwarding, PortConfig, StaticEntry, StationTable, Vlan};
 use std::process::Abort;
 use std::test::Fail;
@@ -116,11 +117,11 @@ fn check<R: Abort>(
         Ok(received) => Some(received.decision),
         Err(_) => None,
     };
-    assert!(rt; found == Some(row.wanted), "{}", row.name);
+    equal!(rt, row.name; found => Some(row.wanted));
 }
 
 #[test]
-fn of_stations(rt: HostRuntime) -> Result<(), Fail> {
+fn frames_go_where_their_station_was_seen_last(rt: HostRuntime) -> Result<(), Fail> {
     let vlan = Vlan::try_new(10)?;
     let entries = [StaticEntry {
         vlan,

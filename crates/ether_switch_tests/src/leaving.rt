@@ -1,4 +1,5 @@
 //! Frames that leave a bridge.
+use crate::checks::equal;
 use ether_switch::{BridgeKind, Forwarding, PortConfig, Received, Vlan};
 use etherparse::VlanPcp;
 use std::process::Abort;
@@ -47,11 +48,11 @@ fn check<R: Abort>(
         Some(at) => buffer.get(at..),
         None => None,
     };
-    assert!(rt; found == Some(wanted), "{name}");
+    equal!(rt, name; found => Some(wanted));
 }
 
 #[test]
-fn of_each_form(rt: HostRuntime) -> Result<(), Fail> {
+fn a_frame_leaves_with_or_without_a_tag_as_the_port_sends_it(rt: HostRuntime) -> Result<(), Fail> {
     let vlan = Vlan::try_new(10)?;
     let received = Received {
         kind: BridgeKind::Customer,

@@ -4,6 +4,8 @@
 #[cfg(test)]
 mod arriving;
 #[cfg(test)]
+mod checks;
+#[cfg(test)]
 mod examples;
 #[cfg(test)]
 mod history;

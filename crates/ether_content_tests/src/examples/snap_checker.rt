@@ -34,13 +34,8 @@ static ROWS: [(&str, Start, &[u8], usize, bool); 8] = [
 ];
 
 #[test]
-fn of_a_checker_of_snap_lengths(rt: HostRuntime) {
+fn a_cut_keeps_all_headers_from_their_length_on(rt: HostRuntime) {
     for &(name, start, frame, snap_len, keeps) in &ROWS {
-        equal(
-            &rt,
-            name,
-            &keeps_all_headers(start, frame, snap_len),
-            &keeps,
-        );
+        equal!(rt, name; keeps_all_headers(start, frame, snap_len) => keeps);
     }
 }

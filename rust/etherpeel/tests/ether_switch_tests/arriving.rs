@@ -1,4 +1,5 @@
 //! What a port makes of frames. The answers are those of the standard's clauses.
+use crate::checks::equal;
 use etherpeel::ether_switch::{
     AcceptableFrames, Bridge, BridgeKind, Discarded, PortConfig, StationTable, Vlan, VlanSet,
 };
@@ -128,11 +129,11 @@ fn check<R: Abort>(rt: &R, row: &Row, port: &PortConfig) {
         Ok(received) => Ok((received.vlan.id().value(), received.priority.value())),
         Err(reason) => Err(reason),
     };
-    assert!(found == row.wanted, "{}", row.name);
+    equal!(rt, row.name; found => row.wanted);
 }
 
 #[test]
-fn of_each_form() -> Result<(), Fail> {
+fn each_form_of_frame_gets_its_vlan_or_is_discarded() -> Result<(), Fail> {
     let rt = crate::kit::HostRuntime;
     let mut members = VlanSet::new();
     members.insert(Vlan::try_new(10)?);

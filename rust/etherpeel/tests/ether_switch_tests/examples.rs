@@ -1,4 +1,5 @@
 //! The examples of the documentation.
+use crate::checks::equal;
 use etherpeel::ether_switch::{
     Bridge, BridgeKind, Discarded, Forwarding, PortConfig, Received, StationBucket, StationTable,
     Vlan, VlanError, VlanSet,
@@ -19,13 +20,13 @@ fn bridge() -> Bridge<'static> {
 /// Fails if a frame goes elsewhere.
 fn check<R: Abort>(rt: &R, name: &str, found: Result<Received, Discarded>, wanted: Forwarding) {
     match found {
-        Ok(received) => assert!(received.decision == wanted, "{name}"),
-        Err(_) => panic!("{name}"),
+        Ok(received) => equal!(rt, name; received.decision => wanted),
+        Err(reason) => panic!("{name}: discarded: {reason:?}"),
     }
 }
 
 #[test]
-fn of_a_frame_that_passes() -> Result<(), Fail> {
+fn a_request_leaves_a_trunk_with_its_tag() -> Result<(), Fail> {
     let rt = crate::kit::HostRuntime;
     let (access, trunk) = (PortConfig::access(Vlan::try_new(10)?), PortConfig::trunk());
     let mut table = StationTable::<64>::new();
@@ -33,19 +34,19 @@ fn of_a_frame_that_passes() -> Result<(), Fail> {
     let tagged = *b"\xFF\xFF\xFF\xFF\xFF\xFF\x02\x00\x00\x00\x00\x01\x81\x00\x00\x0A\x08\x06\x00";
     let received = match bridge().receive(&mut table, 0, 1, &access, &buffer[4..]) {
         Ok(received) => received,
-        Err(_) => panic!("a request"),
+        Err(reason) => panic!("a request: discarded: {reason:?}"),
     };
     let at = received.send(2, &trunk, &mut buffer);
-    assert!(
-        received.decision == Forwarding::Flood && at == Some(0),
-        "to all ports"
+    equal!(rt, "to all ports, with a tag";
+        received.decision => Forwarding::Flood,
+        at => Some(0),
+        buffer => tagged,
     );
-    assert!(buffer == tagged, "with a tag");
     Ok(())
 }
 
 #[test]
-fn of_the_ageing_time() -> Result<(), Fail> {
+fn a_station_is_forgotten_after_the_ageing_time() -> Result<(), Fail> {
     let rt = crate::kit::HostRuntime;
     let port = PortConfig::access(Vlan::try_new(10)?);
     let request = b"\xFF\xFF\xFF\xFF\xFF\xFF\x02\x00\x00\x00\x00\x01\x08\x06";
@@ -61,7 +62,7 @@ fn of_the_ageing_time() -> Result<(), Fail> {
 }
 
 #[test]
-fn of_a_table_of_the_callers() -> Result<(), Fail> {
+fn a_table_of_the_caller_learns_stations() -> Result<(), Fail> {
     let rt = crate::kit::HostRuntime;
     let port = PortConfig::access(Vlan::try_new(10)?);
     let request = b"\xFF\xFF\xFF\xFF\xFF\xFF\x02\x00\x00\x00\x00\x01\x08\x06";
@@ -75,7 +76,7 @@ fn of_a_table_of_the_callers() -> Result<(), Fail> {
 }
 
 #[test]
-fn of_a_frame_that_leaves() -> Result<(), Fail> {
+fn a_frame_does_not_leave_by_the_port_it_came_from() -> Result<(), Fail> {
     let rt = crate::kit::HostRuntime;
     let vlan = Vlan::try_new(10)?;
     let port = PortConfig::access(vlan);
@@ -91,33 +92,38 @@ fn of_a_frame_that_leaves() -> Result<(), Fail> {
         *b"____\x02\x00\x00\x00\x00\x01\x02\x00\x00\x00\x00\x02\x81\x00\x00\x0A\x08\x06\x00";
     let back = received.send(1, &port, &mut buffer);
     let sent = received.send(2, &port, &mut buffer);
-    assert!(back == None && sent == Some(8), "by the other port");
     let untagged: &[u8] = b"\x02\x00\x00\x00\x00\x01\x02\x00\x00\x00\x00\x02\x08\x06\x00";
-    assert!(&buffer[8..] == untagged, "without its tag");
+    equal!(rt, "by the other port, without its tag";
+        back => None,
+        sent => Some(8),
+        buffer.get(8..) => Some(untagged),
+    );
     Ok(())
 }
 
 #[test]
-fn of_vlans() -> Result<(), Fail> {
+fn a_vlan_is_a_number_from_1_to_4094() -> Result<(), Fail> {
     let rt = crate::kit::HostRuntime;
     let (first, last) = (Vlan::try_new(1)?, Vlan::try_new(4094)?);
-    assert!(last.id().value() == 4094, "the last one");
-    let wrong = (Vlan::try_new(0), Vlan::try_new(4095));
-    assert!(
-        wrong == (Err(VlanError(0)), Err(VlanError(4095))),
-        "0 and 4095"
+    equal!(rt, "the last one, 0 and 4095";
+        last.id().value() => 4094,
+        Vlan::try_new(0) => Err(VlanError(0)),
+        Vlan::try_new(4095) => Err(VlanError(4095)),
     );
     let mut set = VlanSet::new();
     set.insert(first);
-    assert!(set.contains(first) && !set.contains(last), "a set of one");
-    let (access, trunk) = (PortConfig::access(first), PortConfig::trunk());
-    assert!(
-        access.members.contains(first) && access.untagged.contains(first),
-        "an access port"
+    equal!(rt, "a set of one";
+        set.contains(first) => true,
+        set.contains(last) => false,
     );
-    assert!(
-        trunk.members.contains(first) && !trunk.untagged.contains(first),
-        "a trunk"
+    let (access, trunk) = (PortConfig::access(first), PortConfig::trunk());
+    equal!(rt, "an access port";
+        access.members.contains(first) => true,
+        access.untagged.contains(first) => true,
+    );
+    equal!(rt, "a trunk";
+        trunk.members.contains(first) => true,
+        trunk.untagged.contains(first) => false,
     );
     Ok(())
 }

@@ -1,4 +1,5 @@
 //! What a bridge makes of frames one after the other.
+use crate::checks::equal;
 use etherpeel::ether_switch::{Bridge, BridgeKind, Forwarding, PortConfig, StaticEntry, StationTable, Vlan};
 use crate::kit::Abort;
 use crate::kit::Fail;
@@ -116,11 +117,11 @@ fn check<R: Abort>(
         Ok(received) => Some(received.decision),
         Err(_) => None,
     };
-    assert!(found == Some(row.wanted), "{}", row.name);
+    equal!(rt, row.name; found => Some(row.wanted));
 }
 
 #[test]
-fn of_stations() -> Result<(), Fail> {
+fn frames_go_where_their_station_was_seen_last() -> Result<(), Fail> {
     let rt = crate::kit::HostRuntime;
     let vlan = Vlan::try_new(10)?;
     let entries = [StaticEntry {

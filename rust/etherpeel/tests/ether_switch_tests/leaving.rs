@@ -1,4 +1,5 @@
 //! Frames that leave a bridge.
+use crate::checks::equal;
 use etherpeel::ether_switch::{BridgeKind, Forwarding, PortConfig, Received, Vlan};
 use etherpeel::VlanPcp;
 use crate::kit::Abort;
@@ -47,11 +48,11 @@ fn check<R: Abort>(
         Some(at) => buffer.get(at..),
         None => None,
     };
-    assert!(found == Some(wanted), "{name}");
+    equal!(rt, name; found => Some(wanted));
 }
 
 #[test]
-fn of_each_form() -> Result<(), Fail> {
+fn a_frame_leaves_with_or_without_a_tag_as_the_port_sends_it() -> Result<(), Fail> {
     let rt = crate::kit::HostRuntime;
     let vlan = Vlan::try_new(10)?;
     let received = Received {

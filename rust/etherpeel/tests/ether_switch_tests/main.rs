@@ -8,6 +8,7 @@
 mod kit;
 
 mod arriving;
+mod checks;
 mod examples;
 mod history;
 mod leaving;

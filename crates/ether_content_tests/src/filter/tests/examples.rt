@@ -17,13 +17,13 @@ const PACKET: Packet<'static> = Packet {
     original_len: 64,
 };
 
-static FILTERS: [(&[u8], bool); 2] = [(b"vlan 5 and arp", true), (b"not (vlan 5 or cut)", false)];
+static FILTERS: [(&str, bool); 2] = [("vlan 5 and arp", true), ("not (vlan 5 or cut)", false)];
 
 #[test]
-fn of_filters(rt: HostRuntime) -> Result<(), Fail> {
+fn the_filters_of_the_examples_match_as_documented(rt: HostRuntime) -> Result<(), Fail> {
     for &(text, wanted) in &FILTERS {
-        let filter = Filter::parse(text).ok().ok_or("an expression")?;
-        equal(&rt, "the example", &filter.matches(&PACKET), &wanted);
+        let filter = Filter::parse(text.as_bytes()).ok().ok_or("an expression")?;
+        equal!(rt, text; filter.matches(&PACKET) => wanted);
     }
     Ok(())
 }
@@ -38,49 +38,38 @@ const CUT_IN_TAG: Packet<'static> = Packet {
     original_len: 64,
 };
 
-static DECISIONS: [(&[u8], Decision); 4] = [
-    (b"vlan 5", Decision::Needs(18)),
-    (b"not vlan", Decision::Needs(18)),
-    (b"vlan 5 and greater 100", Decision::Fails),
-    (b"ether broadcast", Decision::Matches),
+static DECISIONS: [(&str, Decision); 4] = [
+    ("vlan 5", Decision::Needs(18)),
+    ("not vlan", Decision::Needs(18)),
+    ("vlan 5 and greater 100", Decision::Fails),
+    ("ether broadcast", Decision::Matches),
 ];
 
 #[test]
-fn of_decisions(rt: HostRuntime) -> Result<(), Fail> {
+fn a_packet_cut_in_its_tag_is_decided_as_documented(rt: HostRuntime) -> Result<(), Fail> {
     for &(text, wanted) in &DECISIONS {
-        let filter = Filter::parse(text).ok().ok_or("an expression")?;
-        equal(&rt, "the example", &filter.decide(&CUT_IN_TAG), &wanted);
+        let filter = Filter::parse(text.as_bytes()).ok().ok_or("an expression")?;
+        equal!(rt, text; filter.decide(&CUT_IN_TAG) => wanted);
     }
     Ok(())
 }
 
 #[test]
-fn of_errors(rt: HostRuntime) -> Result<(), Fail> {
+fn a_filter_error_names_its_place(rt: HostRuntime) -> Result<(), Fail> {
     let error = Filter::parse(b"vlan 4096").err().ok_or("an error")?;
     let shown = format!(in rt.alloc(); "{error}")?;
-    equal(
-        &rt,
-        "the example",
-        &(error.offset, error.kind, shown.as_str()),
-        &(
-            5,
-            FilterErrorKind::ExpectedNumber(4095),
-            "At byte 5: expected a number up to 4095.",
-        ),
+    equal!(rt, "the example";
+        error.offset => 5,
+        error.kind => FilterErrorKind::ExpectedNumber(4095),
+        shown.as_str() => "At byte 5: expected a number up to 4095.",
     );
     Ok(())
 }
 
 #[test]
-fn of_numbers(rt: HostRuntime) {
-    equal(
-        &rt,
-        "the example",
-        &[
-            number_of(b"0x88A8"),
-            number_of(b"4294967296"),
-            number_of(b"07"),
-        ],
-        &[Some(Some(34984)), Some(None), None],
+fn a_number_is_decimal_or_hexadecimal(rt: HostRuntime) {
+    equal!(rt, "the example";
+        [number_of(b"0x88A8"), number_of(b"4294967296"), number_of(b"07")]
+            => [Some(Some(34984)), Some(None), None],
     );
 }

@@ -12,55 +12,50 @@ fn refusal(text: &[u8]) -> Option<(usize, FilterErrorKind)> {
 
 /// A text, and where and why it is refused.
 #[rattlefmt::skip]
-static TEXTS: [(&[u8], usize, FilterErrorKind); 29] = [
-    (b"", 0, FilterErrorKind::ExpectedOperand),
-    (b"  ", 2, FilterErrorKind::ExpectedOperand),
-    (b"arp and", 7, FilterErrorKind::ExpectedOperand),
-    (b"and arp", 0, FilterErrorKind::ExpectedOperand),
-    (b"arp foo", 4, FilterErrorKind::ExpectedOperator),
-    (b"foo", 0, FilterErrorKind::ExpectedOperand),
-    (b"vlan 4096", 5, FilterErrorKind::ExpectedNumber(4095)),
-    (b"vlan 010", 5, FilterErrorKind::ExpectedVlanIdOrOperator),
-    (b"vlan abc", 5, FilterErrorKind::ExpectedVlanIdOrOperator),
-    (b"arp or vlan not 5", 12, FilterErrorKind::ExpectedVlanIdOrOperator),
-    (b"vlan 5 6", 7, FilterErrorKind::ExpectedOperator),
-    (b"outer arp", 6, FilterErrorKind::ExpectedVlan),
-    (b"inner vlan", 10, FilterErrorKind::ExpectedNumber(4095)),
-    (b"ether", 5, FilterErrorKind::ExpectedEtherWord),
-    (b"ether proto 65536", 12, FilterErrorKind::ExpectedNumber(65535)),
-    (b"ether src 02:00:5e:10:00", 10, FilterErrorKind::ExpectedAddress),
-    (b"ether src 02005e1000010", 10, FilterErrorKind::ExpectedAddress),
-    (b"ether dst arp", 10, FilterErrorKind::ExpectedAddress),
-    (b"less arp", 5, FilterErrorKind::ExpectedNumber(4294967295)),
-    (b"less 4294967296", 5, FilterErrorKind::ExpectedNumber(4294967295)),
-    (b"arp and ip or vlan", 11, FilterErrorKind::MixedOperators),
-    (b"arp or (ip and vlan or cut)", 20, FilterErrorKind::MixedOperators),
-    (b"arp)", 3, FilterErrorKind::Unopened),
-    (b"(arp", 4, FilterErrorKind::Unclosed),
-    (b"(vlan", 5, FilterErrorKind::Unclosed),
-    (b"()", 1, FilterErrorKind::ExpectedOperand),
-    (b"arp &&& ip", 4, FilterErrorKind::ExpectedOperator),
-    (b"not", 3, FilterErrorKind::ExpectedOperand),
-    (b"(arp) ip", 6, FilterErrorKind::ExpectedOperator),
+static TEXTS: [(&str, usize, FilterErrorKind); 29] = [
+    ("", 0, FilterErrorKind::ExpectedOperand),
+    ("  ", 2, FilterErrorKind::ExpectedOperand),
+    ("arp and", 7, FilterErrorKind::ExpectedOperand),
+    ("and arp", 0, FilterErrorKind::ExpectedOperand),
+    ("arp foo", 4, FilterErrorKind::ExpectedOperator),
+    ("foo", 0, FilterErrorKind::ExpectedOperand),
+    ("vlan 4096", 5, FilterErrorKind::ExpectedNumber(4095)),
+    ("vlan 010", 5, FilterErrorKind::ExpectedVlanIdOrOperator),
+    ("vlan abc", 5, FilterErrorKind::ExpectedVlanIdOrOperator),
+    ("arp or vlan not 5", 12, FilterErrorKind::ExpectedVlanIdOrOperator),
+    ("vlan 5 6", 7, FilterErrorKind::ExpectedOperator),
+    ("outer arp", 6, FilterErrorKind::ExpectedVlan),
+    ("inner vlan", 10, FilterErrorKind::ExpectedNumber(4095)),
+    ("ether", 5, FilterErrorKind::ExpectedEtherWord),
+    ("ether proto 65536", 12, FilterErrorKind::ExpectedNumber(65535)),
+    ("ether src 02:00:5e:10:00", 10, FilterErrorKind::ExpectedAddress),
+    ("ether src 02005e1000010", 10, FilterErrorKind::ExpectedAddress),
+    ("ether dst arp", 10, FilterErrorKind::ExpectedAddress),
+    ("less arp", 5, FilterErrorKind::ExpectedNumber(4294967295)),
+    ("less 4294967296", 5, FilterErrorKind::ExpectedNumber(4294967295)),
+    ("arp and ip or vlan", 11, FilterErrorKind::MixedOperators),
+    ("arp or (ip and vlan or cut)", 20, FilterErrorKind::MixedOperators),
+    ("arp)", 3, FilterErrorKind::Unopened),
+    ("(arp", 4, FilterErrorKind::Unclosed),
+    ("(vlan", 5, FilterErrorKind::Unclosed),
+    ("()", 1, FilterErrorKind::ExpectedOperand),
+    ("arp &&& ip", 4, FilterErrorKind::ExpectedOperator),
+    ("not", 3, FilterErrorKind::ExpectedOperand),
+    ("(arp) ip", 6, FilterErrorKind::ExpectedOperator),
 ];
 
 #[test]
-fn at_the_first_word_that_fits_nothing(rt: HostRuntime) {
+fn a_text_is_refused_at_the_first_word_that_does_not_fit(rt: HostRuntime) {
     for &(text, offset, kind) in &TEXTS {
-        assert!(rt; refusal(text) == Some((offset, kind)), "{text:?}");
+        equal!(rt, text; refusal(text.as_bytes()) => Some((offset, kind)));
     }
 }
 
 #[test]
-fn of_a_text_with_too_many_words(rt: HostRuntime) {
+fn the_193rd_word_is_too_many(rt: HostRuntime) {
     let text = [b'('; 193];
-    equal(
-        &rt,
-        "192 words, and one more",
-        &[refusal(&text[..192]), refusal(&text)],
-        &[
-            Some((192, FilterErrorKind::ExpectedOperand)),
-            Some((192, FilterErrorKind::TooLong)),
-        ],
+    equal!(rt, "192 words, and one more";
+        refusal(&text[..192]) => Some((192, FilterErrorKind::ExpectedOperand)),
+        refusal(&text) => Some((192, FilterErrorKind::TooLong)),
     );
 }

@@ -127,39 +127,26 @@ fn is_left(rt: &impl Abort, row: &Left) {
     let fault = row.fault.map(|(offset, required_len, len, layer)| {
         short(offset, required_len, len, layer)
     });
-    equal(
-        rt,
-        row.name,
-        &(
-            numbers.get(..packet.vlan_ids().len()),
-            Some(packet.rest),
-            packet.rest_offset,
-            packet.rest_kind,
-            packet.is_complete(),
-            [packet.min_snap_len(), min_snap_len(row.start, row.frame)],
-            packet.fault,
-        ),
-        &(
-            Some(row.ids),
-            row.frame.get(start..end),
-            start,
-            rest_kind(&row.kind),
-            row.fault.is_none(),
-            [row.least, least_of_all],
-            fault,
-        ),
+    equal!(rt, row.name;
+        numbers.get(..packet.vlan_ids().len()) => Some(row.ids),
+        Some(packet.rest) => row.frame.get(start..end),
+        packet.rest_offset => start,
+        packet.rest_kind => rest_kind(&row.kind),
+        packet.is_complete() => row.fault.is_none(),
+        [packet.min_snap_len(), min_snap_len(row.start, row.frame)] => [row.least, least_of_all],
+        packet.fault => fault,
     );
 }
 
 #[test]
-fn what_is_left(rt: HostRuntime) {
+fn a_packet_has_its_rest_its_fault_and_its_least_cut(rt: HostRuntime) {
     for row in &ROWS {
         is_left(&rt, row);
     }
 }
 
 #[test]
-fn headers_as_views(rt: HostRuntime) -> Result<(), Fail> {
+fn a_packet_shows_link_tags_and_arp_packet(rt: HostRuntime) -> Result<(), Fail> {
     let frame = TWICE_TAGGED_ARP_REQUEST;
     let packet = PacketSlice::from_slice(Start::Ethernet2, &frame);
     let tags = DoubleVlanSlice {
@@ -168,26 +155,17 @@ fn headers_as_views(rt: HostRuntime) -> Result<(), Fail> {
     };
     let link = Ethernet2Slice::from_slice_without_fcs(&frame)?;
     let arp = ArpPacketSlice::from_slice(&frame[22..])?;
-    equal(
-        &rt,
-        "a frame with two tags",
-        &(
-            (packet.link(), packet.vlan()),
-            (packet.arp(), packet.arp_offset()),
-        ),
-        &(
-            (
-                Some(LinkSlice::Ethernet2(link)),
-                Some(VlanSlice::DoubleVlan(tags)),
-            ),
-            (Some(arp), Some(22)),
-        ),
+    equal!(rt, "a frame with two tags";
+        packet.link() => Some(LinkSlice::Ethernet2(link)),
+        packet.vlan() => Some(VlanSlice::DoubleVlan(tags)),
+        packet.arp() => Some(arp),
+        packet.arp_offset() => Some(22),
     );
     Ok(())
 }
 
 #[test]
-fn sec_tags_as_views(rt: HostRuntime) -> Result<(), Fail> {
+fn a_packet_shows_its_sec_tags(rt: HostRuntime) -> Result<(), Fail> {
     let packet = PacketSlice::from_slice(MACSEC, &TAG_IN_SEC_TAG);
     let tag = SingleVlanSlice::from_slice(&TAG_IN_SEC_TAG[8..12])?;
     let first = PacketExt {
@@ -203,50 +181,30 @@ fn sec_tags_as_views(rt: HostRuntime) -> Result<(), Fail> {
         .macsec()
         .map(|tag| (tag.header.packet_nr(), tag.header.sci()));
     let exts = packet.link_exts();
-    equal(
-        &rt,
-        "a tag in a SecTag, and integrity protection",
-        &(
-            (exts.len(), exts.first(), exts.last(), packet.vlan()),
-            (fields, integrity.vlan()),
-        ),
-        &(
-            (
-                2,
-                Some(&first),
-                Some(&last),
-                Some(VlanSlice::SingleVlan(tag)),
-            ),
-            (Some((0xB2C2_8465, Some(0x1215_3524_C089_5E81))), None),
-        ),
+    equal!(rt, "a tag in a SecTag, and integrity protection";
+        exts.len() => 2,
+        exts.first() => Some(&first),
+        exts.last() => Some(&last),
+        packet.vlan() => Some(VlanSlice::SingleVlan(tag)),
+        fields => Some((0xB2C2_8465, Some(0x1215_3524_C089_5E81))),
+        integrity.vlan() => None,
     );
     Ok(())
 }
 
 #[test]
-fn links_as_views(rt: HostRuntime) -> Result<(), Fail> {
+fn a_packet_shows_its_link_of_either_kind(rt: HostRuntime) -> Result<(), Fail> {
     let checked = PacketSlice::from_slice(Start::Ethernet2Fcs, &CHECKED);
     let frame = Ethernet2Slice::from_slice_with_crc32_fcs(&CHECKED)?;
     let cooked = PacketSlice::from_slice(Start::LinuxSll, &COOKED_ARP_REQUEST);
     let capture = LinuxSllSlice::from_slice(&COOKED_ARP_REQUEST)?;
     let payload = PacketSlice::from_slice(Start::EtherType(EtherType::IPV4), &[0x45]);
-    equal(
-        &rt,
-        "a check sequence, a cooked capture, and no link",
-        &(
-            [checked.link(), cooked.link(), payload.link()],
-            checked.rest,
-            (cooked.link_exts().is_empty(), cooked.macsec()),
-        ),
-        &(
-            [
-                Some(LinkSlice::Ethernet2(frame)),
-                Some(LinkSlice::LinuxSll(capture)),
-                None,
-            ],
-            [0x45].as_slice(),
-            (true, None),
-        ),
+    equal!(rt, "a check sequence, a cooked capture, and no link";
+        [checked.link(), cooked.link(), payload.link()]
+            => [Some(LinkSlice::Ethernet2(frame)), Some(LinkSlice::LinuxSll(capture)), None],
+        checked.rest => [0x45].as_slice(),
+        cooked.link_exts().is_empty() => true,
+        cooked.macsec() => None,
     );
     Ok(())
 }
@@ -282,33 +240,26 @@ static PAYLOADS: [Payload; 4] = [
 ];
 
 #[test]
-fn payloads_with_their_types(rt: HostRuntime) {
+fn a_payload_has_its_ether_type_and_the_source_of_its_length(rt: HostRuntime) {
     for &(name, start, frame, wanted) in &PAYLOADS {
         let payload = wanted.map(|(ether_type, len_source, from, to)| EtherPayloadSlice {
             ether_type,
             len_source,
             payload: frame.get(from..to).unwrap_or(&[]),
         });
-        equal(
-            &rt,
-            name,
-            &PacketSlice::from_slice(start, frame).ether_payload(),
-            &payload,
-        );
+        equal!(rt, name; PacketSlice::from_slice(start, frame).ether_payload() => payload);
     }
 }
 
 /// The bytes of a tag are shown with the frame alone.
 #[test]
-fn shown_by_debug(rt: HostRuntime) -> Result<(), Fail> {
+fn debug_shows_the_bytes_of_a_packet_once(rt: HostRuntime) -> Result<(), Fail> {
     let tag = [0x00, 0x0A, 0x08, 0x00, 0x45];
     let packet = PacketSlice::from_slice(Start::EtherType(EtherType::PROVIDER_BRIDGING), &tag);
     let shown = format!(in rt.alloc(); "{packet:?}")?;
-    equal(
-        &rt,
-        "a tag",
-        &shown.as_str(),
-        &"PacketSlice { read: PacketUnits { frame: [0, 10, 8, 0, 69], link: Missing, exts: ExtPlaces { first: \
+    equal!(rt, "a tag";
+        shown.as_str()
+            => "PacketSlice { read: PacketUnits { frame: [0, 10, 8, 0, 69], link: Missing, exts: ExtPlaces { first: \
 Some(ExtPlace { kind: Vlan, place: FrameWindow { start: 0, len: 5 } }), second: None, third: None }, arp: None }, \
 rest: [69], rest_offset: 4, rest_kind: EtherType(0x0800 (Internet Protocol version 4 (IPv4))), fault: None }",
     );

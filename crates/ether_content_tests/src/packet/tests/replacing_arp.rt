@@ -93,7 +93,7 @@ static FRAMES: [(&str, Start, &[u8], usize, Result<usize, ReplaceError>); 7] = [
 ];
 
 #[test]
-fn by_a_reply(rt: HostRuntime) {
+fn a_request_becomes_a_reply_or_is_unchanged(rt: HostRuntime) {
     let packet = REPLY.to_arp_packet();
     for (name, start, frame, len, wanted) in &FRAMES {
         let (mut changed, mut after) = (filled(frame), filled(frame));
@@ -102,27 +102,29 @@ fn by_a_reply(rt: HostRuntime) {
         }
         let replaced = replace_arp(*start, &mut changed[..(*len).min(96)], &packet);
         let refused = wanted.as_ref().err();
-        equal(
-            &rt,
-            name,
-            &(replaced.as_ref().err(), changed),
-            &(refused, after),
+        equal!(rt, name;
+            replaced.as_ref().err() => refused,
+            changed => after,
         );
     }
+}
+
+#[test]
+fn a_reply_in_the_place_of_a_request_is_read_again(rt: HostRuntime) {
     let mut frame = TWICE_TAGGED_ARP_REQUEST;
-    let replaced = replace_arp(ETH, &mut frame, &packet);
+    let replaced = replace_arp(ETH, &mut frame, &REPLY.to_arp_packet());
     let read = PacketSlice::from_slice(ETH, &frame);
     let arp = read.arp().map(|arp| arp.slice());
-    equal(
-        &rt,
-        "a reply that is read again",
-        &(replaced, read.link_ext_count(), read.is_complete(), arp),
-        &(Ok(()), 2, true, Some(REPLY_BYTES.as_slice())),
+    equal!(rt, "a reply that is read again";
+        replaced => Ok(()),
+        read.link_ext_count() => 2,
+        read.is_complete() => true,
+        arp => Some(REPLY_BYTES.as_slice()),
     );
 }
 
 #[test]
-fn by_addresses_of_other_sizes(rt: HostRuntime) -> Result<(), Fail> {
+fn addresses_of_other_sizes_replace_as_many_bytes(rt: HostRuntime) -> Result<(), Fail> {
     let mut bytes = [
         0x00, 0x07, 0x08, 0x00, 0x01, 0x02, 0x00, 0x01, 0x11, 0x22, 0x33, 0x00, 0x44, 0x55, 0xEE,
     ];
@@ -139,11 +141,9 @@ fn by_addresses_of_other_sizes(rt: HostRuntime) -> Result<(), Fail> {
     let wanted = [
         0x00, 0x07, 0x08, 0x00, 0x01, 0x02, 0x00, 0x02, 0x66, 0x44, 0x55, 0x11, 0x22, 0x33, 0xEE,
     ];
-    equal(
-        &rt,
-        "as short as those of the frame",
-        &(replaced, bytes),
-        &(Ok(()), wanted),
+    equal!(rt, "as short as those of the frame";
+        replaced => Ok(()),
+        bytes => wanted,
     );
     Ok(())
 }
@@ -171,16 +171,14 @@ static LENGTHS: [(&str, &[u8], &[u8], Difference); 3] = [
 ];
 
 #[test]
-fn by_longer_addresses(rt: HostRuntime) -> Result<(), Fail> {
+fn longer_addresses_are_refused(rt: HostRuntime) -> Result<(), Fail> {
     for &(name, hardware, protocol, difference) in &LENGTHS {
         let packet = between(hardware, protocol)?;
         let mut frame = PADDED_ARP;
         let replaced = replace_arp(Start::Ethernet2, &mut frame, &packet);
-        equal(
-            &rt,
-            name,
-            &(replaced, frame),
-            &(Err(ReplaceError::SaysOther(difference)), PADDED_ARP),
+        equal!(rt, name;
+            replaced => Err(ReplaceError::SaysOther(difference)),
+            frame => PADDED_ARP,
         );
     }
     Ok(())

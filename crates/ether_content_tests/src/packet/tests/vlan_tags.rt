@@ -103,7 +103,7 @@ static BOTH_WAYS: [BothWays; 4] = [
 
 /// The tag of one frame is taken off, which gives the other, and put in again.
 #[test]
-fn off_and_on(rt: HostRuntime) {
+fn popping_and_pushing_a_tag_undo_one_another(rt: HostRuntime) {
     for &(name, start, tagged, untagged, tpid, tag) in &BOTH_WAYS {
         let mut buffer = filled(tagged);
         let len = tagged.len().min(96);
@@ -113,14 +113,15 @@ fn off_and_on(rt: HostRuntime) {
             ..tag
         };
         let popped = pop_vlan(start, &mut buffer[..len]);
-        equal(
-            &rt,
-            name,
-            &(popped, &buffer[len.min(4)..len]),
-            &(Ok(tag), untagged),
+        equal!(rt, name;
+            popped => Ok(tag),
+            buffer.get(len.min(4)..len) => Some(untagged),
         );
         let pushed = push_vlan(start, &mut buffer[..len], ignored, tpid);
-        equal(&rt, name, &(pushed, &buffer[..len]), &(Ok(()), tagged));
+        equal!(rt, name;
+            pushed => Ok(()),
+            buffer.get(..len) => Some(tagged),
+        );
     }
 }
 
@@ -142,15 +143,13 @@ static KEPT: [(&str, Start, &[u8], usize, TagError); 6] = [
 
 /// The frame stays as it was.
 #[test]
-fn none_off(rt: HostRuntime) {
+fn a_frame_without_a_tag_to_pop_is_unchanged(rt: HostRuntime) {
     for (name, start, frame, len, error) in &KEPT {
         let mut buffer = filled(frame);
         let found = pop_vlan(*start, &mut buffer[..(*len).min(96)]).err();
-        equal(
-            &rt,
-            name,
-            &(found.as_ref(), buffer),
-            &(Some(error), filled(frame)),
+        equal!(rt, name;
+            found.as_ref() => Some(error),
+            buffer => filled(frame),
         );
     }
 }
@@ -182,16 +181,14 @@ static FULL: [(&str, Start, &[u8], usize, EtherType, TagError); 5] = [
 
 /// The buffer stays as it was.
 #[test]
-fn none_on(rt: HostRuntime) {
+fn a_buffer_that_no_tag_is_pushed_to_is_unchanged(rt: HostRuntime) {
     for (name, start, bytes, len, tpid, error) in &FULL {
         let mut buffer = filled(bytes);
         let tag = SingleVlanHeader::default();
         let found = push_vlan(*start, &mut buffer[..(*len).min(96)], tag, *tpid).err();
-        equal(
-            &rt,
-            name,
-            &(found.as_ref(), buffer),
-            &(Some(error), filled(bytes)),
+        equal!(rt, name;
+            found.as_ref() => Some(error),
+            buffer => filled(bytes),
         );
     }
 }
@@ -337,7 +334,7 @@ static SETS: [Set; 15] = [
 ];
 
 #[test]
-fn fields_at_an_index(rt: HostRuntime) -> Result<(), Fail> {
+fn the_fields_of_the_tag_at_an_index_are_set_alone(rt: HostRuntime) -> Result<(), Fail> {
     let (id, pcp) = (VlanId::try_new(0xABC)?, VlanPcp::try_new(7)?);
     for (name, start, frame, index, change, wanted) in &SETS {
         let (mut changed, mut after) = (filled(frame), filled(frame));
@@ -351,7 +348,10 @@ fn fields_at_an_index(rt: HostRuntime) -> Result<(), Fail> {
             put(&mut after, *place, bytes);
         }
         let refused = wanted.as_ref().err();
-        equal(&rt, name, &(set.as_ref().err(), changed), &(refused, after));
+        equal!(rt, name;
+            set.as_ref().err() => refused,
+            changed => after,
+        );
     }
     Ok(())
 }
@@ -402,7 +402,7 @@ static FOUND: [Found; 8] = [
 ];
 
 #[test]
-fn tags_with_an_identifier(rt: HostRuntime) -> Result<(), Fail> {
+fn the_first_tag_with_an_identifier_is_found(rt: HostRuntime) -> Result<(), Fail> {
     let to = VlanId::try_new(0xABC)?;
     for &(name, start, frame, from, wanted) in &FOUND {
         let (mut changed, mut after) = (filled(frame), filled(frame));
@@ -417,7 +417,10 @@ fn tags_with_an_identifier(rt: HostRuntime) -> Result<(), Fail> {
             put(&mut after, place, bytes);
             index = Some(at);
         }
-        equal(&rt, name, &(found, changed), &([index; 2], after));
+        equal!(rt, name;
+            found => [index; 2],
+            changed => after,
+        );
     }
     Ok(())
 }
@@ -447,10 +450,10 @@ static TEXTS: [(TagError, &str); 8] = [
 ];
 
 #[test]
-fn texts(rt: HostRuntime) -> Result<(), AllocError> {
+fn a_tag_error_names_the_cause(rt: HostRuntime) -> Result<(), AllocError> {
     for (error, text) in &TEXTS {
         let shown = format!(in rt.alloc(); "{error}")?;
-        equal(&rt, text, &shown.as_str(), text);
+        equal!(rt, text; shown.as_str() => *text);
     }
     Ok(())
 }

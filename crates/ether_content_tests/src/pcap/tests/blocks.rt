@@ -28,7 +28,7 @@ const BLOCKS: [(usize, u32, usize); 5] = [
 
 /// Each block is cut at each of its bytes.
 #[test]
-fn whole_and_cut(rt: HostRuntime) {
+fn a_cut_block_names_the_missing_bytes(rt: HostRuntime) {
     for (name, order, file) in FILES {
         for (start, block_type, end) in BLOCKS {
             for to in start..=end {
@@ -45,105 +45,72 @@ fn whole_and_cut(rt: HostRuntime) {
                         block.block_len(),
                     ))
                 });
-                equal(&rt, name, &found, &Some(wanted));
+                equal!(rt, name; found => Some(wanted));
             }
         }
     }
 }
 
 #[test]
-fn bodies(rt: HostRuntime) -> Result<(), Fail> {
+fn bodies_have_the_fields_of_their_bytes(rt: HostRuntime) -> Result<(), Fail> {
     for (name, order, file) in FILES {
         let interface = InterfaceDescription::from_body(order, &file[36..64])?;
-        equal(
-            &rt,
-            name,
-            &(interface.link_type, interface.snap_len, interface.options),
-            &(LinkType::ETHERNET, 39, &file[44..64]),
+        equal!(rt, name;
+            interface.link_type => LinkType::ETHERNET,
+            interface.snap_len => 39,
+            interface.options => &file[44..64],
         );
         let packet = EnhancedPacket::from_body(order, &file[92..128])?;
-        equal(
-            &rt,
-            name,
-            &(
-                packet.interface,
-                packet.time,
-                packet.original_len,
-                packet.packet,
-            ),
-            &(0, 1_700_000_000_123_456_789, 60, &file[112..128]),
+        equal!(rt, name;
+            packet.interface => 0,
+            packet.time => 1_700_000_000_123_456_789,
+            packet.original_len => 60,
+            packet.packet => &file[112..128],
         );
         let simple = SimplePacket::from_body(order, interface.snap_len, &file[140..184])?;
-        equal(
-            &rt,
-            name,
-            &(simple.original_len, simple.packet),
-            &(42, &file[144..183]),
+        equal!(rt, name;
+            simple.original_len => 42,
+            simple.packet => &file[144..183],
         );
     }
     Ok(())
 }
 
 #[test]
-fn simple_packets_that_are_cut(rt: HostRuntime) {
+fn a_cut_simple_packet_names_the_missing_bytes(rt: HostRuntime) {
     for len in 0..43 {
         let found = SimplePacket::from_body(ByteOrder::BigEndian, 39, &BIG[140..140 + len]);
         let required_len = if len < 4 { 4 } else { 43 };
-        equal(
-            &rt,
-            "a simple packet",
-            &found,
-            &Err(BodyError::Len { required_len, len }),
-        );
+        equal!(rt, "a simple packet"; found => Err(BodyError::Len { required_len, len }));
     }
 }
 
 #[test]
-fn enhanced_packets_that_are_cut(rt: HostRuntime) {
+fn a_cut_enhanced_packet_names_the_missing_bytes(rt: HostRuntime) {
     for len in 0..36 {
         let found = EnhancedPacket::from_body(ByteOrder::BigEndian, &BIG[92..92 + len]);
         let required_len = if len < 20 { 20 } else { 36 };
-        equal(
-            &rt,
-            "an enhanced packet",
-            &found,
-            &Err(BodyError::Len { required_len, len }),
-        );
+        equal!(rt, "an enhanced packet"; found => Err(BodyError::Len { required_len, len }));
     }
 }
 
 #[test]
-fn interfaces_that_are_cut(rt: HostRuntime) {
+fn a_cut_interface_names_the_missing_bytes(rt: HostRuntime) {
     for len in 0..8 {
         let found = InterfaceDescription::from_body(ByteOrder::BigEndian, &BIG[36..36 + len]);
-        equal(
-            &rt,
-            "an interface",
-            &found,
-            &Err(BodyError::Len {
-                required_len: 8,
-                len,
-            }),
-        );
+        equal!(rt, "an interface"; found => Err(BodyError::Len { required_len: 8, len }));
     }
 }
 
 #[test]
-fn bodies_that_are_too_long(rt: HostRuntime) {
+fn a_body_with_too_many_captured_bytes_is_refused(rt: HostRuntime) {
     let mut file = BIG;
     file[105] = 0x04;
     let order = ByteOrder::BigEndian;
-    equal(
-        &rt,
-        "too many bytes, and one byte too many",
-        &(
-            EnhancedPacket::from_body(order, &file[92..128]),
-            SimplePacket::from_body(order, 0, &[0x00, 0x04, 0x00, 0x01]),
-        ),
-        &(
-            Err(BodyError::CapturedLen(262_160)),
-            Err(BodyError::CapturedLen(262_145)),
-        ),
+    equal!(rt, "too many bytes, and one byte too many";
+        EnhancedPacket::from_body(order, &file[92..128]) => Err(BodyError::CapturedLen(262_160)),
+        SimplePacket::from_body(order, 0, &[0x00, 0x04, 0x00, 0x01])
+            => Err(BodyError::CapturedLen(262_145)),
     );
 }
 
@@ -156,11 +123,11 @@ static SNAP_LENS: [(&str, u32); 4] = [
 ];
 
 #[test]
-fn simple_packets_that_are_not_cut(rt: HostRuntime) -> Result<(), Fail> {
+fn a_snap_length_that_cuts_nothing_leaves_the_packet_whole(rt: HostRuntime) -> Result<(), Fail> {
     for &(name, snap_len) in &SNAP_LENS {
         let bytes = [0, 0, 0, 3, 1, 2, 3, 0];
         let found = SimplePacket::from_body(ByteOrder::BigEndian, snap_len, &bytes)?;
-        equal(&rt, name, &found.packet, &[1, 2, 3].as_slice());
+        equal!(rt, name; found.packet => [1, 2, 3].as_slice());
     }
     Ok(())
 }
@@ -187,33 +154,30 @@ static TOTAL_LENS: [(&str, u32, BlockError); 10] = [
 ];
 
 #[test]
-fn lengths_that_no_block_has(rt: HostRuntime) {
+fn a_length_that_no_block_has_is_refused(rt: HostRuntime) {
     for (name, total_len, error) in &TOTAL_LENS {
         let [a, b, c, d] = total_len.to_be_bytes();
         let bytes = [0, 0, 0, 1, a, b, c, d, 0, 0, 0, 0];
         let found = PcapngBlock::from_slice(ByteOrder::BigEndian, &bytes).err();
-        equal(&rt, name, &found.as_ref(), &Some(error));
+        equal!(rt, name; found.as_ref() => Some(error));
     }
 }
 
 #[test]
-fn another_length_at_the_end(rt: HostRuntime) {
+fn a_block_with_another_length_at_its_end_is_refused(rt: HostRuntime) {
     let mut file = BIG;
     file[67] = 44;
     let error = BlockError::Trailer {
         total_len: 40,
         trailer: 44,
     };
-    equal(
-        &rt,
-        "44 in the place of 40",
-        &PcapngBlock::from_slice(ByteOrder::BigEndian, &file[28..]),
-        &Err(error),
+    equal!(rt, "44 in the place of 40";
+        PcapngBlock::from_slice(ByteOrder::BigEndian, &file[28..]) => Err(error),
     );
 }
 
 #[test]
-fn section_headers(rt: HostRuntime) {
+fn a_section_header_decides_the_byte_order(rt: HostRuntime) {
     for (name, order, file) in FILES {
         for len in 0..29 {
             let wanted = if len < 12 {
@@ -233,7 +197,7 @@ fn section_headers(rt: HostRuntime) {
                 section.byte_order,
                 section.block.block_len(),
             ));
-            equal(&rt, name, &found, &wanted);
+            equal!(rt, name; found => wanted);
         }
     }
 }
@@ -294,11 +258,11 @@ static REFUSED: [(&str, usize, &[u8], SectionError); 8] = [
 ];
 
 #[test]
-fn refused_section_headers(rt: HostRuntime) {
+fn a_refused_section_header_names_the_cause(rt: HostRuntime) {
     for (name, place, bytes, error) in &REFUSED {
         let mut file = BIG;
         put(&mut file, *place, bytes);
         let found = SectionHeader::from_slice(&file).err();
-        equal(&rt, name, &found.as_ref(), &Some(error));
+        equal!(rt, name; found.as_ref() => Some(error));
     }
 }

@@ -272,7 +272,7 @@ fn put_unit(target: &mut [u8], unit: &EditedUnit<'_>) -> usize {
 }
 
 #[test]
-fn of_packets(rt: HostRuntime) {
+fn an_edited_packet_stays_in_its_unit(rt: HostRuntime) {
     for (name, file, unit, packet, original_len, wanted) in ROWS {
         let mut buffer = [0xFF; 64];
         let found = match reader_after(file).edit_unit(unit, packet, *original_len) {
@@ -282,6 +282,6 @@ fn of_packets(rt: HostRuntime) {
             }
             None => None,
         };
-        equal(&rt, name, &found, wanted);
+        equal!(rt, name; found => *wanted);
     }
 }

@@ -52,7 +52,7 @@ static OPTIONS: [Row; 11] = [
 ];
 
 #[test]
-fn options(rt: HostRuntime) {
+fn options_give_check_sequence_and_resolution(rt: HostRuntime) {
     for &(name, order, bytes, from, to, fcs_len, resolution) in &OPTIONS {
         let interface = InterfaceDescription {
             byte_order: order,
@@ -60,18 +60,15 @@ fn options(rt: HostRuntime) {
             snap_len: 0,
             options: bytes.get(from..to).unwrap_or(&[]),
         };
-        equal(
-            &rt,
-            name,
-            &[interface.fcs_len(), interface.time_resolution()],
-            &[fcs_len, resolution],
+        equal!(rt, name;
+            [interface.fcs_len(), interface.time_resolution()] => [fcs_len, resolution],
         );
     }
 }
 
 /// The second option is read from 13 bytes on, without its padding. The first one is read from 5 bytes on.
 #[test]
-fn options_cut_at_each_byte(rt: HostRuntime) {
+fn an_option_is_read_once_its_value_is_whole(rt: HostRuntime) {
     let options = [
         0x00, 0x02, 0x00, 0x01, b'e', 0x00, 0x00, 0x00, //
         0x00, 0x0D, 0x00, 0x01, 0x04, 0x00, 0x00, 0x00, //
@@ -85,11 +82,9 @@ fn options_cut_at_each_byte(rt: HostRuntime) {
         };
         let fcs_len = if len < 13 { None } else { Some(4) };
         let name = if len < 5 { None } else { Some(b"e".as_slice()) };
-        equal(
-            &rt,
-            "cut options",
-            &(interface.fcs_len(), interface.option(2)),
-            &(fcs_len, name),
+        equal!(rt, "cut options";
+            interface.fcs_len() => fcs_len,
+            interface.option(2) => name,
         );
     }
 }

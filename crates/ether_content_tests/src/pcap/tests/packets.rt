@@ -14,7 +14,7 @@ static CAPTURES: [(&str, &[u8], &[(usize, usize)]); 5] = [
 ];
 
 #[test]
-fn of_whole_files(rt: HostRuntime) {
+fn all_packets_of_a_whole_file_are_read(rt: HostRuntime) {
     for (name, file, places) in &CAPTURES {
         let mut packets = CapturePackets::from_slice(file);
         for (start, end) in *places {
@@ -22,15 +22,18 @@ fn of_whole_files(rt: HostRuntime) {
                 Some(Ok(found)) => Some(found.packet),
                 _ => None,
             };
-            equal(&rt, name, &found, &file.get(*start..*end));
+            equal!(rt, name; found => file.get(*start..*end));
         }
         let is_over = packets.next().is_none();
-        equal(&rt, name, &(is_over, packets.offset()), &(true, file.len()));
+        equal!(rt, name;
+            is_over => true,
+            packets.offset() => file.len(),
+        );
     }
 }
 
 #[test]
-fn before_a_cut_record(rt: HostRuntime) {
+fn a_cut_record_ends_the_packets(rt: HostRuntime) {
     let mut packets = CapturePackets::from_slice(&BIG_MICROSECONDS[..100]);
     let first = match packets.next() {
         Some(Ok(first)) => first.original_len,
@@ -45,16 +48,11 @@ fn before_a_cut_record(rt: HostRuntime) {
     };
     let second = packets.next();
     let is_over = packets.next().is_none();
-    equal(
-        &rt,
-        "a packet, a fault and no more",
-        &(
-            first,
-            second,
-            is_over,
-            packets.offset(),
-            packets.rest().len(),
-        ),
-        &(60, Some(Err(fault)), true, 82, 18),
+    equal!(rt, "a packet, a fault and no more";
+        first => 60,
+        second => Some(Err(fault)),
+        is_over => true,
+        packets.offset() => 82,
+        packets.rest().len() => 18,
     );
 }

@@ -77,7 +77,7 @@ static PACKETS: [(&str, usize, u32, Option<u32>, u32, LinkType, u32, Option<u8>,
 ];
 
 #[test]
-fn packets_of_both_sections(rt: HostRuntime) -> Result<(), Fail> {
+fn packets_have_the_interface_of_their_own_section(rt: HostRuntime) -> Result<(), Fail> {
     for &(
         name,
         number,
@@ -104,14 +104,14 @@ fn packets_of_both_sections(rt: HostRuntime) -> Result<(), Fail> {
             fcs_len,
             packet: SECTIONS.get(start..end).unwrap_or(&[]),
         };
-        equal(&rt, name, &unit.packet, &Some(packet));
+        equal!(rt, name; unit.packet => Some(packet));
     }
     Ok(())
 }
 
 /// The file is cut at each byte: its last unit needs more bytes, also if none of it is there.
 #[test]
-fn cuts(rt: HostRuntime) -> Result<(), Fail> {
+fn a_unit_cut_anywhere_names_the_length_it_needs(rt: HostRuntime) -> Result<(), Fail> {
     for i in 0..13 {
         let mut reader = reader_at(&SECTIONS, i)?;
         let start = PLACES[i].min(508);
@@ -129,7 +129,7 @@ fn cuts(rt: HostRuntime) -> Result<(), Fail> {
             } else {
                 Err(Some(required))
             };
-            equal(&rt, "a cut unit", &found, &wanted);
+            equal!(rt, "a cut unit"; found => wanted);
         }
     }
     Ok(())
@@ -165,19 +165,19 @@ static REFUSED: [Refused; 7] = [
 ];
 
 #[test]
-fn refused_units(rt: HostRuntime) -> Result<(), Fail> {
+fn a_refused_unit_names_the_cause(rt: HostRuntime) -> Result<(), Fail> {
     for (name, changes, number, start, error) in &REFUSED {
         let file = changed(changes);
         let mut reader = reader_at(&file, *number)?;
         let found = reader.read(file.get(*start..).unwrap_or(&[])).err();
-        equal(&rt, name, &found.as_ref(), &Some(error));
+        equal!(rt, name; found.as_ref() => Some(error));
     }
     Ok(())
 }
 
 /// A section may describe as many interfaces as the table has room for.
 #[test]
-fn too_many_interfaces(rt: HostRuntime) -> Result<(), Fail> {
+fn the_fifth_of_four_interfaces_is_refused(rt: HostRuntime) -> Result<(), Fail> {
     let mut reader = reader_at(&SECTIONS, 1)?;
     for number in 0..5 {
         let found = reader.read(&SECTIONS[28..68]).map(|unit| unit.packet);
@@ -186,10 +186,10 @@ fn too_many_interfaces(rt: HostRuntime) -> Result<(), Fail> {
         } else {
             Err(CaptureError::TooManyInterfaces)
         };
-        equal(&rt, "an interface", &found, &wanted);
+        equal!(rt, "an interface"; found => wanted);
     }
     let unit = reader.read(&SECTIONS[100..152])?;
-    equal(&rt, "a packet after them", &unit.packet.is_some(), &true);
+    equal!(rt, "a packet after them"; unit.packet.is_some() => true);
     Ok(())
 }
 
@@ -213,7 +213,7 @@ static SHIFTED: [Shifted; 3] = [
 ];
 
 #[test]
-fn shifted_times_and_an_obsolete_packet(rt: HostRuntime) -> Result<(), Fail> {
+fn an_offset_shifts_the_times_of_its_interface(rt: HostRuntime) -> Result<(), Fail> {
     for &(name, changes, number, start, seconds, nanoseconds) in &SHIFTED {
         let file = changed(changes);
         let mut reader = reader_at(&file, number)?;
@@ -222,7 +222,7 @@ fn shifted_times_and_an_obsolete_packet(rt: HostRuntime) -> Result<(), Fail> {
             seconds,
             nanoseconds,
         });
-        equal(&rt, name, &packet.and_then(|packet| packet.time), &time);
+        equal!(rt, name; packet.and_then(|packet| packet.time) => time);
     }
     Ok(())
 }

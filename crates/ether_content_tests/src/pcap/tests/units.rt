@@ -86,7 +86,7 @@ static FILES: [Row; 6] = [
 ];
 
 #[test]
-fn of_whole_files(rt: HostRuntime) -> Result<(), Fail> {
+fn units_of_a_whole_file_are_read_one_at_a_time(rt: HostRuntime) -> Result<(), Fail> {
     for &(name, file, link_type, snap_len, fcs_len, interface, units) in &FILES {
         let mut reader = CaptureReader::new(ArrayVec::<CaptureInterface, 4>::new());
         let mut place = 0;
@@ -97,10 +97,16 @@ fn of_whole_files(rt: HostRuntime) -> Result<(), Fail> {
                 len: shown.0,
                 packet: packet(shown, link_type, snap_len, fcs_len, interface, file),
             };
-            equal(&rt, name, &(has_begun, &found), &(place > 0, &wanted));
+            equal!(rt, name;
+                has_begun => place > 0,
+                &found => &wanted,
+            );
             place = place.saturating_add(found.len);
         }
-        equal(&rt, name, &(reader.has_begun(), place), &(true, file.len()));
+        equal!(rt, name;
+            reader.has_begun() => true,
+            place => file.len(),
+        );
     }
     Ok(())
 }

@@ -26,7 +26,7 @@ static ROWS: [(&str, usize, Result<usize, SliceWriteSpaceError>, &[u8]); 2] = [
 ];
 
 #[test]
-fn of_a_generator_of_arp_requests() -> Result<(), Fail> {
+fn a_generated_request_fits_or_the_target_is_unchanged() -> Result<(), Fail> {
     let rt = crate::kit::HostRuntime;
     let vlan_id = VlanId::try_new(100)?;
     let sender_mac = [0x02, 0x00, 0x5E, 0x10, 0x00, 0x01];
@@ -35,7 +35,10 @@ fn of_a_generator_of_arp_requests() -> Result<(), Fail> {
         let room = &mut target[..48.min(*room)];
         let written = write_arp_request(room, vlan_id, sender_mac, [192, 0, 2, 1], [192, 0, 2, 2]);
         put(&mut after, 0, front);
-        equal(&rt, name, &(&written, target), &(wanted, after));
+        equal!(rt, name;
+            &written => wanted,
+            target => after,
+        );
     }
     Ok(())
 }

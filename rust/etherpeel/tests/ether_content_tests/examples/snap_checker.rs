@@ -34,14 +34,9 @@ static ROWS: [(&str, Start, &[u8], usize, bool); 8] = [
 ];
 
 #[test]
-fn of_a_checker_of_snap_lengths() {
+fn a_cut_keeps_all_headers_from_their_length_on() {
     let rt = crate::kit::HostRuntime;
     for &(name, start, frame, snap_len, keeps) in &ROWS {
-        equal(
-            &rt,
-            name,
-            &keeps_all_headers(start, frame, snap_len),
-            &keeps,
-        );
+        equal!(rt, name; keeps_all_headers(start, frame, snap_len) => keeps);
     }
 }

@@ -39,17 +39,12 @@ static ROWS: [(&str, &[u8], usize, u16, bool); 8] = [
 ];
 
 #[test]
-fn of_a_filter_of_vlans() -> Result<(), Fail> {
+fn only_ipv4_and_arp_in_the_vlans_pass() -> Result<(), Fail> {
     let rt = crate::kit::HostRuntime;
     for &(name, frame, len, number, passes) in &ROWS {
         let vlan_ids = [VlanId::ZERO, VlanId::try_new(number)?];
         let frame = frame.get(..len).unwrap_or(&[]);
-        equal(
-            &rt,
-            name,
-            &is_ipv4_or_arp_in_vlans(frame, &vlan_ids),
-            &passes,
-        );
+        equal!(rt, name; is_ipv4_or_arp_in_vlans(frame, &vlan_ids) => passes);
     }
     Ok(())
 }

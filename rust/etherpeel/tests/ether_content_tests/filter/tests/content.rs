@@ -63,7 +63,7 @@ static FRAMES: [Framed; 9] = [
 ];
 
 #[test]
-fn frames_by_link_type() {
+fn the_link_type_decides_where_a_frame_begins() {
     let rt = crate::kit::HostRuntime;
     for &(name, link_type, fcs_len, original_len, bytes, wanted) in &FRAMES {
         let frame = Content::of(&packet(link_type, fcs_len, original_len, bytes)).frame();
@@ -71,24 +71,22 @@ fn frames_by_link_type() {
             Some((start, frame)) => Some((start, frame.len())),
             None => None,
         };
-        equal(&rt, name, &found, &wanted);
+        equal!(rt, name; found => wanted);
     }
 }
 
 #[test]
-fn of_content() {
+fn an_ethernet_packet_has_a_frame() {
     let rt = crate::kit::HostRuntime;
     let packet = packet(1, None, 60, &[0xFF; 14]);
-    equal(
-        &rt,
-        "the example",
-        &(Content::of(&packet).frame(), is_cut(&packet)),
-        &(Some((Start::Ethernet2, [0xFF; 14].as_slice())), true),
+    equal!(rt, "the example";
+        Content::of(&packet).frame() => Some((Start::Ethernet2, [0xFF; 14].as_slice())),
+        is_cut(&packet) => true,
     );
 }
 
 #[test]
-fn of_cooked_header() {
+fn a_loopback_packet_has_a_cooked_header() {
     let rt = crate::kit::HostRuntime;
     let found = match Content::of(&packet(113, None, 18, &LOOPBACK)) {
         Content::LinuxSll(header, payload) => {
@@ -96,15 +94,8 @@ fn of_cooked_header() {
         }
         _ => None,
     };
-    equal(
-        &rt,
-        "the example",
-        &found,
-        &Some((
-            ArpHardwareId::LOOPBACK,
-            EtherType::IPV4,
-            [0x45, 0x00].as_slice(),
-        )),
+    equal!(rt, "the example";
+        found => Some((ArpHardwareId::LOOPBACK, EtherType::IPV4, [0x45, 0x00].as_slice())),
     );
 }
 
@@ -114,15 +105,15 @@ const TAGGED: [u8; 20] = [
     0x08, 0x00, 0x45, 0x00,
 ];
 
-static SELECTED: [(&[u8], bool); 2] = [(b"vlan 291 and cut", true), (b"arp", false)];
+static SELECTED: [(&str, bool); 2] = [("vlan 291 and cut", true), ("arp", false)];
 
 #[test]
-fn of_selects() -> Result<(), Fail> {
+fn a_filter_selects_captured_packets() -> Result<(), Fail> {
     let rt = crate::kit::HostRuntime;
     for &(text, wanted) in &SELECTED {
-        let filter = Filter::parse(text).ok().ok_or("an expression")?;
+        let filter = Filter::parse(text.as_bytes()).ok().ok_or("an expression")?;
         let found = selects(&filter, &packet(1, None, 60, &TAGGED[..18]));
-        equal(&rt, "the example", &found, &wanted);
+        equal!(rt, text; found => wanted);
     }
     Ok(())
 }
@@ -145,11 +136,11 @@ const TAGGED_CUT: [u8; 17] = [
 ];
 
 #[test]
-fn of_headers_len() {
+fn headers_have_a_length_if_none_is_cut() {
     let rt = crate::kit::HostRuntime;
     for &(name, link_type, fcs_len, original_len, bytes, wanted) in &HEADERS {
         let found = headers_len(&packet(link_type, fcs_len, original_len, bytes));
-        equal(&rt, name, &found, &wanted);
+        equal!(rt, name; found => wanted);
     }
 }
 
@@ -182,7 +173,7 @@ const OTHER: [u8; 20] = [
 ];
 
 #[test]
-fn of_edits() -> Result<(), Fail> {
+fn each_edit_changes_the_packet_as_the_filter_sees_it() -> Result<(), Fail> {
     let rt = crate::kit::HostRuntime;
     let (tpid, vlan_id) = (EtherType::PROVIDER_BRIDGING, VlanId::try_new(5)?);
     let (push, from) = (
@@ -196,26 +187,21 @@ fn of_edits() -> Result<(), Fail> {
         is_edited(push, 64, &PUSHED),
         is_edited(set, 60, &OTHER),
     ];
-    equal(&rt, "each edit", &are_edited, &[true; 4]);
+    equal!(rt, "each edit"; are_edited => [true; 4]);
     let raw = packet(101, None, 60, &TAGGED);
     let unedited = [
         edit_packet(PacketEdit::PopVlan, &raw, &mut [0; 24]),
         edit_packet(push, &packet(1, None, 60, &TAGGED), &mut [0; 23]),
     ];
-    equal(
-        &rt,
-        "no frame, and no room",
-        &unedited,
-        &[Ok(None), Err(NoRoom)],
-    );
+    equal!(rt, "no frame, and no room"; unedited => [Ok(None), Err(NoRoom)]);
     Ok(())
 }
 
 #[test]
-fn the_text_of_no_room() -> Result<(), AllocError> {
+fn no_room_names_the_bytes_that_are_missing() -> Result<(), AllocError> {
     let rt = crate::kit::HostRuntime;
     let text = "The buffer has no room for the packet and four bytes more.";
     let shown = format!("{}", NoRoom);
-    equal(&rt, "no room", &shown.as_str(), &text);
+    equal!(rt, "no room"; shown.as_str() => text);
     Ok(())
 }

@@ -1,4 +1,5 @@
 //! What is known of packets of which bytes are missing.
+use crate::checks::equal;
 use etherpeel::ether_filter::{Decision, Filter, Packet};
 use etherpeel::ether_peel::Start;
 use crate::kit::Fail;
@@ -44,28 +45,28 @@ const N50: Decision = Decision::Needs(50);
 
 /// An expression, and the decisions on the cuts.
 #[rustfmt::skip]
-static DECIDED: [(&[u8], [Decision; 6]); 14] = [
-    (b"vlan", [N14, N18, M, M, M, M]),
-    (b"vlan 5", [N14, N18, N22, M, M, M]),
-    (b"outer vlan 5", [N14, N18, F, F, F, F]),
-    (b"inner vlan 5", [N14, N18, N22, M, M, M]),
-    (b"inner vlan 100", [N14, N18, N22, F, F, F]),
-    (b"macsec", [N14, N18, N22, F, F, F]),
-    (b"ether proto 0x88a8", [N14, M, M, M, M, M]),
-    (b"ip", [N14, N18, N22, F, F, F]),
-    (b"not ether multicast", [N14, F, F, F, F, F]),
-    (b"ether src 02:00:5e:10:00:09", [N14, F, F, F, F, F]),
-    (b"refused", [N14, N18, N22, N30, N50, F]),
-    (b"cut and vlan 9 and vlan 100", [N14, N18, N22, F, F, F]),
-    (b"less 64 or vlan 9", [M, M, M, M, M, M]),
-    (b"greater 65 and refused", [F, F, F, F, F, F]),
+static DECIDED: [(&str, [Decision; 6]); 14] = [
+    ("vlan", [N14, N18, M, M, M, M]),
+    ("vlan 5", [N14, N18, N22, M, M, M]),
+    ("outer vlan 5", [N14, N18, F, F, F, F]),
+    ("inner vlan 5", [N14, N18, N22, M, M, M]),
+    ("inner vlan 100", [N14, N18, N22, F, F, F]),
+    ("macsec", [N14, N18, N22, F, F, F]),
+    ("ether proto 0x88a8", [N14, M, M, M, M, M]),
+    ("ip", [N14, N18, N22, F, F, F]),
+    ("not ether multicast", [N14, F, F, F, F, F]),
+    ("ether src 02:00:5e:10:00:09", [N14, F, F, F, F, F]),
+    ("refused", [N14, N18, N22, N30, N50, F]),
+    ("cut and vlan 9 and vlan 100", [N14, N18, N22, F, F, F]),
+    ("less 64 or vlan 9", [M, M, M, M, M, M]),
+    ("greater 65 and refused", [F, F, F, F, F, F]),
 ];
 
 #[test]
-fn of_cuts() {
+fn a_cut_packet_is_decided_as_far_as_it_is_known() {
     let rt = crate::kit::HostRuntime;
     for &(expression, wanted) in &DECIDED {
-        assert!(decided(expression) == Some(wanted), "{expression:?}");
+        equal!(rt, expression; decided(expression.as_bytes()) => Some(wanted));
     }
 }
 
@@ -77,20 +78,20 @@ const SLL: Start = Start::LinuxSll;
 
 /// A start, how many bytes of the frame were captured, of how many, an expression, and the decision on it.
 #[rustfmt::skip]
-static OTHER: [(Start, usize, u32, &[u8], Decision); 9] = [
-    (ETH, 16, 18, b"vlan", N18),
-    (ETH, 16, 17, b"vlan", F),
-    (ETH, 16, 17, b"refused", M),
-    (ETH, 16, 16, b"vlan 5 or inner vlan 5", F),
-    (FCS, 31, 64, b"vlan 5", Decision::Needs(64)),
-    (FCS, 31, 64, b"vlan 5 or less 64", M),
-    (FCS, 50, 50, b"vlan 5", M),
-    (SLL, 15, 64, b"ether broadcast", F),
-    (SLL, 15, 64, b"vlan", Decision::Needs(16)),
+static OTHER: [(Start, usize, u32, &str, Decision); 9] = [
+    (ETH, 16, 18, "vlan", N18),
+    (ETH, 16, 17, "vlan", F),
+    (ETH, 16, 17, "refused", M),
+    (ETH, 16, 16, "vlan 5 or inner vlan 5", F),
+    (FCS, 31, 64, "vlan 5", Decision::Needs(64)),
+    (FCS, 31, 64, "vlan 5 or less 64", M),
+    (FCS, 50, 50, "vlan 5", M),
+    (SLL, 15, 64, "ether broadcast", F),
+    (SLL, 15, 64, "vlan", Decision::Needs(16)),
 ];
 
 #[test]
-fn of_other_packets() -> Result<(), Fail> {
+fn packets_of_other_links_are_decided() -> Result<(), Fail> {
     let rt = crate::kit::HostRuntime;
     for &(start, captured_len, original_len, expression, wanted) in &OTHER {
         let packet = Packet {
@@ -99,8 +100,10 @@ fn of_other_packets() -> Result<(), Fail> {
             captured_len,
             original_len,
         };
-        let filter = Filter::parse(expression).ok().ok_or("an expression")?;
-        assert!(filter.decide(&packet) == wanted, "{expression:?}");
+        let filter = Filter::parse(expression.as_bytes())
+            .ok()
+            .ok_or("an expression")?;
+        equal!(rt, expression; filter.decide(&packet) => wanted);
     }
     Ok(())
 }

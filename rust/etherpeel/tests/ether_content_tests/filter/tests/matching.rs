@@ -1,4 +1,5 @@
 //! Packets that match, by what the words of an expression say.
+use crate::checks::equal;
 use etherpeel::ether_filter::{Filter, Packet};
 use etherpeel::ether_peel::Start;
 use etherpeel::EtherType;
@@ -41,42 +42,42 @@ const N: bool = false;
 
 /// An expression, and which of the packets match.
 #[rustfmt::skip]
-static MATCHING: [(&[u8], [bool; 6]); 28] = [
-    (b"vlan 5 or arp", [Y, Y, Y, Y, N, Y]),
-    (b"arp or vlan 5", [Y, Y, Y, Y, N, Y]),
-    (b"vlan 7 or vlan 5", [N, Y, Y, Y, N, Y]),
-    (b"vlan and arp", [N, Y, Y, N, N, N]),
-    (b"arp", [Y, Y, Y, N, N, N]),
-    (b"not vlan", [Y, N, N, N, Y, N]),
-    (b"!(vlan 5||arp)", [N, N, N, N, Y, N]),
-    (b"not not vlan 0x7", [N, N, Y, N, N, N]),
-    (b"outer vlan 5", [N, Y, N, Y, N, N]),
-    (b"outer vlan 100", [N, N, N, N, N, Y]),
-    (b"inner vlan 5", [N, N, N, N, N, Y]),
-    (b"inner vlan 100", [N, N, N, N, N, N]),
-    (b"ip", [N, N, N, Y, Y, Y]),
-    (b"ether proto 0x88a8", [N, N, N, N, N, Y]),
-    (b"ip6 or macsec or refused", [N, N, N, N, N, N]),
-    (b"ether src 02:00:5e:10:00:01", [Y, Y, Y, Y, Y, Y]),
-    (b"ether dst 02:00:5E:10:00:02", [N, N, N, Y, N, Y]),
-    (b"ether host 03:00:5e:10:00:02", [N, N, N, N, Y, N]),
-    (b"ether host 03005E100002", [N, N, N, N, Y, N]),
-    (b"ether broadcast", [Y, Y, Y, N, N, N]),
-    (b"ether multicast", [Y, Y, Y, N, Y, N]),
-    (b"cut", [N, Y, Y, Y, N, Y]),
-    (b"less 64", [Y, Y, Y, N, Y, N]),
-    (b"greater 64", [N, Y, Y, Y, N, Y]),
-    (b"vlan 5 and (arp or ip) and not outer vlan 100", [N, Y, N, Y, N, N]),
-    (b"not vlan 5 and not vlan 7 and not vlan 100", [Y, N, N, N, Y, N]),
-    (b"not (vlan 5 and not arp) and (ether broadcast or vlan 5)", [Y, Y, Y, N, N, N]),
-    (b"(vlan and (ip or not vlan 7)) or greater 1000", [N, Y, N, Y, N, Y]),
+static MATCHING: [(&str, [bool; 6]); 28] = [
+    ("vlan 5 or arp", [Y, Y, Y, Y, N, Y]),
+    ("arp or vlan 5", [Y, Y, Y, Y, N, Y]),
+    ("vlan 7 or vlan 5", [N, Y, Y, Y, N, Y]),
+    ("vlan and arp", [N, Y, Y, N, N, N]),
+    ("arp", [Y, Y, Y, N, N, N]),
+    ("not vlan", [Y, N, N, N, Y, N]),
+    ("!(vlan 5||arp)", [N, N, N, N, Y, N]),
+    ("not not vlan 0x7", [N, N, Y, N, N, N]),
+    ("outer vlan 5", [N, Y, N, Y, N, N]),
+    ("outer vlan 100", [N, N, N, N, N, Y]),
+    ("inner vlan 5", [N, N, N, N, N, Y]),
+    ("inner vlan 100", [N, N, N, N, N, N]),
+    ("ip", [N, N, N, Y, Y, Y]),
+    ("ether proto 0x88a8", [N, N, N, N, N, Y]),
+    ("ip6 or macsec or refused", [N, N, N, N, N, N]),
+    ("ether src 02:00:5e:10:00:01", [Y, Y, Y, Y, Y, Y]),
+    ("ether dst 02:00:5E:10:00:02", [N, N, N, Y, N, Y]),
+    ("ether host 03:00:5e:10:00:02", [N, N, N, N, Y, N]),
+    ("ether host 03005E100002", [N, N, N, N, Y, N]),
+    ("ether broadcast", [Y, Y, Y, N, N, N]),
+    ("ether multicast", [Y, Y, Y, N, Y, N]),
+    ("cut", [N, Y, Y, Y, N, Y]),
+    ("less 64", [Y, Y, Y, N, Y, N]),
+    ("greater 64", [N, Y, Y, Y, N, Y]),
+    ("vlan 5 and (arp or ip) and not outer vlan 100", [N, Y, N, Y, N, N]),
+    ("not vlan 5 and not vlan 7 and not vlan 100", [Y, N, N, N, Y, N]),
+    ("not (vlan 5 and not arp) and (ether broadcast or vlan 5)", [Y, Y, Y, N, N, N]),
+    ("(vlan and (ip or not vlan 7)) or greater 1000", [N, Y, N, Y, N, Y]),
 ];
 
 #[test]
-fn of_six_packets() {
+fn each_expression_matches_its_packets_of_six() {
     let rt = crate::kit::HostRuntime;
     for &(expression, wanted) in &MATCHING {
-        assert!(matching(expression) == Some(wanted), "{expression:?}");
+        equal!(rt, expression; matching(expression.as_bytes()) => Some(wanted));
     }
 }
 
@@ -115,30 +116,30 @@ const TAG: Start = Start::EtherType(EtherType::VLAN_TAGGED_FRAME);
 
 /// A start, a frame, an expression, and whether they match.
 #[rustfmt::skip]
-static OTHER: [(Start, &[u8], &[u8], bool); 19] = [
-    (ETH, FOUR_TAGS, b"outer vlan 1 and inner vlan 4", true),
-    (ETH, FOUR_TAGS, b"vlan 3 and vlan 2", true),
-    (ETH, FOUR_TAGS, b"inner vlan 2 or inner vlan 3", false),
-    (ETH, FOUR_TAGS_CUT, b"refused and vlan 3", true),
-    (ETH, FOUR_TAGS_CUT, b"vlan 4 or ip", false),
-    (ETH, TEN_TAGS, b"outer vlan 1 and inner vlan 10", true),
-    (ETH, TEN_TAGS, b"vlan 10 and ip and not refused", true),
-    (ETH, TEN_TAGS, b"vlan 11 or inner vlan 9 or arp", false),
-    (ETH, IN_SEC_TAG, b"macsec and vlan 9 and arp", true),
-    (ETH, IN_SEC_TAG, b"refused", true),
-    (ETH, ENCRYPTED, b"macsec", true),
-    (ETH, ENCRYPTED, b"vlan or arp or refused", false),
-    (SLL, COOKED, b"ip6", true),
-    (SLL, COOKED, b"ether broadcast or ether src ff:ff:ff:ff:ff:ff", false),
-    (SLL, COOKED_CUT, b"refused", true),
-    (TAG, b"\x00\x05\x08\x00\x45", b"vlan 5 and ip", true),
-    (TAG, b"\x00", b"ether proto 0x8100 and refused", true),
-    (TAG, b"\x00", b"vlan", false),
-    (FCS, FOUR_TAGS, b"vlan 3 and refused", true),
+static OTHER: [(Start, &[u8], &str, bool); 19] = [
+    (ETH, FOUR_TAGS, "outer vlan 1 and inner vlan 4", true),
+    (ETH, FOUR_TAGS, "vlan 3 and vlan 2", true),
+    (ETH, FOUR_TAGS, "inner vlan 2 or inner vlan 3", false),
+    (ETH, FOUR_TAGS_CUT, "refused and vlan 3", true),
+    (ETH, FOUR_TAGS_CUT, "vlan 4 or ip", false),
+    (ETH, TEN_TAGS, "outer vlan 1 and inner vlan 10", true),
+    (ETH, TEN_TAGS, "vlan 10 and ip and not refused", true),
+    (ETH, TEN_TAGS, "vlan 11 or inner vlan 9 or arp", false),
+    (ETH, IN_SEC_TAG, "macsec and vlan 9 and arp", true),
+    (ETH, IN_SEC_TAG, "refused", true),
+    (ETH, ENCRYPTED, "macsec", true),
+    (ETH, ENCRYPTED, "vlan or arp or refused", false),
+    (SLL, COOKED, "ip6", true),
+    (SLL, COOKED, "ether broadcast or ether src ff:ff:ff:ff:ff:ff", false),
+    (SLL, COOKED_CUT, "refused", true),
+    (TAG, b"\x00\x05\x08\x00\x45", "vlan 5 and ip", true),
+    (TAG, b"\x00", "ether proto 0x8100 and refused", true),
+    (TAG, b"\x00", "vlan", false),
+    (FCS, FOUR_TAGS, "vlan 3 and refused", true),
 ];
 
 #[test]
-fn of_other_packets() -> Result<(), Fail> {
+fn packets_of_other_links_match() -> Result<(), Fail> {
     let rt = crate::kit::HostRuntime;
     for &(start, frame, expression, wanted) in &OTHER {
         let packet = Packet {
@@ -147,8 +148,10 @@ fn of_other_packets() -> Result<(), Fail> {
             captured_len: frame.len(),
             original_len: 60,
         };
-        let filter = Filter::parse(expression).ok().ok_or("an expression")?;
-        assert!(filter.matches(&packet) == wanted, "{expression:?}");
+        let filter = Filter::parse(expression.as_bytes())
+            .ok()
+            .ok_or("an expression")?;
+        equal!(rt, expression; filter.matches(&packet) => wanted);
     }
     Ok(())
 }

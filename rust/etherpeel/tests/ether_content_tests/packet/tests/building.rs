@@ -163,16 +163,19 @@ fn writes(rt: &impl Abort, row: &Row, packet: &PacketBuilder<'_, '_>) {
     match (&written, &row.wanted) {
         (Ok(len), Ok(front)) => {
             put(&mut after, 0, front);
-            equal(rt, row.name, &(*len, size), &(front.len(), front.len()));
+            equal!(rt, row.name;
+                *len => front.len(),
+                size => front.len(),
+            );
         }
-        (Err(error), Err(wanted)) => equal(rt, row.name, &error, &wanted),
-        _ => equal(rt, row.name, &written.is_ok(), &row.wanted.is_ok()),
+        (Err(error), Err(wanted)) => equal!(rt, row.name; error => wanted),
+        _ => equal!(rt, row.name; written.is_ok() => row.wanted.is_ok()),
     }
-    equal(rt, row.name, &target, &after);
+    equal!(rt, row.name; target => after);
 }
 
 #[test]
-fn written_to_targets() -> Result<(), Fail> {
+fn built_packets_are_the_captured_frames() -> Result<(), Fail> {
     let rt = crate::kit::HostRuntime;
     let arp = ArpPacket::from_slice(&TWICE_TAGGED_ARP_REQUEST[22..])?;
     for row in &ROWS {
@@ -192,7 +195,7 @@ fn written_to_targets() -> Result<(), Fail> {
 }
 
 #[test]
-fn the_example() {
+fn each_tag_gets_the_ether_type_that_announces_it() {
     let rt = crate::kit::HostRuntime;
     let tags = [LinkExtHeader::Vlan(SingleVlanHeader::from_bytes([0x00, 0x64, 0x00, 0x00]))];
     let packet = PacketBuilder {
@@ -209,20 +212,14 @@ fn the_example() {
         }),
         ..packet
     };
-    equal(
-        &rt,
-        "the example",
-        &(
-            [written, service_tag.write(&mut service)],
-            [&target[12..], &service[12..]],
-        ),
-        &(
-            [Ok(19), Ok(19)],
-            [
-                [0x81, 0x00, 0x00, 0x64, 0x08, 0x00, 0x45].as_slice(),
-                &[0x88, 0xA8, 0x00, 0x64, 0x08, 0x00, 0x45],
-            ],
-        ),
+    let service_written = service_tag.write(&mut service);
+    let customer = [0x81, 0x00, 0x00, 0x64, 0x08, 0x00, 0x45];
+    let provider = [0x88, 0xA8, 0x00, 0x64, 0x08, 0x00, 0x45];
+    equal!(rt, "the example";
+        written => Ok(19),
+        target.get(12..) => Some(customer.as_slice()),
+        service_written => Ok(19),
+        service.get(12..) => Some(provider.as_slice()),
     );
 }
 
@@ -243,11 +240,11 @@ static TEXTS: [(BuildError, &str); 3] = [
 ];
 
 #[test]
-fn texts() -> Result<(), AllocError> {
+fn a_build_error_names_the_cause() -> Result<(), AllocError> {
     let rt = crate::kit::HostRuntime;
     for (error, text) in &TEXTS {
         let shown = format!("{error}");
-        equal(&rt, text, &shown.as_str(), text);
+        equal!(rt, text; shown.as_str() => *text);
     }
     Ok(())
 }

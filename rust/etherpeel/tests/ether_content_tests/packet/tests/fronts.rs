@@ -33,20 +33,19 @@ const HEADER: Ethernet2Header = Ethernet2Header {
 };
 
 #[test]
-fn of_ethernet_2() {
+fn a_cut_front_has_the_tag_only_if_it_is_whole() {
     let rt = crate::kit::HostRuntime;
     for &(name, len, has_header, wanted) in &CUTS {
         match ethernet_front(&TAGGED[..len.min(22)]) {
             Some(front) => {
                 let tag = front.vlan.map(|tag| tag.to_bytes());
-                equal(
-                    &rt,
-                    name,
-                    &(true, front.link, tag),
-                    &(has_header, HEADER, wanted),
+                equal!(rt, name;
+                    true => has_header,
+                    front.link => HEADER,
+                    tag => wanted,
                 );
             }
-            None => equal(&rt, name, &false, &has_header),
+            None => equal!(rt, name; false => has_header),
         }
     }
 }
@@ -105,10 +104,10 @@ static OUTER: [Outer; 6] = [
 ];
 
 #[test]
-fn of_any_start() {
+fn the_outer_tag_is_the_first_after_any_start() {
     let rt = crate::kit::HostRuntime;
     for &(name, start, frame, from, to, wanted) in &OUTER {
         let tag = outer_vlan(start, frame.get(from..to).unwrap_or(&[]));
-        equal(&rt, name, &tag.map(|tag| tag.to_bytes()), &wanted);
+        equal!(rt, name; tag.map(|tag| tag.to_bytes()) => wanted);
     }
 }

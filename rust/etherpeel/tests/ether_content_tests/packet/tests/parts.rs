@@ -86,11 +86,14 @@ fn goes_back(rt: &impl Abort, name: &str, start: Start, frame: &[u8], wanted: &[
         panic!("{name}: no link");
     };
     let written = parts.builder().write_unchanged(&mut target);
-    equal(rt, name, &(written, target), &(Ok(wanted.len()), after));
+    equal!(rt, name;
+        written => Ok(wanted.len()),
+        target => after,
+    );
 }
 
 #[test]
-fn written_as_they_were_read() {
+fn parts_are_written_as_they_were_read() {
     let rt = crate::kit::HostRuntime;
     for &(name, start, frame, len, wanted, written_len) in &ROWS {
         let wanted = wanted.get(..written_len).unwrap_or(&[]);
@@ -130,20 +133,15 @@ fn goes_back_whole(rt: &impl Abort, row: WholeRow) {
     };
     let lens = (parts.rest.len(), parts.trailer.len(), parts.frame_len());
     let written = parts.write_frame(&mut target);
-    equal(
-        rt,
-        name,
-        &(lens, written, target),
-        &(
-            (rest_len, trailer_len, wanted.len()),
-            Ok(wanted.len()),
-            after,
-        ),
+    equal!(rt, name;
+        lens => (rest_len, trailer_len, wanted.len()),
+        written => Ok(wanted.len()),
+        target => after,
     );
 }
 
 #[test]
-fn written_whole() {
+fn whole_frames_are_written_as_they_were_read() {
     let rt = crate::kit::HostRuntime;
     for &row in &WHOLE_ROWS {
         goes_back_whole(&rt, row);
@@ -151,7 +149,7 @@ fn written_whole() {
 }
 
 #[test]
-fn written_whole_with_another_packet_number() -> Result<(), Fail> {
+fn a_whole_frame_gets_another_packet_number() -> Result<(), Fail> {
     let rt = crate::kit::HostRuntime;
     let packet = PacketSlice::from_slice(Start::Ethernet2, &INTEGRITY);
     let Some(mut parts) = packet.to_parts() else {
@@ -163,17 +161,17 @@ fn written_whole_with_another_packet_number() -> Result<(), Fail> {
     let (mut target, mut wanted) = ([0; 86], INTEGRITY);
     put(&mut wanted, 14, &RENUMBERED);
     let written = parts.write_frame(&mut target);
-    equal(
-        &rt,
-        "another packet number",
-        &(missing, set, written, target),
-        &(Err(ReplaceError::NoLinkExt(1)), Ok(()), Ok(86), wanted),
+    equal!(rt, "another packet number";
+        missing => Err(ReplaceError::NoLinkExt(1)),
+        set => Ok(()),
+        written => Ok(86),
+        target => wanted,
     );
     Ok(())
 }
 
 #[test]
-fn without_room_for_the_padding() {
+fn a_target_without_room_for_the_padding_is_unchanged() {
     let rt = crate::kit::HostRuntime;
     let packet = PacketSlice::from_slice(Start::Ethernet2, &PADDED_ARP_REQUEST);
     let Some(parts) = packet.to_parts() else {
@@ -187,16 +185,14 @@ fn without_room_for_the_padding() {
         layer_start_offset: 0,
     };
     let refused = parts.write_frame(&mut target);
-    equal(
-        &rt,
-        "a byte less",
-        &(refused, target),
-        &(Err(error), [0xAA; 59]),
+    equal!(rt, "a byte less";
+        refused => Err(error),
+        target => [0xAA; 59],
     );
 }
 
 #[test]
-fn written_as_another_list() {
+fn a_frame_is_written_without_its_outer_tag() {
     let rt = crate::kit::HostRuntime;
     let packet = PacketSlice::from_slice(Start::Ethernet2, &TWICE_TAGGED_ARP_REQUEST);
     let Some(parts) = packet.to_parts() else {
@@ -210,37 +206,27 @@ fn written_as_another_list() {
     };
     let mut target = [0; 46];
     let written = outer.write(&mut target);
-    equal(
-        &rt,
-        "the customer tag",
-        &(count, ether_type, written, &target[..12], &target[14..]),
-        &(
-            2,
-            EtherType(0),
-            Ok(46),
-            &TWICE_TAGGED_ARP_REQUEST[..12],
-            &TWICE_TAGGED_ARP_REQUEST[18..],
-        ),
+    equal!(rt, "the customer tag";
+        count => 2,
+        ether_type => EtherType(0),
+        written => Ok(46),
+        target.get(..12) => Some(&TWICE_TAGGED_ARP_REQUEST[..12]),
+        target.get(14..) => Some(&TWICE_TAGGED_ARP_REQUEST[18..]),
     );
 }
 
 #[test]
-fn without_a_link() {
+fn packets_without_a_link_have_no_parts() {
     let rt = crate::kit::HostRuntime;
     let tag = [0x00, 0x64, 0x08, 0x00];
     let start = Start::EtherType(EtherType::VLAN_TAGGED_FRAME);
     let parts = PacketSlice::from_slice(start, &tag).to_parts();
     let cut = PacketSlice::from_slice(Start::Ethernet2, &tag).to_parts();
-    equal(
-        &rt,
-        "a tag, and a cut header",
-        &[parts.is_none(), cut.is_none()],
-        &[true; 2],
-    );
+    equal!(rt, "a tag, and a cut header"; [parts.is_none(), cut.is_none()] => [true; 2]);
 }
 
 #[test]
-fn without_room() {
+fn a_target_without_room_for_the_payload_is_unchanged() {
     let rt = crate::kit::HostRuntime;
     let Some(parts) = PacketSlice::from_slice(Start::LinuxSll, &NETLINK).to_parts() else {
         panic!("no link");
@@ -255,10 +241,9 @@ fn without_room() {
     let builder = parts.builder();
     let is_payload = matches!(builder.content, PacketContent::Payload(_, [0x11, 0x22]));
     let refused = builder.write_unchanged(&mut target);
-    equal(
-        &rt,
-        "a byte less",
-        &(is_payload, refused, target),
-        &(true, Err(error), [0xAA; 17]),
+    equal!(rt, "a byte less";
+        is_payload => true,
+        refused => Err(error),
+        target => [0xAA; 17],
     );
 }

@@ -180,7 +180,7 @@ static ROWS: [Row; 15] = [
 ];
 
 #[test]
-fn tags_at_an_index() -> Result<(), Fail> {
+fn the_tag_at_an_index_is_replaced_or_the_frame_is_unchanged() -> Result<(), Fail> {
     let rt = crate::kit::HostRuntime;
     for (name, start, frame, index, header, wanted) in &ROWS {
         let (mut changed, mut after) = (filled(frame), filled(frame));
@@ -195,18 +195,16 @@ fn tags_at_an_index() -> Result<(), Fail> {
             put(&mut after, *place, bytes);
         }
         let refused = wanted.as_ref().err();
-        equal(
-            &rt,
-            name,
-            &(replaced.as_ref().err(), changed),
-            &(refused, after),
+        equal!(rt, name;
+            replaced.as_ref().err() => refused,
+            changed => after,
         );
     }
     Ok(())
 }
 
 #[test]
-fn a_tag_that_is_read_again() {
+fn a_replaced_tag_is_read_again() {
     let rt = crate::kit::HostRuntime;
     let mut frame = TWICE_TAGGED_ARP_REQUEST;
     let inner = LinkExtHeader::Vlan(SingleVlanHeader::from_bytes([0x61, 0x23, 0x08, 0x06]));
@@ -214,11 +212,11 @@ fn a_tag_that_is_read_again() {
     let packet = PacketSlice::from_slice(ETH, &frame);
     let ids = packet.vlan_ids();
     let numbers = [ids.first(), ids.last()].map(|id| id.map(|id| id.value()));
-    equal(
-        &rt,
-        "the inner of two tags",
-        &(replaced, ids.len(), numbers, packet.rest_offset),
-        &(Ok(()), 2, [Some(10), Some(0x123)], 50),
+    equal!(rt, "the inner of two tags";
+        replaced => Ok(()),
+        ids.len() => 2,
+        numbers => [Some(10), Some(0x123)],
+        packet.rest_offset => 50,
     );
 }
 
@@ -240,11 +238,11 @@ static TEXTS: [(ReplaceError, &str); 4] = [
 ];
 
 #[test]
-fn texts() -> Result<(), AllocError> {
+fn a_replace_error_names_the_cause() -> Result<(), AllocError> {
     let rt = crate::kit::HostRuntime;
     for (error, text) in &TEXTS {
         let shown = format!("{error}");
-        equal(&rt, text, &shown.as_str(), text);
+        equal!(rt, text; shown.as_str() => *text);
     }
     Ok(())
 }

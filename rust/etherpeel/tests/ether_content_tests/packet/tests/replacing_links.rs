@@ -206,7 +206,7 @@ static ROWS: [Row; 16] = [
 ];
 
 #[test]
-fn at_the_front_of_frames() {
+fn the_link_is_replaced_or_the_frame_is_unchanged() {
     let rt = crate::kit::HostRuntime;
     for (name, start, frame, link, wanted) in &ROWS {
         let (mut changed, mut after) = (filled(frame), filled(frame));
@@ -215,30 +215,23 @@ fn at_the_front_of_frames() {
             put(&mut after, 0, front);
         }
         let refused = wanted.as_ref().err();
-        equal(
-            &rt,
-            name,
-            &(replaced.as_ref().err(), changed),
-            &(refused, after),
+        equal!(rt, name;
+            replaced.as_ref().err() => refused,
+            changed => after,
         );
     }
 }
 
 #[test]
-fn a_frame_that_is_read_again() {
+fn a_frame_with_another_link_is_read_again() {
     let rt = crate::kit::HostRuntime;
     let mut frame = TWICE_TAGGED_ARP_REQUEST;
     let replaced = replace_link(ETH, &mut frame, &header(&SERVICE));
     let packet = PacketSlice::from_slice(ETH, &frame);
-    equal(
-        &rt,
-        "two tags",
-        &(
-            replaced,
-            packet.link_ext_count(),
-            packet.arp().is_some(),
-            packet.is_complete(),
-        ),
-        &(Ok(()), 2, true, true),
+    equal!(rt, "two tags";
+        replaced => Ok(()),
+        packet.link_ext_count() => 2,
+        packet.arp().is_some() => true,
+        packet.is_complete() => true,
     );
 }

@@ -103,7 +103,7 @@ static BOTH_WAYS: [BothWays; 4] = [
 
 /// The tag of one frame is taken off, which gives the other, and put in again.
 #[test]
-fn off_and_on() {
+fn popping_and_pushing_a_tag_undo_one_another() {
     let rt = crate::kit::HostRuntime;
     for &(name, start, tagged, untagged, tpid, tag) in &BOTH_WAYS {
         let mut buffer = filled(tagged);
@@ -114,14 +114,15 @@ fn off_and_on() {
             ..tag
         };
         let popped = pop_vlan(start, &mut buffer[..len]);
-        equal(
-            &rt,
-            name,
-            &(popped, &buffer[len.min(4)..len]),
-            &(Ok(tag), untagged),
+        equal!(rt, name;
+            popped => Ok(tag),
+            buffer.get(len.min(4)..len) => Some(untagged),
         );
         let pushed = push_vlan(start, &mut buffer[..len], ignored, tpid);
-        equal(&rt, name, &(pushed, &buffer[..len]), &(Ok(()), tagged));
+        equal!(rt, name;
+            pushed => Ok(()),
+            buffer.get(..len) => Some(tagged),
+        );
     }
 }
 
@@ -143,16 +144,14 @@ static KEPT: [(&str, Start, &[u8], usize, TagError); 6] = [
 
 /// The frame stays as it was.
 #[test]
-fn none_off() {
+fn a_frame_without_a_tag_to_pop_is_unchanged() {
     let rt = crate::kit::HostRuntime;
     for (name, start, frame, len, error) in &KEPT {
         let mut buffer = filled(frame);
         let found = pop_vlan(*start, &mut buffer[..(*len).min(96)]).err();
-        equal(
-            &rt,
-            name,
-            &(found.as_ref(), buffer),
-            &(Some(error), filled(frame)),
+        equal!(rt, name;
+            found.as_ref() => Some(error),
+            buffer => filled(frame),
         );
     }
 }
@@ -184,17 +183,15 @@ static FULL: [(&str, Start, &[u8], usize, EtherType, TagError); 5] = [
 
 /// The buffer stays as it was.
 #[test]
-fn none_on() {
+fn a_buffer_that_no_tag_is_pushed_to_is_unchanged() {
     let rt = crate::kit::HostRuntime;
     for (name, start, bytes, len, tpid, error) in &FULL {
         let mut buffer = filled(bytes);
         let tag = SingleVlanHeader::default();
         let found = push_vlan(*start, &mut buffer[..(*len).min(96)], tag, *tpid).err();
-        equal(
-            &rt,
-            name,
-            &(found.as_ref(), buffer),
-            &(Some(error), filled(bytes)),
+        equal!(rt, name;
+            found.as_ref() => Some(error),
+            buffer => filled(bytes),
         );
     }
 }
@@ -340,7 +337,7 @@ static SETS: [Set; 15] = [
 ];
 
 #[test]
-fn fields_at_an_index() -> Result<(), Fail> {
+fn the_fields_of_the_tag_at_an_index_are_set_alone() -> Result<(), Fail> {
     let rt = crate::kit::HostRuntime;
     let (id, pcp) = (VlanId::try_new(0xABC)?, VlanPcp::try_new(7)?);
     for (name, start, frame, index, change, wanted) in &SETS {
@@ -355,7 +352,10 @@ fn fields_at_an_index() -> Result<(), Fail> {
             put(&mut after, *place, bytes);
         }
         let refused = wanted.as_ref().err();
-        equal(&rt, name, &(set.as_ref().err(), changed), &(refused, after));
+        equal!(rt, name;
+            set.as_ref().err() => refused,
+            changed => after,
+        );
     }
     Ok(())
 }
@@ -406,7 +406,7 @@ static FOUND: [Found; 8] = [
 ];
 
 #[test]
-fn tags_with_an_identifier() -> Result<(), Fail> {
+fn the_first_tag_with_an_identifier_is_found() -> Result<(), Fail> {
     let rt = crate::kit::HostRuntime;
     let to = VlanId::try_new(0xABC)?;
     for &(name, start, frame, from, wanted) in &FOUND {
@@ -422,7 +422,10 @@ fn tags_with_an_identifier() -> Result<(), Fail> {
             put(&mut after, place, bytes);
             index = Some(at);
         }
-        equal(&rt, name, &(found, changed), &([index; 2], after));
+        equal!(rt, name;
+            found => [index; 2],
+            changed => after,
+        );
     }
     Ok(())
 }
@@ -452,11 +455,11 @@ static TEXTS: [(TagError, &str); 8] = [
 ];
 
 #[test]
-fn texts() -> Result<(), AllocError> {
+fn a_tag_error_names_the_cause() -> Result<(), AllocError> {
     let rt = crate::kit::HostRuntime;
     for (error, text) in &TEXTS {
         let shown = format!("{error}");
-        equal(&rt, text, &shown.as_str(), text);
+        equal!(rt, text; shown.as_str() => *text);
     }
     Ok(())
 }

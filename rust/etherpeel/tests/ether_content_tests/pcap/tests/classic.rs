@@ -78,22 +78,17 @@ static HEADERS: [(&str, &[u8], FileHeader); 4] = [
 ];
 
 #[test]
-fn headers() {
+fn a_file_header_is_read_whole_and_a_cut_one_refused() {
     let rt = crate::kit::HostRuntime;
     for (name, file, wanted) in &HEADERS {
-        equal(
-            &rt,
-            name,
-            &FileHeader::from_slice(file).as_ref(),
-            &Ok(wanted),
-        );
+        equal!(rt, name; FileHeader::from_slice(file).as_ref() => Ok(wanted));
         for len in 0..24 {
             let found = FileHeader::from_slice(&file[..len.min(file.len())]);
             let cut = FileHeaderError::Len {
                 required_len: 24,
                 len,
             };
-            equal(&rt, name, &found, &Err(cut));
+            equal!(rt, name; found => Err(cut));
         }
     }
 }
@@ -176,12 +171,12 @@ static CHANGED: [(&str, usize, [u8; 4], Result<FileHeader, FileHeaderError>); 18
 ];
 
 #[test]
-fn changed_headers() {
+fn a_changed_file_header_is_read_or_refused() {
     let rt = crate::kit::HostRuntime;
     for (name, place, bytes, wanted) in &CHANGED {
         let mut file = BIG_MICROSECONDS;
         put(&mut file, *place, bytes);
-        equal(&rt, name, &FileHeader::from_slice(&file), wanted);
+        equal!(rt, name; FileHeader::from_slice(&file) => *wanted);
     }
 }
 
@@ -275,30 +270,25 @@ fn are_read(
             }
             _ => false,
         };
-        equal(rt, name, &is_record, &true);
+        equal!(rt, name; is_record => true);
         place = *end;
     }
     let next = match found.next() {
         Some(Err(fault)) => Some(fault),
         _ => None,
     };
-    equal(
-        rt,
-        name,
-        &(
-            next,
-            found.next().is_none(),
-            found.offset(),
-            found.rest().len(),
-        ),
-        &(fault, true, place, file.len().saturating_sub(place)),
+    equal!(rt, name;
+        next => fault,
+        found.next().is_none() => true,
+        found.offset() => place,
+        found.rest().len() => file.len().saturating_sub(place),
     );
     Ok(())
 }
 
 /// Each file is cut at each byte from the file header's end on.
 #[test]
-fn records_of_whole_and_cut_files() -> Result<(), Fail> {
+fn records_are_read_up_to_the_cut() -> Result<(), Fail> {
     let rt = crate::kit::HostRuntime;
     for &(name, file, records) in &FILES {
         for len in 24..=file.len() {
@@ -331,13 +321,13 @@ static CAPTURED_LENS: [(&str, [u8; 4], RecordError); 3] = [
 ];
 
 #[test]
-fn the_greatest_number_of_captured_bytes() {
+fn a_record_with_too_many_captured_bytes_is_refused() {
     let rt = crate::kit::HostRuntime;
     for (name, captured_len, error) in &CAPTURED_LENS {
         let mut bytes = [0; 20];
         put(&mut bytes, 8, captured_len);
         let found = PcapRecord::from_slice(&HEADER, &bytes).err();
-        equal(&rt, name, &found.as_ref(), &Some(error));
+        equal!(rt, name; found.as_ref() => Some(error));
     }
 }
 
@@ -360,17 +350,18 @@ fn a_fault_ends_the_records() -> Result<(), Fail> {
         _ => None,
     };
     let is_over = records.next().is_none();
-    equal(
-        &rt,
-        "a record that no file has",
-        &(first, next, is_over, records.offset(), records.rest()),
-        &(58, Some(fault), true, 82, &file[82..]),
+    equal!(rt, "a record that no file has";
+        first => 58,
+        next => Some(fault),
+        is_over => true,
+        records.offset() => 82,
+        records.rest() => &file[82..],
     );
     Ok(())
 }
 
 #[test]
-fn a_time_beyond_its_second() {
+fn a_fraction_beyond_its_second_is_added() {
     let rt = crate::kit::HostRuntime;
     let record = PcapRecord {
         seconds: u32::MAX,
@@ -378,13 +369,10 @@ fn a_time_beyond_its_second() {
         original_len: 0,
         packet: &[],
     };
-    equal(
-        &rt,
-        "in microseconds and nanoseconds",
-        &[
+    equal!(rt, "in microseconds and nanoseconds";
+        [
             record.nanoseconds(TimestampResolution::Microseconds),
             record.nanoseconds(TimestampResolution::Nanoseconds),
-        ],
-        &[4_294_971_589_967_295_000, 4_294_967_299_294_967_295],
+        ] => [4_294_971_589_967_295_000, 4_294_967_299_294_967_295],
     );
 }

@@ -272,7 +272,7 @@ fn put_unit(target: &mut [u8], unit: &EditedUnit<'_>) -> usize {
 }
 
 #[test]
-fn of_packets() {
+fn an_edited_packet_stays_in_its_unit() {
     let rt = crate::kit::HostRuntime;
     for (name, file, unit, packet, original_len, wanted) in ROWS {
         let mut buffer = [0xFF; 64];
@@ -283,6 +283,6 @@ fn of_packets() {
             }
             None => None,
         };
-        equal(&rt, name, &found, wanted);
+        equal!(rt, name; found => *wanted);
     }
 }

@@ -10,20 +10,15 @@ use etherpeel::ether_pcap::{
 use crate::kit::Fail;
 
 #[test]
-fn of_numbers() {
+fn byte_orders_times_and_resolutions_are_those_of_the_example() {
     let rt = crate::kit::HostRuntime;
     let (big, little) = (ByteOrder::BigEndian, ByteOrder::LittleEndian);
-    equal(
-        &rt,
-        "byte orders",
-        &(
-            big.u16_of([0x02, 0x01]),
-            little.u16_of([0x02, 0x01]),
-            big.u32_of([0x04, 0x03, 0x02, 0x01]),
-            little.u32_of([0x04, 0x03, 0x02, 0x01]),
-            little.bytes_of_u16(258),
-        ),
-        &(513, 258, 0x0403_0201, 0x0102_0304, [0x02, 0x01]),
+    equal!(rt, "byte orders";
+        big.u16_of([0x02, 0x01]) => 513,
+        little.u16_of([0x02, 0x01]) => 258,
+        big.u32_of([0x04, 0x03, 0x02, 0x01]) => 0x0403_0201,
+        little.u32_of([0x04, 0x03, 0x02, 0x01]) => 0x0102_0304,
+        little.bytes_of_u16(258) => [0x02, 0x01],
     );
     let early = Timestamp {
         seconds: 1_700_000_000,
@@ -33,15 +28,10 @@ fn of_numbers() {
         required_len: 76,
         len: 20,
     });
-    equal(
-        &rt,
-        "units, times and errors",
-        &(
-            TimestampResolution::of_magic(0xA1B2_3C4D),
-            early.nanoseconds,
-            error.required_len(),
-        ),
-        &(Some(TimestampResolution::Nanoseconds), 5_000, Some(76)),
+    equal!(rt, "units, times and errors";
+        TimestampResolution::of_magic(0xA1B2_3C4D) => Some(TimestampResolution::Nanoseconds),
+        early.nanoseconds => 5_000,
+        error.required_len() => Some(76),
     );
 }
 
@@ -54,7 +44,7 @@ const FILE: [u8; 41] = [
 ];
 
 #[test]
-fn of_classic_files() -> Result<(), Fail> {
+fn a_classic_file_is_read_and_its_headers_written() -> Result<(), Fail> {
     let rt = crate::kit::HostRuntime;
     let bytes = [
         0xD4, 0xC3, 0xB2, 0xA1, 0x02, 0x00, 0x04, 0x00, 0x00, 0x00, 0x00, 0x00, //
@@ -67,11 +57,9 @@ fn of_classic_files() -> Result<(), Fail> {
         link_type: LinkType::ETHERNET,
         fcs_len: Some(4),
     };
-    equal(
-        &rt,
-        "a file header",
-        &(FileHeader::from_slice(&bytes), header.to_bytes()),
-        &(Ok(header), bytes),
+    equal!(rt, "a file header";
+        FileHeader::from_slice(&bytes) => Ok(header),
+        header.to_bytes() => bytes,
     );
     let file = FileHeader {
         byte_order: ByteOrder::BigEndian,
@@ -87,21 +75,17 @@ fn of_classic_files() -> Result<(), Fail> {
     ];
     let record = PcapRecord::from_slice(&file, &bytes)?;
     let nanoseconds = record.nanoseconds(file.resolution);
-    equal(
-        &rt,
-        "a record",
-        &(nanoseconds, record.original_len, record.packet),
-        &(1_700_000_000_000_005_000, 60, [0xFF, 0xFF].as_slice()),
+    equal!(rt, "a record";
+        nanoseconds => 1_700_000_000_000_005_000,
+        record.original_len => 60,
+        record.packet => [0xFF, 0xFF].as_slice(),
     );
     let wanted = [
         0x65, 0x53, 0xF1, 0x00, 0x00, 0x00, 0x00, 0x05, 0x00, 0x00, 0x00, 0x02, 0x00, 0x00, 0x00,
         0x3C,
     ];
-    equal(
-        &rt,
-        "a written header of a record",
-        &record.header_to_bytes(ByteOrder::BigEndian),
-        &wanted,
+    equal!(rt, "a written header of a record";
+        record.header_to_bytes(ByteOrder::BigEndian) => wanted,
     );
     let mut records = PcapRecords::from_slice(&FILE)?;
     let link_type = records.header().link_type;
@@ -110,11 +94,11 @@ fn of_classic_files() -> Result<(), Fail> {
         _ => &[],
     };
     let is_over = records.next().is_none();
-    equal(
-        &rt,
-        "the records of a file",
-        &(link_type, packet, is_over, records.offset()),
-        &(LinkType::ETHERNET, [0xFF].as_slice(), true, 41),
+    equal!(rt, "the records of a file";
+        link_type => LinkType::ETHERNET,
+        packet => [0xFF].as_slice(),
+        is_over => true,
+        records.offset() => 41,
     );
     Ok(())
 }
@@ -126,7 +110,7 @@ const SECTION: [u8; 28] = [
 ];
 
 #[test]
-fn of_blocks() -> Result<(), Fail> {
+fn a_section_header_and_a_block_are_read() -> Result<(), Fail> {
     let rt = crate::kit::HostRuntime;
     let section = [
         0x0A, 0x0D, 0x0D, 0x0A, 0x1C, 0x00, 0x00, 0x00, 0x4D, 0x3C, 0x2B, 0x1A, 0x01, 0x00, 0x00,
@@ -139,29 +123,18 @@ fn of_blocks() -> Result<(), Fail> {
         0x10, //
     ];
     let block = PcapngBlock::from_slice(ByteOrder::BigEndian, &bytes)?;
-    equal(
-        &rt,
-        "a section header and a block",
-        &(
-            section.byte_order,
-            section.block.block_len(),
-            block.block_type,
-            block.body,
-            block.block_len(),
-        ),
-        &(
-            ByteOrder::LittleEndian,
-            28,
-            PcapngBlock::SIMPLE_PACKET,
-            [0x00; 4].as_slice(),
-            16,
-        ),
+    equal!(rt, "a section header and a block";
+        section.byte_order => ByteOrder::LittleEndian,
+        section.block.block_len() => 28,
+        block.block_type => PcapngBlock::SIMPLE_PACKET,
+        block.body => [0x00; 4].as_slice(),
+        block.block_len() => 16,
     );
     Ok(())
 }
 
 #[test]
-fn of_bodies() -> Result<(), Fail> {
+fn an_interface_and_packets_are_read_from_bodies() -> Result<(), Fail> {
     let rt = crate::kit::HostRuntime;
     let order = ByteOrder::BigEndian;
     let body = [
@@ -176,27 +149,21 @@ fn of_bodies() -> Result<(), Fail> {
     let packet = EnhancedPacket::from_body(order, &body)?;
     let body = [0x00, 0x00, 0x00, 0x3C, 0xFF, 0xFF, 0x00, 0x00];
     let simple = SimplePacket::from_body(order, 2, &body)?;
-    equal(
-        &rt,
-        "an interface description",
-        &(interface.link_type, interface.snap_len, interface.fcs_len()),
-        &(LinkType::ETHERNET, 262_144, Some(4)),
+    equal!(rt, "an interface description";
+        interface.link_type => LinkType::ETHERNET,
+        interface.snap_len => 262_144,
+        interface.fcs_len() => Some(4),
     );
-    equal(
-        &rt,
-        "packets",
-        &(
-            packet.time,
-            [packet.original_len, simple.original_len],
-            [packet.packet, simple.packet],
-        ),
-        &(4_294_967_298, [60, 60], [[0xFF, 0xFF].as_slice(); 2]),
+    equal!(rt, "packets";
+        packet.time => 4_294_967_298,
+        [packet.original_len, simple.original_len] => [60, 60],
+        [packet.packet, simple.packet] => [[0xFF, 0xFF].as_slice(); 2],
     );
     Ok(())
 }
 
 #[test]
-fn of_a_reader() -> Result<(), Fail> {
+fn a_reader_takes_one_unit_at_a_time() -> Result<(), Fail> {
     let rt = crate::kit::HostRuntime;
     let mut reader = CaptureReader::new(ArrayVec::<CaptureInterface, 16>::new());
     let packet = CapturedPacket {
@@ -221,17 +188,12 @@ fn of_a_reader() -> Result<(), Fail> {
             packet: Some(packet),
         },
     ];
-    equal(
-        &rt,
-        "the units of a file",
-        &[reader.read(&FILE)?, reader.read(&FILE[24..])?],
-        &units,
-    );
+    equal!(rt, "the units of a file"; [reader.read(&FILE)?, reader.read(&FILE[24..])?] => units);
     Ok(())
 }
 
 #[test]
-fn of_an_edited_packet() -> Result<(), Fail> {
+fn an_edited_record_has_new_lengths() -> Result<(), Fail> {
     let rt = crate::kit::HostRuntime;
     let file = [
         0xA1, 0xB2, 0xC3, 0xD4, 0x00, 0x02, 0x00, 0x04, 0x00, 0x00, 0x00, 0x00, // file header
@@ -253,17 +215,16 @@ fn of_an_edited_packet() -> Result<(), Fail> {
         header,
         packet: &packet,
     };
-    equal(
-        &rt,
-        "a record",
-        &(header_len, record_len, found),
-        &(24, 19, Some(wanted)),
+    equal!(rt, "a record";
+        header_len => 24,
+        record_len => 19,
+        found => Some(wanted),
     );
     Ok(())
 }
 
 #[test]
-fn of_a_copied_header() -> Result<(), Fail> {
+fn a_copied_file_header_has_a_raised_snap_length() -> Result<(), Fail> {
     let rt = crate::kit::HostRuntime;
     let file = [
         0xA1, 0xB2, 0xC3, 0xD4, 0x00, 0x02, 0x00, 0x04, 0x00, 0x00, 0x00, 0x00, // file header
@@ -277,12 +238,15 @@ fn of_a_copied_header() -> Result<(), Fail> {
         snap_len: [0x00, 0x00, 0x00, 0x64],
         rest: &file[20..],
     };
-    equal(&rt, "a file header", &(header_len, copied), &(24, wanted));
+    equal!(rt, "a file header";
+        header_len => 24,
+        copied => wanted,
+    );
     Ok(())
 }
 
 #[test]
-fn of_written_blocks() {
+fn blocks_are_written_in_both_byte_orders() {
     let rt = crate::kit::HostRuntime;
     let packet = EnhancedPacket {
         interface: 0,
@@ -343,21 +307,13 @@ fn of_written_blocks() {
             snap_len: 262_144,
             options: &options,
         };
-        equal(
-            &rt,
-            name,
-            &(
-                SectionHeader::to_bytes(order),
-                InterfaceDescription::nanosecond_options(order),
-                description.header_to_bytes(),
-                packet.header_to_bytes(order),
-                packet.padding_len(),
-                (
-                    description.trailer_to_bytes(),
-                    packet.trailer_to_bytes(order),
-                ),
-            ),
-            &(section, options, interface, header, 2, lens),
+        equal!(rt, name;
+            SectionHeader::to_bytes(order) => section,
+            InterfaceDescription::nanosecond_options(order) => options,
+            description.header_to_bytes() => interface,
+            packet.header_to_bytes(order) => header,
+            packet.padding_len() => 2,
+            (description.trailer_to_bytes(), packet.trailer_to_bytes(order)) => lens,
         );
     }
 }

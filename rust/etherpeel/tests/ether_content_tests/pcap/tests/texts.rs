@@ -16,7 +16,7 @@ fn reads(
     text: &str,
 ) -> Result<(), AllocError> {
     let shown = format!("{error}");
-    equal(rt, text, &shown.as_str(), &text);
+    equal!(rt, text; shown.as_str() => text);
     Ok(())
 }
 
@@ -56,12 +56,12 @@ static FILE_HEADERS: [(FileHeaderError, &str, &str); 5] = [
 ];
 
 #[test]
-fn of_file_headers() -> Result<(), Fail> {
+fn a_file_header_error_names_the_cause() -> Result<(), Fail> {
     let rt = crate::kit::HostRuntime;
     for (error, text, debug) in &FILE_HEADERS {
         reads(&rt, error, text)?;
         let shown = format!("{error:?}");
-        equal(&rt, debug, &shown.as_str(), debug);
+        equal!(rt, debug; shown.as_str() => *debug);
     }
     Ok(())
 }
@@ -88,7 +88,7 @@ static RECORDS: [(RecordFault, &str); 2] = [
 ];
 
 #[test]
-fn of_records() -> Result<(), Fail> {
+fn a_record_fault_names_its_offset_and_its_cause() -> Result<(), Fail> {
     let rt = crate::kit::HostRuntime;
     for (fault, text) in &RECORDS {
         reads(&rt, fault, text)?;
@@ -133,7 +133,7 @@ static SECTION_HEADERS: [(SectionError, &str); 6] = [
 ];
 
 #[test]
-fn of_section_headers() -> Result<(), Fail> {
+fn a_section_error_names_the_cause() -> Result<(), Fail> {
     let rt = crate::kit::HostRuntime;
     for (error, text) in &SECTION_HEADERS {
         reads(&rt, error, text)?;
@@ -164,7 +164,7 @@ static CAPTURES: [(CaptureError, &str); 4] = [
 ];
 
 #[test]
-fn of_captures() -> Result<(), Fail> {
+fn a_capture_error_names_the_cause() -> Result<(), Fail> {
     let rt = crate::kit::HostRuntime;
     for (error, text) in &CAPTURES {
         reads(&rt, error, text)?;
