@@ -4,7 +4,7 @@ use etherparse::err::Layer;
 
 /// A header as numbers. An Ethernet address is its six bytes as one number, the first byte the highest, and so are the
 /// address field of a cooked capture and an SCI. The addresses of an ARP packet are parts of the frame.
-#[derive(Clone, Copy, PartialEq)]
+#[derive(Clone, Copy, PartialEq, Debug)]
 pub enum PlainHeader<'a> {
     Ethernet2 {
         destination: u64,

@@ -99,68 +99,42 @@ static ROWS: [Row; 5] = [
 ];
 
 #[test]
-fn views(rt: HostRuntime) -> Result<(), Fail> {
+fn an_arp_view_shows_types_sizes_and_addresses(rt: HostRuntime) -> Result<(), Fail> {
     for row in &ROWS {
         let view = ArpPacketSlice::from_slice(row.bytes)?;
-        equal(
-            &rt,
-            row.name,
-            &(
-                Some(view.slice()),
-                (view.hw_addr_type(), view.proto_addr_type()),
-                (view.hw_addr_size(), view.proto_addr_size()),
-                view.operation(),
-                [
-                    view.sender_hw_addr(),
-                    view.sender_protocol_addr(),
-                    view.target_hw_addr(),
-                    view.target_protocol_addr(),
-                ],
-            ),
-            &(
-                row.bytes.get(..row.len),
-                (
-                    ArpHardwareId(row.hardware_type),
-                    EtherType(row.protocol_type),
-                ),
-                row.sizes,
-                ArpOperation(row.operation),
-                row.addresses,
-            ),
+        equal!(rt, row.name;
+            Some(view.slice()) => row.bytes.get(..row.len),
+            view.hw_addr_type() => ArpHardwareId(row.hardware_type),
+            view.proto_addr_type() => EtherType(row.protocol_type),
+            (view.hw_addr_size(), view.proto_addr_size()) => row.sizes,
+            view.operation() => ArpOperation(row.operation),
+            [
+                view.sender_hw_addr(),
+                view.sender_protocol_addr(),
+                view.target_hw_addr(),
+                view.target_protocol_addr(),
+            ] => row.addresses,
         );
     }
     Ok(())
 }
 
 #[test]
-fn values(rt: HostRuntime) -> Result<(), Fail> {
+fn an_arp_packet_has_the_fields_of_its_bytes(rt: HostRuntime) -> Result<(), Fail> {
     for row in &ROWS {
         let packet = ArpPacket::from_slice(row.bytes)?;
-        equal(
-            &rt,
-            row.name,
-            &(
-                (packet.hw_addr_type, packet.proto_addr_type),
-                (packet.hw_addr_size(), packet.protocol_addr_size()),
-                packet.operation,
-                [
-                    packet.sender_hw_addr(),
-                    packet.sender_protocol_addr(),
-                    packet.target_hw_addr(),
-                    packet.target_protocol_addr(),
-                ],
-                packet.packet_len(),
-            ),
-            &(
-                (
-                    ArpHardwareId(row.hardware_type),
-                    EtherType(row.protocol_type),
-                ),
-                row.sizes,
-                ArpOperation(row.operation),
-                row.addresses,
-                row.len,
-            ),
+        equal!(rt, row.name;
+            packet.hw_addr_type => ArpHardwareId(row.hardware_type),
+            packet.proto_addr_type => EtherType(row.protocol_type),
+            (packet.hw_addr_size(), packet.protocol_addr_size()) => row.sizes,
+            packet.operation => ArpOperation(row.operation),
+            [
+                packet.sender_hw_addr(),
+                packet.sender_protocol_addr(),
+                packet.target_hw_addr(),
+                packet.target_protocol_addr(),
+            ] => row.addresses,
+            packet.packet_len() => row.len,
         );
     }
     Ok(())
@@ -168,7 +142,7 @@ fn values(rt: HostRuntime) -> Result<(), Fail> {
 
 /// What is made of the types and addresses, and what a view is as a value, is the packet that was read.
 #[test]
-fn made_and_written(rt: HostRuntime) -> Result<(), Fail> {
+fn an_arp_packet_made_of_fields_is_the_one_that_was_read(rt: HostRuntime) -> Result<(), Fail> {
     for row in &ROWS {
         let read = ArpPacket::from_slice(row.bytes)?;
         let [
@@ -190,11 +164,9 @@ fn made_and_written(rt: HostRuntime) -> Result<(), Fail> {
         let packets = [read.clone()?, made, view.to_packet()];
         for packet in &packets {
             let bytes = packet.to_bytes();
-            equal(
-                &rt,
-                row.name,
-                &(Some(bytes.as_slice()), packet),
-                &(row.bytes.get(..row.len), &read),
+            equal!(rt, row.name;
+                Some(bytes.as_slice()) => row.bytes.get(..row.len),
+                packet => &read,
             );
         }
     }
@@ -202,42 +174,28 @@ fn made_and_written(rt: HostRuntime) -> Result<(), Fail> {
 }
 
 #[test]
-fn the_greatest_sizes(rt: HostRuntime) -> Result<(), Fail> {
+fn arp_addresses_of_255_bytes_are_read(rt: HostRuntime) -> Result<(), Fail> {
     let mut bytes = [7; 1028];
     bytes[4] = 255;
     bytes[5] = 255;
     let view = ArpPacketSlice::from_slice(&bytes)?;
     let packet = ArpPacket::from_slice(&bytes)?;
     let sevens = [7; 255];
-    equal(
-        &rt,
-        "of four addresses",
-        &(
-            view.slice(),
-            view.target_protocol_addr(),
-            packet.target_protocol_addr(),
-            (packet.packet_len(), ArpPacket::MAX_LEN),
-        ),
-        &(
-            bytes.as_slice(),
-            sevens.as_slice(),
-            sevens.as_slice(),
-            (1028, 1028),
-        ),
+    equal!(rt, "of four addresses";
+        view.slice() => bytes.as_slice(),
+        view.target_protocol_addr() => sevens.as_slice(),
+        packet.target_protocol_addr() => sevens.as_slice(),
+        packet.packet_len() => 1028,
+        ArpPacket::MAX_LEN => 1028,
     );
     let mut bytes = [7; 518];
     bytes[4] = 255;
     bytes[5] = 0;
     let view = ArpPacketSlice::from_slice(&bytes)?;
-    equal(
-        &rt,
-        "of hardware addresses alone",
-        &(
-            view.slice(),
-            view.target_hw_addr(),
-            view.target_protocol_addr(),
-        ),
-        &(bytes.as_slice(), sevens.as_slice(), [].as_slice()),
+    equal!(rt, "of hardware addresses alone";
+        view.slice() => bytes.as_slice(),
+        view.target_hw_addr() => sevens.as_slice(),
+        view.target_protocol_addr() => [].as_slice(),
     );
     Ok(())
 }
@@ -285,7 +243,7 @@ static SHORT: [(&str, &[u8], usize, usize, LenSource); 7] = [
 ];
 
 #[test]
-fn slices_that_are_too_short(rt: HostRuntime) {
+fn a_cut_arp_packet_names_the_missing_bytes(rt: HostRuntime) {
     for &(name, front, len, required_len, len_source) in &SHORT {
         let mut buffer = [7; 1028];
         for (to, byte) in buffer.iter_mut().zip(front) {
@@ -301,32 +259,25 @@ fn slices_that_are_too_short(rt: HostRuntime) {
         };
         let view = ArpPacketSlice::from_slice(bytes).err();
         let alike = ArpPacket::from_slice(bytes).err() == view;
-        equal(&rt, name, &(view, alike), &(Some(refused), true));
+        equal!(rt, name;
+            view => Some(refused),
+            alike => true,
+        );
     }
 }
 
 #[test]
-fn of_ethernet_and_ipv4(rt: HostRuntime) -> Result<(), Fail> {
+fn an_ethernet_ipv4_request_converts_both_ways(rt: HostRuntime) -> Result<(), Fail> {
     let packet = QUESTION.to_arp_packet();
-    equal(
-        &rt,
-        "the request",
-        &(
-            (QUESTION.to_bytes(), ArpEthIpv4Packet::LEN),
-            (QUESTION.sender_ipv4_addr(), QUESTION.target_ipv4_addr()),
-            packet.try_eth_ipv4(),
-            ArpPacket::from(QUESTION) == packet,
-            ArpPacket::from_slice(&REQUEST)? == packet,
-            ArpEthIpv4Packet::try_from(packet),
-        ),
-        &(
-            (REQUEST, 28),
-            (Ipv4Addr::new(10, 0, 0, 1), Ipv4Addr::new(10, 0, 0, 2)),
-            Ok(QUESTION),
-            true,
-            true,
-            Ok(QUESTION),
-        ),
+    equal!(rt, "the request";
+        QUESTION.to_bytes() => REQUEST,
+        ArpEthIpv4Packet::LEN => 28,
+        QUESTION.sender_ipv4_addr() => Ipv4Addr::new(10, 0, 0, 1),
+        QUESTION.target_ipv4_addr() => Ipv4Addr::new(10, 0, 0, 2),
+        packet.try_eth_ipv4() => Ok(QUESTION),
+        ArpPacket::from(QUESTION) == packet => true,
+        ArpPacket::from_slice(&REQUEST)? == packet => true,
+        ArpEthIpv4Packet::try_from(packet) => Ok(QUESTION),
     );
     Ok(())
 }
@@ -373,7 +324,7 @@ static OTHERS: [Other; 4] = [
 ];
 
 #[test]
-fn of_other_kinds(rt: HostRuntime) -> Result<(), Fail> {
+fn other_arp_packets_are_refused_as_ethernet_ipv4(rt: HostRuntime) -> Result<(), Fail> {
     for (name, hardware_type, protocol_type, hardware, wanted) in &OTHERS {
         let packet = ArpPacket::new(
             *hardware_type,
@@ -386,21 +337,22 @@ fn of_other_kinds(rt: HostRuntime) -> Result<(), Fail> {
         )?;
         let refused = packet.try_eth_ipv4().err();
         let alike = ArpEthIpv4Packet::try_from(packet).err() == refused;
-        equal(&rt, name, &(refused.as_ref(), alike), &(Some(wanted), true));
+        equal!(rt, name;
+            refused.as_ref() => Some(wanted),
+            alike => true,
+        );
     }
     Ok(())
 }
 
 #[test]
-fn shown_by_debug(rt: HostRuntime) -> Result<(), Fail> {
+fn debug_shows_arp_packets(rt: HostRuntime) -> Result<(), Fail> {
     let packet = ArpPacket::from_slice(&REQUEST)?;
     let view = ArpPacketSlice::from_slice(&REQUEST)?;
     let shown = format!(in rt.alloc(); "{:?}", (packet, view, QUESTION))?;
-    equal(
-        &rt,
-        "a request, its view, and as one of Ethernet and IPv4",
-        &shown.as_str(),
-        &"(ArpPacket { hw_addr_type: 1 (Ethernet), proto_addr_type: 0x0800 (Internet Protocol version 4 (IPv4)), hw_addr_size: 6, proto_addr_size: 4, operation: ArpOperation(1), sender_hw_addr: [2, 0, 0, 0, 0, 1], sender_protocol_addr: [10, 0, 0, 1], target_hw_addr: [0, 0, 0, 0, 0, 0], target_protocol_addr: [10, 0, 0, 2] }, \
+    equal!(rt, "a request, its view, and as one of Ethernet and IPv4";
+        shown.as_str()
+            => "(ArpPacket { hw_addr_type: 1 (Ethernet), proto_addr_type: 0x0800 (Internet Protocol version 4 (IPv4)), hw_addr_size: 6, proto_addr_size: 4, operation: ArpOperation(1), sender_hw_addr: [2, 0, 0, 0, 0, 1], sender_protocol_addr: [10, 0, 0, 1], target_hw_addr: [0, 0, 0, 0, 0, 0], target_protocol_addr: [10, 0, 0, 2] }, \
 ArpPacketSlice { slice: [0, 1, 8, 0, 6, 4, 0, 1, 2, 0, 0, 0, 0, 1, 10, 0, 0, 1, 0, 0, 0, 0, 0, 0, 10, 0, 0, 2] }, \
 ArpEthIpv4Packet { operation: ArpOperation(1), sender_mac: [2, 0, 0, 0, 0, 1], sender_ipv4: [10, 0, 0, 1], target_mac: [0, 0, 0, 0, 0, 0], target_ipv4: [10, 0, 0, 2] })",
     );

@@ -50,14 +50,9 @@ static REFUSED: [(&str, [&[u8]; 4], ArpNewError); 4] = [
 ];
 
 #[test]
-fn addresses_that_are_refused(rt: HostRuntime) {
+fn a_new_arp_packet_refuses_unequal_and_long_addresses(rt: HostRuntime) {
     for (name, addresses, wanted) in &REFUSED {
-        equal(
-            &rt,
-            name,
-            &request(*addresses).err().as_ref(),
-            &Some(wanted),
-        );
+        equal!(rt, name; request(*addresses).err().as_ref() => Some(wanted));
     }
 }
 
@@ -159,7 +154,7 @@ static CHANGES: [Change; 9] = [
 
 /// Addresses that are set are those of the packet that is read from its bytes, and are hashed as these are.
 #[test]
-fn other_addresses(rt: HostRuntime) -> Result<(), Fail> {
+fn addresses_that_are_set_are_written_and_hashed(rt: HostRuntime) -> Result<(), Fail> {
     for change in &CHANGES {
         let mut packet = ArpPacket::from_slice(change.before)?;
         if let Some(addresses) = change.protocol {
@@ -171,11 +166,10 @@ fn other_addresses(rt: HostRuntime) -> Result<(), Fail> {
         let read = ArpPacket::from_slice(change.after)?;
         packet.operation = read.operation;
         let bytes = packet.to_bytes();
-        equal(
-            &rt,
-            change.name,
-            &(bytes.as_slice(), hash_of(&packet), &packet),
-            &(change.after, hash_of(&read), &read),
+        equal!(rt, change.name;
+            bytes.as_slice() => change.after,
+            hash_of(&packet) => hash_of(&read),
+            &packet => &read,
         );
     }
     Ok(())
@@ -183,15 +177,13 @@ fn other_addresses(rt: HostRuntime) -> Result<(), Fail> {
 
 /// Addresses that are set are those of the packet that is made of them.
 #[test]
-fn other_addresses_of_a_new_packet(rt: HostRuntime) -> Result<(), Fail> {
+fn addresses_that_are_set_equal_those_given_at_first(rt: HostRuntime) -> Result<(), Fail> {
     let mut packet = ArpPacket::from_slice(&REQUEST)?;
     packet.set_hw_addrs(&[0xAA, 0xBB], &[0xCC, 0xDD])?;
     let made = request([&[0xAA, 0xBB], &[10, 0, 0, 1], &[0xCC, 0xDD], &[10, 0, 0, 2]])?;
-    equal(
-        &rt,
-        "other hardware addresses",
-        &(hash_of(&packet), &packet),
-        &(hash_of(&made), &made),
+    equal!(rt, "other hardware addresses";
+        hash_of(&packet) => hash_of(&made),
+        &packet => &made,
     );
     Ok(())
 }
@@ -200,32 +192,23 @@ fn other_addresses_of_a_new_packet(rt: HostRuntime) -> Result<(), Fail> {
 static GREATEST: [[u8; 255]; 6] = [[1; 255], [2; 255], [3; 255], [4; 255], [5; 255], [6; 255]];
 
 #[test]
-fn addresses_grow_and_shrink(rt: HostRuntime) -> Result<(), Fail> {
+fn arp_addresses_grow_and_shrink(rt: HostRuntime) -> Result<(), Fail> {
     let [one, two, three, four, five, six] = &GREATEST;
     let mut packet = request([one, two, three, four])?;
     let full = packet.packet_len();
     packet.set_hw_addrs(&[], &[])?;
     let shrunk = packet.clone()?;
     packet.set_hw_addrs(five, six)?;
-    equal(
-        &rt,
-        "the greatest ones, no hardware addresses, and the greatest ones again",
-        &(
-            [full, shrunk.packet_len(), packet.packet_len()],
-            shrunk,
-            packet,
-        ),
-        &(
-            [1028, 518, 1028],
-            request([&[], two, &[], four])?,
-            request([five, two, six, four])?,
-        ),
+    equal!(rt, "the greatest ones, no hardware addresses, and the greatest ones again";
+        [full, shrunk.packet_len(), packet.packet_len()] => [1028, 518, 1028],
+        shrunk => request([&[], two, &[], four])?,
+        packet => request([five, two, six, four])?,
     );
     Ok(())
 }
 
 #[test]
-fn refused_addresses_change_nothing(rt: HostRuntime) -> Result<(), Fail> {
+fn refused_arp_addresses_change_nothing(rt: HostRuntime) -> Result<(), Fail> {
     let before = ArpPacket::from_slice(&REQUEST)?;
     let mut packet = before.clone()?;
     let hardware = [
@@ -237,28 +220,19 @@ fn refused_addresses_change_nothing(rt: HostRuntime) -> Result<(), Fail> {
         packet.set_protocol_addrs(&[1; 256], &[2; 256]),
     ];
     let bytes = packet.to_bytes();
-    equal(
-        &rt,
-        "addresses of two lengths, and of 256 bytes",
-        &(hardware, protocol, &packet, bytes.as_slice()),
-        &(
-            [
-                Err(ArpHwAddrError::LenNonMatching(256, 255)),
-                Err(ArpHwAddrError::LenTooBig(256)),
-            ],
-            [
-                Err(ArpProtoAddrError::LenNonMatching(3, 5)),
-                Err(ArpProtoAddrError::LenTooBig(256)),
-            ],
-            &before,
-            REQUEST.as_slice(),
-        ),
+    equal!(rt, "addresses of two lengths, and of 256 bytes";
+        hardware
+            => [Err(ArpHwAddrError::LenNonMatching(256, 255)), Err(ArpHwAddrError::LenTooBig(256))],
+        protocol
+            => [Err(ArpProtoAddrError::LenNonMatching(3, 5)), Err(ArpProtoAddrError::LenTooBig(256))],
+        &packet => &before,
+        bytes.as_slice() => REQUEST.as_slice(),
     );
     Ok(())
 }
 
 #[test]
-fn sizes_cut_the_same_bytes_differently(rt: HostRuntime) -> Result<(), Fail> {
+fn arp_packets_differ_by_the_sizes_that_cut_the_same_bytes(rt: HostRuntime) -> Result<(), Fail> {
     let packet = request([&[1], &[2, 3], &[4], &[5, 6]])?;
     let other = request([&[1, 2], &[3], &[4, 5], &[6]])?;
     let mut cut = other.clone()?;
@@ -266,11 +240,8 @@ fn sizes_cut_the_same_bytes_differently(rt: HostRuntime) -> Result<(), Fail> {
     cut.set_protocol_addrs(&[2, 3], &[5, 6])?;
     let hardware = request([&[1, 2], &[], &[3, 4], &[]])?;
     let protocol = request([&[], &[1, 2], &[], &[3, 4]])?;
-    equal(
-        &rt,
-        "which are equal",
-        &[packet == other, packet == cut, hardware == protocol],
-        &[false, true, false],
+    equal!(rt, "which are equal";
+        [packet == other, packet == cut, hardware == protocol] => [false, true, false],
     );
     Ok(())
 }

@@ -11,7 +11,7 @@ use etherparse::{
 use std::test::Fail;
 
 #[test]
-fn of_errors(rt: HostRuntime) -> Result<(), Fail> {
+fn an_offset_moves_length_errors_alone(rt: HostRuntime) -> Result<(), Fail> {
     let short = LenError {
         required_len: 4,
         len: 2,
@@ -24,64 +24,45 @@ fn of_errors(rt: HostRuntime) -> Result<(), Fail> {
     let shown = format!(in rt.alloc(); "{version}\n{}", HexNumber(0x01AB))?;
     let sec_tag = macsec::HeaderSliceError::Content(version);
     let capture = linux_sll::HeaderSliceError::Content(packet_type);
-    equal(
-        &rt,
-        "a length moves, contents stay",
-        &(
-            short.add_offset(14).layer_start_offset,
-            sec_tag.clone()?.add_slice_offset(14) == sec_tag,
-            capture.clone()?.add_slice_offset(14) == capture,
-            shown.as_str(),
-        ),
-        &(
-            14,
-            true,
-            true,
-            "MACsec Header Error: Encountered '1' as MACsec version in the MACsec SecTag header (must be '0').\n\
+    equal!(rt, "a length moves, contents stay";
+        short.add_offset(14).layer_start_offset => 14,
+        sec_tag.clone()?.add_slice_offset(14) == sec_tag => true,
+        capture.clone()?.add_slice_offset(14) == capture => true,
+        shown.as_str()
+            => "MACsec Header Error: Encountered '1' as MACsec version in the MACsec SecTag header (must be '0').\n\
 0x01AB",
-        ),
     );
     Ok(())
 }
 
 #[test]
-fn of_frames(rt: HostRuntime) -> Result<(), Fail> {
+fn an_untagged_frame_shows_its_fields(rt: HostRuntime) -> Result<(), Fail> {
     let bytes = [
         255, 255, 255, 255, 255, 255, 2, 0, 0, 0, 0, 1, 0x08, 0x00, 0x45,
     ];
     let header = Ethernet2HeaderSlice::from_slice(&bytes)?;
     let frame = Ethernet2Slice::from_slice_without_fcs(&bytes)?;
-    equal(
-        &rt,
-        "a frame",
-        &(
-            (header.destination(), header.source(), header.ether_type()),
-            header.slice(),
-            (frame.ether_type(), frame.payload_slice(), frame.fcs()),
-        ),
-        &(
-            ([0xFF; 6], [2, 0, 0, 0, 0, 1], EtherType::IPV4),
-            &bytes[..14],
-            (EtherType::IPV4, [0x45].as_slice(), None),
-        ),
+    equal!(rt, "a frame";
+        header.destination() => [0xFF; 6],
+        header.source() => [2, 0, 0, 0, 0, 1],
+        header.ether_type() => EtherType::IPV4,
+        header.slice() => &bytes[..14],
+        frame.ether_type() => EtherType::IPV4,
+        frame.payload_slice() => [0x45].as_slice(),
+        frame.fcs() => None,
     );
     Ok(())
 }
 
 #[test]
-fn of_vlan_tags(rt: HostRuntime) -> Result<(), Fail> {
+fn one_tag_and_two_show_identifiers_and_payloads(rt: HostRuntime) -> Result<(), Fail> {
     let tag = SingleVlanSlice::from_slice(&TAG)?;
     let payload = tag.payload();
     let tags = VlanSlice::SingleVlan(tag);
-    equal(
-        &rt,
-        "one tag",
-        &(
-            payload,
-            tags.to_header().next_header(),
-            tags.payload().payload,
-        ),
-        &(ipv4(&[0x45]), EtherType::IPV4, [0x45].as_slice()),
+    equal!(rt, "one tag";
+        payload => ipv4(&[0x45]),
+        tags.to_header().next_header() => EtherType::IPV4,
+        tags.payload().payload => [0x45].as_slice(),
     );
     let bytes = [0x00, 0x0A, 0x81, 0x00, 0x00, 0x64, 0x08, 0x00, 0x45];
     let outer = SingleVlanSlice::from_slice(&bytes)?;
@@ -90,23 +71,18 @@ fn of_vlan_tags(rt: HostRuntime) -> Result<(), Fail> {
     let outer = SingleVlanHeader::from_bytes([0x00, 0x0A, 0x81, 0x00]);
     let inner = SingleVlanHeader::from_bytes([0x00, 0x64, 0x08, 0x00]);
     let headers = VlanHeader::Double(DoubleVlanHeader { outer, inner });
-    equal(
-        &rt,
-        "two tags",
-        &(
-            tags.outer.vlan_identifier().value(),
-            tags.inner.vlan_identifier().value(),
-            tags.payload_slice(),
-            VlanHeader::VLAN_ETHER_TYPES.contains(&outer.ether_type),
-            headers.next_header(),
-        ),
-        &(10, 100, [0x45].as_slice(), true, EtherType::IPV4),
+    equal!(rt, "two tags";
+        tags.outer.vlan_identifier().value() => 10,
+        tags.inner.vlan_identifier().value() => 100,
+        tags.payload_slice() => [0x45].as_slice(),
+        VlanHeader::VLAN_ETHER_TYPES.contains(&outer.ether_type) => true,
+        headers.next_header() => EtherType::IPV4,
     );
     Ok(())
 }
 
 #[test]
-fn of_sec_tags(rt: HostRuntime) -> Result<(), Fail> {
+fn sec_tags_show_the_types_of_their_payloads(rt: HostRuntime) -> Result<(), Fail> {
     let readable = MacsecHeader::from_slice(&[0x00, 0x00, 0, 0, 0, 1, 0x08, 0x00])?;
     let encrypted = MacsecHeader::from_slice(&[0x0C, 0x00, 0, 0, 0, 1])?;
     let packet = MacsecSlice::from_slice(&[0x00, 0x03, 0, 0, 0, 1, 0x08, 0x00, 0x45, 0xEE])?;
@@ -115,21 +91,11 @@ fn of_sec_tags(rt: HostRuntime) -> Result<(), Fail> {
         len_source: LenSource::MacsecShortLength,
         payload: &[0x45],
     };
-    equal(
-        &rt,
-        "payload types, and a packet",
-        &(
-            readable.ptype,
-            encrypted.ptype,
-            packet.header.packet_nr(),
-            packet.ether_payload(),
-        ),
-        &(
-            MacsecPType::Unmodified(EtherType::IPV4),
-            MacsecPType::Encrypted,
-            1,
-            Some(payload),
-        ),
+    equal!(rt, "payload types, and a packet";
+        readable.ptype => MacsecPType::Unmodified(EtherType::IPV4),
+        encrypted.ptype => MacsecPType::Encrypted,
+        packet.header.packet_nr() => 1,
+        packet.ether_payload() => Some(payload),
     );
     Ok(())
 }

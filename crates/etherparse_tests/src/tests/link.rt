@@ -32,7 +32,7 @@ const fn sll(ether_type: EtherType, payload: &[u8]) -> LinuxSllPayloadSlice<'_> 
 }
 
 #[test]
-fn headers(rt: HostRuntime) {
+fn a_link_header_lends_its_own_variant_alone(rt: HostRuntime) {
     for ether_type in [EtherType::IPV4, EtherType(0x0806)] {
         let mut link = LinkHeader::Ethernet2(Ethernet2Header::default());
         let parts = (link.ethernet2(), link.linux_sll(), link.header_len());
@@ -44,15 +44,10 @@ fn headers(rt: HostRuntime) {
             ether_type,
             ..Ethernet2Header::default()
         });
-        equal(
-            &rt,
-            "of a frame, and changed",
-            &(parts, lent, &link),
-            &(
-                (Some(Ethernet2Header::default()), None, 14),
-                false,
-                &changed,
-            ),
+        equal!(rt, "of a frame, and changed";
+            parts => (Some(Ethernet2Header::default()), None, 14),
+            lent => false,
+            &link => &changed,
         );
     }
     let mut link = LinkHeader::LinuxSll(NETLINK);
@@ -65,11 +60,10 @@ fn headers(rt: HostRuntime) {
         packet_type: LinuxSllPacketType::HOST,
         ..NETLINK
     });
-    equal(
-        &rt,
-        "of a packet of cooked capture, and changed",
-        &(parts, lent, &link),
-        &((None, Some(NETLINK), 16), false, &changed),
+    equal!(rt, "of a packet of cooked capture, and changed";
+        parts => (None, Some(NETLINK), 16),
+        lent => false,
+        &link => &changed,
     );
 }
 
@@ -82,13 +76,13 @@ fn is_link(
     ether_payload: &Option<EtherPayloadSlice<'_>>,
     sll_payload: &LinuxSllPayloadSlice<'_>,
 ) {
-    equal(rt, name, &link.to_header(), header);
-    equal(rt, name, &link.ether_payload(), ether_payload);
-    equal(rt, name, &link.sll_payload(), sll_payload);
+    equal!(rt, name; link.to_header() => *header);
+    equal!(rt, name; link.ether_payload() => *ether_payload);
+    equal!(rt, name; link.sll_payload() => *sll_payload);
 }
 
 #[test]
-fn packets(rt: HostRuntime) -> Result<(), Fail> {
+fn a_link_has_the_header_and_the_payload_of_its_packet(rt: HostRuntime) -> Result<(), Fail> {
     let frame = Ethernet2Slice::from_slice_without_fcs(&FRAME)?;
     let header = Some(LinkHeader::Ethernet2(frame.to_header()));
     let payload = &FRAME[14..];
@@ -118,7 +112,7 @@ fn packets(rt: HostRuntime) -> Result<(), Fail> {
 }
 
 #[test]
-fn a_packet_from_a_gre_tunnel(rt: HostRuntime) -> Result<(), Fail> {
+fn a_packet_from_a_gre_tunnel_has_no_ether_payload(rt: HostRuntime) -> Result<(), Fail> {
     let gre = LinuxSllSlice::from_slice(&COOKED_GRE)?;
     let header = Some(LinkHeader::LinuxSll(gre.to_header()));
     let sll_payload = LinuxSllPayloadSlice {
@@ -138,7 +132,7 @@ fn a_packet_from_a_gre_tunnel(rt: HostRuntime) -> Result<(), Fail> {
 }
 
 #[test]
-fn payloads(rt: HostRuntime) {
+fn a_payload_as_a_link_has_no_header(rt: HostRuntime) {
     let named = EtherPayloadSlice {
         ether_type: EtherType(0x8100),
         len_source: LenSource::MacsecShortLength,
@@ -170,32 +164,27 @@ fn payloads(rt: HostRuntime) {
 
 /// Equality tells the variants apart, and of packets the bytes.
 #[test]
-fn that_differ(rt: HostRuntime) -> Result<(), Fail> {
+fn links_differ_by_variant_and_by_bytes(rt: HostRuntime) -> Result<(), Fail> {
     let frame = LinkSlice::Ethernet2(Ethernet2Slice::from_slice_without_fcs(&FRAME)?);
     let header = LinkSlice::Ethernet2(Ethernet2Slice::from_slice_without_fcs(&FRAME[..14])?);
     let gre = LinkSlice::LinuxSll(LinuxSllSlice::from_slice(&COOKED_GRE)?);
     let other = LinkSlice::LinuxSll(LinuxSllSlice::from_slice(&COOKED)?);
     let ether = LinkSlice::EtherPayload(ipv4(&[0x45]));
     let cooked = LinkSlice::LinuxSllPayload(sll(EtherType::IPV4, &[0x45]));
-    equal(
-        &rt,
-        "links",
-        &[frame == header, gre == other, frame == gre, ether == cooked],
-        &[false; 4],
+    equal!(rt, "links";
+        [frame == header, gre == other, frame == gre, ether == cooked] => [false; 4],
     );
     Ok(())
 }
 
 #[test]
-fn shown_by_debug(rt: HostRuntime) -> Result<(), Fail> {
+fn debug_shows_links(rt: HostRuntime) -> Result<(), Fail> {
     let header = LinkHeader::LinuxSll(NETLINK);
     let payload = LinkSlice::LinuxSllPayload(VLAN);
     let shown = format!(in rt.alloc(); "{:?}", (header, payload))?;
-    equal(
-        &rt,
-        "a header and a payload",
-        &shown.as_str(),
-        &"(LinuxSll(LinuxSllHeader { packet_type: 4 (Sent by us), arp_hrd_type: 824 (Netlink header), sender_address_valid_length: 0, sender_address: [0, 0, 0, 0, 0, 0, 0, 0], protocol_type: NetlinkProtocolType(1) }), \
+    equal!(rt, "a header and a payload";
+        shown.as_str()
+            => "(LinuxSll(LinuxSllHeader { packet_type: 4 (Sent by us), arp_hrd_type: 824 (Netlink header), sender_address_valid_length: 0, sender_address: [0, 0, 0, 0, 0, 0, 0, 0], protocol_type: NetlinkProtocolType(1) }), \
 LinuxSllPayload(LinuxSllPayloadSlice { protocol_type: EtherType(0x8100 (Customer VLAN Tag (C-TAG) as defined in IEEE Std 802.1Q)), payload: [170] }))",
     );
     Ok(())

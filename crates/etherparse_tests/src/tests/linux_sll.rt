@@ -87,21 +87,11 @@ const PACKETS: [(&str, &[u8], LinuxSllHeader, &[u8]); 5] = [
 fn is_header(rt: &impl Abort, name: &str, packet: &[u8], header: &LinuxSllHeader) {
     let bytes = header.to_bytes();
     let rest = packet.get(16..).unwrap_or(&[]);
-    equal(
-        rt,
-        name,
-        &(
-            LinuxSllHeader::from_slice(packet),
-            LinuxSllHeader::from_bytes(bytes),
-            Some(bytes.as_slice()),
-            header.header_len(),
-        ),
-        &(
-            Ok((*header, rest)),
-            Ok(*header),
-            packet.get(..LinuxSllHeader::LEN),
-            16,
-        ),
+    equal!(rt, name;
+        LinuxSllHeader::from_slice(packet) => Ok((*header, rest)),
+        LinuxSllHeader::from_bytes(bytes) => Ok(*header),
+        Some(bytes.as_slice()) => packet.get(..LinuxSllHeader::LEN),
+        header.header_len() => 16,
     );
 }
 
@@ -114,21 +104,15 @@ fn is_view(
     address: &[u8],
 ) -> Result<(), Fail> {
     let view = LinuxSllHeaderSlice::from_slice(packet)?;
-    equal(
-        rt,
-        name,
-        &(
-            (view.packet_type(), view.arp_hardware_type()),
-            (view.sender_address_valid_length(), view.sender_address()),
-            (view.sender_address_full(), view.protocol_type()),
-            (Some(view.slice()), view.to_header()),
-        ),
-        &(
-            (header.packet_type, header.arp_hrd_type),
-            (header.sender_address_valid_length, address),
-            (header.sender_address, header.protocol_type),
-            (packet.get(..16), *header),
-        ),
+    equal!(rt, name;
+        view.packet_type() => header.packet_type,
+        view.arp_hardware_type() => header.arp_hrd_type,
+        view.sender_address_valid_length() => header.sender_address_valid_length,
+        view.sender_address() => address,
+        view.sender_address_full() => header.sender_address,
+        view.protocol_type() => header.protocol_type,
+        Some(view.slice()) => packet.get(..16),
+        view.to_header() => *header,
     );
     Ok(())
 }
@@ -147,31 +131,25 @@ fn is_packet(
         protocol_type: header.protocol_type,
         payload: rest,
     };
-    equal(
-        rt,
-        name,
-        &(
-            (view.packet_type(), view.arp_hardware_type()),
-            (view.sender_address_valid_length(), view.sender_address()),
-            (view.sender_address_full(), view.protocol_type()),
-            (view.header_len(), view.to_header()),
-            (view.slice(), Some(view.header_slice())),
-            (view.payload_slice(), view.payload()),
-        ),
-        &(
-            (header.packet_type, header.arp_hrd_type),
-            (header.sender_address_valid_length, address),
-            (header.sender_address, header.protocol_type),
-            (16, *header),
-            (packet, packet.get(..16)),
-            (rest, payload),
-        ),
+    equal!(rt, name;
+        view.packet_type() => header.packet_type,
+        view.arp_hardware_type() => header.arp_hrd_type,
+        view.sender_address_valid_length() => header.sender_address_valid_length,
+        view.sender_address() => address,
+        view.sender_address_full() => header.sender_address,
+        view.protocol_type() => header.protocol_type,
+        view.header_len() => 16,
+        view.to_header() => *header,
+        view.slice() => packet,
+        Some(view.header_slice()) => packet.get(..16),
+        view.payload_slice() => rest,
+        view.payload() => payload,
     );
     Ok(())
 }
 
 #[test]
-fn packets(rt: HostRuntime) -> Result<(), Fail> {
+fn a_cooked_packet_has_its_header_address_and_payload(rt: HostRuntime) -> Result<(), Fail> {
     for (name, packet, header, address) in PACKETS {
         is_header(&rt, name, packet, &header);
         is_view(&rt, name, packet, &header, address)?;
@@ -182,32 +160,26 @@ fn packets(rt: HostRuntime) -> Result<(), Fail> {
 
 /// The hardware type is that of Ethernet, where 1 is the dummy type for 802.3 frames.
 #[test]
-fn another_variant_is_read_back(rt: HostRuntime) {
+fn the_hardware_type_decides_the_variant_that_is_read_back(rt: HostRuntime) {
     let other = LinuxSllHeader {
         protocol_type: LinuxSllProtocolType::EtherType(EtherType(1)),
         ..HEADER
     };
-    equal(
-        &rt,
-        "another variant",
-        &LinuxSllHeader::from_bytes(other.to_bytes()),
-        &Ok(HEADER),
-    );
+    equal!(rt, "another variant"; LinuxSllHeader::from_bytes(other.to_bytes()) => Ok(HEADER));
 }
 
 #[test]
-fn written_to_slices(rt: HostRuntime) -> Result<(), Fail> {
+fn a_cooked_header_is_written_to_the_front(rt: HostRuntime) -> Result<(), Fail> {
     let mut target = [0x55; 18];
     let rest = HEADER.write_to_slice(&mut target)?;
     let len = rest.len();
     for byte in rest {
         *byte = 0xAA;
     }
-    equal(
-        &rt,
-        "the front, and the rest lent",
-        &(len, &target[..17], target[17]),
-        &(2, COOKED.as_slice(), 0xAA),
+    equal!(rt, "the front, and the rest lent";
+        len => 2,
+        target.get(..17) => Some(COOKED.as_slice()),
+        target.get(17) => Some(&0xAA),
     );
     let mut target = [0x55; 15];
     let refused = SliceWriteSpaceError {
@@ -217,11 +189,9 @@ fn written_to_slices(rt: HostRuntime) -> Result<(), Fail> {
         layer_start_offset: 0,
     };
     let error = HEADER.write_to_slice(&mut target).err();
-    equal(
-        &rt,
-        "fifteen bytes",
-        &(error, target),
-        &(Some(refused), [0x55; 15]),
+    equal!(rt, "fifteen bytes";
+        error => Some(refused),
+        target => [0x55; 15],
     );
     Ok(())
 }
@@ -236,15 +206,13 @@ static ADDRESSES: [(&str, u8, &[u8]); 5] = [
 ];
 
 #[test]
-fn addresses(rt: HostRuntime) -> Result<(), Fail> {
+fn a_cooked_sender_address_has_at_most_eight_bytes(rt: HostRuntime) -> Result<(), Fail> {
     for &(name, valid_len, address) in &ADDRESSES {
         let bytes = [0, 0, 0, 1, 0, valid_len, 1, 2, 3, 4, 5, 6, 7, 8, 0x08, 0x00];
         let view = LinuxSllHeaderSlice::from_slice(&bytes)?;
-        equal(
-            &rt,
-            name,
-            &(view.sender_address_valid_length(), view.sender_address()),
-            &(u16::from(valid_len), address),
+        equal!(rt, name;
+            view.sender_address_valid_length() => u16::from(valid_len),
+            view.sender_address() => address,
         );
     }
     Ok(())
@@ -325,32 +293,28 @@ static REFUSALS: [(&str, &[u8], Option<HeaderSliceError>); 8] = [
 ];
 
 #[test]
-fn refusals(rt: HostRuntime) {
+fn a_refused_cooked_packet_names_the_cause(rt: HostRuntime) {
     for (name, bytes, wanted) in &REFUSALS {
         let packet = LinuxSllSlice::from_slice(bytes).err();
         let view = LinuxSllHeaderSlice::from_slice(bytes).err();
         let alike = view == packet && refusal(bytes) == packet;
-        equal(&rt, name, &(&packet, alike), &(wanted, true));
+        equal!(rt, name;
+            &packet => wanted,
+            alike => true,
+        );
     }
     let refused = HeaderError::UnsupportedPacketTypeField { packet_type: 8 };
-    equal(
-        &rt,
-        "sixteen bytes by value",
-        &LinuxSllHeader::from_bytes(UNSUPPORTED),
-        &Err(refused),
-    );
+    equal!(rt, "sixteen bytes by value"; LinuxSllHeader::from_bytes(UNSUPPORTED) => Err(refused));
 }
 
 #[test]
-fn shown_by_debug(rt: HostRuntime) -> Result<(), Fail> {
+fn debug_shows_cooked_packets(rt: HostRuntime) -> Result<(), Fail> {
     let view = LinuxSllHeaderSlice::from_slice(&COOKED)?;
     let packet = LinuxSllSlice::from_slice(&COOKED)?;
     let shown = format!(in rt.alloc(); "{:?}", (HEADER, view, packet))?;
-    equal(
-        &rt,
-        "a header, its view and one with the payload",
-        &shown.as_str(),
-        &"(LinuxSllHeader { packet_type: 0 (Sent to us), arp_hrd_type: 1 (Ethernet), sender_address_valid_length: 255, sender_address: [2, 0, 0, 0, 0, 1, 0, 0], protocol_type: LinuxNonstandardEtherType(0x0001 (Dummy type for 802.3 frames)) }, \
+    equal!(rt, "a header, its view and one with the payload";
+        shown.as_str()
+            => "(LinuxSllHeader { packet_type: 0 (Sent to us), arp_hrd_type: 1 (Ethernet), sender_address_valid_length: 255, sender_address: [2, 0, 0, 0, 0, 1, 0, 0], protocol_type: LinuxNonstandardEtherType(0x0001 (Dummy type for 802.3 frames)) }, \
 LinuxSllHeaderSlice { slice: [0, 0, 0, 1, 0, 255, 2, 0, 0, 0, 0, 1, 0, 0, 0, 1] }, \
 LinuxSllSlice { header: LinuxSllHeader { packet_type: 0 (Sent to us), arp_hrd_type: 1 (Ethernet), sender_address_valid_length: 255, sender_address: [2, 0, 0, 0, 0, 1, 0, 0], protocol_type: LinuxNonstandardEtherType(0x0001 (Dummy type for 802.3 frames)) }, payload: LinuxSllPayloadSlice { protocol_type: LinuxNonstandardEtherType(0x0001 (Dummy type for 802.3 frames)), payload: [170] } })",
     );

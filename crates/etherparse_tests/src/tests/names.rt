@@ -82,15 +82,14 @@ static LAYERS: [(Layer, &str, &str); 25] = [
 ];
 
 #[test]
-fn of_layers(rt: HostRuntime) -> Result<(), Fail> {
+fn layers_have_names_and_an_order(rt: HostRuntime) -> Result<(), Fail> {
     let mut before = None;
     for &(layer, title, name) in &LAYERS {
         let shown = format!(in rt.alloc(); "{layer}")?;
-        equal(
-            &rt,
-            name,
-            &(layer.error_title(), shown.as_str(), before < Some(layer)),
-            &(title, name, true),
+        equal!(rt, name;
+            layer.error_title() => title,
+            shown.as_str() => name,
+            before < Some(layer) => true,
         );
         before = Some(layer);
     }
@@ -118,15 +117,13 @@ static VALUE_TYPES: [(ValueType, &str); 16] = [
 ];
 
 #[test]
-fn of_types_of_values(rt: HostRuntime) -> Result<(), Fail> {
+fn types_of_values_have_names_and_an_order(rt: HostRuntime) -> Result<(), Fail> {
     let mut before = None;
     for &(value_type, name) in &VALUE_TYPES {
         let shown = format!(in rt.alloc(); "{value_type}")?;
-        equal(
-            &rt,
-            name,
-            &(shown.as_str(), before < Some(value_type)),
-            &(name, true),
+        equal!(rt, name;
+            shown.as_str() => name,
+            before < Some(value_type) => true,
         );
         before = Some(value_type);
     }
@@ -163,7 +160,7 @@ static SOURCES: [(LenSource, &str); 7] = [
 ];
 
 #[test]
-fn of_sources_of_lengths(rt: HostRuntime) -> Result<(), Fail> {
+fn sources_of_lengths_have_names_and_an_order(rt: HostRuntime) -> Result<(), Fail> {
     let mut before = None;
     for &(len_source, name) in &SOURCES {
         let error = LenError {
@@ -177,11 +174,9 @@ fn of_sources_of_lengths(rt: HostRuntime) -> Result<(), Fail> {
         let wanted = format!(in rt.alloc();
             "VLAN Header Error: Not enough data to decode 'VLAN header'. 4 byte(s) would be required, but only 2 byte(s) are available based on the {name}."
         )?;
-        equal(
-            &rt,
-            name,
-            &(shown.as_str(), before < Some(len_source)),
-            &(wanted.as_str(), true),
+        equal!(rt, name;
+            shown.as_str() => wanted.as_str(),
+            before < Some(len_source) => true,
         );
         before = Some(len_source);
     }

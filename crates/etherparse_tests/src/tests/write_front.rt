@@ -5,7 +5,7 @@ use etherparse::write_front;
 use std::test::Fail;
 
 #[test]
-fn with_room(rt: HostRuntime) -> Result<(), Fail> {
+fn bytes_are_put_to_the_front_and_the_rest_is_lent(rt: HostRuntime) -> Result<(), Fail> {
     let mut target = [0x55; 5];
     let whole = write_front::put([1, 2, 3], &mut target);
     let len = whole.len();
@@ -14,17 +14,16 @@ fn with_room(rt: HostRuntime) -> Result<(), Fail> {
     for byte in rest {
         *byte = 0xAA;
     }
-    equal(
-        &rt,
-        "the front, and the rest lent",
-        &(len, rest_len, target),
-        &(5, 2, [1, 2, 3, 0xAA, 0xAA]),
+    equal!(rt, "the front, and the rest lent";
+        len => 5,
+        rest_len => 2,
+        target => [1, 2, 3, 0xAA, 0xAA],
     );
     Ok(())
 }
 
 #[test]
-fn without_room(rt: HostRuntime) {
+fn a_target_without_room_is_unchanged(rt: HostRuntime) {
     let mut target = [0x55; 2];
     let whole = write_front::put([1, 2, 3], &mut target);
     let error = write_front::rest_from(whole, 3, Layer::VlanHeader).err();
@@ -34,10 +33,8 @@ fn without_room(rt: HostRuntime) {
         layer: Layer::VlanHeader,
         layer_start_offset: 0,
     };
-    equal(
-        &rt,
-        "two bytes",
-        &(error, target),
-        &(Some(refused), [0x55; 2]),
+    equal!(rt, "two bytes";
+        error => Some(refused),
+        target => [0x55; 2],
     );
 }

@@ -19,7 +19,7 @@ const FRAME: [u8; 19] = [
 ];
 
 #[test]
-fn what_the_examples_write(rt: HostRuntime) {
+fn the_examples_write_their_lines(rt: HostRuntime) {
     let mut written = ArrayVec::<u8, 256>::new();
     let mut out = OutputBuffer::new(&mut written);
     out.append(b"rest 14 14 ");
@@ -31,27 +31,22 @@ fn what_the_examples_write(rt: HostRuntime) {
         out.append(b" ");
     }
     let flushed = out.flush();
-    equal(
-        &rt,
-        "the examples",
-        &(is_accepted, is_fed, flushed, written.as_slice()),
-        &(
-            true,
-            true,
-            Ok(()),
-            b"rest 14 14 sealed\n\
+    equal!(rt, "the examples";
+        is_accepted => true,
+        is_fed => true,
+        flushed => Ok(()),
+        written.as_slice() => b"rest 14 14 sealed\n\
 ethernet2 0 ffffffffffff 020000000001 0x8100\n\
 vlan 14 pcp 5 dei 1 vid 291 0x0800\n\
 rest 18 18 type 0x0800\n\
 feed refusals 2 taken 18\n\
 7 42 503 1024 1000000 20065010 18446744073709551615 "
-                .as_slice(),
-        ),
+            .as_slice(),
     );
 }
 
 #[test]
-fn what_the_examples_read_and_show(rt: HostRuntime) -> Result<(), Fail> {
+fn a_reader_reads_no_byte_while_text_waits(rt: HostRuntime) -> Result<(), Fail> {
     let mut bytes = [1, 2, 3].as_slice();
     let mut written = ArrayVec::<u8, 4>::new();
     let mut input = InputReader::new(&mut bytes);
@@ -73,31 +68,23 @@ fn what_the_examples_read_and_show(rt: HostRuntime) -> Result<(), Fail> {
     let mut waiting = OutputBuffer::new(&mut written);
     waiting.append(b"rest");
     let unread = InputReader::new(&mut left).read(&mut chunk, &waiting);
-    equal(
-        &rt,
-        "three bytes, and none while text waits",
-        &(counts, of_slice, chunk, unread, left.len()),
-        &(
-            [Ok(2), Ok(1), Ok(0)],
-            [Ok(2), Ok(1), Ok(0)],
-            [3, 2],
-            Err(InputFault),
-            1,
-        ),
+    equal!(rt, "three bytes, and none while text waits";
+        counts => [Ok(2), Ok(1), Ok(0)],
+        of_slice => [Ok(2), Ok(1), Ok(0)],
+        chunk => [3, 2],
+        unread => Err(InputFault),
+        left.len() => 1,
     );
     let verdict = Verdict::AllAccepted.with(false);
     let shown = format!(in rt.alloc(); "{InputFault} {OutputFault} {verdict:?}")?;
-    equal(
-        &rt,
-        "the faults and a verdict",
-        &shown.as_str(),
-        &"The reader has failed. The writer has failed. SomeRefused",
+    equal!(rt, "the faults and a verdict";
+        shown.as_str() => "The reader has failed. The writer has failed. SomeRefused",
     );
     Ok(())
 }
 
 #[test]
-fn of_lines_in_memory(rt: HostRuntime) {
+fn a_line_in_memory_is_accepted(rt: HostRuntime) {
     let mut text = ArrayVec::<u8, 128>::new();
     let verdict = run_slice(
         Mode::Eth,
@@ -105,30 +92,24 @@ fn of_lines_in_memory(rt: HostRuntime) {
         b"ffffffffffff0200000000010800\n",
         &mut text,
     );
-    equal(
-        &rt,
-        "the example",
-        &(verdict, text.as_slice()),
-        &(
-            Ok(Verdict::AllAccepted),
-            b"ethernet2 0 ffffffffffff 020000000001 0x0800\nrest 14 14 type 0x0800\n".as_slice(),
-        ),
+    equal!(rt, "the example";
+        verdict => Ok(Verdict::AllAccepted),
+        text.as_slice()
+            => b"ethernet2 0 ffffffffffff 020000000001 0x0800\nrest 14 14 type 0x0800\n".as_slice(),
     );
 }
 
 #[test]
-fn a_writer_that_is_full(rt: HostRuntime) {
+fn a_full_writer_stays_at_fault(rt: HostRuntime) {
     let mut written = ArrayVec::<u8, 4>::new();
     let mut out = OutputBuffer::new(&mut written);
     out.append(b"rest ");
     let before = out.check();
     let fault = out.write_out();
     out.append(b"14 ");
-    equal(
-        &rt,
-        "before and after a write",
-        &[before, fault, out.check(), out.flush()],
-        &[Ok(()), Err(OutputFault), Err(OutputFault), Err(OutputFault)],
+    equal!(rt, "before and after a write";
+        [before, fault, out.check(), out.flush()]
+            => [Ok(()), Err(OutputFault), Err(OutputFault), Err(OutputFault)],
     );
 }
 
@@ -139,10 +120,10 @@ static FAULTS: [(ToolFault, &str); 3] = [
 ];
 
 #[test]
-fn shown_texts(rt: HostRuntime) -> Result<(), Fail> {
+fn faults_verdicts_and_modes_have_texts(rt: HostRuntime) -> Result<(), Fail> {
     for (fault, wanted) in &FAULTS {
         let shown = format!(in rt.alloc(); "{fault}, {fault:?}")?;
-        equal(&rt, wanted, &shown.as_str(), wanted);
+        equal!(rt, wanted; shown.as_str() => *wanted);
     }
     let shown = format!(in rt.alloc();
         "{:?} {:?}",
@@ -154,11 +135,9 @@ fn shown_texts(rt: HostRuntime) -> Result<(), Fail> {
         ),
         [Mode::Eth, Mode::Fcs, Mode::Sll, Mode::Feed]
     )?;
-    equal(
-        &rt,
-        "verdicts and modes",
-        &shown.as_str(),
-        &"(AllAccepted, SomeRefused, EtherType(0x0806 (Address Resolution Protocol (ARP))), Usage) \
+    equal!(rt, "verdicts and modes";
+        shown.as_str()
+            => "(AllAccepted, SomeRefused, EtherType(0x0806 (Address Resolution Protocol (ARP))), Usage) \
 [Eth, Fcs, Sll, Feed]",
     );
     Ok(())

@@ -1,4 +1,5 @@
 //! What no contract of `run` says: that each fault of the reader and of the writer is reported, and the calls that come before and after.
+use crate::checks::equal;
 use arrayvec::ArrayVec;
 use ether_text::tool::mode::Mode;
 use ether_text::tool::outcome::ToolFault;
@@ -122,21 +123,20 @@ const LINES_OF_MODES: [(Mode, &[u8], Result<Verdict, ToolFault>); 8] = [
 ];
 
 #[test]
-fn tells_a_fault_of_the_reader(rt: HostRuntime) {
+fn each_fault_of_the_reader_is_reported(rt: HostRuntime) {
     for (mode, input, wanted) in &LINES_OF_MODES {
         for step in [1, 2, 3, 4, 5, usize::MAX] {
             let mut whole = Source::new(input, step, 0);
             let outcome = run(*mode, &mut whole, &mut Sink::new(0));
-            assert!(rt; &outcome == wanted, "{mode:?}");
+            equal!(rt, format_args!("{mode:?}"); outcome => *wanted);
             for before in 0..whole.calls {
                 let fault = before + 1;
                 let mut source = Source::new(input, step, fault);
                 let outcome = run(*mode, &mut source, &mut Sink::new(0));
                 // there is no read after it
-                let found = (outcome, source.calls);
-                assert!(rt;
-                    found == (Err(ToolFault::Input), fault),
-                    "at read {fault} in {mode:?}"
+                equal!(rt, format_args!("at read {fault} in {mode:?}");
+                    outcome => Err(ToolFault::Input),
+                    source.calls => fault,
                 );
             }
         }
@@ -144,20 +144,26 @@ fn tells_a_fault_of_the_reader(rt: HostRuntime) {
 }
 
 #[test]
-fn tells_a_fault_of_the_writer(rt: HostRuntime) {
+fn each_fault_of_the_writer_is_reported(rt: HostRuntime) {
     for (mode, input, wanted) in &LINES_OF_MODES {
         let mut whole = Sink::new(0);
         let outcome = run(*mode, &mut Source::new(input, 4, 0), &mut whole);
-        assert!(rt; &outcome == wanted && whole.is_flushed, "{mode:?}");
+        equal!(rt, format_args!("{mode:?}");
+            outcome => *wanted,
+            whole.is_flushed => true,
+        );
         // the last call is the flush, and there is no call after a fault
         for before in 0..whole.calls {
             let fault = before + 1;
             let mut sink = Sink::new(fault);
             let outcome = run(*mode, &mut Source::new(input, 4, 0), &mut sink);
             let is_whole = sink.taken.as_slice() == whole.taken.as_slice();
-            let found = (outcome, sink.calls, sink.is_flushed, is_whole);
-            let wanted = (Err(ToolFault::Output), fault, false, fault == whole.calls);
-            assert!(rt; found == wanted, "at call {fault} in {mode:?}");
+            equal!(rt, format_args!("at call {fault} in {mode:?}");
+                outcome => Err(ToolFault::Output),
+                sink.calls => fault,
+                sink.is_flushed => false,
+                is_whole => fault == whole.calls,
+            );
         }
     }
 }

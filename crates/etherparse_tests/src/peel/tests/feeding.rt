@@ -54,13 +54,13 @@ static ROWS: [Row; 11] = [
 ];
 
 #[test]
-fn refusals_and_bytes(rt: HostRuntime) {
+fn feeding_counts_the_refusals_and_takes_the_bytes_asked_for(rt: HostRuntime) {
     for &(name, start, frame, refusals, taken, fault) in &ROWS {
         let expected = Feed {
             refusals,
             taken,
             fault: fault.map(|(offset, closed, refusal)| fault_at(offset, closed, refusal)),
         };
-        equal(&rt, name, &feed(start, frame), &expected);
+        equal!(rt, name; feed(start, frame) => expected);
     }
 }

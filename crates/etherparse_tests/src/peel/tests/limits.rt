@@ -105,7 +105,7 @@ static WALKS: [Walk; 11] = [
 ];
 
 #[test]
-fn of_worked_examples(rt: HostRuntime) {
+fn a_limited_walk_reads_no_tag_beyond_its_limit(rt: HostRuntime) {
     for walk in &WALKS {
         check(&rt, walk);
     }
@@ -118,7 +118,7 @@ const EXAMPLE: [u8; 19] = [
 ];
 
 #[test]
-fn of_the_examples(rt: HostRuntime) {
+fn a_tag_beyond_the_limit_is_left_over(rt: HostRuntime) {
     let tags = [0x00, 0x01, 0x81, 0x00, 0x00, 0x02, 0x08, 0x00, 0x45];
     let mut peel = walker(
         Start::EtherType(EtherType::PROVIDER_BRIDGING),
@@ -127,22 +127,17 @@ fn of_the_examples(rt: HostRuntime) {
     );
     let is_tag = matches!(peel.next(), Some(Ok(PeelUnit::Vlan(_))));
     let is_over = peel.next().is_none();
-    equal(
-        &rt,
-        "a tag after a tag",
-        &(is_tag, is_over, peel.offset(), peel.kind()),
-        &(
-            true,
-            true,
-            4,
-            RestKind::EtherType(EtherType::VLAN_TAGGED_FRAME),
-        ),
+    equal!(rt, "a tag after a tag";
+        is_tag => true,
+        is_over => true,
+        peel.offset() => 4,
+        peel.kind() => RestKind::EtherType(EtherType::VLAN_TAGGED_FRAME),
     );
     let missing = [0, 1].map(|limit| {
         let found = snapped(Start::Ethernet2, &EXAMPLE, 16, Some(limit));
         found.fault.as_ref().and_then(|fault| fault.missing())
     });
-    equal(&rt, "a cut", &missing, &[None, Some(2)]);
+    equal!(rt, "a cut"; missing => [None, Some(2)]);
 }
 
 /// An Ethernet II header and a SecTag with its payload, and two bytes after it.
@@ -161,7 +156,7 @@ static FEEDS: [(&str, &[u8], usize, usize, usize); 3] = [
 
 /// No byte of a tag beyond the limit is asked for.
 #[test]
-fn of_feeding(rt: HostRuntime) {
+fn no_byte_of_a_tag_beyond_the_limit_is_asked_for(rt: HostRuntime) {
     for &(name, frame, limit, refusals, taken) in &FEEDS {
         let expected = Feed {
             refusals,
@@ -169,13 +164,13 @@ fn of_feeding(rt: HostRuntime) {
             fault: None,
         };
         let found = fed(Start::Ethernet2, frame, Some(limit));
-        equal(&rt, name, &found, &expected);
+        equal!(rt, name; found => expected);
     }
 }
 
 /// A tag beyond the limit is written as it is.
 #[test]
-fn of_writing_back(rt: HostRuntime) {
+fn a_tag_beyond_the_limit_is_written_as_it_is(rt: HostRuntime) {
     let mut cleared = SEALED;
     cleared[1] = 0;
     let found = [0, 1].map(|limit| {
@@ -183,12 +178,7 @@ fn of_writing_back(rt: HostRuntime) {
         let end = written(with_type!(0x88E5), &SEALED, &mut target, Some(limit)).ok();
         (end, target)
     });
-    equal(
-        &rt,
-        "a SecTag",
-        &found,
-        &[(Some(15), SEALED), (Some(15), cleared)],
-    );
+    equal!(rt, "a SecTag"; found => [(Some(15), SEALED), (Some(15), cleared)]);
 }
 
 /// The first bytes of a frame, so many, a limit, and the bytes that complete them.
@@ -213,25 +203,28 @@ static COMPLETIONS: [(&str, &[u8], usize, Option<usize>, Option<&[u8]>); 5] = [
 ];
 
 #[test]
-fn of_completions(rt: HostRuntime) {
+fn a_completion_ends_at_the_limit(rt: HostRuntime) {
     for &(name, frame, len, limit, wanted) in &COMPLETIONS {
         let fill = completed(Start::Ethernet2, frame.get(..len).unwrap_or(&[]), limit);
         let found = fill.as_ref().map(|fill| fill.as_slice());
-        equal(&rt, name, &found, &wanted);
+        equal!(rt, name; found => wanted);
     }
 }
 
 #[test]
-fn of_cuts(rt: HostRuntime) {
+fn a_cut_beyond_the_limit_is_accepted(rt: HostRuntime) {
     let eth = Start::Ethernet2;
     for n in 14..=18 {
         let found = snapped(eth, &TAGGED, n, Some(0));
-        let found = (found.units, found.rest_end, found.fault.is_none());
-        assert!(rt; found == (1, n, true), "{n} bytes");
+        equal!(rt, format_args!("{n} bytes");
+            found.units => 1,
+            found.rest_end => n,
+            found.fault => None,
+        );
     }
     let (limited, plain) = (
         snapped(eth, &TAGGED, 16, Some(1)),
         snapped(eth, &TAGGED, 16, None),
     );
-    equal(&rt, "within the limit", &limited, &plain);
+    equal!(rt, "within the limit"; limited => plain);
 }

@@ -71,7 +71,7 @@ static FRONTS: [Front; 10] = [
 ];
 
 #[test]
-fn of_every_front_of_a_header(rt: HostRuntime) {
+fn every_front_of_a_header_is_too_short(rt: HostRuntime) {
     for front in &FRONTS {
         let closed = front.start == FCS;
         let kind = match front.start {
@@ -88,7 +88,7 @@ fn of_every_front_of_a_header(rt: HostRuntime) {
 }
 
 #[test]
-fn of_the_greatest_arp_packet(rt: HostRuntime) {
+fn the_greatest_arp_packet_needs_its_last_byte(rt: HostRuntime) {
     let mut list = [0; 1027];
     put(
         &mut list,
@@ -165,7 +165,7 @@ static WALKS: [Walk; 14] = [
 ];
 
 #[test]
-fn of_worked_examples(rt: HostRuntime) {
+fn a_refused_walk_keeps_the_headers_before_its_fault(rt: HostRuntime) {
     for walk in &WALKS {
         check(&rt, walk);
     }
@@ -191,7 +191,7 @@ static IN_PAYLOADS: [Refused; 11] = [
 
 /// After two units, from byte 22 on in a closed window, come the bytes of each row, and 2 bytes follow them.
 #[test]
-fn each_refusal_of_a_tag_in_a_named_payload(rt: HostRuntime) {
+fn each_refusal_in_a_named_payload_is_closed(rt: HostRuntime) {
     for &(name, announced, unit, refusal) in &IN_PAYLOADS {
         let short_len = (unit.len() % 62) as u8 + 2;
         let mut frame = [0xEE; 64];

@@ -35,18 +35,18 @@ static FAULTS: [Row; 6] = [
 ];
 
 #[test]
-fn of_faults(rt: HostRuntime) -> Result<(), Fail> {
+fn a_fault_names_its_offset_and_its_cause(rt: HostRuntime) -> Result<(), Fail> {
     for &(offset, closed, refusal, text, debug) in &FAULTS {
         let fault = fault_at(offset, closed, refusal);
         let shown = format!(in rt.alloc(); "{fault}\n{fault:?}")?;
         let wanted = format!(in rt.alloc(); "at offset {offset}: {text}\n{debug}")?;
-        equal(&rt, text, &shown.as_str(), &wanted.as_str());
+        equal!(rt, text; shown.as_str() => wanted.as_str());
     }
     Ok(())
 }
 
 #[test]
-fn of_other_values(rt: HostRuntime) -> Result<(), Fail> {
+fn debug_shows_kinds_starts_and_summaries(rt: HostRuntime) -> Result<(), Fail> {
     let kinds = [
         RestKind::Start,
         RestKind::Sll(LinuxSllProtocolType::Ignored(5)),
@@ -67,11 +67,9 @@ fn of_other_values(rt: HostRuntime) -> Result<(), Fail> {
         fault: None,
     };
     let shown = format!(in rt.alloc(); "{:?}", (kinds, starts, summary, feed))?;
-    equal(
-        &rt,
-        "kinds, starts, a summary and a feed",
-        &shown.as_str(),
-        &"([Start, Sll(Ignored(5)), Sealed, AfterArp], [Ethernet2Fcs, EtherType(0x0005)], \
+    equal!(rt, "kinds, starts, a summary and a feed";
+        shown.as_str()
+            => "([Start, Sll(Ignored(5)), Sealed, AfterArp], [Ethernet2Fcs, EtherType(0x0005)], \
 Summary { units: 2, rest_start: 18, rest_end: 20, kind: Sealed, fault: None }, \
 Feed { refusals: 4, taken: 26, fault: None })",
     );
@@ -79,17 +77,15 @@ Feed { refusals: 4, taken: 26, fault: None })",
 }
 
 #[test]
-fn of_units(rt: HostRuntime) -> Result<(), Fail> {
+fn debug_shows_units(rt: HostRuntime) -> Result<(), Fail> {
     let mut peel = Peel::new(Start::Ethernet2, &TAGGED);
     peel.next();
     let tag = peel.next();
     let sec_tag = Peel::new(with_type!(0x88E5), &NAMED).next();
     let shown = format!(in rt.alloc(); "{tag:?}\n{sec_tag:?}")?;
-    equal(
-        &rt,
-        "a tag and a SecTag",
-        &shown.as_str(),
-        &"Some(Ok(Vlan(SingleVlanSlice { header: SingleVlanHeader { pcp: VlanPcp(5), drop_eligible_indicator: true, vlan_id: VlanId(291), ether_type: 0x0800 (Internet Protocol version 4 (IPv4)) }, payload: EtherPayloadSlice { ether_type: 0x0800 (Internet Protocol version 4 (IPv4)), len_source: Slice, payload: [] } })))\n\
+    equal!(rt, "a tag and a SecTag";
+        shown.as_str()
+            => "Some(Ok(Vlan(SingleVlanSlice { header: SingleVlanHeader { pcp: VlanPcp(5), drop_eligible_indicator: true, vlan_id: VlanId(291), ether_type: 0x0800 (Internet Protocol version 4 (IPv4)) }, payload: EtherPayloadSlice { ether_type: 0x0800 (Internet Protocol version 4 (IPv4)), len_source: Slice, payload: [] } })))\n\
 Some(Ok(Macsec(MacsecSlice { header: MacsecHeaderSlice { slice: [0, 6, 0, 0, 0, 1, 129, 0] }, payload: Unmodified(EtherPayloadSlice { ether_type: 0x8100 (Customer VLAN Tag (C-TAG) as defined in IEEE Std 802.1Q), len_source: MacsecShortLength, payload: [170, 187, 204, 221] }) })))",
     );
     Ok(())

@@ -138,7 +138,7 @@ static WALKS: [Walk; 23] = [
 ];
 
 #[test]
-fn of_worked_examples(rt: HostRuntime) {
+fn an_accepted_walk_has_all_headers_and_the_rest(rt: HostRuntime) {
     for walk in &WALKS {
         check(&rt, walk);
     }
@@ -150,7 +150,7 @@ static UNREAD: [u16; 8] = [
 ];
 
 #[test]
-fn of_an_ether_type_that_announces_nothing(rt: HostRuntime) {
+fn an_ether_type_that_announces_nothing_ends_the_walk(rt: HostRuntime) {
     for &unread in &UNREAD {
         let mut peel = Peel::new(with_type!(unread), &PACKET);
         let kind = kind_of(ether_type!(unread));
@@ -167,7 +167,7 @@ fn of_an_ether_type_that_announces_nothing(rt: HostRuntime) {
 static SIZES: [(&str, u8, usize); 2] = [("the greatest", 255, 1028), ("the least", 0, 8)];
 
 #[test]
-fn of_arp_packets_of_the_greatest_and_the_least_size(rt: HostRuntime) {
+fn the_greatest_and_the_least_arp_packet_are_read(rt: HostRuntime) {
     for &(name, size, len) in &SIZES {
         let mut bytes = [7; 1028];
         put(
@@ -180,26 +180,16 @@ fn of_arp_packets_of_the_greatest_and_the_least_size(rt: HostRuntime) {
         let Some(Ok(PeelUnit::Arp(packet))) = peel.next() else {
             panic!(rt; "an ARP packet");
         };
-        equal(
-            &rt,
-            name,
-            &(
-                packet.slice(),
-                packet.operation(),
-                packet.proto_addr_type(),
-                [
-                    packet.sender_hw_addr().len(),
-                    packet.sender_protocol_addr().len(),
-                    packet.target_hw_addr().len(),
-                    packet.target_protocol_addr().len(),
-                ],
-            ),
-            &(
-                list,
-                ArpOperation::REPLY,
-                EtherType::IPV4,
-                [usize::from(size); 4],
-            ),
+        equal!(rt, name;
+            packet.slice() => list,
+            packet.operation() => ArpOperation::REPLY,
+            packet.proto_addr_type() => EtherType::IPV4,
+            [
+                packet.sender_hw_addr().len(),
+                packet.sender_protocol_addr().len(),
+                packet.target_hw_addr().len(),
+                packet.target_protocol_addr().len(),
+            ] => [usize::from(size); 4],
         );
         ends(&rt, name, &mut peel, &(len, &[], RestKind::AfterArp, false));
         let whole = Summary {
@@ -209,6 +199,6 @@ fn of_arp_packets_of_the_greatest_and_the_least_size(rt: HostRuntime) {
             kind: RestKind::AfterArp,
             fault: None,
         };
-        equal(&rt, name, &summary(with_type!(0x0806), list), &whole);
+        equal!(rt, name; summary(with_type!(0x0806), list) => whole);
     }
 }

@@ -70,17 +70,20 @@ static ROWS: [Row; 11] = [
 ];
 
 #[test]
-fn what_is_written(rt: HostRuntime) {
+fn headers_are_written_back_before_the_rest(rt: HostRuntime) {
     for &(name, start, frame, room, wanted, len) in &ROWS {
         let (mut target, mut after) = ([OLD; 64], [OLD; 64]);
         let end = write_back(start, frame, &mut target[..room.min(64)]).ok();
         put(&mut after, 0, wanted.get(..len).unwrap_or(&[]));
-        equal(&rt, name, &(end, target), &(Some(len), after));
+        equal!(rt, name;
+            end => Some(len),
+            target => after,
+        );
     }
 }
 
 #[test]
-fn a_target_that_is_a_byte_too_short_stays_as_it_was(rt: HostRuntime) {
+fn a_target_that_is_a_byte_too_short_is_unchanged(rt: HostRuntime) {
     let mut target = [OLD; 11];
     let result = write_back(with_type!(0x88E5), &TAG_IN_A_CLOSED_WINDOW, &mut target);
     let error = SliceWriteSpaceError {
@@ -89,10 +92,8 @@ fn a_target_that_is_a_byte_too_short_stays_as_it_was(rt: HostRuntime) {
         layer: Layer::EtherPayload,
         layer_start_offset: 0,
     };
-    equal(
-        &rt,
-        "eleven bytes",
-        &(result, target),
-        &(Err(error), [OLD; 11]),
+    equal!(rt, "eleven bytes";
+        result => Err(error),
+        target => [OLD; 11],
     );
 }

@@ -173,16 +173,19 @@ fn gives(rt: &impl Abort, name: &str, peel: &mut Peel<'_>, header: &PlainHeader<
     };
     let rest = peel.rest();
     let payload = payload_of(&unit).unwrap_or(rest);
-    equal(rt, name, &(shown(&unit), payload), &(*header, rest));
+    equal!(rt, name;
+        shown(&unit) => *header,
+        payload => rest,
+    );
 }
 
 /// The walk is at its end, and stays there.
 fn ends(rt: &impl Abort, name: &str, peel: &mut Peel<'_>, wanted: &Left<'_>) {
     for _ in 0..3 {
-        equal(rt, name, &left(peel), &*wanted);
-        equal(rt, name, &peel.next().is_none(), &true);
+        equal!(rt, name; left(peel) => *wanted);
+        equal!(rt, name; peel.next().is_none() => true);
     }
-    equal(rt, name, &left(peel), &*wanted);
+    equal!(rt, name; left(peel) => *wanted);
 }
 
 /// The next item is this fault. It ends the walk, and leaves the window as it was.
@@ -195,8 +198,8 @@ fn refuses(
     kind: PlainKind,
 ) {
     let wanted = (fault.offset, rest, kind_of(kind), fault.closed);
-    equal(rt, name, &left(peel), &wanted);
-    equal(rt, name, &peel.next(), &Some(Err(fault)));
+    equal!(rt, name; left(peel) => wanted);
+    equal!(rt, name; peel.next() => Some(Err(fault)));
     ends(rt, name, peel, &wanted);
 }
 
@@ -219,21 +222,11 @@ fn is_refused(
         }
     }
     let found = summary(start, bytes);
-    equal(
-        rt,
-        name,
-        &(
-            bytes.get(found.rest_start..found.rest_end),
-            [count, found.units, found.rest_start],
-            found.kind,
-            found.fault.as_ref(),
-        ),
-        &(
-            Some(rest),
-            [units, units, fault.offset],
-            kind_of(kind),
-            Some(&fault),
-        ),
+    equal!(rt, name;
+        bytes.get(found.rest_start..found.rest_end) => Some(rest),
+        [count, found.units, found.rest_start] => [units, units, fault.offset],
+        found.kind => kind_of(kind),
+        found.fault.as_ref() => Some(&fault),
     );
     refuses(rt, name, &mut peel, fault, rest, kind);
 }
@@ -312,7 +305,7 @@ fn check(rt: &impl Abort, walk: &Walk) {
         fault,
     };
     let found = summed(walk.start, walk.frame, walk.limit);
-    equal(rt, walk.name, &found, &wanted);
+    equal!(rt, walk.name; found => wanted);
     match wanted.fault {
         Some(fault) => refuses(rt, walk.name, &mut peel, fault, rest, walk.kind),
         None => {

@@ -22,29 +22,23 @@ static ETHER_TYPES: [(u16, &str); 8] = [
 ];
 
 #[test]
-fn with_names() -> Result<(), Fail> {
+fn each_assigned_ether_type_has_its_name() -> Result<(), Fail> {
     let rt = crate::kit::HostRuntime;
     for &(number, description) in &ETHER_TYPES {
         let ether_type = EtherType::from(number);
         let shown = format!("{ether_type:?}");
         let wanted = format!("0x{number:04X} ({description})");
-        equal(
-            &rt,
-            description,
-            &(u16::from(ether_type), ether_type.name(), shown.as_str()),
-            &(number, Some(description), wanted.as_str()),
+        equal!(rt, description;
+            u16::from(ether_type) => number,
+            ether_type.name() => Some(description),
+            shown.as_str() => wanted.as_str(),
         );
     }
     let unknown = format!("{:?}", EtherType(0x01AB));
-    equal(
-        &rt,
-        "without a name",
-        &(
-            EtherType(0x1234).name(),
-            EtherType(1500).name(),
-            unknown.as_str(),
-        ),
-        &(None, None, "0x01AB"),
+    equal!(rt, "without a name";
+        EtherType(0x1234).name() => None,
+        EtherType(1500).name() => None,
+        unknown.as_str() => "0x01AB",
     );
     Ok(())
 }
@@ -82,17 +76,15 @@ static NONSTANDARD: [(u16, &str); 28] = [
 ];
 
 #[test]
-fn of_linux() -> Result<(), Fail> {
+fn each_nonstandard_ether_type_has_its_name() -> Result<(), Fail> {
     let rt = crate::kit::HostRuntime;
     for &(number, description) in &NONSTANDARD {
         let found = LinuxNonstandardEtherType::try_from(number);
         let shown = format!("{found:?}");
         let wanted = format!("Ok(0x{number:04X} ({description}))");
-        equal(
-            &rt,
-            description,
-            &(found.map(u16::from), shown.as_str()),
-            &(Ok(number), wanted.as_str()),
+        equal!(rt, description;
+            found.map(u16::from) => Ok(number),
+            shown.as_str() => wanted.as_str(),
         );
     }
     Ok(())
@@ -102,10 +94,9 @@ fn of_linux() -> Result<(), Fail> {
 static UNKNOWN: [u16; 8] = [0, 0x0A, 0x0F, 0x14, 0x1D, 0xF4, 0xFB, 0x0800];
 
 #[test]
-fn of_no_type_of_linux() {
+fn other_numbers_are_no_nonstandard_ether_types() {
     let rt = crate::kit::HostRuntime;
     for &number in &UNKNOWN {
-        let found = LinuxNonstandardEtherType::try_from(number);
-        assert!(found == Err(()), "{number}");
+        equal!(rt, number; LinuxNonstandardEtherType::try_from(number) => Err(()));
     }
 }

@@ -19,7 +19,7 @@ const HEADER: Ethernet2Header = Ethernet2Header {
 const LAYER: Layer = Layer::Ethernet2Header;
 
 #[test]
-fn the_example_of_the_facade() -> Result<(), Fail> {
+fn a_frame_is_read_header_by_header() -> Result<(), Fail> {
     let rt = crate::kit::HostRuntime;
     let frame = [
         0xFF, 0xFF, 0xFF, 0xFF, 0xFF, 0xFF, 0x02, 0x00, 0x00, 0x00, 0x00, 0x01, 0x81, 0x00, // Ethernet II
@@ -27,19 +27,10 @@ fn the_example_of_the_facade() -> Result<(), Fail> {
     ];
     let ethernet = Ethernet2Slice::from_slice_without_fcs(&frame)?;
     let vlan = SingleVlanSlice::from_slice(ethernet.payload_slice())?;
-    equal(
-        &rt,
-        "a frame, header by header",
-        &(
-            ethernet.ether_type(),
-            vlan.vlan_identifier(),
-            vlan.ether_type(),
-        ),
-        &(
-            ether_type::VLAN_TAGGED_FRAME,
-            VlanId::try_new(0x123)?,
-            ether_type::IPV4,
-        ),
+    equal!(rt, "a frame, header by header";
+        ethernet.ether_type() => ether_type::VLAN_TAGGED_FRAME,
+        vlan.vlan_identifier() => VlanId::try_new(0x123)?,
+        vlan.ether_type() => ether_type::IPV4,
     );
     Ok(())
 }
@@ -68,70 +59,42 @@ static FRAMES: [(&str, &[u8], Ethernet2Header); 3] = [
 ];
 
 #[test]
-fn headers() {
+fn an_ethernet_header_is_read_and_written_alike() {
     let rt = crate::kit::HostRuntime;
     for &(name, frame, header) in &FRAMES {
         let bytes = header.to_bytes();
         let wanted = (header, frame.get(14..).unwrap_or(&[]));
-        equal(
-            &rt,
-            name,
-            &(
-                Ethernet2Header::from_slice(frame),
-                Ethernet2Header::read_from_slice(frame).ok(),
-                Some(bytes.as_slice()),
-                Ethernet2Header::from_bytes(bytes),
-            ),
-            &(Ok(wanted), Some(wanted), frame.get(..14), header),
+        equal!(rt, name;
+            Ethernet2Header::from_slice(frame) => Ok(wanted),
+            Ethernet2Header::read_from_slice(frame).ok() => Some(wanted),
+            Some(bytes.as_slice()) => frame.get(..14),
+            Ethernet2Header::from_bytes(bytes) => header,
         );
     }
-    equal(
-        &rt,
-        "lengths and the default",
-        &(
-            HEADER.header_len(),
-            Ethernet2Header::LEN,
-            Ethernet2Header::SERIALIZED_SIZE,
-            Ethernet2Header::default().to_bytes(),
-        ),
-        &(14, 14, 14, [0; 14]),
+    equal!(rt, "lengths and the default";
+        HEADER.header_len() => 14,
+        Ethernet2Header::LEN => 14,
+        Ethernet2Header::SERIALIZED_SIZE => 14,
+        Ethernet2Header::default().to_bytes() => [0; 14],
     );
 }
 
 #[test]
-fn slices_that_are_too_short() {
+fn a_cut_ethernet_header_names_the_missing_bytes() {
     let rt = crate::kit::HostRuntime;
     let bytes = &FRAME[..13];
-    equal(
-        &rt,
-        "thirteen bytes, and seventeen before a check sequence",
-        &(
-            [
-                Ethernet2Header::from_slice(bytes),
-                Ethernet2Header::read_from_slice(bytes),
-            ],
-            Ethernet2HeaderSlice::from_slice(bytes).err(),
-            [
-                Ethernet2Slice::from_slice_without_fcs(bytes).err(),
-                Ethernet2Slice::from_slice_with_crc32_fcs(&FRAME[..17]).err(),
-            ],
-        ),
-        &(
-            [
-                Err(cut_short!(14, 13, LAYER)),
-                Err(cut_short!(14, 13, LAYER)),
-            ],
-            Some(cut_short!(14, 13, LAYER)),
-            [
-                Some(cut_short!(14, 13, LAYER)),
-                Some(cut_short!(18, 17, LAYER)),
-            ],
-        ),
+    equal!(rt, "thirteen bytes, and seventeen before a check sequence";
+        Ethernet2Header::from_slice(bytes) => Err(cut_short!(14, 13, LAYER)),
+        Ethernet2Header::read_from_slice(bytes) => Err(cut_short!(14, 13, LAYER)),
+        Ethernet2HeaderSlice::from_slice(bytes).err() => Some(cut_short!(14, 13, LAYER)),
+        Ethernet2Slice::from_slice_without_fcs(bytes).err() => Some(cut_short!(14, 13, LAYER)),
+        Ethernet2Slice::from_slice_with_crc32_fcs(&FRAME[..17]).err()
+            => Some(cut_short!(18, 17, LAYER)),
     );
 }
 
 #[test]
-fn written_to_slices() -> Result<(), Fail> {
+fn an_ethernet_header_is_written_to_the_front() -> Result<(), Fail> {
     let rt = crate::kit::HostRuntime;
     let mut target = [0x55; 20];
     let rest = HEADER.write_to_slice(&mut target)?;
@@ -139,11 +102,10 @@ fn written_to_slices() -> Result<(), Fail> {
     if let Some(first) = rest.first_mut() {
         *first = 0xAA;
     }
-    equal(
-        &rt,
-        "the front, and the rest lent",
-        &(len, &target[..14], &target[14..]),
-        &(6, &FRAME[..14], &[0xAA, 0x55, 0x55, 0x55, 0x55, 0x55]),
+    equal!(rt, "the front, and the rest lent";
+        len => 6,
+        target.get(..14) => Some(&FRAME[..14]),
+        target.get(14..) => Some([0xAA, 0x55, 0x55, 0x55, 0x55, 0x55].as_slice()),
     );
     let mut target = [0x55; 13];
     let refused = SliceWriteSpaceError {
@@ -153,36 +115,23 @@ fn written_to_slices() -> Result<(), Fail> {
         layer_start_offset: 0,
     };
     let error = HEADER.write_to_slice(&mut target).err();
-    equal(
-        &rt,
-        "thirteen bytes",
-        &(error, target),
-        &(Some(refused), [0x55; 13]),
+    equal!(rt, "thirteen bytes";
+        error => Some(refused),
+        target => [0x55; 13],
     );
     Ok(())
 }
 
 #[test]
-fn views_of_headers() -> Result<(), Fail> {
+fn an_ethernet_view_shows_both_addresses_and_the_type() -> Result<(), Fail> {
     let rt = crate::kit::HostRuntime;
     let view = Ethernet2HeaderSlice::from_slice(&FRAME)?;
-    equal(
-        &rt,
-        "a header",
-        &(
-            view.destination(),
-            view.source(),
-            view.ether_type(),
-            view.slice(),
-            view.to_header(),
-        ),
-        &(
-            [0xFF; 6],
-            [2, 0, 0, 0, 0, 1],
-            EtherType::IPV4,
-            &FRAME[..14],
-            HEADER,
-        ),
+    equal!(rt, "a header";
+        view.destination() => [0xFF; 6],
+        view.source() => [2, 0, 0, 0, 0, 1],
+        view.ether_type() => EtherType::IPV4,
+        view.slice() => &FRAME[..14],
+        view.to_header() => HEADER,
     );
     Ok(())
 }
@@ -195,26 +144,22 @@ fn is_frame(
     payload: &[u8],
     fcs: Option<[u8; 4]>,
 ) {
-    equal(
-        rt,
-        name,
-        &(
-            (view.slice(), view.header_slice(), view.payload_slice()),
-            (view.header_len(), view.fcs(), view.payload()),
-            (view.destination(), view.source(), view.ether_type()),
-            view.to_header(),
-        ),
-        &(
-            (FRAME.as_slice(), &FRAME[..14], payload),
-            (14, fcs, ipv4(payload)),
-            ([0xFF; 6], [2, 0, 0, 0, 0, 1], EtherType::IPV4),
-            HEADER,
-        ),
+    equal!(rt, name;
+        view.slice() => FRAME.as_slice(),
+        view.header_slice() => &FRAME[..14],
+        view.payload_slice() => payload,
+        view.header_len() => 14,
+        view.fcs() => fcs,
+        view.payload() => ipv4(payload),
+        view.destination() => [0xFF; 6],
+        view.source() => [2, 0, 0, 0, 0, 1],
+        view.ether_type() => EtherType::IPV4,
+        view.to_header() => HEADER,
     );
 }
 
 #[test]
-fn views_of_frames() -> Result<(), Fail> {
+fn a_check_sequence_is_not_part_of_the_payload() -> Result<(), Fail> {
     let rt = crate::kit::HostRuntime;
     let with = Ethernet2Slice::from_slice_with_crc32_fcs(&FRAME)?;
     let without = Ethernet2Slice::from_slice_without_fcs(&FRAME)?;
@@ -222,27 +167,23 @@ fn views_of_frames() -> Result<(), Fail> {
     is_frame(&rt, "with a check sequence", &with, &[], fcs);
     is_frame(&rt, "without one", &without, &FRAME[14..], None);
     let payload = Ethernet2Slice::from_slice_without_fcs(&SPANNING_TREE)?.payload();
-    equal(
-        &rt,
-        "a length in the place of the type",
-        &(payload.ether_type, payload.payload),
-        &(EtherType(38), &SPANNING_TREE[14..]),
+    equal!(rt, "a length in the place of the type";
+        payload.ether_type => EtherType(38),
+        payload.payload => &SPANNING_TREE[14..],
     );
     Ok(())
 }
 
 #[test]
-fn shown_by_debug() -> Result<(), Fail> {
+fn debug_shows_ethernet_frames() -> Result<(), Fail> {
     let rt = crate::kit::HostRuntime;
     let header = Ethernet2HeaderSlice::from_slice(&FRAME)?;
     let with = Ethernet2Slice::from_slice_with_crc32_fcs(&FRAME)?;
     let without = Ethernet2Slice::from_slice_without_fcs(&FRAME)?;
     let shown = format!("{:?}", (HEADER, header, with, without));
-    equal(
-        &rt,
-        "a header, its view and two frames",
-        &shown.as_str(),
-        &"(Ethernet2Header { source: [2, 0, 0, 0, 0, 1], destination: [255, 255, 255, 255, 255, 255], ether_type: 0x0800 (Internet Protocol version 4 (IPv4)) }, \
+    equal!(rt, "a header, its view and two frames";
+        shown.as_str()
+            => "(Ethernet2Header { source: [2, 0, 0, 0, 0, 1], destination: [255, 255, 255, 255, 255, 255], ether_type: 0x0800 (Internet Protocol version 4 (IPv4)) }, \
 Ethernet2HeaderSlice { slice: [255, 255, 255, 255, 255, 255, 2, 0, 0, 0, 0, 1, 8, 0] }, \
 Ethernet2Slice { header: Ethernet2Header { source: [2, 0, 0, 0, 0, 1], destination: [255, 255, 255, 255, 255, 255], ether_type: 0x0800 (Internet Protocol version 4 (IPv4)) }, payload: EtherPayloadSlice { ether_type: 0x0800 (Internet Protocol version 4 (IPv4)), len_source: Slice, payload: [] }, fcs: Some([17, 34, 51, 68]) }, \
 Ethernet2Slice { header: Ethernet2Header { source: [2, 0, 0, 0, 0, 1], destination: [255, 255, 255, 255, 255, 255], ether_type: 0x0800 (Internet Protocol version 4 (IPv4)) }, payload: EtherPayloadSlice { ether_type: 0x0800 (Internet Protocol version 4 (IPv4)), len_source: Slice, payload: [17, 34, 51, 68] }, fcs: None })",

@@ -96,56 +96,38 @@ static HARDWARE_TYPES: [(u16, &str); 88] = [
 ];
 
 #[test]
-fn with_names() -> Result<(), Fail> {
+fn each_assigned_hardware_type_has_its_name() -> Result<(), Fail> {
     let rt = crate::kit::HostRuntime;
     for &(number, description) in &HARDWARE_TYPES {
         let hardware = ArpHardwareId::from(number);
         let shown = format!("{hardware:?}");
         let wanted = format!("{number} ({description})");
-        equal(
-            &rt,
-            description,
-            &(u16::from(hardware), hardware.name(), shown.as_str()),
-            &(number, Some(description), wanted.as_str()),
+        equal!(rt, description;
+            u16::from(hardware) => number,
+            hardware.name() => Some(description),
+            shown.as_str() => wanted.as_str(),
         );
     }
     Ok(())
 }
 
 #[test]
-fn second_names_and_operations() -> Result<(), Fail> {
+fn second_names_of_hardware_types_have_the_same_numbers() -> Result<(), Fail> {
     let rt = crate::kit::HostRuntime;
-    equal(
-        &rt,
-        "second names",
-        &[
-            ArpHardwareId::ETHER,
-            ArpHardwareId::APPLETLK,
-            ArpHardwareId::FRAME_RELAY,
-        ],
-        &[ArpHardwareId(1), ArpHardwareId(8), ArpHardwareId(15)],
+    equal!(rt, "second names";
+        [ArpHardwareId::ETHER, ArpHardwareId::APPLETLK, ArpHardwareId::FRAME_RELAY]
+            => [ArpHardwareId(1), ArpHardwareId(8), ArpHardwareId(15)],
     );
     let shown_by_hex = [39, 0xFFFD, 0xFFFE, 0xFFFF].map(ArpHardwareId);
     let shown = format!("{shown_by_hex:?}");
-    equal(
-        &rt,
-        "without a name, and those that Linux does not assign to hardware",
-        &(shown_by_hex.map(|id| id.name()), shown.as_str()),
-        &(
-            [
-                None,
-                None,
-                Some("zero header length"),
-                Some("Void type, nothing is known"),
-            ],
-            "[0x0027, 0xFFFD, 0xFFFE (zero header length), 0xFFFF (Void type, nothing is known)]",
-        ),
+    equal!(rt, "without a name, and those that Linux does not assign to hardware";
+        shown_by_hex.map(|id| id.name())
+            => [None, None, Some("zero header length"), Some("Void type, nothing is known")],
+        shown.as_str()
+            => "[0x0027, 0xFFFD, 0xFFFE (zero header length), 0xFFFF (Void type, nothing is known)]",
     );
-    equal(
-        &rt,
-        "operations",
-        &[ArpOperation(1), ArpOperation(2)],
-        &[ArpOperation::REQUEST, ArpOperation::REPLY],
+    equal!(rt, "operations";
+        [ArpOperation(1), ArpOperation(2)] => [ArpOperation::REQUEST, ArpOperation::REPLY],
     );
     Ok(())
 }

@@ -17,21 +17,16 @@ fn is_ext(
     header: LinkExtHeader,
     payload: Option<EtherPayloadSlice<'_>>,
 ) {
-    equal(
-        rt,
-        name,
-        &(
-            view.header_len(),
-            view.to_header(),
-            header.header_len(),
-            view.ether_payload(),
-        ),
-        &(len, header, len, payload),
+    equal!(rt, name;
+        view.header_len() => len,
+        view.to_header() => header,
+        header.header_len() => len,
+        view.ether_payload() => payload,
     );
 }
 
 #[test]
-fn extensions() -> Result<(), Fail> {
+fn an_extension_has_the_header_and_the_payload_of_its_tag() -> Result<(), Fail> {
     let rt = crate::kit::HostRuntime;
     let vlan = LinkExtSlice::Vlan(SingleVlanSlice::from_slice(&TAG)?);
     let header = SingleVlanHeader::from_bytes([0xB1, 0x23, 0x08, 0x00]);
@@ -49,20 +44,16 @@ fn extensions() -> Result<(), Fail> {
 }
 
 #[test]
-fn shown_by_debug() -> Result<(), Fail> {
+fn debug_shows_extensions() -> Result<(), Fail> {
     let rt = crate::kit::HostRuntime;
     let sealed = LinkExtSlice::Macsec(MacsecSlice::from_slice(&SEALED)?);
     let header = sealed.to_header();
     let shown = format!("{:?}", (header, sealed));
-    equal(
-        &rt,
-        "an encrypted payload",
-        &(header.header_len(), shown.as_str()),
-        &(
-            14,
-            "(Macsec(MacsecHeader { ptype: Encrypted, endstation_id: false, scb: false, an: MacsecAn(0), short_len: MacsecShortLen(0), packet_nr: 1, sci: Some(4822678189205111) }), \
+    equal!(rt, "an encrypted payload";
+        header.header_len() => 14,
+        shown.as_str()
+            => "(Macsec(MacsecHeader { ptype: Encrypted, endstation_id: false, scb: false, an: MacsecAn(0), short_len: MacsecShortLen(0), packet_nr: 1, sci: Some(4822678189205111) }), \
 Macsec(MacsecSlice { header: MacsecHeaderSlice { slice: [44, 192, 0, 0, 0, 1, 0, 17, 34, 51, 68, 85, 102, 119] }, payload: Modified([153]) }))",
-        ),
     );
     Ok(())
 }
@@ -101,7 +92,7 @@ static PAYLOADS: [(&str, Protocol, u16, Option<EtherType>); 6] = [
 ];
 
 #[test]
-fn payloads_of_both_kinds() {
+fn payloads_of_both_kinds_convert_into_one_another() {
     let rt = crate::kit::HostRuntime;
     for &(name, protocol, number, ether_type) in &PAYLOADS {
         let payload = sll(protocol_type(protocol, number));
@@ -113,17 +104,14 @@ fn payloads_of_both_kinds() {
             }),
             None => Err(()),
         };
-        equal(&rt, name, &EtherPayloadSlice::try_from(payload), &wanted);
+        equal!(rt, name; EtherPayloadSlice::try_from(payload) => wanted);
     }
     let named = LinuxSllPayloadSlice::from(EtherPayloadSlice {
         ether_type: EtherType(0x8100),
         len_source: LenSource::MacsecShortLength,
         payload: &[0xAA],
     });
-    equal(
-        &rt,
-        "the source is lost",
-        &named,
-        &sll(LinuxSllProtocolType::EtherType(EtherType(0x8100))),
+    equal!(rt, "the source is lost";
+        named => sll(LinuxSllProtocolType::EtherType(EtherType(0x8100))),
     );
 }

@@ -164,30 +164,28 @@ fn header(row: &Row) -> Result<LinuxSll2Header, Fail> {
 }
 
 #[test]
-fn packets() -> Result<(), Fail> {
+fn a_version_2_packet_has_its_header_address_and_payload() -> Result<(), Fail> {
     let rt = crate::kit::HostRuntime;
     for row in &PACKETS {
         let view = LinuxSll2Slice::from_slice(row.packet)?;
         let header = header(row)?;
         let bytes = header.to_bytes();
-        equal(
-            &rt,
-            row.name,
-            &(view.sender_address(), view.payload_slice(), view.start()),
-            &(row.address, row.packet.get(20..).unwrap_or(&[]), row.start),
+        equal!(rt, row.name;
+            view.sender_address() => row.address,
+            view.payload_slice() => row.packet.get(20..).unwrap_or(&[]),
+            view.start() => row.start,
         );
-        equal(
-            &rt,
-            row.name,
-            &(view.to_header(), Some(&bytes[..2]), Some(&bytes[4..])),
-            &(header, row.packet.get(..2), row.packet.get(4..20)),
+        equal!(rt, row.name;
+            view.to_header() => header,
+            bytes.get(..2) => row.packet.get(..2),
+            bytes.get(4..) => row.packet.get(4..20),
         );
     }
     Ok(())
 }
 
 #[test]
-fn the_walk_of_the_example() -> Result<(), Fail> {
+fn a_walk_goes_on_after_a_cooked_header_of_version_2() -> Result<(), Fail> {
     let rt = crate::kit::HostRuntime;
     let packet = LinuxSll2Slice::from_slice(&EXAMPLE)?;
     let mut found = None;
@@ -197,21 +195,19 @@ fn the_walk_of_the_example() -> Result<(), Fail> {
             found = Some((tag.vlan_identifier().value(), peel.offset()));
         }
     }
-    equal(&rt, "a tag", &found, &Some((291, 4)));
+    equal!(rt, "a tag"; found => Some((291, 4)));
     Ok(())
 }
 
 #[test]
-fn shown_by_debug() -> Result<(), Fail> {
+fn debug_shows_cooked_packets_of_version_2() -> Result<(), Fail> {
     let rt = crate::kit::HostRuntime;
     let view = LinuxSll2HeaderSlice::from_slice(&GRE)?;
     let packet = LinuxSll2Slice::from_slice(&GRE)?;
     let shown = format!("{:?}", (view, packet));
-    equal(
-        &rt,
-        "a view of a header and one with the payload",
-        &shown.as_str(),
-        &"(LinuxSll2HeaderSlice { slice: [8, 0, 0, 0, 0, 0, 0, 7, 3, 10, 0, 4, 192, 0, 2, 1, 0, 0, 0, 0] }, \
+    equal!(rt, "a view of a header and one with the payload";
+        shown.as_str()
+            => "(LinuxSll2HeaderSlice { slice: [8, 0, 0, 0, 0, 0, 0, 7, 3, 10, 0, 4, 192, 0, 2, 1, 0, 0, 0, 0] }, \
 LinuxSll2Slice { header: LinuxSll2Header { protocol_type: GenericRoutingEncapsulationProtocolType(2048), interface_index: 7, arp_hrd_type: 778 (GRE over IP), packet_type: 0 (Sent to us), sender_address_valid_length: 4, sender_address: [192, 0, 2, 1, 0, 0, 0, 0] }, payload: LinuxSllPayloadSlice { protocol_type: GenericRoutingEncapsulationProtocolType(2048), payload: [69] } })",
     );
     Ok(())
@@ -262,25 +258,21 @@ static REFUSALS: [(&str, &[u8], LinuxSll2Error, &str); 3] = [
 ];
 
 #[test]
-fn refusals() -> Result<(), Fail> {
+fn a_refused_cooked_packet_of_version_2_names_the_cause() -> Result<(), Fail> {
     let rt = crate::kit::HostRuntime;
     for (name, bytes, wanted, text) in &REFUSALS {
         let view = LinuxSll2HeaderSlice::from_slice(bytes).err();
         let packet = LinuxSll2Slice::from_slice(bytes).err();
         let alike = view == packet && refusal(bytes) == packet;
         let shown = format!("{wanted}");
-        equal(
-            &rt,
-            name,
-            &(packet.as_ref(), alike, shown.as_str()),
-            &(Some(wanted), true, *text),
+        equal!(rt, name;
+            packet.as_ref() => Some(wanted),
+            alike => true,
+            shown.as_str() => *text,
         );
     }
-    equal(
-        &rt,
-        "twenty bytes by value",
-        &LinuxSll2Header::from_bytes(UNSUPPORTED),
-        &Err(LinuxSll2Error::PacketType(8)),
+    equal!(rt, "twenty bytes by value";
+        LinuxSll2Header::from_bytes(UNSUPPORTED) => Err(LinuxSll2Error::PacketType(8)),
     );
     Ok(())
 }

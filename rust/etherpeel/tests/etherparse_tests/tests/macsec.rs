@@ -111,7 +111,7 @@ static TAGS: [Row; 5] = [
 
 /// Each tag is written and read again.
 #[test]
-fn headers() -> Result<(), Fail> {
+fn a_sec_tag_is_written_and_read_alike() -> Result<(), Fail> {
     let rt = crate::kit::HostRuntime;
     for row in &TAGS {
         let (endstation_id, scb) = row.bits;
@@ -123,41 +123,27 @@ fn headers() -> Result<(), Fail> {
         };
         let bytes = row.frame.get(row.from..row.to).unwrap_or(&[]);
         let written = header.to_bytes();
-        equal(
-            &rt,
-            row.name,
-            &(
-                written.as_slice(),
-                header.header_len(),
-                MacsecHeader::from_slice(bytes),
-            ),
-            &(bytes, bytes.len(), Ok(header)),
+        equal!(rt, row.name;
+            written.as_slice() => bytes,
+            header.header_len() => bytes.len(),
+            MacsecHeader::from_slice(bytes) => Ok(header),
         );
     }
     Ok(())
 }
 
 #[test]
-fn a_header_that_is_written_and_refused() -> Result<(), Fail> {
+fn a_sec_tag_without_room_for_its_ether_type_is_refused() -> Result<(), Fail> {
     let rt = crate::kit::HostRuntime;
     let too_short = tag(READABLE, 0, 1, 1)?;
     let written = too_short.to_bytes();
     let refused = HeaderSliceError::Content(HeaderError::InvalidUnmodifiedShortLen);
-    equal(
-        &rt,
-        "no room for the ether type",
-        &(
-            written.as_slice(),
-            MacsecHeader::from_slice(written.as_slice()),
-            too_short.expected_payload_len(),
-            (MacsecHeader::MIN_LEN, MacsecHeader::MAX_LEN),
-        ),
-        &(
-            [0, 1, 0, 0, 0, 1, 8, 0].as_slice(),
-            Err(refused),
-            None,
-            (6, 16),
-        ),
+    equal!(rt, "no room for the ether type";
+        written.as_slice() => [0, 1, 0, 0, 0, 1, 8, 0].as_slice(),
+        MacsecHeader::from_slice(written.as_slice()) => Err(refused),
+        too_short.expected_payload_len() => None,
+        MacsecHeader::MIN_LEN => 6,
+        MacsecHeader::MAX_LEN => 16,
     );
     Ok(())
 }
@@ -189,22 +175,17 @@ static PAYLOAD_TYPES: [(&str, MacsecPType, bool, bool, Option<EtherType>); 4] = 
 ];
 
 #[test]
-fn payload_types() -> Result<(), Fail> {
+fn the_bits_and_the_ether_type_follow_the_payload_type() -> Result<(), Fail> {
     let rt = crate::kit::HostRuntime;
     for &(name, ptype, encrypted, changed, ether_type) in &PAYLOAD_TYPES {
         let header = tag(ptype, 0, 0, 1)?;
         let written = header.to_bytes();
         let read = MacsecHeaderSlice::from_slice(written.as_slice())?.ptype();
-        equal(
-            &rt,
-            name,
-            &(
-                header.encrypted(),
-                header.userdata_changed(),
-                header.next_ether_type(),
-                read,
-            ),
-            &(encrypted, changed, ether_type, ptype),
+        equal!(rt, name;
+            header.encrypted() => encrypted,
+            header.userdata_changed() => changed,
+            header.next_ether_type() => ether_type,
+            read => ptype,
         );
     }
     Ok(())
@@ -228,13 +209,13 @@ static LENS: [(&str, MacsecPType, usize, u8, Option<usize>); 7] = [
 ];
 
 #[test]
-fn payload_lens() -> Result<(), Fail> {
+fn the_short_length_follows_the_payload_length() -> Result<(), Fail> {
     let rt = crate::kit::HostRuntime;
     for &(name, ptype, len, short_len, expected) in &LENS {
         let mut header = tag(ptype, 0, 1, 1)?;
         header.set_payload_len(len);
         let found = (header.short_len.value(), header.expected_payload_len());
-        equal(&rt, name, &found, &(short_len, expected));
+        equal!(rt, name; found => (short_len, expected));
     }
     Ok(())
 }
@@ -287,7 +268,7 @@ static VIEWS: [View; 2] = [
 ];
 
 #[test]
-fn views_of_headers() -> Result<(), Fail> {
+fn a_sec_tag_view_shows_bits_numbers_and_lengths() -> Result<(), Fail> {
     let rt = crate::kit::HostRuntime;
     for row in &VIEWS {
         let tag = MacsecHeaderSlice::from_slice(row.bytes)?;
@@ -300,26 +281,15 @@ fn views_of_headers() -> Result<(), Fail> {
             tag.userdata_changed(),
             tag.is_unmodified(),
         ];
-        equal(
-            &rt,
-            row.name,
-            &(
-                (tag.tci_an_raw(), bits, tag.ptype(), tag.next_ether_type()),
-                (
-                    tag.an().value(),
-                    tag.short_len().value(),
-                    tag.packet_nr(),
-                    tag.sci(),
-                ),
-                (tag.header_len(), tag.expected_payload_len()),
-                (Some(tag.slice()), written.as_slice()),
-            ),
-            &(
-                (row.tci_an, row.bits, row.ptype, row.ether_type),
-                row.numbers,
-                row.lens,
-                (row.bytes.get(..tag.header_len()), row.written),
-            ),
+        equal!(rt, row.name;
+            tag.tci_an_raw() => row.tci_an,
+            bits => row.bits,
+            tag.ptype() => row.ptype,
+            tag.next_ether_type() => row.ether_type,
+            (tag.an().value(), tag.short_len().value(), tag.packet_nr(), tag.sci()) => row.numbers,
+            (tag.header_len(), tag.expected_payload_len()) => row.lens,
+            Some(tag.slice()) => row.bytes.get(..tag.header_len()),
+            written.as_slice() => row.written,
         );
     }
     Ok(())
@@ -388,7 +358,7 @@ static PAYLOADS: [Payload; 7] = [
 ];
 
 #[test]
-fn views_with_payloads() -> Result<(), Fail> {
+fn the_payload_of_a_sec_tag_is_readable_or_modified() -> Result<(), Fail> {
     let rt = crate::kit::HostRuntime;
     for &(name, frame, start, from, to, ether_type) in &PAYLOADS {
         let packet = MacsecSlice::from_slice(frame.get(start..).unwrap_or(&[]))?;
@@ -402,16 +372,11 @@ fn views_with_payloads() -> Result<(), Fail> {
             Some(readable) => MacsecPayloadSlice::Unmodified(readable),
             None => MacsecPayloadSlice::Modified(payload),
         };
-        equal(
-            &rt,
-            name,
-            &(
-                packet.payload,
-                packet.ether_payload(),
-                packet.next_ether_type(),
-                Some(packet.header.slice()),
-            ),
-            &(either, readable, ether_type, frame.get(start..from)),
+        equal!(rt, name;
+            packet.payload => either,
+            packet.ether_payload() => readable,
+            packet.next_ether_type() => ether_type,
+            Some(packet.header.slice()) => frame.get(start..from),
         );
     }
     Ok(())
@@ -483,24 +448,22 @@ static REFUSALS: [(&str, &[u8], Option<HeaderSliceError>); 12] = [
 ];
 
 #[test]
-fn refusals() {
+fn a_refused_sec_tag_names_the_cause() {
     let rt = crate::kit::HostRuntime;
     for (name, bytes, wanted) in &REFUSALS {
-        equal(&rt, name, &MacsecSlice::from_slice(bytes).err(), wanted);
+        equal!(rt, name; MacsecSlice::from_slice(bytes).err() => *wanted);
     }
 }
 
 #[test]
-fn shown_by_debug() -> Result<(), Fail> {
+fn debug_shows_sec_tags() -> Result<(), Fail> {
     let rt = crate::kit::HostRuntime;
     let tag = MacsecHeaderSlice::from_slice(&SEALED)?;
     let packet = MacsecSlice::from_slice(&NAMED)?;
     let shown = format!("{:?}", (changed()?, tag, packet));
-    equal(
-        &rt,
-        "a tag, a view and one with its payload",
-        &shown.as_str(),
-        &"(MacsecHeader { ptype: Modified, endstation_id: true, scb: true, an: MacsecAn(2), short_len: MacsecShortLen(5), packet_nr: 16909060, sci: Some(1234605616436508552) }, \
+    equal!(rt, "a tag, a view and one with its payload";
+        shown.as_str()
+            => "(MacsecHeader { ptype: Modified, endstation_id: true, scb: true, an: MacsecAn(2), short_len: MacsecShortLen(5), packet_nr: 16909060, sci: Some(1234605616436508552) }, \
 MacsecHeaderSlice { slice: [44, 192, 0, 0, 0, 1, 0, 17, 34, 51, 68, 85, 102, 119] }, \
 MacsecSlice { header: MacsecHeaderSlice { slice: [0, 6, 0, 0, 0, 1, 129, 0] }, payload: Unmodified(EtherPayloadSlice { ether_type: 0x8100 (Customer VLAN Tag (C-TAG) as defined in IEEE Std 802.1Q), len_source: MacsecShortLength, payload: [170, 187, 204, 221] }) })",
     );

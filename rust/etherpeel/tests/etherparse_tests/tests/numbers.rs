@@ -26,112 +26,64 @@ const fn above_u8(actual: u8, max_allowed: u8, value_type: ValueType) -> ValueTo
 
 // the value of a number, the greatest one, and the refusal of one more
 #[test]
-fn vlan_identifiers() -> Result<(), Fail> {
+fn a_vlan_identifier_is_at_most_4095() -> Result<(), Fail> {
     let rt = crate::kit::HostRuntime;
     let (id, greatest) = (VlanId::try_new(100)?, VlanId::try_from(4095)?);
-    equal(
-        &rt,
-        "VLAN identifiers",
-        &(
-            id.value(),
-            u16::from(greatest),
-            VlanId::MAX_U16,
-            VlanId::default(),
-            VlanId::try_new(4096),
-            VlanId::try_from(4096),
-        ),
-        &(
-            100,
-            4095,
-            4095,
-            VlanId::ZERO,
-            Err(above_u16(4096, 4095, ValueType::VlanId)),
-            Err(above_u16(4096, 4095, ValueType::VlanId)),
-        ),
+    equal!(rt, "VLAN identifiers";
+        id.value() => 100,
+        u16::from(greatest) => 4095,
+        VlanId::MAX_U16 => 4095,
+        VlanId::default() => VlanId::ZERO,
+        VlanId::try_new(4096) => Err(above_u16(4096, 4095, ValueType::VlanId)),
+        VlanId::try_from(4096) => Err(above_u16(4096, 4095, ValueType::VlanId)),
     );
     Ok(())
 }
 
 #[test]
-fn priority_code_points() -> Result<(), Fail> {
+fn a_priority_code_point_is_at_most_7() -> Result<(), Fail> {
     let rt = crate::kit::HostRuntime;
     let (pcp, greatest) = (VlanPcp::try_new(5)?, VlanPcp::try_from(7)?);
-    equal(
-        &rt,
-        "priority code points",
-        &(
-            pcp.value(),
-            u8::from(greatest),
-            VlanPcp::MAX_U8,
-            VlanPcp::default(),
-            VlanPcp::try_new(8),
-            VlanPcp::try_from(8),
-        ),
-        &(
-            5,
-            7,
-            7,
-            VlanPcp::ZERO,
-            Err(above_u8(8, 7, ValueType::VlanPcp)),
-            Err(above_u8(8, 7, ValueType::VlanPcp)),
-        ),
+    equal!(rt, "priority code points";
+        pcp.value() => 5,
+        u8::from(greatest) => 7,
+        VlanPcp::MAX_U8 => 7,
+        VlanPcp::default() => VlanPcp::ZERO,
+        VlanPcp::try_new(8) => Err(above_u8(8, 7, ValueType::VlanPcp)),
+        VlanPcp::try_from(8) => Err(above_u8(8, 7, ValueType::VlanPcp)),
     );
     Ok(())
 }
 
 #[test]
-fn association_numbers() -> Result<(), Fail> {
+fn an_association_number_is_at_most_3() -> Result<(), Fail> {
     let rt = crate::kit::HostRuntime;
     let (an, greatest) = (MacsecAn::try_new(2)?, MacsecAn::try_from(3)?);
-    equal(
-        &rt,
-        "association numbers",
-        &(
-            an.value(),
-            u8::from(greatest),
-            MacsecAn::MAX_U8,
-            MacsecAn::default(),
-            MacsecAn::try_new(4),
-            MacsecAn::try_from(4),
-        ),
-        &(
-            2,
-            3,
-            3,
-            MacsecAn::ZERO,
-            Err(above_u8(4, 3, ValueType::MacsecAn)),
-            Err(above_u8(4, 3, ValueType::MacsecAn)),
-        ),
+    equal!(rt, "association numbers";
+        an.value() => 2,
+        u8::from(greatest) => 3,
+        MacsecAn::MAX_U8 => 3,
+        MacsecAn::default() => MacsecAn::ZERO,
+        MacsecAn::try_new(4) => Err(above_u8(4, 3, ValueType::MacsecAn)),
+        MacsecAn::try_from(4) => Err(above_u8(4, 3, ValueType::MacsecAn)),
     );
     Ok(())
 }
 
 #[test]
-fn short_lens() -> Result<(), Fail> {
+fn a_short_length_is_at_most_63() -> Result<(), Fail> {
     let rt = crate::kit::HostRuntime;
     let (len, greatest) = (
         MacsecShortLen::try_from_u8(46)?,
         MacsecShortLen::try_from(63)?,
     );
-    equal(
-        &rt,
-        "short lengths",
-        &(
-            len.value(),
-            u8::from(greatest),
-            MacsecShortLen::MAX_U8,
-            MacsecShortLen::default(),
-            MacsecShortLen::try_from_u8(64),
-            MacsecShortLen::try_from(64),
-        ),
-        &(
-            46,
-            63,
-            63,
-            MacsecShortLen::ZERO,
-            Err(above_u8(64, 63, ValueType::MacsecShortLen)),
-            Err(above_u8(64, 63, ValueType::MacsecShortLen)),
-        ),
+    equal!(rt, "short lengths";
+        len.value() => 46,
+        u8::from(greatest) => 63,
+        MacsecShortLen::MAX_U8 => 63,
+        MacsecShortLen::default() => MacsecShortLen::ZERO,
+        MacsecShortLen::try_from_u8(64) => Err(above_u8(64, 63, ValueType::MacsecShortLen)),
+        MacsecShortLen::try_from(64) => Err(above_u8(64, 63, ValueType::MacsecShortLen)),
     );
     Ok(())
 }
@@ -145,39 +97,29 @@ static SHORT_LENS: [(&str, usize, u8); 4] = [
 ];
 
 #[test]
-fn short_lengths_of_lengths() {
+fn a_length_above_63_has_the_short_length_0() {
     let rt = crate::kit::HostRuntime;
     for &(name, len, value) in &SHORT_LENS {
         let found = MacsecShortLen::from_len(len).value();
-        equal(&rt, name, &(found, MacsecShortLen::MAX_USIZE), &(value, 63));
+        equal!(rt, name;
+            found => value,
+            MacsecShortLen::MAX_USIZE => 63,
+        );
     }
 }
 
 /// The first byte is the most significant, and comes first.
 #[test]
-fn of_several_bytes() {
+fn the_first_byte_is_the_most_significant() {
     let rt = crate::kit::HostRuntime;
-    equal(
-        &rt,
-        "from and to bytes",
-        &(
-            big_endian::u16_of([0x88, 0xA8]),
-            big_endian::u32_of([192, 0, 2, 1]),
-            big_endian::u64_of([0, 0, 0, 0, 0, 0, 1, 2]),
-            big_endian::u64_of([0xFF; 8]),
-            big_endian::bytes_of_u16(0x88A8),
-            big_endian::bytes_of_u32(258),
-            big_endian::bytes_of_u64(258),
-        ),
-        &(
-            0x88A8,
-            3_221_225_985,
-            258,
-            18_446_744_073_709_551_615,
-            [0x88, 0xA8],
-            [0, 0, 1, 2],
-            [0, 0, 0, 0, 0, 0, 1, 2],
-        ),
+    equal!(rt, "from and to bytes";
+        big_endian::u16_of([0x88, 0xA8]) => 0x88A8,
+        big_endian::u32_of([192, 0, 2, 1]) => 3_221_225_985,
+        big_endian::u64_of([0, 0, 0, 0, 0, 0, 1, 2]) => 258,
+        big_endian::u64_of([0xFF; 8]) => 18_446_744_073_709_551_615,
+        big_endian::bytes_of_u16(0x88A8) => [0x88, 0xA8],
+        big_endian::bytes_of_u32(258) => [0, 0, 1, 2],
+        big_endian::bytes_of_u64(258) => [0, 0, 0, 0, 0, 0, 1, 2],
     );
 }
 
@@ -202,28 +144,18 @@ const PACKET_TYPES: [(u16, LinuxSllPacketType, &str); 8] = [
 ];
 
 #[test]
-fn of_packet_types() -> Result<(), Fail> {
+fn a_packet_type_is_at_most_7() -> Result<(), Fail> {
     let rt = crate::kit::HostRuntime;
     for (number, constant, text) in PACKET_TYPES {
         let shown = format!("{constant:?}");
-        equal(
-            &rt,
-            text,
-            &(
-                LinuxSllPacketType::try_from(number),
-                u16::from(constant),
-                shown.as_str(),
-            ),
-            &(Ok(constant), number, text),
+        equal!(rt, text;
+            LinuxSllPacketType::try_from(number) => Ok(constant),
+            u16::from(constant) => number,
+            shown.as_str() => text,
         );
     }
     let refused = linux_sll::HeaderError::UnsupportedPacketTypeField { packet_type: 8 };
-    equal(
-        &rt,
-        "above 7",
-        &LinuxSllPacketType::try_from(8),
-        &Err(refused),
-    );
+    equal!(rt, "above 7"; LinuxSllPacketType::try_from(8) => Err(refused));
     Ok(())
 }
 
@@ -265,7 +197,7 @@ static BY_HARDWARE_TYPE: [(&str, ArpHardwareId, u16, Option<Protocol>); 8] = [
 ];
 
 #[test]
-fn of_protocol_types() {
+fn the_hardware_type_decides_the_protocol_type() {
     let rt = crate::kit::HostRuntime;
     for &(name, hardware, number, protocol) in &BY_HARDWARE_TYPE {
         let wanted = match protocol {
@@ -275,16 +207,11 @@ fn of_protocol_types() {
             }),
         };
         let is_supported = LinuxSllProtocolType::SUPPORTED_ARPHWD.contains(&hardware);
-        equal(&rt, name, &is_supported, &protocol.is_some());
-        equal(
-            &rt,
-            name,
-            &LinuxSllProtocolType::try_from((hardware, number)),
-            &wanted,
-        );
+        equal!(rt, name; is_supported => protocol.is_some());
+        equal!(rt, name; LinuxSllProtocolType::try_from((hardware, number)) => wanted);
         if let Some(protocol) = protocol {
             let written = u16::from(protocol_type(protocol, number));
-            equal(&rt, name, &written, &number);
+            equal!(rt, name; written => number);
         }
     }
 }
@@ -315,11 +242,11 @@ static CHANGES: [(&str, Protocol, u16, u16, Protocol); 3] = [
 ];
 
 #[test]
-fn of_changed_protocol_types() {
+fn a_changed_number_decides_the_protocol_type_anew() {
     let rt = crate::kit::HostRuntime;
     for &(name, before, number, other, after) in &CHANGES {
         let mut changed = protocol_type(before, number);
         changed.change_value(other);
-        equal(&rt, name, &changed, &protocol_type(after, other));
+        equal!(rt, name; changed => protocol_type(after, other));
     }
 }

@@ -29,7 +29,7 @@ fn reads(
     text: &str,
 ) -> Result<(), AllocError> {
     let shown = format!("{error}");
-    equal(rt, text, &shown.as_str(), &text);
+    equal!(rt, text; shown.as_str() => text);
     Ok(())
 }
 
@@ -51,7 +51,7 @@ static LENGTHS: [(LenError, &str); 2] = [
 ];
 
 #[test]
-fn of_lengths() -> Result<(), Fail> {
+fn a_length_error_names_the_layer_and_both_lengths() -> Result<(), Fail> {
     let rt = crate::kit::HostRuntime;
     for (error, text) in &LENGTHS {
         reads(&rt, error, text)?;
@@ -62,14 +62,10 @@ fn of_lengths() -> Result<(), Fail> {
     };
     let moved = early.add_offset(14);
     let shown = format!("{moved:?}");
-    equal(
-        &rt,
-        "an offset moves the start alone",
-        &(moved, shown.as_str()),
-        &(
-            SHORT,
-            "LenError { required_len: 4, len: 2, len_source: Slice, layer: VlanHeader, layer_start_offset: 18 }",
-        ),
+    equal!(rt, "an offset moves the start alone";
+        moved => SHORT,
+        shown.as_str()
+            => "LenError { required_len: 4, len: 2, len_source: Slice, layer: VlanHeader, layer_start_offset: 18 }",
     );
     Ok(())
 }
@@ -96,7 +92,7 @@ static TARGETS: [(SliceWriteSpaceError, &str); 2] = [
 ];
 
 #[test]
-fn of_targets() -> Result<(), Fail> {
+fn a_write_error_names_the_room_that_is_needed() -> Result<(), Fail> {
     let rt = crate::kit::HostRuntime;
     for (error, text) in &TARGETS {
         reads(&rt, error, text)?;
@@ -147,7 +143,7 @@ static CAPTURES: [(linux_sll::HeaderSliceError, usize, &str); 3] = [
 ];
 
 #[test]
-fn of_cooked_captures() -> Result<(), Fail> {
+fn a_cooked_capture_error_names_the_cause() -> Result<(), Fail> {
     let rt = crate::kit::HostRuntime;
     for (error, offset, text) in &CAPTURES {
         reads(&rt, &error.clone().add_slice_offset(*offset), text)?;
@@ -176,7 +172,7 @@ static SEC_TAGS: [(macsec::HeaderSliceError, usize, &str); 3] = [
 ];
 
 #[test]
-fn of_sec_tags() -> Result<(), Fail> {
+fn a_sec_tag_error_names_the_cause() -> Result<(), Fail> {
     let rt = crate::kit::HostRuntime;
     for (error, offset, text) in &SEC_TAGS {
         reads(&rt, &error.clone().add_slice_offset(*offset), text)?;
@@ -205,7 +201,7 @@ static NEW_PACKETS: [(ArpNewError, &str); 4] = [
 
 /// The error of an address has the text that it has as one of a packet.
 #[test]
-fn of_new_arp_packets() -> Result<(), Fail> {
+fn an_address_error_reads_as_that_of_its_packet() -> Result<(), Fail> {
     let rt = crate::kit::HostRuntime;
     for (error, text) in &NEW_PACKETS {
         reads(&rt, error, text)?;
@@ -237,7 +233,7 @@ static OTHER_PACKETS: [(ArpEthIpv4FromError, &str); 4] = [
 ];
 
 #[test]
-fn of_other_arp_packets() -> Result<(), Fail> {
+fn a_conversion_error_names_what_does_not_match() -> Result<(), Fail> {
     let rt = crate::kit::HostRuntime;
     for (error, text) in &OTHER_PACKETS {
         reads(&rt, error, text)?;
@@ -246,7 +242,7 @@ fn of_other_arp_packets() -> Result<(), Fail> {
 }
 
 #[test]
-fn of_numbers() -> Result<(), Fail> {
+fn display_and_debug_show_numbers() -> Result<(), Fail> {
     let rt = crate::kit::HostRuntime;
     let (id, pcp) = (VlanId::try_new(2)?, VlanPcp::try_new(2)?);
     let (an, len) = (MacsecAn::try_new(2)?, MacsecShortLen::try_from_u8(2)?);
@@ -258,15 +254,12 @@ fn of_numbers() -> Result<(), Fail> {
     let shown = format!("{id} {refused}");
     let numbers = (id, pcp, an, len, ArpOperation::REPLY, VERSION, PACKET_TYPE);
     let debug = format!("{numbers:?}");
-    equal(
-        &rt,
-        "by Display and by Debug",
-        &(shown.as_str(), debug.as_str(), refused.clone()),
-        &(
-            "2 Error '4096' is too big to be a 'VLAN ID' (maximum allowed value is '4095')",
-            "(VlanId(2), VlanPcp(2), MacsecAn(2), MacsecShortLen(2), ArpOperation(2), Content(UnexpectedVersion), Content(UnsupportedPacketTypeField { packet_type: 8 }))",
-            refused,
-        ),
+    equal!(rt, "by Display and by Debug";
+        shown.as_str()
+            => "2 Error '4096' is too big to be a 'VLAN ID' (maximum allowed value is '4095')",
+        debug.as_str()
+            => "(VlanId(2), VlanPcp(2), MacsecAn(2), MacsecShortLen(2), ArpOperation(2), Content(UnexpectedVersion), Content(UnsupportedPacketTypeField { packet_type: 8 }))",
+        refused.clone() => refused,
     );
     Ok(())
 }
@@ -277,7 +270,7 @@ fn same<E: Error + Clone + Eq + Hash>(error: E) -> Result<bool, AllocError> {
 }
 
 #[test]
-fn of_errors_that_are_cloned() {
+fn errors_equal_their_clones() {
     let rt = crate::kit::HostRuntime;
     let too_big = ValueTooBigError {
         actual: 8,
@@ -299,5 +292,5 @@ fn of_errors_that_are_cloned() {
         same(ArpNewError::HwAddr(ArpHwAddrError::LenTooBig(256))),
         same(ArpEthIpv4FromError::NonMatchingHwAddrSize(8)),
     ];
-    equal(&rt, "clones", &same, &[Ok(true); 11]);
+    equal!(rt, "clones"; same => [Ok(true); 11]);
 }

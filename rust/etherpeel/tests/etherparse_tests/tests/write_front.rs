@@ -5,7 +5,7 @@ use etherpeel::write_front;
 use crate::kit::Fail;
 
 #[test]
-fn with_room() -> Result<(), Fail> {
+fn bytes_are_put_to_the_front_and_the_rest_is_lent() -> Result<(), Fail> {
     let rt = crate::kit::HostRuntime;
     let mut target = [0x55; 5];
     let whole = write_front::put([1, 2, 3], &mut target);
@@ -15,17 +15,16 @@ fn with_room() -> Result<(), Fail> {
     for byte in rest {
         *byte = 0xAA;
     }
-    equal(
-        &rt,
-        "the front, and the rest lent",
-        &(len, rest_len, target),
-        &(5, 2, [1, 2, 3, 0xAA, 0xAA]),
+    equal!(rt, "the front, and the rest lent";
+        len => 5,
+        rest_len => 2,
+        target => [1, 2, 3, 0xAA, 0xAA],
     );
     Ok(())
 }
 
 #[test]
-fn without_room() {
+fn a_target_without_room_is_unchanged() {
     let rt = crate::kit::HostRuntime;
     let mut target = [0x55; 2];
     let whole = write_front::put([1, 2, 3], &mut target);
@@ -36,10 +35,8 @@ fn without_room() {
         layer: Layer::VlanHeader,
         layer_start_offset: 0,
     };
-    equal(
-        &rt,
-        "two bytes",
-        &(error, target),
-        &(Some(refused), [0x55; 2]),
+    equal!(rt, "two bytes";
+        error => Some(refused),
+        target => [0x55; 2],
     );
 }

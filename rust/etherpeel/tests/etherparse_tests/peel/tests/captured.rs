@@ -119,7 +119,7 @@ static WALKS: [Walk; 12] = [
 ];
 
 #[test]
-fn frames() {
+fn captured_frames_are_walked_as_tshark_shows_them() {
     let rt = crate::kit::HostRuntime;
     for walk in &WALKS {
         check(&rt, walk);

@@ -113,7 +113,7 @@ static ROWS: [Completed; 38] = [
 
 /// The frame of a row is completed by its bytes.
 #[test]
-fn what_completes_a_frame() -> Result<(), Fail> {
+fn the_planned_bytes_complete_a_frame() -> Result<(), Fail> {
     let rt = crate::kit::HostRuntime;
     for row in &ROWS {
         let fill = completion(row.start, row.frame).ok_or("bytes that complete it")?;
@@ -121,15 +121,18 @@ fn what_completes_a_frame() -> Result<(), Fail> {
         let first = fill.first().copied();
         let is_zero = fill.iter().skip(1).all(|byte| *byte == 0);
         let kind = kind_after(row.start, row.frame, fill);
-        let found = (fill.len(), first, is_zero, kind);
-        let wanted = (row.len, Some(row.first), true, Some(kind_of(row.kind)));
-        assert!(found == wanted, "{:?} {:?}", row.start, row.frame);
+        equal!(rt, format_args!("{:?} {:?}", row.start, row.frame);
+            fill.len() => row.len,
+            first => Some(row.first),
+            is_zero => true,
+            kind => Some(kind_of(row.kind)),
+        );
     }
     Ok(())
 }
 
 #[test]
-fn what_is_left_after_a_sealed_payload() {
+fn a_walk_ends_at_a_sealed_payload() {
     let rt = crate::kit::HostRuntime;
     let mut bytes = [0; 19];
     bytes[0] = 0x2C;
@@ -145,11 +148,10 @@ fn what_is_left_after_a_sealed_payload() {
     };
     let mut peel = Peel::new(MACSEC, &bytes);
     let is_unit = matches!(peel.next(), Some(Ok(_)));
-    equal(
-        &rt,
-        "a sealed payload of five bytes",
-        &(found, is_unit, peel.closed()),
-        &(wanted, true, true),
+    equal!(rt, "a sealed payload of five bytes";
+        found => wanted,
+        is_unit => true,
+        peel.closed() => true,
     );
 }
 
@@ -175,10 +177,10 @@ static INCOMPLETE: [(&str, Start, &[u8], usize); 16] = [
 ];
 
 #[test]
-fn what_cannot_be_completed() {
+fn frames_that_no_bytes_complete_have_no_completion() {
     let rt = crate::kit::HostRuntime;
     for &(name, start, frame, len) in &INCOMPLETE {
         let found = completion(start, frame.get(..len).unwrap_or(&[]));
-        equal(&rt, name, &found.is_none(), &true);
+        equal!(rt, name; found.is_none() => true);
     }
 }

@@ -91,8 +91,8 @@ fn a_cut_is_the_summary_of_the_first_bytes() {
     let rt = crate::kit::HostRuntime;
     for &(start, list) in &WORKED {
         for n in 0..=list.len() {
-            let (cut, first) = (snap(start, list, n), summary(start, &list[..n]));
-            assert!(cut == first, "{n} bytes of {list:?}");
+            let first = summary(start, &list[..n]);
+            equal!(rt, format_args!("{n} bytes of {list:?}"); snap(start, list, n) => first);
         }
     }
 }
@@ -110,7 +110,7 @@ fn cut_arp(required_len: usize, len: usize, at: usize) -> Option<PeelFault> {
 
 /// Every cut of a VLAN tag in a closed MACsec window.
 #[test]
-fn every_cut_of_a_closed_window() {
+fn every_cut_of_a_closed_window_names_its_fault() {
     let rt = crate::kit::HostRuntime;
     for n in 0..=14 {
         let named = LenError {
@@ -140,7 +140,7 @@ fn every_cut_of_a_closed_window() {
             kind: RestKind::EtherType(EtherType(number)),
             fault,
         };
-        assert!(snap(MACSEC, &NAMED, n) == wanted, "{n} bytes");
+        equal!(rt, format_args!("{n} bytes"); snap(MACSEC, &NAMED, n) => wanted);
     }
 }
 
@@ -170,13 +170,16 @@ fn cuts_of_arp(
             kind,
             fault,
         };
-        assert!(cut == wanted && cut == first, "{n} bytes");
+        equal!(rt, format_args!("{n} bytes");
+            cut => wanted,
+            cut => first,
+        );
     }
 }
 
 /// Every cut of an ARP request with padding, and of the greatest ARP packet.
 #[test]
-fn every_cut_of_arp_packets() {
+fn every_cut_of_an_arp_packet_names_its_fault() {
     let rt = crate::kit::HostRuntime;
     cuts_of_arp(&rt, Start::Ethernet2, &PADDED_ARP, 14, 1, 28);
     let mut greatest = [0; 1030];
@@ -192,13 +195,17 @@ fn every_cut_of_arp_packets() {
 static WINDOWS: [(usize, usize); 4] = [(8, 24), (16, 16), (24, 8), (32, 0)];
 
 #[test]
-fn closed_windows_in_one_another() {
+fn nested_closed_windows_bound_what_is_left() {
     let rt = crate::kit::HostRuntime;
     let mut peel = Peel::new(MACSEC, &NESTED);
     for &(start, len) in &WINDOWS {
         let is_tag = matches!(peel.next(), Some(Ok(PeelUnit::Macsec(_))));
-        let found = (is_tag, peel.offset(), peel.rest().len(), peel.closed());
-        assert!(found == (true, start, len, true), "at byte {start}");
+        equal!(rt, format_args!("at byte {start}");
+            is_tag => true,
+            peel.offset() => start,
+            peel.rest().len() => len,
+            peel.closed() => true,
+        );
     }
     let whole = Summary {
         units: 4,
@@ -207,11 +214,9 @@ fn closed_windows_in_one_another() {
         kind: RestKind::EtherType(EtherType(0x0800)),
         fault: None,
     };
-    equal(
-        &rt,
-        "no more",
-        &(peel.next().is_none(), summary(MACSEC, &NESTED)),
-        &(true, whole),
+    equal!(rt, "no more";
+        peel.next().is_none() => true,
+        summary(MACSEC, &NESTED) => whole,
     );
 }
 
@@ -280,12 +285,12 @@ static MISSING: [(&str, Start, &[u8], usize, Option<usize>); 11] = [
 ];
 
 #[test]
-fn what_is_missing() {
+fn a_cut_frame_names_the_missing_bytes() {
     let rt = crate::kit::HostRuntime;
     for &(name, start, list, len, wanted) in &MISSING {
         let found = summary(start, list.get(..len).unwrap_or(&[]));
         let missing = found.fault.as_ref().and_then(|fault| fault.missing());
-        equal(&rt, name, &missing, &wanted);
+        equal!(rt, name; missing => wanted);
     }
 }
 
@@ -298,7 +303,7 @@ static LENS: [(&str, usize, usize, bool, Option<usize>); 4] = [
 ];
 
 #[test]
-fn what_is_missing_by_a_fault() {
+fn only_an_open_fault_names_missing_bytes() {
     let rt = crate::kit::HostRuntime;
     for &(name, required_len, len, closed, wanted) in &LENS {
         let fault = PeelFault {
@@ -306,7 +311,7 @@ fn what_is_missing_by_a_fault() {
             error: PeelError::Len(len_error(required_len, len, Layer::Arp, 0)),
             closed,
         };
-        equal(&rt, name, &fault.missing(), &wanted);
+        equal!(rt, name; fault.missing() => wanted);
     }
 }
 
@@ -329,10 +334,9 @@ fn an_open_refusal_waits_for_its_length() {
         kind: RestKind::EtherType(EtherType(number)),
         fault: None,
     };
-    equal(
-        &rt,
-        "a tag",
-        &(found, first, second),
-        &(waiting, whole(0x0800), whole(0x8600)),
+    equal!(rt, "a tag";
+        found => waiting,
+        first => whole(0x0800),
+        second => whole(0x8600),
     );
 }

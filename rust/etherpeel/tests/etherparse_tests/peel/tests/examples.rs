@@ -13,7 +13,7 @@ const EXAMPLE: [u8; 19] = [
 ];
 
 #[test]
-fn of_a_walk_and_its_summary() {
+fn a_summary_agrees_with_its_walk() {
     let rt = crate::kit::HostRuntime;
     let mut vlan_id = 0;
     let mut peel = Peel::new(Start::Ethernet2, &EXAMPLE);
@@ -31,15 +31,14 @@ fn of_a_walk_and_its_summary() {
     };
     let cut = snap(Start::Ethernet2, &EXAMPLE[..18], 16);
     let missing = cut.fault.as_ref().and_then(|fault| fault.missing());
-    equal(
-        &rt,
-        "a frame with a tag",
-        &(
-            (vlan_id, peel.offset(), peel.kind(), peel.rest()),
-            summary(Start::Ethernet2, &EXAMPLE),
-            (cut.units, missing),
-        ),
-        &((0x123, 18, IPV4, [0x45].as_slice()), whole, (1, Some(2))),
+    equal!(rt, "a frame with a tag";
+        vlan_id => 0x123,
+        peel.offset() => 18,
+        peel.kind() => IPV4,
+        peel.rest() => [0x45].as_slice(),
+        summary(Start::Ethernet2, &EXAMPLE) => whole,
+        cut.units => 1,
+        missing => Some(2),
     );
 }
 
@@ -52,15 +51,10 @@ fn units_outlive_the_walker() {
     };
     let rest = peel.rest();
     drop(peel);
-    equal(
-        &rt,
-        "a frame with a tag",
-        &(shown(&frame), shown(&tag), rest),
-        &(
-            broadcast!(0x8100),
-            vlan!(5, 1, 0x123, 0x0800),
-            [].as_slice(),
-        ),
+    equal!(rt, "a frame with a tag";
+        shown(&frame) => broadcast!(0x8100),
+        shown(&tag) => vlan!(5, 1, 0x123, 0x0800),
+        rest => [].as_slice(),
     );
 }
 
@@ -76,7 +70,7 @@ static BOUNDS: [(&str, &[u8], LenSource); 2] = [
 
 /// What bounds the window that is left, after each unit.
 #[test]
-fn the_bound_of_what_is_left() {
+fn a_payload_length_bounds_what_is_left() {
     let rt = crate::kit::HostRuntime;
     for &(name, frame, source) in &BOUNDS {
         let mut peel = Peel::new(with_type!(0x88E5), frame);
@@ -84,23 +78,17 @@ fn the_bound_of_what_is_left() {
         peel.next();
         let second = peel.bound();
         peel.next();
-        equal(
-            &rt,
-            name,
-            &[first, second, peel.bound()],
-            &[LenSource::Slice, source, source],
-        );
+        equal!(rt, name; [first, second, peel.bound()] => [LenSource::Slice, source, source]);
     }
 }
 
 /// A walk of tags that are cut short takes all the calls that are allowed.
 #[test]
-fn a_quarter_of_the_bytes_and_two_calls() {
+fn each_call_of_a_walk_takes_four_bytes_but_the_last() {
     let rt = crate::kit::HostRuntime;
     let cut = [0, 0, 0x81, 0, 0, 0, 0x81, 0, 0, 0, 0x81, 0, 0];
     for len in 0..=cut.len() {
         let peel = Peel::new(with_type!(0x8100), &cut[..len]);
-        let count = peel.count();
-        assert!(count == len / 4 + 1, "{len} bytes");
+        equal!(rt, format_args!("{len} bytes"); peel.count() => len / 4 + 1);
     }
 }

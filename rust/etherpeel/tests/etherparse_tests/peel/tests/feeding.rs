@@ -54,7 +54,7 @@ static ROWS: [Row; 11] = [
 ];
 
 #[test]
-fn refusals_and_bytes() {
+fn feeding_counts_the_refusals_and_takes_the_bytes_asked_for() {
     let rt = crate::kit::HostRuntime;
     for &(name, start, frame, refusals, taken, fault) in &ROWS {
         let expected = Feed {
@@ -62,6 +62,6 @@ fn refusals_and_bytes() {
             taken,
             fault: fault.map(|(offset, closed, refusal)| fault_at(offset, closed, refusal)),
         };
-        equal(&rt, name, &feed(start, frame), &expected);
+        equal!(rt, name; feed(start, frame) => expected);
     }
 }

@@ -71,7 +71,7 @@ static FRONTS: [Front; 10] = [
 ];
 
 #[test]
-fn of_every_front_of_a_header() {
+fn every_front_of_a_header_is_too_short() {
     let rt = crate::kit::HostRuntime;
     for front in &FRONTS {
         let closed = front.start == FCS;
@@ -89,7 +89,7 @@ fn of_every_front_of_a_header() {
 }
 
 #[test]
-fn of_the_greatest_arp_packet() {
+fn the_greatest_arp_packet_needs_its_last_byte() {
     let rt = crate::kit::HostRuntime;
     let mut list = [0; 1027];
     put(
@@ -167,7 +167,7 @@ static WALKS: [Walk; 14] = [
 ];
 
 #[test]
-fn of_worked_examples() {
+fn a_refused_walk_keeps_the_headers_before_its_fault() {
     let rt = crate::kit::HostRuntime;
     for walk in &WALKS {
         check(&rt, walk);
@@ -194,7 +194,7 @@ static IN_PAYLOADS: [Refused; 11] = [
 
 /// After two units, from byte 22 on in a closed window, come the bytes of each row, and 2 bytes follow them.
 #[test]
-fn each_refusal_of_a_tag_in_a_named_payload() {
+fn each_refusal_in_a_named_payload_is_closed() {
     let rt = crate::kit::HostRuntime;
     for &(name, announced, unit, refusal) in &IN_PAYLOADS {
         let short_len = (unit.len() % 62) as u8 + 2;

@@ -138,7 +138,7 @@ static WALKS: [Walk; 23] = [
 ];
 
 #[test]
-fn of_worked_examples() {
+fn an_accepted_walk_has_all_headers_and_the_rest() {
     let rt = crate::kit::HostRuntime;
     for walk in &WALKS {
         check(&rt, walk);
@@ -151,7 +151,7 @@ static UNREAD: [u16; 8] = [
 ];
 
 #[test]
-fn of_an_ether_type_that_announces_nothing() {
+fn an_ether_type_that_announces_nothing_ends_the_walk() {
     let rt = crate::kit::HostRuntime;
     for &unread in &UNREAD {
         let mut peel = Peel::new(with_type!(unread), &PACKET);
@@ -169,7 +169,7 @@ fn of_an_ether_type_that_announces_nothing() {
 static SIZES: [(&str, u8, usize); 2] = [("the greatest", 255, 1028), ("the least", 0, 8)];
 
 #[test]
-fn of_arp_packets_of_the_greatest_and_the_least_size() {
+fn the_greatest_and_the_least_arp_packet_are_read() {
     let rt = crate::kit::HostRuntime;
     for &(name, size, len) in &SIZES {
         let mut bytes = [7; 1028];
@@ -183,26 +183,16 @@ fn of_arp_packets_of_the_greatest_and_the_least_size() {
         let Some(Ok(PeelUnit::Arp(packet))) = peel.next() else {
             panic!("an ARP packet");
         };
-        equal(
-            &rt,
-            name,
-            &(
-                packet.slice(),
-                packet.operation(),
-                packet.proto_addr_type(),
-                [
-                    packet.sender_hw_addr().len(),
-                    packet.sender_protocol_addr().len(),
-                    packet.target_hw_addr().len(),
-                    packet.target_protocol_addr().len(),
-                ],
-            ),
-            &(
-                list,
-                ArpOperation::REPLY,
-                EtherType::IPV4,
-                [usize::from(size); 4],
-            ),
+        equal!(rt, name;
+            packet.slice() => list,
+            packet.operation() => ArpOperation::REPLY,
+            packet.proto_addr_type() => EtherType::IPV4,
+            [
+                packet.sender_hw_addr().len(),
+                packet.sender_protocol_addr().len(),
+                packet.target_hw_addr().len(),
+                packet.target_protocol_addr().len(),
+            ] => [usize::from(size); 4],
         );
         ends(&rt, name, &mut peel, &(len, &[], RestKind::AfterArp, false));
         let whole = Summary {
@@ -212,6 +202,6 @@ fn of_arp_packets_of_the_greatest_and_the_least_size() {
             kind: RestKind::AfterArp,
             fault: None,
         };
-        equal(&rt, name, &summary(with_type!(0x0806), list), &whole);
+        equal!(rt, name; summary(with_type!(0x0806), list) => whole);
     }
 }
