@@ -1,6 +1,5 @@
 pub mod BriefLemmas
 pub mod CalendarLemmas
-pub mod CookedLemmas
 pub mod JsonLemmas
 pub mod FormatLemmas
 pub mod ListLemmas
