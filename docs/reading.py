@@ -77,7 +77,7 @@ ARTEFACTS = {
         "ether_content/src/content.rt": ["of", "is_unknown", "frame", "is_cut"],
         "ether_content/src/selecting.rt": ["selects", "is_undecided"],
         "ether_content/src/program.rt": ["selects", "is_undecided"],
-        "ether_content/src/headers.rt": ["headers_len"],
+        "ether_content/src/header_lengths.rt": ["headers_len"],
         "ether_content/src/editing.rt": ["edit_packet"],
         "ether_content/src/laws.rt": ["edits_are_one", "edits_are_some", "edits_grow", "popped_after_pushed",
                                       "cut_once", "set_back"],

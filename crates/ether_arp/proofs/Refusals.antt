@@ -3,7 +3,7 @@ use Rattle.std.proofs.Common.{◌≡◌, ℕ, ◌≤◌, Bool, true, false, not,
 use Rattle.std.proofs.lemmas.Bool.{cases_lt, cases_eq, eqb-true, eqb-false}
 use Rattle.std.proofs.Math.Dec.{eqb}
 use Rattle.ether_base.specs.declared.arp_hardware_id.ArpHardwareId.{ArpHardwareId}
-use Rattle.ether_base.specs.declared.ether_type_impl.EtherType.{EtherType}
+use Rattle.ether_base.specs.declared.ether_type.EtherType.{EtherType}
 use Rattle.ether_base.specs.Formats.Arp.{ArpValue}
 use Rattle.ether_base.specs.declared.err.arp.arp_hw_addr_error.ArpHwAddrError.{ArpHwAddrError}
 use Rattle.ether_base.specs.declared.err.arp.arp_hw_addr_error.ArpHwAddrError.TheVariants as hw

@@ -7,17 +7,16 @@ ghost use Rattle.ether_base.specs.Formats.Kind as kinds;
 ghost use Rattle.ether_base.specs.Formats.RefusedLen.{IsRefusedLen};
 ghost use Rattle.ether_arp.specs.Arp.{BeginsWithArp, HoldsArp};
 
-use ether_base::big_endian::u16_of;
+use ether_base::big_endian::u16_at;
 use ether_base::err::{Layer, LenError};
 use ether_base::slice_len::too_short;
 use ether_base::{ArpHardwareId, ArpOperation, EtherType, LenSource};
-use std::ops::Range;
 
-/// The bytes of the hardware type.
-const HARDWARE_TYPE: Range<usize> = 0..2;
+/// Where the hardware type begins.
+const HARDWARE_TYPE: usize = 0;
 
-/// The bytes of the protocol type.
-const PROTOCOL_TYPE: Range<usize> = 2..4;
+/// Where the protocol type begins.
+const PROTOCOL_TYPE: usize = 2;
 
 /// The byte with the size of a hardware address.
 const HARDWARE_SIZE: usize = 4;
@@ -25,8 +24,8 @@ const HARDWARE_SIZE: usize = 4;
 /// The byte with the size of a protocol address.
 const PROTOCOL_SIZE: usize = 5;
 
-/// The bytes of the operation.
-const OPERATION: Range<usize> = 6..8;
+/// Where the operation begins.
+const OPERATION: usize = 6;
 
 /// The length of the part before the addresses.
 const FRONT_LEN: usize = 8;
@@ -146,14 +145,4 @@ pub fn target_protocol_addr(packet: &[u8]) -> &[u8]
     let protocol = usize::from(proto_addr_size(packet));
     let start = FRONT_LEN + 2 * usize::from(hw_addr_size(packet)) + protocol;
     &packet[start..start + protocol]
-}
-
-/// The number in a field of two bytes.
-fn u16_at(packet: &[u8], field: Range<usize>) -> u16
-    requires width { field.end ≡ field.start + 2 }
-    requires within { field.end ≤ length packet.now }
-    ensures { result ≡ number (slice_range packet.now field.start field.end) }
-{
-    let at = field.start;
-    u16_of([packet[at], packet[at + 1]])
 }

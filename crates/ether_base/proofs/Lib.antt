@@ -1,5 +1,6 @@
 pub mod Numbers
 pub mod SubLists
+pub mod NumberAt
 pub mod ArrayElements
 pub mod Values
 pub mod Rows

@@ -1,5 +1,11 @@
-//! The ether types by name, each also a constant of [`EtherType`](crate::EtherType).
-use crate::EtherType;
+//! The number that says which protocol follows a header, and the ether types by name, each also a constant of [`EtherType`].
+ghost use Rattle.std.specs.Prelude.{◌≡◌};
+ghost use Rattle.std.specs.Option.{option_copied};
+ghost use Rattle.ether_base.specs.Enumerations.EtherType.{ether_type_description};
+ghost use Rattle.ether_base.specs.Formats.Vlan.{is_vlan_ether_type};
+
+use crate::number_text::ShownEtherType;
+use std::fmt;
 
 /// Internet Protocol version 4.
 pub const IPV4: EtherType = EtherType(0x0800);
@@ -24,3 +30,106 @@ pub const MACSEC: EtherType = EtherType(0x88E5);
 
 /// The older outer VLAN tag of QinQ.
 pub const VLAN_DOUBLE_TAGGED_FRAME: EtherType = EtherType(0x9100);
+
+/// An ether type (IEEE 802, 9.2): the 16 bits that name the protocol of what follows a header.
+///
+/// Any number is one. Ether types begin at 0x0600: smaller values are IEEE 802.3 lengths (802.3, 3.2.6), and are
+/// passed through unchanged. `Debug` shows `0x` and four upper-case digits, and after them the description of a number
+/// that has one, in parentheses.
+///
+/// ```
+/// assert_eq!(rt; EtherType::from(0x0806), EtherType::ARP);
+/// assert_eq!(rt;
+///     EtherType::ARP.name(),
+///     Some("Address Resolution Protocol (ARP)")
+/// );
+/// assert_eq!(rt; EtherType(1500).name(), None);
+/// ```
+#[derive(Clone, Copy, PartialEq, Eq, PartialOrd, Ord, Hash, Default)]
+pub struct EtherType(pub u16);
+
+/// The constants are also in the module [`crate::ether_type`].
+impl EtherType {
+    /// Internet Protocol version 4 (RFC 894).
+    pub const IPV4: EtherType = IPV4;
+
+    /// Internet Protocol version 6 (RFC 2464).
+    pub const IPV6: EtherType = IPV6;
+
+    /// Address Resolution Protocol (RFC 826).
+    pub const ARP: EtherType = ARP;
+
+    /// Wake on LAN: a packet that wakes a sleeping computer.
+    pub const WAKE_ON_LAN: EtherType = WAKE_ON_LAN;
+
+    /// A customer VLAN tag, C-TAG (IEEE 802.1Q, table 9-1).
+    pub const VLAN_TAGGED_FRAME: EtherType = VLAN_TAGGED_FRAME;
+
+    /// A service VLAN tag, S-TAG, the outer tag of QinQ (IEEE 802.1Q, table 9-1).
+    pub const PROVIDER_BRIDGING: EtherType = PROVIDER_BRIDGING;
+
+    /// A MACsec SecTag (IEEE 802.1AE, 9.4).
+    pub const MACSEC: EtherType = MACSEC;
+
+    /// The outer VLAN tag of QinQ, as some devices sent it before service tags had a number.
+    pub const VLAN_DOUBLE_TAGGED_FRAME: EtherType = VLAN_DOUBLE_TAGGED_FRAME;
+
+    /// The description of the ether type, if it is one of the constants.
+    #[tactic(auto, unfolding(crate::specs::Enumerations::EtherType::ether_type_description))]
+    pub fn name(&self) -> Option<&'static str>
+        ensures { option_copied result ≡ ether_type_description self.now.0 }
+    {
+        match *self {
+            EtherType::IPV4 => Some("Internet Protocol version 4 (IPv4)"),
+            EtherType::IPV6 => Some("Internet Protocol Version 6 (IPV6)"),
+            EtherType::ARP => Some("Address Resolution Protocol (ARP)"),
+            EtherType::WAKE_ON_LAN => Some("Wake on LAN"),
+            EtherType::VLAN_TAGGED_FRAME => {
+                Some("Customer VLAN Tag (C-TAG) as defined in IEEE Std 802.1Q")
+            }
+            EtherType::PROVIDER_BRIDGING => {
+                Some("IEEE Std 802.1Q - Service VLAN tag identifier (S-Tag)")
+            }
+            EtherType::MACSEC => Some("IEEE Std 802.1AE - Media Access Control Security"),
+            EtherType::VLAN_DOUBLE_TAGGED_FRAME => Some("VLAN Double Tagged Frame"),
+            _ => None,
+        }
+    }
+
+    /// Whether a VLAN tag follows a header with this ether type.
+    ///
+    /// ```
+    /// assert!(rt; EtherType::PROVIDER_BRIDGING.announces_vlan());
+    /// assert!(rt; !EtherType::MACSEC.announces_vlan());
+    /// ```
+    #[inline(always)]
+    pub fn announces_vlan(self) -> bool
+        ensures { result ≡ is_vlan_ether_type self.0 }
+    {
+        self == EtherType::VLAN_TAGGED_FRAME
+            || self == EtherType::PROVIDER_BRIDGING
+            || self == EtherType::VLAN_DOUBLE_TAGGED_FRAME
+    }
+}
+
+impl From<u16> for EtherType {
+    ghost from_gives = { λ number ether_type. ether_type.0 ≡ number };
+
+    fn from(number: u16) -> EtherType {
+        EtherType(number)
+    }
+}
+
+impl From<EtherType> for u16 {
+    ghost from_gives = { λ ether_type number. number ≡ ether_type.0 };
+
+    fn from(ether_type: EtherType) -> u16 {
+        ether_type.0
+    }
+}
+
+impl fmt::Debug for EtherType {
+    fn fmt<W: fmt::Write>(&self, f: &mut fmt::Formatter<W>) -> fmt::Result {
+        fmt::Display::fmt(&ShownEtherType(*self), f)
+    }
+}

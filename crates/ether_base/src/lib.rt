@@ -7,7 +7,6 @@ mod arp_operation;
 pub mod big_endian;
 pub mod err;
 pub mod ether_type;
-mod ether_type_impl;
 pub mod header_slice_error;
 pub mod laws;
 mod len_source;
@@ -24,7 +23,7 @@ pub mod write_front;
 
 pub use arp_hardware_id::ArpHardwareId;
 pub use arp_operation::ArpOperation;
-pub use ether_type_impl::EtherType;
+pub use ether_type::EtherType;
 pub use len_source::LenSource;
 pub use linux_nonstandard_ether_type::LinuxNonstandardEtherType;
 pub use linux_sll_packet_type::LinuxSllPacketType;

@@ -1,5 +1,5 @@
 -- Addresses of two lengths, each that of a byte, are those of an ARP packet.
-use Rattle.std.proofs.Common.{◌≡◌, ℕ, ◌+◌, ◌-◌, ◌≤◌, List, length, arith, rules}
+use Rattle.std.proofs.Common.{◌≡◌, ℕ, ◌+◌, ◌≤◌, List, length, arith, rules}
 use Rattle.etherparse.proofs.SubLists.{length-part}
 use Rattle.etherparse.specs.Arp.{bytes_at}
 use Rattle.etherparse.specs.ArpAddresses.{RefusesAddrs, hardware_unequal, protocol_unequal}

@@ -4,7 +4,7 @@ use Rattle.std.specs.Prelude.{Option, Some, None, Result, Ok, Err}
 use Rattle.std.proofs.Math.Seq.{take-nil}
 use Rattle.std.proofs.lemmas.List.{append_assoc, append-nil, length-append}
 use Rattle.ether_pcap.specs.Capture.{PacketValue, Beginning, CaptureRefusal, HasPackets}
-use Rattle.ether_pcap.specs.CaptureReading.{State, max_interfaces, start, GivesNext, Gives}
+use Rattle.ether_pcap.specs.CaptureReading.{CaptureState, max_interfaces, start, GivesNextPacket, CaptureGives}
 use Rattle.ether_pcap.specs.CaptureViews.{captured_packet_view, capture_refusal_view}
 use Rattle.ether_pcap.specs.declared.capture.captured_packet.CapturedPacket.{CapturedPacket}
 use Rattle.ether_pcap.specs.declared.capture.capture_fault.CaptureFault.{CaptureFault}
@@ -34,29 +34,29 @@ given-length (d ∷ ds) (q ∷ qs) are = ap suc (given-length ds qs are.1)
 abbrev Returns : (result returned : Option (Result CapturedPacket CaptureFault)) → Type 0
 Returns result returned = result ≡ returned
 
-pub record PacketNext (todo : List PacketValue) (left : List ℕ) (fault : Option CaptureRefusal) (t : State)
+pub record PacketNext (todo : List PacketValue) (left : List ℕ) (fault : Option CaptureRefusal) (t : CaptureState)
     (q : CapturedPacket) : Type 0 where
   pub later : List PacketValue
   pub parts : todo ≡ captured_packet_view q ∷ later
   pub has : HasPackets t.expected t.rest later left fault
   pub going : t.over ≡ false
 
-packet_next : (todo : List PacketValue) (left : List ℕ) (fault : Option CaptureRefusal) (s t : State)
-    (q : CapturedPacket) → GivesNext todo left fault s (Some (Ok q)) t
+packet_next : (todo : List PacketValue) (left : List ℕ) (fault : Option CaptureRefusal) (s t : CaptureState)
+    (q : CapturedPacket) → GivesNextPacket todo left fault s (Some (Ok q)) t
     → PacketNext todo left fault t q
 packet_next [] left None s t q g = let none = g.0 in absurd cc
 packet_next [] left (Some r) s t q g = let given = g.1 in absurd cc
 packet_next (p ∷ ps) left fault s t q g = search rules
 
-pub record FaultNext (todo : List PacketValue) (left : List ℕ) (fault : Option CaptureRefusal) (t : State)
+pub record FaultNext (todo : List PacketValue) (left : List ℕ) (fault : Option CaptureRefusal) (t : CaptureState)
     (f : CaptureFault) : Type 0 where
   pub none_left : todo ≡ []
   pub refusal : fault ≡ Some (capture_refusal_view f.error)
   pub place : f.offset ≡ t.offset
   pub rest : t.rest ≡ left
 
-fault_next : (todo : List PacketValue) (left : List ℕ) (fault : Option CaptureRefusal) (s t : State)
-    (f : CaptureFault) → GivesNext todo left fault s (Some (Err f)) t
+fault_next : (todo : List PacketValue) (left : List ℕ) (fault : Option CaptureRefusal) (s t : CaptureState)
+    (f : CaptureFault) → GivesNextPacket todo left fault s (Some (Err f)) t
     → FaultNext todo left fault t f
 fault_next [] left None s t f g = let none = g.0 in absurd cc
 fault_next [] left (Some r) s t f g = search rules
@@ -66,15 +66,15 @@ pub record NoneNext (todo : List PacketValue) (fault : Option CaptureRefusal) : 
   pub none_left : todo ≡ []
   pub no_fault : fault ≡ None
 
-none_next : (todo : List PacketValue) (left : List ℕ) (fault : Option CaptureRefusal) (s t : State)
-    → GivesNext todo left fault s None t → NoneNext todo fault
+none_next : (todo : List PacketValue) (left : List ℕ) (fault : Option CaptureRefusal) (s t : CaptureState)
+    → GivesNextPacket todo left fault s None t → NoneNext todo fault
 none_next [] left None s t g = record { none_left = refl; no_fault = refl }
 none_next [] left (Some r) s t g = let given = g.1 in absurd cc
 none_next (p ∷ ps) left fault s t g = let given : Returns None (Some (Ok g.0)) = assumption g in absurd cc
 
 -- ---- a file that is under way
 
-pub record CapturedSoFar (file : List ℕ) (s : State) (count : ℕ) (old new : List EtherCaptured) : Type 0 where
+pub record CapturedSoFar (file : List ℕ) (s : CaptureState) (count : ℕ) (old new : List EtherCaptured) : Type 0 where
   pub packets : List PacketValue
   pub left : List ℕ
   pub fault : Option CaptureRefusal
@@ -110,9 +110,9 @@ captured_first file old =
       held = ap (λ (l : List EtherCaptured). l ++ old) (sym (take-nil (length old)));
     }
 
-pub captured_packet : (file : List ℕ) (s t : State) (q : CapturedPacket) (count : ℕ)
+pub captured_packet : (file : List ℕ) (s t : CaptureState) (q : CapturedPacket) (count : ℕ)
     (old mid new : List EtherCaptured) (c : EtherCaptured) → CapturedSoFar file s count old mid
-    → Gives s (Some (Ok q)) t → HoldsPacket c (captured_packet_view q) → new ≡ set mid count c
+    → CaptureGives s (Some (Ok q)) t → HoldsPacket c (captured_packet_view q) → new ≡ set mid count c
     → CapturedSoFar file t (count + 1) old new
 captured_packet file s t q count old mid new c a gives is put =
     let n = packet_next a.todo a.left a.fault s t q (gives.next a.going a.todo a.left a.fault a.rest) in
@@ -138,16 +138,16 @@ captured_packet file s t q count old mid new c a gives is put =
 
 -- ---- the end
 
-all_given : (file : List ℕ) (s : State) (count : ℕ) (old new : List EtherCaptured)
+all_given : (file : List ℕ) (s : CaptureState) (count : ℕ) (old new : List EtherCaptured)
     (a : CapturedSoFar file s count old new) → a.todo ≡ [] → a.packets ≡ a.before
 all_given file s count old new a none = search (rules, append-nil)
 
-pub captured_fault : (file : List ℕ) (s t : State) (f : CaptureFault) (count : ℕ) (old new : List EtherCaptured)
+pub captured_fault : (file : List ℕ) (s t : CaptureState) (f : CaptureFault) (count : ℕ) (old new : List EtherCaptured)
     → CapturedSoFar file s count old new
-    → Gives s (Some (Err f)) t → HasCaptured file old new count (Some f)
+    → CaptureGives s (Some (Err f)) t → HasCaptured file old new count (Some f)
 captured_fault file s t f count old new a gives = search (rules, all_given, given-length)
 
-pub captured_none : (file : List ℕ) (s t : State) (count : ℕ) (old new : List EtherCaptured)
+pub captured_none : (file : List ℕ) (s t : CaptureState) (count : ℕ) (old new : List EtherCaptured)
     → CapturedSoFar file s count old new
-    → Gives s None t → HasCaptured file old new count None
+    → CaptureGives s None t → HasCaptured file old new count None
 captured_none file s t count old new a gives = search (rules, none_next, all_given, given-length)

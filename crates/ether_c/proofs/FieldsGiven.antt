@@ -15,7 +15,7 @@ use Rattle.ether_peel.specs.declared.peel_fault.PeelFault.{PeelFault}
 use Rattle.ether_peel.proofs.Walker.Summarizing.{fault_next, none_next}
 use Rattle.ether_peel.proofs.Grammar.Stacks.{one_stack}
 use Rattle.ether_c.specs.declared.ether_field.EtherField.{EtherField}
-use Rattle.ether_c.specs.Views.{header_of}
+use Rattle.ether_peel.specs.Walker.UnitHeader.{unit_header}
 use Rattle.ether_c.specs.FieldTables.{header_fields, trailer_fields, moved}
 use Rattle.ether_c.specs.Fields.{c_field, c_fields, HasFields}
 use Rattle.ether_c.specs.FieldViews.{put_all, c_placed_fields}
@@ -57,8 +57,8 @@ trailer_in list w h whole ordered inside = search rules
 pub record UnitPlaced (list : List ℕ) (w : Window) (s t : State) (u : PeelUnit) (h : Header) : Type 0 where
   pub from : s.offset ≡ w.start
   pub end : t.offset + length t.rest ≡ (payload w h).finish
-  pub header : s.offset + header_len (header_of u) ≤ length list
-  pub trailer : t.offset + length t.rest + trailer_len (header_of u) ≤ length list
+  pub header : s.offset + header_len (unit_header u) ≤ length list
+  pub trailer : t.offset + length t.rest + trailer_len (unit_header u) ≤ length list
 
 pub unit_placed : (list : List ℕ) (w : Window) (left : List Header) (e : Ending) (s t : State) (u : PeelUnit)
     → Faces list w s left e
@@ -68,8 +68,8 @@ unit_placed list w left e s t u faces n = search (rules, trailer_in)
 pub fields_unit : (start : Expectation) (list : List ℕ) (s t : State) (u : PeelUnit) (index count next : ℕ)
     (old mid new : List EtherField)
     (a : FieldsSoFar start list s index count old mid) (n : UnitGiven list a.window a.left a.ending s t u)
-    → new ≡ put_all mid count (c_placed_fields list index s.offset (t.offset + length t.rest) (header_of u))
-    → next ≡ count + length (header_fields (header_of u)) + length (trailer_fields (header_of u))
+    → new ≡ put_all mid count (c_placed_fields list index s.offset (t.offset + length t.rest) (unit_header u))
+    → next ≡ count + length (header_fields (unit_header u)) + length (trailer_fields (unit_header u))
     → FieldsSoFar start list t (index + 1) next old new
 fields_unit start list s t u index count next old mid new a n put more =
     let h = n.next.header in
@@ -77,7 +77,7 @@ fields_unit start list s t u index count next old mid new a n put more =
     let placed = unit_placed list w a.left a.ending s t u a.faces n in
     let own = c_placed_fields list index w.start (payload w h).finish h in
     let later = c_fields list (index + 1) (payload w h) n.next.later in
-    let same : c_placed_fields list index s.offset (t.offset + length t.rest) (header_of u) ≡ own =
+    let same : c_placed_fields list index s.offset (t.offset + length t.rest) (unit_header u) ≡ own =
     λ i. c_placed_fields list index (placed.from i) (placed.end i) (n.header i) in
     let joined : c_fields list index w (h ∷ n.next.later) ≡ own ++ later =
     ap (λ (l : List EtherField). l ++ later)

@@ -135,7 +135,7 @@ has_packet start list hs e ok walk one frame =
       headers = means;
     }
 
--- ---- what is asked of its units, of which so many were read
+-- ---- what is asked of its units, after so many were read
 
 pub record FactsSoFar (us : List EtherUnit) (i : ℕ) (vids : List ℕ) (vlans most : ℕ) : Type 0 where
   pub front : List ℕ

@@ -5,8 +5,7 @@ use Rattle.std.proofs.Math.Seq.{take-nil, set_out, set-append_seam}
 use Rattle.std.proofs.lemmas.List.{append_assoc, append-nil, length-append, drop-drop, take_all, drop_all, take-append-le, length-take-le, length-drop}
 use Rattle.std.proofs.lemmas.Bool.{cases_lt}
 use Rattle.etherparse.specs.Bytes.{IsBytes}
-use Rattle.etherparse.specs.Header.{Header, header_len, Means}
-use Rattle.etherparse.specs.Header as headers
+use Rattle.etherparse.specs.Header.{Header, header_len}
 use Rattle.etherparse.proofs.SubLists.{length-part, IsBytes-part}
 use Rattle.ether_peel.specs.Grammar.Window.{Window, within, payload}
 use Rattle.ether_peel.specs.Grammar.Expectation.{Expectation}
@@ -15,28 +14,14 @@ use Rattle.ether_peel.specs.Walker.State.{State}
 use Rattle.ether_peel.specs.Walker.Next.{Faces, ShowsUnit, Gives}
 use Rattle.ether_peel.specs.declared.peel_unit.PeelUnit.{PeelUnit}
 use Rattle.ether_peel.specs.declared.peel_fault.PeelFault.{PeelFault}
-use Rattle.ether_peel.proofs.Walker.ViewValues.{ethernet2_shown, linux_sll_shown, vlan_shown, macsec_shown, arp_shown}
+use Rattle.ether_peel.proofs.Walker.UnitHeaders.{unit_header-shown}
 use Rattle.ether_peel.proofs.Walker.Summarizing.{UnitNext, fault_next, none_next}
 use Rattle.ether_peel.proofs.Grammar.Stacks.{one_stack}
 use Rattle.ether_c.specs.declared.ether_unit.EtherUnit.{EtherUnit}
 use Rattle.ether_c.specs.Units.{c_unit, c_units}
-use Rattle.ether_c.specs.Views.{header_of, c_placed, c_view}
+use Rattle.ether_peel.specs.Walker.UnitHeader.{unit_header}
+use Rattle.ether_c.specs.Views.{c_placed, c_view}
 use Rattle.ether_c.specs.Walk.{GivesUnits}
-
--- ---- the header of a view
-
-pub header_shown : (bytes rest : List ℕ) (h : Header) (u : PeelUnit) → IsBytes bytes → Means bytes h
-    → ShowsUnit bytes rest h u → header_of u ≡ h
-header_shown bytes rest (headers.Ethernet2 e) u ok m shows = ap header_of shows
-    ∙ ap headers.Ethernet2 (ethernet2_shown bytes e ok m)
-header_shown bytes rest (headers.Ethernet2Fcs e) u ok m shows =
-    let plain : Means bytes (headers.Ethernet2 e) = record { whole = m.whole; spells = m.spells } in
-    ap header_of shows ∙ ap headers.Ethernet2Fcs (ethernet2_shown bytes e ok plain)
-header_shown bytes rest (headers.LinuxSll s) u ok m shows = ap header_of shows
-    ∙ ap headers.LinuxSll (linux_sll_shown bytes s ok m)
-header_shown bytes rest (headers.Vlan v) u ok m shows = ap header_of shows ∙ ap headers.Vlan (vlan_shown bytes v ok m)
-header_shown bytes rest (headers.Macsec t) u ok m shows = search (rules, macsec_shown)
-header_shown bytes rest (headers.Arp a) u ok m shows = ap header_of shows ∙ ap headers.Arp (arp_shown bytes a ok m)
 
 -- ---- an array that is filled from its front on
 
@@ -101,8 +86,8 @@ gives_first start list s old hs e walk faces going = search (rules, take-nil)
 pub record UnitGiven (list : List ℕ) (w : Window) (left : List Header) (e : Ending) (s t : State) (u : PeelUnit) : Type
     0 where
   pub next : UnitNext list w left e s t u
-  pub header : header_of u ≡ next.header
-  pub after : s.offset + header_len (header_of u) ≡ t.offset
+  pub header : unit_header u ≡ next.header
+  pub after : s.offset + header_len (unit_header u) ≡ t.offset
   pub given : c_view u s.offset t.offset (t.offset + length t.rest) t.closed ≡ c_unit w next.header
 
 same_end : (list : List ℕ) (w : Window) (s : State) (hs : List Header) (e : Ending) → Faces list w s hs e
@@ -115,7 +100,7 @@ unit_given list w left e s t u ok faces n =
     let own = subst (λ (l : List Header). Faces list w s l e) n.parts faces in
     let unit = own.stack.0 in
     let shows = subst (λ (l : List ℕ). ShowsUnit l t.rest n.header u) own.rest n.shows in
-    let same = header_shown (within list w) t.rest n.header u (IsBytes-part w.start w.finish list ok) unit.means shows
+    let same = unit_header-shown (within list w) t.rest n.header u (IsBytes-part w.start w.finish list ok) unit.means shows
     in
     let inner = n.faces in
     let from = own.offset in

@@ -8,8 +8,8 @@ abbrev pub IsUnknown : (number ether_type : ℕ) → Type 0
 IsUnknown number ether_type = start_numbered number ether_type ≡ None
 
 -- the status says so, and what the call might have written to is kept
-abbrev pub IsRefused : (status : ℕ) → Type 0 → Type 0
-IsRefused status Kept = (status ≡ unknown_start) × Kept
+abbrev pub IsUnknownStart : (status : ℕ) → Type 0 → Type 0
+IsUnknownStart status Kept = (status ≡ unknown_start) × Kept
 
 -- what holds of the start with these numbers, if there is one
 abbrev pub OfStart : (number ether_type : ℕ) → (Start → Type 0) → Type 0

@@ -3,14 +3,10 @@
 use Rattle.std.specs.Prelude.{ℕ, ◌-◌, Bool, if◌then◌else◌}
 use Rattle.etherparse.specs.Bytes.{bit}
 use Rattle.etherparse.specs.Ethernet2.{Frame, ethernet2_of}
-use Rattle.etherparse.specs.LinuxSll.{linux_sll_of}
-use Rattle.etherparse.specs.Vlan.{vlan_of}
-use Rattle.etherparse.specs.Macsec.{sec_tag_of, tag_bytes}
-use Rattle.etherparse.specs.Arp.{arp_of}
 use Rattle.etherparse.specs.Header.{Header}
 use Rattle.etherparse.specs.Header as headers
+use Rattle.ether_peel.specs.Walker.UnitHeader.{unit_header}
 use Rattle.ether_peel.specs.declared.peel_unit.PeelUnit.{PeelUnit}
-use Rattle.ether_peel.specs.declared.peel_unit.PeelUnit.TheVariants as units
 use Rattle.ether_c.specs.declared.ether_unit.EtherUnit.{EtherUnit}
 use Rattle.ether_c.specs.Units.{header_number, c_ethernet2, c_linux_sll, c_vlan, c_macsec, c_arp}
 
@@ -18,14 +14,6 @@ abbrev pub ethernet2_header : Frame → Header
 ethernet2_header f =
     if f.has_fcs then headers.Ethernet2Fcs (ethernet2_of f.bytes)
     else headers.Ethernet2 (ethernet2_of f.bytes)
-
--- the header that the bytes of a view mean
-abbrev pub header_of : PeelUnit → Header
-header_of (units.Ethernet2 frame) = ethernet2_header frame
-header_of (units.LinuxSll bytes) = headers.LinuxSll (linux_sll_of bytes)
-header_of (units.Vlan bytes) = headers.Vlan (vlan_of bytes)
-header_of (units.Macsec packet) = headers.Macsec (sec_tag_of (tag_bytes packet.header))
-header_of (units.Arp bytes) = headers.Arp (arp_of bytes)
 
 -- a header that starts at a place, with the places of its payload and the mark of that
 abbrev pub c_placed : Header → (offset start finish : ℕ) → (closed : Bool) → EtherUnit
@@ -44,4 +32,4 @@ c_placed h offset start finish closed = record {
 }
 
 abbrev pub c_view : PeelUnit → (offset start finish : ℕ) → (closed : Bool) → EtherUnit
-c_view u = c_placed (header_of u)
+c_view u = c_placed (unit_header u)

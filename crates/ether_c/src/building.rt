@@ -5,7 +5,7 @@ ghost use Rattle.ether_c.specs.Passed.{PassesNoArp};
 ghost use Rattle.ether_c.specs.declared.ether_unit.EtherUnit.{EtherUnit as unit};
 
 use crate::EtherUnit;
-use crate::numbers::{BAD_KIND, DONE, NO_ROOM, OTHER_LINK, SEALED, TOO_MANY_TAGS};
+use crate::statuses::{BAD_KIND, DONE, NO_ROOM, OTHER_LINK, SEALED, TOO_MANY_TAGS};
 use ether_packet::{BuildError, PacketBuilder, PacketContent};
 use etherparse::{ArpPacket, EtherType, LinkExtHeader, LinkHeader, SingleVlanHeader};
 

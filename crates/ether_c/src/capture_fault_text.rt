@@ -4,8 +4,8 @@ ghost use Rattle.ether_pcap.specs.CaptureTexts.{capture_fault_text};
 ghost use Rattle.ether_c.specs.Captured.{GivesCaptureText, PutsCaptureText};
 
 use crate::capturing::captured;
-use crate::numbers::{DONE, NO_TEXT};
 use crate::putting::put_bytes;
+use crate::statuses::{DONE, NO_TEXT};
 use arrayvec::ArrayString;
 use ether_pcap::CaptureFault;
 use std::fmt::Write;

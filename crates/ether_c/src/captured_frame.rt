@@ -3,7 +3,7 @@ ghost use Rattle.ether_content.specs.Content.{content_of};
 ghost use Rattle.ether_c.specs.CapturedFrame.{GivesFrame};
 ghost use Rattle.ether_c.specs.Selection.{packet_value};
 
-use crate::numbers::{DONE, UNKNOWN_START};
+use crate::statuses::{DONE, UNKNOWN_START};
 use crate::{EtherCaptured, EtherFrame};
 use ether_content::Content;
 

@@ -3,7 +3,7 @@ ghost use Rattle.std.specs.Prelude.{◌≡◌, slice_set};
 ghost use Rattle.ether_c.specs.Captured.{HasCaptured, GivesCapture};
 
 use crate::EtherCaptured;
-use crate::numbers::{BAD_CAPTURE, DONE, SHORT};
+use crate::statuses::{BAD_CAPTURE, DONE, SHORT};
 use ether_pcap::{CaptureFault, CapturePackets};
 
 /// Where a capture file ends: `etherpeel_capture_end` in C.

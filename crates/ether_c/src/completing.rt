@@ -1,11 +1,12 @@
 //! The bytes that complete the unit in which a frame ends.
 ghost use Rattle.std.specs.Prelude.{◌≡◌};
 ghost use Rattle.ether_peel.specs.Walker.Start.{start_of as start_meant, limited_start};
-ghost use Rattle.ether_c.specs.Starts.{IsUnknown, IsRefused, OfStart};
+ghost use Rattle.ether_c.specs.Starts.{IsUnknown, IsUnknownStart, OfStart};
 ghost use Rattle.ether_c.specs.Calls.{GivesCompletion, PutsBytes, fill_bytes};
 
-use crate::numbers::{DONE, UNKNOWN_START, start_of};
+use crate::numbers::start_of;
 use crate::putting::put_bytes;
+use crate::statuses::{DONE, UNKNOWN_START};
 use arrayvec::ArrayVec;
 use ether_peel::{completion, completion_limited};
 
@@ -19,7 +20,7 @@ pub extern "C" fn etherpeel_completion(
     len: &mut usize,
 ) -> u32
     ensures unknown { IsUnknown start ether_type
-        → IsRefused result ((fill.new ≡ fill.old) × (len.new ≡ len.old)) }
+        → IsUnknownStart result ((fill.new ≡ fill.old) × (len.new ≡ len.old)) }
     ensures given { OfStart start ether_type
         (λ s. GivesCompletion (start_meant s) bytes.now fill.old fill.new result len.new) }
 {
@@ -43,7 +44,7 @@ pub extern "C" fn etherpeel_completion_limited(
     len: &mut usize,
 ) -> u32
     ensures unknown { IsUnknown start ether_type
-        → IsRefused result ((fill.new ≡ fill.old) × (len.new ≡ len.old)) }
+        → IsUnknownStart result ((fill.new ≡ fill.old) × (len.new ≡ len.old)) }
     ensures given { OfStart start ether_type
         (λ s. GivesCompletion (limited_start s limit) bytes.now fill.old fill.new result len.new) }
 {

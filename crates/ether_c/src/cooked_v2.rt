@@ -4,7 +4,7 @@ ghost use Rattle.ether_sll2.specs.Views.{refusal_view};
 ghost use Rattle.std.specs.Prelude.{◌≡◌};
 
 use crate::field_putting::put_table;
-use crate::numbers::{BAD_PACKET_TYPE, DONE, SHORT};
+use crate::statuses::{BAD_PACKET_TYPE, DONE, SHORT};
 use crate::{EtherField, EtherLinuxSll2, field_place};
 use ether_sll2::{LinuxSll2Error, LinuxSll2Slice};
 

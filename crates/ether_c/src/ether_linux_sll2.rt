@@ -59,10 +59,10 @@ impl EtherLinuxSll2 {
             payload_start: LinuxSll2Header::LEN,
             interface_index: packet.interface_index(),
             start,
-            protocol: u16::from(packet.to_header().protocol_type),
+            protocol: packet.protocol_number(),
             ether_type,
             hardware_type: packet.arp_hardware_type().0,
-            packet_type: packet_type_of(packet.header_slice()),
+            packet_type: packet.packet_type_number(),
             address_len: packet.sender_address_valid_length(),
             address: packet.sender_address_full(),
         }
@@ -91,12 +91,4 @@ fn start_of(packet: &LinuxSll2Slice<'_>) -> (u32, u16)
         Some(Start::EtherType(ether_type)) => (4, ether_type.0),
         _ => (0, 0),
     }
-}
-
-/// The number of the packet type.
-fn packet_type_of(header: &[u8]) -> u8
-    requires { 20 ≤ length header.now }
-    ensures { result ≡ (linux_sll2_of header.now).packet_type }
-{
-    header[10]
 }

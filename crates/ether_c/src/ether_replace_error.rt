@@ -2,7 +2,7 @@
 ghost use Rattle.std.specs.Prelude.{◌≡◌};
 ghost use Rattle.ether_c.specs.Replacing.{c_replace_error, replace_error_status, difference_number};
 
-use crate::numbers::{DIFFERS, NO_ARP, NO_LINK, NO_TAG};
+use crate::statuses::{DIFFERS, NO_ARP, NO_LINK, NO_TAG};
 use ether_packet::{Difference, ReplaceError};
 
 /// Why a header is not replaced, in addition to the status: `etherpeel_replace_error` in C.

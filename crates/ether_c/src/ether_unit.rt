@@ -8,7 +8,8 @@ ghost use Rattle.etherparse.specs.Header as headers;
 ghost use Rattle.etherparse.specs.Header.{header_len};
 ghost use Rattle.ether_c.specs.Units.{c_ethernet2, c_linux_sll, c_vlan, c_macsec, c_arp};
 ghost use Rattle.ether_c.specs.Tags.{vlan_value};
-ghost use Rattle.ether_c.specs.Views.{ethernet2_header, header_of, c_view};
+ghost use Rattle.ether_peel.specs.Walker.UnitHeader.{unit_header};
+ghost use Rattle.ether_c.specs.Views.{ethernet2_header, c_view};
 
 use ether_peel::PeelUnit;
 use etherparse::{
@@ -181,7 +182,7 @@ impl EtherUnit {
     /// Sets it to a unit at a place. A unit that is made first and then copied takes up to 1.9 times the instructions.
     #[inline(always)]
     pub(crate) fn set(&mut self, unit: &PeelUnit<'_>, place: UnitPlace)
-        requires { place.offset + header_len (header_of unit.now) ≡ place.payload_start }
+        requires { place.offset + header_len (unit_header unit.now) ≡ place.payload_start }
         ensures { self.new
             ≡ c_view unit.now place.offset place.payload_start place.payload_end place.closed }
     {

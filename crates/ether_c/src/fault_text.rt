@@ -2,11 +2,12 @@
 ghost use Rattle.std.specs.Prelude.{◌≡◌, IfSome};
 ghost use Rattle.ether_peel.specs.Walker.Start.{start_of as start_meant, limited_start};
 ghost use Rattle.ether_peel.specs.Walker.Texts.{peel_fault_text};
-ghost use Rattle.ether_c.specs.Starts.{IsUnknown, IsRefused, OfStart};
+ghost use Rattle.ether_c.specs.Starts.{IsUnknown, IsUnknownStart, OfStart};
 ghost use Rattle.ether_c.specs.Calls.{GivesText, PutsEndText, PutsText};
 
-use crate::numbers::{DONE, NO_TEXT, UNKNOWN_START, start_of};
+use crate::numbers::start_of;
 use crate::putting::put_bytes;
+use crate::statuses::{DONE, NO_TEXT, UNKNOWN_START};
 use arrayvec::ArrayString;
 use ether_peel::{PeelFault, summary, summary_limited};
 use std::fmt::Write;
@@ -25,7 +26,7 @@ pub extern "C" fn etherpeel_fault_text(
     len: &mut usize,
 ) -> u32
     ensures unknown { IsUnknown start ether_type
-        → IsRefused result ((text.new ≡ text.old) × (len.new ≡ len.old)) }
+        → IsUnknownStart result ((text.new ≡ text.old) × (len.new ≡ len.old)) }
     ensures given { OfStart start ether_type
         (λ s. GivesText (start_meant s) bytes.now text.old text.new result len.new) }
 {
@@ -49,7 +50,7 @@ pub extern "C" fn etherpeel_fault_text_limited(
     len: &mut usize,
 ) -> u32
     ensures unknown { IsUnknown start ether_type
-        → IsRefused result ((text.new ≡ text.old) × (len.new ≡ len.old)) }
+        → IsUnknownStart result ((text.new ≡ text.old) × (len.new ≡ len.old)) }
     ensures given { OfStart start ether_type
         (λ s. GivesText (limited_start s limit) bytes.now text.old text.new result len.new) }
 {

@@ -1,11 +1,12 @@
 //! A walk that receives a frame piece by piece.
 ghost use Rattle.std.specs.Prelude.{◌≡◌};
 ghost use Rattle.ether_peel.specs.Walker.Start.{start_of as start_meant, limited_start};
-ghost use Rattle.ether_c.specs.Starts.{IsUnknown, IsRefused, OfStart};
+ghost use Rattle.ether_c.specs.Starts.{IsUnknown, IsUnknownStart, OfStart};
 ghost use Rattle.ether_c.specs.Calls.{GivesFeed};
 
 use crate::EtherFed;
-use crate::numbers::{DONE, UNKNOWN_START, start_of};
+use crate::numbers::start_of;
+use crate::statuses::{DONE, UNKNOWN_START};
 use ether_peel::{feed, feed_limited};
 
 /// What a reader takes of a frame if it asks for exactly the bytes that the walk needs next.
@@ -16,7 +17,7 @@ pub extern "C" fn etherpeel_feed(
     bytes: &[u8],
     fed: &mut EtherFed,
 ) -> u32
-    ensures unknown { IsUnknown start ether_type → IsRefused result (fed.new ≡ fed.old) }
+    ensures unknown { IsUnknown start ether_type → IsUnknownStart result (fed.new ≡ fed.old) }
     ensures given { OfStart start ether_type
         (λ s. GivesFeed (start_meant s) bytes.now result fed.new) }
 {
@@ -36,7 +37,7 @@ pub extern "C" fn etherpeel_feed_limited(
     limit: usize,
     fed: &mut EtherFed,
 ) -> u32
-    ensures unknown { IsUnknown start ether_type → IsRefused result (fed.new ≡ fed.old) }
+    ensures unknown { IsUnknown start ether_type → IsUnknownStart result (fed.new ≡ fed.old) }
     ensures given { OfStart start ether_type
         (λ s. GivesFeed (limited_start s limit) bytes.now result fed.new) }
 {

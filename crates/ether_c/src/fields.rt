@@ -2,14 +2,15 @@
 ghost use Rattle.std.specs.Prelude.{◌≡◌, ◌+◌, ◌*◌, ◌<◌, ◌≤◌, ◌^◌, length, slice_set};
 ghost use Rattle.etherparse.specs.Header.{header_len, trailer_len};
 ghost use Rattle.ether_peel.specs.Walker.Start.{start_of as start_meant};
-ghost use Rattle.ether_c.specs.Starts.{IsUnknown, IsRefused, OfStart};
-ghost use Rattle.ether_c.specs.Views.{header_of};
+ghost use Rattle.ether_c.specs.Starts.{IsUnknown, IsUnknownStart, OfStart};
+ghost use Rattle.ether_peel.specs.Walker.UnitHeader.{unit_header};
 ghost use Rattle.ether_c.specs.FieldTables.{header_fields, trailer_fields};
 ghost use Rattle.ether_c.specs.Fields.{GivesFields, HasFields};
 ghost use Rattle.ether_c.specs.FieldViews.{put_all, AreIn, c_table, c_placed_fields};
 
 use crate::field_putting::put_table;
-use crate::numbers::{DONE, UNKNOWN_START, start_of};
+use crate::numbers::start_of;
+use crate::statuses::{DONE, UNKNOWN_START};
 use crate::{EtherField, field_place};
 use ether_peel::{Peel, PeelUnit, Start};
 
@@ -24,7 +25,7 @@ pub extern "C" fn etherpeel_fields(
     count: &mut usize,
 ) -> u32
     ensures unknown { IsUnknown start ether_type
-        → IsRefused result ((fields.new ≡ fields.old) × (count.new ≡ count.old)) }
+        → IsUnknownStart result ((fields.new ≡ fields.old) × (count.new ≡ count.old)) }
     ensures given { OfStart start ether_type
         (λ s. GivesFields (start_meant s) bytes.now fields.old fields.new result count.new) }
 {
@@ -76,12 +77,12 @@ fn put_unit(
     fields: &mut [EtherField],
     at: usize,
 ) -> usize
-    requires header { place.start + header_len (header_of unit.now) ≤ length bytes.now }
-    requires trailer { place.payload_end + trailer_len (header_of unit.now) ≤ length bytes.now }
-    requires room { at + length (header_fields (header_of unit.now)) + length (trailer_fields (header_of unit.now)) < 2 ^ 64 }
+    requires header { place.start + header_len (unit_header unit.now) ≤ length bytes.now }
+    requires trailer { place.payload_end + trailer_len (unit_header unit.now) ≤ length bytes.now }
+    requires room { at + length (header_fields (unit_header unit.now)) + length (trailer_fields (unit_header unit.now)) < 2 ^ 64 }
     ensures fields { fields.new ≡ put_all fields.old at
-        (c_placed_fields bytes.now place.index place.start place.payload_end (header_of unit.now)) }
-    ensures next { result ≡ at + length (header_fields (header_of unit.now)) + length (trailer_fields (header_of unit.now)) }
+        (c_placed_fields bytes.now place.index place.start place.payload_end (unit_header unit.now)) }
+    ensures next { result ≡ at + length (header_fields (unit_header unit.now)) + length (trailer_fields (unit_header unit.now)) }
 {
     let next = put_header(bytes, unit, place, fields, at);
     match unit {
@@ -105,11 +106,11 @@ fn put_header(
     fields: &mut [EtherField],
     at: usize,
 ) -> usize
-    requires header { place.start + header_len (header_of unit.now) ≤ length bytes.now }
-    requires room { at + length (header_fields (header_of unit.now)) < 2 ^ 64 }
+    requires header { place.start + header_len (unit_header unit.now) ≤ length bytes.now }
+    requires room { at + length (header_fields (unit_header unit.now)) < 2 ^ 64 }
     ensures fields { fields.new ≡ put_all fields.old at
-        (c_table bytes.now place.index place.start (header_fields (header_of unit.now))) }
-    ensures next { result ≡ at + length (header_fields (header_of unit.now)) }
+        (c_table bytes.now place.index place.start (header_fields (unit_header unit.now))) }
+    ensures next { result ≡ at + length (header_fields (unit_header unit.now)) }
 {
     let NumberedUnit { index, start, .. } = place;
     match unit {

@@ -3,8 +3,8 @@ ghost use Rattle.std.specs.Prelude.{◌≡◌, IfSome};
 ghost use Rattle.ether_filter.specs.ErrorTexts.{filter_error_text};
 ghost use Rattle.ether_c.specs.Filters.{GivesFilterText, PutsFilterText};
 
-use crate::numbers::{DONE, NO_TEXT};
 use crate::putting::put_bytes;
+use crate::statuses::{DONE, NO_TEXT};
 use arrayvec::ArrayString;
 use ether_filter::{Filter, FilterError};
 use std::fmt::Write;

@@ -3,8 +3,8 @@ ghost use Rattle.ether_filter.specs.Expressions.{Expression};
 ghost use Rattle.ether_c.specs.Selection.{IsMark, IsDecision};
 ghost use Rattle.ether_c.specs.Filters.{GivesFilter, IsFilterOf, PutsMarks};
 
-use crate::numbers::{BAD_FILTER, DONE};
 use crate::selecting::{mark, put_marks};
+use crate::statuses::{BAD_FILTER, DONE};
 use crate::{EtherCaptured, EtherFilter, EtherFilterError};
 use ether_content::program::is_undecided;
 use ether_filter::Filter;

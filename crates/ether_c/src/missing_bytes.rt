@@ -1,10 +1,11 @@
 //! The number of bytes that are missing from a frame cut short.
 ghost use Rattle.std.specs.Prelude.{◌≡◌};
 ghost use Rattle.ether_peel.specs.Walker.Start.{start_of as start_meant, limited_start};
-ghost use Rattle.ether_c.specs.Starts.{IsUnknown, IsRefused, OfStart};
+ghost use Rattle.ether_c.specs.Starts.{IsUnknown, IsUnknownStart, OfStart};
 ghost use Rattle.ether_c.specs.Calls.{GivesMissing, MissesAtEnd};
 
-use crate::numbers::{DONE, UNKNOWN_START, start_of};
+use crate::numbers::start_of;
+use crate::statuses::{DONE, UNKNOWN_START};
 use ether_peel::{PeelFault, summary, summary_limited};
 
 /// The minimum number of further bytes that the refused unit needs, 0 if more bytes would not help.
@@ -15,7 +16,7 @@ pub extern "C" fn etherpeel_missing(
     bytes: &[u8],
     missing: &mut usize,
 ) -> u32
-    ensures unknown { IsUnknown start ether_type → IsRefused result (missing.new ≡ missing.old) }
+    ensures unknown { IsUnknown start ether_type → IsUnknownStart result (missing.new ≡ missing.old) }
     ensures given { OfStart start ether_type
         (λ s. GivesMissing (start_meant s) bytes.now result missing.new) }
 {
@@ -35,7 +36,7 @@ pub extern "C" fn etherpeel_missing_limited(
     limit: usize,
     missing: &mut usize,
 ) -> u32
-    ensures unknown { IsUnknown start ether_type → IsRefused result (missing.new ≡ missing.old) }
+    ensures unknown { IsUnknown start ether_type → IsUnknownStart result (missing.new ≡ missing.old) }
     ensures given { OfStart start ether_type
         (λ s. GivesMissing (limited_start s limit) bytes.now result missing.new) }
 {

@@ -15,7 +15,7 @@ pub(crate) struct PacketFacts {
     pub(crate) min_snap_len: usize,
 }
 
-/// What is asked of a packet with these units, at most three of which are VLAN tags.
+/// What is asked of a packet with these units. At most three are VLAN tags.
 #[inline(always)]
 pub(crate) fn packet_facts(units: &[EtherUnit]) -> PacketFacts
     requires { length (unit_ids units.now) ≤ 3 }

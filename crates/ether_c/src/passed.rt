@@ -6,7 +6,7 @@ ghost use Rattle.etherparse.specs.Macsec.{sec_tag_view, payload_type_view, paylo
 ghost use Rattle.etherparse.specs.Arp.{bytes_at};
 ghost use Rattle.ether_c.specs.Passed.{PassesLink, PassesNoLink, PassesExt, PassesNoExt, PassesArp, PassesNoArp, ethernet2_passed, linux_sll_passed, macsec_value, FitsMacsec, HasAddresses, arp_passed};
 
-use crate::numbers::{BAD_FIELD, BAD_KIND};
+use crate::statuses::{BAD_FIELD, BAD_KIND};
 use crate::{EtherArp, EtherEthernet2, EtherLinuxSll, EtherMacsec, EtherUnit};
 use etherparse::{
     ArpHardwareId, ArpOperation, ArpPacket, EtherType, Ethernet2Header, LinkExtHeader, LinkHeader,

@@ -1,11 +1,12 @@
 //! VLAN tags that are taken off in place.
 ghost use Rattle.std.specs.Prelude.{◌≡◌};
 ghost use Rattle.ether_peel.specs.Walker.Start.{start_of as start_meant};
-ghost use Rattle.ether_c.specs.Starts.{IsUnknown, IsRefused, OfStart};
+ghost use Rattle.ether_c.specs.Starts.{IsUnknown, IsUnknownStart, OfStart};
 ghost use Rattle.ether_c.specs.Tags.{GivesPop};
 
 use crate::EtherVlan;
-use crate::numbers::{DONE, UNKNOWN_START, start_of, tag_error};
+use crate::numbers::start_of;
+use crate::statuses::{DONE, UNKNOWN_START, tag_error};
 use ether_packet::pop_vlan;
 
 /// Takes off the VLAN tag after the header of a link, in place: the frame is then without its first
@@ -18,7 +19,7 @@ pub extern "C" fn etherpeel_pop_vlan(
     tag: &mut EtherVlan,
 ) -> u32
     ensures unknown { IsUnknown start ether_type
-        → IsRefused result ((frame.new ≡ frame.old) × (tag.new ≡ tag.old)) }
+        → IsUnknownStart result ((frame.new ≡ frame.old) × (tag.new ≡ tag.old)) }
     ensures given { OfStart start ether_type
         (λ s. GivesPop (start_meant s) frame.old frame.new tag.old tag.new result) }
 {

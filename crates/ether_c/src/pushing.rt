@@ -2,11 +2,12 @@
 ghost use Rattle.std.specs.Prelude.{◌≡◌};
 ghost use Rattle.etherparse.specs.Vlan.{FitsVlan};
 ghost use Rattle.ether_peel.specs.Walker.Start.{start_of as start_meant};
-ghost use Rattle.ether_c.specs.Starts.{IsUnknown, IsRefused, OfStart};
+ghost use Rattle.ether_c.specs.Starts.{IsUnknown, IsUnknownStart, OfStart};
 ghost use Rattle.ether_c.specs.Tags.{GivesPush, vlan_value, bad_field};
 
 use crate::EtherVlan;
-use crate::numbers::{BAD_FIELD, DONE, UNKNOWN_START, start_of, tag_error};
+use crate::numbers::start_of;
+use crate::statuses::{BAD_FIELD, DONE, UNKNOWN_START, tag_error};
 use ether_packet::push_vlan;
 use etherparse::EtherType;
 
@@ -20,7 +21,7 @@ pub extern "C" fn etherpeel_push_vlan(
     tag: &EtherVlan,
     tpid: u16,
 ) -> u32
-    ensures unknown { IsUnknown start ether_type → IsRefused result (buffer.new ≡ buffer.old) }
+    ensures unknown { IsUnknown start ether_type → IsUnknownStart result (buffer.new ≡ buffer.old) }
     ensures unfit { OfStart start ether_type
         (λ _. (FitsVlan (vlan_value tag.now) → ⊥)
         → (result ≡ bad_field) × (buffer.new ≡ buffer.old)) }

@@ -1,11 +1,12 @@
 //! All headers of a packet in one call.
 ghost use Rattle.std.specs.Prelude.{◌≡◌};
-ghost use Rattle.ether_c.specs.Starts.{IsUnknown, IsRefused, OfStart};
+ghost use Rattle.ether_c.specs.Starts.{IsUnknown, IsUnknownStart, OfStart};
 ghost use Rattle.ether_c.specs.Packet.{GivesPacket};
 
 use crate::EtherHeaders;
-use crate::numbers::{DONE, UNKNOWN_START, start_of};
+use crate::numbers::start_of;
 use crate::packet_facts::packet_facts;
+use crate::statuses::{DONE, UNKNOWN_START};
 use crate::walking::walked;
 use ether_packet::PacketSlice;
 
@@ -18,7 +19,7 @@ pub extern "C" fn etherpeel_packet(
     bytes: &[u8],
     headers: &mut EtherHeaders,
 ) -> u32
-    ensures unknown { IsUnknown start ether_type → IsRefused result (headers.new ≡ headers.old) }
+    ensures unknown { IsUnknown start ether_type → IsUnknownStart result (headers.new ≡ headers.old) }
     ensures given { OfStart start ether_type
         (λ s. GivesPacket s bytes.now headers.old.units headers.new result) }
 {

@@ -3,10 +3,11 @@ ghost use Rattle.std.specs.Prelude.{◌≡◌, IfOk, IfErr};
 ghost use Rattle.ether_peel.specs.Walker.Start.{start_of};
 ghost use Rattle.ether_packet.specs.Packet.{packet_start};
 ghost use Rattle.ether_c.specs.Numbers.{done};
-ghost use Rattle.ether_c.specs.Starts.{IsUnknown, IsRefused, OfStart};
+ghost use Rattle.ether_c.specs.Starts.{IsUnknown, IsUnknownStart, OfStart};
 ghost use Rattle.ether_c.specs.Replacing.{GivesReplaceLink, GivesReplaceExt, GivesReplaceArp, c_replace_error, replace_error_status};
 
-use crate::numbers::{DONE, UNKNOWN_START, start_of};
+use crate::numbers::start_of;
+use crate::statuses::{DONE, UNKNOWN_START};
 use crate::{EtherReplaceError, EtherUnit, ether_replace_error};
 use ether_packet::{ReplaceError, replace_arp, replace_link, replace_link_ext};
 
@@ -21,7 +22,7 @@ pub extern "C" fn etherpeel_replace_link(
     error: &mut EtherReplaceError,
 ) -> u32
     ensures unknown { IsUnknown start ether_type
-        → IsRefused result ((frame.new ≡ frame.old) × (error.new ≡ error.old)) }
+        → IsUnknownStart result ((frame.new ≡ frame.old) × (error.new ≡ error.old)) }
     ensures given { OfStart start ether_type
         (λ s. GivesReplaceLink s header.now frame.old frame.new error.old error.new result) }
 {
@@ -46,7 +47,7 @@ pub extern "C" fn etherpeel_replace_link_ext(
     error: &mut EtherReplaceError,
 ) -> u32
     ensures unknown { IsUnknown start ether_type
-        → IsRefused result ((frame.new ≡ frame.old) × (error.new ≡ error.old)) }
+        → IsUnknownStart result ((frame.new ≡ frame.old) × (error.new ≡ error.old)) }
     ensures given { OfStart start ether_type
         (λ s. GivesReplaceExt (start_of s) index header.now frame.old frame.new
         error.old error.new result) }
@@ -72,7 +73,7 @@ pub extern "C" fn etherpeel_replace_arp(
     error: &mut EtherReplaceError,
 ) -> u32
     ensures unknown { IsUnknown start ether_type
-        → IsRefused result ((frame.new ≡ frame.old) × (error.new ≡ error.old)) }
+        → IsUnknownStart result ((frame.new ≡ frame.old) × (error.new ≡ error.old)) }
     ensures given { OfStart start ether_type
         (λ s. GivesReplaceArp (packet_start s) header.now bytes.now frame.old frame.new
         error.old error.new result) }

@@ -4,7 +4,7 @@ ghost use Rattle.ether_filter.specs.Programs.{IsProgramOf};
 ghost use Rattle.ether_c.specs.Selection.{IsMark};
 ghost use Rattle.ether_c.specs.Filters.{GivesSelection, PutsMarks};
 
-use crate::numbers::{BAD_FILTER, DONE, NO_ROOM};
+use crate::statuses::{BAD_FILTER, DONE, NO_ROOM};
 use crate::{EtherCaptured, EtherFilterError};
 use ether_content::program::selects;
 use ether_filter::{Filter, Instruction};

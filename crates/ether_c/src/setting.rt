@@ -2,11 +2,12 @@
 ghost use Rattle.std.specs.Prelude.{◌≡◌, ◌<◌, ◌≤◌};
 ghost use Rattle.etherparse.specs.Vlan.{FitsVlan};
 ghost use Rattle.ether_peel.specs.Walker.Start.{start_of};
-ghost use Rattle.ether_c.specs.Starts.{IsUnknown, IsRefused, OfStart};
+ghost use Rattle.ether_c.specs.Starts.{IsUnknown, IsUnknownStart, OfStart};
 ghost use Rattle.ether_c.specs.Tags.{GivesSet, GivesSetTpid, vlan_value, with_vid, with_control, bad_field};
 
 use crate::EtherVlan;
-use crate::numbers::{BAD_FIELD, DONE, UNKNOWN_START, start_of, tag_error};
+use crate::numbers::start_of;
+use crate::statuses::{BAD_FIELD, DONE, UNKNOWN_START, tag_error};
 use ether_packet::{set_tpid, set_vlan_id, set_vlan_tag};
 use etherparse::{EtherType, VlanId};
 
@@ -19,7 +20,7 @@ pub extern "C" fn etherpeel_set_vlan_id(
     index: usize,
     vid: u16,
 ) -> u32
-    ensures unknown { IsUnknown start ether_type → IsRefused result (frame.new ≡ frame.old) }
+    ensures unknown { IsUnknown start ether_type → IsUnknownStart result (frame.new ≡ frame.old) }
     ensures unfit { OfStart start ether_type
         (λ _. 4096 ≤ vid → (result ≡ bad_field) × (frame.new ≡ frame.old)) }
     ensures given { OfStart start ether_type
@@ -48,7 +49,7 @@ pub extern "C" fn etherpeel_set_vlan_tag(
     index: usize,
     tag: &EtherVlan,
 ) -> u32
-    ensures unknown { IsUnknown start ether_type → IsRefused result (frame.new ≡ frame.old) }
+    ensures unknown { IsUnknown start ether_type → IsUnknownStart result (frame.new ≡ frame.old) }
     ensures unfit { OfStart start ether_type
         (λ _. (FitsVlan (vlan_value tag.now) → ⊥)
         → (result ≡ bad_field) × (frame.new ≡ frame.old)) }
@@ -84,7 +85,7 @@ pub extern "C" fn etherpeel_set_tpid(
     index: usize,
     tpid: u16,
 ) -> u32
-    ensures unknown { IsUnknown start ether_type → IsRefused result (frame.new ≡ frame.old) }
+    ensures unknown { IsUnknown start ether_type → IsUnknownStart result (frame.new ≡ frame.old) }
     ensures given { OfStart start ether_type
         (λ s. GivesSetTpid (start_of s) index tpid frame.old frame.new result) }
 {

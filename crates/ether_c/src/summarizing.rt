@@ -2,11 +2,12 @@
 ghost use Rattle.std.specs.Prelude.{◌≡◌, ◌/◌, ◌<◌, length};
 ghost use Rattle.ether_peel.specs.Walker.Start.{start_of as start_meant, limited_start};
 ghost use Rattle.ether_peel.specs.Walker.Limits.{IsFrontOfUnlimited};
-ghost use Rattle.ether_c.specs.Starts.{IsUnknown, IsRefused, OfStart};
+ghost use Rattle.ether_c.specs.Starts.{IsUnknown, IsUnknownStart, OfStart};
 ghost use Rattle.ether_c.specs.Calls.{GivesSummary};
 
 use crate::EtherFound;
-use crate::numbers::{DONE, UNKNOWN_START, start_of};
+use crate::numbers::start_of;
+use crate::statuses::{DONE, UNKNOWN_START};
 use ether_peel::{summary, summary_limited};
 
 /// The result of the walk through a frame.
@@ -17,7 +18,7 @@ pub extern "C" fn etherpeel_summary(
     bytes: &[u8],
     found: &mut EtherFound,
 ) -> u32
-    ensures unknown { IsUnknown start ether_type → IsRefused result (found.new ≡ found.old) }
+    ensures unknown { IsUnknown start ether_type → IsUnknownStart result (found.new ≡ found.old) }
     ensures given { OfStart start ether_type
         (λ s. GivesSummary (start_meant s) bytes.now result found.new) }
 {
@@ -37,7 +38,7 @@ pub extern "C" fn etherpeel_summary_limited(
     limit: usize,
     found: &mut EtherFound,
 ) -> u32
-    ensures unknown { IsUnknown start ether_type → IsRefused result (found.new ≡ found.old) }
+    ensures unknown { IsUnknown start ether_type → IsUnknownStart result (found.new ≡ found.old) }
     ensures given { OfStart start ether_type
         (λ s. GivesSummary (limited_start s limit) bytes.now result found.new) }
     ensures front { OfStart start ether_type (λ s. IsFrontOfUnlimited s bytes.now limit) }

@@ -9,7 +9,7 @@ ghost use Rattle.ether_c.specs.Tags.{bad_field};
 ghost use Rattle.ether_c.specs.Switching.{kind_numbered, config_of, received_of, form_number, GivesReceived, GivesSent};
 
 use crate::ether_received::bridge_kind;
-use crate::numbers::{BAD_FIELD, DONE, STAYS};
+use crate::statuses::{BAD_FIELD, DONE, STAYS};
 use crate::{EtherPort, EtherReceived};
 use ether_switch::{Bridge, PortConfig, Received, StationBucket};
 

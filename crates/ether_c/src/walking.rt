@@ -4,13 +4,15 @@ ghost use Rattle.etherparse.specs.Header.{header_len};
 ghost use Rattle.ether_peel.specs.Walker.Start.{start_of as start_meant, limited_start, start_with};
 ghost use Rattle.ether_peel.specs.Walker.Next.{begun, FacesWalk};
 ghost use Rattle.ether_peel.specs.Walker.Summary.{IsSummary, summary_at};
-ghost use Rattle.ether_c.specs.Starts.{IsUnknown, IsRefused, OfStart};
-ghost use Rattle.ether_c.specs.Views.{header_of, c_view};
+ghost use Rattle.ether_c.specs.Starts.{IsUnknown, IsUnknownStart, OfStart};
+ghost use Rattle.ether_peel.specs.Walker.UnitHeader.{unit_header};
+ghost use Rattle.ether_c.specs.Views.{c_view};
 ghost use Rattle.ether_c.specs.Walk.{GivesWalk, GivesUnits};
 
 use crate::EtherUnit;
 use crate::ether_unit::UnitPlace;
-use crate::numbers::{DONE, UNKNOWN_START, start_of};
+use crate::numbers::start_of;
+use crate::statuses::{DONE, UNKNOWN_START};
 use ether_peel::{Peel, PeelFault, PeelUnit, Start, Summary};
 
 /// The units of a frame, as many as the array has room for, and how many there are in all.
@@ -23,7 +25,7 @@ pub extern "C" fn etherpeel_walk(
     count: &mut usize,
 ) -> u32
     ensures unknown { IsUnknown start ether_type
-        → IsRefused result ((units.new ≡ units.old) × (count.new ≡ count.old)) }
+        → IsUnknownStart result ((units.new ≡ units.old) × (count.new ≡ count.old)) }
     ensures given { OfStart start ether_type
         (λ s. GivesWalk (start_meant s) bytes.now units.old units.new result count.new) }
 {
@@ -46,7 +48,7 @@ pub extern "C" fn etherpeel_walk_limited(
     count: &mut usize,
 ) -> u32
     ensures unknown { IsUnknown start ether_type
-        → IsRefused result ((units.new ≡ units.old) × (count.new ≡ count.old)) }
+        → IsUnknownStart result ((units.new ≡ units.old) × (count.new ≡ count.old)) }
     ensures given { OfStart start ether_type
         (λ s. GivesWalk (limited_start s limit) bytes.now units.old units.new result count.new) }
 {
@@ -105,7 +107,7 @@ fn begun_walk<'a>(start: Start, bytes: &'a [u8], limit: Option<usize>) -> Peel<'
 /// Writes a unit to its place, if the array has it.
 #[inline(always)]
 fn put(units: &mut [EtherUnit], at: usize, unit: &PeelUnit<'_>, place: UnitPlace)
-    requires { place.offset + header_len (header_of unit.now) ≡ place.payload_start }
+    requires { place.offset + header_len (unit_header unit.now) ≡ place.payload_start }
     ensures { units.new ≡ slice_set units.old at
         (c_view unit.now place.offset place.payload_start place.payload_end place.closed) }
 {

@@ -1,10 +1,11 @@
 //! Headers written back before the rest.
 ghost use Rattle.std.specs.Prelude.{◌≡◌};
 ghost use Rattle.ether_peel.specs.Walker.Start.{start_of as start_meant, limited_start};
-ghost use Rattle.ether_c.specs.Starts.{IsUnknown, IsRefused, OfStart};
+ghost use Rattle.ether_c.specs.Starts.{IsUnknown, IsUnknownStart, OfStart};
 ghost use Rattle.ether_c.specs.Calls.{GivesWriteBack, written_status, written_len};
 
-use crate::numbers::{DONE, NO_ROOM, UNKNOWN_START, start_of};
+use crate::numbers::start_of;
+use crate::statuses::{DONE, NO_ROOM, UNKNOWN_START};
 use ether_peel::{write_back, write_back_limited};
 use etherparse::err::SliceWriteSpaceError;
 
@@ -18,7 +19,7 @@ pub extern "C" fn etherpeel_write_back(
     len: &mut usize,
 ) -> u32
     ensures unknown { IsUnknown start ether_type
-        → IsRefused result ((target.new ≡ target.old) × (len.new ≡ len.old)) }
+        → IsUnknownStart result ((target.new ≡ target.old) × (len.new ≡ len.old)) }
     ensures given { OfStart start ether_type
         (λ s. GivesWriteBack (start_meant s) bytes.now target.old target.new result len.new) }
 {
@@ -42,7 +43,7 @@ pub extern "C" fn etherpeel_write_back_limited(
     len: &mut usize,
 ) -> u32
     ensures unknown { IsUnknown start ether_type
-        → IsRefused result ((target.new ≡ target.old) × (len.new ≡ len.old)) }
+        → IsUnknownStart result ((target.new ≡ target.old) × (len.new ≡ len.old)) }
     ensures given { OfStart start ether_type
         (λ s. GivesWriteBack (limited_start s limit) bytes.now target.old target.new
         result len.new) }

@@ -226,7 +226,7 @@ pub data NamesRequest : (words : List Text) → RequestValue → Type 0 where
       → Asks (matches_of capture_app words) a → IsRequestOf a request → NamesRequest words request
 
 -- `clap` refuses them
-pub record IsRefused (words : List Text) : Type 0 where
+pub record IsRefusedUsage (words : List Text) : Type 0 where
   pub kind : ErrorKind
   pub among : IsAmong kind (fault_of capture_app words)
   pub no_help : kind ≢ DisplayHelp
@@ -270,7 +270,7 @@ pub record NamesNoFilter (words : List Text) (e : FilterError) : Type 0 where
 
 -- why arguments ask for nothing, or that memory for them was refused
 abbrev pub RefusesWords : (words : List Text) → RequestError → Type 0
-RefusesWords words (reasons.Usage usages.Words) = IsRefused words
+RefusesWords words (reasons.Usage usages.Words) = IsRefusedUsage words
 RefusesWords words (reasons.Usage usages.Clash) = NamesClash words
 RefusesWords words (reasons.Usage usage) = NamesNothing words usage
 RefusesWords words (reasons.Filter e) = NamesNoFilter words e

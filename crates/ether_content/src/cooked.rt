@@ -1,30 +1,13 @@
 //! The header of Linux cooked capture v1 (LINKTYPE_LINUX_SLL) on a link other than Ethernet whose hardware type gives protocol numbers no
-//! meaning of their own. Packet type, ARPHRD_ type, length of the sender's address (2 bytes each), sender's address (8 bytes) and protocol
-//! (2 bytes) stand in this order.
+//! meaning of their own.
 ghost use Rattle.std.specs.Prelude.{◌≡◌, ◌+◌, ◌≤◌, length, slice_range, true, false, None, IfSome};
 ghost use Rattle.ether_base.specs.Bytes.{number};
 ghost use Rattle.ether_base.specs.Formats.LinuxSll.{is_supported, linux_sll_of};
 ghost use Rattle.ether_content.specs.Content.{has_other_hardware};
 ghost use Rattle.ether_content.specs.ContentViews.{cooked_view};
 
-use ether_base::big_endian::u16_of;
+use ether_sll::linux_sll_fields as fields;
 use etherparse::{ArpHardwareId, EtherType, LinuxSllPacketType, LinuxSllProtocolType};
-use std::ops::Range;
-
-/// The bytes of the packet type.
-const PACKET_TYPE: Range<usize> = 0..2;
-
-/// The bytes of the ARPHRD_ type.
-const HARDWARE_TYPE: Range<usize> = 2..4;
-
-/// The bytes of the length of the sender's address.
-const ADDRESS_LENGTH: Range<usize> = 4..6;
-
-/// The bytes of the sender's address.
-const ADDRESS: Range<usize> = 6..14;
-
-/// The bytes of the protocol.
-const PROTOCOL: Range<usize> = 14..16;
 
 /// The header of a packet of Linux cooked capture v1 (LINKTYPE_LINUX_SLL) whose hardware type, other than that of Ethernet, gives protocol
 /// numbers no meaning of their own, as 772 of the loopback device. The walk refuses such a header; its protocol is taken for an ether type.
@@ -76,20 +59,20 @@ pub(crate) fn cooked_header(bytes: &[u8]) -> Option<CookedHeader>
     if bytes.len() < CookedHeader::LEN {
         return None;
     }
-    let packet_type = u16_at(bytes, PACKET_TYPE);
+    let packet_type = fields::packet_type_number(bytes);
     if packet_type > LinuxSllPacketType::MAX_VAL {
         return None;
     }
-    let hardware_type = ArpHardwareId(u16_at(bytes, HARDWARE_TYPE));
+    let hardware_type = fields::arp_hardware_type(bytes);
     if is_supported(hardware_type) {
         return None;
     }
     Some(CookedHeader {
         packet_type,
         hardware_type,
-        address_len: u16_at(bytes, ADDRESS_LENGTH),
-        address: address(bytes),
-        protocol: EtherType(u16_at(bytes, PROTOCOL)),
+        address_len: fields::sender_address_valid_length(bytes),
+        address: fields::sender_address_full(bytes),
+        protocol: EtherType(fields::protocol_number(bytes)),
     })
 }
 
@@ -98,32 +81,4 @@ fn is_supported(hardware_type: ArpHardwareId) -> bool
     ensures { result ≡ is_supported hardware_type.0 }
 {
     LinuxSllProtocolType::try_from((hardware_type, 0)).is_ok()
-}
-
-/// The 8 bytes of the sender's address in their order on the wire.
-fn address(bytes: &[u8]) -> [u8; 8]
-    requires { 16 ≤ length bytes.now }
-    ensures { result ≡ slice_range bytes.now 6 14 }
-{
-    let (b, at) = (bytes, ADDRESS.start);
-    [
-        b[at],
-        b[at + 1],
-        b[at + 2],
-        b[at + 3],
-        b[at + 4],
-        b[at + 5],
-        b[at + 6],
-        b[at + 7],
-    ]
-}
-
-/// The number in a field of two bytes.
-fn u16_at(bytes: &[u8], field: Range<usize>) -> u16
-    requires width { field.end ≡ field.start + 2 }
-    requires within { field.end ≤ length bytes.now }
-    ensures { result ≡ number (slice_range bytes.now field.start field.end) }
-{
-    let at = field.start;
-    u16_of([bytes[at], bytes[at + 1]])
 }

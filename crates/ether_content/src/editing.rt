@@ -10,7 +10,7 @@ ghost use Rattle.ether_content.specs.EditingViews.{edit_view, edited_view};
 ghost use Rattle.ether_content.specs.Texts.{no_room_text};
 
 use crate::content::Content;
-use crate::headers::headers_len;
+use crate::header_lengths::headers_len;
 use ether_packet::{pop_vlan, push_vlan, replace_vlan_id};
 use ether_pcap::CapturedPacket;
 use ether_peel::Start;

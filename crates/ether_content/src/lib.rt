@@ -5,7 +5,7 @@
 mod content;
 mod cooked;
 mod editing;
-mod headers;
+mod header_lengths;
 pub mod laws;
 pub mod program;
 mod selecting;
@@ -13,5 +13,5 @@ mod selecting;
 pub use content::{Content, is_cut, without_fcs};
 pub use cooked::CookedHeader;
 pub use editing::{EditedPacket, NoRoom, PacketEdit, edit_packet};
-pub use headers::headers_len;
+pub use header_lengths::headers_len;
 pub use selecting::{is_undecided, selects};

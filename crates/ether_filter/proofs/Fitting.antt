@@ -19,37 +19,37 @@ use Rattle.ether_filter.specs.Expressions.{Expression, Test, Not, Join}
 use Rattle.ether_filter.specs.Postfix.{postfix}
 use Rattle.ether_filter.specs.Grammar.{NamesPrimitive, Shape, Operand, Chain, Leads, Means, IsExpression}
 use Rattle.ether_filter.specs.Grammar as grammar
-use Rattle.ether_filter.specs.Reading.{State, Outcome, begun, taken}
+use Rattle.ether_filter.specs.ExpressionReading.{ExpressionState, Outcome, begun, taken}
 use Rattle.ether_filter.specs.Refusals.{Begins, Fits}
 use Rattle.ether_filter.proofs.ReadingLemmas.{IsBase, going, all_from, expression_read}
 use Rattle.ether_filter.proofs.Sound.{Awaits, Begun, Within, WasRead, Was, Goes, begun_was_read, taken_was}
 
 -- ---- the state after words
 
-abbrev pub run : State → List Token → Outcome
+abbrev pub run : ExpressionState → List Token → Outcome
 run s [] = Ok s
 run s (t ∷ ts) = going (taken s t) (λ u. run u ts)
 
 -- the tokens lead to the state
-abbrev pub Reaches : List Token → State → Type 0
+abbrev pub Reaches : List Token → ExpressionState → Type 0
 Reaches ts s = run begun ts ≡ Ok s
 
 going_all : (o : Outcome) (ts us : List Token)
-    → ((s : State) → all_from s (ts ++ us) ≡ going (run s ts) (λ u. all_from u us))
+    → ((s : ExpressionState) → all_from s (ts ++ us) ≡ going (run s ts) (λ u. all_from u us))
     → going o (λ s. all_from s (ts ++ us)) ≡ going (going o (λ s. run s ts)) (λ u. all_from u us)
 going_all (Ok s) ts us each = each s
 going_all (Err kind) ts us each = refl
 
-pub all_run : (s : State) (ts us : List Token) → all_from s (ts ++ us) ≡ going (run s ts) (λ u. all_from u us)
+pub all_run : (s : ExpressionState) (ts us : List Token) → all_from s (ts ++ us) ≡ going (run s ts) (λ u. all_from u us)
 all_run s [] us = refl
 all_run s (t ∷ ts) us = going_all (taken s t) ts us (λ u. all_run u ts us)
 
-going_run : (o : Outcome) (ts us : List Token) → ((s : State) → run s (ts ++ us) ≡ going (run s ts) (λ u. run u us))
+going_run : (o : Outcome) (ts us : List Token) → ((s : ExpressionState) → run s (ts ++ us) ≡ going (run s ts) (λ u. run u us))
     → going o (λ s. run s (ts ++ us)) ≡ going (going o (λ s. run s ts)) (λ u. run u us)
 going_run (Ok s) ts us each = each s
 going_run (Err kind) ts us each = refl
 
-run-append : (s : State) (ts us : List Token) → run s (ts ++ us) ≡ going (run s ts) (λ u. run u us)
+run-append : (s : ExpressionState) (ts us : List Token) → run s (ts ++ us) ≡ going (run s ts) (λ u. run u us)
 run-append s [] us = refl
 run-append s (t ∷ ts) us = going_run (taken s t) ts us (λ u. run-append u ts us)
 
@@ -58,25 +58,25 @@ one_run (Ok s) = refl
 one_run (Err kind) = refl
 
 -- after one word more it is what the word is taken as
-pub run_more : (ts : List Token) (s : State) (t : Token) → Reaches ts s → run begun (ts ++ t ∷ []) ≡ taken s t
+pub run_more : (ts : List Token) (s : ExpressionState) (t : Token) → Reaches ts s → run begun (ts ++ t ∷ []) ≡ taken s t
 run_more ts s t reaches = run-append begun ts (t ∷ []) ∙ ap (λ (o : Outcome). going o (λ u. run u (t ∷ []))) reaches
     ∙ one_run (taken s t)
 
 -- ---- a state that is reached, and the tokens that were read
 
-going_goes : (o : Outcome) (ts us : List Token) → Goes o ts → ((s : State) → Was s ts → Goes (run s us) (ts ++ us))
+going_goes : (o : Outcome) (ts us : List Token) → Goes o ts → ((s : ExpressionState) → Was s ts → Goes (run s us) (ts ++ us))
     → Goes (going o (λ s. run s us)) (ts ++ us)
 going_goes (Ok s) ts us goes each = each s goes
 going_goes (Err kind) ts us goes each = tt
 
-run_was : (s : State) (ts us : List Token) → Was s ts → Goes (run s us) (ts ++ us)
+run_was : (s : ExpressionState) (ts us : List Token) → Was s ts → Goes (run s us) (ts ++ us)
 run_was s ts [] was = rw (append-nil ts) was
 run_was s ts (t ∷ us) was =
     subst (Goes (going (taken s t) (λ u. run u us))) (append_assoc ts (t ∷ []) us)
     (going_goes (taken s t) (ts ++ t ∷ []) us (taken_was s.awaited s.pending s.nodes ts t was)
     (λ u now. run_was u (ts ++ t ∷ []) us now))
 
-pub reached_was : (ts : List Token) (s : State) → Reaches ts s → Was s ts
+pub reached_was : (ts : List Token) (s : ExpressionState) → Reaches ts s → Was s ts
 reached_was ts s reaches = subst (λ (o : Outcome). Goes o ts) reaches (run_was begun [] ts begun_was_read)
 
 -- ---- what was read can be gone on with
@@ -228,23 +228,23 @@ read_begins awaits.Operator p ns ts f = same_begins (sym f.tokens)
     (goes_on f.shape f.pending f.old f.front f.words f.x f.base f.earlier f.means)
 read_begins a p ns ts was = within_begins a p ns ts was
 
-pub reached_begins : (ts : List Token) (s : State) → Reaches ts s → Begins ts
+pub reached_begins : (ts : List Token) (s : ExpressionState) → Reaches ts s → Begins ts
 reached_begins ts s reaches = read_begins s.awaited s.pending s.nodes ts (reached_was ts s reaches)
 
 -- ---- both ways
 
-pub going_ok : {A : Type 0} (o : Outcome) (rest : State → Result A FilterErrorKind) (a : A) → going o rest ≡ Ok a
-    → (s : State) × (o ≡ Ok s)
+pub going_ok : {A : Type 0} (o : Outcome) (rest : ExpressionState → Result A FilterErrorKind) (a : A) → going o rest ≡ Ok a
+    → (s : ExpressionState) × (o ≡ Ok s)
 going_ok (Ok s) rest a is = (s, refl)
 going_ok (Err kind) rest a is = absurd cc
 
-pub begins_reached : (ts : List Token) → Begins ts → (s : State) × Reaches ts s
+pub begins_reached : (ts : List Token) → Begins ts → (s : ExpressionState) × Reaches ts s
 begins_reached ts b = going_ok (run begun ts) (λ u. all_from u b.rest) (postfix b.x)
     (sym (all_run begun ts b.rest) ∙ expression_read (ts ++ b.rest) b.x b.is)
 
-pub fits_taken : (ts : List Token) (s : State) (t : Token) → Reaches ts s → Fits ts t → (u : State) × (taken s t ≡ Ok u)
+pub fits_taken : (ts : List Token) (s : ExpressionState) (t : Token) → Reaches ts s → Fits ts t → (u : ExpressionState) × (taken s t ≡ Ok u)
 fits_taken ts s t reaches fits = let next = begins_reached (ts ++ t ∷ []) fits
     in (next.0, sym (run_more ts s t reaches) ∙ next.1)
 
-pub taken_fits : (ts : List Token) (s u : State) (t : Token) → Reaches ts s → taken s t ≡ Ok u → Fits ts t
+pub taken_fits : (ts : List Token) (s u : ExpressionState) (t : Token) → Reaches ts s → taken s t ≡ Ok u → Fits ts t
 taken_fits ts s u t reaches is = reached_begins (ts ++ t ∷ []) u (run_more ts s t reaches ∙ is)

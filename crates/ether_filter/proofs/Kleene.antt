@@ -90,7 +90,7 @@ pub joined_is : (packet : Packet) (hs : List Header) (e : Ending) (operator : Op
 joined_is packet hs e operators.And x y a b v w = both packet hs e x y a b v w
 joined_is packet hs e operators.Or x y a b v w = either packet hs e x y a b v w
 
--- ---- what is known is so of another walk of which each known primitive says the same
+-- ---- what is known holds of another walk if each known primitive says the same of it
 
 abbrev pub Agrees : Packet → List Header → Ending → Walked → Type 0
 Agrees packet hs e w =

@@ -20,7 +20,7 @@ use Rattle.ether_filter.specs.declared.awaited.Step.TheVariants.{Done, More, Fai
 use Rattle.ether_filter.specs.declared.reading.Pending.{Pending}
 use Rattle.ether_filter.specs.declared.reading.Pending.TheVariants as pendings
 use Rattle.ether_filter.specs.Steps.{first_step, next_step, kind_of, most_of, number_primitive}
-use Rattle.ether_filter.specs.Reading.{State, completed, joined_by, closed_group, operator_taken, stepped, operand_taken, id_taken, taken_where, taken, nothing_open, whole, ended_where, ended}
+use Rattle.ether_filter.specs.ExpressionReading.{ExpressionState, completed, joined_by, closed_group, operator_taken, stepped, operand_taken, id_taken, taken_where, taken, nothing_open, whole, ended_where, ended}
 use Rattle.ether_filter.specs.Refusals.{Fits, IsAfterOperand, IsOther, Lacks}
 use Rattle.ether_filter.specs.Refusals as rows
 use Rattle.ether_filter.proofs.Sound.{decided}
@@ -49,7 +49,7 @@ kind_at a next = kind_of a
 
 -- ---- .. is that of the word that is refused
 
-stepped_kind : (s : State) (step : Step) (kind : FilterErrorKind) → stepped s step ≡ Err kind → kind ≡ kind_of s.awaited
+stepped_kind : (s : ExpressionState) (step : Step) (kind : FilterErrorKind) → stepped s step ≡ Err kind → kind ≡ kind_of s.awaited
 stepped_kind s (Done p) kind is = absurd cc
 stepped_kind s (More a) kind is = absurd cc
 stepped_kind s Fails kind is = cc
@@ -77,19 +77,19 @@ closing_kind ns (pendings.Join operator ∷ p) a kind is = group_kind (ns ++ nod
 closing_kind ns (pendings.Open ∷ p) a kind is = group_kind ns (pendings.Open ∷ p) kind is
 closing_kind ns (pendings.Not ∷ p) a kind is = group_kind ns (pendings.Not ∷ p) kind is
 
-operator_kind : (s : State) (t : Token) (kind : FilterErrorKind) → operator_taken s t ≡ Err kind → kind
+operator_kind : (s : ExpressionState) (t : Token) (kind : FilterErrorKind) → operator_taken s t ≡ Err kind → kind
     ≡ kind_after (Some t)
 operator_kind s (tokens.Join operator) kind is = joined_kind operator s.nodes s.pending kind is
 operator_kind s tokens.Close kind is = closing_kind s.nodes s.pending s.awaited kind is
 operator_kind s t kind is = cc
 
-operand_kind : (s : State) (t : Token) (kind : FilterErrorKind) → operand_taken s t ≡ Err kind → kind
+operand_kind : (s : ExpressionState) (t : Token) (kind : FilterErrorKind) → operand_taken s t ≡ Err kind → kind
     ≡ kind_of s.awaited
 operand_kind s tokens.Not kind is = absurd cc
 operand_kind s tokens.Open kind is = absurd cc
 operand_kind s t kind is = stepped_kind s (first_step t) kind is
 
-id_kind : (s : State) (t : Token) (kind : FilterErrorKind) → s.awaited ≡ awaits.VlanId → id_taken s t ≡ Err kind
+id_kind : (s : ExpressionState) (t : Token) (kind : FilterErrorKind) → s.awaited ≡ awaits.VlanId → id_taken s t ≡ Err kind
     → kind ≡ kind_after_vlan (Some t)
 id_kind s (tokens.Number n) kind a is = stepped_kind s (next_step (awaits.Number numbers.VlanId) (tokens.Number n))
     kind is ∙ ap kind_of a
@@ -107,7 +107,7 @@ taken_kind_at awaits.VlanId ns p t kind is = id_kind (record { nodes = ns; pendi
     kind refl is
 taken_kind_at a ns p t kind is = stepped_kind (record { nodes = ns; pending = p; awaited = a }) (next_step a t) kind is
 
-pub taken_kind : (s : State) (t : Token) (kind : FilterErrorKind) → taken s t ≡ Err kind → kind
+pub taken_kind : (s : ExpressionState) (t : Token) (kind : FilterErrorKind) → taken s t ≡ Err kind → kind
     ≡ kind_at s.awaited (Some t)
 taken_kind s t kind is = taken_kind_at s.awaited s.nodes s.pending t kind is
 
@@ -123,18 +123,18 @@ whole_kind ns (pendings.Join operator ∷ p) a kind is = open_kind (ns ++ nodes.
 whole_kind ns (pendings.Open ∷ p) a kind is = cc
 whole_kind ns (pendings.Not ∷ p) a kind is = cc
 
-ended_kind_at : (a : Awaited) (s : State) (kind : FilterErrorKind) → ended_where a s ≡ Err kind → kind ≡ kind_at a None
+ended_kind_at : (a : Awaited) (s : ExpressionState) (kind : FilterErrorKind) → ended_where a s ≡ Err kind → kind ≡ kind_at a None
 ended_kind_at awaits.Operator s kind is = whole_kind s.nodes s.pending s.awaited kind is
 ended_kind_at awaits.VlanId s kind is = let t = completed s primitives.Vlan
     in whole_kind t.nodes t.pending t.awaited kind is
 ended_kind_at a s kind is = cc
 
-pub ended_kind : (s : State) (kind : FilterErrorKind) → ended s ≡ Err kind → kind ≡ kind_at s.awaited None
+pub ended_kind : (s : ExpressionState) (kind : FilterErrorKind) → ended s ≡ Err kind → kind ≡ kind_at s.awaited None
 ended_kind s kind is = ended_kind_at s.awaited s kind is
 
 -- ---- a row says it
 
-joins : (ns : List Node) (p : List Pending) → (operator : Operator) × (u : State) × (joined_by operator ns p ≡ Ok u)
+joins : (ns : List Node) (p : List Pending) → (operator : Operator) × (u : ExpressionState) × (joined_by operator ns p ≡ Ok u)
 joins ns [] = (And, _, refl)
 joins ns (pendings.Open ∷ p) = (And, _, refl)
 joins ns (pendings.Not ∷ p) = (And, _, refl)
@@ -153,7 +153,7 @@ after_operator ts ns p reaches = let next = joins ns p
 after_vlan : (ts : List Token) (ns : List Node) (p : List Pending)
     → Reaches ts (record { nodes = ns; pending = p; awaited = awaits.VlanId }) → IsAfterOperand ts
 after_vlan ts ns p reaches =
-    let s : State = record { nodes = ns; pending = p; awaited = awaits.VlanId } in
+    let s : ExpressionState = record { nodes = ns; pending = p; awaited = awaits.VlanId } in
     let t = completed s primitives.Vlan in
     let next = joins t.nodes t.pending
     in record { operator = next.0; fits = taken_fits ts s next.1 (tokens.Join next.0) reaches next.2 }
@@ -175,11 +175,11 @@ vlan_lacks ts (Some (tokens.Number n)) after fits = rows.vlan_id n after fits
 vlan_lacks ts (Some t) after fits = rows.id_or_operator t after fits tt
 
 -- a number up to the greatest one is taken, and no other
-number_taken : (of : Numbered) (s : State) (n : ℕ) → n ≤ most_of of
+number_taken : (of : Numbered) (s : ExpressionState) (n : ℕ) → n ≤ most_of of
     → stepped s (next_step (awaits.Number of) (tokens.Number (Some n))) ≡ Ok (completed s (number_primitive of n))
 number_taken of s n le = rw (le-ltb (most_of of) n le) refl
 
-number_above : (of : Numbered) (s u : State) (n : ℕ) → most_of of < n
+number_above : (of : Numbered) (s u : ExpressionState) (n : ℕ) → most_of of < n
     → stepped s (next_step (awaits.Number of) (tokens.Number (Some n))) ≡ Ok u → ⊥
 number_above of s u n lt is = let no = rw (lt-ltb (most_of of) n lt) at is in cc
 
@@ -193,15 +193,15 @@ lacks_at awaits.Operator ns p ts next reaches =
     (λ fits. let u = fits_taken ts (record { nodes = ns; pending = p; awaited = awaits.Operator })
     (tokens.Number (Some 4095)) reaches fits in let is = u.1 in cc)
 lacks_at awaits.VlanId ns p ts next reaches =
-    let s : State = record { nodes = ns; pending = p; awaited = awaits.VlanId } in
+    let s : ExpressionState = record { nodes = ns; pending = p; awaited = awaits.VlanId } in
     vlan_lacks ts next (after_vlan ts ns p reaches)
     (taken_fits ts s (completed s (primitives.VlanId 4095)) (tokens.Number (Some 4095)) reaches refl)
 lacks_at (awaits.Vlan of) ns p ts next reaches =
-    let s : State = record { nodes = ns; pending = p; awaited = awaits.Vlan of } in
+    let s : ExpressionState = record { nodes = ns; pending = p; awaited = awaits.Vlan of } in
     rows.vlan next (taken_fits ts s (record s { awaited = awaits.Number of }) tokens.Vlan reaches refl)
     (λ fits. let u = fits_taken ts s tokens.Not reaches fits in let is = u.1 in cc)
 lacks_at (awaits.Number of) ns p ts next reaches =
-    let s : State = record { nodes = ns; pending = p; awaited = awaits.Number of } in
+    let s : ExpressionState = record { nodes = ns; pending = p; awaited = awaits.Number of } in
     rows.number next (most_of of)
     (taken_fits ts s (completed s (number_primitive of (most_of of))) (tokens.Number (Some (most_of of))) reaches
     (number_taken of s (most_of of) (omega arith)))
@@ -217,22 +217,22 @@ lacks_at (awaits.Address of) ns p ts next reaches =
     (taken_fits ts (record { nodes = ns; pending = p; awaited = awaits.Address of }) _ (tokens.Address 0) reaches
     refl)
 
-pub reached_lacks : (ts : List Token) (s : State) (next : Option Token) → Reaches ts s
+pub reached_lacks : (ts : List Token) (s : ExpressionState) (next : Option Token) → Reaches ts s
     → Lacks ts next (kind_at s.awaited next)
 reached_lacks ts s next reaches = lacks_at s.awaited s.nodes s.pending ts next reaches
 
 -- ---- and no other row
 
-abbrev Takes : Awaited → State → Token → Type 0
-Takes a s t = (u : State) × (taken_where a s t ≡ Ok u)
+abbrev Takes : Awaited → ExpressionState → Token → Type 0
+Takes a s t = (u : ExpressionState) × (taken_where a s t ≡ Ok u)
 
-not_at : (a : Awaited) (s : State) → Takes a s tokens.Not → a ≡ awaits.Operand
+not_at : (a : Awaited) (s : ExpressionState) → Takes a s tokens.Not → a ≡ awaits.Operand
 not_at awaits.Operand s (u, is) = refl
 not_at awaits.Operator s (u, is) = absurd cc
 not_at awaits.VlanId s (u, is) = absurd cc
 not_at a s (u, is) = absurd cc
 
-proto_at : (a : Awaited) (s : State) → Takes a s tokens.Proto → a ≡ awaits.EtherWord
+proto_at : (a : Awaited) (s : ExpressionState) → Takes a s tokens.Proto → a ≡ awaits.EtherWord
 proto_at awaits.EtherWord s (u, is) = refl
 proto_at awaits.Operand s (u, is) = absurd cc
 proto_at awaits.Operator s (u, is) = absurd cc
@@ -240,14 +240,14 @@ proto_at awaits.VlanId s (u, is) = absurd cc
 proto_at a s (u, is) = absurd cc
 
 -- by what kind of thing is awaited
-vlan_at : (a : Awaited) (s : State) → Takes a s tokens.Vlan → (a ≡ awaits.Operand) ⊎ (kind_of a ≡ kinds.ExpectedVlan)
+vlan_at : (a : Awaited) (s : ExpressionState) → Takes a s tokens.Vlan → (a ≡ awaits.Operand) ⊎ (kind_of a ≡ kinds.ExpectedVlan)
 vlan_at awaits.Operand s (u, is) = inl refl
 vlan_at (awaits.Vlan of) s (u, is) = inr refl
 vlan_at awaits.Operator s (u, is) = absurd cc
 vlan_at awaits.VlanId s (u, is) = absurd cc
 vlan_at a s (u, is) = absurd cc
 
-join_at : (a : Awaited) (s : State) (operator : Operator) → Takes a s (tokens.Join operator) → (a ≡ awaits.Operator)
+join_at : (a : Awaited) (s : ExpressionState) (operator : Operator) → Takes a s (tokens.Join operator) → (a ≡ awaits.Operator)
     ⊎ (a ≡ awaits.VlanId)
 join_at awaits.Operator s operator (u, is) = inl refl
 join_at awaits.VlanId s operator (u, is) = inr refl
@@ -258,7 +258,7 @@ vlan_row : (a : Awaited) (next : Option Token) → kind_of a ≡ kinds.ExpectedV
 vlan_row (awaits.Vlan of) next is = refl
 vlan_row a next is = absurd cc
 
-address_row : (a : Awaited) (s : State) (next : Option Token) → Takes a s (tokens.Address 0) → kinds.ExpectedAddress
+address_row : (a : Awaited) (s : ExpressionState) (next : Option Token) → Takes a s (tokens.Address 0) → kinds.ExpectedAddress
     ≡ kind_at a next
 address_row (awaits.Address of) s next (u, is) = refl
 address_row awaits.Operand s next (u, is) = absurd cc
@@ -267,14 +267,14 @@ address_row awaits.VlanId s next (u, is) = absurd cc
 address_row a s next (u, is) = absurd cc
 
 -- a number that is taken is no greater than the greatest one
-number_within : (of : Numbered) (s u : State) (n : ℕ)
+number_within : (of : Numbered) (s u : ExpressionState) (n : ℕ)
     → stepped s (next_step (awaits.Number of) (tokens.Number (Some n))) ≡ Ok u → n ≤ most_of of
 number_within of s u n is = elim (decided (nat_lt (most_of of) n)) [
   | inl above ↦ absurd (let refused = rw above at is in cc)
   | inr below ↦ ltb-false (most_of of) n below
 ]
 
-greatest : (of : Numbered) (s : State) (most : ℕ) (next : Option Token)
+greatest : (of : Numbered) (s : ExpressionState) (most : ℕ) (next : Option Token)
     → Takes (awaits.Number of) s (tokens.Number (Some most))
     → (Takes (awaits.Number of) s (tokens.Number (Some (most + 1))) → ⊥)
     → kinds.ExpectedNumber most ≡ kinds.ExpectedNumber (most_of of)
@@ -285,7 +285,7 @@ greatest of s most next at above = elim (cases_lt most (most_of of)) [
       in ap kinds.ExpectedNumber same)
 ]
 
-number_row : (a : Awaited) (s : State) (most : ℕ) (next : Option Token) → Takes a s (tokens.Number (Some most))
+number_row : (a : Awaited) (s : ExpressionState) (most : ℕ) (next : Option Token) → Takes a s (tokens.Number (Some most))
     → (Takes a s (tokens.Number (Some (most + 1))) → ⊥) → (a ≡ awaits.VlanId → ⊥)
     → kinds.ExpectedNumber most ≡ kind_at a next
 number_row (awaits.Number of) s most next at above vlan = greatest of s most next at above
@@ -295,14 +295,14 @@ number_row awaits.Operator s most next (u, is) above vlan = absurd cc
 number_row a s most next (u, is) above vlan = absurd cc
 
 -- after an operand, by whether a number fits
-after_row : (a : Awaited) (s : State) (operator : Operator) (next : Option Token) → Takes a s (tokens.Join operator)
+after_row : (a : Awaited) (s : ExpressionState) (operator : Operator) (next : Option Token) → Takes a s (tokens.Join operator)
     → (Takes a s (tokens.Number (Some 4095)) → ⊥) → kind_after next ≡ kind_at a next
 after_row awaits.Operator s operator next at none = refl
 after_row awaits.VlanId s operator next at none = absurd (none (completed s (primitives.VlanId 4095), refl))
 after_row awaits.Operand s operator next (u, is) none = absurd cc
 after_row a s operator next (u, is) none = absurd cc
 
-id_row : (a : Awaited) (s : State) (operator : Operator) (n : Option ℕ) → Takes a s (tokens.Join operator)
+id_row : (a : Awaited) (s : ExpressionState) (operator : Operator) (n : Option ℕ) → Takes a s (tokens.Join operator)
     → Takes a s (tokens.Number (Some 4095)) → kinds.ExpectedNumber 4095 ≡ kind_at a (Some (tokens.Number n))
 id_row awaits.VlanId s operator n at number = refl
 id_row awaits.Operator s operator n at (u, is) = absurd cc
@@ -325,7 +325,7 @@ other_kind tokens.Close other = absurd other
 other_kind (tokens.Number n) other = absurd other
 other_kind t other = (refl, refl)
 
-id_or_operator_row : (a : Awaited) (s : State) (operator : Operator) (t : Token) → IsOther t
+id_or_operator_row : (a : Awaited) (s : ExpressionState) (operator : Operator) (t : Token) → IsOther t
     → Takes a s (tokens.Join operator) → Takes a s (tokens.Number (Some 4095))
     → kinds.ExpectedVlanIdOrOperator ≡ kind_at a (Some t)
 id_or_operator_row awaits.VlanId s operator t other at number = sym (other_kind t other).1
@@ -334,22 +334,22 @@ id_or_operator_row awaits.Operand s operator t other (u, is) number = absurd cc
 id_or_operator_row a s operator t other (u, is) number = absurd cc
 
 -- the tokens that fit are taken
-takes : (ts : List Token) (s : State) (t : Token) → Reaches ts s → Fits ts t → Takes s.awaited s t
+takes : (ts : List Token) (s : ExpressionState) (t : Token) → Reaches ts s → Fits ts t → Takes s.awaited s t
 takes ts s t reaches fits = fits_taken ts s t reaches fits
 
-untaken : (ts : List Token) (s : State) (t : Token) → Reaches ts s → (Fits ts t → ⊥) → Takes s.awaited s t → ⊥
+untaken : (ts : List Token) (s : ExpressionState) (t : Token) → Reaches ts s → (Fits ts t → ⊥) → Takes s.awaited s t → ⊥
 untaken ts s t reaches none (u, is) = none (taken_fits ts s u t reaches is)
 
-after_at : (ts : List Token) (s : State) → Reaches ts s → IsAfterOperand ts → (s.awaited ≡ awaits.Operator)
+after_at : (ts : List Token) (s : ExpressionState) → Reaches ts s → IsAfterOperand ts → (s.awaited ≡ awaits.Operator)
     ⊎ (s.awaited ≡ awaits.VlanId)
 after_at ts s reaches after = join_at s.awaited s after.operator
     (takes ts s (tokens.Join after.operator) reaches after.fits)
 
-id_is_after : (ts : List Token) (s : State) → Reaches ts s → s.awaited ≡ awaits.VlanId → IsAfterOperand ts
+id_is_after : (ts : List Token) (s : ExpressionState) → Reaches ts s → s.awaited ≡ awaits.VlanId → IsAfterOperand ts
 id_is_after ts s reaches is = after_vlan ts s.nodes s.pending
     (subst (λ (a : Awaited). Reaches ts (record { nodes = s.nodes; pending = s.pending; awaited = a })) is reaches)
 
-pub row_kind : (ts : List Token) (s : State) (next : Option Token) (kind : FilterErrorKind) → Reaches ts s
+pub row_kind : (ts : List Token) (s : ExpressionState) (next : Option Token) (kind : FilterErrorKind) → Reaches ts s
     → Lacks ts next kind → kind ≡ kind_at s.awaited next
 row_kind ts s next kind reaches (rows.operand n fits) = let at = not_at s.awaited s
     (takes ts s tokens.Not reaches fits) in rw at refl

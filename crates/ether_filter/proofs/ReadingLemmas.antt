@@ -22,9 +22,9 @@ use Rattle.ether_filter.specs.Postfix.{postfix}
 use Rattle.ether_filter.specs.Grammar.{NamesPrimitive, Shape, Operand, Chain, Leads, operand, chain, Means, IsExpression}
 use Rattle.ether_filter.specs.Grammar as grammar
 use Rattle.ether_filter.specs.Steps.{next_step, most_of}
-use Rattle.ether_filter.specs.Reading.{State, Outcome, begun, closed, differ, operator_taken, stepped, taken_where, taken, whole, ended}
+use Rattle.ether_filter.specs.ExpressionReading.{ExpressionState, Outcome, begun, closed, differ, operator_taken, stepped, taken_where, taken, whole, ended}
 
-pub other_taken : (x : Awaited) (s : State) (t : Token) → (x ≡ awaits.Operand → ⊥) → (x ≡ awaits.Operator → ⊥)
+pub other_taken : (x : Awaited) (s : ExpressionState) (t : Token) → (x ≡ awaits.Operand → ⊥) → (x ≡ awaits.Operator → ⊥)
     → (x ≡ awaits.VlanId → ⊥) → taken_where x s t ≡ stepped s (next_step x t)
 other_taken awaits.Operand s t a b c = absurd (a refl)
 other_taken awaits.Operator s t a b c = absurd (b refl)
@@ -33,12 +33,12 @@ other_taken x s t a b c = refl
 
 -- ---- from a state on
 
-abbrev pub going : {A : Type 0} → Outcome → (State → Result A FilterErrorKind) → Result A FilterErrorKind
+abbrev pub going : {A : Type 0} → Outcome → (ExpressionState → Result A FilterErrorKind) → Result A FilterErrorKind
 going (Ok s) rest = rest s
 going (Err kind) rest = Err kind
 
 -- all of these words, from a state on
-abbrev pub all_from : State → List Token → Result (List Node) FilterErrorKind
+abbrev pub all_from : ExpressionState → List Token → Result (List Node) FilterErrorKind
 all_from s [] = ended s
 all_from s (t ∷ ts) = going (taken s t) (λ u. all_from u ts)
 
@@ -77,7 +77,7 @@ abbrev pub body : Expression → List Node
 body (Join operator x y) = postfix x ++ postfix y
 body x = postfix x
 
-abbrev after : Shape → List Node → List Pending → Expression → State
+abbrev after : Shape → List Node → List Pending → Expression → ExpressionState
 after Operand ns p x = closed (ns ++ postfix x) p
 after (Chain operator) ns p x = record
     { nodes = ns ++ body x; pending = pendings.Join operator ∷ p; awaited = awaits.Operator }

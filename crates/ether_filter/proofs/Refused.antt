@@ -13,9 +13,9 @@ use Rattle.ether_filter.specs.Postfix.{postfix, expression_of, expression_of-pos
 use Rattle.ether_filter.specs.Grammar.{IsExpression}
 use Rattle.ether_filter.specs.Words.{Word}
 use Rattle.ether_filter.specs.Tokens.{token_of}
-use Rattle.ether_filter.specs.Reading.{State, Outcome, begun, taken, ended, placed, going_on, read_from, read_text}
+use Rattle.ether_filter.specs.ExpressionReading.{ExpressionState, Outcome, begun, taken, ended, placed, going_on, read_from, read_text}
 use Rattle.ether_filter.specs.Texts.{words_of, tokens_of, IsExpressionOf, most_words}
-use Rattle.ether_filter.specs.Refusals.{Begins, Fits, Lacks, Refuses, RefusesText, TextsMeanOne}
+use Rattle.ether_filter.specs.Refusals.{Begins, Fits, Lacks, RefusesExpression, RefusesText, TextsMeanOne}
 use Rattle.ether_filter.specs.Refusals as rows
 use Rattle.ether_filter.proofs.ReadingLemmas.{going, all_from, expression_read}
 use Rattle.ether_filter.proofs.Sound.{Found, decided, all_was, begun_was_read}
@@ -27,17 +27,17 @@ tokens-more : (front : List Word) (w : Word) → tokens_of (front ++ w ∷ []) �
 tokens-more [] w = refl
 tokens-more (v ∷ front) w = ap (λ (l : List Token). token_of v.bytes ∷ l) (tokens-more front w)
 
-reached_more : (front : List Word) (w : Word) (s u : State) → Reaches (tokens_of front) s → taken s (token_of w.bytes)
+reached_more : (front : List Word) (w : Word) (s u : ExpressionState) → Reaches (tokens_of front) s → taken s (token_of w.bytes)
     ≡ Ok u → Reaches (tokens_of (front ++ w ∷ [])) u
 reached_more front w s u reaches is = rw (tokens-more front w)
     (run_more (tokens_of front) s (token_of w.bytes) reaches ∙ is)
 
 -- at the end of words the state tells whether they are an expression
-ends_as : (ts : List Token) (s : State) → Reaches ts s → all_from begun ts ≡ ended s
+ends_as : (ts : List Token) (s : ExpressionState) → Reaches ts s → all_from begun ts ≡ ended s
 ends_as ts s reaches = ap (all_from begun) (sym (append-nil ts)) ∙ all_run begun ts []
     ∙ ap (λ (o : Outcome). going o (λ u. all_from u [])) reaches
 
-no_expression_here : (ts : List Token) (s : State) (kind : FilterErrorKind) → Reaches ts s → ended s ≡ Err kind
+no_expression_here : (ts : List Token) (s : ExpressionState) (kind : FilterErrorKind) → Reaches ts s → ended s ≡ Err kind
     → (x : Expression) → IsExpression ts x → ⊥
 no_expression_here ts s kind reaches is x of = let read = sym (expression_read ts x of) ∙ ends_as ts s reaches ∙ is
     in cc
@@ -49,17 +49,17 @@ placed_err : (at : ℕ) (r : Result (List Node) FilterErrorKind) (error : Filter
 placed_err at (Ok ns) error is = absurd cc
 placed_err at (Err kind) error is = let same : error ≡ record { offset = at; kind = kind } = cc in (kind, refl, same)
 
-going_refused : (o : Outcome) (at : ℕ) (rest : State → Result (List Node) FilterError) (error : FilterError)
+going_refused : (o : Outcome) (at : ℕ) (rest : ExpressionState → Result (List Node) FilterError) (error : FilterError)
     (A : Type 0) → going_on o at rest ≡ Err error
-    → ((s : State) → o ≡ Ok s → rest s ≡ Err error → A)
+    → ((s : ExpressionState) → o ≡ Ok s → rest s ≡ Err error → A)
     → ((kind : FilterErrorKind) → o ≡ Err kind → error ≡ record { offset = at; kind = kind } → A) → A
 going_refused (Ok s) at rest error A is goes stops = goes s refl is
 going_refused (Err kind) at rest error A is goes stops = stops kind refl
     (let same : error ≡ record { offset = at; kind = kind } = cc in same)
 
-refuses_from : (front ws : List Word) (s : State) (count end : ℕ) (error : FilterError) → Reaches (tokens_of front) s
+refuses_from : (front ws : List Word) (s : ExpressionState) (count end : ℕ) (error : FilterError) → Reaches (tokens_of front) s
     → count ≡ length front → count ≤ most_words
-    → read_from s count ws end ≡ Err error → Refuses (front ++ ws) end error
+    → read_from s count ws end ≡ Err error → RefusesExpression (front ++ ws) end error
 refuses_from front [] s count end error reaches len le is =
     let told = placed_err end (ended s) error is in
     let row = rows.ending told.0 (omega arith) (reached_begins (tokens_of front) s reaches)
@@ -75,9 +75,9 @@ refuses_from front (w ∷ ws) s count end error reaches len le is = elim (decide
   | inr below ↦ (let told = rw below at is in
       let t = token_of w.bytes in
       let few : count ≢ most_words = eqb-false count most_words below in
-      going_refused (taken s t) w.at (λ u. read_from u (count + 1) ws end) error (Refuses (front ++ w ∷ ws) end error)
+      going_refused (taken s t) w.at (λ u. read_from u (count + 1) ws end) error (RefusesExpression (front ++ w ∷ ws) end error)
       told
-      (λ u now rest. subst (λ (l : List Word). Refuses l end error) (append_assoc front (w ∷ []) ws)
+      (λ u now rest. subst (λ (l : List Word). RefusesExpression l end error) (append_assoc front (w ∷ []) ws)
       (refuses_from (front ++ w ∷ []) ws u (count + 1) end error (reached_more front w s u reaches now)
       (omega (arith, len, length-append front (w ∷ []))) (omega arith) rest))
       (λ kind stops same. rw same
@@ -93,7 +93,7 @@ text_refused text error is = refuses_from [] (words_of text) begun 0 (length tex
 
 -- ---- what is in the table is told
 
-skipped : (front us : List Word) (s t : State) (count end : ℕ) → run s (tokens_of front) ≡ Ok t
+skipped : (front us : List Word) (s t : ExpressionState) (count end : ℕ) → run s (tokens_of front) ≡ Ok t
     → count + length front ≤ most_words
     → read_from s count (front ++ us) end ≡ read_from t (count + length front) us end
 skipped [] us s t count end is le = let same : s ≡ t = cc in let all : count + 0 ≡ count = omega arith
@@ -106,14 +106,14 @@ skipped (w ∷ front) us s t count end is le =
     let len : count + length (w ∷ front) ≡ count + 1 + length front = omega arith in
     rw (ne_eqb count most_words few, next.1, len) (skipped front us next.0 t (count + 1) end rest (omega arith))
 
-skipped_text : (ws front us : List Word) (s : State) (end : ℕ) → ws ≡ front ++ us → Reaches (tokens_of front) s
+skipped_text : (ws front us : List Word) (s : ExpressionState) (end : ℕ) → ws ≡ front ++ us → Reaches (tokens_of front) s
     → length front ≤ most_words → read_from begun 0 ws end ≡ read_from s (length front) us end
 skipped_text ws front us s end is reaches le =
     let none : 0 + length front ≡ length front = omega arith in
     rw is (skipped front us begun s 0 end reaches (omega arith) ∙ ap (λ (n : ℕ). read_from s n us end) none)
 
-stopped : (o : Outcome) (at : ℕ) (rest : State → Result (List Node) FilterError) (kind : FilterErrorKind)
-    → ((u : State) → o ≡ Ok u → ⊥) → ((k : FilterErrorKind) → o ≡ Err k → k ≡ kind)
+stopped : (o : Outcome) (at : ℕ) (rest : ExpressionState → Result (List Node) FilterError) (kind : FilterErrorKind)
+    → ((u : ExpressionState) → o ≡ Ok u → ⊥) → ((k : FilterErrorKind) → o ≡ Err k → k ≡ kind)
     → going_on o at rest ≡ Err (record { offset = at; kind = kind })
 stopped (Ok s) at rest kind goes same = absurd (goes s refl)
 stopped (Err k) at rest kind goes same = rw (same k refl) refl
@@ -124,14 +124,14 @@ ended_badly : (r : Result (List Node) FilterErrorKind) (at : ℕ) (kind : Filter
 ended_badly (Ok ns) at kind goes same = absurd (goes ns refl)
 ended_badly (Err k) at kind goes same = rw (same k refl) refl
 
-found_here : (ts : List Token) (s : State) (ns : List Node) → Reaches ts s → ended s ≡ Ok ns → (x : Expression)
+found_here : (ts : List Token) (s : ExpressionState) (ns : List Node) → Reaches ts s → ended s ≡ Ok ns → (x : Expression)
     × IsExpression ts x
 found_here ts s ns reaches is =
     let found = subst (λ (o : Result (List Node) FilterErrorKind). Found o ts) (ends_as ts s reaches ∙ is)
     (all_was begun [] ts begun_was_read) in
     (found.x, found.is)
 
-refused : (ws : List Word) (end : ℕ) (error : FilterError) → Refuses ws end error → read_from begun 0 ws end ≡ Err error
+refused : (ws : List Word) (end : ℕ) (error : FilterError) → RefusesExpression ws end error → read_from begun 0 ws end ≡ Err error
 refused ws end error (rows.word front rest w kind is lt begins none lacks) =
     let reaches = begins_reached (tokens_of front) begins in
     let s = reaches.0 in

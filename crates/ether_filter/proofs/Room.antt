@@ -16,7 +16,7 @@ use Rattle.ether_filter.specs.declared.awaited.Step.TheVariants.{Done, More, Fai
 use Rattle.ether_filter.specs.declared.reading.Pending.{Pending}
 use Rattle.ether_filter.specs.declared.reading.Pending.TheVariants as pendings
 use Rattle.ether_filter.specs.Steps.{first_step, next_step}
-use Rattle.ether_filter.specs.Reading.{State, Outcome, closed, differ, joined_by, closed_group, operator_taken, stepped, taken_where, taken, is_begun, size_of}
+use Rattle.ether_filter.specs.ExpressionReading.{ExpressionState, Outcome, closed, differ, joined_by, closed_group, operator_taken, stepped, taken_where, taken, is_begun, size_of}
 
 abbrev pub TakesAtMost : Outcome → ℕ → Type 0
 TakesAtMost (Ok s) n = size_of s ≤ n
@@ -41,7 +41,7 @@ stepped_room ns p a (Done q) = let room = closed_room (ns ++ nodes.Test q ∷ []
 stepped_room ns p a (More next) = let one = begun_room next in omega arith
 stepped_room ns p a Fails = tt
 
-chosen : (b : Bool) (s : State) (n : ℕ) → size_of s ≤ n → TakesAtMost (if b then Err kinds.MixedOperators else Ok s) n
+chosen : (b : Bool) (s : ExpressionState) (n : ℕ) → size_of s ≤ n → TakesAtMost (if b then Err kinds.MixedOperators else Ok s) n
 chosen true s n le = tt
 chosen false s n le = le
 
@@ -76,7 +76,7 @@ closing_room ns (pendings.Open ∷ p) a = group_room ns (pendings.Open ∷ p) (l
     (omega arith)
 closing_room ns (pendings.Not ∷ p) a = tt
 
-operator_room : (s : State) (t : Token) → TakesAtMost (operator_taken s t) (length s.nodes + length s.pending + 1)
+operator_room : (s : ExpressionState) (t : Token) → TakesAtMost (operator_taken s t) (length s.nodes + length s.pending + 1)
 operator_room s (tokens.Join operator) = joined_room operator s.nodes s.pending
 operator_room s tokens.Close = closing_room s.nodes s.pending s.awaited
 operator_room s t = tt
@@ -111,9 +111,9 @@ taken_room awaits.VlanId ns p t =
 taken_room a ns p t = more (stepped (record { nodes = ns; pending = p; awaited = a }) (next_step a t))
     (length ns + length p + 1) (length ns + length p + 1 + 1) (omega arith) (stepped_room ns p a (next_step a t))
 
-fewer : (o : Outcome) (u : State) (n : ℕ) → o ≡ Ok u → TakesAtMost o n → size_of u ≤ n
-fewer (Ok s) u n is at = let same : s ≡ u = cc in subst (λ (v : State). size_of v ≤ n) same at
+fewer : (o : Outcome) (u : ExpressionState) (n : ℕ) → o ≡ Ok u → TakesAtMost o n → size_of u ≤ n
+fewer (Ok s) u n is at = let same : s ≡ u = cc in subst (λ (v : ExpressionState). size_of v ≤ n) same at
 fewer (Err kind) u n is at = absurd cc
 
-pub room_after : (s u : State) (t : Token) → taken s t ≡ Ok u → size_of u ≤ size_of s + 1
+pub room_after : (s u : ExpressionState) (t : Token) → taken s t ≡ Ok u → size_of u ≤ size_of s + 1
 room_after s u t is = fewer (taken s t) u (size_of s + 1) is (taken_room s.awaited s.nodes s.pending t)

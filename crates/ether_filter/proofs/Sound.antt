@@ -25,7 +25,7 @@ use Rattle.ether_filter.specs.Postfix.{postfix}
 use Rattle.ether_filter.specs.Grammar.{NamesPrimitive, Shape, Operand, Chain, Leads, operand, chain, Means, IsExpression}
 use Rattle.ether_filter.specs.Grammar as grammar
 use Rattle.ether_filter.specs.Steps.{first_step, next_step, numbered, most_of, number_primitive}
-use Rattle.ether_filter.specs.Reading.{State, Outcome, begun, closed, joined_by, operator_taken, stepped, operand_taken, id_taken, taken_where, taken, whole, ended_where}
+use Rattle.ether_filter.specs.ExpressionReading.{ExpressionState, Outcome, begun, closed, joined_by, operator_taken, stepped, operand_taken, id_taken, taken_where, taken, whole, ended_where}
 use Rattle.ether_filter.proofs.ReadingLemmas.{IsBase, body, body_whole, going, all_from}
 
 -- ---- what was read
@@ -110,7 +110,7 @@ WasRead awaits.Operand p ns ts = Awaits p ns ts
 WasRead awaits.Operator p ns ts = Follows p ns ts
 WasRead awaited p ns ts = Within awaited p ns ts
 
-abbrev pub Was : State → List Token → Type 0
+abbrev pub Was : ExpressionState → List Token → Type 0
 Was s ts = WasRead s.awaited s.pending s.nodes ts
 
 -- ---- steps
@@ -324,7 +324,7 @@ closing_was (Chain operator) (pendings.Open ∷ p) old front words x a base m e 
     (chained operator old words x m)
 closing_was (Chain operator) (q ∷ p) old front words x a base m e = absurd base
 
-operator_was : (s : State) (ts : List Token) (t : Token) → Follows s.pending s.nodes ts
+operator_was : (s : ExpressionState) (ts : List Token) (t : Token) → Follows s.pending s.nodes ts
     → Goes (operator_taken s t) (ts ++ t ∷ [])
 operator_was s ts (tokens.Join operator) f =
     rw (f.is, f.nodes, f.tokens)
@@ -406,7 +406,7 @@ whole_was (Chain operator) [] old front words x a base m e = none_earlier old fr
 whole_was (Chain operator) (pendings.Open ∷ p) old front words x a base m e = tt
 whole_was (Chain operator) (q ∷ p) old front words x a base m e = absurd base
 
-follows_whole : (s : State) (ts : List Token) → Follows s.pending s.nodes ts → Found (whole s) ts
+follows_whole : (s : ExpressionState) (ts : List Token) → Follows s.pending s.nodes ts → Found (whole s) ts
 follows_whole s ts f = rw (f.is, f.nodes, f.tokens)
     (whole_was f.shape f.pending f.old f.front f.words f.x s.awaited f.base f.means f.earlier)
 
@@ -419,11 +419,11 @@ ended_was awaits.VlanId p ns ts was = follows_whole (closed (ns ++ nodes.Test pr
 ended_was a p ns ts was = tt
 
 going_was : (o : Outcome) (ts us : List Token) → Goes o ts
-    → ((s : State) → Was s ts → Found (all_from s us) (ts ++ us)) → Found (going o (λ s. all_from s us)) (ts ++ us)
+    → ((s : ExpressionState) → Was s ts → Found (all_from s us) (ts ++ us)) → Found (going o (λ s. all_from s us)) (ts ++ us)
 going_was (Ok s) ts us was rest = rest s was
 going_was (Err kind) ts us was rest = tt
 
-pub all_was : (s : State) (ts us : List Token) → Was s ts → Found (all_from s us) (ts ++ us)
+pub all_was : (s : ExpressionState) (ts us : List Token) → Was s ts → Found (all_from s us) (ts ++ us)
 all_was s ts [] was = rw (append-nil ts) (ended_was s.awaited s.pending s.nodes ts was)
 all_was s ts (t ∷ us) was =
     subst (Found (going (taken s t) (λ u. all_from u us))) (append_assoc ts (t ∷ []) us)

@@ -9,17 +9,17 @@ use Rattle.ether_filter.specs.Expressions.{Expression}
 use Rattle.ether_filter.specs.Postfix.{postfix, expression_of, expression_of-postfix}
 use Rattle.ether_filter.specs.Words.{Word}
 use Rattle.ether_filter.specs.Tokens.{token_of}
-use Rattle.ether_filter.specs.Reading.{State, Outcome, begun, taken, ended, placed, going_on, read_from, read_text}
+use Rattle.ether_filter.specs.ExpressionReading.{ExpressionState, Outcome, begun, taken, ended, placed, going_on, read_from, read_text}
 use Rattle.ether_filter.specs.Texts.{words_of, tokens_of, IsExpressionOf, most_words}
 use Rattle.ether_filter.proofs.ReadingLemmas.{going, all_from, expression_read}
 use Rattle.ether_filter.proofs.Sound.{Found, decided, all_was, begun_was_read}
 
-pub word_read : (s u : State) (count end : ℕ) (w : Word) (ws us : List Word) → ws ≡ w ∷ us → nat_eq count most_words
+pub word_read : (s u : ExpressionState) (count end : ℕ) (w : Word) (ws us : List Word) → ws ≡ w ∷ us → nat_eq count most_words
     ≡ false → taken s (token_of w.bytes) ≡ Ok u
     → read_from s count ws end ≡ read_from u (count + 1) us end
 word_read s u count end w ws us words below is = rw (words, below, is) refl
 
-pub word_refused : (s : State) (count end : ℕ) (w : Word) (ws us : List Word) (kind : FilterErrorKind) → ws ≡ w ∷ us
+pub word_refused : (s : ExpressionState) (count end : ℕ) (w : Word) (ws us : List Word) (kind : FilterErrorKind) → ws ≡ w ∷ us
     → nat_eq count most_words ≡ false → taken s (token_of w.bytes) ≡ Err kind
     → read_from s count ws end ≡ Err (record { offset = w.at; kind = kind })
 word_refused s count end w ws us kind words below is = rw (words, below, is) refl
@@ -27,13 +27,13 @@ word_refused s count end w ws us kind words below is = rw (words, below, is) ref
 -- ---- the whole text
 
 -- as many words as may be, and all of them are read
-record IsRead (s : State) (count : ℕ) (ws : List Word) (ns : List Node) : Type 0 where
+record IsRead (s : ExpressionState) (count : ℕ) (ws : List Word) (ns : List Node) : Type 0 where
   few : count + length ws ≤ most_words
   is : all_from s (tokens_of ws) ≡ Ok ns
 
 going_read : (o : Outcome) (at count : ℕ) (ws : List Word) (end : ℕ) (ns : List Node)
     → going_on o at (λ t. read_from t (count + 1) ws end) ≡ Ok ns
-    → ((t : State) → read_from t (count + 1) ws end ≡ Ok ns → IsRead t (count + 1) ws ns)
+    → ((t : ExpressionState) → read_from t (count + 1) ws end ≡ Ok ns → IsRead t (count + 1) ws ns)
     → (count + 1 + length ws ≤ most_words) × (going o (λ u. all_from u (tokens_of ws)) ≡ Ok ns)
 going_read (Ok t) at count ws end ns is rest = let r = rest t is in (r.few, r.is)
 going_read (Err kind) at count ws end ns is rest = absurd cc
@@ -42,7 +42,7 @@ placed_ok : (at : ℕ) (r : Result (List Node) FilterErrorKind) (ns : List Node)
 placed_ok at (Ok ms) ns is = let same : ms ≡ ns = cc in ap (λ (l : List Node). Ok l) same
 placed_ok at (Err kind) ns is = absurd cc
 
-is_read : (s : State) (count : ℕ) (ws : List Word) (end : ℕ) (ns : List Node) → count ≤ most_words
+is_read : (s : ExpressionState) (count : ℕ) (ws : List Word) (end : ℕ) (ns : List Node) → count ≤ most_words
     → read_from s count ws end ≡ Ok ns → IsRead s count ws ns
 is_read s count [] end ns le is = record { few = omega arith; is = placed_ok end (ended s) ns is }
 is_read s count (w ∷ ws) end ns le is = elim (decided (nat_eq count most_words)) [
@@ -67,12 +67,12 @@ text_means text ns is =
 
 going_back : (o : Outcome) (at count : ℕ) (ws : List Word) (end : ℕ) (ns : List Node)
     → going o (λ u. all_from u (tokens_of ws)) ≡ Ok ns
-    → ((t : State) → all_from t (tokens_of ws) ≡ Ok ns → read_from t (count + 1) ws end ≡ Ok ns)
+    → ((t : ExpressionState) → all_from t (tokens_of ws) ≡ Ok ns → read_from t (count + 1) ws end ≡ Ok ns)
     → going_on o at (λ t. read_from t (count + 1) ws end) ≡ Ok ns
 going_back (Ok t) at count ws end ns is rest = rest t is
 going_back (Err kind) at count ws end ns is rest = absurd cc
 
-reads : (s : State) (count : ℕ) (ws : List Word) (end : ℕ) (ns : List Node) → count + length ws ≤ most_words
+reads : (s : ExpressionState) (count : ℕ) (ws : List Word) (end : ℕ) (ns : List Node) → count + length ws ≤ most_words
     → all_from s (tokens_of ws) ≡ Ok ns → read_from s count ws end ≡ Ok ns
 reads s count [] end ns le is = ap (placed end) is
 reads s count (w ∷ ws) end ns le is =

@@ -3,8 +3,8 @@ use Rattle.std.proofs.Common.{◌≡◌, ℕ, ◌+◌, ◌-◌, ◌<◌, ◌≤�
 use Rattle.std.specs.Prelude.{slice_index, slice_range}
 use Rattle.std.proofs.lemmas.List.{drop_all}
 use Rattle.etherparse.proofs.SubLists.{part_join, length-part}
-use Rattle.ether_filter.specs.declared.words.Class.{Class}
-use Rattle.ether_filter.specs.declared.words.Class.TheVariants.{Blank, Sign, Connective, Letter}
+use Rattle.ether_filter.specs.declared.text_words.Class.{Class}
+use Rattle.ether_filter.specs.declared.text_words.Class.TheVariants.{Blank, Sign, Connective, Letter}
 use Rattle.ether_filter.specs.Words.{class_of, is_blank, are_joined, goes_on, Word, grown, words_at, words_from}
 
 abbrev pub at_place : List ℕ → ℕ → Class

@@ -128,7 +128,7 @@ WaitsUntil packet n =
     → has_fcs (start_of packet.start) ≡ false → length (packet.frame.now ++ more) < n
     → Walk (start_of packet.start) packet.frame.now hs e → Walk (start_of packet.start) (packet.frame.now ++ more) ks f → Waits hs e n ks f
 
--- the packet, of which more bytes were captured
+-- the packet with more bytes captured
 pub record IsLonger (packet longer : Packet) : Type 0 where
   pub more : List ℕ
   pub start : longer.start ≡ packet.start

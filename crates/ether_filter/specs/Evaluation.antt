@@ -28,7 +28,7 @@ abbrev pub joined_truth : Operator → (left right : Bool) → Bool
 joined_truth operators.And left right = left && right
 joined_truth operators.Or left right = left || right
 
--- ---- of a packet of which bytes are missing
+-- ---- of a packet that was cut
 
 -- the number of bytes that are missing, and the layer, of the open refusal of a frame's walk, if it ends in one
 abbrev pub IsRefusedUnit : List ℕ → Ending → Option (ℕ × Layer) → Type 0

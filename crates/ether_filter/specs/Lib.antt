@@ -12,7 +12,7 @@ pub mod Numerals
 pub mod Tokens
 pub mod Grammar
 pub mod Steps
-pub mod Reading
+pub mod ExpressionReading
 pub mod ErrorTexts
 pub mod Texts
 pub mod Refusals

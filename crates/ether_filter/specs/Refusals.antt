@@ -51,21 +51,21 @@ pub data Lacks (ts : List Token) : Option Token → FilterErrorKind → Type 0 w
   unclosed : IsAfterOperand ts → Lacks ts None kinds.Unclosed
 
 -- the rows, for the words of a text that ends at a place
-pub data Refuses (ws : List Word) (end : ℕ) : FilterError → Type 0 where
+pub data RefusesExpression (ws : List Word) (end : ℕ) : FilterError → Type 0 where
   -- the first word that fits nothing
   word : (front rest : List Word) (w : Word) (kind : FilterErrorKind) → ws ≡ front ++ w ∷ rest → length front < most_words
       → Begins (tokens_of front) → (Fits (tokens_of front) (token_of w.bytes) → ⊥) → Lacks (tokens_of front) (Some (token_of w.bytes)) kind
-      → Refuses ws end (record { offset = w.at; kind = kind })
+      → RefusesExpression ws end (record { offset = w.at; kind = kind })
   -- the end, if more words would have to come
   ending : (kind : FilterErrorKind) → length ws ≤ most_words
       → Begins (tokens_of ws) → ((x : Expression) → IsExpression (tokens_of ws) x → ⊥) → Lacks (tokens_of ws) None kind
-      → Refuses ws end (record { offset = end; kind = kind })
+      → RefusesExpression ws end (record { offset = end; kind = kind })
   -- the first word of too many, if all before it fit
   long : (front rest : List Word) (w : Word) → ws ≡ front ++ w ∷ rest → length front ≡ most_words → Begins (tokens_of front)
-      → Refuses ws end (record { offset = w.at; kind = kinds.TooLong })
+      → RefusesExpression ws end (record { offset = w.at; kind = kinds.TooLong })
 
 abbrev pub RefusesText : List ℕ → FilterError → Type 0
-RefusesText text error = Refuses (words_of text) (length text) error
+RefusesText text error = RefusesExpression (words_of text) (length text) error
 
 -- the law: a text has one expression or one refusal, and no second one
 pub record TextsMeanOne : Type 0 where

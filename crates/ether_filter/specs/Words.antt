@@ -1,9 +1,9 @@
 -- The words of a text, and where each of them begins.
 use Rattle.std.specs.Prelude.{◌≡◌, ℕ, ◌+◌, ◌<◌, ◌≤◌, List, [], ◌∷◌, length, drop, slice_range, Bool, true, false, nat_eq, codes, if◌then◌else◌}
 use Rattle.std.specs.List.{list_any}
-use Rattle.ether_filter.specs.declared.words.Word.{Word as Span}
-use Rattle.ether_filter.specs.declared.words.Class.{Class}
-use Rattle.ether_filter.specs.declared.words.Class.TheVariants.{Blank, Sign, Connective, Letter}
+use Rattle.ether_filter.specs.declared.text_words.Word.{Word as Span}
+use Rattle.ether_filter.specs.declared.text_words.Class.{Class}
+use Rattle.ether_filter.specs.declared.text_words.Class.TheVariants.{Blank, Sign, Connective, Letter}
 
 -- space, tab, line feed and carriage return are blank
 abbrev pub class_of : ℕ → Class

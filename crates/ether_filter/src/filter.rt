@@ -5,7 +5,7 @@ ghost use Rattle.ether_peel.specs.Grammar.Stack.{Ending, Walk};
 ghost use Rattle.ether_peel.specs.Walker.Start.{start_of};
 ghost use Rattle.ether_filter.specs.Primitives.{walked};
 ghost use Rattle.ether_filter.specs.Expressions.{Expression, Holds};
-ghost use Rattle.ether_filter.specs.Reading.{read_text};
+ghost use Rattle.ether_filter.specs.ExpressionReading.{read_text};
 ghost use Rattle.ether_filter.specs.Texts.{IsExpressionOf};
 ghost use Rattle.ether_filter.specs.Refusals.{RefusesText};
 ghost use Rattle.ether_filter.specs.Programs.{IsProgramOf};
@@ -18,8 +18,8 @@ use crate::node::Node;
 use crate::packet::Packet;
 use crate::program;
 use crate::reading::Reading;
+use crate::text_words::next_word;
 use crate::token::token_of;
-use crate::words::next_word;
 use arrayvec::ArrayVec;
 use std::marker::Model;
 

@@ -18,8 +18,8 @@ mod primitive;
 pub mod program;
 mod reading;
 mod seen;
+mod text_words;
 mod token;
-mod words;
 
 pub use decision::Decision;
 pub use filter::Filter;

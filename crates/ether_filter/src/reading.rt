@@ -1,7 +1,7 @@
 //! An expression that is read word after word.
 ghost use Rattle.std.specs.Prelude.{◌≡◌, ◌+◌, ◌<◌, ◌≤◌, ◌∷◌, [], Ok, Err, MatchResult, length, reverse};
 ghost use Rattle.arrayvec.specs.ArrayVec.{array_vec_len};
-ghost use Rattle.ether_filter.specs.Reading.{state_of, begun, closed, completed, settled, joined_by, closed_group, operator_taken, stepped, operand_taken, id_taken, taken, whole, ended, size_of, differ as differ_of};
+ghost use Rattle.ether_filter.specs.ExpressionReading.{state_of, begun, closed, completed, settled, joined_by, closed_group, operator_taken, stepped, operand_taken, id_taken, taken, whole, ended, size_of, differ as differ_of};
 
 use crate::awaited::{Awaited, Numbered, Step, first_step, kind_of, next_step};
 use crate::filter::MAX_WORDS;

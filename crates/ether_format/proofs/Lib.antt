@@ -2,7 +2,6 @@ pub mod BriefLemmas
 pub mod CalendarLemmas
 pub mod ColumnNames
 pub mod ColumnLemmas
-pub mod CookedLemmas
 pub mod JsonLemmas
 pub mod FormatLemmas
 pub mod ListLemmas

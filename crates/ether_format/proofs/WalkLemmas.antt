@@ -1,16 +1,12 @@
 -- A frame whose headers are written one by one.
-use Rattle.std.proofs.Common.{◌≡◌, ℕ, ◌+◌, ◌-◌, ◌≤◌, List, [], ◌∷◌, ◌++◌, length, Bool, true, false, refl, sym, ap, subst, ◌∙◌, append_assoc, arith, inl, inr}
-use Rattle.std.specs.Prelude.{Option, Some, None, Ok, Err, codes, slice_range, if◌then◌else◌}
-use Rattle.std.proofs.lemmas.Bool.{cases_lt}
+use Rattle.std.proofs.Common.{◌≡◌, ℕ, ◌+◌, ◌-◌, List, [], ◌∷◌, ◌++◌, length, Bool, true, false, refl, sym, ap, subst, ◌∙◌, append_assoc, arith}
+use Rattle.std.specs.Prelude.{Option, Some, None, Ok, Err, codes, if◌then◌else◌}
 use Rattle.etherparse.specs.Bytes.{IsBytes}
 use Rattle.etherparse.specs.Ethernet2.{Frame, ethernet2_of, fcs_of}
-use Rattle.etherparse.specs.Macsec.{sec_tag_of}
-use Rattle.etherparse.specs.Kind as kinds
-use Rattle.etherparse.specs.Header.{Header, Means}
+use Rattle.etherparse.specs.Header.{Header}
 use Rattle.etherparse.specs.Header as headers
-use Rattle.etherparse.specs.Refusal.{Refusal, Length, UnsupportedPacketType, UnsupportedHardwareType, UnexpectedVersion, InvalidShortLen, Accepts}
-use Rattle.etherparse.specs.Refusal as rows
-use Rattle.etherparse.proofs.SubLists.{length-part, part_of_part, IsBytes-part}
+use Rattle.etherparse.specs.Refusal.{Refusal, Length, UnsupportedPacketType, UnsupportedHardwareType, UnexpectedVersion, InvalidShortLen}
+use Rattle.etherparse.proofs.SubLists.{length-part, IsBytes-part}
 use Rattle.ether_peel.specs.Grammar.Window.{Window, within, IsIn, payload}
 use Rattle.ether_peel.specs.Grammar.Expectation.{Expectation}
 use Rattle.ether_peel.specs.Grammar.Stack.{Ending, IsUnit, whole, Walk}
@@ -19,7 +15,8 @@ use Rattle.ether_peel.specs.Walker.State.{State}
 use Rattle.ether_peel.specs.Walker.Start.{kind_shown}
 use Rattle.ether_peel.specs.Walker.Fault.{fault_in}
 use Rattle.ether_peel.specs.Walker.Next.{Faces, ShowsUnit, Gives}
-use Rattle.ether_peel.proofs.Walker.ViewValues.{ethernet2_shown, linux_sll_shown, vlan_shown, macsec_shown, arp_shown}
+use Rattle.ether_peel.proofs.Grammar.CheckSequence.{fcs_of_window}
+use Rattle.ether_peel.proofs.Walker.UnitHeaders.{unit_header-shown}
 use Rattle.ether_peel.proofs.Walker.Summarizing.{unit_next, fault_next, none_next}
 use Rattle.ether_peel.specs.declared.peel_unit.PeelUnit.{PeelUnit}
 use Rattle.ether_peel.specs.declared.peel_unit.PeelUnit.TheVariants as units
@@ -34,7 +31,7 @@ use Rattle.ether_format.specs.declared.place.Place.{Place as DeclaredPlace}
 use Rattle.ether_format.specs.Members.{ethernet2_members}
 use Rattle.ether_format.specs.Told.{Told, Walked, ToldEnd, Rest, fcs_in, placed_members, told_in, told_stack, told_end, told_members, TellsPayload}
 use Rattle.ether_format.specs.Json.{json_object}
-use Rattle.ether_format.specs.Walking.{header_of, fcs_shown, place_view, told_view, fault_shown, goes_on, header_text, end_text, told_text, AnswersTold}
+use Rattle.ether_format.specs.Walking.{fcs_shown, place_view, told_view, fault_shown, goes_on, header_text, end_text, told_text, AnswersTold}
 
 -- ---- what a walker gives tells what it faces
 
@@ -51,41 +48,12 @@ ethernet2_object place f = by_mark f.has_fcs
     by_mark true = refl
     by_mark false = refl
 
--- the header of a view
-header_shown : (bytes rest : List ℕ) (h : Header) (u : PeelUnit) → IsBytes bytes → Means bytes h → ShowsUnit bytes rest h u
-    → header_of u ≡ h
-header_shown bytes rest (headers.Ethernet2 e) u ok m shows = ap header_of shows
-    ∙ ap headers.Ethernet2 (ethernet2_shown bytes e ok m)
-header_shown bytes rest (headers.Ethernet2Fcs e) u ok m shows =
-    let plain : Means bytes (headers.Ethernet2 e) = record { whole = m.whole; spells = m.spells } in
-    ap header_of shows ∙ ap headers.Ethernet2Fcs (ethernet2_shown bytes e ok plain)
-header_shown bytes rest (headers.LinuxSll s) u ok m shows = ap header_of shows
-    ∙ ap headers.LinuxSll (linux_sll_shown bytes s ok m)
-header_shown bytes rest (headers.Vlan v) u ok m shows = ap header_of shows ∙ ap headers.Vlan (vlan_shown bytes v ok m)
-header_shown bytes rest (headers.Macsec t) u ok m shows =
-    ap header_of shows.1 ∙ ap (λ (l : List ℕ). headers.Macsec (sec_tag_of l)) shows.2.header
-    ∙ ap headers.Macsec (macsec_shown bytes t ok m)
-header_shown bytes rest (headers.Arp a) u ok m shows = ap header_of shows ∙ ap headers.Arp (arp_shown bytes a ok m)
-
--- its frame check sequence, the last four bytes of the window
-fcs_is : (list : List ℕ) (w : Window) → IsIn list w → Accepts w.bound (within list w) kinds.Ethernet2Fcs
-    → slice_range (within list w) (length (within list w) - 4) (length (within list w))
-    ≡ slice_range list (w.finish - 4) w.finish
-fcs_is list w inside accepted =
-    let n = length (within list w) in
-    let ordered = inside.ordered in
-    let len : n ≡ w.finish - w.start = length-part list w.start w.finish inside.inside in
-    let long : 18 ≤ n = elim (cases_lt n 18) [ inl lt ↦ absurd (accepted _ (rows.ethernet2_fcs lt)) | inr le ↦ le ] in
-    let from : w.start + (n - 4) ≡ w.finish - 4 = omega arith in
-    let to : w.start + n ≡ w.finish = omega arith in
-    part_of_part list w.start w.finish (n - 4) n (omega arith) (omega arith)
-    ∙ ap (λ (k : ℕ). slice_range list k (w.start + n)) from ∙ ap (slice_range list (w.finish - 4)) to
-
+-- its frame check sequence
 fcs_of_unit : (list rest : List ℕ) (x : Expectation) (w : Window) (h : Header) (u : PeelUnit) → IsIn list w → IsUnit list x w h
     → ShowsUnit (within list w) rest h u → fcs_shown u ≡ fcs_in list w h
 fcs_of_unit list rest x w (headers.Ethernet2 e) u inside unit shows = ap fcs_shown shows
 fcs_of_unit list rest x w (headers.Ethernet2Fcs e) u inside unit shows = ap fcs_shown shows
-    ∙ ap Some (fcs_is list w inside unit.accepted)
+    ∙ ap Some (fcs_of_window list w inside unit.accepted)
 fcs_of_unit list rest x w (headers.LinuxSll s) u inside unit shows = ap fcs_shown shows
 fcs_of_unit list rest x w (headers.Vlan v) u inside unit shows = ap fcs_shown shows
 fcs_of_unit list rest x w (headers.Macsec t) u inside unit shows = ap fcs_shown shows.1
@@ -159,7 +127,7 @@ module _ {W : Type 0} (contents : W → Option (List ℕ)) (can_fail : Type 0) (
       let faces = subst (λ (l : List Header). Faces frame a.window s l a.ending) n.parts a.faces in
       let shows = subst (λ (l : List ℕ). ShowsUnit l t.rest h u) faces.rest n.shows in
       let bytes = IsBytes-part a.window.start a.window.finish frame ok in
-      let header = header_shown (within frame a.window) t.rest h u bytes faces.stack.0.means shows in
+      let header = unit_header-shown (within frame a.window) t.rest h u bytes faces.stack.0.means shows in
       let fcs = fcs_of_unit frame t.rest s.expected a.window h u faces.inside faces.stack.0 shows in
       let begin : place.start ≡ at + a.window.start = from ∙ ap (λ (n : ℕ). at + n) faces.offset in
       let middle : place.header_end ≡ at + inner.start = to ∙ ap (λ (n : ℕ). at + n) n.faces.offset in

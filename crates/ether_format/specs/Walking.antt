@@ -1,17 +1,12 @@
 -- Text as it is written along a walk: for the contracts of private functions.
-use Rattle.std.specs.Prelude.{◌≡◌, ℕ, ◌+◌, List, [], ◌∷◌, ◌++◌, length, take, drop, codes, Bool, true, false, Option, Some, None, if◌then◌else◌, map}
-use Rattle.etherparse.specs.Ethernet2.{ethernet2_of, fcs_of}
-use Rattle.etherparse.specs.LinuxSll.{linux_sll_of}
-use Rattle.etherparse.specs.Vlan.{vlan_of}
-use Rattle.etherparse.specs.Macsec.{sec_tag_of, tag_bytes}
-use Rattle.etherparse.specs.Arp.{arp_of}
-use Rattle.etherparse.specs.Header.{Header}
-use Rattle.etherparse.specs.Header as headers
+use Rattle.std.specs.Prelude.{◌≡◌, ℕ, ◌+◌, List, [], ◌∷◌, ◌++◌, length, take, drop, codes, Bool, true, false, Option, Some, None, map}
+use Rattle.etherparse.specs.Ethernet2.{fcs_of}
 use Rattle.etherparse.specs.Types.LinuxSllHeaderError.{HeaderError as LinuxSllHeaderError}
 use Rattle.etherparse.specs.Types.LinuxSllHeaderError.TheVariants as linux_sll
 use Rattle.etherparse.specs.Types.MacsecHeaderError.{HeaderError as MacsecHeaderError}
 use Rattle.etherparse.specs.Types.MacsecHeaderError.TheVariants as macsec
 use Rattle.ether_peel.specs.Grammar.Expectation.{Expectation}
+use Rattle.ether_peel.specs.Walker.UnitHeader.{unit_header}
 use Rattle.ether_peel.specs.declared.peel_unit.PeelUnit.{PeelUnit}
 use Rattle.ether_peel.specs.declared.peel_unit.PeelUnit.TheVariants as units
 use Rattle.ether_peel.specs.declared.peel_error.PeelError.{PeelError}
@@ -83,15 +78,7 @@ member_text m = keyed_text (keyed_view m)
 
 -- ---- headers
 
--- the header that the bytes of a view mean
-abbrev pub header_of : PeelUnit → Header
-header_of (units.Ethernet2 frame) =
-    if frame.has_fcs then headers.Ethernet2Fcs (ethernet2_of frame.bytes) else headers.Ethernet2 (ethernet2_of frame.bytes)
-header_of (units.LinuxSll bytes) = headers.LinuxSll (linux_sll_of bytes)
-header_of (units.Vlan bytes) = headers.Vlan (vlan_of bytes)
-header_of (units.Macsec packet) = headers.Macsec (sec_tag_of (tag_bytes packet.header))
-header_of (units.Arp bytes) = headers.Arp (arp_of bytes)
-
+-- the frame check sequence of a view
 abbrev pub fcs_shown : PeelUnit → Option (List ℕ)
 fcs_shown (units.Ethernet2 frame) = fcs_of frame
 fcs_shown _ = None
@@ -101,7 +88,7 @@ place_view p = record { start = p.start; header_end = p.header_end; payload_end 
 
 -- a view in its place
 abbrev pub told_view : DeclaredPlace → PeelUnit → Told
-told_view place u = Walked (place_view place) (header_of u) (fcs_shown u)
+told_view place u = Walked (place_view place) (unit_header u) (fcs_shown u)
 
 -- ---- the end
 

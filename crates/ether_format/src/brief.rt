@@ -18,7 +18,8 @@ ghost use Rattle.ether_format.specs.Brief.{address_text, arp_other, arp_reply, a
 ghost use Rattle.ether_text.specs.Decimals.{two_digits};
 ghost use Rattle.ether_format.specs.Spelling.{colon_text};
 ghost use Rattle.ether_format.specs.Told.{cause_of_v2};
-ghost use Rattle.ether_format.specs.Walking.{cause_shown, header_of, linux_sll_cause, macsec_cause};
+ghost use Rattle.ether_peel.specs.Walker.UnitHeader.{unit_header};
+ghost use Rattle.ether_format.specs.Walking.{cause_shown, linux_sll_cause, macsec_cause};
 
 use crate::Moment;
 use crate::endings::kind_word;
@@ -36,7 +37,7 @@ use etherparse::{
 
 /// Writes a header.
 pub(crate) fn write_brief_header<W: Sink>(unit: &PeelUnit<'_>, out: &mut OutputBuffer<'_, W>)
-    ensures { Takes W.contents W.can_fail out.old (brief_header (header_of unit.now)) out.new }
+    ensures { Takes W.contents W.can_fail out.old (brief_header (unit_header unit.now)) out.new }
 {
     match unit {
         PeelUnit::Ethernet2(slice) => write_ethernet2(slice, out),
@@ -143,7 +144,7 @@ fn write_address<W: Sink>(protocol: EtherType, bytes: &[u8], out: &mut OutputBuf
 fn write_linux_sll<W: Sink>(slice: &LinuxSllSlice<'_>, out: &mut OutputBuffer<'_, W>)
     ensures { Takes W.contents W.can_fail out.old (brief_header (headers.LinuxSll (linux_sll_of slice.now))) out.new }
 {
-    let packet_type = usize::from(u16::from(slice.packet_type()));
+    let packet_type = usize::from(slice.packet_type_number());
     let len = usize::from(slice.sender_address_valid_length());
     write_sender(packet_type, &slice.sender_address_full(), len, out);
 }
@@ -178,7 +179,7 @@ pub(crate) fn write_brief_linux_sll2<W: Sink>(
 )
     ensures { Takes W.contents W.can_fail out.old (brief_cooked_v2 (linux_sll2_of packet.now)) out.new }
 {
-    let packet_type = usize::from(u16::from(packet.packet_type()));
+    let packet_type = usize::from(packet.packet_type_number());
     let len = usize::from(packet.sender_address_valid_length());
     write_number(out, b" if ", packet.interface_index() as usize);
     write_sender(packet_type, &packet.sender_address_full(), len, out);

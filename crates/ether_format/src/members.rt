@@ -192,10 +192,7 @@ pub(crate) fn linux_sll<'a>(slice: &'a LinuxSllSlice<'_>) -> [Member<'a>; 5]
     ensures { map keyed_view result ≡ others (linux_sll_members (linux_sll_of slice.now)) }
 {
     [
-        number(
-            ",\"packet_type\":",
-            usize::from(u16::from(slice.packet_type())),
-        ),
+        number(",\"packet_type\":", usize::from(slice.packet_type_number())),
         number(",\"hw_type\":", usize::from(slice.arp_hardware_type().0)),
         number(
             ",\"addr_len\":",
@@ -208,10 +205,7 @@ pub(crate) fn linux_sll<'a>(slice: &'a LinuxSllSlice<'_>) -> [Member<'a>; 5]
                 usize::from(slice.sender_address_valid_length()),
             ),
         ),
-        member(
-            ",\"protocol\":",
-            Value::Protocol(u16::from(slice.protocol_type())),
-        ),
+        member(",\"protocol\":", Value::Protocol(slice.protocol_number())),
     ]
 }
 
@@ -244,15 +238,12 @@ pub(crate) fn linux_sll2<'a>(packet: &'a LinuxSll2Slice<'_>) -> [Member<'a>; 6]
     ensures { map keyed_view result ≡ others (linux_sll2_members (linux_sll2_of packet.now)) }
 {
     [
-        member(
-            ",\"protocol\":",
-            Value::Protocol(u16::from(packet.protocol_type())),
-        ),
+        member(",\"protocol\":", Value::Protocol(packet.protocol_number())),
         number(",\"if_index\":", packet.interface_index() as usize),
         number(",\"hw_type\":", usize::from(packet.arp_hardware_type().0)),
         number(
             ",\"packet_type\":",
-            usize::from(u16::from(packet.packet_type())),
+            usize::from(packet.packet_type_number()),
         ),
         number(
             ",\"addr_len\":",

@@ -1,4 +1,4 @@
--- The header before which a walk stands, by how many extensions it has passed.
+-- The header that a walk reaches, by how many extensions it has passed.
 use Rattle.std.proofs.Common.{◌≡◌, ℕ, ◌+◌, ◌≤◌, List, [], ◌∷◌, ◌++◌, length, arith, append_assoc, append-nil, false, true, refl, sym, ap, subst, ◌∙◌, rules}
 use Rattle.std.specs.Prelude.{Some, None, Ok, Err}
 use Rattle.etherparse.specs.LinkExt.{ext_header_view}

@@ -10,7 +10,6 @@ ghost use Rattle.ether_packet.specs.Building.{vlan_type as vlan_type_of, own_typ
 ghost use Rattle.ether_packet.specs.Builder.{link_header, content_headers, content_type, content_bytes, content_len as content_len_of, inner_headers, packet_len, IsEthernet, IsOtherLink, HasPacketType, IsSealedAt, IsWritten, RefusesPacket, AcceptsPacket, RefusesSpace};
 
 use crate::BuildError;
-use crate::typed_link::announces_vlan;
 use etherparse::err::{Layer, SliceWriteSpaceError};
 use etherparse::{
     ArpHardwareId, ArpPacket, EtherType, Ethernet2Header, LinkExtHeader, LinkHeader,
@@ -186,7 +185,7 @@ impl Front {
             → self.vlan_type.0 ≡ vlan_type_of hs → result.0 ≡ type_of own.0 hs t }
     {
         let is_tag = self.vlan_type == EtherType::PROVIDER_BRIDGING;
-        if is_tag && announces_vlan(own) {
+        if is_tag && own.announces_vlan() {
             own
         } else {
             self.ether_type

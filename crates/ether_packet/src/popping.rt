@@ -11,7 +11,7 @@ ghost use Rattle.ether_packet.specs.Popping.{IsPopped, IsTagged, RefusesPop};
 
 use crate::TagError;
 use crate::packet_builder::put_at;
-use crate::typed_link::{announces_vlan, chunk_at, typed_link};
+use crate::typed_link::{chunk_at, typed_link};
 use ether_peel::Start;
 use etherparse::SingleVlanHeader;
 
@@ -81,7 +81,7 @@ pub(crate) fn require_tag(start: Start, frame: &[u8]) -> Result<(), TagError>
         → Walk (start_of start) frame.now hs e → RefusesPop hs error) }
 {
     let link = typed_link(start, frame)?;
-    if !announces_vlan(link.ether_type) {
+    if !link.ether_type.announces_vlan() {
         return Err(TagError::NoVlan);
     }
     if link.payload_len < SingleVlanHeader::LEN {

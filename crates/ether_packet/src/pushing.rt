@@ -11,7 +11,7 @@ ghost use Rattle.ether_packet.specs.Pushing.{pushed_bytes, IsLinked, IsPushed, R
 
 use crate::TagError;
 use crate::packet_builder::put_at;
-use crate::typed_link::{announces_vlan, chunk_at, typed_link};
+use crate::typed_link::{chunk_at, typed_link};
 use ether_peel::Start;
 use etherparse::{EtherType, SingleVlanHeader};
 
@@ -96,7 +96,7 @@ fn require_link(start: Start, buffer: &[u8], tpid: EtherType) -> Result<(), TagE
         → Walk (start_of start) (drop 4 buffer.now) hs e
         → RefusesPush buffer.now hs tpid.0 error) }
 {
-    if !announces_vlan(tpid) {
+    if !tpid.announces_vlan() {
         return Err(TagError::Tpid(tpid));
     }
     if buffer.len() < SingleVlanHeader::LEN {

@@ -13,7 +13,6 @@ ghost use Rattle.ether_packet.specs.Setting.{IsPlacedVlan, LacksVlan, FindsVlan,
 use crate::TagError;
 use crate::finding::{PlacedExt, ext_at};
 use crate::packet_builder::put_at;
-use crate::typed_link::announces_vlan;
 use ether_peel::{Peel, PeelUnit, Start};
 use etherparse::{EtherType, LinkExtHeader, SingleVlanHeader, VlanId, VlanPcp};
 
@@ -230,7 +229,7 @@ pub fn set_tpid(
         → Walk (start_of start) frame.old hs e → RefusesTpid hs index tpid.0 error) }
     ensures kept { OnErr result (frame.new ≡ frame.old) }
 {
-    if !announces_vlan(tpid) {
+    if !tpid.announces_vlan() {
         return Err(TagError::Tpid(tpid));
     }
     let found = vlan_at(start, frame, index)?;

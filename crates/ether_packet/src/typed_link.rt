@@ -1,16 +1,17 @@
 //! The header of a link that a frame begins with, and the ether type of what follows it.
 ghost use Rattle.std.specs.Prelude.{◌≡◌, ◌↔◌, ◌+◌, ◌≤◌, List, length, slice_range, IfOk, IfErr, IsTrue};
-ghost use Rattle.etherparse.specs.Bytes.{number};
 ghost use Rattle.etherparse.specs.Header.{Header};
-ghost use Rattle.etherparse.specs.Vlan.{is_vlan_ether_type};
 ghost use Rattle.ether_peel.specs.Grammar.Stack.{Ending, Walk};
 ghost use Rattle.ether_peel.specs.Walker.Start.{start_of};
 ghost use Rattle.ether_packet.specs.TypedLink.{link_len, IsTypedLink, IsEthernetCapture, IsOtherCapture, RefusesTyped};
 
 use crate::TagError;
+use ether_base::big_endian::array_at;
 use ether_peel::Start;
+use ether_sll::linux_sll_fields::{arp_hardware_type, packet_type_number, protocol_number};
 use etherparse::{
-    ArpHardwareId, EtherType, Ethernet2Header, Ethernet2Slice, LinuxSllHeader, LinuxSllSlice,
+    ArpHardwareId, EtherType, Ethernet2Header, Ethernet2Slice, LinuxSllHeader, LinuxSllPacketType,
+    LinuxSllSlice,
 };
 
 /// The header of a link.
@@ -48,7 +49,7 @@ pub(crate) fn typed_link(start: Start, frame: &[u8]) -> Result<TypedLink, TagErr
         },
         Start::LinuxSll if is_ethernet_capture(frame) => Ok(TypedLink {
             payload_len: frame.len() - LinuxSllHeader::LEN,
-            ether_type: EtherType(u16_at(frame, 14)),
+            ether_type: EtherType(protocol_number(frame)),
         }),
         Start::LinuxSll => match other_hardware(frame) {
             Some(hardware_type) => Err(TagError::HardwareType(hardware_type)),
@@ -63,7 +64,9 @@ pub(crate) fn typed_link(start: Start, frame: &[u8]) -> Result<TypedLink, TagErr
 fn is_ethernet_capture(frame: &[u8]) -> bool
     ensures { IsTrue result ↔ IsEthernetCapture frame.now }
 {
-    frame.len() >= LinuxSllHeader::LEN && u16_at(frame, 0) <= 7 && u16_at(frame, 2) == 1
+    frame.len() >= LinuxSllHeader::LEN
+        && packet_type_number(frame) <= LinuxSllPacketType::MAX_VAL
+        && arp_hardware_type(frame) == ArpHardwareId::ETHERNET
 }
 
 /// The hardware type of any other cooked capture, if its header is not refused.
@@ -77,33 +80,14 @@ fn other_hardware(frame: &[u8]) -> Option<ArpHardwareId>
     }
 }
 
-/// The number in two bytes of a slice from a place on.
-#[inline(always)]
-fn u16_at(bytes: &[u8], at: usize) -> u16
-    requires { at + 2 ≤ length bytes.now }
-    ensures { result ≡ number (slice_range bytes.now at (at + 2)) }
-{
-    u16::from_be_bytes([bytes[at], bytes[at + 1]])
-}
-
-/// Whether an ether type announces a VLAN tag.
-#[inline(always)]
-pub(crate) fn announces_vlan(ether_type: EtherType) -> bool
-    ensures { result ≡ is_vlan_ether_type ether_type.0 }
-{
-    ether_type == EtherType::VLAN_TAGGED_FRAME
-        || ether_type == EtherType::PROVIDER_BRIDGING
-        || ether_type == EtherType::VLAN_DOUBLE_TAGGED_FRAME
-}
-
 /// An array of the bytes of a slice from a place on.
 #[inline(always)]
 pub(crate) fn chunk_at<const N: usize>(bytes: &[u8], at: usize) -> [u8; N]
     requires { at + N ≤ length bytes.now }
     ensures { result ≡ slice_range bytes.now at (at + N) }
 {
-    match bytes[at..at + N].first_chunk::<N>() {
-        Some(chunk) => *chunk,
+    match array_at(bytes, at) {
+        Some(chunk) => chunk,
         None => unreachable!(),
     }
 }

@@ -6,9 +6,9 @@ use Rattle.ether_pcap.specs.FileHeader as file
 use Rattle.ether_pcap.specs.Record as record_rows
 use Rattle.ether_pcap.specs.Block as block_rows
 use Rattle.ether_pcap.specs.Section as section_rows
-use Rattle.ether_pcap.specs.Capture.{CaptureInterfaceValue, PacketValue, Expectation, BlockKind, CaptureRefusal, Section, Block, RefusesBody, interface, Begins, file_header, file_record, first_section, section, block, Refuses, file_header_refused, file_record_refused, first_section_refused, section_refused, block_refused, body_refused, required_len}
+use Rattle.ether_pcap.specs.Capture.{CaptureInterfaceValue, PacketValue, CaptureExpectation, BlockKind, CaptureRefusal, Section, Block, RefusesBody, interface, Begins, file_header, file_record, first_section, section, block, RefusesCapture, file_header_refused, file_record_refused, first_section_refused, section_refused, block_refused, body_refused, required_len}
 
-pub unit_within : (bytes : List ℕ) (x y : Expectation) (len : ℕ) (p : Option PacketValue) → Begins bytes x len p y
+pub unit_within : (bytes : List ℕ) (x y : CaptureExpectation) (len : ℕ) (p : Option PacketValue) → Begins bytes x len p y
     → len ≤ length bytes
 unit_within bytes x y len p (file_header m h other is) = is.len
 unit_within bytes x y len p (file_record h r is) = is.whole
@@ -16,7 +16,7 @@ unit_within bytes x y len p (first_section m order b is) = is.block.whole
 unit_within bytes x y len p (section m order next interfaces b is) = is.block.whole
 unit_within bytes x y len p (block m order interfaces after packet b other begins is) = begins.whole
 
-pub unit_some : (bytes : List ℕ) (x y : Expectation) (len : ℕ) (p : Option PacketValue) → Begins bytes x len p y
+pub unit_some : (bytes : List ℕ) (x y : CaptureExpectation) (len : ℕ) (p : Option PacketValue) → Begins bytes x len p y
     → 0 < len
 unit_some bytes x y len p (file_header m h other is) = omega arith
 unit_some bytes x y len p h = omega arith
@@ -49,7 +49,7 @@ pub body_final : (most : ℕ) (order : Order) (before : List CaptureInterfaceVal
 body_final most order before body kind r (interface s refused) = refl
 body_final most order before body kind r h = refl
 
-pub required_above : (bytes : List ℕ) (x : Expectation) (r : CaptureRefusal) (n : ℕ) → Refuses bytes x r
+pub required_above : (bytes : List ℕ) (x : CaptureExpectation) (r : CaptureRefusal) (n : ℕ) → RefusesCapture bytes x r
     → required_len r ≡ Some n → length bytes < n
 required_above bytes x r n (file_header_refused m s other (file.short lt)) e = above 24 n (length bytes) e lt
 required_above bytes x r n (file_record_refused h s (record_rows.header lt)) e = above 16 n (length bytes) e lt

@@ -13,7 +13,7 @@ use Rattle.ether_pcap.specs.Block as block_rows
 use Rattle.ether_pcap.specs.Section.{SectionRefusal, HasSectionType, HasOrder, IsSection, RefusesSection, IsVersion}
 use Rattle.ether_pcap.specs.Section as section_rows
 use Rattle.ether_pcap.proofs.CaptureLengths.{unit_within}
-use Rattle.ether_pcap.specs.Capture.{PacketValue, Expectation, CaptureRefusal, File, Record, Section, Block, Begins, file_header, file_record, first_section, section, block, Refuses, file_header_refused, file_record_refused, first_section_refused, section_refused, block_refused, body_refused, required_len}
+use Rattle.ether_pcap.specs.Capture.{PacketValue, CaptureExpectation, CaptureRefusal, File, Record, Section, Block, Begins, file_header, file_record, first_section, section, block, RefusesCapture, file_header_refused, file_record_refused, first_section_refused, section_refused, block_refused, body_refused, required_len}
 
 longer : (bytes more : List ℕ) (n : ℕ) → n ≤ length bytes → n ≤ length (bytes ++ more)
 longer bytes more n le = omega (arith, length-append bytes more, le)
@@ -84,7 +84,7 @@ module _ (old new : List ℕ) (n : ℕ) (long : n ≤ length new)
             (subst (λ (k : ℕ). IsVersion k (field order old 14 16)) (sym major) is.version);
       }
 
-  unit_kept : (x y : Expectation) (len : ℕ) (p : Option PacketValue) → len ≤ n → Begins old x len p y
+  unit_kept : (x y : CaptureExpectation) (len : ℕ) (p : Option PacketValue) → len ≤ n → Begins old x len p y
       → Begins new x len p y
   unit_kept x y len p le (file_header m h other is) =
       file_header m h (λ has. other (sym (type_kept (omega arith)) ∙ has)) (header_kept h le is)
@@ -101,12 +101,12 @@ pub block_local : (order : Order) (bytes more : List ℕ) (b : BlockValue) → B
     → BeginsBlock order (bytes ++ more) b
 block_local order bytes more b is = search (rules, block_kept, longer, part-append)
 
-pub unit_local : (bytes more : List ℕ) (x y : Expectation) (len : ℕ) (p : Option PacketValue) → Begins bytes x len p y
+pub unit_local : (bytes more : List ℕ) (x y : CaptureExpectation) (len : ℕ) (p : Option PacketValue) → Begins bytes x len p y
     → Begins (bytes ++ more) x len p y
 unit_local bytes more x y len p is = search (rules, unit_kept, longer, part-append, unit_within)
 
 -- .. or don't
-pub unit_alone : (bytes more : List ℕ) (x y : Expectation) (len : ℕ) (p : Option PacketValue) → len ≤ length bytes
+pub unit_alone : (bytes more : List ℕ) (x y : CaptureExpectation) (len : ℕ) (p : Option PacketValue) → len ≤ length bytes
     → Begins (bytes ++ more) x len p y → Begins bytes x len p y
 unit_alone bytes more x y len p le is = search (rules, unit_kept, part-append)
 
@@ -201,8 +201,8 @@ section_refused_local bytes more r has (section_rows.version order b major minor
 
 -- ---- units
 
-pub refusal_local : (bytes more : List ℕ) (x : Expectation) (r : CaptureRefusal) → Refuses bytes x r
-    → required_len r ≡ None → Refuses (bytes ++ more) x r
+pub refusal_local : (bytes more : List ℕ) (x : CaptureExpectation) (r : CaptureRefusal) → RefusesCapture bytes x r
+    → required_len r ≡ None → RefusesCapture (bytes ++ more) x r
 refusal_local bytes more x r (file_header_refused m s other refused) e =
     let s2 = file_refused_local bytes more s refused e in
     file_header_refused m s (no_type bytes more s2.0 other) s2.1

@@ -16,7 +16,7 @@ use Rattle.ether_pcap.specs.Section as section_rows
 use Rattle.ether_pcap.specs.Options.{padded}
 use Rattle.ether_pcap.specs.Bodies.{BodyRefusal, InterfaceValue, IsInterface, RefusesInterface, EnhancedPacketValue, IsEnhancedPacket, RefusesEnhancedPacket, SimplePacketValue, IsSimplePacket, RefusesSimplePacket, captured_by}
 use Rattle.ether_pcap.specs.Bodies as body_rows
-use Rattle.ether_pcap.specs.Capture.{PacketValue, packet_of_record, CaptureInterfaceValue, described_by, Describes, IsAt, Expectation, Beginning, Records, Blocks, BlockKind, InterfaceDescription, SimplePacket, EnhancedPacket, Other, kind_of_block, IsBody, CaptureRefusal, File, Record, Section, Block, Body, NoInterface, TooManyInterfaces, RefusesBody, interface, too_many, simple_alone, simple, enhanced, enhanced_alone, Begins, file_header, file_record, first_section, section, block, Refuses, file_header_refused, file_record_refused, first_section_refused, section_refused, block_refused, body_refused, IsEnd, ended, refused, unit, packet}
+use Rattle.ether_pcap.specs.Capture.{PacketValue, packet_of_record, CaptureInterfaceValue, described_by, Describes, IsAt, CaptureExpectation, Beginning, Records, Blocks, BlockKind, InterfaceDescription, SimplePacket, EnhancedPacket, Other, kind_of_block, IsBody, CaptureRefusal, File, Record, Section, Block, Body, NoInterface, TooManyInterfaces, RefusesBody, interface, too_many, simple_alone, simple, enhanced, enhanced_alone, Begins, file_header, file_record, first_section, section, block, RefusesCapture, file_header_refused, file_record_refused, first_section_refused, section_refused, block_refused, body_refused, IsEnd, ended, refused, unit, packet}
 use Rattle.ether_pcap.specs.CaptureLaws.{Packets}
 use Rattle.ether_pcap.proofs.Blocks.{whole_block}
 use Rattle.ether_pcap.proofs.Options.{some_options}
@@ -368,10 +368,10 @@ some_body Other most order before body = inl (None, before, (refl, refl))
 
 -- ---- units
 
-abbrev Unit_of : Expectation → List ℕ → Type 0
+abbrev Unit_of : CaptureExpectation → List ℕ → Type 0
 Unit_of x bytes =
-    ((len : ℕ) × (p : Option PacketValue) × (y : Expectation) × Begins bytes x len p y)
-    ⊎ ((r : CaptureRefusal) × Refuses bytes x r)
+    ((len : ℕ) × (p : Option PacketValue) × (y : CaptureExpectation) × Begins bytes x len p y)
+    ⊎ ((r : CaptureRefusal) × RefusesCapture bytes x r)
 
 some_block_unit : (most : ℕ) (order : Order) (interfaces : List CaptureInterfaceValue) (bytes : List ℕ)
     → (HasSectionType bytes → ⊥) → Unit_of (Blocks most order interfaces) bytes
@@ -386,7 +386,7 @@ some_block_unit most order interfaces bytes other =
       ]
     ]
 
-pub some_unit : (x : Expectation) (bytes : List ℕ) → Unit_of x bytes
+pub some_unit : (x : CaptureExpectation) (bytes : List ℕ) → Unit_of x bytes
 some_unit (Beginning m) bytes =
     elim (cases_eq (number (slice_range bytes 0 4)) section_type) [
       | inl has ↦ elim (some_section bytes has) [
@@ -415,13 +415,13 @@ some_unit (Blocks m order interfaces) bytes =
 -- ---- files
 
 -- whether a file has ended
-pub at_end : (x : Expectation) (bytes : List ℕ) → IsEnd x bytes ⊎ (IsEnd x bytes → ⊥)
+pub at_end : (x : CaptureExpectation) (bytes : List ℕ) → IsEnd x bytes ⊎ (IsEnd x bytes → ⊥)
 at_end (Beginning m) bytes = inr (λ e. e.0)
 at_end (Records h) (b ∷ bytes) = inr (λ e. let n = e.1 in absurd cc)
 at_end (Blocks m order interfaces) (b ∷ bytes) = inr (λ e. let n = e.1 in absurd cc)
 at_end x [] = inl (tt, refl)
 
-goes_on : (x y : Expectation) (bytes : List ℕ) (len : ℕ) (p : Option PacketValue) → Begins bytes x len p y
+goes_on : (x y : CaptureExpectation) (bytes : List ℕ) (len : ℕ) (p : Option PacketValue) → Begins bytes x len p y
     → Packets y (drop len bytes) → Packets x bytes
 goes_on x y bytes len None begins c = record {
   packets = c.packets;
@@ -436,8 +436,8 @@ goes_on x y bytes len (Some p) begins c = record {
   has = packet x y bytes len p c.packets c.rest c.fault begins c.has;
 }
 
-step : (x : Expectation) (bytes : List ℕ)
-    → ((y : Expectation) (len : ℕ) → 0 < len → len ≤ length bytes → Packets y (drop len bytes)) → Packets x bytes
+step : (x : CaptureExpectation) (bytes : List ℕ)
+    → ((y : CaptureExpectation) (len : ℕ) → 0 < len → len ≤ length bytes → Packets y (drop len bytes)) → Packets x bytes
 step x bytes more =
     elim (at_end x bytes) [
       | inl end ↦ record { packets = []; rest = []; fault = None; has = ended x bytes end }
@@ -449,12 +449,12 @@ step x bytes more =
       ]
     ]
 
-within : (fuel : ℕ) (x : Expectation) (bytes : List ℕ) → length bytes ≤ fuel → Packets x bytes
+within : (fuel : ℕ) (x : CaptureExpectation) (bytes : List ℕ) → length bytes ≤ fuel → Packets x bytes
 within zero x bytes le = step x bytes (λ y len some small. absurd (omega arith))
 within (suc fuel) x bytes le =
     step x bytes
     (λ y len some small.
     within fuel y (drop len bytes) (let l = length-drop len bytes in omega (arith, l, le, some, small)))
 
-pub some_packets : (x : Expectation) (bytes : List ℕ) → Packets x bytes
+pub some_packets : (x : CaptureExpectation) (bytes : List ℕ) → Packets x bytes
 some_packets x bytes = within (length bytes) x bytes (omega arith)

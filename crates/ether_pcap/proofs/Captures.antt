@@ -13,7 +13,7 @@ use Rattle.ether_pcap.specs.Options.{OptionValue, HasOptions, value_of, byte_of,
 use Rattle.ether_pcap.specs.Bodies.{IsInterface}
 use Rattle.ether_pcap.specs.FileHeader.{FileHeaderValue}
 use Rattle.ether_pcap.specs.Record.{RecordValue, BeginsRecord, record_len}
-use Rattle.ether_pcap.specs.Capture.{PacketValue, packet_of_record, fcs_bytes, Describes, CaptureInterfaceValue, IsAt, Beginning, Records, Blocks, Begins, Refuses, Section, file_record, first_section, section, first_section_refused, section_refused}
+use Rattle.ether_pcap.specs.Capture.{PacketValue, packet_of_record, fcs_bytes, Describes, CaptureInterfaceValue, IsAt, Beginning, Records, Blocks, Begins, RefusesCapture, Section, file_record, first_section, section, first_section_refused, section_refused}
 use Rattle.ether_pcap.specs.PcapngViews.{interface_view}
 use Rattle.ether_pcap.specs.Block.{BlockValue}
 use Rattle.ether_pcap.specs.Views.{order_of}
@@ -83,7 +83,7 @@ section_unit most (progress.Section old) interfaces bytes order b len none is e 
 pub section_not_read : (most : ℕ) (p : Progress) (interfaces : List CaptureInterface) (bytes : List ℕ)
     (r : SectionRefusal)
     → ((h : FileHeader) → p ≡ progress.Classic h → ⊥)
-    → HasSectionType bytes → RefusesSection bytes r → Refuses bytes (expectation_of most p interfaces) (Section r)
+    → HasSectionType bytes → RefusesSection bytes r → RefusesCapture bytes (expectation_of most p interfaces) (Section r)
 section_not_read most progress.Nothing interfaces bytes r none has is = first_section_refused most r has is
 section_not_read most (progress.Classic h) interfaces bytes r none has is = absurd (none h refl)
 section_not_read most (progress.Section old) interfaces bytes r none has is =

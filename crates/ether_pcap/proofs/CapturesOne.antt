@@ -6,7 +6,7 @@ use Rattle.ether_pcap.specs.Numbers.{Order}
 use Rattle.ether_pcap.specs.Block.{BlockValue}
 use Rattle.ether_pcap.specs.Options.{OptionValue, HasOptions}
 use Rattle.ether_pcap.specs.Bodies.{EnhancedPacketValue, SimplePacketValue, IsSimplePacket, RefusesSimplePacket}
-use Rattle.ether_pcap.specs.Capture.{PacketValue, CaptureInterfaceValue, Describes, IsAt, packet_on, simple_packet_on, Expectation, Records, Blocks, BlockKind, InterfaceDescription, SimplePacket, EnhancedPacket, Other, kind_of_block, IsBody, CaptureRefusal, File, Record, Section, Block, Body, NoInterface, RefusesBody, interface, too_many, simple_alone, simple, enhanced, enhanced_alone, Begins, file_header, file_record, first_section, section, block, Refuses, file_header_refused, file_record_refused, first_section_refused, section_refused, block_refused, body_refused}
+use Rattle.ether_pcap.specs.Capture.{PacketValue, CaptureInterfaceValue, Describes, IsAt, packet_on, simple_packet_on, CaptureExpectation, Records, Blocks, BlockKind, InterfaceDescription, SimplePacket, EnhancedPacket, Other, kind_of_block, IsBody, CaptureRefusal, File, Record, Section, Block, Body, NoInterface, RefusesBody, interface, too_many, simple_alone, simple, enhanced, enhanced_alone, Begins, file_header, file_record, first_section, section, block, RefusesCapture, file_header_refused, file_record_refused, first_section_refused, section_refused, block_refused, body_refused}
 use Rattle.ether_pcap.proofs.FileHeaders.{one_header, apart, refused_once}
 use Rattle.ether_pcap.proofs.Records.{record_apart, refusal_one}
 use Rattle.ether_pcap.proofs.Blocks.{block_one, block_apart, block_refusal_one}
@@ -118,7 +118,7 @@ body_refusal_one kind most order before body r s h k = refl
 
 -- ---- units
 
-pub unit_one : (bytes : List ℕ) (x y z : Expectation) (len n : ℕ) (p q : Option PacketValue) → IsBytes bytes
+pub unit_one : (bytes : List ℕ) (x y z : CaptureExpectation) (len n : ℕ) (p q : Option PacketValue) → IsBytes bytes
     → Begins bytes x len p y → Begins bytes x n q z → (len ≡ n) × (p ≡ q) × (y ≡ z)
 unit_one bytes x y z len n p q ok (file_header m h other is) (file_header m2 k other2 is2) =
     (refl, refl, ap Records (one_header bytes h k ok is is2))
@@ -144,8 +144,8 @@ unit_one bytes x y z len n p q ok (block m order interfaces after packet b other
     let both = body_one (kind_of_block b.block_type) m order interfaces b.body packet packet2 after after2 is same in
     (ap (λ (v : BlockValue). 12 + length v.body) e, both.0, ap (Blocks m order) both.1)
 
-pub unit_apart : (bytes : List ℕ) (x y : Expectation) (len : ℕ) (p : Option PacketValue) (r : CaptureRefusal)
-    → IsBytes bytes → Begins bytes x len p y → Refuses bytes x r → ⊥
+pub unit_apart : (bytes : List ℕ) (x y : CaptureExpectation) (len : ℕ) (p : Option PacketValue) (r : CaptureRefusal)
+    → IsBytes bytes → Begins bytes x len p y → RefusesCapture bytes x r → ⊥
 unit_apart bytes x y len p r ok (file_header m h other is) (file_header_refused m2 s other2 refused) =
     apart bytes h s ok is refused
 unit_apart bytes x y len p r ok (file_header m h other is) (first_section_refused m2 s has refused) = other has
@@ -175,8 +175,8 @@ unit_apart bytes x y len p r ok (block m order interfaces after packet b other b
     (subst (λ (v : BlockValue). RefusesBody m order interfaces v.body (kind_of_block v.block_type) s) (sym e) refused)
     is
 
-pub unit_refusal_one : (bytes : List ℕ) (x : Expectation) (r s : CaptureRefusal) → IsBytes bytes → Refuses bytes x r
-    → Refuses bytes x s → r ≡ s
+pub unit_refusal_one : (bytes : List ℕ) (x : CaptureExpectation) (r s : CaptureRefusal) → IsBytes bytes → RefusesCapture bytes x r
+    → RefusesCapture bytes x s → r ≡ s
 unit_refusal_one bytes x r s ok (file_header_refused m a other refused) (file_header_refused m2 b other2 refused2) =
     ap File (refused_once bytes a b ok refused refused2)
 unit_refusal_one bytes x r s ok (file_header_refused m a other refused) (first_section_refused m2 b has refused2) =

@@ -9,7 +9,7 @@ use Rattle.ether_pcap.specs.Block.{BlockValue, BeginsBlock}
 use Rattle.ether_pcap.specs.Section.{HasSectionType, IsSection}
 use Rattle.ether_pcap.specs.Bodies.{captured_by, IsSimplePacket}
 use Rattle.ether_pcap.specs.Writing.{bytes_of}
-use Rattle.ether_pcap.specs.Capture.{PacketValue, IsWithinSnap, packet_of_record, packet_on, simple_packet_on, CaptureInterfaceValue, Describes, IsAt, Expectation, Beginning, Records, Blocks, BlockKind, InterfaceDescription, SimplePacket, EnhancedPacket, Other, kind_of_block, IsBody, HasBegun, Begins, file_header, file_record, first_section, section, block}
+use Rattle.ether_pcap.specs.Capture.{PacketValue, IsWithinSnap, packet_of_record, packet_on, simple_packet_on, CaptureInterfaceValue, Describes, IsAt, CaptureExpectation, Beginning, Records, Blocks, BlockKind, InterfaceDescription, SimplePacket, EnhancedPacket, Other, kind_of_block, IsBody, HasBegun, Begins, file_header, file_record, first_section, section, block}
 use Rattle.ether_pcap.specs.Editing.{EditedValue, edited_block, edited_unit}
 use Rattle.ether_pcap.specs.CopiedUnits.{ModeValue, Exact, Changed, raised_len, raised_header, raised_interface, expected_in, with_bytes, no_section_len, changed_block, changed_unit, other_unit, packet_in, is_kept, packet_unit, unit_after, packet_after}
 use Rattle.ether_pcap.proofs.CaptureLengths.{unit_some}
@@ -20,7 +20,7 @@ use Rattle.ether_pcap.proofs.WithBytes.{length-with_bytes, raised_none, raised_r
 -- ---- lengths
 
 -- what a unit has at least, by what is expected after it
-abbrev pub HasRoom : Expectation → List ℕ → Type 0
+abbrev pub HasRoom : CaptureExpectation → List ℕ → Type 0
 HasRoom (Beginning most) bytes = ⊥
 HasRoom (Records h) bytes = 24 ≤ length bytes
 HasRoom (Blocks most order interfaces) bytes =
@@ -34,7 +34,7 @@ interface_room InterfaceDescription most order before after body p e (i, d, lt, 
 interface_room kind most order before after body p e is = absurd cc
 
 -- a unit without a packet
-room_if : (bytes : List ℕ) (x y : Expectation) (len : ℕ) (p : Option PacketValue) → p ≡ None
+room_if : (bytes : List ℕ) (x y : CaptureExpectation) (len : ℕ) (p : Option PacketValue) → p ≡ None
     → Begins bytes x len p y → HasRoom y bytes
 room_if bytes x y len p e (file_header m h other is) = is.len
 room_if bytes x y len p e (file_record h r is) = absurd cc
@@ -42,13 +42,13 @@ room_if bytes x y len p e (first_section m order b is) = search rules
 room_if bytes x y len p e (section m order next interfaces b is) = search rules
 room_if bytes x y len p e (block m order interfaces after q b other begins body) = search rules
 
-pub unit_room : (bytes : List ℕ) (x y : Expectation) (len : ℕ) → Begins bytes x len None y → HasRoom y bytes
+pub unit_room : (bytes : List ℕ) (x y : CaptureExpectation) (len : ℕ) → Begins bytes x len None y → HasRoom y bytes
 unit_room bytes x y len begins = room_if bytes x y len None refl begins
 
 -- ---- units without a packet
 
 -- A unit of the copy; or nothing, where the same is expected as before.
-abbrev pub InCopy : ModeValue → (bytes : List ℕ) → (x y : Expectation) → Type 0
+abbrev pub InCopy : ModeValue → (bytes : List ℕ) → (x y : CaptureExpectation) → Type 0
 InCopy mode bytes x y =
     ((other_unit mode y bytes ≡ []) × (y ≡ x))
     ⊎ Begins (other_unit mode y bytes) (expected_in mode x) (length (other_unit mode y bytes)) None (expected_in mode y)
@@ -68,11 +68,11 @@ module _ (raise : ℕ) where
   raised interfaces = map (raised_interface raise) interfaces
 
   -- a unit of the copy, by its length
-  as_unit : (new unit : List ℕ) (x y : Expectation) (n : ℕ) → new ≡ unit → n ≡ length new
+  as_unit : (new unit : List ℕ) (x y : CaptureExpectation) (n : ℕ) → new ≡ unit → n ≡ length new
       → Begins new x n None y → Begins unit x (length unit) None y
   as_unit new unit x y n same len begins = search rules
 
-  section_unit : (bytes : List ℕ) (x z : Expectation) (m n : ℕ) (order : Order) (b : BlockValue)
+  section_unit : (bytes : List ℕ) (x z : CaptureExpectation) (m n : ℕ) (order : Order) (b : BlockValue)
       → n ≡ length bytes → n ≡ 12 + length b.body → IsSection bytes order b
       → ((new : List ℕ) (c : BlockValue) → IsSection new order c → Begins new z (12 + length c.body) None (Blocks m order []))
       → Begins (changed_unit raise (Blocks m order []) bytes) z
@@ -178,7 +178,7 @@ module _ (raise : ℕ) where
       not_one : field order bytes 0 4 ≡ 1 → ⊥
       not_one one = absurd cc
 
-  changed_if : (bytes : List ℕ) (x y : Expectation) (len : ℕ) (p : Option PacketValue) → p ≡ None
+  changed_if : (bytes : List ℕ) (x y : CaptureExpectation) (len : ℕ) (p : Option PacketValue) → p ≡ None
       → len ≡ length bytes → Begins bytes x len p y → InCopy (Changed raise) bytes x y
   changed_if bytes x y len p e f (file_header m h other is) =
       let new = with_bytes 16 (bytes_of h.order 4 (raised_len raise h.snap_len)) bytes in
@@ -202,13 +202,13 @@ module _ (raise : ℕ) where
       by_kind bytes m order interfaces after b (kind_of_block b.block_type) q e f other begins refl body
 
 -- a unit without a packet, which has all bytes
-pub unit_in_copy : (mode : ModeValue) (bytes : List ℕ) (x y : Expectation) → Begins bytes x (length bytes) None y
+pub unit_in_copy : (mode : ModeValue) (bytes : List ℕ) (x y : CaptureExpectation) → Begins bytes x (length bytes) None y
     → InCopy mode bytes x y
 unit_in_copy Exact bytes x y begins = inr begins
 unit_in_copy (Changed raise) bytes x y begins = changed_if raise bytes x y (length bytes) None refl refl begins
 
 -- .. which is not left out at the beginning of a file
-pub some_in_copy : (mode : ModeValue) (bytes : List ℕ) (x y : Expectation) → Begins bytes x (length bytes) None y
+pub some_in_copy : (mode : ModeValue) (bytes : List ℕ) (x y : CaptureExpectation) → Begins bytes x (length bytes) None y
     → ¬ (HasBegun x) → other_unit mode y bytes ≡ [] → ⊥
 some_in_copy mode bytes x y begins first empty = grind (arith, unit_in_copy, begun, length, unit_some)
 
@@ -265,7 +265,7 @@ module _ (raise : ℕ) where
   )
   raised_body Other m order interfaces body p (e, f) kept = absurd cc
 
-  raised_unit : (x : Expectation) (u : List ℕ) (p : PacketValue) → Begins u x (length u) (Some p) x
+  raised_unit : (x : CaptureExpectation) (u : List ℕ) (p : PacketValue) → Begins u x (length u) (Some p) x
       → packet_unit (Changed raise) x p u ≡ Some u
       → Begins u (expected_in (Changed raise) x) (length u) (Some (packet_in (Changed raise) p))
       (expected_in (Changed raise) x)
@@ -295,7 +295,7 @@ module _ (raise : ℕ) where
   kept_edited (EnhancedPacket n) order m e u new p is = refl
   kept_edited h order m e u new p is = absurd (search rules)
 
-  edited_unit_kept : (x : Expectation) (u new : List ℕ) (p : PacketValue) (e : EditedValue)
+  edited_unit_kept : (x : CaptureExpectation) (u new : List ℕ) (p : PacketValue) (e : EditedValue)
       → edited_unit x (length p.packet) e u ≡ Some new
       → (packet_unit (Changed raise) x p u ≡ Some u)
       × (edited_unit (expected_in (Changed raise) x) (length p.packet) e u ≡ Some new)
@@ -304,7 +304,7 @@ module _ (raise : ℕ) where
   edited_unit_kept (Blocks m order interfaces) u new p e is = search rules
 
 -- the unit of a packet is one of the copy
-pub packet_in_copy : (mode : ModeValue) (x : Expectation) (u new : List ℕ) (p : PacketValue) (o : Option EditedValue)
+pub packet_in_copy : (mode : ModeValue) (x : CaptureExpectation) (u new : List ℕ) (p : PacketValue) (o : Option EditedValue)
     → Begins u x (length u) (Some p) x → unit_after mode x p o u ≡ Some new
     → Begins new (expected_in mode x) (length new) (Some (packet_after mode p o)) (expected_in mode x)
 packet_in_copy Exact x u new p None begins is =
@@ -316,7 +316,7 @@ packet_in_copy (Changed raise) x u new p None begins is =
     (expected_in (Changed raise) x)) same
     (raised_unit raise x u p begins (is ∙ ap (λ (l : List ℕ). Some l) (sym same)))
   where
-    same_unit : (x : Expectation) (p : PacketValue) (u new : List ℕ) → packet_unit (Changed raise) x p u ≡ Some new
+    same_unit : (x : CaptureExpectation) (p : PacketValue) (u new : List ℕ) → packet_unit (Changed raise) x p u ≡ Some new
         → u ≡ new
     same_unit (Beginning m) p u new is = ap (λ (s : Option (List ℕ)). unwrap_or s u) is
     same_unit (Records h) p u new is = ap (λ (s : Option (List ℕ)). unwrap_or s u) is
@@ -341,12 +341,12 @@ simple_if SimplePacket raise m order interfaces body p (i, v, at, is, f, g) e =
     ap (λ (q : PacketValue). q.time) (same_packet p (simple_packet_on i v) f)
 simple_if kind raise m order interfaces body p is e = absurd cc
 
-left_out : (mode : ModeValue) (x : Expectation) (u : List ℕ) (p : PacketValue) → Begins u x (length u) (Some p) x
+left_out : (mode : ModeValue) (x : CaptureExpectation) (u : List ℕ) (p : PacketValue) → Begins u x (length u) (Some p) x
     → packet_unit mode x p u ≡ None → p.time ≡ None
 left_out (Changed raise) (Blocks m order interfaces) u p begins is = search (rules, block_of_unit, left_if, simple_if)
 left_out mode x u p begins is = absurd cc
 
-pub why_not_copied : (mode : ModeValue) (x : Expectation) (u : List ℕ) (p : PacketValue) (o : Option EditedValue)
+pub why_not_copied : (mode : ModeValue) (x : CaptureExpectation) (u : List ℕ) (p : PacketValue) (o : Option EditedValue)
     → Begins u x (length u) (Some p) x → unit_after mode x p o u ≡ None → WhyNot p o
 why_not_copied mode x u p None begins is = inl (left_out mode x u p begins is)
 why_not_copied mode x u p (Some e) begins is = search (rules, why_not_edited)

@@ -3,7 +3,7 @@ use Rattle.std.proofs.Common.{◌≡◌, ◌≢◌, ◌⊎◌, ℕ, zero, suc, �
 use Rattle.std.specs.Prelude.{Option, IsTrue, All, take, ⊤}
 use Rattle.std.proofs.lemmas.List.{length-take-le, take-append-drop, drop_at}
 use Rattle.std.proofs.lemmas.List.Elements.{All-cons, All-head, All-tail}
-use Rattle.ether_pcap.specs.Capture.{PacketValue, IsWithinSnap, Expectation, CaptureRefusal, HasBegun, Begins, Refuses, IsEnd, HasPackets}
+use Rattle.ether_pcap.specs.Capture.{PacketValue, IsWithinSnap, CaptureExpectation, CaptureRefusal, HasBegun, Begins, RefusesCapture, IsEnd, HasPackets}
 use Rattle.ether_pcap.specs.Capture as packets
 use Rattle.ether_pcap.specs.Editing.{EditedValue}
 use Rattle.ether_pcap.specs.CopiedUnits.{ModeValue, Exact, Changed, expected_in, other_unit, unit_after, packet_after}
@@ -19,7 +19,7 @@ use Rattle.ether_pcap.proofs.PacketUnits.{same_after, begun, begun_before, packe
 -- ---- units
 
 -- a unit needs its own bytes alone
-unit_taken : (bytes : List ℕ) (x y : Expectation) (len : ℕ) (p : Option PacketValue) → Begins bytes x len p y
+unit_taken : (bytes : List ℕ) (x y : CaptureExpectation) (len : ℕ) (p : Option PacketValue) → Begins bytes x len p y
     → Begins (take len bytes) x len p y × (length (take len bytes) ≡ len)
 unit_taken bytes x y len p begins =
     let front = take len bytes in
@@ -28,17 +28,17 @@ unit_taken bytes x y len p begins =
     (unit_alone front (drop len bytes) x y len p (omega (arith, long)) whole, long)
 
 -- a unit without a packet, by its own bytes
-pub other_taken : (bytes : List ℕ) (x y : Expectation) (len : ℕ) → Begins bytes x len None y
+pub other_taken : (bytes : List ℕ) (x y : CaptureExpectation) (len : ℕ) → Begins bytes x len None y
     → Begins (take len bytes) x (length (take len bytes)) None y
 other_taken bytes x y len begins = search (rules, unit_taken)
 
 -- the unit of a packet, by its own bytes
-pub packet_taken : (bytes : List ℕ) (x y : Expectation) (len : ℕ) (p : PacketValue) → Begins bytes x len (Some p) y
+pub packet_taken : (bytes : List ℕ) (x y : CaptureExpectation) (len : ℕ) (p : PacketValue) → Begins bytes x len (Some p) y
     → Begins (take len bytes) x (length (take len bytes)) (Some p) x
 packet_taken bytes x y len p begins = search (rules, unit_taken, same_after)
 
 -- a packet that is copied
-pub packet_copied : (mode : ModeValue) (bytes front copy : List ℕ) (x y : Expectation) (len : ℕ) (p : PacketValue)
+pub packet_copied : (mode : ModeValue) (bytes front copy : List ℕ) (x y : CaptureExpectation) (len : ℕ) (p : PacketValue)
     (o : Option EditedValue)
     → Begins bytes x len (Some p) y → unit_after mode x p o (take len bytes) ≡ Some front
     → Begins (front ++ copy) (expected_in mode x) (length front) (Some (packet_after mode p o)) (expected_in mode y)
@@ -47,7 +47,7 @@ packet_copied mode bytes front copy x y len p o begins is =
 
 -- ---- all packets up to what is left
 
-to_unit : (x y : Expectation) (bytes : List ℕ) (len : ℕ) (ps : List PacketValue) (rest : List ℕ)
+to_unit : (x y : CaptureExpectation) (bytes : List ℕ) (len : ℕ) (ps : List PacketValue) (rest : List ℕ)
     (fault : Option CopyFault)
     → Begins bytes x len None y → HasPacketsTo y (drop len bytes) ps rest fault → HasPacketsTo x bytes ps rest fault
 to_unit x y bytes len ps rest None begins has = packets.unit x y bytes len ps rest None begins has
@@ -55,7 +55,7 @@ to_unit x y bytes len ps rest (Some (Refused r)) begins has = packets.unit x y b
 to_unit x y bytes len ps rest (Some (NotEdited q)) begins (more, left, fault, has) =
     (more, left, fault, packets.unit x y bytes len (ps ++ q ∷ more) left fault begins has)
 
-to_packet : (x y : Expectation) (bytes : List ℕ) (len : ℕ) (p : PacketValue) (ps : List PacketValue) (rest : List ℕ)
+to_packet : (x y : CaptureExpectation) (bytes : List ℕ) (len : ℕ) (p : PacketValue) (ps : List PacketValue) (rest : List ℕ)
     (fault : Option CopyFault)
     → Begins bytes x len (Some p) y → HasPacketsTo y (drop len bytes) ps rest fault
     → HasPacketsTo x bytes (p ∷ ps) rest fault
@@ -65,7 +65,7 @@ to_packet x y bytes len p ps rest (Some (Refused r)) begins has =
 to_packet x y bytes len p ps rest (Some (NotEdited q)) begins (more, left, fault, has) =
     (more, left, fault, packets.packet x y bytes len p (ps ++ q ∷ more) left fault begins has)
 
-to_not_edited : (x y : Expectation) (bytes : List ℕ) (len : ℕ) (p : PacketValue) → Begins bytes x len (Some p) y
+to_not_edited : (x y : CaptureExpectation) (bytes : List ℕ) (len : ℕ) (p : PacketValue) → Begins bytes x len (Some p) y
     → HasPacketsTo x bytes [] bytes (Some (NotEdited p))
 to_not_edited x y bytes len p begins =
     let s = some_packets y (drop len bytes) in
@@ -75,7 +75,7 @@ to_not_edited x y bytes len p begins =
 
 module _ (mode : ModeValue) (Keeps : PacketValue → Type 0) (Edits : PacketValue → Option EditedValue → Type 0) where
   -- a unit that is copied, before what follows it in the copy
-  unit_read : (x y : Expectation) (bytes others : List ℕ) (len : ℕ) (packets : List PacketValue)
+  unit_read : (x y : CaptureExpectation) (bytes others : List ℕ) (len : ℕ) (packets : List PacketValue)
       → Begins bytes x len None y → HasPackets (expected_in mode y) others packets [] None
       → HasPackets (expected_in mode x) (other_unit mode y (take len bytes) ++ others) packets [] None
   unit_read x y bytes others len ps begins has =
@@ -83,7 +83,7 @@ module _ (mode : ModeValue) (Keeps : PacketValue → Type 0) (Edits : PacketValu
       elim (unit_in_copy mode (take len bytes) x y (other_taken bytes x y len begins)) [
         | inl left ↦
             subst (λ (l : List ℕ). HasPackets (expected_in mode x) (l ++ others) ps [] None) (sym left.0)
-            (subst (λ (z : Expectation). HasPackets (expected_in mode z) others ps [] None) left.1 has)
+            (subst (λ (z : CaptureExpectation). HasPackets (expected_in mode z) others ps [] None) left.1 has)
         | inr is ↦
             packets.unit (expected_in mode x) (expected_in mode y) (unit ++ others) (length unit) ps [] None
             (unit_local unit others (expected_in mode x) (expected_in mode y) (length unit) None is)
@@ -92,13 +92,13 @@ module _ (mode : ModeValue) (Keeps : PacketValue → Type 0) (Edits : PacketValu
       ]
 
   -- what has begun, has begun in the copy
-  begun_in : (m : ModeValue) (x : Expectation) → HasBegun x → HasBegun (expected_in m x)
+  begun_in : (m : ModeValue) (x : CaptureExpectation) → HasBegun x → HasBegun (expected_in m x)
   begun_in Exact x is = is
   begun_in (Changed raise) (packets.Beginning most) is = is
   begun_in (Changed raise) (packets.Records h) is = tt
   begun_in (Changed raise) (packets.Blocks most order interfaces) is = tt
 
-  pub copy_read : (x : Expectation) (bytes copy : List ℕ) (kept edited : List PacketValue) (rest : List ℕ)
+  pub copy_read : (x : CaptureExpectation) (bytes copy : List ℕ) (kept edited : List PacketValue) (rest : List ℕ)
       (fault : Option CopyFault) → Copies mode Keeps Edits x bytes copy kept edited rest fault → IsRead mode x copy edited
   copy_read x bytes copy kept edited rest fault (ended _ _ end) some =
       packets.ended (expected_in mode x) [] (begun_in mode x end.0, refl)
@@ -118,11 +118,11 @@ module _ (mode : ModeValue) (Keeps : PacketValue → Type 0) (Edits : PacketValu
       (sym (drop_at front others (length front) refl))
       (copy_read y (drop len bytes) others ps qs rest fault copies (inl (begun bytes x y len (Some p) begins))))
   copy_read x bytes copy kept edited rest fault (leaves _ y _ _ len p _ _ _ _ begins not_kept copies) some =
-      subst (λ (z : Expectation). HasPackets (expected_in mode z) copy edited [] None)
+      subst (λ (z : CaptureExpectation). HasPackets (expected_in mode z) copy edited [] None)
       (same_after bytes x y len p begins)
       (copy_read y (drop len bytes) copy kept edited rest fault copies (inl (begun bytes x y len (Some p) begins)))
 
-  pub copy_edits : (x : Expectation) (bytes copy : List ℕ) (kept edited : List PacketValue) (rest : List ℕ)
+  pub copy_edits : (x : CaptureExpectation) (bytes copy : List ℕ) (kept edited : List PacketValue) (rest : List ℕ)
       (fault : Option CopyFault) → Copies mode Keeps Edits x bytes copy kept edited rest fault
       → AreEdited mode Edits kept edited
   copy_edits x bytes copy kept edited rest fault (ended _ _ end) = none_edited
@@ -135,7 +135,7 @@ module _ (mode : ModeValue) (Keeps : PacketValue → Type 0) (Edits : PacketValu
   copy_edits x bytes copy kept edited rest fault (leaves _ y _ _ len p _ _ _ _ begins not_kept copies) =
       copy_edits y (drop len bytes) copy kept edited rest fault copies
 
-  pub copy_source : (x : Expectation) (bytes copy : List ℕ) (kept edited : List PacketValue) (rest : List ℕ)
+  pub copy_source : (x : CaptureExpectation) (bytes copy : List ℕ) (kept edited : List PacketValue) (rest : List ℕ)
       (fault : Option CopyFault)
       → Copies mode Keeps Edits x bytes copy kept edited rest fault → HasSource Keeps x bytes kept rest fault
   copy_source x bytes copy kept edited rest fault (ended _ _ end) =
@@ -167,7 +167,7 @@ module _ (mode : ModeValue) (Keeps : PacketValue → Type 0) (Edits : PacketValu
       }
 
   -- if nothing of a file is copied, nothing of it was read, for a fault
-  pub copy_nothing : (x : Expectation) (bytes copy : List ℕ) (kept edited : List PacketValue) (rest : List ℕ)
+  pub copy_nothing : (x : CaptureExpectation) (bytes copy : List ℕ) (kept edited : List PacketValue) (rest : List ℕ)
       (fault : Option CopyFault)
       → Copies mode Keeps Edits x bytes copy kept edited rest fault → ¬ (HasBegun x) → copy ≡ []
       → (kept ≡ []) × (rest ≡ bytes) × (fault ≢ None)
@@ -189,7 +189,7 @@ module _ (mode : ModeValue) (Keeps : PacketValue → Type 0) (Edits : PacketValu
       absurd (first (begun_before bytes x y len p begins))
 
   -- where a packet can't be edited
-  stopped_at : (x : Expectation) (bytes copy : List ℕ) (kept edited : List PacketValue) (rest : List ℕ)
+  stopped_at : (x : CaptureExpectation) (bytes copy : List ℕ) (kept edited : List PacketValue) (rest : List ℕ)
       (fault : Option CopyFault) (q : PacketValue)
       → Copies mode Keeps Edits x bytes copy kept edited rest fault → fault ≡ Some (NotEdited q) → IsNotEdited mode Keeps Edits rest q
   stopped_at x bytes copy kept edited rest fault q (ended _ _ end) e = absurd cc
@@ -203,7 +203,7 @@ module _ (mode : ModeValue) (Keeps : PacketValue → Type 0) (Edits : PacketValu
   stopped_at x bytes copy kept edited rest fault q (leaves _ y _ _ len p _ _ _ _ begins not_kept copies) e =
       stopped_at y (drop len bytes) copy kept edited rest fault q copies e
 
-  pub copy_stopped : (x : Expectation) (bytes copy : List ℕ) (kept edited : List PacketValue) (rest : List ℕ) (p : PacketValue)
+  pub copy_stopped : (x : CaptureExpectation) (bytes copy : List ℕ) (kept edited : List PacketValue) (rest : List ℕ) (p : PacketValue)
       → Copies mode Keeps Edits x bytes copy kept edited rest (Some (NotEdited p)) → IsNotEdited mode Keeps Edits rest p
   copy_stopped x bytes copy kept edited rest p copies =
       stopped_at x bytes copy kept edited rest (Some (NotEdited p)) p copies refl
@@ -220,7 +220,7 @@ module _ (raise : ℕ) (Keeps : PacketValue → Type 0) (Edits : PacketValue →
   packet_within p (Some e) few room is =
       raised_within raise p (packet_after (Changed raise) p (Some e)) is refl (few e refl) room
 
-  pub copy_within : (x : Expectation) (bytes copy : List ℕ) (kept edited : List PacketValue) (rest : List ℕ)
+  pub copy_within : (x : CaptureExpectation) (bytes copy : List ℕ) (kept edited : List PacketValue) (rest : List ℕ)
       (fault : Option CopyFault) → Copies (Changed raise) Keeps Edits x bytes copy kept edited rest fault
       → EditsWithin raise Edits → All IsWithinSnap kept → All IsWithinSnap edited
   copy_within x bytes copy kept edited rest fault (ended _ _ end) few all = all
@@ -249,7 +249,7 @@ module _ (Edits : PacketValue → Option EditedValue → Type 0) (stays : EditsN
       search rules
 
   -- a unit stays
-  unit_unedited : (x : Expectation) (p : PacketValue) (o : Option EditedValue) (bytes front : List ℕ) → Edits p o
+  unit_unedited : (x : CaptureExpectation) (p : PacketValue) (o : Option EditedValue) (bytes front : List ℕ) → Edits p o
       → unit_after Exact x p o bytes ≡ Some front → bytes ≡ front
   unit_unedited x p o bytes front edits fits = search rules
 
@@ -258,7 +258,7 @@ module _ (Edits : PacketValue → Option EditedValue → Type 0) (stays : EditsN
   joined bytes copy rest len e = search (rules, append_assoc, take-append-drop)
 
   -- with all packets, it is the file itself
-  pub copy_all : (x : Expectation) (bytes copy : List ℕ) (kept edited : List PacketValue) (rest : List ℕ)
+  pub copy_all : (x : CaptureExpectation) (bytes copy : List ℕ) (kept edited : List PacketValue) (rest : List ℕ)
       (fault : Option CopyFault) → Copies Exact (λ p. ⊤) Edits x bytes copy kept edited rest fault → copy ++ rest ≡ bytes
   copy_all x bytes copy kept edited rest fault (ended _ _ end) = sym end.1
   copy_all x bytes copy kept edited rest fault (refused _ _ r more is) = refl
@@ -279,11 +279,11 @@ decided false = inr (λ e. absurd cc)
 
 module _ (mode : ModeValue) (test : PacketValue → Bool) (edits : PacketValue → Option EditedValue → Bool)
     (once : EditsOnce (λ p o. IsTrue (edits p o))) where
-  abbrev CopyOf : Expectation → List ℕ → Type 0
+  abbrev CopyOf : CaptureExpectation → List ℕ → Type 0
   CopyOf = Copy mode test edits
 
   -- a packet that is kept
-  goes_on_kept : (x y : Expectation) (bytes : List ℕ) (len : ℕ) (p : PacketValue) (o : Option EditedValue)
+  goes_on_kept : (x y : CaptureExpectation) (bytes : List ℕ) (len : ℕ) (p : PacketValue) (o : Option EditedValue)
       (front : Option (List ℕ))
       → Begins bytes x len (Some p) y → IsTrue (test p) → IsTrue (edits p o)
       → unit_after mode x p o (take len bytes) ≡ front
@@ -305,7 +305,7 @@ module _ (mode : ModeValue) (test : PacketValue → Bool) (edits : PacketValue �
     copies = keeps x y bytes front c.copy len p o c.kept c.edited c.rest c.fault begins is holds fits c.copies;
   }
 
-  goes_on : (x y : Expectation) (bytes : List ℕ) (len : ℕ) (p : Option PacketValue) → IsBytes bytes
+  goes_on : (x y : CaptureExpectation) (bytes : List ℕ) (len : ℕ) (p : Option PacketValue) → IsBytes bytes
       → Begins bytes x len p y → CopyOf y (drop len bytes) → CopyOf x bytes
   goes_on x y bytes len None ok begins c = record {
     copy = other_unit mode y (take len bytes) ++ c.copy;
@@ -330,8 +330,8 @@ module _ (mode : ModeValue) (test : PacketValue → Bool) (edits : PacketValue �
         }
       ]
 
-  step : (x : Expectation) (bytes : List ℕ) → IsBytes bytes
-      → ((y : Expectation) (len : ℕ) → 0 < len → len ≤ length bytes → CopyOf y (drop len bytes))
+  step : (x : CaptureExpectation) (bytes : List ℕ) → IsBytes bytes
+      → ((y : CaptureExpectation) (len : ℕ) → 0 < len → len ≤ length bytes → CopyOf y (drop len bytes))
       → CopyOf x bytes
   step x bytes ok more =
       elim (at_end x bytes) [
@@ -352,7 +352,7 @@ module _ (mode : ModeValue) (test : PacketValue → Bool) (edits : PacketValue �
         ]
       ]
 
-  within : (fuel : ℕ) (x : Expectation) (bytes : List ℕ) → IsBytes bytes → length bytes ≤ fuel → CopyOf x bytes
+  within : (fuel : ℕ) (x : CaptureExpectation) (bytes : List ℕ) → IsBytes bytes → length bytes ≤ fuel → CopyOf x bytes
   within zero x bytes ok le = step x bytes ok (λ y len some small. absurd (omega arith))
   within (suc fuel) x bytes ok le =
       step x bytes ok
@@ -361,6 +361,6 @@ module _ (mode : ModeValue) (test : PacketValue → Bool) (edits : PacketValue �
       (let l = length-drop len bytes in omega (arith, l, le, some, small)))
 
 pub some_copy : (mode : ModeValue) (test : PacketValue → Bool) (edits : PacketValue → Option EditedValue → Bool)
-    (x : Expectation) (bytes : List ℕ)
+    (x : CaptureExpectation) (bytes : List ℕ)
     → IsBytes bytes → EditsOnce (λ p o. IsTrue (edits p o)) → Copy mode test edits x bytes
 some_copy mode test edits x bytes ok once = within mode test edits once (length bytes) x bytes ok (omega arith)

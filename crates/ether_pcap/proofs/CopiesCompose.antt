@@ -14,7 +14,7 @@ use Rattle.ether_pcap.specs.FileHeader.{FileHeaderValue}
 use Rattle.ether_pcap.specs.Section.{section_type, HasSectionType}
 use Rattle.ether_pcap.specs.CopiedUnits.{ModeValue, Changed, raised_len, raised_header, raised_interface, expected_in, with_bytes, changed_unit, other_unit, packet_in, is_kept, packet_unit, unit_after}
 use Rattle.ether_pcap.specs.Bodies.{captured_by}
-use Rattle.ether_pcap.specs.Capture.{PacketValue, packet_of_record, packet_on, simple_packet_on, CaptureInterfaceValue, Expectation, Beginning, Records, Blocks, BlockKind, InterfaceDescription, SimplePacket, EnhancedPacket, Other, kind_of_block, IsBody, HasBegun, Begins, HasPackets, file_header, file_record, block}
+use Rattle.ether_pcap.specs.Capture.{PacketValue, packet_of_record, packet_on, simple_packet_on, CaptureInterfaceValue, CaptureExpectation, Beginning, Records, Blocks, BlockKind, InterfaceDescription, SimplePacket, EnhancedPacket, Other, kind_of_block, IsBody, HasBegun, Begins, HasPackets, file_header, file_record, block}
 use Rattle.ether_pcap.specs.Editing.{EditedValue}
 use Rattle.ether_pcap.specs.Copies.{CopyFault, Copies, Refused, NotEdited, ended, refused, not_edited, unit, keeps, leaves, EditsOnce, Selected, one_kept, one_left, HasSource, CopiesBy, EditsNone, edits_none}
 use Rattle.ether_pcap.proofs.CaptureLocality.{unit_local}
@@ -86,7 +86,7 @@ module _ (most : ℕ) (order : Order) (interfaces : List CaptureInterfaceValue) 
         ]
       ]
 
-changed_twice : (y : Expectation) (bytes : List ℕ) → HasRoom y bytes
+changed_twice : (y : CaptureExpectation) (bytes : List ℕ) → HasRoom y bytes
     → (changed_unit 0 y bytes ≡ []) ⊎ (changed_unit 0 y (changed_unit 0 y bytes) ≡ changed_unit 0 y bytes)
 changed_twice (Beginning most) bytes room = inr refl
 changed_twice (Records h) bytes room =
@@ -103,7 +103,7 @@ abbrev AllFour : List CaptureInterfaceValue → Type 0
 AllFour interfaces = All (λ (i : CaptureInterfaceValue). IsFour i.snap_len) interfaces
 
 -- those of what is expected
-abbrev InRange : Expectation → Type 0
+abbrev InRange : CaptureExpectation → Type 0
 InRange (Beginning most) = ⊤
 InRange (Records h) = IsFour h.snap_len
 InRange (Blocks most order interfaces) = AllFour interfaces
@@ -144,7 +144,7 @@ same_all (i ∷ is) all =
     let others = same_all is (All-tail P i is all) in
     λ k. one k ∷ others k
 
-same_expected : (x : Expectation) → InRange x → expected_in (Changed 0) x ≡ x
+same_expected : (x : CaptureExpectation) → InRange x → expected_in (Changed 0) x ≡ x
 same_expected (Beginning most) ok = refl
 same_expected (Records h) ok = ap Records (same_header h ok)
 same_expected (Blocks most order interfaces) ok = ap (Blocks most order) (same_all interfaces ok)
@@ -172,7 +172,7 @@ body_range InterfaceDescription most order before after body p ok (i, d, lt, e, 
     subst AllFour (sym f) (All-append P before (i ∷ []) all (All-cons P i [] four (All-nil P)))
 body_range h most order before after body p ok k all = search rules
 
-range_after : (bytes : List ℕ) (x y : Expectation) (len : ℕ) (p : Option PacketValue) → IsBytes bytes
+range_after : (bytes : List ℕ) (x y : CaptureExpectation) (len : ℕ) (p : Option PacketValue) → IsBytes bytes
     → Begins bytes x len p y → InRange x → InRange y
 range_after bytes x y len p ok (file_header m h other is) range =
     subst IsFour is.snap_len (four_field h.order bytes 16 ok (let long : 24 ≤ length bytes = is.len in omega (arith, long)))
@@ -210,7 +210,7 @@ part_of_take bytes n j le =
     (part_of_front bytes n 0 j (omega arith) le)
 
 -- a packet has a snap length of four bytes, and its unit is kept
-range_packet : (bytes : List ℕ) (x y : Expectation) (len : ℕ) (o : Option PacketValue) (p : PacketValue) → o ≡ Some p
+range_packet : (bytes : List ℕ) (x y : CaptureExpectation) (len : ℕ) (o : Option PacketValue) (p : PacketValue) → o ≡ Some p
     → Begins bytes x len o y → InRange x → IsFour p.snap_len × (packet_unit (Changed 0) x p (take len bytes) ≡ Some (take len bytes))
 range_packet bytes x y len o p some (file_record h r is) range =
     let same = same_packet (packet_of_record h r) p some in
@@ -232,7 +232,7 @@ take_front (b ∷ u) others = let more = take_front u others in λ i. b ∷ more
 -- what is kept by a test is kept by one that says the same
 pub copies_alike : (mode : ModeValue) (Keeps Also : PacketValue → Type 0) (Edits : PacketValue → Option EditedValue → Type 0)
     → ((p : PacketValue) → Keeps p ↔ Also p)
-    → (x : Expectation) (bytes copy : List ℕ) (kept edited : List PacketValue) (rest : List ℕ) (fault : Option CopyFault)
+    → (x : CaptureExpectation) (bytes copy : List ℕ) (kept edited : List PacketValue) (rest : List ℕ) (fault : Option CopyFault)
     → Copies mode Keeps Edits x bytes copy kept edited rest fault
     → Copies mode Also Edits x bytes copy kept edited rest fault
 copies_alike mode Keeps Also Edits same x bytes copy kept edited rest fault (ended _ _ end) = ended x bytes end
@@ -252,7 +252,7 @@ copies_alike mode Keeps Also Edits same x bytes copy kept edited rest fault (lea
 
 module _ (Edits : PacketValue → Option EditedValue → Type 0) (unedited : EditsNone Edits) (one_edit : EditsOnce Edits) where
   -- a packet that is not edited can be copied
-  never_stuck : (x y : Expectation) (bytes : List ℕ) (len : ℕ) (p : PacketValue) (o : Option EditedValue)
+  never_stuck : (x y : CaptureExpectation) (bytes : List ℕ) (len : ℕ) (p : PacketValue) (o : Option EditedValue)
       → Begins bytes x len (Some p) y → InRange x → Edits p o → unit_after (Changed 0) x p o (take len bytes) ≡ None → ⊥
   never_stuck x y bytes len p o begins range edits no_front =
       let found = range_packet bytes x y len (Some p) p refl begins range in
@@ -265,7 +265,7 @@ module _ (Edits : PacketValue → Option EditedValue → Type 0) (unedited : Edi
     abbrev Stays : Option CopyFault → (kept edited : List PacketValue) → Type 0
     Stays fault kept edited = ((q : PacketValue) → fault ≡ Some (NotEdited q) → ⊥) × (edited ≡ kept)
 
-    stay : (x : Expectation) (bytes copy : List ℕ) (kept edited : List PacketValue) (rest : List ℕ)
+    stay : (x : CaptureExpectation) (bytes copy : List ℕ) (kept edited : List PacketValue) (rest : List ℕ)
         (fault : Option CopyFault) → IsBytes bytes → InRange x
         → Copies (Changed 0) Keeps Edits x bytes copy kept edited rest fault → Stays fault kept edited
     stay x bytes copy kept edited rest fault ok range (ended _ _ end) = (λ q e. absurd cc, refl)
@@ -294,7 +294,7 @@ module _ (Edits : PacketValue → Option EditedValue → Type 0) (unedited : Edi
     first_chosen p packets (chosen, one_left _ _ _ not others) = (inr not, (chosen, others))
 
   module _ (First Second : PacketValue → Type 0) where
-    abbrev Selects : (PacketValue → Type 0) → Expectation → (bytes copy : List ℕ) → List PacketValue → (rest : List ℕ)
+    abbrev Selects : (PacketValue → Type 0) → CaptureExpectation → (bytes copy : List ℕ) → List PacketValue → (rest : List ℕ)
         → Option CopyFault → Type 0
     Selects Keeps x bytes copy chosen rest fault = Copies (Changed 0) Keeps Edits x bytes copy chosen chosen rest fault
 
@@ -302,14 +302,14 @@ module _ (Edits : PacketValue → Option EditedValue → Type 0) (unedited : Edi
     Both p = First p × Second p
 
     -- the copy of a copy, which is read if it has begun or is not empty, and the copy by both tests
-    pub record Composed (x : Expectation) (bytes between rest : List ℕ) (fault : Option CopyFault) : Type 0 where
+    pub record Composed (x : CaptureExpectation) (bytes between rest : List ℕ) (fault : Option CopyFault) : Type 0 where
       pub copy : List ℕ
       pub chosen : List PacketValue
       pub again : HasBegun x ⊎ (between ≢ []) → Selects Second x between copy chosen [] None
       pub whole : Selects Both x bytes copy chosen rest fault
 
     -- a unit before a copy
-    after_unit : (x y : Expectation) (u others copy : List ℕ) (chosen : List PacketValue)
+    after_unit : (x y : CaptureExpectation) (u others copy : List ℕ) (chosen : List PacketValue)
         → Begins u x (length u) None y → changed_unit 0 y u ≡ u → Selects Second y others copy chosen [] None
         → Selects Second x (u ++ others) (u ++ copy) chosen [] None
     after_unit x y u others copy chosen begins same selects =
@@ -320,7 +320,7 @@ module _ (Edits : PacketValue → Option EditedValue → Type 0) (unedited : Edi
         (subst (λ (l : List ℕ). Selects Second y l copy chosen [] None) (sym (drop_at u others (length u) refl)) selects))
 
     -- a packet before a copy
-    after_packet : (x y : Expectation) (u others copy : List ℕ) (p : PacketValue) (chosen : List PacketValue)
+    after_packet : (x y : CaptureExpectation) (u others copy : List ℕ) (p : PacketValue) (chosen : List PacketValue)
         → Begins (u ++ others) x (length u) (Some p) y → IsFour p.snap_len → packet_unit (Changed 0) x p u ≡ Some u
         → Second p → Edits p None → Selects Second y others copy chosen [] None
         → Selects Second x (u ++ others) (u ++ copy) (p ∷ chosen) [] None
@@ -333,7 +333,7 @@ module _ (Edits : PacketValue → Option EditedValue → Type 0) (unedited : Edi
         (subst (λ (l : List ℕ). Selects Second y l copy chosen [] None) (sym (drop_at u others (length u) refl)) selects))
 
     -- what is copied first, and then what is composed
-    on_unit : (x y : Expectation) (bytes others : List ℕ) (len : ℕ) (rest : List ℕ) (fault : Option CopyFault)
+    on_unit : (x y : CaptureExpectation) (bytes others : List ℕ) (len : ℕ) (rest : List ℕ) (fault : Option CopyFault)
         → Begins bytes x len None y → InRange x → InRange y
         → Composed y (drop len bytes) others rest fault
         → Composed x bytes (other_unit (Changed 0) y (take len bytes) ++ others) rest fault
@@ -348,11 +348,11 @@ module _ (Edits : PacketValue → Option EditedValue → Type 0) (unedited : Edi
           again = λ some. elim (unit_in_copy (Changed 0) b x y here) [
             | inl (none, same) ↦
                 subst (λ (l : List ℕ). Selects Second x (l ++ others) (l ++ r.copy) r.chosen [] None) (sym none)
-                (subst (λ (z : Expectation). Selects Second z others r.copy r.chosen [] None) same later)
+                (subst (λ (z : CaptureExpectation). Selects Second z others r.copy r.chosen [] None) same later)
             | inr is ↦
                 let from : Begins u x (length u) None y =
-                subst (λ (z : Expectation). Begins u z (length u) None y) (same_expected x ok)
-                (subst (λ (z : Expectation). Begins u (expected_in (Changed 0) x) (length u) None z) (same_expected y ok_after) is) in
+                subst (λ (z : CaptureExpectation). Begins u z (length u) None y) (same_expected x ok)
+                (subst (λ (z : CaptureExpectation). Begins u (expected_in (Changed 0) x) (length u) None z) (same_expected y ok_after) is) in
                 let some_bytes = unit_some u x y (length u) None from in
                 let twice : changed_unit 0 y u ≡ u =
                 elim (changed_twice y b (unit_room b x y (length b) here)) [
@@ -364,7 +364,7 @@ module _ (Edits : PacketValue → Option EditedValue → Type 0) (unedited : Edi
           whole = unit x y bytes r.copy len r.chosen r.chosen rest fault begins r.whole;
         }
 
-    on_packet : (x y : Expectation) (bytes front others : List ℕ) (len : ℕ) (p : PacketValue) (o : Option EditedValue)
+    on_packet : (x y : CaptureExpectation) (bytes front others : List ℕ) (len : ℕ) (p : PacketValue) (o : Option EditedValue)
         (rest : List ℕ) (fault : Option CopyFault)
         → Begins bytes x len (Some p) y → InRange x → InRange y → First p → Second p ⊎ ¬ (Second p) → Edits p o
         → unit_after (Changed 0) x p o (take len bytes) ≡ Some front
@@ -381,8 +381,8 @@ module _ (Edits : PacketValue → Option EditedValue → Type 0) (unedited : Edi
         let copied = packet_copied (Changed 0) bytes front others x y len p None begins plain in
         let at : Begins (front ++ others) x (length front) (Some p) y =
         subst (λ (q : PacketValue). Begins (front ++ others) x (length front) (Some q) y) (same_packet_in p found.0)
-        (subst (λ (z : Expectation). Begins (front ++ others) z (length front) (Some (packet_in (Changed 0) p)) y) (same_expected x ok)
-        (subst (λ (z : Expectation). Begins (front ++ others) (expected_in (Changed 0) x) (length front) (Some (packet_in (Changed 0) p)) z)
+        (subst (λ (z : CaptureExpectation). Begins (front ++ others) z (length front) (Some (packet_in (Changed 0) p)) y) (same_expected x ok)
+        (subst (λ (z : CaptureExpectation). Begins (front ++ others) (expected_in (Changed 0) x) (length front) (Some (packet_in (Changed 0) p)) z)
         (same_expected y ok_after) copied)) in
         let later = r.again (inl (begun bytes x y len (Some p) begins)) in
         let stays = subst (Edits p) (unedited p o edits) edits in
@@ -409,7 +409,7 @@ module _ (Edits : PacketValue → Option EditedValue → Type 0) (unedited : Edi
           }
         ]
 
-    compose : (x : Expectation) (bytes between : List ℕ) (kept edited : List PacketValue) (rest : List ℕ)
+    compose : (x : CaptureExpectation) (bytes between : List ℕ) (kept edited : List PacketValue) (rest : List ℕ)
         (fault : Option CopyFault) → IsBytes bytes → InRange x
         → Chosen Second kept → Copies (Changed 0) First Edits x bytes between kept edited rest fault
         → Composed x bytes between rest fault
@@ -446,7 +446,7 @@ module _ (Edits : PacketValue → Option EditedValue → Type 0) (unedited : Edi
           copy = r.copy;
           chosen = r.chosen;
           again = λ some.
-              subst (λ (z : Expectation). Selects Second z between r.copy r.chosen [] None) (same_after bytes x y len p begins)
+              subst (λ (z : CaptureExpectation). Selects Second z between r.copy r.chosen [] None) (same_after bytes x y len p begins)
               (r.again (inl (begun bytes x y len (Some p) begins)));
           whole =
               leaves x y bytes r.copy len p r.chosen r.chosen rest fault begins
@@ -454,7 +454,7 @@ module _ (Edits : PacketValue → Option EditedValue → Type 0) (unedited : Edi
         }
 
   -- of the packets of a capture each is kept or not
-  chosen_of : (Keeps : PacketValue → Type 0) (x : Expectation) (bytes : List ℕ) (packets chosen : List PacketValue)
+  chosen_of : (Keeps : PacketValue → Type 0) (x : CaptureExpectation) (bytes : List ℕ) (packets chosen : List PacketValue)
       (left : List ℕ) (other : Option CopyFault) → IsBytes bytes → ((q : PacketValue) → other ≡ Some (NotEdited q) → ⊥)
       → HasPackets x bytes packets [] None → HasSource Keeps x bytes chosen left other → Chosen Keeps packets
   chosen_of Keeps x bytes packets chosen left None ok never has source = search (rules, packets_one)

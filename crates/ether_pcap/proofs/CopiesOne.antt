@@ -3,7 +3,7 @@ use Rattle.std.proofs.Common.{◌≡◌, ◌⊎◌, ℕ, zero, suc, ◌≤◌, L
 use Rattle.std.specs.Prelude.{Option, Bool, IsTrue, take}
 use Rattle.ether_base.specs.Bytes.{IsBytes}
 use Rattle.ether_base.proofs.SubLists.{IsBytes-drop}
-use Rattle.ether_pcap.specs.Capture.{PacketValue, Expectation, CaptureRefusal, Begins, Refuses, IsEnd}
+use Rattle.ether_pcap.specs.Capture.{PacketValue, CaptureExpectation, CaptureRefusal, Begins, RefusesCapture, IsEnd}
 use Rattle.ether_pcap.specs.Editing.{EditedValue}
 use Rattle.ether_pcap.specs.CopiedUnits.{ModeValue, other_unit, unit_after, packet_after}
 use Rattle.ether_pcap.specs.Copies.{CopyFault, Refused, NotEdited, Copies, ended, refused, not_edited, unit, keeps, leaves, EditsOnce, Copy}
@@ -21,26 +21,26 @@ module _ (mode : ModeValue) (Keeps : PacketValue → Type 0) (Edits : PacketValu
     edited : List PacketValue
 
   -- a unit, which has this front of the bytes, and what is copied of it before these
-  abbrev Joined : (x y : Expectation) → Option PacketValue → (front : List ℕ) → (others all : Result) → Type 0
+  abbrev Joined : (x y : CaptureExpectation) → Option PacketValue → (front : List ℕ) → (others all : Result) → Type 0
   Joined x y None front others all = all ≡ record others { copy = other_unit mode y front ++ others.copy }
   Joined x y (Some p) front others all =
       (Keeps p × (o : Option EditedValue) × (u : List ℕ) × Edits p o × (unit_after mode x p o front ≡ Some u)
       × (all ≡ record { copy = u ++ others.copy; kept = p ∷ others.kept; edited = packet_after mode p o ∷ others.edited }))
       ⊎ (¬ (Keeps p) × (all ≡ others))
 
-  abbrev Copied : Expectation → (bytes : List ℕ) → Result → (rest : List ℕ) → Option CopyFault → Type 0
+  abbrev Copied : CaptureExpectation → (bytes : List ℕ) → Result → (rest : List ℕ) → Option CopyFault → Type 0
   Copied x bytes r rest fault = Copies mode Keeps Edits x bytes r.copy r.kept r.edited rest fault
 
   abbrev nothing : Result
   nothing = record { copy = []; kept = []; edited = [] }
 
-  data Step (x : Expectation) (bytes : List ℕ) : Result → (rest : List ℕ) → Option CopyFault → Type 0 where
+  data Step (x : CaptureExpectation) (bytes : List ℕ) : Result → (rest : List ℕ) → Option CopyFault → Type 0 where
     end : IsEnd x bytes → Step x bytes nothing [] None
-    refusal : (r : CaptureRefusal) → ¬ (IsEnd x bytes) → Refuses bytes x r → Step x bytes nothing bytes (Some (Refused r))
-    stuck : (len : ℕ) (p : PacketValue) (o : Option EditedValue) (y : Expectation) → Begins bytes x len (Some p) y
+    refusal : (r : CaptureRefusal) → ¬ (IsEnd x bytes) → RefusesCapture bytes x r → Step x bytes nothing bytes (Some (Refused r))
+    stuck : (len : ℕ) (p : PacketValue) (o : Option EditedValue) (y : CaptureExpectation) → Begins bytes x len (Some p) y
         → Keeps p → Edits p o → unit_after mode x p o (take len bytes) ≡ None
         → Step x bytes nothing bytes (Some (NotEdited p))
-    further : (len : ℕ) (p : Option PacketValue) (y : Expectation) (others all : Result) (rest : List ℕ)
+    further : (len : ℕ) (p : Option PacketValue) (y : CaptureExpectation) (others all : Result) (rest : List ℕ)
         (fault : Option CopyFault)
         → Begins bytes x len p y → Copied y (drop len bytes) others rest fault
         → Joined x y p (take len bytes) others all → Step x bytes all rest fault
@@ -48,7 +48,7 @@ module _ (mode : ModeValue) (Keeps : PacketValue → Type 0) (Edits : PacketValu
   abbrev result : (copy : List ℕ) → (kept edited : List PacketValue) → Result
   result copy kept edited = record { copy = copy; kept = kept; edited = edited }
 
-  first_step : (x : Expectation) (bytes copy : List ℕ) (kept edited : List PacketValue) (rest : List ℕ)
+  first_step : (x : CaptureExpectation) (bytes copy : List ℕ) (kept edited : List PacketValue) (rest : List ℕ)
       (fault : Option CopyFault)
       → Copies mode Keeps Edits x bytes copy kept edited rest fault → Step x bytes (result copy kept edited) rest fault
   first_step x bytes copy kept edited rest fault (ended _ _ is) = end is
@@ -64,18 +64,18 @@ module _ (mode : ModeValue) (Keeps : PacketValue → Type 0) (Edits : PacketValu
       further len (Some p) y (result copy kept edited) (result copy kept edited) rest fault begins copies
       (inr (not_kept, refl))
 
-  same_front : (x : Expectation) (p : PacketValue) (front u v : List ℕ) (o q : Option EditedValue) → Edits p o
+  same_front : (x : CaptureExpectation) (p : PacketValue) (front u v : List ℕ) (o q : Option EditedValue) → Edits p o
       → Edits p q → unit_after mode x p o front ≡ Some u → unit_after mode x p q front ≡ Some v → (o ≡ q) × (u ≡ v)
   same_front x p front u v o q edits edits2 e f = search rules
 
-  same_joined : (x y : Expectation) (p : Option PacketValue) (front : List ℕ) (others more all other : Result)
+  same_joined : (x y : CaptureExpectation) (p : Option PacketValue) (front : List ℕ) (others more all other : Result)
       → others ≡ more → Joined x y p front others all → Joined x y p front more other → all ≡ other
   same_joined x y None front others more all other e a b =
       a ∙ ap (λ (r : Result). record r { copy = other_unit mode y front ++ r.copy }) e ∙ sym b
   same_joined x y h front others more all other e a b = search rules
 
   -- a packet that can't be edited is not copied
-  stuck_apart : (x y z : Expectation) (bytes : List ℕ) (others all : Result) (len n : ℕ) (p : PacketValue)
+  stuck_apart : (x y z : CaptureExpectation) (bytes : List ℕ) (others all : Result) (len n : ℕ) (p : PacketValue)
       (o : Option EditedValue) (q : Option PacketValue)
       → IsBytes bytes → Begins bytes x len (Some p) y → Keeps p → Edits p o
       → unit_after mode x p o (take len bytes) ≡ None → Begins bytes x n q z
@@ -96,7 +96,7 @@ module _ (mode : ModeValue) (Keeps : PacketValue → Type 0) (Edits : PacketValu
   abbrev Same : (all other : Result) (rest rest2 : List ℕ) (fault fault2 : Option CopyFault) → Type 0
   Same all other rest rest2 fault fault2 = (all ≡ other) × (rest ≡ rest2) × (fault ≡ fault2)
 
-  one_step : (fuel : ℕ) (x : Expectation) (bytes : List ℕ) (all other : Result) (rest rest2 : List ℕ)
+  one_step : (fuel : ℕ) (x : CaptureExpectation) (bytes : List ℕ) (all other : Result) (rest rest2 : List ℕ)
       (fault fault2 : Option CopyFault) → length bytes ≤ fuel → IsBytes bytes
       → Step x bytes all rest fault → Step x bytes other rest2 fault2 → Same all other rest rest2 fault fault2
   one_step fuel x bytes all other rest rest2 fault fault2 le ok (end is) (end is2) = (refl, refl, refl)
@@ -145,11 +145,11 @@ module _ (mode : ModeValue) (Keeps : PacketValue → Type 0) (Edits : PacketValu
       let b = unit_within bytes x z n q begins in
       let copies3 =
       subst (λ (k : ℕ). Copied z (drop k bytes) more rest2 fault2) (sym e.0)
-      (subst (λ (w : Expectation). Copied w (drop m bytes) more rest2 fault2) (sym e.2) copies2) in
+      (subst (λ (w : CaptureExpectation). Copied w (drop m bytes) more rest2 fault2) (sym e.2) copies2) in
       let joined3 =
       subst (λ (k : ℕ). Joined x z q (take k bytes) more other) (sym e.0)
       (subst (λ (r : Option PacketValue). Joined x z r (take m bytes) more other) (sym e.1)
-      (subst (λ (w : Expectation). Joined x w p (take m bytes) more other) (sym e.2) joined2)) in
+      (subst (λ (w : CaptureExpectation). Joined x w p (take m bytes) more other) (sym e.2) joined2)) in
       let s =
       one_step fuel z (drop n bytes) others more rest rest2 fault fault2 (omega (arith, l, le, a, b))
       (IsBytes-drop n bytes ok)
@@ -157,7 +157,7 @@ module _ (mode : ModeValue) (Keeps : PacketValue → Type 0) (Edits : PacketValu
       (first_step z (drop n bytes) more.copy more.kept more.edited rest2 fault2 copies3) in
       (same_joined x z q (take n bytes) others more all other s.0 joined joined3, s.1, s.2)
 
-  pub one_copied : (x : Expectation) (bytes copy copy2 : List ℕ) (kept kept2 edited edited2 : List PacketValue)
+  pub one_copied : (x : CaptureExpectation) (bytes copy copy2 : List ℕ) (kept kept2 edited edited2 : List PacketValue)
       (rest rest2 : List ℕ) (fault fault2 : Option CopyFault) → IsBytes bytes
       → Copies mode Keeps Edits x bytes copy kept edited rest fault
       → Copies mode Keeps Edits x bytes copy2 kept2 edited2 rest2 fault2
@@ -169,7 +169,7 @@ module _ (mode : ModeValue) (Keeps : PacketValue → Type 0) (Edits : PacketValu
       (first_step x bytes copy2 kept2 edited2 rest2 fault2 d) in search rules
 
 pub one_copy : (mode : ModeValue) (test : PacketValue → Bool) (edits : PacketValue → Option EditedValue → Bool)
-    (x : Expectation) (bytes : List ℕ) (c d : Copy mode test edits x bytes)
+    (x : CaptureExpectation) (bytes : List ℕ) (c d : Copy mode test edits x bytes)
     → IsBytes bytes → EditsOnce (λ p o. IsTrue (edits p o))
     → (c.copy ≡ d.copy) × (c.kept ≡ d.kept) × (c.edited ≡ d.edited) × (c.rest ≡ d.rest) × (c.fault ≡ d.fault)
 one_copy mode test edits x bytes c d ok once = search (rules, one_copied)

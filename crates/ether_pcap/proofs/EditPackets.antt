@@ -11,7 +11,7 @@ use Rattle.ether_pcap.specs.Block.{IsTotalLen}
 use Rattle.ether_pcap.specs.Section.{HasSectionType}
 use Rattle.ether_pcap.specs.FileHeader.{FileHeaderValue}
 use Rattle.ether_pcap.specs.Bodies.{EnhancedPacketValue}
-use Rattle.ether_pcap.specs.Capture.{PacketValue, packet_on, simple_packet_on, CaptureInterfaceValue, Expectation, Beginning, Records, Blocks, BlockKind, EnhancedPacket, SimplePacket, kind_of_block, IsBody, Begins, file_record, block}
+use Rattle.ether_pcap.specs.Capture.{PacketValue, packet_on, simple_packet_on, CaptureInterfaceValue, CaptureExpectation, Beginning, Records, Blocks, BlockKind, EnhancedPacket, SimplePacket, kind_of_block, IsBody, Begins, file_record, block}
 use Rattle.ether_pcap.specs.Editing.{EditedValue, edited_record, edited_body, block_bytes, edited_block, unit_with, is_too_long, edited_unit, edited_packet, unit_bytes, EditsUnit, HasEditedPacket}
 use Rattle.ether_pcap.specs.declared.capture.edited_unit.EditedUnit.{EditedUnit}
 use Rattle.ether_pcap.proofs.CaptureLocality.{unit_local}
@@ -42,17 +42,17 @@ not_too_long : (e : EditedValue) → length e.packet ≤ 262144 → e.original_l
 not_too_long e small four = rw (le-ltb 262144 (length e.packet) small, le-ltb 4294967295 e.original_len four) refl
 
 -- a unit that is edited has room for the packet
-pub record Fits (x : Expectation) (m : ℕ) (e : EditedValue) (unit new : List ℕ) : Type 0 where
+pub record Fits (x : CaptureExpectation) (m : ℕ) (e : EditedValue) (unit new : List ℕ) : Type 0 where
   pub small : length e.packet ≤ 262144
   pub four : e.original_len ≤ 4294967295
   pub is : unit_with x m e unit ≡ Some new
 
-pub unit_fits : (x : Expectation) (m : ℕ) (e : EditedValue) (unit : List ℕ) → length e.packet ≤ 262144
+pub unit_fits : (x : CaptureExpectation) (m : ℕ) (e : EditedValue) (unit : List ℕ) → length e.packet ≤ 262144
     → e.original_len ≤ 4294967295 → edited_unit x m e unit ≡ unit_with x m e unit
 unit_fits x m e unit small four =
     ap (λ (b : Bool). if b then None else unit_with x m e unit) (not_too_long e small four)
 
-pub unit_too_long : (x : Expectation) (m : ℕ) (e : EditedValue) (unit : List ℕ)
+pub unit_too_long : (x : CaptureExpectation) (m : ℕ) (e : EditedValue) (unit : List ℕ)
     → (262144 < length e.packet) ⊎ (4294967295 < e.original_len) → edited_unit x m e unit ≡ None
 unit_too_long x m e unit why =
     elim (room_of e) [
@@ -67,7 +67,7 @@ unit_too_long x m e unit why =
     none : is_too_long e ≡ true → edited_unit x m e unit ≡ None
     none long = ap (λ (b : Bool). if b then None else unit_with x m e unit) long
 
-pub fits_if : (x : Expectation) (m : ℕ) (e : EditedValue) (unit new : List ℕ) → edited_unit x m e unit ≡ Some new
+pub fits_if : (x : CaptureExpectation) (m : ℕ) (e : EditedValue) (unit new : List ℕ) → edited_unit x m e unit ≡ Some new
     → Fits x m e unit new
 fits_if x m e unit new is =
     elim (room_of e) [
@@ -176,19 +176,19 @@ module _ (most : ℕ) (order : Order) (interfaces : List CaptureInterfaceValue) 
 
 -- ---- units
 
-unit_begins : (x : Expectation) (u new : List ℕ) (p : PacketValue) (e : EditedValue) → Begins u x (length u) (Some p) x
+unit_begins : (x : CaptureExpectation) (u new : List ℕ) (p : PacketValue) (e : EditedValue) → Begins u x (length u) (Some p) x
     → Fits x (length p.packet) e u new → Begins new x (length new) (Some (edited_packet e p)) x
 unit_begins (Beginning m) u new p e begins room = let bad : None ≡ Some new = room.is in absurd cc
 unit_begins (Records h) u new p e begins room = record_begins h u new p e begins room
 unit_begins (Blocks most order interfaces) u new p e begins room = search (rules, block_of_unit, block_edited)
 
 -- the unit of a packet that is edited is one of the edited packet
-pub edited_begins : (x : Expectation) (u new : List ℕ) (p : PacketValue) (e : EditedValue)
+pub edited_begins : (x : CaptureExpectation) (u new : List ℕ) (p : PacketValue) (e : EditedValue)
     → Begins u x (length u) (Some p) x → edited_unit x (length p.packet) e u ≡ Some new
     → Begins new x (length new) (Some (edited_packet e p)) x
 edited_begins x u new p e begins is = unit_begins x u new p e begins (fits_if x (length p.packet) e u new is)
 
-has_edited : (x : Expectation) (unit : List ℕ) (e : EditedValue) (result : Option EditedUnit) (p : PacketValue)
+has_edited : (x : CaptureExpectation) (unit : List ℕ) (e : EditedValue) (result : Option EditedUnit) (p : PacketValue)
     → Begins unit x (length unit) (Some p) x
     → option_map unit_bytes result ≡ edited_unit x (length p.packet) e unit
     → IfSome result (λ u. (more : List ℕ)
@@ -196,7 +196,7 @@ has_edited : (x : Expectation) (unit : List ℕ) (e : EditedValue) (result : Opt
 has_edited x unit e None p begins is = tt
 has_edited x unit e (Some u) p begins is = search (rules, unit_local, edited_begins)
 
-pub has_edited_packet : (x : Expectation) (unit : List ℕ) (e : EditedValue) (result : Option EditedUnit)
+pub has_edited_packet : (x : CaptureExpectation) (unit : List ℕ) (e : EditedValue) (result : Option EditedUnit)
     → EditsUnit x unit e result → HasEditedPacket x unit e result
 has_edited_packet x unit e result edits p begins = has_edited x unit e result p begins (edits p begins)
 
@@ -219,12 +219,12 @@ why_block SimplePacket limit order interfaces u body p e is_body sound (i, q, at
 why_block kind limit order interfaces u body p e is_body sound h is =
     search (rules, same_packet, cases_lt, longer_body, le-ltb)
 
-why_unit : (x : Expectation) (u : List ℕ) (p : PacketValue) (e : EditedValue) → Begins u x (length u) (Some p) x
+why_unit : (x : CaptureExpectation) (u : List ℕ) (p : PacketValue) (e : EditedValue) → Begins u x (length u) (Some p) x
     → unit_with x (length p.packet) e u ≡ None → Why p e
 why_unit (Beginning m) u p e begins is = absurd (begun_before u (Beginning m) (Beginning m) (length u) p begins)
 why_unit (Records h) u p e begins is = absurd cc
 why_unit (Blocks most order interfaces) u p e begins is = grind (arith, block_of_unit, length, why_block, body_of_unit)
 
-pub why_not_edited : (x : Expectation) (u : List ℕ) (p : PacketValue) (e : EditedValue)
+pub why_not_edited : (x : CaptureExpectation) (u : List ℕ) (p : PacketValue) (e : EditedValue)
     → Begins u x (length u) (Some p) x → edited_unit x (length p.packet) e u ≡ None → Why p e
 why_not_edited x u p e begins is = search (rules, room_of, packet_room, why_unit, unit_fits)

@@ -10,20 +10,20 @@ use Rattle.ether_pcap.specs.Section.{HasSectionType}
 use Rattle.ether_pcap.specs.FileHeader.{FileHeaderValue}
 use Rattle.ether_pcap.specs.Bodies.{EnhancedPacketValue, IsEnhancedPacket}
 use Rattle.ether_pcap.specs.Editing.{EditedValue, edited_block, unit_with}
-use Rattle.ether_pcap.specs.Capture.{PacketValue, packet_of_record, packet_on, simple_packet_on, CaptureInterfaceValue, Expectation, Beginning, Records, Blocks, BlockKind, InterfaceDescription, SimplePacket, EnhancedPacket, Other, kind_of_block, IsBody, HasBegun, Begins, file_header, file_record, block}
+use Rattle.ether_pcap.specs.Capture.{PacketValue, packet_of_record, packet_on, simple_packet_on, CaptureInterfaceValue, CaptureExpectation, Beginning, Records, Blocks, BlockKind, InterfaceDescription, SimplePacket, EnhancedPacket, Other, kind_of_block, IsBody, HasBegun, Begins, file_header, file_record, block}
 
 pub same_packet : (p q : PacketValue) → Some p ≡ Some q → p ≡ q
 same_packet p q e = ap (λ (o : Option PacketValue). unwrap_or o p) e
 
 -- ---- records
 
-record_if : (bytes : List ℕ) (x y : Expectation) (len : ℕ) (packet : Option PacketValue) (h : FileHeaderValue)
+record_if : (bytes : List ℕ) (x y : CaptureExpectation) (len : ℕ) (packet : Option PacketValue) (h : FileHeaderValue)
     (p : PacketValue) → x ≡ Records h → packet ≡ Some p → Begins bytes x len packet y
     → (r : RecordValue) × BeginsRecord h.order bytes r × (len ≡ record_len r) × (p ≡ packet_of_record h r)
 record_if bytes x y len packet h p e f (file_record g r is) = search rules
 record_if bytes x y len packet h p e f k = absurd cc
 
-pub record_of_unit : (bytes : List ℕ) (y : Expectation) (len : ℕ) (h : FileHeaderValue) (p : PacketValue)
+pub record_of_unit : (bytes : List ℕ) (y : CaptureExpectation) (len : ℕ) (h : FileHeaderValue) (p : PacketValue)
     → Begins bytes (Records h) len (Some p) y
     → (r : RecordValue) × BeginsRecord h.order bytes r × (len ≡ record_len r) × (p ≡ packet_of_record h r)
 record_of_unit bytes y len h p begins = record_if bytes (Records h) y len (Some p) h p refl refl begins
@@ -59,7 +59,7 @@ same_interfaces SimplePacket most order before after body packet p is (i, q, at,
 same_interfaces (EnhancedPacket n) most order before after body packet p is (i, q, o, d, at, has, e, f) = f
 same_interfaces Other most order before after body packet p is (e, f) = f
 
-same_if : (bytes : List ℕ) (x y : Expectation) (len : ℕ) (packet : Option PacketValue) (p : PacketValue)
+same_if : (bytes : List ℕ) (x y : CaptureExpectation) (len : ℕ) (packet : Option PacketValue) (p : PacketValue)
     → packet ≡ Some p → Begins bytes x len packet y → y ≡ x
 same_if bytes x y len packet p e (file_record h r is) = refl
 same_if bytes x y len packet p e (block m order interfaces after q b other begins is) =
@@ -67,24 +67,24 @@ same_if bytes x y len packet p e (block m order interfaces after q b other begin
 same_if bytes x y len packet p e h = absurd cc
 
 -- after a packet the same is expected as before it
-pub same_after : (bytes : List ℕ) (x y : Expectation) (len : ℕ) (p : PacketValue) → Begins bytes x len (Some p) y
+pub same_after : (bytes : List ℕ) (x y : CaptureExpectation) (len : ℕ) (p : PacketValue) → Begins bytes x len (Some p) y
     → y ≡ x
 same_after bytes x y len p begins = same_if bytes x y len (Some p) p refl begins
 
 -- ---- before and after a packet
 
 -- after a unit a file has begun
-pub begun : (bytes : List ℕ) (x y : Expectation) (len : ℕ) (p : Option PacketValue) → Begins bytes x len p y
+pub begun : (bytes : List ℕ) (x y : CaptureExpectation) (len : ℕ) (p : Option PacketValue) → Begins bytes x len p y
     → HasBegun y
 begun bytes x y len p (file_header m h other is) = tt
 begun bytes x y len p h = tt
 
-pub begun_before : (bytes : List ℕ) (x y : Expectation) (len : ℕ) (p : PacketValue)
+pub begun_before : (bytes : List ℕ) (x y : CaptureExpectation) (len : ℕ) (p : PacketValue)
     → Begins bytes x len (Some p) y → HasBegun x
 begun_before bytes x y len p begins =
     subst HasBegun (same_after bytes x y len p begins) (begun bytes x y len (Some p) begins)
 
-block_if : (bytes : List ℕ) (x y : Expectation) (len : ℕ) (packet : Option PacketValue) (most : ℕ) (order : Order)
+block_if : (bytes : List ℕ) (x y : CaptureExpectation) (len : ℕ) (packet : Option PacketValue) (most : ℕ) (order : Order)
     (interfaces : List CaptureInterfaceValue) (p : PacketValue)
     → x ≡ Blocks most order interfaces → packet ≡ Some p → Begins bytes x len packet y
     → (b : PacketBlock most order interfaces bytes p) × (len ≡ 12 + length b.value.body)
@@ -110,7 +110,7 @@ block_if bytes x y len packet most order interfaces p e f (block m o i after q b
     )
 block_if bytes x y len packet most order interfaces p e f h = absurd cc
 
-pub block_of_unit : (bytes : List ℕ) (y : Expectation) (len most : ℕ) (order : Order)
+pub block_of_unit : (bytes : List ℕ) (y : CaptureExpectation) (len most : ℕ) (order : Order)
     (interfaces : List CaptureInterfaceValue) (p : PacketValue)
     → Begins bytes (Blocks most order interfaces) len (Some p) y
     → (b : PacketBlock most order interfaces bytes p) × (len ≡ 12 + length b.value.body)
@@ -132,7 +132,7 @@ few_in_body : (kind : BlockKind) (most : ℕ) (order : Order) (interfaces : List
 few_in_body SimplePacket most order interfaces body p (i, v, at, is, e, f) = search rules
 few_in_body kind most order interfaces body p h = search rules
 
-pub packet_room : (x : Expectation) (u : List ℕ) (p : PacketValue) → Begins u x (length u) (Some p) x
+pub packet_room : (x : CaptureExpectation) (u : List ℕ) (p : PacketValue) → Begins u x (length u) (Some p) x
     → length p.packet ≤ 262144
 packet_room (Beginning m) u p begins = absurd (begun_before u (Beginning m) (Beginning m) (length u) p begins)
 packet_room h u p begins = search (rules, record_of_unit, block_of_unit, few_in_body)
@@ -153,7 +153,7 @@ bytes_in_body (EnhancedPacket n) most order before after body packet p e ok (i, 
     (subst IsBytes is.packet (IsBytes-part 20 (20 + length v.packet) body ok))
 bytes_in_body Other most order before after body packet p e ok (f, g) = let bad : None ≡ Some p = sym f ∙ e in absurd cc
 
-bytes_if : (bytes : List ℕ) (x y : Expectation) (len : ℕ) (packet : Option PacketValue) (p : PacketValue)
+bytes_if : (bytes : List ℕ) (x y : CaptureExpectation) (len : ℕ) (packet : Option PacketValue) (p : PacketValue)
     → packet ≡ Some p → IsBytes bytes → Begins bytes x len packet y → IsBytes p.packet
 bytes_if bytes x y len packet p e ok (file_record h r is) =
     let same : p ≡ packet_of_record h r = same_packet p (packet_of_record h r) (sym e) in
@@ -164,7 +164,7 @@ bytes_if bytes x y len packet p e ok (block m order interfaces after q b other b
     (subst IsBytes begins.body (IsBytes-part 8 (8 + length b.body) bytes ok)) is
 bytes_if bytes x y len packet p e ok h = absurd cc
 
-pub packet_bytes : (bytes : List ℕ) (x y : Expectation) (len : ℕ) (p : PacketValue) → IsBytes bytes
+pub packet_bytes : (bytes : List ℕ) (x y : CaptureExpectation) (len : ℕ) (p : PacketValue) → IsBytes bytes
     → Begins bytes x len (Some p) y → IsBytes p.packet
 packet_bytes bytes x y len p ok begins = bytes_if bytes x y len (Some p) p refl ok begins
 

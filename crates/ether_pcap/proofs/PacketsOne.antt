@@ -3,22 +3,22 @@ use Rattle.std.proofs.Common.{◌≡◌, ℕ, List, ◌∷◌, drop, refl, ap, S
 use Rattle.std.specs.Prelude.{Option}
 use Rattle.ether_base.specs.Bytes.{IsBytes}
 use Rattle.ether_base.proofs.SubLists.{IsBytes-drop}
-use Rattle.ether_pcap.specs.Capture.{PacketValue, Expectation, CaptureRefusal, Begins, IsEnd, HasPackets, ended, refused, unit, packet}
+use Rattle.ether_pcap.specs.Capture.{PacketValue, CaptureExpectation, CaptureRefusal, Begins, IsEnd, HasPackets, ended, refused, unit, packet}
 use Rattle.ether_pcap.proofs.CapturesOne.{unit_one, unit_apart, unit_refusal_one}
 
 -- no unit at the end
-pub none_at_end : (x y : Expectation) (bytes : List ℕ) (len : ℕ) (p : Option PacketValue) → IsEnd x bytes
+pub none_at_end : (x y : CaptureExpectation) (bytes : List ℕ) (len : ℕ) (p : Option PacketValue) → IsEnd x bytes
     → Begins bytes x len p y → ⊥
 none_at_end x y bytes len p end begins = search rules
 
 -- what follows a unit, after another that is the same
-after_same : (y z : Expectation) (bytes : List ℕ) (len n : ℕ) (packets : List PacketValue) (rest : List ℕ)
+after_same : (y z : CaptureExpectation) (bytes : List ℕ) (len n : ℕ) (packets : List PacketValue) (rest : List ℕ)
     (fault : Option CaptureRefusal)
     → len ≡ n → y ≡ z
     → HasPackets z (drop n bytes) packets rest fault → HasPackets y (drop len bytes) packets rest fault
 after_same y z bytes len n packets rest fault e f has = search rules
 
-pub packets_one : (x : Expectation) (bytes : List ℕ) (packets others : List PacketValue) (rest left : List ℕ)
+pub packets_one : (x : CaptureExpectation) (bytes : List ℕ) (packets others : List PacketValue) (rest left : List ℕ)
     (fault other : Option CaptureRefusal)
     → IsBytes bytes
     → HasPackets x bytes packets rest fault → HasPackets x bytes others left other

@@ -7,7 +7,7 @@ use Rattle.ether_pcap.specs.Numbers.{Order, field}
 use Rattle.ether_pcap.specs.Record.{RecordValue, RecordRefusal, Short, TooLong, BeginsRecord, RefusesRecord, header, too_long, packet, HasRecords, record_len, max_captured_len}
 use Rattle.ether_pcap.specs.Laws.{Contents}
 use Rattle.ether_pcap.specs.Views.{order_of, record_view, record_refusal_view}
-use Rattle.ether_pcap.specs.Reading.{State, Gives, GivesNext}
+use Rattle.ether_pcap.specs.RecordReading.{RecordState, RecordGives, GivesNextRecord}
 use Rattle.ether_pcap.specs.declared.classic.pcap_record.PcapRecord.{PcapRecord}
 use Rattle.ether_pcap.specs.declared.classic.record_fault.RecordFault.{RecordFault}
 
@@ -36,24 +36,24 @@ refusal_one order bytes e f h k = refl
 not_empty : (order : Order) (bytes : List ℕ) (r : RecordValue) → BeginsRecord order bytes r → bytes ≢ []
 not_empty order bytes r h e = let l : length bytes ≡ 0 = ap length e in omega (arith, h.whole, l)
 
-pub gives_record : (s : State) (p : PcapRecord) → s.over ≡ false
+pub gives_record : (s : RecordState) (p : PcapRecord) → s.over ≡ false
     → BeginsRecord (order_of s.header.byte_order) s.rest (record_view p)
-    → Gives s (Some (Ok p))
+    → RecordGives s (Some (Ok p))
     (record s { rest = drop (record_len (record_view p)) s.rest; offset = s.offset + record_len (record_view p) })
 gives_record s p more h = grind (arith)
 
-next_fault : (order : Order) (s : State) (f : RecordFault) (records : List RecordValue) (rest : List ℕ)
+next_fault : (order : Order) (s : RecordState) (f : RecordFault) (records : List RecordValue) (rest : List ℕ)
     (fault : Option RecordRefusal)
     → s.rest ≢ [] → f.offset ≡ s.offset → RefusesRecord order s.rest (record_refusal_view f.error)
     → HasRecords order s.rest records rest fault
-    → GivesNext records fault s (Some (Err f)) (record s { over = true })
+    → GivesNextRecord records fault s (Some (Err f)) (record s { over = true })
 next_fault order s f [] rest (Some refusal) some at h has =
     (f, refl, at, refusal_one order s.rest (record_refusal_view f.error) refusal h has.2, refl)
 next_fault order s f k rest fault some at h has = absurd (search (rules, record_apart))
 
-pub gives_fault : (s : State) (f : RecordFault) → s.over ≡ false → s.rest ≢ [] → f.offset ≡ s.offset
+pub gives_fault : (s : RecordState) (f : RecordFault) → s.over ≡ false → s.rest ≢ [] → f.offset ≡ s.offset
     → RefusesRecord (order_of s.header.byte_order) s.rest (record_refusal_view f.error)
-    → Gives s (Some (Err f)) (record s { over = true })
+    → RecordGives s (Some (Err f)) (record s { over = true })
 gives_fault s f more some at h = search (rules, next_fault)
 
 -- ---- all records of a list

@@ -9,7 +9,7 @@ use Rattle.ether_pcap.specs.Section.{section_type, HasSectionType}
 use Rattle.ether_pcap.specs.Bodies.{InterfaceValue, EnhancedPacketValue}
 use Rattle.ether_pcap.specs.Writing.{bytes_of}
 use Rattle.ether_pcap.specs.WritingBlocks.{section_body, section_bytes, interface_head, interface_body, interface_block_len, interface_bytes, packet_head, packet_body, packet_block_len, packet_bytes, FitsPacket, WritesBlocks, end, section, interface, packet, WrittenSectionsAreRead}
-use Rattle.ether_pcap.specs.Capture.{Expectation, Beginning, Blocks, CaptureInterfaceValue, PacketValue, Describes, described_by, packet_on, HasPackets}
+use Rattle.ether_pcap.specs.Capture.{CaptureExpectation, Beginning, Blocks, CaptureInterfaceValue, PacketValue, Describes, described_by, packet_on, HasPackets}
 use Rattle.ether_pcap.specs.Capture as capture
 use Rattle.ether_pcap.proofs.Numbers.{length-bytes_of, number-bytes_of}
 use Rattle.ether_pcap.proofs.WrittenBlocks.{section_read, interface_read, PacketFits, packet_read}
@@ -48,7 +48,7 @@ length-packet_bytes order p = search (rules, length-append, length-bytes_of)
 packet_fits : (order : Order) (p : EnhancedPacketValue) → FitsPacket p → PacketFits order p
 packet_fits order p fits = search (rules, number-bytes_of)
 
-has_rest : (x : Expectation) (front bytes : List ℕ) (n : ℕ) (packets : List PacketValue) → length front ≡ n
+has_rest : (x : CaptureExpectation) (front bytes : List ℕ) (n : ℕ) (packets : List PacketValue) → length front ≡ n
     → HasPackets x bytes packets [] None → HasPackets x (drop n (front ++ bytes)) packets [] None
 has_rest x front bytes n packets len has =
     subst (λ (l : List ℕ). HasPackets x l packets [] None) (sym (drop_at front bytes n len)) has

@@ -114,10 +114,10 @@ pub record IsAt (interfaces : List CaptureInterfaceValue) (n : ℕ) (i : Capture
 
 -- what is expected at a place of a file: its beginning; a record after this header; a block of a section of this byte order that
 -- has described these interfaces. A section may describe so many at most.
-pub data Expectation : Type 0 where
-  Beginning : (most : ℕ) → Expectation
-  Records : FileHeaderValue → Expectation
-  Blocks : (most : ℕ) → Order → List CaptureInterfaceValue → Expectation
+pub data CaptureExpectation : Type 0 where
+  Beginning : (most : ℕ) → CaptureExpectation
+  Records : FileHeaderValue → CaptureExpectation
+  Blocks : (most : ℕ) → Order → List CaptureInterfaceValue → CaptureExpectation
 
 -- the length of the frame check sequence in the flags of a packet (4.3.1): bits 5 to 8, where 0 is none that is known
 abbrev pub fcs_in_flags : Option ℕ → Option ℕ
@@ -194,7 +194,7 @@ pub data RefusesBody (most : ℕ) (order : Order) (before : List CaptureInterfac
       → RefusesBody most order before body (EnhancedPacket n) (NoInterface p.interface)
 
 -- Bytes begin with a unit of so many bytes, which is this packet if it is one, and after which this is expected.
-pub data Begins (bytes : List ℕ) : Expectation → (len : ℕ) → Option PacketValue → Expectation → Type 0 where
+pub data Begins (bytes : List ℕ) : CaptureExpectation → (len : ℕ) → Option PacketValue → CaptureExpectation → Type 0 where
   file_header : (most : ℕ) (h : FileHeaderValue) → ¬ (HasSectionType bytes) → IsFileHeader bytes h → Begins bytes (Beginning most) 24 None (Records h)
   file_record : (h : FileHeaderValue) (r : RecordValue) → BeginsRecord h.order bytes r → Begins bytes (Records h) (record_len r) (Some (packet_of_record h r)) (Records h)
   first_section : (most : ℕ) (order : Order) (b : BlockValue) → IsSection bytes order b → Begins bytes (Beginning most) (12 + length b.body) None (Blocks most order [])
@@ -204,14 +204,14 @@ pub data Begins (bytes : List ℕ) : Expectation → (len : ℕ) → Option Pack
       → IsBody (kind_of_block b.block_type) most order interfaces b.body packet after → Begins bytes (Blocks most order interfaces) (12 + length b.body) packet (Blocks most order after)
 
 -- Bytes do not begin with the unit that is expected.
-pub data Refuses (bytes : List ℕ) : Expectation → CaptureRefusal → Type 0 where
-  file_header_refused : (most : ℕ) (r : FileRefusal) → ¬ (HasSectionType bytes) → RefusesFile bytes r → Refuses bytes (Beginning most) (File r)
-  file_record_refused : (h : FileHeaderValue) (r : RecordRefusal) → RefusesRecord h.order bytes r → Refuses bytes (Records h) (Record r)
-  first_section_refused : (most : ℕ) (r : SectionRefusal) → HasSectionType bytes → RefusesSection bytes r → Refuses bytes (Beginning most) (Section r)
-  section_refused : (most : ℕ) (order : Order) (interfaces : List CaptureInterfaceValue) (r : SectionRefusal) → HasSectionType bytes → RefusesSection bytes r → Refuses bytes (Blocks most order interfaces) (Section r)
-  block_refused : (most : ℕ) (order : Order) (interfaces : List CaptureInterfaceValue) (r : BlockRefusal) → ¬ (HasSectionType bytes) → RefusesBlock order bytes r → Refuses bytes (Blocks most order interfaces) (Block r)
+pub data RefusesCapture (bytes : List ℕ) : CaptureExpectation → CaptureRefusal → Type 0 where
+  file_header_refused : (most : ℕ) (r : FileRefusal) → ¬ (HasSectionType bytes) → RefusesFile bytes r → RefusesCapture bytes (Beginning most) (File r)
+  file_record_refused : (h : FileHeaderValue) (r : RecordRefusal) → RefusesRecord h.order bytes r → RefusesCapture bytes (Records h) (Record r)
+  first_section_refused : (most : ℕ) (r : SectionRefusal) → HasSectionType bytes → RefusesSection bytes r → RefusesCapture bytes (Beginning most) (Section r)
+  section_refused : (most : ℕ) (order : Order) (interfaces : List CaptureInterfaceValue) (r : SectionRefusal) → HasSectionType bytes → RefusesSection bytes r → RefusesCapture bytes (Blocks most order interfaces) (Section r)
+  block_refused : (most : ℕ) (order : Order) (interfaces : List CaptureInterfaceValue) (r : BlockRefusal) → ¬ (HasSectionType bytes) → RefusesBlock order bytes r → RefusesCapture bytes (Blocks most order interfaces) (Block r)
   body_refused : (most : ℕ) (order : Order) (interfaces : List CaptureInterfaceValue) (b : BlockValue) (r : CaptureRefusal) → ¬ (HasSectionType bytes) → BeginsBlock order bytes b
-      → RefusesBody most order interfaces b.body (kind_of_block b.block_type) r → Refuses bytes (Blocks most order interfaces) r
+      → RefusesBody most order interfaces b.body (kind_of_block b.block_type) r → RefusesCapture bytes (Blocks most order interfaces) r
 
 -- how many bytes a unit needs that was refused because the bytes end within it
 abbrev pub required_len : CaptureRefusal → Option ℕ
@@ -225,19 +225,19 @@ required_len _ = None
 -- ---- a whole file
 
 -- a file has begun
-abbrev pub HasBegun : Expectation → Type 0
+abbrev pub HasBegun : CaptureExpectation → Type 0
 HasBegun (Beginning most) = ⊥
 HasBegun _ = ⊤
 
 -- .. and nothing is left of it
-abbrev pub IsEnd : Expectation → List ℕ → Type 0
+abbrev pub IsEnd : CaptureExpectation → List ℕ → Type 0
 IsEnd x bytes = HasBegun x × (bytes ≡ [])
 
 -- The packets of the bytes from a place on, where this is expected; what is left after them is nothing, or refused.
-pub data HasPackets : Expectation → List ℕ → List PacketValue → (rest : List ℕ) → Option CaptureRefusal → Type 0 where
-  ended : (x : Expectation) (bytes : List ℕ) → IsEnd x bytes → HasPackets x bytes [] [] None
-  refused : (x : Expectation) (bytes : List ℕ) (r : CaptureRefusal) → ¬ (IsEnd x bytes) → Refuses bytes x r → HasPackets x bytes [] bytes (Some r)
-  unit : (x y : Expectation) (bytes : List ℕ) (len : ℕ) (packets : List PacketValue) (rest : List ℕ) (fault : Option CaptureRefusal) → Begins bytes x len None y
+pub data HasPackets : CaptureExpectation → List ℕ → List PacketValue → (rest : List ℕ) → Option CaptureRefusal → Type 0 where
+  ended : (x : CaptureExpectation) (bytes : List ℕ) → IsEnd x bytes → HasPackets x bytes [] [] None
+  refused : (x : CaptureExpectation) (bytes : List ℕ) (r : CaptureRefusal) → ¬ (IsEnd x bytes) → RefusesCapture bytes x r → HasPackets x bytes [] bytes (Some r)
+  unit : (x y : CaptureExpectation) (bytes : List ℕ) (len : ℕ) (packets : List PacketValue) (rest : List ℕ) (fault : Option CaptureRefusal) → Begins bytes x len None y
       → HasPackets y (drop len bytes) packets rest fault → HasPackets x bytes packets rest fault
-  packet : (x y : Expectation) (bytes : List ℕ) (len : ℕ) (p : PacketValue) (packets : List PacketValue) (rest : List ℕ) (fault : Option CaptureRefusal) → Begins bytes x len (Some p) y
+  packet : (x y : CaptureExpectation) (bytes : List ℕ) (len : ℕ) (p : PacketValue) (packets : List PacketValue) (rest : List ℕ) (fault : Option CaptureRefusal) → Begins bytes x len (Some p) y
       → HasPackets y (drop len bytes) packets rest fault → HasPackets x bytes (p ∷ packets) rest fault

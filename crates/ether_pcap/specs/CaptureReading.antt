@@ -1,14 +1,14 @@
 -- A reader of the packets of a file: what it shows at each moment, and what it gives, by the packets that are left to read.
 use Rattle.std.specs.Prelude.{◌≡◌, ℕ, ◌+◌, List, [], ◌∷◌, length, drop, Bool, true, false, Option, Some, None, Result, Ok, Err, if◌then◌else◌}
 use Rattle.std.specs.Iterator.{Count, at_most}
-use Rattle.ether_pcap.specs.Capture.{PacketValue, Expectation, Beginning, CaptureRefusal, Begins, IsEnd, HasPackets}
+use Rattle.ether_pcap.specs.Capture.{PacketValue, CaptureExpectation, Beginning, CaptureRefusal, Begins, IsEnd, HasPackets}
 use Rattle.ether_pcap.specs.CaptureViews.{captured_packet_view, capture_refusal_view}
 use Rattle.ether_pcap.specs.declared.capture.captured_packet.CapturedPacket.{CapturedPacket}
 use Rattle.ether_pcap.specs.declared.capture.capture_fault.CaptureFault.{CaptureFault}
 
 -- what is expected, the bytes that are left to read, their place in the file, and whether a refusal was returned
-pub record State : Type 0 where
-  pub expected : Expectation
+pub record CaptureState : Type 0 where
+  pub expected : CaptureExpectation
   pub rest : List ℕ
   pub offset : ℕ
   pub over : Bool
@@ -18,32 +18,32 @@ abbrev pub max_interfaces : ℕ
 max_interfaces = 4096
 
 -- nothing is read
-abbrev pub start : List ℕ → State
+abbrev pub start : List ℕ → CaptureState
 start bytes = record { expected = Beginning max_interfaces; rest = bytes; offset = 0; over = false }
 
 -- The first packet of the bytes is the unit that ends after so many bytes, no unit before it is a packet, and after it this is expected.
-pub data FirstPacket : Expectation → (bytes : List ℕ) → PacketValue → (len : ℕ) → Expectation → Type 0 where
-  here : (x y : Expectation) (bytes : List ℕ) (p : PacketValue) (len : ℕ) → Begins bytes x len (Some p) y → FirstPacket x bytes p len y
-  later : (x y z : Expectation) (bytes : List ℕ) (p : PacketValue) (len more : ℕ) → Begins bytes x len None y
+pub data FirstPacket : CaptureExpectation → (bytes : List ℕ) → PacketValue → (len : ℕ) → CaptureExpectation → Type 0 where
+  here : (x y : CaptureExpectation) (bytes : List ℕ) (p : PacketValue) (len : ℕ) → Begins bytes x len (Some p) y → FirstPacket x bytes p len y
+  later : (x y z : CaptureExpectation) (bytes : List ℕ) (p : PacketValue) (len more : ℕ) → Begins bytes x len None y
       → FirstPacket y (drop len bytes) p more z → FirstPacket x bytes p (len + more) z
 
 -- What comes next if these packets, these bytes after them and this refusal are left: nothing, at the end of the file; the refusal
 -- with its place, after which nothing comes; the first packet, right after which reading goes on, and the others are left.
-abbrev pub GivesNext : List PacketValue → (left : List ℕ) → Option CaptureRefusal → State → Option (Result CapturedPacket CaptureFault) → State → Type 0
-GivesNext [] left None s result t = (result ≡ None) × IsEnd t.expected t.rest × (t.over ≡ false)
-GivesNext [] left (Some refusal) s result t =
+abbrev pub GivesNextPacket : List PacketValue → (left : List ℕ) → Option CaptureRefusal → CaptureState → Option (Result CapturedPacket CaptureFault) → CaptureState → Type 0
+GivesNextPacket [] left None s result t = (result ≡ None) × IsEnd t.expected t.rest × (t.over ≡ false)
+GivesNextPacket [] left (Some refusal) s result t =
     (f : CaptureFault) × (result ≡ Some (Err f)) × (capture_refusal_view f.error ≡ refusal) × (f.offset ≡ t.offset) × (t.rest ≡ left) × (t.over ≡ true)
-GivesNext (p ∷ packets) left fault s result t =
+GivesNextPacket (p ∷ packets) left fault s result t =
     (q : CapturedPacket) × (len : ℕ) × (result ≡ Some (Ok q)) × (captured_packet_view q ≡ p) × FirstPacket s.expected s.rest p len t.expected
     × (t.rest ≡ drop len s.rest) × HasPackets t.expected t.rest packets left fault × (t.over ≡ false)
 
 -- a call of next
-pub record Gives (s : State) (result : Option (Result CapturedPacket CaptureFault)) (t : State) : Type 0 where
+pub record CaptureGives (s : CaptureState) (result : Option (Result CapturedPacket CaptureFault)) (t : CaptureState) : Type 0 where
   pub over : s.over ≡ true → (result ≡ None) × (t ≡ s)
   pub next : s.over ≡ false → (packets : List PacketValue) (left : List ℕ) (fault : Option CaptureRefusal)
-      → HasPackets s.expected s.rest packets left fault → GivesNext packets left fault s result t
+      → HasPackets s.expected s.rest packets left fault → GivesNextPacket packets left fault s result t
   pub place : s.over ≡ false → t.offset + length t.rest ≡ s.offset + length s.rest
 
 -- of k bytes at most k packets and a refusal are still to come, and nothing after the refusal
-abbrev pub items_left : State → Count
+abbrev pub items_left : CaptureState → Count
 items_left s = at_most (if s.over then 0 else length s.rest + 1)

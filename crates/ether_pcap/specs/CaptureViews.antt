@@ -1,7 +1,7 @@
 -- What is read of a capture file of either format, and why it is refused, as values of the formats.
 use Rattle.std.specs.Prelude.{ℕ, List, map}
 use Rattle.std.specs.Option.{option_map}
-use Rattle.ether_pcap.specs.Capture.{TimeValue, PacketValue, CaptureInterfaceValue, Expectation, Beginning, Records, Blocks, CaptureRefusal, File, Record, Section, Block, Body, NoInterface, TooManyInterfaces}
+use Rattle.ether_pcap.specs.Capture.{TimeValue, PacketValue, CaptureInterfaceValue, CaptureExpectation, Beginning, Records, Blocks, CaptureRefusal, File, Record, Section, Block, Body, NoInterface, TooManyInterfaces}
 use Rattle.ether_pcap.specs.Views.{order_of, file_header_view, file_refusal_view, record_refusal_view}
 use Rattle.ether_pcap.specs.PcapngViews.{section_refusal_view, block_refusal_view, body_refusal_view}
 use Rattle.ether_pcap.specs.declared.capture.timestamp.Timestamp.{Timestamp}
@@ -48,7 +48,7 @@ abbrev pub interfaces_view : List CaptureInterface → List CaptureInterfaceValu
 interfaces_view interfaces = map capture_interface_view interfaces
 
 -- what a reader expects that has read this and keeps these interfaces, so many of a section at most
-abbrev pub expectation_of : (most : ℕ) → Progress → List CaptureInterface → Expectation
+abbrev pub expectation_of : (most : ℕ) → Progress → List CaptureInterface → CaptureExpectation
 expectation_of most progress.Nothing interfaces = Beginning most
 expectation_of most (progress.Classic header) interfaces = Records (file_header_view header)
 expectation_of most (progress.Section order) interfaces = Blocks most (order_of order) (interfaces_view interfaces)

@@ -7,7 +7,7 @@ use Rattle.ether_pcap.specs.Bodies.{captured_by}
 use Rattle.ether_pcap.specs.FileHeader.{FileHeaderValue}
 use Rattle.ether_pcap.specs.Section.{section_type}
 use Rattle.ether_pcap.specs.Writing.{bytes_of}
-use Rattle.ether_pcap.specs.Capture.{PacketValue, CaptureInterfaceValue, Expectation, Beginning, Records, Blocks, BlockKind, SimplePacket, kind_of_block}
+use Rattle.ether_pcap.specs.Capture.{PacketValue, CaptureInterfaceValue, CaptureExpectation, Beginning, Records, Blocks, BlockKind, SimplePacket, kind_of_block}
 use Rattle.ether_pcap.specs.Editing.{EditedValue, edited_unit, edited_packet}
 use Rattle.ether_pcap.specs.declared.capture.copy_mode.CopyMode.{CopyMode}
 use Rattle.ether_pcap.specs.declared.capture.copy_mode.CopyMode.TheVariants as modes
@@ -36,7 +36,7 @@ abbrev pub raised_interface : ℕ → CaptureInterfaceValue → CaptureInterface
 raised_interface raise i = record i { snap_len = raised_len raise i.snap_len }
 
 -- what is expected in the copy, where this is expected in the capture
-abbrev pub expected_in : ModeValue → Expectation → Expectation
+abbrev pub expected_in : ModeValue → CaptureExpectation → CaptureExpectation
 expected_in Exact x = x
 expected_in (Changed raise) (Beginning most) = Beginning most
 expected_in (Changed raise) (Records h) = Records (raised_header raise h)
@@ -59,13 +59,13 @@ changed_block raise order block =
     else (if nat_eq (field order block 0 4) 0x40000BAD then [] else block)
 
 -- A unit after which this is expected. The file header, too, has the raised snap length; a section header gives no section length.
-abbrev pub changed_unit : ℕ → (after : Expectation) → (unit : List ℕ) → List ℕ
+abbrev pub changed_unit : ℕ → (after : CaptureExpectation) → (unit : List ℕ) → List ℕ
 changed_unit raise (Beginning most) unit = unit
 changed_unit raise (Records h) unit = with_bytes 16 (bytes_of h.order 4 (raised_len raise h.snap_len)) unit
 changed_unit raise (Blocks most order interfaces) unit =
     if nat_eq (number (slice_range unit 0 4)) section_type then with_bytes 16 no_section_len unit else changed_block raise order unit
 
-abbrev pub other_unit : ModeValue → (after : Expectation) → (unit : List ℕ) → List ℕ
+abbrev pub other_unit : ModeValue → (after : CaptureExpectation) → (unit : List ℕ) → List ℕ
 other_unit Exact after unit = unit
 other_unit (Changed raise) after unit = changed_unit raise after unit
 
@@ -82,13 +82,13 @@ is_kept raise SimplePacket p = nat_eq (captured_by (raised_len raise p.snap_len)
 is_kept raise _ p = true
 
 -- the unit of a packet that is not edited
-abbrev pub packet_unit : ModeValue → Expectation → PacketValue → List ℕ → Option (List ℕ)
+abbrev pub packet_unit : ModeValue → CaptureExpectation → PacketValue → List ℕ → Option (List ℕ)
 packet_unit (Changed raise) (Blocks most order interfaces) p unit =
     if is_kept raise (kind_of_block (field order unit 0 4)) p then Some unit else None
 packet_unit _ x p unit = Some unit
 
 -- .. and of one that is edited if there is an edit
-abbrev pub unit_after : ModeValue → Expectation → PacketValue → Option EditedValue → List ℕ → Option (List ℕ)
+abbrev pub unit_after : ModeValue → CaptureExpectation → PacketValue → Option EditedValue → List ℕ → Option (List ℕ)
 unit_after mode x p None unit = packet_unit mode x p unit
 unit_after mode x p (Some e) unit = edited_unit x (length p.packet) e unit
 

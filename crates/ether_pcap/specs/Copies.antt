@@ -2,7 +2,7 @@
 -- edited is copied byte for byte, and so is each unit that is no packet, unless the copy is another capture.
 use Rattle.std.specs.Prelude.{◌≡◌, ◌≢◌, ◌⊎◌, ℕ, ◌+◌, ◌<◌, ◌≤◌, List, [], ◌∷◌, ◌++◌, length, take, drop, Bool, true, false, ◌&&◌, IsTrue, Option, Some, None, All, ⊤}
 use Rattle.ether_base.specs.Bytes.{IsBytes}
-use Rattle.ether_pcap.specs.Capture.{PacketValue, IsWithinSnap, Expectation, Beginning, CaptureRefusal, Begins, Refuses, HasBegun, IsEnd, HasPackets}
+use Rattle.ether_pcap.specs.Capture.{PacketValue, IsWithinSnap, CaptureExpectation, Beginning, CaptureRefusal, Begins, RefusesCapture, HasBegun, IsEnd, HasPackets}
 use Rattle.ether_pcap.specs.Editing.{EditedValue}
 use Rattle.ether_pcap.specs.CopiedUnits.{ModeValue, Exact, Changed, expected_in, other_unit, unit_after, packet_after}
 
@@ -14,20 +14,20 @@ pub data CopyFault : Type 0 where
 -- From a place of a file on, where this is expected, these bytes are copied, with these packets, each to what it is edited to; what is left
 -- after the last unit is nothing, or why the copy ends there.
 pub data Copies (mode : ModeValue) (Keeps : PacketValue → Type 0) (Edits : PacketValue → Option EditedValue → Type 0)
-    : Expectation → (bytes copy : List ℕ) → (kept edited : List PacketValue) → (rest : List ℕ) → Option CopyFault → Type 0 where
-  ended : (x : Expectation) (bytes : List ℕ) → IsEnd x bytes → Copies mode Keeps Edits x bytes [] [] [] [] None
-  refused : (x : Expectation) (bytes : List ℕ) (r : CaptureRefusal) → ¬ (IsEnd x bytes) → Refuses bytes x r → Copies mode Keeps Edits x bytes [] [] [] bytes (Some (Refused r))
-  not_edited : (x y : Expectation) (bytes : List ℕ) (len : ℕ) (p : PacketValue) (o : Option EditedValue)
+    : CaptureExpectation → (bytes copy : List ℕ) → (kept edited : List PacketValue) → (rest : List ℕ) → Option CopyFault → Type 0 where
+  ended : (x : CaptureExpectation) (bytes : List ℕ) → IsEnd x bytes → Copies mode Keeps Edits x bytes [] [] [] [] None
+  refused : (x : CaptureExpectation) (bytes : List ℕ) (r : CaptureRefusal) → ¬ (IsEnd x bytes) → RefusesCapture bytes x r → Copies mode Keeps Edits x bytes [] [] [] bytes (Some (Refused r))
+  not_edited : (x y : CaptureExpectation) (bytes : List ℕ) (len : ℕ) (p : PacketValue) (o : Option EditedValue)
       → Begins bytes x len (Some p) y → Keeps p → Edits p o → unit_after mode x p o (take len bytes) ≡ None
       → Copies mode Keeps Edits x bytes [] [] [] bytes (Some (NotEdited p))
-  unit : (x y : Expectation) (bytes copy : List ℕ) (len : ℕ) (kept edited : List PacketValue) (rest : List ℕ) (fault : Option CopyFault)
+  unit : (x y : CaptureExpectation) (bytes copy : List ℕ) (len : ℕ) (kept edited : List PacketValue) (rest : List ℕ) (fault : Option CopyFault)
       → Begins bytes x len None y → Copies mode Keeps Edits y (drop len bytes) copy kept edited rest fault
       → Copies mode Keeps Edits x bytes (other_unit mode y (take len bytes) ++ copy) kept edited rest fault
-  keeps : (x y : Expectation) (bytes front copy : List ℕ) (len : ℕ) (p : PacketValue) (o : Option EditedValue) (kept edited : List PacketValue) (rest : List ℕ) (fault : Option CopyFault)
+  keeps : (x y : CaptureExpectation) (bytes front copy : List ℕ) (len : ℕ) (p : PacketValue) (o : Option EditedValue) (kept edited : List PacketValue) (rest : List ℕ) (fault : Option CopyFault)
       → Begins bytes x len (Some p) y → Keeps p → Edits p o → unit_after mode x p o (take len bytes) ≡ Some front
       → Copies mode Keeps Edits y (drop len bytes) copy kept edited rest fault
       → Copies mode Keeps Edits x bytes (front ++ copy) (p ∷ kept) (packet_after mode p o ∷ edited) rest fault
-  leaves : (x y : Expectation) (bytes copy : List ℕ) (len : ℕ) (p : PacketValue) (kept edited : List PacketValue) (rest : List ℕ) (fault : Option CopyFault)
+  leaves : (x y : CaptureExpectation) (bytes copy : List ℕ) (len : ℕ) (p : PacketValue) (kept edited : List PacketValue) (rest : List ℕ) (fault : Option CopyFault)
       → Begins bytes x len (Some p) y → ¬ (Keeps p) → Copies mode Keeps Edits y (drop len bytes) copy kept edited rest fault
       → Copies mode Keeps Edits x bytes copy kept edited rest fault
 
@@ -59,18 +59,18 @@ pub record EditsOnce (Edits : PacketValue → Option EditedValue → Type 0) : T
 -- ---- the laws
 
 -- What a copy that is read from there on has: these packets, and nothing else. At the beginning of a file that is so unless nothing was copied.
-abbrev pub IsRead : ModeValue → Expectation → (copy : List ℕ) → (edited : List PacketValue) → Type 0
+abbrev pub IsRead : ModeValue → CaptureExpectation → (copy : List ℕ) → (edited : List PacketValue) → Type 0
 IsRead mode x copy edited = HasBegun x ⊎ (copy ≢ []) → HasPackets (expected_in mode x) copy edited [] None
 
 -- all packets from a place on, up to what is left; if it begins with one that can't be edited, further ones follow that
-abbrev pub HasPacketsTo : Expectation → (bytes : List ℕ) → List PacketValue → (rest : List ℕ) → Option CopyFault → Type 0
+abbrev pub HasPacketsTo : CaptureExpectation → (bytes : List ℕ) → List PacketValue → (rest : List ℕ) → Option CopyFault → Type 0
 HasPacketsTo x bytes packets rest None = HasPackets x bytes packets rest None
 HasPacketsTo x bytes packets rest (Some (Refused r)) = HasPackets x bytes packets rest (Some r)
 HasPacketsTo x bytes packets rest (Some (NotEdited p)) =
     (more : List PacketValue) × (left : List ℕ) × (fault : Option CaptureRefusal) × HasPackets x bytes (packets ++ p ∷ more) left fault
 
 -- .. from which those that are kept are selected
-pub record HasSource (Keeps : PacketValue → Type 0) (x : Expectation) (bytes : List ℕ) (kept : List PacketValue) (rest : List ℕ) (fault : Option CopyFault) : Type 0 where
+pub record HasSource (Keeps : PacketValue → Type 0) (x : CaptureExpectation) (bytes : List ℕ) (kept : List PacketValue) (rest : List ℕ) (fault : Option CopyFault) : Type 0 where
   pub packets : List PacketValue
   pub has : HasPacketsTo x bytes packets rest fault
   pub selected : Selected Keeps packets kept
@@ -78,7 +78,7 @@ pub record HasSource (Keeps : PacketValue → Type 0) (x : Expectation) (bytes :
 -- What is left begins with a packet that is kept, and can't be copied: it has no time, as a simple packet; or it would be longer, or its original
 -- length have more than four bytes.
 pub record IsNotEdited (mode : ModeValue) (Keeps : PacketValue → Type 0) (Edits : PacketValue → Option EditedValue → Type 0) (rest : List ℕ) (p : PacketValue) : Type 0 where
-  pub expected : Expectation
+  pub expected : CaptureExpectation
   pub len : ℕ
   pub edited : Option EditedValue
   pub begins : Begins rest expected len (Some p) expected
@@ -88,32 +88,32 @@ pub record IsNotEdited (mode : ModeValue) (Keeps : PacketValue → Type 0) (Edit
   pub why : (p.time ≡ None) ⊎ ((e : EditedValue) × (edited ≡ Some e) × ((length p.packet < length e.packet) ⊎ (4294967295 < e.original_len)))
 
 -- a copy by tests of packets, and of what they are edited to
-abbrev pub CopiesBy : ModeValue → (test : PacketValue → Bool) → (edits : PacketValue → Option EditedValue → Bool) → Expectation → (bytes copy : List ℕ) → (kept edited : List PacketValue) → (rest : List ℕ) → Option CopyFault → Type 0
+abbrev pub CopiesBy : ModeValue → (test : PacketValue → Bool) → (edits : PacketValue → Option EditedValue → Bool) → CaptureExpectation → (bytes copy : List ℕ) → (kept edited : List PacketValue) → (rest : List ℕ) → Option CopyFault → Type 0
 CopiesBy mode test edits = Copies mode (λ p. IsTrue (test p)) (λ p o. IsTrue (edits p o))
 
 -- A copy is a file whose packets are those of the file that are kept, in order, each as it is edited. If nothing of a file is copied, it is
 -- refused at its beginning. In a copy that is another capture snap lengths are still bounds, if they are raised by as many bytes as an edit gives a
 -- packet. Where no packet is edited, an exact copy with all packets is the file itself, up to what is left.
 pub record CopiesAreRead : Type 0 where
-  pub read : (mode : ModeValue) (test : PacketValue → Bool) (edits : PacketValue → Option EditedValue → Bool) (x : Expectation) (bytes copy : List ℕ) (kept edited : List PacketValue) (rest : List ℕ) (fault : Option CopyFault)
+  pub read : (mode : ModeValue) (test : PacketValue → Bool) (edits : PacketValue → Option EditedValue → Bool) (x : CaptureExpectation) (bytes copy : List ℕ) (kept edited : List PacketValue) (rest : List ℕ) (fault : Option CopyFault)
       → CopiesBy mode test edits x bytes copy kept edited rest fault → IsRead mode x copy edited
-  pub are_edited : (mode : ModeValue) (test : PacketValue → Bool) (edits : PacketValue → Option EditedValue → Bool) (x : Expectation) (bytes copy : List ℕ) (kept edited : List PacketValue) (rest : List ℕ) (fault : Option CopyFault)
+  pub are_edited : (mode : ModeValue) (test : PacketValue → Bool) (edits : PacketValue → Option EditedValue → Bool) (x : CaptureExpectation) (bytes copy : List ℕ) (kept edited : List PacketValue) (rest : List ℕ) (fault : Option CopyFault)
       → CopiesBy mode test edits x bytes copy kept edited rest fault → AreEdited mode (λ p o. IsTrue (edits p o)) kept edited
-  pub source : (mode : ModeValue) (test : PacketValue → Bool) (edits : PacketValue → Option EditedValue → Bool) (x : Expectation) (bytes copy : List ℕ) (kept edited : List PacketValue) (rest : List ℕ) (fault : Option CopyFault)
+  pub source : (mode : ModeValue) (test : PacketValue → Bool) (edits : PacketValue → Option EditedValue → Bool) (x : CaptureExpectation) (bytes copy : List ℕ) (kept edited : List PacketValue) (rest : List ℕ) (fault : Option CopyFault)
       → CopiesBy mode test edits x bytes copy kept edited rest fault → HasSource (λ p. IsTrue (test p)) x bytes kept rest fault
   pub nothing : (mode : ModeValue) (most : ℕ) (test : PacketValue → Bool) (edits : PacketValue → Option EditedValue → Bool) (bytes : List ℕ) (kept edited : List PacketValue) (rest : List ℕ) (fault : Option CopyFault)
       → CopiesBy mode test edits (Beginning most) bytes [] kept edited rest fault → (kept ≡ []) × (rest ≡ bytes) × (fault ≢ None)
-  pub stopped : (mode : ModeValue) (test : PacketValue → Bool) (edits : PacketValue → Option EditedValue → Bool) (x : Expectation) (bytes copy : List ℕ) (kept edited : List PacketValue) (rest : List ℕ) (p : PacketValue)
+  pub stopped : (mode : ModeValue) (test : PacketValue → Bool) (edits : PacketValue → Option EditedValue → Bool) (x : CaptureExpectation) (bytes copy : List ℕ) (kept edited : List PacketValue) (rest : List ℕ) (p : PacketValue)
       → CopiesBy mode test edits x bytes copy kept edited rest (Some (NotEdited p)) → IsNotEdited mode (λ q. IsTrue (test q)) (λ q o. IsTrue (edits q o)) rest p
-  pub within : (raise : ℕ) (test : PacketValue → Bool) (edits : PacketValue → Option EditedValue → Bool) (x : Expectation) (bytes copy : List ℕ) (kept edited : List PacketValue) (rest : List ℕ) (fault : Option CopyFault)
+  pub within : (raise : ℕ) (test : PacketValue → Bool) (edits : PacketValue → Option EditedValue → Bool) (x : CaptureExpectation) (bytes copy : List ℕ) (kept edited : List PacketValue) (rest : List ℕ) (fault : Option CopyFault)
       → CopiesBy (Changed raise) test edits x bytes copy kept edited rest fault → EditsWithin raise (λ p o. IsTrue (edits p o)) → All IsWithinSnap kept → All IsWithinSnap edited
   pub unedited : (edits : PacketValue → Option EditedValue → Bool) (kept edited : List PacketValue) → EditsNone (λ p o. IsTrue (edits p o))
       → AreEdited Exact (λ p o. IsTrue (edits p o)) kept edited → edited ≡ kept
-  pub all : (edits : PacketValue → Option EditedValue → Bool) (x : Expectation) (bytes copy : List ℕ) (kept edited : List PacketValue) (rest : List ℕ) (fault : Option CopyFault)
+  pub all : (edits : PacketValue → Option EditedValue → Bool) (x : CaptureExpectation) (bytes copy : List ℕ) (kept edited : List PacketValue) (rest : List ℕ) (fault : Option CopyFault)
       → EditsNone (λ p o. IsTrue (edits p o)) → Copies Exact (λ p. ⊤) (λ p o. IsTrue (edits p o)) x bytes copy kept edited rest fault → copy ++ rest ≡ bytes
 
 -- the copy of bytes
-pub record Copy (mode : ModeValue) (test : PacketValue → Bool) (edits : PacketValue → Option EditedValue → Bool) (x : Expectation) (bytes : List ℕ) : Type 0 where
+pub record Copy (mode : ModeValue) (test : PacketValue → Bool) (edits : PacketValue → Option EditedValue → Bool) (x : CaptureExpectation) (bytes : List ℕ) : Type 0 where
   pub copy : List ℕ
   pub kept : List PacketValue
   pub edited : List PacketValue
@@ -123,9 +123,9 @@ pub record Copy (mode : ModeValue) (test : PacketValue → Bool) (edits : Packet
 
 -- any bytes have a copy, and only one
 pub record CopiesAreOne : Type 0 where
-  pub some : (mode : ModeValue) (test : PacketValue → Bool) (edits : PacketValue → Option EditedValue → Bool) (x : Expectation) (bytes : List ℕ) → IsBytes bytes → EditsOnce (λ p o. IsTrue (edits p o))
+  pub some : (mode : ModeValue) (test : PacketValue → Bool) (edits : PacketValue → Option EditedValue → Bool) (x : CaptureExpectation) (bytes : List ℕ) → IsBytes bytes → EditsOnce (λ p o. IsTrue (edits p o))
       → Copy mode test edits x bytes
-  pub one : (mode : ModeValue) (test : PacketValue → Bool) (edits : PacketValue → Option EditedValue → Bool) (x : Expectation) (bytes : List ℕ) (c d : Copy mode test edits x bytes) → IsBytes bytes
+  pub one : (mode : ModeValue) (test : PacketValue → Bool) (edits : PacketValue → Option EditedValue → Bool) (x : CaptureExpectation) (bytes : List ℕ) (c d : Copy mode test edits x bytes) → IsBytes bytes
       → EditsOnce (λ p o. IsTrue (edits p o)) → (c.copy ≡ d.copy) × (c.kept ≡ d.kept) × (c.edited ≡ d.edited) × (c.rest ≡ d.rest) × (c.fault ≡ d.fault)
 
 -- ---- a copy of a copy

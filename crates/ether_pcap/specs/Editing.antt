@@ -7,7 +7,7 @@ use Rattle.ether_pcap.specs.Block.{max_block_len}
 use Rattle.ether_pcap.specs.Options.{padded}
 use Rattle.ether_pcap.specs.Record.{max_captured_len}
 use Rattle.ether_pcap.specs.Writing.{bytes_of, zeros}
-use Rattle.ether_pcap.specs.Capture.{PacketValue, Expectation, Beginning, Records, Blocks, BlockKind, EnhancedPacket, kind_of_block, Begins}
+use Rattle.ether_pcap.specs.Capture.{PacketValue, CaptureExpectation, Beginning, Records, Blocks, BlockKind, EnhancedPacket, kind_of_block, Begins}
 use Rattle.ether_pcap.specs.declared.capture.edited_unit.EditedUnit.{EditedUnit}
 use Rattle.ether_pcap.specs.declared.capture.edited_unit.EditedUnit.TheVariants as units
 
@@ -43,7 +43,7 @@ edited_block (EnhancedPacket number_len) order m e block =
 edited_block _ order m e block = None
 
 -- The unit of a packet with m captured bytes. A simple packet has no captured length of its own (4.4), and can't be edited.
-abbrev pub unit_with : Expectation → (m : ℕ) → EditedValue → List ℕ → Option (List ℕ)
+abbrev pub unit_with : CaptureExpectation → (m : ℕ) → EditedValue → List ℕ → Option (List ℕ)
 unit_with (Beginning most) m e unit = None
 unit_with (Records h) m e unit = Some (edited_record h.order e unit)
 unit_with (Blocks most order interfaces) m e unit = edited_block (kind_of_block (field order unit 0 4)) order m e unit
@@ -52,7 +52,7 @@ unit_with (Blocks most order interfaces) m e unit = edited_block (kind_of_block 
 abbrev pub is_too_long : EditedValue → Bool
 is_too_long e = if nat_lt max_captured_len (length e.packet) then true else nat_lt 4294967295 e.original_len
 
-abbrev pub edited_unit : Expectation → (m : ℕ) → EditedValue → List ℕ → Option (List ℕ)
+abbrev pub edited_unit : CaptureExpectation → (m : ℕ) → EditedValue → List ℕ → Option (List ℕ)
 edited_unit x m e unit = if is_too_long e then None else unit_with x m e unit
 
 -- the packet that it has then: all else stays
@@ -73,12 +73,12 @@ padding_of (units.Record header packet) = 0
 padding_of (units.Block header packet padding_len options trailer) = padding_len
 
 -- if the bytes are the unit of a packet, the result is that of the edited packet
-abbrev pub EditsUnit : Expectation → (unit : List ℕ) → EditedValue → Option EditedUnit → Type 0
+abbrev pub EditsUnit : CaptureExpectation → (unit : List ℕ) → EditedValue → Option EditedUnit → Type 0
 EditsUnit x unit e result =
     (p : PacketValue) → Begins unit x (length unit) (Some p) x → option_map unit_bytes result ≡ edited_unit x (length p.packet) e unit
 
 -- .. and it has the edited packet, whatever follows
-abbrev pub HasEditedPacket : Expectation → (unit : List ℕ) → EditedValue → Option EditedUnit → Type 0
+abbrev pub HasEditedPacket : CaptureExpectation → (unit : List ℕ) → EditedValue → Option EditedUnit → Type 0
 HasEditedPacket x unit e result =
     (p : PacketValue) → Begins unit x (length unit) (Some p) x
     → IfSome result (λ u. (more : List ℕ) → Begins (unit_bytes u ++ more) x (length (unit_bytes u)) (Some (edited_packet e p)) x)

@@ -2,7 +2,7 @@ pub mod Numbers
 pub mod FileHeader
 pub mod Record
 pub mod Views
-pub mod Reading
+pub mod RecordReading
 pub mod Laws
 pub mod Block
 pub mod Section

@@ -8,7 +8,7 @@ mod hex_digits;
 pub mod laws;
 mod link_type;
 pub mod pcapng;
-mod words;
+mod word_bytes;
 
 pub use byte_order::ByteOrder;
 pub use capture::{

@@ -1,5 +1,6 @@
 -- Lemmas and laws of the wire grammar.
 pub mod Windows
+pub mod CheckSequence
 pub mod Announced
 pub mod Stacks
 pub mod LongerBytes

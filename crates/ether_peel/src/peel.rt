@@ -422,14 +422,8 @@ fn lowered(limit: Option<usize>) -> Option<usize>
 fn permitted(limit: Option<usize>, ether_type: EtherType) -> EtherType
     ensures { permitted_of limit (announced_by ether_type.0) ≡ announced_by result.0 }
 {
-    match (limit, ether_type) {
-        (
-            Some(0),
-            EtherType::VLAN_TAGGED_FRAME
-            | EtherType::PROVIDER_BRIDGING
-            | EtherType::VLAN_DOUBLE_TAGGED_FRAME
-            | EtherType::MACSEC,
-        ) => UNANNOUNCED,
+    match limit {
+        Some(0) if ether_type.announces_vlan() || ether_type == EtherType::MACSEC => UNANNOUNCED,
         _ => ether_type,
     }
 }

@@ -1,5 +1,6 @@
 //! The fields of a header of Linux cooked capture v1 (LINKTYPE_LINUX_SLL) in bytes that begin with one: packet type, ARPHRD_
 //! type, length of the sender's address (2 bytes each), sender's address (8 bytes) and protocol (2 bytes), in this order.
+//! The public functions also read a header that the views refuse; where bytes are missing, they read those that are there.
 ghost use Rattle.std.specs.Prelude.{◌≡◌, ◌+◌, ◌≤◌, length, slice_range, IfOk, IfErr, ◌<◌};
 ghost use Rattle.ether_base.specs.Bytes.{IsBytes, number, spelled};
 ghost use Rattle.ether_base.specs.Formats.LinuxSll.{linux_sll_of};
@@ -7,30 +8,29 @@ ghost use Rattle.ether_sll.specs.LinuxSll.{HoldsLinuxSll, protocol_type_of_heade
 ghost use Rattle.ether_base.specs.Formats.RefusedLen.{OnLen};
 
 use crate::LinuxSllHeader;
-use ether_base::big_endian::u16_of;
+use ether_base::big_endian::{bytes_of_u64, u16_at, u64_at};
 use ether_base::err::Layer;
 use ether_base::err::linux_sll::{HeaderError, HeaderSliceError};
 use ether_base::slice_len::too_short;
 use ether_base::{ArpHardwareId, LenSource, LinuxSllPacketType, LinuxSllProtocolType};
-use std::ops::Range;
 
-/// The bytes of the packet type.
-const PACKET_TYPE: Range<usize> = 0..2;
+/// Where the packet type begins.
+const PACKET_TYPE: usize = 0;
 
-/// The bytes of the ARPHRD_ type.
-const HARDWARE_TYPE: Range<usize> = 2..4;
+/// Where the ARPHRD_ type begins.
+const HARDWARE_TYPE: usize = 2;
 
-/// The bytes of the length of the sender's address.
-const ADDRESS_LENGTH: Range<usize> = 4..6;
+/// Where the length of the sender's address begins.
+const ADDRESS_LENGTH: usize = 4;
 
-/// The bytes of the sender's address.
-const ADDRESS: Range<usize> = 6..14;
+/// Where the sender's address begins.
+const ADDRESS: usize = 6;
 
-/// The bytes of the protocol.
-const PROTOCOL: Range<usize> = 14..16;
+/// Where the protocol begins.
+const PROTOCOL: usize = 14;
 
 /// Tests that a slice begins with a header whose contents are supported.
-pub fn require_header(slice: &[u8]) -> Result<(), HeaderSliceError>
+pub(crate) fn require_header(slice: &[u8]) -> Result<(), HeaderSliceError>
     ensures holds { IfOk result (λ _. HoldsLinuxSll slice.now) }
     ensures refused { IfErr result (IsRefusedSll slice.now) }
     ensures short { IfErr result (λ e. OnLen e (λ _. length slice.now < 16)) }
@@ -50,31 +50,31 @@ pub fn require_header(slice: &[u8]) -> Result<(), HeaderSliceError>
 }
 
 /// Tests that the packet type, and then the hardware type, are supported.
-pub fn require_content(bytes: &[u8]) -> Result<(), HeaderError>
+pub(crate) fn require_content(bytes: &[u8]) -> Result<(), HeaderError>
     requires { 16 ≤ length bytes.now }
     ensures holds { IfOk result (λ _. HoldsLinuxSll bytes.now) }
     ensures refused { IfErr result (IsRefusedContent bytes.now) }
 {
-    LinuxSllPacketType::try_from(packet_number(bytes))?;
+    LinuxSllPacketType::try_from(packet_type_number(bytes))?;
     LinuxSllProtocolType::try_from((arp_hardware_type(bytes), protocol_number(bytes)))?;
     Ok(())
 }
 
 /// The packet type.
 #[inline(always)]
-pub fn packet_type(bytes: &[u8]) -> LinuxSllPacketType
+pub(crate) fn packet_type(bytes: &[u8]) -> LinuxSllPacketType
     requires { HoldsLinuxSll bytes.now }
     ensures { result ≡ (linux_sll_of bytes.now).packet_type }
 {
-    match LinuxSllPacketType::try_from(packet_number(bytes)) {
+    match LinuxSllPacketType::try_from(packet_type_number(bytes)) {
         Ok(packet_type) => packet_type,
         Err(_) => unreachable!(),
     }
 }
 
 /// The ARPHRD_ type of the device.
+#[inline(always)]
 pub fn arp_hardware_type(bytes: &[u8]) -> ArpHardwareId
-    requires { 16 ≤ length bytes.now }
     ensures { result.0 ≡ (linux_sll_of bytes.now).hardware_type }
 {
     ArpHardwareId(u16_at(bytes, HARDWARE_TYPE))
@@ -82,7 +82,6 @@ pub fn arp_hardware_type(bytes: &[u8]) -> ArpHardwareId
 
 /// The length of the sender's address in bytes, which may be more than there is room for.
 pub fn sender_address_valid_length(bytes: &[u8]) -> u16
-    requires { 16 ≤ length bytes.now }
     ensures { result ≡ (linux_sll_of bytes.now).address_len }
 {
     u16_at(bytes, ADDRESS_LENGTH)
@@ -90,25 +89,24 @@ pub fn sender_address_valid_length(bytes: &[u8]) -> u16
 
 /// The 8 bytes of the sender's address, used or not.
 pub fn sender_address_full(bytes: &[u8]) -> [u8; 8]
-    requires { 16 ≤ length bytes.now }
     ensures { result ≡ spelled 8 (linux_sll_of bytes.now).address }
 {
-    address(bytes)
+    bytes_of_u64(u64_at(bytes, ADDRESS))
 }
 
 /// As many bytes of the sender's address as its length says, at most 8.
-pub fn sender_address(bytes: &[u8]) -> &[u8]
+pub(crate) fn sender_address(bytes: &[u8]) -> &[u8]
     requires { 16 ≤ length bytes.now }
     ensures { result.now ≡ valid_address bytes.now }
 {
     let valid = sender_address_valid_length(bytes);
     let len = if valid < 8 { usize::from(valid) } else { 8 };
-    &bytes[ADDRESS.start..ADDRESS.start + len]
+    &bytes[ADDRESS..ADDRESS + len]
 }
 
 /// The protocol type, in the variant that the hardware type gives it.
 #[inline(always)]
-pub fn protocol_type(bytes: &[u8]) -> LinuxSllProtocolType
+pub(crate) fn protocol_type(bytes: &[u8]) -> LinuxSllProtocolType
     requires { HoldsLinuxSll bytes.now }
     ensures { result ≡ protocol_type_of_header bytes.now }
 {
@@ -119,7 +117,7 @@ pub fn protocol_type(bytes: &[u8]) -> LinuxSllProtocolType
 }
 
 /// All fields.
-pub fn header(bytes: &[u8]) -> LinuxSllHeader
+pub(crate) fn header(bytes: &[u8]) -> LinuxSllHeader
     requires { HoldsLinuxSll bytes.now }
     ensures view { linux_sll_view result ≡ linux_sll_of bytes.now }
     ensures address { result.sender_address ≡ slice_range bytes.now 6 14 }
@@ -136,16 +134,16 @@ pub fn header(bytes: &[u8]) -> LinuxSllHeader
 }
 
 /// The packet type as a number.
-fn packet_number(bytes: &[u8]) -> u16
-    requires { 16 ≤ length bytes.now }
+#[inline(always)]
+pub fn packet_type_number(bytes: &[u8]) -> u16
     ensures { result ≡ (linux_sll_of bytes.now).packet_type }
 {
     u16_at(bytes, PACKET_TYPE)
 }
 
-/// The protocol type as a number.
-fn protocol_number(bytes: &[u8]) -> u16
-    requires { 16 ≤ length bytes.now }
+/// The protocol as a number.
+#[inline(always)]
+pub fn protocol_number(bytes: &[u8]) -> u16
     ensures { result ≡ (linux_sll_of bytes.now).protocol }
 {
     u16_at(bytes, PROTOCOL)
@@ -154,28 +152,7 @@ fn protocol_number(bytes: &[u8]) -> u16
 /// The 8 bytes of the sender's address in their order on the wire.
 fn address(bytes: &[u8]) -> [u8; 8]
     requires { 16 ≤ length bytes.now }
-    ensures value { result ≡ slice_range bytes.now 6 14 }
-    ensures bytes { IsBytes result }
+    ensures { result ≡ slice_range bytes.now 6 14 }
 {
-    let (b, at) = (bytes, ADDRESS.start);
-    [
-        b[at],
-        b[at + 1],
-        b[at + 2],
-        b[at + 3],
-        b[at + 4],
-        b[at + 5],
-        b[at + 6],
-        b[at + 7],
-    ]
-}
-
-/// The number in a field of two bytes.
-fn u16_at(bytes: &[u8], field: Range<usize>) -> u16
-    requires width { field.end ≡ field.start + 2 }
-    requires within { field.end ≤ length bytes.now }
-    ensures { result ≡ number (slice_range bytes.now field.start field.end) }
-{
-    let at = field.start;
-    u16_of([bytes[at], bytes[at + 1]])
+    sender_address_full(bytes)
 }

@@ -93,6 +93,13 @@ impl<'a> LinuxSllHeaderSlice<'a> {
         linux_sll_fields::packet_type(self.slice)
     }
 
+    /// The packet type as a number, 0 to 7.
+    pub fn packet_type_number(&self) -> u16
+        ensures { result ≡ (linux_sll_of self.now).packet_type }
+    {
+        linux_sll_fields::packet_type_number(self.slice)
+    }
+
     /// The hardware type (ARPHRD_) of the device that the packet was seen on.
     pub fn arp_hardware_type(&self) -> ArpHardwareId
         ensures { result.0 ≡ (linux_sll_of self.now).hardware_type }
@@ -126,6 +133,13 @@ impl<'a> LinuxSllHeaderSlice<'a> {
         ensures { result ≡ protocol_type_of_header self.now }
     {
         linux_sll_fields::protocol_type(self.slice)
+    }
+
+    /// The protocol as a number.
+    pub fn protocol_number(&self) -> u16
+        ensures { result ≡ (linux_sll_of self.now).protocol }
+    {
+        linux_sll_fields::protocol_number(self.slice)
     }
 
     /// The header as a value.

@@ -32,8 +32,8 @@ refusal_view (errors.Len required len) = Short required len
 refusal_view (errors.PacketType n) = PacketType n
 
 -- bytes are refused
-abbrev pub IsRefused : List ℕ → LinuxSll2Error → Type 0
-IsRefused bytes error = RefusesLinuxSll2 bytes (refusal_view error)
+abbrev pub IsRefusedSll2 : List ℕ → LinuxSll2Error → Type 0
+IsRefusedSll2 bytes error = RefusesLinuxSll2 bytes (refusal_view error)
 
 -- a refused length has its numbers; of another error nothing is said
 abbrev pub IsShort : List ℕ → LinuxSll2Error → Type 0
@@ -67,4 +67,4 @@ pub record HoldsHeader (bytes : List ℕ) (h : LinuxSll2Header) : Type 0 where
 
 -- what reading twenty bytes returns: the header that they hold, or the row that refuses them
 abbrev pub AnswersHeader : List ℕ → Result LinuxSll2Header LinuxSll2Error → Type 0
-AnswersHeader bytes result = MatchResult result (HoldsHeader bytes) (IsRefused bytes)
+AnswersHeader bytes result = MatchResult result (HoldsHeader bytes) (IsRefusedSll2 bytes)

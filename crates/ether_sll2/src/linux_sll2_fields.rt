@@ -5,23 +5,22 @@ ghost use Rattle.std.specs.Prelude.{◌≡◌, ◌+◌, ◌≤◌, ◌<◌, leng
 ghost use Rattle.ether_base.specs.Bytes.{IsBytes, number, spelled};
 ghost use Rattle.ether_base.specs.Formats.LinuxSllProtocolType.{ethernet_protocol_type};
 ghost use Rattle.ether_sll2.specs.LinuxSll2.{linux_sll2_of, protocol_on, protocol_of_header};
-ghost use Rattle.ether_sll2.specs.Views.{HoldsLinuxSll2, IsRefused, IsShort, linux_sll2_view, valid_address};
+ghost use Rattle.ether_sll2.specs.Views.{HoldsLinuxSll2, IsRefusedSll2, IsShort, linux_sll2_view, valid_address};
 
 use crate::{LinuxSll2Error, LinuxSll2Header};
-use ether_base::big_endian::{u16_of, u32_of};
+use ether_base::big_endian::{bytes_of_u64, u16_at, u32_at, u64_at};
 use ether_base::{
     ArpHardwareId, EtherType, LinuxNonstandardEtherType, LinuxSllPacketType, LinuxSllProtocolType,
 };
-use std::ops::Range;
 
-/// The bytes of the protocol.
-const PROTOCOL: Range<usize> = 0..2;
+/// Where the protocol begins.
+const PROTOCOL: usize = 0;
 
-/// The bytes of the interface index.
-const INTERFACE_INDEX: Range<usize> = 4..8;
+/// Where the interface index begins.
+const INTERFACE_INDEX: usize = 4;
 
-/// The bytes of the ARPHRD_ type.
-const HARDWARE_TYPE: Range<usize> = 8..10;
+/// Where the ARPHRD_ type begins.
+const HARDWARE_TYPE: usize = 8;
 
 /// The byte of the packet type.
 const PACKET_TYPE: usize = 10;
@@ -29,13 +28,13 @@ const PACKET_TYPE: usize = 10;
 /// The byte of the length of the sender's address.
 const ADDRESS_LENGTH: usize = 11;
 
-/// The bytes of the sender's address.
-const ADDRESS: Range<usize> = 12..20;
+/// Where the sender's address begins.
+const ADDRESS: usize = 12;
 
 /// Tests that a slice begins with a header whose packet type is supported.
 pub fn require_header(slice: &[u8]) -> Result<(), LinuxSll2Error>
     ensures holds { IfOk result (λ _. HoldsLinuxSll2 slice.now) }
-    ensures refused { IfErr result (IsRefused slice.now) }
+    ensures refused { IfErr result (IsRefusedSll2 slice.now) }
     ensures short { IfErr result (IsShort slice.now) }
 {
     if slice.len() < LinuxSll2Header::LEN {
@@ -51,10 +50,10 @@ pub fn require_header(slice: &[u8]) -> Result<(), LinuxSll2Error>
 pub fn require_packet_type(bytes: &[u8]) -> Result<(), LinuxSll2Error>
     requires { 20 ≤ length bytes.now }
     ensures holds { IfOk result (λ _. HoldsLinuxSll2 bytes.now) }
-    ensures refused { IfErr result (IsRefused bytes.now) }
+    ensures refused { IfErr result (IsRefusedSll2 bytes.now) }
     ensures short { IfErr result (IsShort bytes.now) }
 {
-    let number = byte_at(bytes, PACKET_TYPE);
+    let number = packet_type_number(bytes);
     match LinuxSllPacketType::try_from(u16::from(number)) {
         Ok(_) => Ok(()),
         Err(_) => Err(LinuxSll2Error::PacketType(number)),
@@ -67,7 +66,7 @@ pub fn protocol_type(bytes: &[u8]) -> LinuxSllProtocolType
     requires { 20 ≤ length bytes.now }
     ensures { result ≡ protocol_of_header bytes.now }
 {
-    protocol_type_on(arp_hardware_type(bytes), u16_at(bytes, PROTOCOL))
+    protocol_type_on(arp_hardware_type(bytes), protocol_number(bytes))
 }
 
 /// The index of the interface.
@@ -86,13 +85,30 @@ pub fn arp_hardware_type(bytes: &[u8]) -> ArpHardwareId
     ArpHardwareId(u16_at(bytes, HARDWARE_TYPE))
 }
 
+/// The packet type as a number.
+#[inline(always)]
+pub fn packet_type_number(bytes: &[u8]) -> u8
+    requires { 20 ≤ length bytes.now }
+    ensures { result ≡ (linux_sll2_of bytes.now).packet_type }
+{
+    byte_at(bytes, PACKET_TYPE)
+}
+
+/// The protocol as a number.
+#[inline(always)]
+pub fn protocol_number(bytes: &[u8]) -> u16
+    ensures { result ≡ (linux_sll2_of bytes.now).protocol }
+{
+    u16_at(bytes, PROTOCOL)
+}
+
 /// The packet type.
 #[inline(always)]
 pub fn packet_type(bytes: &[u8]) -> LinuxSllPacketType
     requires { HoldsLinuxSll2 bytes.now }
     ensures { result ≡ (linux_sll2_of bytes.now).packet_type }
 {
-    match LinuxSllPacketType::try_from(u16::from(byte_at(bytes, PACKET_TYPE))) {
+    match LinuxSllPacketType::try_from(u16::from(packet_type_number(bytes))) {
         Ok(packet_type) => packet_type,
         Err(_) => unreachable!(),
     }
@@ -108,10 +124,9 @@ pub fn sender_address_valid_length(bytes: &[u8]) -> u8
 
 /// The 8 bytes of the sender's address, used or not.
 pub fn sender_address_full(bytes: &[u8]) -> [u8; 8]
-    requires { 20 ≤ length bytes.now }
     ensures { result ≡ spelled 8 (linux_sll2_of bytes.now).address }
 {
-    address(bytes)
+    bytes_of_u64(u64_at(bytes, ADDRESS))
 }
 
 /// As many bytes of the sender's address as its length says, at most 8.
@@ -121,7 +136,7 @@ pub fn sender_address(bytes: &[u8]) -> &[u8]
 {
     let valid = sender_address_valid_length(bytes);
     let len = if valid < 8 { usize::from(valid) } else { 8 };
-    &bytes[ADDRESS.start..ADDRESS.start + len]
+    &bytes[ADDRESS..ADDRESS + len]
 }
 
 /// All fields.
@@ -170,20 +185,9 @@ fn on_ethernet(number: u16) -> LinuxSllProtocolType
 /// The 8 bytes of the sender's address in their order on the wire.
 fn address(bytes: &[u8]) -> [u8; 8]
     requires { 20 ≤ length bytes.now }
-    ensures value { result ≡ slice_range bytes.now 12 20 }
-    ensures bytes { IsBytes result }
+    ensures { result ≡ slice_range bytes.now 12 20 }
 {
-    let (b, at) = (bytes, ADDRESS.start);
-    [
-        b[at],
-        b[at + 1],
-        b[at + 2],
-        b[at + 3],
-        b[at + 4],
-        b[at + 5],
-        b[at + 6],
-        b[at + 7],
-    ]
+    sender_address_full(bytes)
 }
 
 /// The number in a field of one byte.
@@ -192,33 +196,4 @@ fn byte_at(bytes: &[u8], at: usize) -> u8
     ensures { result ≡ number (slice_range bytes.now at (at + 1)) }
 {
     bytes[at]
-}
-
-/// The number in a field of two bytes.
-fn u16_at(bytes: &[u8], field: Range<usize>) -> u16
-    requires width { field.end ≡ field.start + 2 }
-    requires within { field.end ≤ length bytes.now }
-    ensures { result ≡ number (slice_range bytes.now field.start field.end) }
-{
-    let at = field.start;
-    u16_of([bytes[at], bytes[at + 1]])
-}
-
-/// The number in a field of four bytes.
-fn u32_at(bytes: &[u8], field: Range<usize>) -> u32
-    requires width { field.end ≡ field.start + 4 }
-    requires within { field.end ≤ length bytes.now }
-    ensures { result ≡ number (slice_range bytes.now field.start field.end) }
-{
-    u32_of(four_at(bytes, field))
-}
-
-/// The four bytes of a field.
-fn four_at(bytes: &[u8], field: Range<usize>) -> [u8; 4]
-    requires width { field.end ≡ field.start + 4 }
-    requires within { field.end ≤ length bytes.now }
-    ensures { result ≡ slice_range bytes.now field.start field.end }
-{
-    let at = field.start;
-    [bytes[at], bytes[at + 1], bytes[at + 2], bytes[at + 3]]
 }

@@ -2,7 +2,7 @@
 ghost use Rattle.std.specs.Prelude.{◌≡◌, ◌↔◌, ◌≤◌, length, slice_range, IfOk, IfErr, Ok, Result};
 ghost use Rattle.ether_sll2.specs.declared.linux_sll2_error.LinuxSll2Error.{LinuxSll2Error as sll2_error};
 ghost use Rattle.ether_sll2.specs.LinuxSll2.{BeginsLinuxSll2, FitsLinuxSll2, AcceptsLinuxSll2, IsLinuxSll2, linux_sll2_bytes, cleared, protocol_of_header};
-ghost use Rattle.ether_sll2.specs.Views.{AnswersHeader, HasOwnType, IsRefused, IsShort, linux_sll2_value, linux_sll2_view};
+ghost use Rattle.ether_sll2.specs.Views.{AnswersHeader, HasOwnType, IsRefusedSll2, IsShort, linux_sll2_value, linux_sll2_view};
 
 use crate::{LinuxSll2Error, LinuxSll2HeaderSlice, linux_sll2_fields};
 use ether_base::big_endian::{bytes_of_u16, bytes_of_u32};
@@ -75,7 +75,7 @@ impl LinuxSll2Header {
             (λ answer. answer.0.protocol_type ≡ protocol_of_header slice.now) }
         ensures rest { IfOk result
             (λ answer. answer.1.now ≡ slice_range slice.now 20 (length slice.now)) }
-        ensures refused { IfErr result (IsRefused slice.now) }
+        ensures refused { IfErr result (IsRefusedSll2 slice.now) }
         ensures short { IfErr result (IsShort slice.now) }
     {
         let header = LinuxSll2HeaderSlice::from_slice(slice)?.to_header();

@@ -5,7 +5,7 @@ ghost use Rattle.std.specs.Cmp.Rules.{comparing};
 ghost use Rattle.std.specs.Cmp.Lexicographic.{pointwise};
 ghost use Rattle.ether_base.specs.Bytes.{spelled};
 ghost use Rattle.ether_sll2.specs.LinuxSll2.{AcceptsLinuxSll2, BeginsLinuxSll2, linux_sll2_of, protocol_of_header};
-ghost use Rattle.ether_sll2.specs.Views.{IsRefused, IsShort, linux_sll2_view, valid_address};
+ghost use Rattle.ether_sll2.specs.Views.{IsRefusedSll2, IsShort, linux_sll2_view, valid_address};
 
 use crate::{LinuxSll2Error, LinuxSll2Header, linux_sll2_fields};
 use ether_base::{ArpHardwareId, LinuxSllPacketType, LinuxSllProtocolType};
@@ -61,7 +61,7 @@ impl<'a> LinuxSll2HeaderSlice<'a> {
         ensures bytes { IfOk result (λ h. h ≡ slice_range slice.now 0 20) }
         ensures accepted { IfOk result (λ h. AcceptsLinuxSll2 slice.now) }
         ensures value { IfOk result (λ h. BeginsLinuxSll2 slice.now (linux_sll2_of h)) }
-        ensures refused { IfErr result (IsRefused slice.now) }
+        ensures refused { IfErr result (IsRefusedSll2 slice.now) }
         ensures short { IfErr result (IsShort slice.now) }
     {
         linux_sll2_fields::require_header(slice)?;
@@ -85,6 +85,13 @@ impl<'a> LinuxSll2HeaderSlice<'a> {
         linux_sll2_fields::protocol_type(self.slice)
     }
 
+    /// The protocol as a number.
+    pub fn protocol_number(&self) -> u16
+        ensures { result ≡ (linux_sll2_of self.now).protocol }
+    {
+        linux_sll2_fields::protocol_number(self.slice)
+    }
+
     /// The index of the interface that the packet was seen on, as the capturing machine numbers its interfaces.
     pub fn interface_index(&self) -> u32
         ensures { result ≡ (linux_sll2_of self.now).interface_index }
@@ -104,6 +111,13 @@ impl<'a> LinuxSll2HeaderSlice<'a> {
         ensures { result ≡ (linux_sll2_of self.now).packet_type }
     {
         linux_sll2_fields::packet_type(self.slice)
+    }
+
+    /// The packet type as a number, 0 to 7.
+    pub fn packet_type_number(&self) -> u8
+        ensures { result ≡ (linux_sll2_of self.now).packet_type }
+    {
+        linux_sll2_fields::packet_type_number(self.slice)
     }
 
     /// The length of the sender's address in bytes, as the header gives it. May exceed 8, though the field holds only 8

@@ -5,7 +5,7 @@ ghost use Rattle.std.specs.Cmp.Rules.{comparing};
 ghost use Rattle.std.specs.Cmp.Lexicographic.{pointwise};
 ghost use Rattle.ether_base.specs.Bytes.{spelled};
 ghost use Rattle.ether_sll2.specs.LinuxSll2.{AcceptsLinuxSll2, BeginsLinuxSll2, linux_sll2_of, protocol_of_header};
-ghost use Rattle.ether_sll2.specs.Views.{IsRefused, IsShort, linux_sll2_view, start_in, valid_address};
+ghost use Rattle.ether_sll2.specs.Views.{IsRefusedSll2, IsShort, linux_sll2_view, start_in, valid_address};
 
 use crate::{LinuxSll2Error, LinuxSll2Header, linux_sll2_fields};
 use ether_base::{ArpHardwareId, EtherType, LinuxSllPacketType, LinuxSllProtocolType};
@@ -66,7 +66,7 @@ impl<'a> LinuxSll2Slice<'a> {
         ensures bytes { IfOk result (λ p. p ≡ slice.now) }
         ensures accepted { IfOk result (λ p. AcceptsLinuxSll2 slice.now) }
         ensures value { IfOk result (λ p. BeginsLinuxSll2 slice.now (linux_sll2_of p)) }
-        ensures refused { IfErr result (IsRefused slice.now) }
+        ensures refused { IfErr result (IsRefusedSll2 slice.now) }
         ensures short { IfErr result (IsShort slice.now) }
     {
         linux_sll2_fields::require_header(slice)?;
@@ -86,6 +86,13 @@ impl<'a> LinuxSll2Slice<'a> {
         ensures { result ≡ protocol_of_header self.now }
     {
         linux_sll2_fields::protocol_type(self.slice)
+    }
+
+    /// The protocol as a number.
+    pub fn protocol_number(&self) -> u16
+        ensures { result ≡ (linux_sll2_of self.now).protocol }
+    {
+        linux_sll2_fields::protocol_number(self.slice)
     }
 
     /// The index of the interface that the packet was seen on, as the capturing machine numbers its interfaces.
@@ -108,6 +115,13 @@ impl<'a> LinuxSll2Slice<'a> {
         ensures { result ≡ (linux_sll2_of self.now).packet_type }
     {
         linux_sll2_fields::packet_type(self.slice)
+    }
+
+    /// The packet type as a number, 0 to 7.
+    pub fn packet_type_number(&self) -> u8
+        ensures { result ≡ (linux_sll2_of self.now).packet_type }
+    {
+        linux_sll2_fields::packet_type_number(self.slice)
     }
 
     /// The length of the sender's address in bytes, as the header gives it. May exceed 8, though the field holds only 8

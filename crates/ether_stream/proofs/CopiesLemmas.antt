@@ -2,7 +2,7 @@
 use Rattle.std.proofs.Common.{◌≡◌, ◌≢◌, ◌⊎◌, ℕ, ◌≤◌, List, [], ◌∷◌, ◌++◌, length, take, drop, Option, Some, None, refl, sym, ap, subst, ◌∙◌, arith, append_assoc, append-nil, inl, inr, zero, suc, rules}
 use Rattle.std.proofs.lemmas.List.{take-append-le, take_all, length-take-le}
 use Rattle.ether_stream.specs.declared.selection.Selection.{Selection}
-use Rattle.ether_pcap.specs.Capture.{PacketValue, Expectation, HasBegun, CaptureRefusal, Begins, Refuses, IsEnd, HasPackets}
+use Rattle.ether_pcap.specs.Capture.{PacketValue, CaptureExpectation, HasBegun, CaptureRefusal, Begins, RefusesCapture, IsEnd, HasPackets}
 use Rattle.ether_pcap.specs.Editing.{EditedValue}
 use Rattle.ether_pcap.specs.CopiedUnits.{ModeValue, Exact, Changed, expected_in, other_unit, unit_after, packet_after}
 use Rattle.ether_pcap.specs.Writing.{zeros}
@@ -39,11 +39,11 @@ start_in Exact = refl
 start_in (Changed raise) = refl
 
 module _ (mode : ModeValue) (select : Option Selection) (asked : Option EditValue) where
-  abbrev pub Copied : Expectation → (bytes copy : List ℕ) → (kept edited : List PacketValue) → (rest : List ℕ)
+  abbrev pub Copied : CaptureExpectation → (bytes copy : List ℕ) → (kept edited : List PacketValue) → (rest : List ℕ)
       → Option CopyFault → Type 0
   Copied = Copies mode (IsChosen select) (EditsIf asked)
 
-  abbrev pub Goes : (front copy : List ℕ) → (kept edited : List PacketValue) → Expectation → Type 0
+  abbrev pub Goes : (front copy : List ℕ) → (kept edited : List PacketValue) → CaptureExpectation → Type 0
   Goes = CopiesOn mode select asked
 
   -- a copy that is not empty is read
@@ -89,7 +89,7 @@ module _ (mode : ModeValue) (select : Option Selection) (asked : Option EditValu
       not_empty (inr some) = some
 
   -- what is left after a unit is copied
-  left_copied : (y : Expectation) (buffered later more : List ℕ) (len : ℕ) (others changed : List PacketValue)
+  left_copied : (y : CaptureExpectation) (buffered later more : List ℕ) (len : ℕ) (others changed : List PacketValue)
       (rest : List ℕ) (fault : Option CopyFault)
       → len ≤ length buffered → Copied y later more others changed rest fault
       → Copied y (drop len (take len buffered ++ later)) more others changed rest fault
@@ -100,7 +100,7 @@ module _ (mode : ModeValue) (select : Option Selection) (asked : Option EditValu
   CopiesOn-start later more others changed rest fault copies = copies
 
   -- a unit that is no packet is copied
-  pub CopiesOn-unit : (front copy : List ℕ) (kept edited : List PacketValue) (x y : Expectation) (buffered : List ℕ)
+  pub CopiesOn-unit : (front copy : List ℕ) (kept edited : List PacketValue) (x y : CaptureExpectation) (buffered : List ℕ)
       (len : ℕ)
       → len ≤ length buffered → Begins buffered x len None y → Goes front copy kept edited x
       → Goes (front ++ take len buffered) (copy ++ other_unit mode y (take len buffered)) kept edited y
@@ -119,7 +119,7 @@ module _ (mode : ModeValue) (select : Option Selection) (asked : Option EditValu
 
   -- a packet is copied
   pub CopiesOn-kept : (front copy text : List ℕ) (kept edited : List PacketValue) (p : PacketValue)
-      (o : Option EditedValue) (x y : Expectation) (buffered : List ℕ) (len : ℕ)
+      (o : Option EditedValue) (x y : CaptureExpectation) (buffered : List ℕ) (len : ℕ)
       → len ≤ length buffered → Begins buffered x len (Some p) y → IsChosen select p → EditsIf asked p o
       → unit_after mode x p o (take len buffered) ≡ Some text → Goes front copy kept edited x
       → Goes (front ++ take len buffered) (copy ++ text) (kept ++ p ∷ []) (edited ++ packet_after mode p o ∷ []) y
@@ -149,7 +149,7 @@ module _ (mode : ModeValue) (select : Option Selection) (asked : Option EditValu
       (left_copied y buffered later more len others changed rest fault within copies))))))
 
   -- a packet is left out
-  pub CopiesOn-left : (front copy : List ℕ) (kept edited : List PacketValue) (p : PacketValue) (x y : Expectation)
+  pub CopiesOn-left : (front copy : List ℕ) (kept edited : List PacketValue) (p : PacketValue) (x y : CaptureExpectation)
       (buffered : List ℕ) (len : ℕ)
       → len ≤ length buffered → Begins buffered x len (Some p) y → ¬ (IsChosen select p)
       → Goes front copy kept edited x → Goes (front ++ take len buffered) copy kept edited y
@@ -171,23 +171,23 @@ module _ (mode : ModeValue) (select : Option Selection) (asked : Option EditValu
   ended_copy bytes copy kept edited rest fault copies = search (rules, append-nil)
 
   -- .. at the end of a capture that has begun
-  pub copied_to_end : (front copy : List ℕ) (kept edited : List PacketValue) (x : Expectation) → HasBegun x
+  pub copied_to_end : (front copy : List ℕ) (kept edited : List PacketValue) (x : CaptureExpectation) → HasBegun x
       → Goes front copy kept edited x → Copied capture_start front copy kept edited [] None
   copied_to_end front copy kept edited x begun go =
       subst (λ (l : List ℕ). Copied capture_start l copy kept edited [] None) (append-nil front)
       (ended_copy (front ++ []) copy kept edited [] None (go [] [] [] [] [] None (ended x [] (begun, refl))))
 
   -- .. at a refusal of all that is left
-  pub copied_to_refusal : (front copy : List ℕ) (kept edited : List PacketValue) (x : Expectation) (left : List ℕ)
+  pub copied_to_refusal : (front copy : List ℕ) (kept edited : List PacketValue) (x : CaptureExpectation) (left : List ℕ)
       (r : CaptureRefusal)
-      → ¬ (IsEnd x left) → Refuses left x r → Goes front copy kept edited x
+      → ¬ (IsEnd x left) → RefusesCapture left x r → Goes front copy kept edited x
       → Copied capture_start (front ++ left) copy kept edited left (Some (Refused r))
   copied_to_refusal front copy kept edited x left r more is go =
       ended_copy (front ++ left) copy kept edited left (Some (Refused r))
       (go left [] [] [] left (Some (Refused r)) (refused x left r more is))
 
   -- .. at a packet that can't be edited
-  pub copied_to_packet : (front copy : List ℕ) (kept edited : List PacketValue) (x : Expectation)
+  pub copied_to_packet : (front copy : List ℕ) (kept edited : List PacketValue) (x : CaptureExpectation)
       (buffered later : List ℕ) (len : ℕ) (p : PacketValue) (o : Option EditedValue)
       → len ≤ length buffered → Begins buffered x len (Some p) x → IsChosen select p → EditsIf asked p o
       → unit_after mode x p o (take len buffered) ≡ None → Goes front copy kept edited x
@@ -199,9 +199,9 @@ module _ (mode : ModeValue) (select : Option Selection) (asked : Option EditValu
       (ap (unit_after mode x p o) (take-append-le len buffered later within) ∙ not_written)))
 
   -- what is copied so far is a capture
-  pub read_so_far : (front copy : List ℕ) (kept edited : List PacketValue) (x : Expectation) (left : List ℕ)
+  pub read_so_far : (front copy : List ℕ) (kept edited : List PacketValue) (x : CaptureExpectation) (left : List ℕ)
       (r : CaptureRefusal)
-      → Refuses left x r → Goes front copy kept edited x → copy ≢ []
+      → RefusesCapture left x r → Goes front copy kept edited x → copy ≢ []
       → HasPackets capture_start copy edited [] None
   read_so_far front copy kept edited x left r is go some =
       elim (at_end x left) [
@@ -213,7 +213,7 @@ module _ (mode : ModeValue) (select : Option Selection) (asked : Option EditValu
       ]
 
 -- what is written for a packet, where this is expected and it has these bytes
-pub unit_there : (mode : ModeValue) (x y : Expectation) (own bytes : List ℕ) (p : PacketValue) (o : Option EditedValue)
+pub unit_there : (mode : ModeValue) (x y : CaptureExpectation) (own bytes : List ℕ) (p : PacketValue) (o : Option EditedValue)
     (text : Option (List ℕ))
     → x ≡ y → own ≡ bytes → unit_after mode x p o own ≡ text → unit_after mode y p o bytes ≡ text
 unit_there mode x y own bytes p o text at unit_is e = search rules

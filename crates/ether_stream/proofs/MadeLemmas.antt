@@ -5,7 +5,7 @@ use Rattle.std.proofs.lemmas.List.{length-append, take-append-drop, length-take-
 use Rattle.std.proofs.lemmas.List.Sums.{sum_by-append}
 use Rattle.std.specs.List.{sum_by}
 use Rattle.ether_stream.specs.declared.selection.Selection.{Selection}
-use Rattle.ether_pcap.specs.Capture.{PacketValue, Expectation, Begins}
+use Rattle.ether_pcap.specs.Capture.{PacketValue, CaptureExpectation, Begins}
 use Rattle.ether_pcap.specs.CopiedUnits.{ModeValue, other_unit, packet_after}
 use Rattle.ether_pcap.specs.Copies.{Selected, none, one_kept, one_left}
 use Rattle.ether_pcap.proofs.CaptureLocality.{unit_alone}
@@ -116,7 +116,7 @@ KeptMore select old (Some p) new = (IsChosen select p × (new ≡ old ++ p ∷ [
 
 -- what is made with a unit more
 pub record MadeMore (select : Option Selection) (form : FormValue) (packets old : List PacketValue)
-    (packet : Option PacketValue) (front text : List ℕ) (all : Bool) (x : Expectation) : Type 0 where
+    (packet : Option PacketValue) (front text : List ℕ) (all : Bool) (x : CaptureExpectation) : Type 0 where
   pub kept : List PacketValue
   pub more : KeptMore select old packet kept
   pub selected : Selected (IsChosen select) (with_packet packets packet) kept
@@ -124,7 +124,7 @@ pub record MadeMore (select : Option Selection) (form : FormValue) (packets old 
 
 -- the lines of a packet that is chosen or not
 answered_more : (select : Option Selection) (options : LineOptions) (packets kept : List PacketValue)
-    (front text : List ℕ) (all : Bool) (x y : Expectation) (p : PacketValue) (own more : List ℕ) (accepted : Bool)
+    (front text : List ℕ) (all : Bool) (x y : CaptureExpectation) (p : PacketValue) (own more : List ℕ) (accepted : Bool)
     → Selected (IsChosen select) packets kept → Made select (Lines options) packets kept front text all x
     → AnswersPacket select options (counted (packets_before (Lines options) + length packets + 1)) p more accepted
     → MadeMore select (Lines options) packets kept (Some p) (front ++ own) (text ++ more) (all && accepted) y
@@ -145,7 +145,7 @@ answered_more select options packets kept front text all x y p own more accepted
 
 -- the copy of a unit
 copied_more : (mode : ModeValue) (select : Option Selection) (edit : Option EditValue) (packets kept : List PacketValue)
-    (front copy : List ℕ) (all : Bool) (x y : Expectation) (buffered : List ℕ) (len : ℕ) (packet : Option PacketValue)
+    (front copy : List ℕ) (all : Bool) (x y : CaptureExpectation) (buffered : List ℕ) (len : ℕ) (packet : Option PacketValue)
     (own more : List ℕ) (text : Option (List ℕ))
     → len ≤ length buffered → Begins buffered x len packet y → own ≡ take len buffered
     → Selected (IsChosen select) packets kept → Made select (Copy mode edit) packets kept front copy all x
@@ -197,20 +197,20 @@ copied_more mode select edit packets kept front copy all x y buffered len packet
     }
 
 -- the text of a unit that is no packet
-pub other_made : (select : Option Selection) (form : FormValue) (x : Expectation) (number : ℕ) (unit : List ℕ)
+pub other_made : (select : Option Selection) (form : FormValue) (x : CaptureExpectation) (number : ℕ) (unit : List ℕ)
     → Makes select form x number unit None true (Some (other_text form x unit))
 other_made select (Lines options) x number unit = (refl, refl)
 other_made select (Copy mode edit) x number unit = (writes_unit, refl)
 
 -- .. and of a packet that is not chosen
-pub left_made : (select : Option Selection) (form : FormValue) (x : Expectation) (number : ℕ) (unit : List ℕ)
+pub left_made : (select : Option Selection) (form : FormValue) (x : CaptureExpectation) (number : ℕ) (unit : List ℕ)
     (p : PacketValue) → ¬ (IsChosen select p) → Makes select form x number unit (Some p) true (Some [])
 left_made select (Lines options) x number unit p not_chosen = ([], inr (not_chosen, refl, refl), refl)
 left_made select (Copy mode edit) x number unit p not_chosen = (writes_nothing p not_chosen, refl)
 
 -- what is made of a unit
 pub made_more : (select : Option Selection) (form : FormValue) (packets kept : List PacketValue) (front text : List ℕ)
-    (all : Bool) (x y : Expectation) (buffered : List ℕ) (len number : ℕ) (packet : Option PacketValue)
+    (all : Bool) (x y : CaptureExpectation) (buffered : List ℕ) (len number : ℕ) (packet : Option PacketValue)
     (own more : List ℕ) (accepted : Bool)
     → len ≤ length buffered → Begins buffered x len packet y → own ≡ take len buffered
     → number ≡ counted (packets_before form + length packets + 1)
@@ -244,7 +244,7 @@ made_start select (Lines options) = (refl, refl)
 made_start select (Copy mode edit) = ([], CopiesOn-start mode select edit, refl)
 
 -- a unit that was read, by its own bytes
-own_unit : (buffered : List ℕ) (x y : Expectation) (len : ℕ) (packet : Option PacketValue)
+own_unit : (buffered : List ℕ) (x y : CaptureExpectation) (len : ℕ) (packet : Option PacketValue)
     → len ≤ length buffered → Begins buffered x len packet y
     → Begins (take len buffered) x (length (take len buffered)) packet y
 own_unit buffered x y len packet within begins =
@@ -255,7 +255,7 @@ own_unit buffered x y len packet within begins =
     (unit_alone front (drop len buffered) x y len packet (omega (arith, long)) whole)
 
 -- .. has this packet
-pub packet_of_unit : (buffered : List ℕ) (x y : Expectation) (len : ℕ) (packet : Option PacketValue)
+pub packet_of_unit : (buffered : List ℕ) (x y : CaptureExpectation) (len : ℕ) (packet : Option PacketValue)
     → len ≤ length buffered → Begins buffered x len packet y → IsUnitOf y (take len buffered) packet
 packet_of_unit buffered x y len None within begins = (x, own_unit buffered x y len None within begins)
 packet_of_unit buffered x y len (Some p) within begins = search (rules, same_after, own_unit)

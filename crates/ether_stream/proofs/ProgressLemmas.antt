@@ -4,7 +4,7 @@ use Rattle.std.proofs.lemmas.List.{length-append, length-drop, take_all, length-
 use Rattle.std.specs.List.{sum_by}
 use Rattle.std.specs.Io.KnownBytes.{Appends}
 use Rattle.ether_stream.specs.declared.selection.Selection.{Selection}
-use Rattle.ether_pcap.specs.Capture.{PacketValue, Expectation, HasBegun, Begins}
+use Rattle.ether_pcap.specs.Capture.{PacketValue, CaptureExpectation, HasBegun, Begins}
 use Rattle.ether_pcap.specs.Copies.{Selected, none}
 use Rattle.ether_pcap.specs.Editing.{EditedValue}
 use Rattle.ether_pcap.specs.CopiedUnits.{ModeValue, other_unit, unit_after}
@@ -32,7 +32,7 @@ use Rattle.ether_stream.proofs.MadeLemmas.{chosen-push, left-push, verdict_with-
 -- ---- how far the run has come
 
 -- what follows is what a capture has first, with a unit more
-goes_more : (front : List ℕ) (packets : List PacketValue) (packet : Option PacketValue) (x y : Expectation)
+goes_more : (front : List ℕ) (packets : List PacketValue) (packet : Option PacketValue) (x y : CaptureExpectation)
     (buffered : List ℕ) (len : ℕ)
     → len ≤ length buffered → Begins buffered x len packet y → GoesOn front packets x
     → GoesOn (front ++ take len buffered) (with_packet packets packet) y
@@ -113,7 +113,7 @@ last_left h k a new some is e done = search (rules, some_number)
 
 -- the front ends with it
 ends_more : (select : Option Selection) (count : Option ℕ) (packets kept : List PacketValue) (front : List ℕ)
-    (x y : Expectation) (buffered : List ℕ) (len : ℕ) (packet : Option PacketValue) (old new : Option ℕ)
+    (x y : CaptureExpectation) (buffered : List ℕ) (len : ℕ) (packet : Option PacketValue) (old new : Option ℕ)
     → len ≤ length buffered → Begins buffered x len packet y → GoesOn front packets x
     → Selected (IsChosen select) packets kept
     → IsLeftOf count (length kept) old → old ≢ Some 0 → LeftMore select packet old new → new ≡ Some 0
@@ -156,10 +156,10 @@ module _ {W X : Type 0} (task : TaskValue) (contents : W → Option (List ℕ)) 
     text = [];
     all_accepted = true;
     place = refl;
-    parts = subst (λ (x : Expectation). GoesOn [] [] x) (sym is.is_reader) GoesOn-start;
+    parts = subst (λ (x : CaptureExpectation). GoesOn [] [] x) (sym is.is_reader) GoesOn-start;
     selected = none;
     made =
-        subst (λ (x : Expectation). Made task.select task.form [] [] [] [] true x) (sym is.is_reader)
+        subst (λ (x : CaptureExpectation). Made task.select task.form [] [] [] [] true x) (sym is.is_reader)
         (made_start task.select task.form);
     is_verdict = is.is_verdict;
     is_count = let a = is.is_count in omega (arith, a);
@@ -186,7 +186,7 @@ module _ {W X : Type 0} (task : TaskValue) (contents : W → Option (List ℕ)) 
   Reached-more held input buffered chunk at out so_far = search (rules, append_assoc)
 
   -- a unit is taken
-  pub Reached-unit : (held : Option (List ℕ)) (input buffered : List ℕ) (old new : Progress X) (y : Expectation)
+  pub Reached-unit : (held : Option (List ℕ)) (input buffered : List ℕ) (old new : Progress X) (y : CaptureExpectation)
       (from to : OutputBuffer W) (len : ℕ) (packet : Option PacketValue) (own : List ℕ)
       → old.left ≢ Some 0
       → len ≤ length buffered → Begins buffered old.reader len packet y → own ≡ take len buffered
@@ -215,14 +215,14 @@ module _ {W X : Type 0} (task : TaskValue) (contents : W → Option (List ℕ)) 
         all_accepted = so_far.all_accepted && takes.accepted;
         place = front_after input so_far.front buffered len so_far.place;
         parts =
-            subst (λ (x : Expectation). GoesOn (so_far.front ++ take len buffered)
+            subst (λ (x : CaptureExpectation). GoesOn (so_far.front ++ take len buffered)
             (with_packet so_far.packets packet) x)
             (sym takes.same_reader)
             (goes_more so_far.front so_far.packets packet old.reader y buffered len within begins so_far.parts);
         selected = more.selected;
         made =
             subst
-            (λ (x : Expectation).
+            (λ (x : CaptureExpectation).
             Made task.select task.form (with_packet so_far.packets packet) more.kept (so_far.front ++ take len buffered)
             (so_far.text ++ takes.text) (so_far.all_accepted && takes.accepted) x)
             (sym takes.same_reader) more.made;
@@ -238,7 +238,7 @@ module _ {W X : Type 0} (task : TaskValue) (contents : W → Option (List ℕ)) 
             more.more less;
         at_count = λ none.
             subst
-            (λ (x : Expectation).
+            (λ (x : CaptureExpectation).
             HasBegun x × EndsAtCount task.select task.count (so_far.front ++ take len buffered))
             (sym takes.same_reader)
             (ends_more task.select task.count so_far.packets so_far.kept so_far.front old.reader y buffered len packet
@@ -256,7 +256,7 @@ module _ {W X : Type 0} (mode : ModeValue) (select : Option Selection) (count : 
   Copying = Reached (record { select = select; count = count; form = Copy mode edit }) contents held
 
   packet_stops : (input buffered : List ℕ) (old : Progress X) (from to : OutputBuffer W)
-      (x : Expectation) (len : ℕ) (p : PacketValue) (o : Option EditedValue) (own : List ℕ) (offset : ℕ)
+      (x : CaptureExpectation) (len : ℕ) (p : PacketValue) (o : Option EditedValue) (own : List ℕ) (offset : ℕ)
       → Begins buffered old.reader len (Some p) old.reader → IsChosen select p → EditsIf edit p o
       → x ≡ old.reader → own ≡ take len buffered → unit_after mode x p o own ≡ None
       → offset ≡ old.offset → to ≡ from
@@ -289,7 +289,7 @@ module _ {W X : Type 0} (mode : ModeValue) (select : Option Selection) (count : 
             so_far.written;
       }
 
-  unwritten_unit : (input buffered : List ℕ) (old : Progress X) (x y : Expectation)
+  unwritten_unit : (input buffered : List ℕ) (old : Progress X) (x y : CaptureExpectation)
       (from to : OutputBuffer W) (len : ℕ) (packet : Option PacketValue) (own : List ℕ) (offset : ℕ)
       (text : Option (List ℕ))
       → Begins buffered old.reader len packet y → x ≡ y → own ≡ take len buffered → text ≡ None
@@ -304,10 +304,10 @@ module _ {W X : Type 0} (mode : ModeValue) (select : Option Selection) (count : 
       (writes_packet p o _ kept edits e) place same_out some so_far =
       let same = same_after buffered old.reader y len p begins in
       packet_stops input buffered old from to x len p o own offset
-      (subst (λ (z : Expectation). Begins buffered old.reader len (Some p) z) same begins) kept edits (at ∙ same)
+      (subst (λ (z : CaptureExpectation). Begins buffered old.reader len (Some p) z) same begins) kept edits (at ∙ same)
       unit_is (e ∙ no_copy) place same_out some so_far
 
-no_lines : (select : Option Selection) (options : LineOptions) (x : Expectation) (number : ℕ) (own : List ℕ)
+no_lines : (select : Option Selection) (options : LineOptions) (x : CaptureExpectation) (number : ℕ) (own : List ℕ)
     (packet : Option PacketValue) (accepted : Bool)
     → Makes select (Lines options) x number own packet accepted None → ⊥
 no_lines select options x number own None accepted makes = some_none [] (sym makes.0)
@@ -315,7 +315,7 @@ no_lines select options x number own (Some p) accepted makes = some_none makes.0
 
 module _ {W X : Type 0} (select : Option Selection) (count : Option ℕ) (contents : W → Option (List ℕ)) where
   pub Reached-stopped : (form : FormValue) (held : Option (List ℕ)) (input buffered : List ℕ) (old : Progress X)
-      (y : Expectation) (from to : OutputBuffer W) (len : ℕ) (packet : Option PacketValue) (own : List ℕ) (offset : ℕ)
+      (y : CaptureExpectation) (from to : OutputBuffer W) (len : ℕ) (packet : Option PacketValue) (own : List ℕ) (offset : ℕ)
       → old.left ≢ Some 0
       → Begins buffered old.reader len packet y → own ≡ take len buffered
       → StopsUnwritten (record { select = select; count = count; form = form }) own packet
@@ -333,7 +333,7 @@ module _ {W X : Type 0} (select : Option Selection) (count : Option ℕ) (conten
 
 -- a packet that can't be edited stops the run
 pub unit_unwritten : {W X : Type 0} (task : TaskValue) (contents : W → Option (List ℕ))
-    (whole bytes buffered : List ℕ) (y : Expectation) (len : ℕ) (packet : Option PacketValue)
+    (whole bytes buffered : List ℕ) (y : CaptureExpectation) (len : ℕ) (packet : Option PacketValue)
     (first old : Progress X) (begin from to : OutputBuffer W) (fault : RunFault)
     → old.left ≢ Some 0
     → bytes ≡ take len buffered → Begins buffered old.reader len packet y

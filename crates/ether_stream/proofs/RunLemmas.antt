@@ -7,7 +7,7 @@ use Rattle.ether_pcap.specs.FileHeader as file
 use Rattle.ether_pcap.specs.Record as record_rows
 use Rattle.ether_pcap.specs.Block as block_rows
 use Rattle.ether_pcap.specs.Section as section_rows
-use Rattle.ether_pcap.specs.Capture.{PacketValue, Expectation, HasBegun, CaptureRefusal, Refuses, file_header_refused, file_record_refused, first_section_refused, section_refused, block_refused, body_refused, required_len, IsEnd, HasPackets}
+use Rattle.ether_pcap.specs.Capture.{PacketValue, CaptureExpectation, HasBegun, CaptureRefusal, RefusesCapture, file_header_refused, file_record_refused, first_section_refused, section_refused, block_refused, body_refused, required_len, IsEnd, HasPackets}
 use Rattle.ether_pcap.specs.CaptureViews.{capture_refusal_view}
 use Rattle.ether_pcap.specs.Copies.{Refused, NotEdited}
 use Rattle.ether_pcap.proofs.CaptureLengths.{required_above, unit_within}
@@ -50,8 +50,8 @@ pub same_left : (left more : List ℕ) → length more ≡ 0 → left ++ more �
 same_left left more none = ap (λ (l : List ℕ). left ++ l) (no_bytes more none) ∙ append-nil left
 
 -- there is room for more of a unit than is left
-pub has_room : (left : List ℕ) (x : Expectation) (r : CaptureRefusal) (n : ℕ) (held : List ℕ) (space : ℕ)
-    → Refuses left x r → required_len r ≡ Some n
+pub has_room : (left : List ℕ) (x : CaptureExpectation) (r : CaptureRefusal) (n : ℕ) (held : List ℕ) (space : ℕ)
+    → RefusesCapture left x r → required_len r ≡ Some n
     → held ≡ left → n ≤ space → length held < space
 has_room left x r n held space refused needs same fits = search (rules, required_above)
 
@@ -68,7 +68,7 @@ no_section h = omega (arith, h)
 nothing_of_blocks : (r : CaptureRefusal) (n : ℕ) → required_len r ≡ Some n → required_len r ≡ None → ⊥
 nothing_of_blocks r n some none = let e : Some n ≡ None = sym some ∙ none in absurd cc
 
-pub refused_nothing : (bytes : List ℕ) (x : Expectation) (r : CaptureRefusal) → bytes ≡ [] → Refuses bytes x r
+pub refused_nothing : (bytes : List ℕ) (x : CaptureExpectation) (r : CaptureRefusal) → bytes ≡ [] → RefusesCapture bytes x r
     → required_len r ≡ None → ⊥
 refused_nothing bytes x r e (file_header_refused most s other (file.short lt)) none = nothing_of_blocks r 24 refl none
 refused_nothing bytes x r e (file_header_refused most s other (file.magic le never)) none = search rules
@@ -93,7 +93,7 @@ refused_nothing bytes x r e (body_refused most order interfaces b s other begins
 -- ---- what is made of a capture, by how it ends
 
 module _ (select : Option Selection) (bytes front text : List ℕ) (packets kept : List PacketValue) (all : Bool)
-    (x : Expectation) (count : Option ℕ) (go : GoesOn front packets x) where
+    (x : CaptureExpectation) (count : Option ℕ) (go : GoesOn front packets x) where
   -- it ends after a unit
   completed : (undecided : ℕ) → HasOpen select packets undecided → (form : FormValue) → bytes ≡ front → HasBegun x
       → Made select form packets kept front text all x
@@ -122,7 +122,7 @@ module _ (select : Option Selection) (bytes front text : List ℕ) (packets kept
   -- .. or at a refusal of all that is left
   stopped : (form : FormValue) (rest : List ℕ) (offset : ℕ) (error : CaptureError)
       → bytes ≡ front ++ rest → offset ≡ counted (length front)
-      → ¬ (IsEnd x rest) → Refuses rest x (capture_refusal_view error)
+      → ¬ (IsEnd x rest) → RefusesCapture rest x (capture_refusal_view error)
       → HasFewer select count front → Made select form packets kept front text all x
       → StopsAtFault select count form packets (record { offset = offset; error = error }) bytes text
   stopped (Lines options) rest offset error place at more refused fewer made = record {
@@ -153,7 +153,7 @@ module _ (select : Option Selection) (bytes front text : List ℕ) (packets kept
 
   -- .. or within a unit
   broken : (Needs : Option ℕ → Type 0) (form : FormValue) (rest : List ℕ) (reason : CaptureRefusal)
-      → bytes ≡ front ++ rest → Refuses rest x reason → Needs (required_len reason) → HasFewer select count front
+      → bytes ≡ front ++ rest → RefusesCapture rest x reason → Needs (required_len reason) → HasFewer select count front
       → Made select form packets kept front text all x → EndsInUnit Needs select count form packets bytes text
   broken Needs (Lines options) rest reason place refused unfinished fewer made = search rules
   broken Needs (Copy mode edit) rest reason place refused unfinished fewer made = search (rules, read_so_far)
@@ -227,7 +227,7 @@ module _ {W X : Type 0} (task : TaskValue) (contents : W → Option (List ℕ)) 
         (fault : RunFault)
         → fault ≡ faults.Capture (record { offset = at.offset; error = error }) → Consumes before after input
         → IsLeft after left → at.left ≢ Some 0 → ¬ (IsEnd at.reader (buffered ++ left))
-        → Refuses (buffered ++ left) at.reader (capture_refusal_view error)
+        → RefusesCapture (buffered ++ left) at.reader (capture_refusal_view error)
         → (so_far : Reached task contents held input buffered at out)
         → HasRunOver task so_far.packets before after held (contents_of contents out) (Err fault)
     stops input buffered left at out error fault is read is_left some more refused so_far =
@@ -251,7 +251,7 @@ module _ {W X : Type 0} (task : TaskValue) (contents : W → Option (List ℕ)) 
     pub stopped_for_good : (input buffered : List ℕ) (at : Progress X) (out : OutputBuffer W) (error : CaptureError)
         (fault : RunFault)
         → fault ≡ faults.Capture (record { offset = at.offset; error = error }) → Consumes before after input
-        → at.left ≢ Some 0 → Refuses buffered at.reader (capture_refusal_view error)
+        → at.left ≢ Some 0 → RefusesCapture buffered at.reader (capture_refusal_view error)
         → required_len (capture_refusal_view error) ≡ None
         → Reached task contents held input buffered at out
         → HasCounted task before after held (contents_of contents out) (Err fault) (counts_at at)
@@ -268,7 +268,7 @@ module _ {W X : Type 0} (task : TaskValue) (contents : W → Option (List ℕ)) 
         (fault : RunFault)
         → fault ≡ faults.Capture (record { offset = at.offset; error = error }) → Consumes before after input
         → IsAtEnd after → at.left ≢ Some 0 → ¬ (IsEnd at.reader buffered)
-        → Refuses buffered at.reader (capture_refusal_view error)
+        → RefusesCapture buffered at.reader (capture_refusal_view error)
         → Reached task contents held input buffered at out
         → HasCounted task before after held (contents_of contents out) (Err fault) (counts_at at)
     stopped_at_end input buffered at out error fault is read end some more refused so_far =
@@ -276,7 +276,7 @@ module _ {W X : Type 0} (task : TaskValue) (contents : W → Option (List ℕ)) 
         counted_as input buffered at out (contents_of contents out) (Err fault) so_far
         (stops input buffered [] at out error fault is read (IsLeft-end after end) some
         (subst (λ (l : List ℕ). ¬ (IsEnd at.reader l)) none more)
-        (subst (λ (l : List ℕ). Refuses l at.reader (capture_refusal_view error)) none refused) so_far)
+        (subst (λ (l : List ℕ). RefusesCapture l at.reader (capture_refusal_view error)) none refused) so_far)
 
     -- the writer fails, and nothing is said
     output_failed : (at : Progress X) (to : OutputBuffer W) (fault : RunFault) → fault ≡ faults.Output
@@ -363,7 +363,7 @@ module _ {W X : Type 0} (task : TaskValue) (contents : W → Option (List ℕ)) 
     -- a unit is not whole
     breaks_off : (Needs : Option ℕ → Type 0) (input buffered : List ℕ) (at : Progress X) (out : OutputBuffer W)
         (reason : CaptureRefusal)
-        → Consumes before after input → at.left ≢ Some 0 → Refuses buffered at.reader reason
+        → Consumes before after input → at.left ≢ Some 0 → RefusesCapture buffered at.reader reason
         → Needs (required_len reason)
         → (so_far : Reached task contents held input buffered at out)
         → BreaksOffAfter (EndsInUnit Needs task.select task.count task.form so_far.packets) before after held
@@ -383,7 +383,7 @@ module _ {W X : Type 0} (task : TaskValue) (contents : W → Option (List ℕ)) 
     pub broken_off : (mid : Option (List ℕ)) (r : Result Verdict RunFault) (input buffered : List ℕ) (at : Progress X)
         (out : OutputBuffer W) (reason : CaptureRefusal)
         → Consumes before mid input → Keeps mid after → IsErrAnd r (λ fault. fault ≡ faults.Input)
-        → at.left ≢ Some 0 → Refuses buffered at.reader reason → required_len reason ≢ None
+        → at.left ≢ Some 0 → RefusesCapture buffered at.reader reason → required_len reason ≢ None
         → Reached task contents held input buffered at out
         → HasCounted task before after held (contents_of contents out) r (counts_at at)
     broken_off mid (Ok verdict) input buffered at out reason read kept is some refused needed so_far = absurd is
@@ -398,7 +398,7 @@ module _ {W X : Type 0} (task : TaskValue) (contents : W → Option (List ℕ)) 
     pub without_memory : (r : Result Verdict RunFault) (input buffered : List ℕ) (at : Progress X) (out : OutputBuffer W)
         (reason : CaptureRefusal) (n : ℕ)
         → IsErrAnd r (λ fault. fault ≡ faults.Memory) → Consumes before after input → at.left ≢ Some 0
-        → Refuses buffered at.reader reason
+        → RefusesCapture buffered at.reader reason
         → required_len reason ≡ Some n → 65536 < n
         → Reached task contents held input buffered at out
         → HasCounted task before after held (contents_of contents out) r (counts_at at)

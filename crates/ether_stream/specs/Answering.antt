@@ -2,7 +2,7 @@
 use Rattle.std.specs.Prelude.{◌≡◌, ℕ, ◌+◌, List, [], ◌∷◌, ◌++◌, length, Bool, true, ◌&&◌, Option, Some, None}
 use Rattle.std.specs.List.{sum_by}
 use Rattle.ether_stream.specs.declared.selection.Selection.{Selection}
-use Rattle.ether_pcap.specs.Capture.{PacketValue, Expectation, CaptureRefusal, Refuses, required_len, HasPackets}
+use Rattle.ether_pcap.specs.Capture.{PacketValue, CaptureExpectation, CaptureRefusal, RefusesCapture, required_len, HasPackets}
 use Rattle.ether_pcap.specs.CaptureViews.{capture_refusal_view}
 use Rattle.ether_pcap.specs.declared.capture.capture_fault.CaptureFault.{CaptureFault}
 use Rattle.ether_stream.specs.FrameLines.{AnswersPacket, if_selected, skip_count, totals_line_after}
@@ -56,12 +56,12 @@ pub record AnswersToUnit (Needs : Option ℕ → Type 0) (select : Option Select
     (packets : List PacketValue) (bytes text : List ℕ) : Type 0 where
   pub front : List ℕ
   pub rest : List ℕ
-  pub expected : Expectation
+  pub expected : CaptureExpectation
   pub all_accepted : Bool
   pub reason : CaptureRefusal
   pub parts : GoesOn front packets expected
   pub place : bytes ≡ front ++ rest
-  pub begun : Refuses rest expected reason
+  pub begun : RefusesCapture rest expected reason
   pub unfinished : Needs (required_len reason)
   pub fewer : HasFewer select count front
   pub answered : AreListed select options packets text all_accepted

@@ -2,7 +2,7 @@
 use Rattle.std.specs.Prelude.{◌≡◌, ◌≢◌, ◌⊎◌, ℕ, ◌≤◌, List, [], ◌++◌, length, Bool, true, Option, Some, None, unwrap_or, All}
 use Rattle.ether_stream.specs.declared.selection.Selection.{Selection}
 use Rattle.std.specs.Option.{option_map}
-use Rattle.ether_pcap.specs.Capture.{PacketValue, IsWithinSnap, Expectation, CaptureRefusal, Refuses, required_len, HasPackets}
+use Rattle.ether_pcap.specs.Capture.{PacketValue, IsWithinSnap, CaptureExpectation, CaptureRefusal, RefusesCapture, required_len, HasPackets}
 use Rattle.ether_pcap.specs.Copies.{CopyFault, NotEdited, Copies, Selected, HasPacketsTo, AreEdited}
 use Rattle.ether_pcap.specs.Editing.{EditedValue}
 use Rattle.ether_pcap.specs.CopiedUnits.{ModeValue, Exact, Changed}
@@ -58,7 +58,7 @@ CopiesToPacket mode select count asked offset bytes copy = (p : PacketValue) × 
 -- A copy of a capture that begins with these bytes, whole units, begins with these, and has these packets first, which are edited to those; then
 -- follows the copy of what is left, where this is expected.
 abbrev pub CopiesOn : ModeValue → (select : Option Selection) → (asked : Option EditValue) → (front copy : List ℕ)
-    → (kept edited : List PacketValue) → Expectation → Type 0
+    → (kept edited : List PacketValue) → CaptureExpectation → Type 0
 CopiesOn mode select asked front copy kept edited x =
     (later more : List ℕ) (others changed : List PacketValue) (rest : List ℕ) (fault : Option CopyFault)
     → Copies mode (IsChosen select) (EditsIf asked) x later more others changed rest fault
@@ -72,11 +72,11 @@ pub record CopiesToUnit (Needs : Option ℕ → Type 0) (mode : ModeValue) (sele
   pub edited : List PacketValue
   pub front : List ℕ
   pub rest : List ℕ
-  pub expected : Expectation
+  pub expected : CaptureExpectation
   pub reason : CaptureRefusal
   pub parts : CopiesOn mode select asked front copy kept edited expected
   pub place : bytes ≡ front ++ rest
-  pub begun : Refuses rest expected reason
+  pub begun : RefusesCapture rest expected reason
   pub unfinished : Needs (required_len reason)
   pub fewer : HasFewer select count front
   pub is_read : copy ≢ [] → HasPackets capture_start copy edited [] None

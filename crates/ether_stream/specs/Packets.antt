@@ -1,7 +1,7 @@
 -- The packets of a capture as far as it was read.
 use Rattle.std.specs.Prelude.{◌≡◌, ℕ, suc, ◌+◌, ◌-◌, ◌^◌, min, List, ◌++◌, length, Option, Some, None}
 use Rattle.ether_stream.specs.declared.selection.Selection.{Selection}
-use Rattle.ether_pcap.specs.Capture.{PacketValue, Expectation, Beginning, CaptureRefusal, Begins, HasPackets}
+use Rattle.ether_pcap.specs.Capture.{PacketValue, CaptureExpectation, Beginning, CaptureRefusal, Begins, HasPackets}
 use Rattle.ether_pcap.specs.Copies.{Selected}
 use Rattle.ether_stream.specs.Task.{IsChosen, IsBelow, IsOpen}
 
@@ -10,11 +10,11 @@ abbrev pub counted : ℕ → ℕ
 counted n = min n (2 ^ 64 - 1)
 
 -- what is expected at the beginning of a capture, where a section may describe so many interfaces
-abbrev pub capture_start : Expectation
+abbrev pub capture_start : CaptureExpectation
 capture_start = Beginning 65536
 
 -- A capture that begins with these bytes, whole units, has these packets first, and then those that follow where this is expected.
-abbrev pub GoesOn : (front : List ℕ) → List PacketValue → Expectation → Type 0
+abbrev pub GoesOn : (front : List ℕ) → List PacketValue → CaptureExpectation → Type 0
 GoesOn front packets x =
     (later : List ℕ) (others : List PacketValue) (rest : List ℕ) (fault : Option CaptureRefusal)
     → HasPackets x later others rest fault → HasPackets capture_start (front ++ later) (packets ++ others) rest fault
@@ -34,7 +34,7 @@ pub record HasOpen (select : Option Selection) (packets : List PacketValue) (cou
 pub record HasFewer (select : Option Selection) (count : Option ℕ) (front : List ℕ) : Type 0 where
   pub packets : List PacketValue
   pub kept : List PacketValue
-  pub expected : Expectation
+  pub expected : CaptureExpectation
   pub parts : GoesOn front packets expected
   pub selected : Selected (IsChosen select) packets kept
   pub below : IsBelow count (length kept)
@@ -45,7 +45,7 @@ pub record EndsAtCount (select : Option Selection) (count : Option ℕ) (front :
   pub unit : List ℕ
   pub packets : List PacketValue
   pub kept : List PacketValue
-  pub expected : Expectation
+  pub expected : CaptureExpectation
   pub last : PacketValue
   pub place : front ≡ before ++ unit
   pub parts : GoesOn before packets expected

@@ -3,7 +3,7 @@ use Rattle.std.specs.Prelude.{◌≡◌, ◌≢◌, ◌⊎◌, ℕ, ◌+◌, ◌
 use Rattle.std.specs.List.{sum_by}
 use Rattle.std.specs.Io.KnownBytes.{Appends}
 use Rattle.ether_stream.specs.declared.selection.Selection.{Selection}
-use Rattle.ether_pcap.specs.Capture.{PacketValue, Expectation, HasBegun, Begins, Refuses}
+use Rattle.ether_pcap.specs.Capture.{PacketValue, CaptureExpectation, HasBegun, Begins, RefusesCapture}
 use Rattle.ether_pcap.specs.CaptureViews.{capture_refusal_view}
 use Rattle.ether_pcap.specs.Copies.{Selected}
 use Rattle.ether_pcap.specs.Editing.{EditedValue, edited_unit}
@@ -29,7 +29,7 @@ use Rattle.ether_stream.specs.declared.task.LineOptions.{LineOptions}
 
 -- this is the text for its packets, or its copy, after which this is expected
 abbrev pub Made : (select : Option Selection) → FormValue → (packets kept : List PacketValue) → (front text : List ℕ) → (all : Bool)
-    → Expectation → Type 0
+    → CaptureExpectation → Type 0
 Made select (Lines options) packets kept front text all x = AreListed select options packets text all
 Made select (Copy mode edit) packets kept front text all x =
     (edited : List PacketValue) × CopiesOn mode select edit front text kept edited x × (all ≡ true)
@@ -73,8 +73,8 @@ counts_at at = record { number = at.count; skipped = at.skipped; undecided = at.
 -- ---- one unit
 
 -- the unit that was read last, with this packet if it has one
-abbrev pub IsUnitOf : Expectation → (unit : List ℕ) → Option PacketValue → Type 0
-IsUnitOf x unit None = (before : Expectation) × Begins unit before (length unit) None x
+abbrev pub IsUnitOf : CaptureExpectation → (unit : List ℕ) → Option PacketValue → Type 0
+IsUnitOf x unit None = (before : CaptureExpectation) × Begins unit before (length unit) None x
 IsUnitOf x unit (Some p) = Begins unit x (length unit) (Some p) x
 
 -- the lines of a packet of this number, if there is a packet
@@ -85,7 +85,7 @@ Answers select options number (Some p) accepted text =
     (lines : List ℕ) × AnswersPacket select options number p lines accepted × (text ≡ Some lines)
 
 -- The copy of a unit, by its packet if it has one: nothing if that is not chosen, none if it is to be edited and can't be.
-pub data Writes (mode : ModeValue) (select : Option Selection) (edit : Option EditValue) (x : Expectation) (unit : List ℕ)
+pub data Writes (mode : ModeValue) (select : Option Selection) (edit : Option EditValue) (x : CaptureExpectation) (unit : List ℕ)
     : Option PacketValue → Option (List ℕ) → Type 0 where
   writes_unit : Writes mode select edit x unit None (Some (other_unit mode x unit))
   writes_nothing : (p : PacketValue) → ¬ (IsChosen select p) → Writes mode select edit x unit (Some p) (Some [])
@@ -93,13 +93,13 @@ pub data Writes (mode : ModeValue) (select : Option Selection) (edit : Option Ed
       → unit_after mode x p o unit ≡ text → Writes mode select edit x unit (Some p) text
 
 -- the text that is made of a unit, or none
-abbrev pub Makes : (select : Option Selection) → FormValue → Expectation → (number : ℕ) → (unit : List ℕ) → Option PacketValue
+abbrev pub Makes : (select : Option Selection) → FormValue → CaptureExpectation → (number : ℕ) → (unit : List ℕ) → Option PacketValue
     → (accepted : Bool) → Option (List ℕ) → Type 0
 Makes select (Lines options) x number unit packet accepted text = Answers select options number packet accepted text
 Makes select (Copy mode edit) x number unit packet accepted text = Writes mode select edit x unit packet text × (accepted ≡ true)
 
 -- what is written for a unit that is no packet
-abbrev pub other_text : FormValue → Expectation → (unit : List ℕ) → List ℕ
+abbrev pub other_text : FormValue → CaptureExpectation → (unit : List ℕ) → List ℕ
 other_text (Lines options) x unit = []
 other_text (Copy mode edit) x unit = other_unit mode x unit
 
@@ -146,7 +146,7 @@ pub record StopsUnwritten {W X : Type 0} (task : TaskValue) (unit : List ℕ) (p
   pub same_out : to ≡ from
 
 -- this is appended for a unit
-pub record MakesText {W : Type 0} (select : Option Selection) (form : FormValue) (x : Expectation) (number : ℕ) (unit : List ℕ)
+pub record MakesText {W : Type 0} (select : Option Selection) (form : FormValue) (x : CaptureExpectation) (number : ℕ) (unit : List ℕ)
     (packet : Option PacketValue) (contents : W → Option (List ℕ)) (can_fail : Type 0) (from : OutputBuffer W) (accepted : Bool)
     (to : OutputBuffer W) : Type 0 where
   pub text : List ℕ
@@ -154,7 +154,7 @@ pub record MakesText {W : Type 0} (select : Option Selection) (form : FormValue)
   pub taken : Takes contents can_fail from text to
 
 -- the unit of a packet is appended, edited if there is an edit
-pub record WritesPacket {W : Type 0} (mode : ModeValue) (edit : Option EditValue) (x : Expectation) (unit : List ℕ) (p : PacketValue)
+pub record WritesPacket {W : Type 0} (mode : ModeValue) (edit : Option EditValue) (x : CaptureExpectation) (unit : List ℕ) (p : PacketValue)
     (contents : W → Option (List ℕ)) (can_fail : Type 0) (from to : OutputBuffer W) : Type 0 where
   pub edited : Option EditedValue
   pub edits : EditsIf edit p edited
@@ -163,18 +163,18 @@ pub record WritesPacket {W : Type 0} (mode : ModeValue) (edit : Option EditValue
   pub taken : Takes contents can_fail from copy to
 
 -- .. or can't be edited
-abbrev pub IsUneditable : ModeValue → (edit : Option EditValue) → Expectation → (unit : List ℕ) → PacketValue → Type 0
+abbrev pub IsUneditable : ModeValue → (edit : Option EditValue) → CaptureExpectation → (unit : List ℕ) → PacketValue → Type 0
 IsUneditable mode edit x unit p = (o : Option EditedValue) × EditsIf edit p o × (unit_after mode x p o unit ≡ None)
 
 -- the unit of a packet is appended as edited
-abbrev pub AppendsEdited : {W : Type 0} → Expectation → (unit : List ℕ) → EditedValue → (contents : W → Option (List ℕ)) → (can_fail : Type 0)
+abbrev pub AppendsEdited : {W : Type 0} → CaptureExpectation → (unit : List ℕ) → EditedValue → (contents : W → Option (List ℕ)) → (can_fail : Type 0)
     → (from to : OutputBuffer W) → Type 0
 AppendsEdited x unit e contents can_fail from to =
     (p : PacketValue) → Begins unit x (length unit) (Some p) x
     → (copy : List ℕ) × (edited_unit x (length p.packet) e unit ≡ Some copy) × Takes contents can_fail from copy to
 
 -- .. or can't be
-abbrev pub AppendsNone : Expectation → (unit : List ℕ) → EditedValue → Type 0
+abbrev pub AppendsNone : CaptureExpectation → (unit : List ℕ) → EditedValue → Type 0
 AppendsNone x unit e = (p : PacketValue) → Begins unit x (length unit) (Some p) x → edited_unit x (length p.packet) e unit ≡ None
 
 -- ---- the units that are buffered
@@ -203,7 +203,7 @@ pub record Unedited {W : Type 0} (mode : ModeValue) (select : Option Selection) 
   pub kept : List PacketValue
   pub edited : List PacketValue
   pub buffered : List ℕ
-  pub expected : Expectation
+  pub expected : CaptureExpectation
   pub len : ℕ
   pub packet : PacketValue
   pub to : Option EditedValue
@@ -235,7 +235,7 @@ pub record TakesUnits {W X : Type 0} (task : TaskValue) (contents : W → Option
     (from : OutputBuffer W) (left : List ℕ) (error : Option CaptureError) (new : Progress X) (to : OutputBuffer W) : Type 0 where
   pub reached : (held : Option (List ℕ)) (input : List ℕ) → Reached task contents held input buffered old from
       → Reached task contents held input left new to
-  pub refused : IfSome error (λ e. Refuses left new.reader (capture_refusal_view e) × (new.left ≢ Some 0))
+  pub refused : IfSome error (λ e. RefusesCapture left new.reader (capture_refusal_view e) × (new.left ≢ Some 0))
   pub done : IfNone error (new.left ≡ Some 0)
 
 -- ---- the end

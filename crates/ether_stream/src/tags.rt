@@ -36,14 +36,12 @@ fn push_of(tpid: u32, id: u32) -> Option<PacketEdit>
     ensures some { IfSome result (λ edit. (edit_view edit ≡ PushVlan tpid id) × (is_vlan_ether_type tpid ≡ true) × (id < 4096)) }
     ensures none { IfNone result (is_vlan_ether_type tpid ≡ true → id < 4096 → ⊥) }
 {
-    if !(tpid == 0x8100 || tpid == 0x88A8 || tpid == 0x9100) {
+    let tpid = EtherType(u16::try_from(tpid).ok()?);
+    if !tpid.announces_vlan() {
         return None;
     }
     let vlan_id = vlan_id_of(id)?;
-    Some(PacketEdit::PushVlan {
-        tpid: EtherType(tpid as u16),
-        vlan_id,
-    })
+    Some(PacketEdit::PushVlan { tpid, vlan_id })
 }
 
 /// The edit that gives a VLAN tag another identifier, if both have no more than 12 bits.

@@ -8,7 +8,7 @@ use Rattle.ether_base.specs.declared.err.macsec.header_error.HeaderError.TheVari
 use Rattle.ether_base.specs.declared.header_slice_error.HeaderSliceError.{HeaderSliceError}
 use Rattle.ether_base.specs.declared.header_slice_error.HeaderSliceError.TheVariants.{Len, Content}
 use Rattle.ether_base.specs.Formats.Macsec.{PayloadType, SecTagFront, SecTagValue, known_payload_len, sec_tag_len, sec_tag_front_in, sec_tag_front_of, sec_tag_of}
-use Rattle.ether_base.specs.declared.ether_type_impl.EtherType.{EtherType}
+use Rattle.ether_base.specs.declared.ether_type.EtherType.{EtherType}
 use Rattle.ether_base.specs.Formats.Macsec as payloads
 use Rattle.ether_base.specs.Formats.Kind as kinds
 use Rattle.ether_base.specs.Formats.Refusal.{Refusal, Length, UnexpectedVersion, InvalidShortLen, Refuses, RefusesHeader}

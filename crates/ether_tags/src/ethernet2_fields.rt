@@ -7,8 +7,8 @@ ghost use Rattle.ether_base.specs.Formats.Ethernet2.{ethernet2_of};
 ghost use Rattle.ether_tags.specs.Ethernet2.{ethernet2_header_of, ethernet2_view};
 
 use crate::Ethernet2Header;
-use crate::number_at::u16_at;
 use ether_base::EtherType;
+use ether_base::big_endian::u16_at;
 use std::ops::Range;
 
 /// The bytes of the destination address.
@@ -17,8 +17,8 @@ const DESTINATION: Range<usize> = 0..6;
 /// The bytes of the source address.
 const SOURCE: Range<usize> = 6..12;
 
-/// The bytes of the type.
-const ETHER_TYPE: Range<usize> = 12..14;
+/// Where the type begins.
+const ETHER_TYPE: usize = 12;
 
 /// The destination MAC address (IEEE 802.3, 3.2.4).
 pub fn destination(bytes: &[u8]) -> [u8; 6]

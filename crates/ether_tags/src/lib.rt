@@ -17,7 +17,6 @@ mod macsec_header_slice;
 mod macsec_p_type;
 mod macsec_payload_slice;
 mod macsec_slice;
-mod number_at;
 mod single_vlan_header;
 mod single_vlan_header_slice;
 mod single_vlan_slice;

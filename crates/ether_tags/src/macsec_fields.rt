@@ -8,10 +8,9 @@ ghost use Rattle.ether_base.specs.Formats.Macsec.{known_payload_len, sec_tag_fro
 ghost use Rattle.ether_tags.specs.Macsec.{IsUnmodified, payload_type_view};
 ghost use Rattle.ether_base.specs.Formats.Refusal.{IsTooShort};
 
-use crate::number_at::{u16_at, u32_at, u64_at};
 use crate::{MacsecHeader, MacsecPType};
+use ether_base::big_endian::{u16_at, u32_at, u64_at};
 use ether_base::{EtherType, MacsecAn, MacsecShortLen};
-use std::ops::Range;
 
 /// The byte with the TCI and the association number.
 const TCI_AN: usize = 0;
@@ -19,11 +18,11 @@ const TCI_AN: usize = 0;
 /// The byte with the short length.
 const SHORT_LENGTH: usize = 1;
 
-/// The bytes of the packet number.
-const PACKET_NUMBER: Range<usize> = 2..6;
+/// Where the packet number begins.
+const PACKET_NUMBER: usize = 2;
 
-/// The bytes of the SCI, if the tag has one.
-const SCI: Range<usize> = 6..14;
+/// Where the SCI begins, if the tag has one.
+const SCI: usize = 6;
 
 /// The bit of the version in the first byte.
 const V: u32 = 7;
@@ -142,10 +141,7 @@ pub fn ptype(bytes: &[u8]) -> MacsecPType
     ensures { payload_type_view result ≡ (sec_tag_of bytes.now).payload_type }
 {
     match (encrypted(bytes), userdata_changed(bytes)) {
-        (false, false) => {
-            let at = bytes.len() - 2;
-            MacsecPType::Unmodified(EtherType(u16_at(bytes, at..at + 2)))
-        }
+        (false, false) => { MacsecPType::Unmodified(EtherType(u16_at(bytes, bytes.len() - 2))) }
         (false, true) => MacsecPType::Modified,
         (true, false) => MacsecPType::EncryptedUnmodified,
         (true, true) => MacsecPType::Encrypted,

@@ -6,16 +6,14 @@ ghost use Rattle.ether_base.specs.Formats.Vlan.{vlan_of};
 ghost use Rattle.ether_tags.specs.Vlan.{vlan_view};
 
 use crate::SingleVlanHeader;
-use crate::number_at::u16_at;
-use ether_base::big_endian::bytes_of_u16;
+use ether_base::big_endian::{bytes_of_u16, u16_at};
 use ether_base::{EtherType, VlanId, VlanPcp};
-use std::ops::Range;
 
-/// The bytes of the tag control information.
-const TCI: Range<usize> = 0..2;
+/// Where the tag control information begins.
+const TCI: usize = 0;
 
-/// The bytes of the ether type of what follows.
-const ETHER_TYPE: Range<usize> = 2..4;
+/// Where the ether type of what follows begins.
+const ETHER_TYPE: usize = 2;
 
 /// The priority code point.
 pub fn priority_code_point(bytes: &[u8]) -> VlanPcp

@@ -1,17 +1,14 @@
 -- A frame whose lines are written one by one.
-use Rattle.std.proofs.Common.{◌≡◌, ℕ, ◌+◌, ◌-◌, ◌≤◌, List, [], ◌++◌, length, Bool, true, false, refl, sym, ap, subst, ◌∙◌, append_assoc, arith, inl, inr}
+use Rattle.std.proofs.Common.{◌≡◌, ℕ, ◌+◌, ◌-◌, List, [], ◌++◌, length, Bool, true, false, refl, sym, ap, subst, ◌∙◌, append_assoc, arith}
 use Rattle.std.specs.Prelude.{Option, Some, None, Ok, Err, codes, slice_range}
 use Rattle.std.specs.Fmt.{decimal}
-use Rattle.std.proofs.lemmas.Bool.{cases_lt}
 use Rattle.etherparse.specs.Bytes.{IsBytes}
 use Rattle.etherparse.specs.Ethernet2.{Ethernet2Value}
 use Rattle.etherparse.specs.Macsec.{SecTagValue, sec_tag_of}
-use Rattle.etherparse.specs.Kind as kinds
 use Rattle.etherparse.specs.Header.{Header, Means}
 use Rattle.etherparse.specs.Header as headers
-use Rattle.etherparse.specs.Refusal.{Refusal, Length, UnsupportedPacketType, UnsupportedHardwareType, UnexpectedVersion, InvalidShortLen, Accepts}
-use Rattle.etherparse.specs.Refusal as rows
-use Rattle.etherparse.proofs.SubLists.{length-part, part_of_part, IsBytes-part}
+use Rattle.etherparse.specs.Refusal.{Refusal, Length, UnsupportedPacketType, UnsupportedHardwareType, UnexpectedVersion, InvalidShortLen}
+use Rattle.etherparse.proofs.SubLists.{length-part, IsBytes-part}
 use Rattle.ether_peel.specs.Grammar.Window.{Window, within, IsIn, payload}
 use Rattle.ether_peel.specs.Grammar.Expectation.{Next, Expectation, Start, EtherType, Sll, Sealed, AfterArp}
 use Rattle.ether_peel.specs.Grammar.Stack.{Ending, IsUnit, whole, Walk}
@@ -19,6 +16,7 @@ use Rattle.ether_peel.specs.Walker.State.{State}
 use Rattle.ether_peel.specs.Walker.Start.{next_shown, kind_shown}
 use Rattle.ether_peel.specs.Walker.Fault.{fault_in}
 use Rattle.ether_peel.specs.Walker.Next.{Faces, ShowsUnit, Gives}
+use Rattle.ether_peel.proofs.Grammar.CheckSequence.{fcs_of_window}
 use Rattle.ether_peel.proofs.Walker.ViewValues.{ethernet2_shown, linux_sll_shown, vlan_shown, macsec_shown, arp_shown}
 use Rattle.ether_peel.proofs.Walker.Summarizing.{unit_next, fault_next, none_next}
 use Rattle.ether_peel.specs.declared.peel_unit.PeelUnit.{PeelUnit}
@@ -32,20 +30,6 @@ use Rattle.ether_text.specs.declared.output_buffer.OutputBuffer.{OutputBuffer}
 use Rattle.ether_text.proofs.OutputBufferLemmas.{Takes-none, Takes-then}
 
 -- ---- what a walker gives has the text of what it faces
-
--- the last four bytes of a window
-fcs_shown : (list : List ℕ) (w : Window) → IsIn list w → Accepts w.bound (within list w) kinds.Ethernet2Fcs
-    → slice_range (within list w) (length (within list w) - 4) (length (within list w))
-    ≡ slice_range list (w.finish - 4) w.finish
-fcs_shown list w inside accepted =
-    let n = length (within list w) in
-    let ordered = inside.ordered in
-    let len : n ≡ w.finish - w.start = length-part list w.start w.finish inside.inside in
-    let long : 18 ≤ n = elim (cases_lt n 18) [ inl lt ↦ absurd (accepted _ (rows.ethernet2_fcs lt)) | inr le ↦ le ] in
-    let from : w.start + (n - 4) ≡ w.finish - 4 = omega arith in
-    let to : w.start + n ≡ w.finish = omega arith in
-    part_of_part list w.start w.finish (n - 4) n (omega arith) (omega arith)
-    ∙ ap (λ (k : ℕ). slice_range list k (w.start + n)) from ∙ ap (slice_range list (w.finish - 4)) to
 
 view_text-unit : (at : ℕ) (list : List ℕ) (x : Expectation) (w : Window) (h : Header) (u : PeelUnit) (rest : List ℕ)
     (closed : Bool)
@@ -66,7 +50,7 @@ view_text-unit at list x w (headers.Ethernet2Fcs e) u rest closed ok inside unit
     (λ (v : Ethernet2Value).
     ethernet2_fcs_text (at + w.start) v (slice_range bytes (length bytes - 4) (length bytes)))
     is
-    ∙ ap (ethernet2_fcs_text (at + w.start) e) (fcs_shown list w inside unit.accepted)
+    ∙ ap (ethernet2_fcs_text (at + w.start) e) (fcs_of_window list w inside unit.accepted)
 view_text-unit at list x w (headers.LinuxSll s) u rest closed ok inside unit after left mark shows =
     let is = linux_sll_shown (within list w) s (IsBytes-part w.start w.finish list ok) unit.means in
     ap (view_text (at + w.start) (length rest) closed) shows ∙ ap (linux_sll_text (at + w.start)) is

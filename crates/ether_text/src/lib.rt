@@ -33,4 +33,4 @@ pub use source::{SliceSource, Source};
 pub use verdict::Verdict;
 pub use walk_lines::{write_walk, write_walk_after};
 pub use write_hex::{hex_long, hex_type};
-pub use write_lines::{write_number, write_rest};
+pub use write_lines::{source_of, write_number, write_rest};

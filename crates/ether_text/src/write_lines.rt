@@ -98,9 +98,8 @@ fn write_fcs<W: Sink>(out: &mut OutputBuffer<'_, W>, fcs: Option<[u8; 4]>)
 fn write_linux_sll<W: Sink>(out: &mut OutputBuffer<'_, W>, start: usize, slice: &LinuxSllSlice<'_>)
     ensures { Takes W.contents W.can_fail out.old (linux_sll_text start (linux_sll_of slice.now)) out.new }
 {
-    let header = slice.header_slice();
     write_number(out, b"linux_sll ", start);
-    write_number(out, b" packet ", usize::from(packet_type_of(header)));
+    write_number(out, b" packet ", usize::from(slice.packet_type_number()));
     write_number(out, b" hw ", usize::from(slice.arp_hardware_type().0));
     write_number(
         out,
@@ -110,23 +109,7 @@ fn write_linux_sll<W: Sink>(out: &mut OutputBuffer<'_, W>, start: usize, slice: 
     out.append(b" addr ");
     out.append(&hex_long(slice.sender_address_full()));
     out.append(b" ");
-    out.append(&hex_type(EtherType(protocol_of(header))));
-}
-
-/// The number of the packet type in the bytes of a header of Linux cooked capture.
-fn packet_type_of(header: &[u8]) -> u16
-    requires { 16 ≤ length header.now }
-    ensures { result ≡ (linux_sll_of header.now).packet_type }
-{
-    u16::from_be_bytes([header[0], header[1]])
-}
-
-/// The number of the protocol type in the bytes of a header of Linux cooked capture.
-fn protocol_of(header: &[u8]) -> u16
-    requires { 16 ≤ length header.now }
-    ensures { result ≡ (linux_sll_of header.now).protocol }
-{
-    u16::from_be_bytes([header[14], header[15]])
+    out.append(&hex_type(EtherType(slice.protocol_number())));
 }
 
 /// Writes the text of a VLAN tag.
@@ -357,7 +340,7 @@ fn mark_of(closed: bool) -> &'static str
 }
 
 /// The word for the source of a length.
-fn source_of(source: LenSource) -> &'static str
+pub fn source_of(source: LenSource) -> &'static str
     ensures { result.now ≡ source_text source }
 {
     match source {

@@ -1,5 +1,5 @@
 -- The types of the public calls, for definitions that name them.
-pub use Rattle.ether_base.specs.declared.ether_type_impl.EtherType
+pub use Rattle.ether_base.specs.declared.ether_type.EtherType
 pub use Rattle.ether_base.specs.declared.arp_hardware_id.ArpHardwareId
 pub use Rattle.ether_base.specs.declared.linux_sll_protocol_type.LinuxSllProtocolType
 pub use Rattle.ether_base.specs.declared.len_source.LenSource

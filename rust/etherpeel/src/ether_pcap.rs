@@ -6,7 +6,7 @@ pub mod classic;
 mod hex_digits;
 mod link_type;
 pub mod pcapng;
-mod words;
+mod word_bytes;
 
 pub use byte_order::ByteOrder;
 pub use capture::{

@@ -2,7 +2,7 @@
 
 mod link_header;
 mod link_slice;
-mod linux_sll_fields;
+pub mod linux_sll_fields;
 mod linux_sll_header;
 mod linux_sll_header_slice;
 mod linux_sll_slice;

@@ -1,7 +1,7 @@
 //! Packets that are built.
 
 use crate::EtherUnit;
-use crate::numbers::{BAD_KIND, DONE, NO_ROOM, OTHER_LINK, SEALED, TOO_MANY_TAGS};
+use crate::statuses::{BAD_KIND, DONE, NO_ROOM, OTHER_LINK, SEALED, TOO_MANY_TAGS};
 use etherpeel::ether_packet::{BuildError, PacketBuilder, PacketContent};
 use etherpeel::{ArpPacket, EtherType, LinkExtHeader, LinkHeader, SingleVlanHeader};
 

@@ -1,8 +1,8 @@
 //! The text of the fault in which a capture file ends.
 
 use crate::capturing::captured;
-use crate::numbers::{DONE, NO_TEXT};
 use crate::putting::put_bytes;
+use crate::statuses::{DONE, NO_TEXT};
 use arrayvec::ArrayString;
 use etherpeel::ether_pcap::CaptureFault;
 use core::fmt::Write;

@@ -1,6 +1,6 @@
 //! What is walked of a captured packet.
 
-use crate::numbers::{DONE, UNKNOWN_START};
+use crate::statuses::{DONE, UNKNOWN_START};
 use crate::{EtherCaptured, EtherFrame};
 use etherpeel::ether_content::Content;
 

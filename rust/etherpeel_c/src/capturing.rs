@@ -1,7 +1,7 @@
 //! The packets of a capture file in an array.
 
 use crate::EtherCaptured;
-use crate::numbers::{BAD_CAPTURE, DONE, SHORT};
+use crate::statuses::{BAD_CAPTURE, DONE, SHORT};
 use etherpeel::ether_pcap::{CaptureFault, CapturePackets};
 
 /// Where a capture file ends: `etherpeel_capture_end` in C.

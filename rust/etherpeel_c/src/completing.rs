@@ -1,7 +1,8 @@
 //! The bytes that complete the unit in which a frame ends.
 
-use crate::numbers::{DONE, UNKNOWN_START, start_of};
+use crate::numbers::start_of;
 use crate::putting::put_bytes;
+use crate::statuses::{DONE, UNKNOWN_START};
 use arrayvec::ArrayVec;
 use etherpeel::ether_peel::{completion, completion_limited};
 
@@ -11,7 +12,7 @@ use etherpeel::ether_peel::{completion, completion_limited};
 ///
 /// ```text
 /// ensures unknown { IsUnknown start ether_type
-///     → IsRefused result ((fill.new ≡ fill.old) × (len.new ≡ len.old)) }
+///     → IsUnknownStart result ((fill.new ≡ fill.old) × (len.new ≡ len.old)) }
 /// ensures given { OfStart start ether_type
 ///     (λ s. GivesCompletion (start_meant s) bytes.now fill.old fill.new result len.new) }
 /// ```
@@ -44,7 +45,7 @@ pub unsafe extern "C" fn etherpeel_completion(
 ///
 /// ```text
 /// ensures unknown { IsUnknown start ether_type
-///     → IsRefused result ((fill.new ≡ fill.old) × (len.new ≡ len.old)) }
+///     → IsUnknownStart result ((fill.new ≡ fill.old) × (len.new ≡ len.old)) }
 /// ensures given { OfStart start ether_type
 ///     (λ s. GivesCompletion (limited_start s limit) bytes.now fill.old fill.new result len.new) }
 /// ```

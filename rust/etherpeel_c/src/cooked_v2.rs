@@ -1,7 +1,7 @@
 //! Packets of Linux cooked capture v2.
 
 use crate::field_putting::put_table;
-use crate::numbers::{BAD_PACKET_TYPE, DONE, SHORT};
+use crate::statuses::{BAD_PACKET_TYPE, DONE, SHORT};
 use crate::{EtherField, EtherLinuxSll2, field_place};
 use etherpeel::ether_sll2::{LinuxSll2Error, LinuxSll2Slice};
 

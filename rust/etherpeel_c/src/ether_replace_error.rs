@@ -1,6 +1,6 @@
 //! Why a header is not replaced, as a struct of C.
 
-use crate::numbers::{DIFFERS, NO_ARP, NO_LINK, NO_TAG};
+use crate::statuses::{DIFFERS, NO_ARP, NO_LINK, NO_TAG};
 use etherpeel::ether_packet::{Difference, ReplaceError};
 
 /// Why a header is not replaced, in addition to the status: `etherpeel_replace_error` in C.

@@ -1,7 +1,8 @@
 //! The text of a frame's fault.
 
-use crate::numbers::{DONE, NO_TEXT, UNKNOWN_START, start_of};
+use crate::numbers::start_of;
 use crate::putting::put_bytes;
+use crate::statuses::{DONE, NO_TEXT, UNKNOWN_START};
 use arrayvec::ArrayString;
 use etherpeel::ether_peel::{PeelFault, summary, summary_limited};
 use core::fmt::Write;
@@ -16,7 +17,7 @@ const LONGEST: usize = 512;
 ///
 /// ```text
 /// ensures unknown { IsUnknown start ether_type
-///     → IsRefused result ((text.new ≡ text.old) × (len.new ≡ len.old)) }
+///     → IsUnknownStart result ((text.new ≡ text.old) × (len.new ≡ len.old)) }
 /// ensures given { OfStart start ether_type
 ///     (λ s. GivesText (start_meant s) bytes.now text.old text.new result len.new) }
 /// ```
@@ -49,7 +50,7 @@ pub unsafe extern "C" fn etherpeel_fault_text(
 ///
 /// ```text
 /// ensures unknown { IsUnknown start ether_type
-///     → IsRefused result ((text.new ≡ text.old) × (len.new ≡ len.old)) }
+///     → IsUnknownStart result ((text.new ≡ text.old) × (len.new ≡ len.old)) }
 /// ensures given { OfStart start ether_type
 ///     (λ s. GivesText (limited_start s limit) bytes.now text.old text.new result len.new) }
 /// ```

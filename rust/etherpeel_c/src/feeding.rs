@@ -1,7 +1,8 @@
 //! A walk that receives a frame piece by piece.
 
 use crate::EtherFed;
-use crate::numbers::{DONE, UNKNOWN_START, start_of};
+use crate::numbers::start_of;
+use crate::statuses::{DONE, UNKNOWN_START};
 use etherpeel::ether_peel::{feed, feed_limited};
 
 /// What a reader takes of a frame if it asks for exactly the bytes that the walk needs next.
@@ -9,7 +10,7 @@ use etherpeel::ether_peel::{feed, feed_limited};
 /// <details><summary>Contract</summary>
 ///
 /// ```text
-/// ensures unknown { IsUnknown start ether_type → IsRefused result (fed.new ≡ fed.old) }
+/// ensures unknown { IsUnknown start ether_type → IsUnknownStart result (fed.new ≡ fed.old) }
 /// ensures given { OfStart start ether_type
 ///     (λ s. GivesFeed (start_meant s) bytes.now result fed.new) }
 /// ```
@@ -36,7 +37,7 @@ pub unsafe extern "C" fn etherpeel_feed(
 /// <details><summary>Contract</summary>
 ///
 /// ```text
-/// ensures unknown { IsUnknown start ether_type → IsRefused result (fed.new ≡ fed.old) }
+/// ensures unknown { IsUnknown start ether_type → IsUnknownStart result (fed.new ≡ fed.old) }
 /// ensures given { OfStart start ether_type
 ///     (λ s. GivesFeed (limited_start s limit) bytes.now result fed.new) }
 /// ```

@@ -1,7 +1,8 @@
 //! The fields of the headers of a frame in an array.
 
 use crate::field_putting::put_table;
-use crate::numbers::{DONE, UNKNOWN_START, start_of};
+use crate::numbers::start_of;
+use crate::statuses::{DONE, UNKNOWN_START};
 use crate::{EtherField, field_place};
 use etherpeel::ether_peel::{Peel, PeelUnit, Start};
 
@@ -12,7 +13,7 @@ use etherpeel::ether_peel::{Peel, PeelUnit, Start};
 ///
 /// ```text
 /// ensures unknown { IsUnknown start ether_type
-///     → IsRefused result ((fields.new ≡ fields.old) × (count.new ≡ count.old)) }
+///     → IsUnknownStart result ((fields.new ≡ fields.old) × (count.new ≡ count.old)) }
 /// ensures given { OfStart start ether_type
 ///     (λ s. GivesFields (start_meant s) bytes.now fields.old fields.new result count.new) }
 /// ```

@@ -1,7 +1,7 @@
 //! The text of why a text is no expression of a filter.
 
-use crate::numbers::{DONE, NO_TEXT};
 use crate::putting::put_bytes;
+use crate::statuses::{DONE, NO_TEXT};
 use arrayvec::ArrayString;
 use etherpeel::ether_filter::{Filter, FilterError};
 use core::fmt::Write;

@@ -1,7 +1,7 @@
 //! Filters that are read once and asked about many packets.
 
-use crate::numbers::{BAD_FILTER, DONE};
 use crate::selecting::{mark, put_marks};
+use crate::statuses::{BAD_FILTER, DONE};
 use crate::{EtherCaptured, EtherFilter, EtherFilterError};
 use etherpeel::ether_content::program::is_undecided;
 use etherpeel::ether_filter::Filter;

@@ -1,6 +1,7 @@
 //! The number of bytes that are missing from a frame cut short.
 
-use crate::numbers::{DONE, UNKNOWN_START, start_of};
+use crate::numbers::start_of;
+use crate::statuses::{DONE, UNKNOWN_START};
 use etherpeel::ether_peel::{PeelFault, summary, summary_limited};
 
 /// The minimum number of further bytes that the refused unit needs, 0 if more bytes would not help.
@@ -8,7 +9,7 @@ use etherpeel::ether_peel::{PeelFault, summary, summary_limited};
 /// <details><summary>Contract</summary>
 ///
 /// ```text
-/// ensures unknown { IsUnknown start ether_type → IsRefused result (missing.new ≡ missing.old) }
+/// ensures unknown { IsUnknown start ether_type → IsUnknownStart result (missing.new ≡ missing.old) }
 /// ensures given { OfStart start ether_type
 ///     (λ s. GivesMissing (start_meant s) bytes.now result missing.new) }
 /// ```
@@ -35,7 +36,7 @@ pub unsafe extern "C" fn etherpeel_missing(
 /// <details><summary>Contract</summary>
 ///
 /// ```text
-/// ensures unknown { IsUnknown start ether_type → IsRefused result (missing.new ≡ missing.old) }
+/// ensures unknown { IsUnknown start ether_type → IsUnknownStart result (missing.new ≡ missing.old) }
 /// ensures given { OfStart start ether_type
 ///     (λ s. GivesMissing (limited_start s limit) bytes.now result missing.new) }
 /// ```

@@ -1,6 +1,6 @@
 //! Headers that are passed from C as units.
 
-use crate::numbers::{BAD_FIELD, BAD_KIND};
+use crate::statuses::{BAD_FIELD, BAD_KIND};
 use crate::{EtherArp, EtherEthernet2, EtherLinuxSll, EtherMacsec, EtherUnit};
 use etherpeel::{
     ArpHardwareId, ArpOperation, ArpPacket, EtherType, Ethernet2Header, LinkExtHeader, LinkHeader,

@@ -1,7 +1,8 @@
 //! VLAN tags that are taken off in place.
 
 use crate::EtherVlan;
-use crate::numbers::{DONE, UNKNOWN_START, start_of, tag_error};
+use crate::numbers::start_of;
+use crate::statuses::{DONE, UNKNOWN_START, tag_error};
 use etherpeel::ether_packet::pop_vlan;
 
 /// Takes off the VLAN tag after the header of a link, in place: the frame is then without its first
@@ -11,7 +12,7 @@ use etherpeel::ether_packet::pop_vlan;
 ///
 /// ```text
 /// ensures unknown { IsUnknown start ether_type
-///     → IsRefused result ((frame.new ≡ frame.old) × (tag.new ≡ tag.old)) }
+///     → IsUnknownStart result ((frame.new ≡ frame.old) × (tag.new ≡ tag.old)) }
 /// ensures given { OfStart start ether_type
 ///     (λ s. GivesPop (start_meant s) frame.old frame.new tag.old tag.new result) }
 /// ```

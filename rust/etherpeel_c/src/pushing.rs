@@ -1,7 +1,8 @@
 //! VLAN tags that are put in in place.
 
 use crate::EtherVlan;
-use crate::numbers::{BAD_FIELD, DONE, UNKNOWN_START, start_of, tag_error};
+use crate::numbers::start_of;
+use crate::statuses::{BAD_FIELD, DONE, UNKNOWN_START, tag_error};
 use etherpeel::ether_packet::push_vlan;
 use etherpeel::EtherType;
 
@@ -11,7 +12,7 @@ use etherpeel::EtherType;
 /// <details><summary>Contract</summary>
 ///
 /// ```text
-/// ensures unknown { IsUnknown start ether_type → IsRefused result (buffer.new ≡ buffer.old) }
+/// ensures unknown { IsUnknown start ether_type → IsUnknownStart result (buffer.new ≡ buffer.old) }
 /// ensures unfit { OfStart start ether_type
 ///     (λ _. (FitsVlan (vlan_value tag.now) → ⊥)
 ///     → (result ≡ bad_field) × (buffer.new ≡ buffer.old)) }

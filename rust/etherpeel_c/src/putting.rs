@@ -1,6 +1,6 @@
 //! Bytes written to the front of a target.
 
-use crate::numbers::{DONE, NO_ROOM};
+use crate::statuses::{DONE, NO_ROOM};
 
 /// Writes bytes to the front of a target if it has room for all of them. Returns the status of the
 /// call, and their number.

@@ -1,8 +1,9 @@
 //! All headers of a packet in one call.
 
 use crate::EtherHeaders;
-use crate::numbers::{DONE, UNKNOWN_START, start_of};
+use crate::numbers::start_of;
 use crate::packet_facts::packet_facts;
+use crate::statuses::{DONE, UNKNOWN_START};
 use crate::walking::walked;
 use etherpeel::ether_packet::PacketSlice;
 
@@ -12,7 +13,7 @@ use etherpeel::ether_packet::PacketSlice;
 /// <details><summary>Contract</summary>
 ///
 /// ```text
-/// ensures unknown { IsUnknown start ether_type → IsRefused result (headers.new ≡ headers.old) }
+/// ensures unknown { IsUnknown start ether_type → IsUnknownStart result (headers.new ≡ headers.old) }
 /// ensures given { OfStart start ether_type
 ///     (λ s. GivesPacket s bytes.now headers.old.units headers.new result) }
 /// ```

@@ -1,6 +1,7 @@
 //! Headers that are replaced in place.
 
-use crate::numbers::{DONE, UNKNOWN_START, start_of};
+use crate::numbers::start_of;
+use crate::statuses::{DONE, UNKNOWN_START};
 use crate::{EtherReplaceError, EtherUnit, ether_replace_error};
 use etherpeel::ether_packet::{ReplaceError, replace_arp, replace_link, replace_link_ext};
 
@@ -11,7 +12,7 @@ use etherpeel::ether_packet::{ReplaceError, replace_arp, replace_link, replace_l
 ///
 /// ```text
 /// ensures unknown { IsUnknown start ether_type
-///     → IsRefused result ((frame.new ≡ frame.old) × (error.new ≡ error.old)) }
+///     → IsUnknownStart result ((frame.new ≡ frame.old) × (error.new ≡ error.old)) }
 /// ensures given { OfStart start ether_type
 ///     (λ s. GivesReplaceLink s header.now frame.old frame.new error.old error.new result) }
 /// ```
@@ -43,7 +44,7 @@ pub unsafe extern "C" fn etherpeel_replace_link(
 ///
 /// ```text
 /// ensures unknown { IsUnknown start ether_type
-///     → IsRefused result ((frame.new ≡ frame.old) × (error.new ≡ error.old)) }
+///     → IsUnknownStart result ((frame.new ≡ frame.old) × (error.new ≡ error.old)) }
 /// ensures given { OfStart start ether_type
 ///     (λ s. GivesReplaceExt (start_of s) index header.now frame.old frame.new
 ///     error.old error.new result) }
@@ -77,7 +78,7 @@ pub unsafe extern "C" fn etherpeel_replace_link_ext(
 ///
 /// ```text
 /// ensures unknown { IsUnknown start ether_type
-///     → IsRefused result ((frame.new ≡ frame.old) × (error.new ≡ error.old)) }
+///     → IsUnknownStart result ((frame.new ≡ frame.old) × (error.new ≡ error.old)) }
 /// ensures given { OfStart start ether_type
 ///     (λ s. GivesReplaceArp (packet_start s) header.now bytes.now frame.old frame.new
 ///     error.old error.new result) }

@@ -1,6 +1,6 @@
 //! The packets that a filter selects.
 
-use crate::numbers::{BAD_FILTER, DONE, NO_ROOM};
+use crate::statuses::{BAD_FILTER, DONE, NO_ROOM};
 use crate::{EtherCaptured, EtherFilterError};
 use etherpeel::ether_content::program::selects;
 use etherpeel::ether_filter::{Filter, Instruction};

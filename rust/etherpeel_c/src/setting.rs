@@ -1,7 +1,8 @@
 //! VLAN tags that are changed in place.
 
 use crate::EtherVlan;
-use crate::numbers::{BAD_FIELD, DONE, UNKNOWN_START, start_of, tag_error};
+use crate::numbers::start_of;
+use crate::statuses::{BAD_FIELD, DONE, UNKNOWN_START, tag_error};
 use etherpeel::ether_packet::{set_tpid, set_vlan_id, set_vlan_tag};
 use etherpeel::{EtherType, VlanId};
 
@@ -10,7 +11,7 @@ use etherpeel::{EtherType, VlanId};
 /// <details><summary>Contract</summary>
 ///
 /// ```text
-/// ensures unknown { IsUnknown start ether_type → IsRefused result (frame.new ≡ frame.old) }
+/// ensures unknown { IsUnknown start ether_type → IsUnknownStart result (frame.new ≡ frame.old) }
 /// ensures unfit { OfStart start ether_type
 ///     (λ _. 4096 ≤ vid → (result ≡ bad_field) × (frame.new ≡ frame.old)) }
 /// ensures given { OfStart start ether_type
@@ -47,7 +48,7 @@ pub unsafe extern "C" fn etherpeel_set_vlan_id(
 /// <details><summary>Contract</summary>
 ///
 /// ```text
-/// ensures unknown { IsUnknown start ether_type → IsRefused result (frame.new ≡ frame.old) }
+/// ensures unknown { IsUnknown start ether_type → IsUnknownStart result (frame.new ≡ frame.old) }
 /// ensures unfit { OfStart start ether_type
 ///     (λ _. (FitsVlan (vlan_value tag.now) → ⊥)
 ///     → (result ≡ bad_field) × (frame.new ≡ frame.old)) }
@@ -91,7 +92,7 @@ pub unsafe extern "C" fn etherpeel_set_vlan_tag(
 /// <details><summary>Contract</summary>
 ///
 /// ```text
-/// ensures unknown { IsUnknown start ether_type → IsRefused result (frame.new ≡ frame.old) }
+/// ensures unknown { IsUnknown start ether_type → IsUnknownStart result (frame.new ≡ frame.old) }
 /// ensures given { OfStart start ether_type
 ///     (λ s. GivesSetTpid (start_of s) index tpid frame.old frame.new result) }
 /// ```

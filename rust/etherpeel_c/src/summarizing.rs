@@ -1,7 +1,8 @@
 //! The whole walk through a frame in one call.
 
 use crate::EtherFound;
-use crate::numbers::{DONE, UNKNOWN_START, start_of};
+use crate::numbers::start_of;
+use crate::statuses::{DONE, UNKNOWN_START};
 use etherpeel::ether_peel::{summary, summary_limited};
 
 /// The result of the walk through a frame.
@@ -9,7 +10,7 @@ use etherpeel::ether_peel::{summary, summary_limited};
 /// <details><summary>Contract</summary>
 ///
 /// ```text
-/// ensures unknown { IsUnknown start ether_type → IsRefused result (found.new ≡ found.old) }
+/// ensures unknown { IsUnknown start ether_type → IsUnknownStart result (found.new ≡ found.old) }
 /// ensures given { OfStart start ether_type
 ///     (λ s. GivesSummary (start_meant s) bytes.now result found.new) }
 /// ```
@@ -36,7 +37,7 @@ pub unsafe extern "C" fn etherpeel_summary(
 /// <details><summary>Contract</summary>
 ///
 /// ```text
-/// ensures unknown { IsUnknown start ether_type → IsRefused result (found.new ≡ found.old) }
+/// ensures unknown { IsUnknown start ether_type → IsUnknownStart result (found.new ≡ found.old) }
 /// ensures given { OfStart start ether_type
 ///     (λ s. GivesSummary (limited_start s limit) bytes.now result found.new) }
 /// ensures front { OfStart start ether_type (λ s. IsFrontOfUnlimited s bytes.now limit) }

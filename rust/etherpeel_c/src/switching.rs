@@ -1,7 +1,7 @@
 //! A bridge with VLANs.
 
 use crate::ether_received::bridge_kind;
-use crate::numbers::{BAD_FIELD, DONE, STAYS};
+use crate::statuses::{BAD_FIELD, DONE, STAYS};
 use crate::{EtherPort, EtherReceived};
 use etherpeel::ether_switch::{Bridge, PortConfig, Received, StationBucket};
 

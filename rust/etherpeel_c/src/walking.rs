@@ -2,7 +2,8 @@
 
 use crate::EtherUnit;
 use crate::ether_unit::UnitPlace;
-use crate::numbers::{DONE, UNKNOWN_START, start_of};
+use crate::numbers::start_of;
+use crate::statuses::{DONE, UNKNOWN_START};
 use etherpeel::ether_peel::{Peel, PeelFault, PeelUnit, Start, Summary};
 
 /// The units of a frame, as many as the array has room for, and how many there are in all.
@@ -11,7 +12,7 @@ use etherpeel::ether_peel::{Peel, PeelFault, PeelUnit, Start, Summary};
 ///
 /// ```text
 /// ensures unknown { IsUnknown start ether_type
-///     → IsRefused result ((units.new ≡ units.old) × (count.new ≡ count.old)) }
+///     → IsUnknownStart result ((units.new ≡ units.old) × (count.new ≡ count.old)) }
 /// ensures given { OfStart start ether_type
 ///     (λ s. GivesWalk (start_meant s) bytes.now units.old units.new result count.new) }
 /// ```
@@ -43,7 +44,7 @@ pub unsafe extern "C" fn etherpeel_walk(
 ///
 /// ```text
 /// ensures unknown { IsUnknown start ether_type
-///     → IsRefused result ((units.new ≡ units.old) × (count.new ≡ count.old)) }
+///     → IsUnknownStart result ((units.new ≡ units.old) × (count.new ≡ count.old)) }
 /// ensures given { OfStart start ether_type
 ///     (λ s. GivesWalk (limited_start s limit) bytes.now units.old units.new result count.new) }
 /// ```

@@ -1,6 +1,7 @@
 //! Headers written back before the rest.
 
-use crate::numbers::{DONE, NO_ROOM, UNKNOWN_START, start_of};
+use crate::numbers::start_of;
+use crate::statuses::{DONE, NO_ROOM, UNKNOWN_START};
 use etherpeel::ether_peel::{write_back, write_back_limited};
 use etherpeel::err::SliceWriteSpaceError;
 
@@ -10,7 +11,7 @@ use etherpeel::err::SliceWriteSpaceError;
 ///
 /// ```text
 /// ensures unknown { IsUnknown start ether_type
-///     → IsRefused result ((target.new ≡ target.old) × (len.new ≡ len.old)) }
+///     → IsUnknownStart result ((target.new ≡ target.old) × (len.new ≡ len.old)) }
 /// ensures given { OfStart start ether_type
 ///     (λ s. GivesWriteBack (start_meant s) bytes.now target.old target.new result len.new) }
 /// ```
@@ -43,7 +44,7 @@ pub unsafe extern "C" fn etherpeel_write_back(
 ///
 /// ```text
 /// ensures unknown { IsUnknown start ether_type
-///     → IsRefused result ((target.new ≡ target.old) × (len.new ≡ len.old)) }
+///     → IsUnknownStart result ((target.new ≡ target.old) × (len.new ≡ len.old)) }
 /// ensures given { OfStart start ether_type
 ///     (λ s. GivesWriteBack (limited_start s limit) bytes.now target.old target.new
 ///     result len.new) }

@@ -1,7 +1,7 @@
 //! The blocks of a section of a pcapng file, read in the order of the file.
 ghost use Rattle.std.specs.Prelude.{◌≡◌, ℕ, ◌+◌, length, Some, None, IfOk, IfErr, OnErr, MatchOption, if◌then◌else◌};
 ghost use Rattle.std.specs.Option.{option_map};
-ghost use Rattle.ether_pcap.specs.Capture.{InterfaceDescription as Description, SimplePacket as Simple, EnhancedPacket as Enhanced, Blocks, IsAt, HasNoInterface, IsBody, RefusesBody, kind_of_block, Begins, Refuses, fcs_of};
+ghost use Rattle.ether_pcap.specs.Capture.{InterfaceDescription as Description, SimplePacket as Simple, EnhancedPacket as Enhanced, Blocks, IsAt, HasNoInterface, IsBody, RefusesBody, kind_of_block, Begins, RefusesCapture, fcs_of};
 ghost use Rattle.ether_pcap.specs.Section.{HasSectionType};
 ghost use Rattle.ether_pcap.specs.Views.{order_of};
 ghost use Rattle.ether_pcap.specs.CaptureViews.{captured_packet_view, capture_refusal_view, capture_interface_view, interfaces_view};
@@ -26,7 +26,7 @@ pub(crate) fn read_block<'a, T: InterfaceTable>(
         u.len
         (option_map captured_packet_view u.packet)
         (Blocks T.most (order_of byte_order) (interfaces_view (T.items interfaces.new)))) }
-    ensures refused { IfErr result (λ e. Refuses bytes.now
+    ensures refused { IfErr result (λ e. RefusesCapture bytes.now
         (Blocks T.most (order_of byte_order) (interfaces_view (T.items interfaces.old)))
         (capture_refusal_view e)) }
     ensures same { OnErr result (T.items interfaces.new ≡ T.items interfaces.old) }

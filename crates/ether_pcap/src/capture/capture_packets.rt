@@ -41,9 +41,9 @@ pub struct CapturePackets<'a> {
 impl<'a> Model for CapturePackets<'a> {
     ghost use Rattle.std.specs.Prelude.{◌+◌, ◌^◌, ◌<◌, length};
     ghost use Rattle.ether_base.specs.Bytes.{IsBytes};
-    ghost use Rattle.ether_pcap.specs.CaptureReading.{State};
+    ghost use Rattle.ether_pcap.specs.CaptureReading.{CaptureState};
 
-    ghost Value = { State };
+    ghost Value = { CaptureState };
 
     ghost view = { λ a. record { expected = a.reader; rest = a.rest.now; offset = a.offset; over = a.is_over } };
 
@@ -84,9 +84,9 @@ impl<'a> CapturePackets<'a> {
 impl<'a> Iterator for CapturePackets<'a> {
     type Item = Result<CapturedPacket<'a>, CaptureFault>;
 
-    ghost use Rattle.ether_pcap.specs.CaptureReading.{Gives, items_left};
+    ghost use Rattle.ether_pcap.specs.CaptureReading.{CaptureGives, items_left};
 
-    ghost next_gives = { Gives };
+    ghost next_gives = { CaptureGives };
 
     ghost remaining = { items_left };
 

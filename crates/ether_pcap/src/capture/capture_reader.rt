@@ -2,7 +2,7 @@
 ghost use Rattle.std.specs.Prelude.{◌≡◌, ℕ, ◌<◌, ◌≤◌, ◌↔◌, length, Some, None, IfSome, IfOk, IfErr, OnErr, IsTrue, if◌then◌else◌};
 ghost use Rattle.std.specs.Option.{option_map};
 ghost use Rattle.ether_pcap.specs.FileHeader.{FileHeaderValue, IsFileHeader};
-ghost use Rattle.ether_pcap.specs.Capture.{Expectation, Beginning, Records, Begins, HasBegun, Refuses, required_len};
+ghost use Rattle.ether_pcap.specs.Capture.{CaptureExpectation, Beginning, Records, Begins, HasBegun, RefusesCapture, required_len};
 ghost use Rattle.ether_pcap.specs.CopiedUnits.{changed_unit as unit_in, copied_bytes, copy_mode_view, other_unit, packet_unit};
 ghost use Rattle.ether_pcap.specs.Editing.{EditsUnit, HasEditedPacket, padding_of};
 ghost use Rattle.ether_pcap.specs.Section.{HasSectionType, IsSection, RefusesSection};
@@ -65,10 +65,10 @@ pub struct CaptureReader<T: InterfaceTable> {
 }
 
 impl<T: InterfaceTable> Model for CaptureReader<T> {
-    ghost use Rattle.ether_pcap.specs.Capture.{Expectation};
+    ghost use Rattle.ether_pcap.specs.Capture.{CaptureExpectation};
     ghost use Rattle.ether_pcap.specs.CaptureViews.{expectation_of};
 
-    ghost Value = { Expectation };
+    ghost Value = { CaptureExpectation };
 
     ghost view = { λ r. expectation_of T.most r.progress (T.items r.interfaces) };
 }
@@ -106,7 +106,7 @@ impl<T: InterfaceTable> CaptureReader<T> {
     pub fn read<'a>(&mut self, bytes: &'a [u8]) -> Result<CaptureUnit<'a>, CaptureError>
         ensures unit { IfOk result (λ u. Begins bytes.now
             self.old u.len (option_map captured_packet_view u.packet) self.new) }
-        ensures refused { IfErr result (λ e. Refuses bytes.now self.old (capture_refusal_view e)) }
+        ensures refused { IfErr result (λ e. RefusesCapture bytes.now self.old (capture_refusal_view e)) }
         ensures same { OnErr result (self.new ≡ self.old) }
         ensures within { IfOk result (λ u. u.len ≤ length bytes.now) }
         ensures some { IfOk result (λ u. 0 < u.len) }
@@ -188,7 +188,7 @@ impl<T: InterfaceTable> CaptureReader<T> {
     /// assert_eq!(rt; copied, wanted);
     /// ```
     pub fn copy_unit<'a>(&self, mode: CopyMode, unit: &'a [u8]) -> CopiedUnit<'a>
-        ensures { (x : Expectation) → Begins unit.now x (length unit.now) None self.now
+        ensures { (x : CaptureExpectation) → Begins unit.now x (length unit.now) None self.now
             → copied_bytes result ≡ other_unit (copy_mode_view mode) self.now unit.now }
     {
         match mode {
@@ -199,7 +199,7 @@ impl<T: InterfaceTable> CaptureReader<T> {
 
     /// The unit in a copy that is another capture.
     fn changed_unit<'a>(&self, raise: u32, unit: &'a [u8]) -> CopiedUnit<'a>
-        ensures { (x : Expectation) → Begins unit.now x (length unit.now) None self.now
+        ensures { (x : CaptureExpectation) → Begins unit.now x (length unit.now) None self.now
             → copied_bytes result ≡ unit_in raise self.now unit.now }
     {
         match self.progress {
@@ -232,7 +232,7 @@ impl<T: InterfaceTable> CaptureReader<T> {
     fn read_unit<'a>(&mut self, bytes: &'a [u8]) -> Result<CaptureUnit<'a>, CaptureError>
         ensures unit { IfOk result (λ u. Begins bytes.now
             self.old u.len (option_map captured_packet_view u.packet) self.new) }
-        ensures refused { IfErr result (λ e. Refuses bytes.now self.old (capture_refusal_view e)) }
+        ensures refused { IfErr result (λ e. RefusesCapture bytes.now self.old (capture_refusal_view e)) }
         ensures same { OnErr result (self.new ≡ self.old) }
     {
         if let Progress::Classic(header) = self.progress {
@@ -279,7 +279,7 @@ fn read_record<'a>(header: &FileHeader, bytes: &'a [u8]) -> Result<CaptureUnit<'
         u.len
         (option_map captured_packet_view u.packet)
         (Records (file_header_view header.now))) }
-    ensures refused { IfErr result (λ e. Refuses bytes.now
+    ensures refused { IfErr result (λ e. RefusesCapture bytes.now
         (Records (file_header_view header.now))
         (capture_refusal_view e)) }
 {

@@ -8,7 +8,7 @@ ghost use Rattle.ether_pcap.specs.Views.{file_header_view, order_of};
 ghost use Rattle.ether_pcap.specs.Writing.{bytes_of};
 
 use crate::pcapng::simple_packet::captured_len;
-use crate::words::word;
+use crate::word_bytes::word;
 use crate::{ByteOrder, CapturedPacket, CopiedUnit, FileHeader, PcapngBlock};
 
 /// The file header with a snap length that is raised.

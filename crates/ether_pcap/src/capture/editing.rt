@@ -8,7 +8,7 @@ ghost use Rattle.ether_pcap.specs.Capture.{PacketValue, CaptureInterfaceValue, B
 ghost use Rattle.ether_pcap.specs.Editing.{unit_with, edited_block as block_with, unit_bytes, padding_of};
 ghost use Rattle.ether_pcap.specs.Views.{order_of, file_header_view};
 
-use crate::words::{four_words, len_word, padded_len, seven_words, word};
+use crate::word_bytes::{four_words, len_word, padded_len, seven_words, word};
 use crate::{ByteOrder, EditedUnit, FileHeader, PcapRecord, PcapngBlock};
 
 /// The record of a packet with other captured bytes and another original length.

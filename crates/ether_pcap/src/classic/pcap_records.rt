@@ -32,9 +32,9 @@ pub struct PcapRecords<'a> {
 
 impl<'a> Model for PcapRecords<'a> {
     ghost use Rattle.std.specs.Prelude.{◌+◌, ◌^◌, ◌<◌, length};
-    ghost use Rattle.ether_pcap.specs.Reading.{State};
+    ghost use Rattle.ether_pcap.specs.RecordReading.{RecordState};
 
-    ghost Value = { State };
+    ghost Value = { RecordState };
 
     ghost view = { λ a. record { header = a.header; rest = a.rest.now; offset = a.offset; over = a.is_over } };
 
@@ -88,9 +88,9 @@ impl<'a> PcapRecords<'a> {
 impl<'a> Iterator for PcapRecords<'a> {
     type Item = Result<PcapRecord<'a>, RecordFault>;
 
-    ghost use Rattle.ether_pcap.specs.Reading.{Gives, items_left};
+    ghost use Rattle.ether_pcap.specs.RecordReading.{RecordGives, items_left};
 
-    ghost next_gives = { Gives };
+    ghost next_gives = { RecordGives };
 
     ghost remaining = { items_left };
 

@@ -10,7 +10,7 @@ ghost use Rattle.ether_pcap.specs.Views.{order_of};
 ghost use Rattle.ether_pcap.specs.PcapngViews.{enhanced_packet_view, body_refusal_view};
 
 use crate::pcapng::pcapng_option::{bytes_from, u32_option};
-use crate::words::{four_words, len_word, padded_len, seven_words, word};
+use crate::word_bytes::{four_words, len_word, padded_len, seven_words, word};
 use crate::{BodyError, ByteOrder, PcapRecord, PcapngBlock};
 
 /// The code of the option with flags, `epb_flags` of an enhanced packet and `pack_flags` of the obsolete packet block.

@@ -8,7 +8,7 @@ ghost use Rattle.ether_pcap.specs.Views.{order_of};
 ghost use Rattle.ether_pcap.specs.PcapngViews.{interface_view, body_refusal_view};
 
 use crate::pcapng::pcapng_option::{option_value, u64_option};
-use crate::words::{four_words, half_words, len_word, three_words, word};
+use crate::word_bytes::{four_words, half_words, len_word, three_words, word};
 use crate::{BodyError, ByteOrder, LinkType, PcapngBlock};
 
 /// The code of the option with the resolution of times, `if_tsresol`.

@@ -5,7 +5,7 @@ ghost use Rattle.ether_pcap.specs.Views.{order_of};
 ghost use Rattle.ether_pcap.specs.PcapngViews.{option_view};
 
 use crate::ByteOrder;
-use crate::words::padded_len;
+use crate::word_bytes::padded_len;
 
 /// A view of an option of a block: its code and its value, without the padding.
 #[derive(Clone, Copy)]

@@ -8,7 +8,7 @@ ghost use Rattle.ether_pcap.specs.Editing.{block_bytes};
 ghost use Rattle.ether_pcap.specs.Views.{order_of};
 ghost use Rattle.ether_pcap.specs.PcapngViews.{block_view, section_refusal_view};
 
-use crate::words::{four_words, half_words, seven_words, word};
+use crate::word_bytes::{four_words, half_words, seven_words, word};
 use crate::{ByteOrder, PcapngBlock, SectionError};
 
 /// A view of a section header (draft-ietf-opsawg-pcapng, section 4.1), the block with which a pcapng file begins: it says the order of the bytes of the numbers in its

@@ -103,7 +103,7 @@ fn write_address<W: Sink>(protocol: EtherType, bytes: &[u8], out: &mut OutputBuf
 
 /// Writes a header of cooked capture v1.
 fn write_linux_sll<W: Sink>(slice: &LinuxSllSlice<'_>, out: &mut OutputBuffer<'_, W>) {
-    let packet_type = usize::from(u16::from(slice.packet_type()));
+    let packet_type = usize::from(slice.packet_type_number());
     let len = usize::from(slice.sender_address_valid_length());
     write_sender(packet_type, &slice.sender_address_full(), len, out);
 }
@@ -132,7 +132,7 @@ pub(crate) fn write_brief_linux_sll2<W: Sink>(
     packet: &LinuxSll2Slice<'_>,
     out: &mut OutputBuffer<'_, W>,
 ) {
-    let packet_type = usize::from(u16::from(packet.packet_type()));
+    let packet_type = usize::from(packet.packet_type_number());
     let len = usize::from(packet.sender_address_valid_length());
     write_number(out, b" if ", packet.interface_index() as usize);
     write_sender(packet_type, &packet.sender_address_full(), len, out);

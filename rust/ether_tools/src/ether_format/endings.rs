@@ -4,6 +4,7 @@ use crate::ether_format::members::{member, number};
 use crate::ether_format::value::{Member, Value};
 use etherpeel::ether_peel::{PeelError, RestKind};
 use etherpeel::ether_sll2::LinuxSll2Error;
+use crate::ether_text::source_of;
 use etherpeel::err::{self, LenError};
 use etherpeel::{LenSource, LinuxSllProtocolType};
 
@@ -141,7 +142,7 @@ fn length_cause(required: usize, available: usize, source: LenSource) -> [Member
         member(",\"kind\":", Value::Word("length")),
         number(",\"required\":", required),
         number(",\"available\":", available),
-        member(",\"source\":", Value::Word(source_word(source))),
+        member(",\"source\":", Value::Word(source_of(source))),
         member(",\"value\":", Value::Nothing),
     ]
 }
@@ -155,17 +156,4 @@ fn valued_cause(kind: &'static str, value: Value<'static>) -> [Member<'static>; 
         member(",\"source\":", Value::Nothing),
         member(",\"value\":", value),
     ]
-}
-
-/// The word for the source of a length.
-fn source_word(source: LenSource) -> &'static str {
-    match source {
-        LenSource::Slice => "slice",
-        LenSource::MacsecShortLength => "macsec_short_length",
-        LenSource::Ipv4HeaderTotalLen => "ipv4_total_len",
-        LenSource::Ipv6HeaderPayloadLen => "ipv6_payload_len",
-        LenSource::UdpHeaderLen => "udp_len",
-        LenSource::TcpHeaderLen => "tcp_len",
-        LenSource::ArpAddrLengths => "arp_addr_lengths",
-    }
 }

@@ -44,9 +44,8 @@ pub fn write_linux_sll2<'a, W: Sink>(
 
 /// Writes the line of the header.
 fn write_header<W: Sink>(packet: &LinuxSll2Slice<'_>, out: &mut OutputBuffer<'_, W>) {
-    let header = packet.header_slice();
     write_number(out, b"linux_sll2 ", 0);
-    write_number(out, b" packet ", packet_type_of(header));
+    write_number(out, b" packet ", usize::from(packet.packet_type_number()));
     write_number(out, b" hw ", usize::from(packet.arp_hardware_type().0));
     write_number(out, b" if ", packet.interface_index() as usize);
     write_number(
@@ -57,18 +56,8 @@ fn write_header<W: Sink>(packet: &LinuxSll2Slice<'_>, out: &mut OutputBuffer<'_,
     out.append(b" addr ");
     out.append(&hex_long(packet.sender_address_full()));
     out.append(b" ");
-    out.append(&hex_type(EtherType(protocol_of(header))));
+    out.append(&hex_type(EtherType(packet.protocol_number())));
     out.append(b"\n");
-}
-
-/// The number of the packet type.
-fn packet_type_of(header: &[u8]) -> usize {
-    usize::from(header[10])
-}
-
-/// The number of the protocol type.
-fn protocol_of(header: &[u8]) -> u16 {
-    u16::from_be_bytes([header[0], header[1]])
 }
 
 /// Writes the text of the fault of a header.

@@ -24,14 +24,12 @@ pub(crate) fn tag_edit_of(kind: TagEdit, text: &[u8]) -> Option<PacketEdit> {
 
 /// The edit that puts in a VLAN tag, if the TPID announces one and the identifier has no more than 12 bits.
 fn push_of(tpid: u32, id: u32) -> Option<PacketEdit> {
-    if !(tpid == 0x8100 || tpid == 0x88A8 || tpid == 0x9100) {
+    let tpid = EtherType(u16::try_from(tpid).ok()?);
+    if !tpid.announces_vlan() {
         return None;
     }
     let vlan_id = vlan_id_of(id)?;
-    Some(PacketEdit::PushVlan {
-        tpid: EtherType(tpid as u16),
-        vlan_id,
-    })
+    Some(PacketEdit::PushVlan { tpid, vlan_id })
 }
 
 /// The edit that gives a VLAN tag another identifier, if both have no more than 12 bits.

@@ -84,9 +84,8 @@ fn write_fcs<W: Sink>(out: &mut OutputBuffer<'_, W>, fcs: Option<[u8; 4]>) {
 
 /// Writes the text of a header of Linux cooked capture.
 fn write_linux_sll<W: Sink>(out: &mut OutputBuffer<'_, W>, start: usize, slice: &LinuxSllSlice<'_>) {
-    let header = slice.header_slice();
     write_number(out, b"linux_sll ", start);
-    write_number(out, b" packet ", usize::from(packet_type_of(header)));
+    write_number(out, b" packet ", usize::from(slice.packet_type_number()));
     write_number(out, b" hw ", usize::from(slice.arp_hardware_type().0));
     write_number(
         out,
@@ -96,17 +95,7 @@ fn write_linux_sll<W: Sink>(out: &mut OutputBuffer<'_, W>, start: usize, slice: 
     out.append(b" addr ");
     out.append(&hex_long(slice.sender_address_full()));
     out.append(b" ");
-    out.append(&hex_type(EtherType(protocol_of(header))));
-}
-
-/// The number of the packet type in the bytes of a header of Linux cooked capture.
-fn packet_type_of(header: &[u8]) -> u16 {
-    u16::from_be_bytes([header[0], header[1]])
-}
-
-/// The number of the protocol type in the bytes of a header of Linux cooked capture.
-fn protocol_of(header: &[u8]) -> u16 {
-    u16::from_be_bytes([header[14], header[15]])
+    out.append(&hex_type(EtherType(slice.protocol_number())));
 }
 
 /// Writes the text of a VLAN tag.
@@ -336,7 +325,15 @@ fn mark_of(closed: bool) -> &'static str {
 }
 
 /// The word for the source of a length.
-fn source_of(source: LenSource) -> &'static str {
+///
+/// <details><summary>Contract</summary>
+///
+/// ```text
+/// ensures { result.now ≡ source_text source }
+/// ```
+///
+/// </details>
+pub fn source_of(source: LenSource) -> &'static str {
     match source {
         LenSource::Slice => "slice",
         LenSource::MacsecShortLength => "macsec_short_length",

@@ -45,6 +45,96 @@ pub fn u64_of(bytes: [u8; 8]) -> u64 {
     u64::from_be_bytes(bytes)
 }
 
+/// The number of the two bytes from a place on: `u16_at(&[0x45, 0x88, 0xA8], 1)` is `0x88A8`. If the slice ends before
+/// them, the number of those that are there.
+///
+/// <details><summary>Contract</summary>
+///
+/// ```text
+/// ensures { result ≡ number (slice_range bytes.now at (at + 2)) }
+/// ```
+///
+/// </details>
+#[inline(always)]
+pub fn u16_at(bytes: &[u8], at: usize) -> u16 {
+    match array_at(bytes, at) {
+        Some(array) => u16_of(array),
+        None => number_from(bytes, at) as u16,
+    }
+}
+
+/// The number of the four bytes from a place on. If the slice ends before them, the number of those that are there.
+///
+/// <details><summary>Contract</summary>
+///
+/// ```text
+/// ensures { result ≡ number (slice_range bytes.now at (at + 4)) }
+/// ```
+///
+/// </details>
+#[inline(always)]
+pub fn u32_at(bytes: &[u8], at: usize) -> u32 {
+    match array_at(bytes, at) {
+        Some(array) => u32_of(array),
+        None => number_from(bytes, at) as u32,
+    }
+}
+
+/// The number of the eight bytes from a place on. If the slice ends before them, the number of those that are there.
+///
+/// <details><summary>Contract</summary>
+///
+/// ```text
+/// ensures { result ≡ number (slice_range bytes.now at (at + 8)) }
+/// ```
+///
+/// </details>
+#[inline(always)]
+pub fn u64_at(bytes: &[u8], at: usize) -> u64 {
+    match array_at(bytes, at) {
+        Some(array) => u64_of(array),
+        None => number_from(bytes, at),
+    }
+}
+
+/// The `N` bytes from a place on. Returns `None` if the slice ends before them.
+///
+/// <details><summary>Contract</summary>
+///
+/// ```text
+/// ensures some { IfSome result (λ array. array ≡ slice_range bytes.now at (at + N)) }
+/// ensures within { IfSome result (λ _. at + N ≤ length bytes.now) }
+/// ensures none { IfNone result (length bytes.now < at + N) }
+/// ```
+///
+/// </details>
+#[inline(always)]
+pub fn array_at<const N: usize>(bytes: &[u8], at: usize) -> Option<[u8; N]> {
+    match bytes.get(at..) {
+        Some(rest) => rest.first_chunk::<N>().copied(),
+        None => None,
+    }
+}
+
+/// The number of the bytes from a place on, which are fewer than eight.
+#[inline(never)]
+fn number_from(bytes: &[u8], at: usize) -> u64 {
+    match bytes.get(at..) {
+        Some(rest) => number_of(rest),
+        None => 0,
+    }
+}
+
+/// The number of fewer than eight bytes.
+#[inline]
+fn number_of(bytes: &[u8]) -> u64 {
+    let mut number = 0;
+    for byte in bytes {
+        number = 256 * number + u64::from(*byte);
+    }
+    number
+}
+
 /// The two bytes of a number: `bytes_of_u16(0x88A8)` is `[0x88, 0xA8]`.
 ///
 /// <details><summary>Contract</summary>

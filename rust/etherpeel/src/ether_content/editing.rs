@@ -1,7 +1,7 @@
 //! What a captured packet is edited to.
 
 use crate::ether_content::content::Content;
-use crate::ether_content::headers::headers_len;
+use crate::ether_content::header_lengths::headers_len;
 use crate::ether_packet::{pop_vlan, push_vlan, replace_vlan_id};
 use crate::ether_pcap::CapturedPacket;
 use crate::ether_peel::Start;

@@ -7,8 +7,8 @@ use crate::ether_filter::node::Node;
 use crate::ether_filter::packet::Packet;
 use crate::ether_filter::program;
 use crate::ether_filter::reading::Reading;
+use crate::ether_filter::text_words::next_word;
 use crate::ether_filter::token::token_of;
-use crate::ether_filter::words::next_word;
 use arrayvec::ArrayVec;
 
 /// The greatest number of words of an expression.

@@ -1,7 +1,6 @@
 //! A packet to be written.
 
 use crate::ether_packet::BuildError;
-use crate::ether_packet::typed_link::announces_vlan;
 use crate::err::{Layer, SliceWriteSpaceError};
 use crate::{
     ArpHardwareId, ArpPacket, EtherType, Ethernet2Header, LinkExtHeader, LinkHeader,
@@ -179,7 +178,7 @@ impl Front {
     #[inline(always)]
     fn type_after(self, own: EtherType) -> EtherType {
         let is_tag = self.vlan_type == EtherType::PROVIDER_BRIDGING;
-        if is_tag && announces_vlan(own) {
+        if is_tag && own.announces_vlan() {
             own
         } else {
             self.ether_type

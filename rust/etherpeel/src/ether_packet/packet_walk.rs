@@ -12,7 +12,7 @@ pub(crate) struct PacketWalk<'a> {
 }
 
 impl<'a> PacketWalk<'a> {
-    /// Reads all headers, of which there are at most five. A loop, where a header can be of any kind and at any place,
+    /// Reads all headers. There are at most five. A loop, where a header can be of any kind and at any place,
     /// takes a third more instructions; functions that read two headers each are too long to be inlined, and take twice
     /// those of a loop.
     ///

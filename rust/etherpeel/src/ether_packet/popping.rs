@@ -2,7 +2,7 @@
 
 use crate::ether_packet::TagError;
 use crate::ether_packet::packet_builder::put_at;
-use crate::ether_packet::typed_link::{announces_vlan, chunk_at, typed_link};
+use crate::ether_packet::typed_link::{chunk_at, typed_link};
 use crate::ether_peel::Start;
 use crate::SingleVlanHeader;
 
@@ -79,7 +79,7 @@ pub fn pop_vlan(start: Start, frame: &mut [u8]) -> Result<SingleVlanHeader, TagE
 #[inline(always)]
 pub(crate) fn require_tag(start: Start, frame: &[u8]) -> Result<(), TagError> {
     let link = typed_link(start, frame)?;
-    if !announces_vlan(link.ether_type) {
+    if !link.ether_type.announces_vlan() {
         return Err(TagError::NoVlan);
     }
     if link.payload_len < SingleVlanHeader::LEN {

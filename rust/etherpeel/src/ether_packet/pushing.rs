@@ -2,7 +2,7 @@
 
 use crate::ether_packet::TagError;
 use crate::ether_packet::packet_builder::put_at;
-use crate::ether_packet::typed_link::{announces_vlan, chunk_at, typed_link};
+use crate::ether_packet::typed_link::{chunk_at, typed_link};
 use crate::ether_peel::Start;
 use crate::{EtherType, SingleVlanHeader};
 
@@ -92,7 +92,7 @@ pub fn push_vlan(
 /// Requires that four bytes of a buffer are free before the header of a link, and that the ether type announces a VLAN tag.
 #[inline(always)]
 fn require_link(start: Start, buffer: &[u8], tpid: EtherType) -> Result<(), TagError> {
-    if !announces_vlan(tpid) {
+    if !tpid.announces_vlan() {
         return Err(TagError::Tpid(tpid));
     }
     if buffer.len() < SingleVlanHeader::LEN {

@@ -3,7 +3,6 @@
 use crate::ether_packet::TagError;
 use crate::ether_packet::finding::{PlacedExt, ext_at};
 use crate::ether_packet::packet_builder::put_at;
-use crate::ether_packet::typed_link::announces_vlan;
 use crate::ether_peel::{Peel, PeelUnit, Start};
 use crate::{EtherType, LinkExtHeader, SingleVlanHeader, VlanId, VlanPcp};
 
@@ -290,7 +289,7 @@ pub fn set_tpid(
     index: usize,
     tpid: EtherType,
 ) -> Result<(), TagError> {
-    if !announces_vlan(tpid) {
+    if !tpid.announces_vlan() {
         return Err(TagError::Tpid(tpid));
     }
     let found = vlan_at(start, frame, index)?;

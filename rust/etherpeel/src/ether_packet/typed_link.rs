@@ -1,9 +1,12 @@
 //! The header of a link that a frame begins with, and the ether type of what follows it.
 
 use crate::ether_packet::TagError;
+use crate::ether_base::big_endian::array_at;
 use crate::ether_peel::Start;
+use crate::ether_sll::linux_sll_fields::{arp_hardware_type, packet_type_number, protocol_number};
 use crate::{
-    ArpHardwareId, EtherType, Ethernet2Header, Ethernet2Slice, LinuxSllHeader, LinuxSllSlice,
+    ArpHardwareId, EtherType, Ethernet2Header, Ethernet2Slice, LinuxSllHeader, LinuxSllPacketType,
+    LinuxSllSlice,
 };
 
 /// The header of a link.
@@ -35,7 +38,7 @@ pub(crate) fn typed_link(start: Start, frame: &[u8]) -> Result<TypedLink, TagErr
         },
         Start::LinuxSll if is_ethernet_capture(frame) => Ok(TypedLink {
             payload_len: frame.len() - LinuxSllHeader::LEN,
-            ether_type: EtherType(u16_at(frame, 14)),
+            ether_type: EtherType(protocol_number(frame)),
         }),
         Start::LinuxSll => match other_hardware(frame) {
             Some(hardware_type) => Err(TagError::HardwareType(hardware_type)),
@@ -48,7 +51,9 @@ pub(crate) fn typed_link(start: Start, frame: &[u8]) -> Result<TypedLink, TagErr
 /// Whether a frame begins with the header of a cooked capture whose protocol type is an ether type.
 #[inline(always)]
 fn is_ethernet_capture(frame: &[u8]) -> bool {
-    frame.len() >= LinuxSllHeader::LEN && u16_at(frame, 0) <= 7 && u16_at(frame, 2) == 1
+    frame.len() >= LinuxSllHeader::LEN
+        && packet_type_number(frame) <= LinuxSllPacketType::MAX_VAL
+        && arp_hardware_type(frame) == ArpHardwareId::ETHERNET
 }
 
 /// The hardware type of any other cooked capture, if its header is not refused.
@@ -60,25 +65,11 @@ fn other_hardware(frame: &[u8]) -> Option<ArpHardwareId> {
     }
 }
 
-/// The number in two bytes of a slice from a place on.
-#[inline(always)]
-fn u16_at(bytes: &[u8], at: usize) -> u16 {
-    u16::from_be_bytes([bytes[at], bytes[at + 1]])
-}
-
-/// Whether an ether type announces a VLAN tag.
-#[inline(always)]
-pub(crate) fn announces_vlan(ether_type: EtherType) -> bool {
-    ether_type == EtherType::VLAN_TAGGED_FRAME
-        || ether_type == EtherType::PROVIDER_BRIDGING
-        || ether_type == EtherType::VLAN_DOUBLE_TAGGED_FRAME
-}
-
 /// An array of the bytes of a slice from a place on.
 #[inline(always)]
 pub(crate) fn chunk_at<const N: usize>(bytes: &[u8], at: usize) -> [u8; N] {
-    match bytes[at..at + N].first_chunk::<N>() {
-        Some(chunk) => *chunk,
+    match array_at(bytes, at) {
+        Some(chunk) => chunk,
         None => unreachable!(),
     }
 }

@@ -389,14 +389,8 @@ fn lowered(limit: Option<usize>) -> Option<usize> {
 /// The ether type, or one that announces nothing if it announces an extension and none may be read any more.
 #[inline(always)]
 fn permitted(limit: Option<usize>, ether_type: EtherType) -> EtherType {
-    match (limit, ether_type) {
-        (
-            Some(0),
-            EtherType::VLAN_TAGGED_FRAME
-            | EtherType::PROVIDER_BRIDGING
-            | EtherType::VLAN_DOUBLE_TAGGED_FRAME
-            | EtherType::MACSEC,
-        ) => UNANNOUNCED,
+    match limit {
+        Some(0) if ether_type.announces_vlan() || ether_type == EtherType::MACSEC => UNANNOUNCED,
         _ => ether_type,
     }
 }

@@ -1,42 +1,32 @@
 //! The fields of a header of Linux cooked capture v1 (LINKTYPE_LINUX_SLL) in bytes that begin with one: packet type, ARPHRD_
 //! type, length of the sender's address (2 bytes each), sender's address (8 bytes) and protocol (2 bytes), in this order.
+//! The public functions also read a header that the views refuse; where bytes are missing, they read those that are there.
 
 use crate::ether_sll::LinuxSllHeader;
-use crate::ether_base::big_endian::u16_of;
+use crate::ether_base::big_endian::{bytes_of_u64, u16_at, u64_at};
 use crate::ether_base::err::Layer;
 use crate::ether_base::err::linux_sll::{HeaderError, HeaderSliceError};
 use crate::ether_base::slice_len::too_short;
 use crate::ether_base::{ArpHardwareId, LenSource, LinuxSllPacketType, LinuxSllProtocolType};
-use core::ops::Range;
 
-/// The bytes of the packet type.
-const PACKET_TYPE: Range<usize> = 0..2;
+/// Where the packet type begins.
+const PACKET_TYPE: usize = 0;
 
-/// The bytes of the ARPHRD_ type.
-const HARDWARE_TYPE: Range<usize> = 2..4;
+/// Where the ARPHRD_ type begins.
+const HARDWARE_TYPE: usize = 2;
 
-/// The bytes of the length of the sender's address.
-const ADDRESS_LENGTH: Range<usize> = 4..6;
+/// Where the length of the sender's address begins.
+const ADDRESS_LENGTH: usize = 4;
 
-/// The bytes of the sender's address.
-const ADDRESS: Range<usize> = 6..14;
+/// Where the sender's address begins.
+const ADDRESS: usize = 6;
 
-/// The bytes of the protocol.
-const PROTOCOL: Range<usize> = 14..16;
+/// Where the protocol begins.
+const PROTOCOL: usize = 14;
 
 /// Tests that a slice begins with a header whose contents are supported.
-///
-/// <details><summary>Contract</summary>
-///
-/// ```text
-/// ensures holds { IfOk result (λ _. HoldsLinuxSll slice.now) }
-/// ensures refused { IfErr result (IsRefusedSll slice.now) }
-/// ensures short { IfErr result (λ e. OnLen e (λ _. length slice.now < 16)) }
-/// ```
-///
-/// </details>
 #[inline]
-pub fn require_header(slice: &[u8]) -> Result<(), HeaderSliceError> {
+pub(crate) fn require_header(slice: &[u8]) -> Result<(), HeaderSliceError> {
     if slice.len() < LinuxSllHeader::LEN {
         return Err(HeaderSliceError::Len(too_short(
             LinuxSllHeader::LEN,
@@ -52,40 +42,17 @@ pub fn require_header(slice: &[u8]) -> Result<(), HeaderSliceError> {
 }
 
 /// Tests that the packet type, and then the hardware type, are supported.
-///
-/// <details><summary>Contract</summary>
-///
-/// The caller must meet each `requires`; otherwise the call may panic or return something else.
-///
-/// ```text
-/// requires { 16 ≤ length bytes.now }
-/// ensures holds { IfOk result (λ _. HoldsLinuxSll bytes.now) }
-/// ensures refused { IfErr result (IsRefusedContent bytes.now) }
-/// ```
-///
-/// </details>
 #[inline]
-pub fn require_content(bytes: &[u8]) -> Result<(), HeaderError> {
-    LinuxSllPacketType::try_from(packet_number(bytes))?;
+pub(crate) fn require_content(bytes: &[u8]) -> Result<(), HeaderError> {
+    LinuxSllPacketType::try_from(packet_type_number(bytes))?;
     LinuxSllProtocolType::try_from((arp_hardware_type(bytes), protocol_number(bytes)))?;
     Ok(())
 }
 
 /// The packet type.
-///
-/// <details><summary>Contract</summary>
-///
-/// The caller must meet each `requires`; otherwise the call may panic or return something else.
-///
-/// ```text
-/// requires { HoldsLinuxSll bytes.now }
-/// ensures { result ≡ (linux_sll_of bytes.now).packet_type }
-/// ```
-///
-/// </details>
 #[inline(always)]
-pub fn packet_type(bytes: &[u8]) -> LinuxSllPacketType {
-    match LinuxSllPacketType::try_from(packet_number(bytes)) {
+pub(crate) fn packet_type(bytes: &[u8]) -> LinuxSllPacketType {
+    match LinuxSllPacketType::try_from(packet_type_number(bytes)) {
         Ok(packet_type) => packet_type,
         Err(_) => unreachable!(),
     }
@@ -95,15 +62,12 @@ pub fn packet_type(bytes: &[u8]) -> LinuxSllPacketType {
 ///
 /// <details><summary>Contract</summary>
 ///
-/// The caller must meet each `requires`; otherwise the call may panic or return something else.
-///
 /// ```text
-/// requires { 16 ≤ length bytes.now }
 /// ensures { result.0 ≡ (linux_sll_of bytes.now).hardware_type }
 /// ```
 ///
 /// </details>
-#[inline]
+#[inline(always)]
 pub fn arp_hardware_type(bytes: &[u8]) -> ArpHardwareId {
     ArpHardwareId(u16_at(bytes, HARDWARE_TYPE))
 }
@@ -112,10 +76,7 @@ pub fn arp_hardware_type(bytes: &[u8]) -> ArpHardwareId {
 ///
 /// <details><summary>Contract</summary>
 ///
-/// The caller must meet each `requires`; otherwise the call may panic or return something else.
-///
 /// ```text
-/// requires { 16 ≤ length bytes.now }
 /// ensures { result ≡ (linux_sll_of bytes.now).address_len }
 /// ```
 ///
@@ -129,52 +90,27 @@ pub fn sender_address_valid_length(bytes: &[u8]) -> u16 {
 ///
 /// <details><summary>Contract</summary>
 ///
-/// The caller must meet each `requires`; otherwise the call may panic or return something else.
-///
 /// ```text
-/// requires { 16 ≤ length bytes.now }
 /// ensures { result ≡ spelled 8 (linux_sll_of bytes.now).address }
 /// ```
 ///
 /// </details>
 #[inline]
 pub fn sender_address_full(bytes: &[u8]) -> [u8; 8] {
-    address(bytes)
+    bytes_of_u64(u64_at(bytes, ADDRESS))
 }
 
 /// As many bytes of the sender's address as its length says, at most 8.
-///
-/// <details><summary>Contract</summary>
-///
-/// The caller must meet each `requires`; otherwise the call may panic or return something else.
-///
-/// ```text
-/// requires { 16 ≤ length bytes.now }
-/// ensures { result.now ≡ valid_address bytes.now }
-/// ```
-///
-/// </details>
 #[inline]
-pub fn sender_address(bytes: &[u8]) -> &[u8] {
+pub(crate) fn sender_address(bytes: &[u8]) -> &[u8] {
     let valid = sender_address_valid_length(bytes);
     let len = if valid < 8 { usize::from(valid) } else { 8 };
-    &bytes[ADDRESS.start..ADDRESS.start + len]
+    &bytes[ADDRESS..ADDRESS + len]
 }
 
 /// The protocol type, in the variant that the hardware type gives it.
-///
-/// <details><summary>Contract</summary>
-///
-/// The caller must meet each `requires`; otherwise the call may panic or return something else.
-///
-/// ```text
-/// requires { HoldsLinuxSll bytes.now }
-/// ensures { result ≡ protocol_type_of_header bytes.now }
-/// ```
-///
-/// </details>
 #[inline(always)]
-pub fn protocol_type(bytes: &[u8]) -> LinuxSllProtocolType {
+pub(crate) fn protocol_type(bytes: &[u8]) -> LinuxSllProtocolType {
     match LinuxSllProtocolType::try_from((arp_hardware_type(bytes), protocol_number(bytes))) {
         Ok(protocol_type) => protocol_type,
         Err(_) => unreachable!(),
@@ -182,22 +118,8 @@ pub fn protocol_type(bytes: &[u8]) -> LinuxSllProtocolType {
 }
 
 /// All fields.
-///
-/// <details><summary>Contract</summary>
-///
-/// The caller must meet each `requires`; otherwise the call may panic or return something else.
-///
-/// ```text
-/// requires { HoldsLinuxSll bytes.now }
-/// ensures view { linux_sll_view result ≡ linux_sll_of bytes.now }
-/// ensures address { result.sender_address ≡ slice_range bytes.now 6 14 }
-/// ensures protocol { result.protocol_type ≡ protocol_type_of_header bytes.now }
-/// ensures bytes { IsBytes bytes.now }
-/// ```
-///
-/// </details>
 #[inline]
-pub fn header(bytes: &[u8]) -> LinuxSllHeader {
+pub(crate) fn header(bytes: &[u8]) -> LinuxSllHeader {
     LinuxSllHeader {
         packet_type: packet_type(bytes),
         arp_hrd_type: arp_hardware_type(bytes),
@@ -208,36 +130,35 @@ pub fn header(bytes: &[u8]) -> LinuxSllHeader {
 }
 
 /// The packet type as a number.
-#[inline]
-fn packet_number(bytes: &[u8]) -> u16 {
+///
+/// <details><summary>Contract</summary>
+///
+/// ```text
+/// ensures { result ≡ (linux_sll_of bytes.now).packet_type }
+/// ```
+///
+/// </details>
+#[inline(always)]
+pub fn packet_type_number(bytes: &[u8]) -> u16 {
     u16_at(bytes, PACKET_TYPE)
 }
 
-/// The protocol type as a number.
-#[inline]
-fn protocol_number(bytes: &[u8]) -> u16 {
+/// The protocol as a number.
+///
+/// <details><summary>Contract</summary>
+///
+/// ```text
+/// ensures { result ≡ (linux_sll_of bytes.now).protocol }
+/// ```
+///
+/// </details>
+#[inline(always)]
+pub fn protocol_number(bytes: &[u8]) -> u16 {
     u16_at(bytes, PROTOCOL)
 }
 
 /// The 8 bytes of the sender's address in their order on the wire.
 #[inline]
 fn address(bytes: &[u8]) -> [u8; 8] {
-    let (b, at) = (bytes, ADDRESS.start);
-    [
-        b[at],
-        b[at + 1],
-        b[at + 2],
-        b[at + 3],
-        b[at + 4],
-        b[at + 5],
-        b[at + 6],
-        b[at + 7],
-    ]
-}
-
-/// The number in a field of two bytes.
-#[inline]
-fn u16_at(bytes: &[u8], field: Range<usize>) -> u16 {
-    let at = field.start;
-    u16_of([bytes[at], bytes[at + 1]])
+    sender_address_full(bytes)
 }

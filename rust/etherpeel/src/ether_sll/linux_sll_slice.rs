@@ -86,6 +86,20 @@ impl<'a> LinuxSllSlice<'a> {
         linux_sll_fields::packet_type(self.slice)
     }
 
+    /// The packet type as a number, 0 to 7.
+    ///
+    /// <details><summary>Contract</summary>
+    ///
+    /// ```text
+    /// ensures { result ≡ (linux_sll_of self.now).packet_type }
+    /// ```
+    ///
+    /// </details>
+    #[inline]
+    pub fn packet_type_number(&self) -> u16 {
+        linux_sll_fields::packet_type_number(self.slice)
+    }
+
     /// The hardware type (ARPHRD_) of the device that the packet was seen on.
     ///
     /// <details><summary>Contract</summary>
@@ -154,6 +168,20 @@ impl<'a> LinuxSllSlice<'a> {
     #[inline(always)]
     pub fn protocol_type(&self) -> LinuxSllProtocolType {
         linux_sll_fields::protocol_type(self.slice)
+    }
+
+    /// The protocol as a number.
+    ///
+    /// <details><summary>Contract</summary>
+    ///
+    /// ```text
+    /// ensures { result ≡ (linux_sll_of self.now).protocol }
+    /// ```
+    ///
+    /// </details>
+    #[inline]
+    pub fn protocol_number(&self) -> u16 {
+        linux_sll_fields::protocol_number(self.slice)
     }
 
     /// The 16 bytes of the header.

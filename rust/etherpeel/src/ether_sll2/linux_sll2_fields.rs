@@ -3,20 +3,19 @@
 //! (1 byte each), and the sender's address (8 bytes), in this order.
 
 use crate::ether_sll2::{LinuxSll2Error, LinuxSll2Header};
-use crate::ether_base::big_endian::{u16_of, u32_of};
+use crate::ether_base::big_endian::{bytes_of_u64, u16_at, u32_at, u64_at};
 use crate::ether_base::{
     ArpHardwareId, EtherType, LinuxNonstandardEtherType, LinuxSllPacketType, LinuxSllProtocolType,
 };
-use core::ops::Range;
 
-/// The bytes of the protocol.
-const PROTOCOL: Range<usize> = 0..2;
+/// Where the protocol begins.
+const PROTOCOL: usize = 0;
 
-/// The bytes of the interface index.
-const INTERFACE_INDEX: Range<usize> = 4..8;
+/// Where the interface index begins.
+const INTERFACE_INDEX: usize = 4;
 
-/// The bytes of the ARPHRD_ type.
-const HARDWARE_TYPE: Range<usize> = 8..10;
+/// Where the ARPHRD_ type begins.
+const HARDWARE_TYPE: usize = 8;
 
 /// The byte of the packet type.
 const PACKET_TYPE: usize = 10;
@@ -24,8 +23,8 @@ const PACKET_TYPE: usize = 10;
 /// The byte of the length of the sender's address.
 const ADDRESS_LENGTH: usize = 11;
 
-/// The bytes of the sender's address.
-const ADDRESS: Range<usize> = 12..20;
+/// Where the sender's address begins.
+const ADDRESS: usize = 12;
 
 /// Tests that a slice begins with a header whose packet type is supported.
 ///
@@ -33,7 +32,7 @@ const ADDRESS: Range<usize> = 12..20;
 ///
 /// ```text
 /// ensures holds { IfOk result (λ _. HoldsLinuxSll2 slice.now) }
-/// ensures refused { IfErr result (IsRefused slice.now) }
+/// ensures refused { IfErr result (IsRefusedSll2 slice.now) }
 /// ensures short { IfErr result (IsShort slice.now) }
 /// ```
 ///
@@ -58,14 +57,14 @@ pub fn require_header(slice: &[u8]) -> Result<(), LinuxSll2Error> {
 /// ```text
 /// requires { 20 ≤ length bytes.now }
 /// ensures holds { IfOk result (λ _. HoldsLinuxSll2 bytes.now) }
-/// ensures refused { IfErr result (IsRefused bytes.now) }
+/// ensures refused { IfErr result (IsRefusedSll2 bytes.now) }
 /// ensures short { IfErr result (IsShort bytes.now) }
 /// ```
 ///
 /// </details>
 #[inline]
 pub fn require_packet_type(bytes: &[u8]) -> Result<(), LinuxSll2Error> {
-    let number = byte_at(bytes, PACKET_TYPE);
+    let number = packet_type_number(bytes);
     match LinuxSllPacketType::try_from(u16::from(number)) {
         Ok(_) => Ok(()),
         Err(_) => Err(LinuxSll2Error::PacketType(number)),
@@ -86,7 +85,7 @@ pub fn require_packet_type(bytes: &[u8]) -> Result<(), LinuxSll2Error> {
 /// </details>
 #[inline(always)]
 pub fn protocol_type(bytes: &[u8]) -> LinuxSllProtocolType {
-    protocol_type_on(arp_hardware_type(bytes), u16_at(bytes, PROTOCOL))
+    protocol_type_on(arp_hardware_type(bytes), protocol_number(bytes))
 }
 
 /// The index of the interface.
@@ -123,6 +122,37 @@ pub fn arp_hardware_type(bytes: &[u8]) -> ArpHardwareId {
     ArpHardwareId(u16_at(bytes, HARDWARE_TYPE))
 }
 
+/// The packet type as a number.
+///
+/// <details><summary>Contract</summary>
+///
+/// The caller must meet each `requires`; otherwise the call may panic or return something else.
+///
+/// ```text
+/// requires { 20 ≤ length bytes.now }
+/// ensures { result ≡ (linux_sll2_of bytes.now).packet_type }
+/// ```
+///
+/// </details>
+#[inline(always)]
+pub fn packet_type_number(bytes: &[u8]) -> u8 {
+    byte_at(bytes, PACKET_TYPE)
+}
+
+/// The protocol as a number.
+///
+/// <details><summary>Contract</summary>
+///
+/// ```text
+/// ensures { result ≡ (linux_sll2_of bytes.now).protocol }
+/// ```
+///
+/// </details>
+#[inline(always)]
+pub fn protocol_number(bytes: &[u8]) -> u16 {
+    u16_at(bytes, PROTOCOL)
+}
+
 /// The packet type.
 ///
 /// <details><summary>Contract</summary>
@@ -137,7 +167,7 @@ pub fn arp_hardware_type(bytes: &[u8]) -> ArpHardwareId {
 /// </details>
 #[inline(always)]
 pub fn packet_type(bytes: &[u8]) -> LinuxSllPacketType {
-    match LinuxSllPacketType::try_from(u16::from(byte_at(bytes, PACKET_TYPE))) {
+    match LinuxSllPacketType::try_from(u16::from(packet_type_number(bytes))) {
         Ok(packet_type) => packet_type,
         Err(_) => unreachable!(),
     }
@@ -164,17 +194,14 @@ pub fn sender_address_valid_length(bytes: &[u8]) -> u8 {
 ///
 /// <details><summary>Contract</summary>
 ///
-/// The caller must meet each `requires`; otherwise the call may panic or return something else.
-///
 /// ```text
-/// requires { 20 ≤ length bytes.now }
 /// ensures { result ≡ spelled 8 (linux_sll2_of bytes.now).address }
 /// ```
 ///
 /// </details>
 #[inline]
 pub fn sender_address_full(bytes: &[u8]) -> [u8; 8] {
-    address(bytes)
+    bytes_of_u64(u64_at(bytes, ADDRESS))
 }
 
 /// As many bytes of the sender's address as its length says, at most 8.
@@ -193,7 +220,7 @@ pub fn sender_address_full(bytes: &[u8]) -> [u8; 8] {
 pub fn sender_address(bytes: &[u8]) -> &[u8] {
     let valid = sender_address_valid_length(bytes);
     let len = if valid < 8 { usize::from(valid) } else { 8 };
-    &bytes[ADDRESS.start..ADDRESS.start + len]
+    &bytes[ADDRESS..ADDRESS + len]
 }
 
 /// All fields.
@@ -249,41 +276,11 @@ fn on_ethernet(number: u16) -> LinuxSllProtocolType {
 /// The 8 bytes of the sender's address in their order on the wire.
 #[inline]
 fn address(bytes: &[u8]) -> [u8; 8] {
-    let (b, at) = (bytes, ADDRESS.start);
-    [
-        b[at],
-        b[at + 1],
-        b[at + 2],
-        b[at + 3],
-        b[at + 4],
-        b[at + 5],
-        b[at + 6],
-        b[at + 7],
-    ]
+    sender_address_full(bytes)
 }
 
 /// The number in a field of one byte.
 #[inline]
 fn byte_at(bytes: &[u8], at: usize) -> u8 {
     bytes[at]
-}
-
-/// The number in a field of two bytes.
-#[inline]
-fn u16_at(bytes: &[u8], field: Range<usize>) -> u16 {
-    let at = field.start;
-    u16_of([bytes[at], bytes[at + 1]])
-}
-
-/// The number in a field of four bytes.
-#[inline]
-fn u32_at(bytes: &[u8], field: Range<usize>) -> u32 {
-    u32_of(four_at(bytes, field))
-}
-
-/// The four bytes of a field.
-#[inline]
-fn four_at(bytes: &[u8], field: Range<usize>) -> [u8; 4] {
-    let at = field.start;
-    [bytes[at], bytes[at + 1], bytes[at + 2], bytes[at + 3]]
 }

@@ -77,7 +77,7 @@ impl LinuxSll2Header {
     ///     (λ answer. answer.0.protocol_type ≡ protocol_of_header slice.now) }
     /// ensures rest { IfOk result
     ///     (λ answer. answer.1.now ≡ slice_range slice.now 20 (length slice.now)) }
-    /// ensures refused { IfErr result (IsRefused slice.now) }
+    /// ensures refused { IfErr result (IsRefusedSll2 slice.now) }
     /// ensures short { IfErr result (IsShort slice.now) }
     /// ```
     ///

@@ -50,7 +50,7 @@ impl<'a> LinuxSll2HeaderSlice<'a> {
     /// ensures bytes { IfOk result (λ h. h ≡ slice_range slice.now 0 20) }
     /// ensures accepted { IfOk result (λ h. AcceptsLinuxSll2 slice.now) }
     /// ensures value { IfOk result (λ h. BeginsLinuxSll2 slice.now (linux_sll2_of h)) }
-    /// ensures refused { IfErr result (IsRefused slice.now) }
+    /// ensures refused { IfErr result (IsRefusedSll2 slice.now) }
     /// ensures short { IfErr result (IsShort slice.now) }
     /// ```
     ///
@@ -90,6 +90,20 @@ impl<'a> LinuxSll2HeaderSlice<'a> {
     #[inline]
     pub fn protocol_type(&self) -> LinuxSllProtocolType {
         linux_sll2_fields::protocol_type(self.slice)
+    }
+
+    /// The protocol as a number.
+    ///
+    /// <details><summary>Contract</summary>
+    ///
+    /// ```text
+    /// ensures { result ≡ (linux_sll2_of self.now).protocol }
+    /// ```
+    ///
+    /// </details>
+    #[inline]
+    pub fn protocol_number(&self) -> u16 {
+        linux_sll2_fields::protocol_number(self.slice)
     }
 
     /// The index of the interface that the packet was seen on, as the capturing machine numbers its interfaces.
@@ -132,6 +146,20 @@ impl<'a> LinuxSll2HeaderSlice<'a> {
     #[inline]
     pub fn packet_type(&self) -> LinuxSllPacketType {
         linux_sll2_fields::packet_type(self.slice)
+    }
+
+    /// The packet type as a number, 0 to 7.
+    ///
+    /// <details><summary>Contract</summary>
+    ///
+    /// ```text
+    /// ensures { result ≡ (linux_sll2_of self.now).packet_type }
+    /// ```
+    ///
+    /// </details>
+    #[inline]
+    pub fn packet_type_number(&self) -> u8 {
+        linux_sll2_fields::packet_type_number(self.slice)
     }
 
     /// The length of the sender's address in bytes, as the header gives it. May exceed 8, though the field holds only 8

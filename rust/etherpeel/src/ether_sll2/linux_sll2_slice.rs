@@ -54,7 +54,7 @@ impl<'a> LinuxSll2Slice<'a> {
     /// ensures bytes { IfOk result (λ p. p ≡ slice.now) }
     /// ensures accepted { IfOk result (λ p. AcceptsLinuxSll2 slice.now) }
     /// ensures value { IfOk result (λ p. BeginsLinuxSll2 slice.now (linux_sll2_of p)) }
-    /// ensures refused { IfErr result (IsRefused slice.now) }
+    /// ensures refused { IfErr result (IsRefusedSll2 slice.now) }
     /// ensures short { IfErr result (IsShort slice.now) }
     /// ```
     ///
@@ -91,6 +91,20 @@ impl<'a> LinuxSll2Slice<'a> {
     #[inline(always)]
     pub fn protocol_type(&self) -> LinuxSllProtocolType {
         linux_sll2_fields::protocol_type(self.slice)
+    }
+
+    /// The protocol as a number.
+    ///
+    /// <details><summary>Contract</summary>
+    ///
+    /// ```text
+    /// ensures { result ≡ (linux_sll2_of self.now).protocol }
+    /// ```
+    ///
+    /// </details>
+    #[inline]
+    pub fn protocol_number(&self) -> u16 {
+        linux_sll2_fields::protocol_number(self.slice)
     }
 
     /// The index of the interface that the packet was seen on, as the capturing machine numbers its interfaces.
@@ -133,6 +147,20 @@ impl<'a> LinuxSll2Slice<'a> {
     #[inline(always)]
     pub fn packet_type(&self) -> LinuxSllPacketType {
         linux_sll2_fields::packet_type(self.slice)
+    }
+
+    /// The packet type as a number, 0 to 7.
+    ///
+    /// <details><summary>Contract</summary>
+    ///
+    /// ```text
+    /// ensures { result ≡ (linux_sll2_of self.now).packet_type }
+    /// ```
+    ///
+    /// </details>
+    #[inline]
+    pub fn packet_type_number(&self) -> u8 {
+        linux_sll2_fields::packet_type_number(self.slice)
     }
 
     /// The length of the sender's address in bytes, as the header gives it. May exceed 8, though the field holds only 8

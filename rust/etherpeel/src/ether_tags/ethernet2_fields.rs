@@ -2,8 +2,8 @@
 //! address and type, in this order.
 
 use crate::ether_tags::Ethernet2Header;
-use crate::ether_tags::number_at::u16_at;
 use crate::ether_base::EtherType;
+use crate::ether_base::big_endian::u16_at;
 use core::ops::Range;
 
 /// The bytes of the destination address.
@@ -12,8 +12,8 @@ const DESTINATION: Range<usize> = 0..6;
 /// The bytes of the source address.
 const SOURCE: Range<usize> = 6..12;
 
-/// The bytes of the type.
-const ETHER_TYPE: Range<usize> = 12..14;
+/// Where the type begins.
+const ETHER_TYPE: usize = 12;
 
 /// The destination MAC address (IEEE 802.3, 3.2.4).
 ///

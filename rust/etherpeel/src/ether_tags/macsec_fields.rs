@@ -3,10 +3,9 @@
 //! 9.7). The packet number (4 bytes, 9.8) follows, then the SCI (8 bytes, 9.9) if SC is set, and then the ether type of
 //! the user data if E and C are clear.
 
-use crate::ether_tags::number_at::{u16_at, u32_at, u64_at};
 use crate::ether_tags::{MacsecHeader, MacsecPType};
+use crate::ether_base::big_endian::{u16_at, u32_at, u64_at};
 use crate::ether_base::{EtherType, MacsecAn, MacsecShortLen};
-use core::ops::Range;
 
 /// The byte with the TCI and the association number.
 const TCI_AN: usize = 0;
@@ -14,11 +13,11 @@ const TCI_AN: usize = 0;
 /// The byte with the short length.
 const SHORT_LENGTH: usize = 1;
 
-/// The bytes of the packet number.
-const PACKET_NUMBER: Range<usize> = 2..6;
+/// Where the packet number begins.
+const PACKET_NUMBER: usize = 2;
 
-/// The bytes of the SCI, if the tag has one.
-const SCI: Range<usize> = 6..14;
+/// Where the SCI begins, if the tag has one.
+const SCI: usize = 6;
 
 /// The bit of the version in the first byte.
 const V: u32 = 7;
@@ -245,10 +244,7 @@ pub fn sci(bytes: &[u8]) -> Option<u64> {
 #[inline]
 pub fn ptype(bytes: &[u8]) -> MacsecPType {
     match (encrypted(bytes), userdata_changed(bytes)) {
-        (false, false) => {
-            let at = bytes.len() - 2;
-            MacsecPType::Unmodified(EtherType(u16_at(bytes, at..at + 2)))
-        }
+        (false, false) => { MacsecPType::Unmodified(EtherType(u16_at(bytes, bytes.len() - 2))) }
         (false, true) => MacsecPType::Modified,
         (true, false) => MacsecPType::EncryptedUnmodified,
         (true, true) => MacsecPType::Encrypted,

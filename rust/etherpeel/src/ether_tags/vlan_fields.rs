@@ -2,16 +2,14 @@
 //! priority code point, 1 bit drop eligible indicator and 12 bits VLAN identifier, and the ether type of what follows.
 
 use crate::ether_tags::SingleVlanHeader;
-use crate::ether_tags::number_at::u16_at;
-use crate::ether_base::big_endian::bytes_of_u16;
+use crate::ether_base::big_endian::{bytes_of_u16, u16_at};
 use crate::ether_base::{EtherType, VlanId, VlanPcp};
-use core::ops::Range;
 
-/// The bytes of the tag control information.
-const TCI: Range<usize> = 0..2;
+/// Where the tag control information begins.
+const TCI: usize = 0;
 
-/// The bytes of the ether type of what follows.
-const ETHER_TYPE: Range<usize> = 2..4;
+/// Where the ether type of what follows begins.
+const ETHER_TYPE: usize = 2;
 
 /// The priority code point.
 ///

@@ -4,7 +4,7 @@ use Rattle.ether_peel.specs.Walker.State.{State}
 use Rattle.ether_peel.specs.Walker.Start.{start_of}
 use Rattle.ether_peel.specs.Walker.Next.{items_left}
 use Rattle.ether_peel.proofs.Walker.Summarizing.{unit_next}
-use Rattle.ether_c.specs.Views.{header_of}
+use Rattle.ether_peel.specs.Walker.UnitHeader.{unit_header}
 use Rattle.ether_c.specs.FieldViews.{put_all, c_placed_fields}
 use Rattle.ether_c.proofs.UnitsGiven.{UnitGiven, unit_given}
 use Rattle.ether_c.proofs.FieldLists.{few_fields}
@@ -61,7 +61,7 @@ put_unit-count-requires-clause-trailer c =
 pub put_unit-count-requires-clause-room : goal.put_unit-count-requires-clause-room
 put_unit-count-requires-clause-room c =
     let header = (placed (goal.at.put_unit-count-requires-clause-room c).In-Some-Ok).header in
-    let few = few_fields (header_of c.in-Some-Ok.unit) in
+    let few = few_fields (unit_header c.in-Some-Ok.unit) in
     let before = c.loop-unit.invariant.1.few in
     omega arith
 
@@ -75,7 +75,7 @@ loop-unit-preserved c =
     let put = c.put_unit-count.ensures.fields
     ∙ (λ i. put_all c.loop-unit.fields c.loop-unit.count
     (c_placed_fields c.args.bytes.now c.loop-unit.index (from i) (to i + length (rest i))
-    (header_of c.in-Some-Ok.unit))) in (
+    (unit_header c.in-Some-Ok.unit))) in (
       omega arith,
       fields_unit (start_of c.args.start) c.args.bytes.now c.loop-unit.peel c.next.new.self c.in-Some-Ok.unit
           c.loop-unit.index c.loop-unit.count c.put_unit-count.result

@@ -1,5 +1,3 @@
-use Rattle.std.proofs.Common.{◌≡◌, ℕ, ◌++◌, List, length, drop}
-use Rattle.std.specs.Prelude.{max}
 use Rattle.ether_c.proofs.PacketGiven.{FactsSoFar}
 use Rattle.ether_c.proofs.packet_facts.packet_facts.Given as goal
 

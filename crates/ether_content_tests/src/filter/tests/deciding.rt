@@ -1,4 +1,4 @@
-//! What is known of packets of which bytes are missing.
+//! What is known of packets that were cut.
 use crate::checks::equal;
 use ether_filter::{Decision, Filter, Packet};
 use ether_peel::Start;

@@ -3,7 +3,7 @@ use Rattle.std.specs.Prelude.{slice_range}
 use Rattle.std.proofs.lemmas.Bool.{ne_eqb}
 use Rattle.ether_filter.specs.declared.filter.TheConstants.{MAX_WORDS}
 use Rattle.ether_filter.specs.Words.{Word, words_from}
-use Rattle.ether_filter.specs.Reading.{state_of}
+use Rattle.ether_filter.specs.ExpressionReading.{state_of}
 use Rattle.ether_filter.proofs.Room.{room_after}
 use Rattle.ether_filter.proofs.TextLemmas.{word_read, word_refused}
 use Rattle.ether_filter.proofs.filter.read.Goals as goal

@@ -1,7 +1,7 @@
 use Rattle.std.proofs.Common.{◌≡◌, ◌-◌, ◌≤◌, length}
 use Rattle.ether_filter.specs.declared.filter.TheConstants.{MAX_WORDS}
 use Rattle.ether_filter.specs.Words.{words_from}
-use Rattle.ether_filter.specs.Reading.{state_of, read_from, read_text, size_of}
+use Rattle.ether_filter.specs.ExpressionReading.{state_of, read_from, read_text, size_of}
 use Rattle.ether_filter.proofs.filter.read.Given as goal
 
 abbrev pub invariant-loop-word : goal.invariant-loop-word

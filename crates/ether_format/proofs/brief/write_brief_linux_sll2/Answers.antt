@@ -10,7 +10,7 @@ returns g c =
     let interface = Takes-same (ap (λ n. codes " if " ++ decimal n) c.interface_index.ensures) c.write_number.ensures in
     let sender =
     Takes-same
-    (λ i. cooked_text ((c.from-packet_type.ensures ∙ c.from.ensures.0 ∙ c.packet_type.ensures) i)
+    (λ i. cooked_text ((c.from-packet_type.ensures ∙ c.packet_type_number.ensures) i)
     (take ((c.from-len.ensures ∙ c.sender_address_valid_length.ensures) i) (c.sender_address_full.ensures i)))
     c.write_sender.ensures in
     Takes-then interface sender

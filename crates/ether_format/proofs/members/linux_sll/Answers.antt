@@ -1,10 +1,7 @@
 use Rattle.std.proofs.Common.{ℕ, List, [], ◌∷◌, take, ap, ◌∙◌}
 use Rattle.std.specs.Prelude.{codes}
-use Rattle.etherparse.specs.LinuxSll.{linux_sll_of}
-use Rattle.ether_base.specs.Formats.LinuxSllProtocolType.{protocol_number}
 use Rattle.ether_format.specs.Members.{Value, Bytes, Number, Protocol, member}
 use Rattle.ether_format.specs.Walking.{Keyed, key_of}
-use Rattle.ether_format.proofs.CookedLemmas.{number_of_v1}
 use Rattle.ether_format.proofs.members.linux_sll.Goals as goal
 
 abbrev named : List ℕ → Value → Keyed
@@ -12,20 +9,16 @@ named name value = key_of (codes ",") (member name value)
 
 pub returns : goal.returns
 returns c =
-    let s = linux_sll_of c.args.slice.now in
     let packet_type =
-    c.number.ensures
-    ∙ ap (λ n. named (codes "packet_type") (Number n)) (c.from-2.ensures ∙ c.from.ensures.0 ∙ c.packet_type.ensures) in
+    c.number.ensures ∙ ap (λ n. named (codes "packet_type") (Number n)) (c.from.ensures ∙ c.packet_type_number.ensures) in
     let hardware =
-    c.number-2.ensures ∙ ap (λ n. named (codes "hw_type") (Number n)) (c.from-3.ensures ∙ c.arp_hardware_type.ensures) in
+    c.number-2.ensures ∙ ap (λ n. named (codes "hw_type") (Number n)) (c.from-2.ensures ∙ c.arp_hardware_type.ensures) in
     let len =
-    c.number-3.ensures ∙ ap (λ n. named (codes "addr_len") (Number n)) (c.from-4.ensures ∙ c.sender_address_valid_length.ensures)
+    c.number-3.ensures ∙ ap (λ n. named (codes "addr_len") (Number n)) (c.from-3.ensures ∙ c.sender_address_valid_length.ensures)
     in
-    let used = c.from-5.ensures ∙ c.sender_address_valid_length-2.ensures in
+    let used = c.from-4.ensures ∙ c.sender_address_valid_length-2.ensures in
     let address =
     c.member.ensures ∙ (λ i. named (codes "addr") (Bytes (take (used i) (c.sender_address_full.ensures i)))) in
     let protocol =
-    c.member-2.ensures
-    ∙ ap (λ n. named (codes "protocol") (Protocol n))
-    (c.from-6.ensures ∙ ap protocol_number c.protocol_type.ensures ∙ number_of_v1 s.hardware_type s.protocol) in
+    c.member-2.ensures ∙ ap (λ n. named (codes "protocol") (Protocol n)) c.protocol_number.ensures in
     λ i. packet_type i ∷ hardware i ∷ len i ∷ address i ∷ protocol i ∷ []

@@ -1,9 +1,7 @@
-use Rattle.std.proofs.Common.{ℕ, ◌++◌, ap, ◌∙◌, arith}
+use Rattle.std.proofs.Common.{ℕ, ◌++◌, ap, ◌∙◌}
 use Rattle.std.specs.Prelude.{codes}
 use Rattle.std.specs.Fmt.{decimal}
-use Rattle.etherparse.specs.LinuxSll.{LinuxSllValue, linux_sll_of}
 use Rattle.etherparse.specs.NumberText.{hex_number}
-use Rattle.etherparse.proofs.LinuxSllFields.{linux_sll_of_front}
 use Rattle.ether_text.specs.HexText.{hex_text}
 use Rattle.ether_text.specs.Lines.{linux_sll_text}
 use Rattle.ether_text.proofs.OutputBufferLemmas.{Takes-then, Takes-same}
@@ -12,12 +10,9 @@ use Rattle.ether_text.proofs.write_lines.write_linux_sll.Goals as goal
 pub returns : goal.returns
 unfolding linux_sll_text
 returns g c =
-    let header =
-    ap linux_sll_of c.header_slice-header.ensures.bytes ∙ linux_sll_of_front c.args.slice.now 16 (omega arith) in
     let packet =
     Takes-same
-    (ap (λ (n : ℕ). codes " packet " ++ decimal n)
-    (c.from.ensures ∙ c.packet_type_of.ensures ∙ ap (λ (s : LinuxSllValue). s.packet_type) header))
+    (ap (λ (n : ℕ). codes " packet " ++ decimal n) (c.from.ensures ∙ c.packet_type_number.ensures))
     c.write_number-2.ensures in
     let hardware =
     Takes-same (ap (λ (n : ℕ). codes " hw " ++ decimal n) (c.from-2.ensures ∙ c.arp_hardware_type.ensures))
@@ -29,8 +24,7 @@ returns g c =
     let address = Takes-same (c.hex_long.ensures ∙ ap hex_text c.sender_address_full.ensures) c.append-2.ensures in
     let protocol =
     Takes-same
-    (c.hex_type.ensures
-    ∙ ap hex_number (c.protocol_of.ensures ∙ ap (λ (s : LinuxSllValue). s.protocol) header))
+    (c.hex_type.ensures ∙ ap hex_number c.protocol_number.ensures)
     c.append-4.ensures in
     Takes-then c.write_number.ensures (Takes-then packet (Takes-then hardware (Takes-then len
     (Takes-then c.append.ensures (Takes-then address (Takes-then c.append-3.ensures protocol))))))

@@ -111,7 +111,7 @@ impl<T: InterfaceTable> CaptureReader<T> {
     /// ```text
     /// ensures unit { IfOk result (λ u. Begins bytes.now
     ///     self.old u.len (option_map captured_packet_view u.packet) self.new) }
-    /// ensures refused { IfErr result (λ e. Refuses bytes.now self.old (capture_refusal_view e)) }
+    /// ensures refused { IfErr result (λ e. RefusesCapture bytes.now self.old (capture_refusal_view e)) }
     /// ensures same { OnErr result (self.new ≡ self.old) }
     /// ensures within { IfOk result (λ u. u.len ≤ length bytes.now) }
     /// ensures some { IfOk result (λ u. 0 < u.len) }
@@ -228,7 +228,7 @@ impl<T: InterfaceTable> CaptureReader<T> {
     /// <details><summary>Contract</summary>
     ///
     /// ```text
-    /// ensures { (x : Expectation) → Begins unit.now x (length unit.now) None self.now
+    /// ensures { (x : CaptureExpectation) → Begins unit.now x (length unit.now) None self.now
     ///     → copied_bytes result ≡ other_unit (copy_mode_view mode) self.now unit.now }
     /// ```
     ///

@@ -1,7 +1,7 @@
 //! Units of a copy that is another capture.
 
 use crate::ether_pcap::pcapng::simple_packet::captured_len;
-use crate::ether_pcap::words::word;
+use crate::ether_pcap::word_bytes::word;
 use crate::ether_pcap::{ByteOrder, CapturedPacket, CopiedUnit, FileHeader, PcapngBlock};
 
 /// The file header with a snap length that is raised.

@@ -1,6 +1,6 @@
 //! Units whose packet is edited.
 
-use crate::ether_pcap::words::{four_words, len_word, padded_len, seven_words, word};
+use crate::ether_pcap::word_bytes::{four_words, len_word, padded_len, seven_words, word};
 use crate::ether_pcap::{ByteOrder, EditedUnit, FileHeader, PcapRecord, PcapngBlock};
 
 /// The record of a packet with other captured bytes and another original length.

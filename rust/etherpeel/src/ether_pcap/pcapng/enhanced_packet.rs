@@ -1,7 +1,7 @@
 //! The body of an enhanced packet.
 
 use crate::ether_pcap::pcapng::pcapng_option::{bytes_from, u32_option};
-use crate::ether_pcap::words::{four_words, len_word, padded_len, seven_words, word};
+use crate::ether_pcap::word_bytes::{four_words, len_word, padded_len, seven_words, word};
 use crate::ether_pcap::{BodyError, ByteOrder, PcapRecord, PcapngBlock};
 
 /// The code of the option with flags, `epb_flags` of an enhanced packet and `pack_flags` of the obsolete packet block.

@@ -1,7 +1,7 @@
 //! The body of an interface description.
 
 use crate::ether_pcap::pcapng::pcapng_option::{option_value, u64_option};
-use crate::ether_pcap::words::{four_words, half_words, len_word, three_words, word};
+use crate::ether_pcap::word_bytes::{four_words, half_words, len_word, three_words, word};
 use crate::ether_pcap::{BodyError, ByteOrder, LinkType, PcapngBlock};
 
 /// The code of the option with the resolution of times, `if_tsresol`.

@@ -1,7 +1,7 @@
 //! The options at the end of a block of a pcapng file.
 
 use crate::ether_pcap::ByteOrder;
-use crate::ether_pcap::words::padded_len;
+use crate::ether_pcap::word_bytes::padded_len;
 
 /// A view of an option of a block: its code and its value, without the padding.
 #[derive(Clone, Copy)]

@@ -1,6 +1,6 @@
 //! The section header of a pcapng file.
 
-use crate::ether_pcap::words::{four_words, half_words, seven_words, word};
+use crate::ether_pcap::word_bytes::{four_words, half_words, seven_words, word};
 use crate::ether_pcap::{ByteOrder, PcapngBlock, SectionError};
 
 /// A view of a section header (draft-ietf-opsawg-pcapng, section 4.1), the block with which a pcapng file begins: it says the order of the bytes of the numbers in its

@@ -1,6 +1,6 @@
 use Rattle.std.proofs.Common.{◌≡◌, ◌+◌, reverse}
 use Rattle.arrayvec.specs.ArrayVec.{array_vec_len}
-use Rattle.ether_filter.specs.Reading.{closed}
+use Rattle.ether_filter.specs.ExpressionReading.{closed}
 use Rattle.ether_filter.proofs.reading.Reading.close.Given as goal
 
 abbrev pub invariant-loop-last : goal.invariant-loop-last

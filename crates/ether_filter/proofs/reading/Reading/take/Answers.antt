@@ -1,4 +1,4 @@
-use Rattle.ether_filter.specs.Reading.{state_of}
+use Rattle.ether_filter.specs.ExpressionReading.{state_of}
 use Rattle.ether_filter.proofs.ReadingLemmas.{other_taken}
 use Rattle.ether_filter.proofs.reading.Reading.take.Goals as goal
 

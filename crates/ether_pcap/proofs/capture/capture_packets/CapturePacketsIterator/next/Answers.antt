@@ -2,7 +2,7 @@ use Rattle.std.proofs.Common.{rules, ℕ, List, length, length-drop, sym, ap, su
 use Rattle.ether_base.proofs.SubLists.{IsBytes-drop}
 use Rattle.ether_base.specs.Bytes.{IsBytes}
 use Rattle.ether_pcap.specs.Capture.{HasPackets}
-use Rattle.ether_pcap.specs.CaptureReading.{State}
+use Rattle.ether_pcap.specs.CaptureReading.{CaptureState}
 use Rattle.ether_pcap.proofs.Records.{rest_after}
 use Rattle.ether_pcap.proofs.CaptureReadingLemmas.{after_unit, passed_unit, gives, gives_packet, gives_none, gives_fault}
 use Rattle.ether_pcap.proofs.capture.capture_packets.CapturePacketsIterator.next.Goals as goal
@@ -13,7 +13,7 @@ returns-in-Some-clause-steps c =
     let a = c.loop-self.self-inside in
     let inv = c.loop-self.invariant in
     let len = c.in-Ok.unit.len in
-    let s : State = record { expected = i.reader; rest = i.rest.now; offset = i.offset; over = i.is_over } in
+    let s : CaptureState = record { expected = i.reader; rest = i.rest.now; offset = i.offset; over = i.is_over } in
     let left = rest_after a.rest.now len in
     let unit = rw c.in-Some.is at c.in-Ok.ensures.unit in
     let size = ap length left ∙ length-drop len a.rest.now in

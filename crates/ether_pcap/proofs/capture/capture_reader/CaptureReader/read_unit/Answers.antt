@@ -1,7 +1,7 @@
 use Rattle.std.proofs.Common.{rules, subst, sym, ◌∙◌}
 use Rattle.std.specs.Prelude.{None}
 use Rattle.ether_pcap.specs.Section.{HasSectionType}
-use Rattle.ether_pcap.specs.Capture.{Expectation, Records, Begins, Refuses, File, file_header, file_header_refused}
+use Rattle.ether_pcap.specs.Capture.{CaptureExpectation, Records, Begins, RefusesCapture, File, file_header, file_header_refused}
 use Rattle.ether_pcap.specs.Views.{order_of, file_header_view, file_refusal_view}
 use Rattle.ether_pcap.specs.PcapngViews.{block_view}
 use Rattle.ether_pcap.proofs.Captures.{section_unit, section_not_read, nothing_read}
@@ -27,7 +27,7 @@ returns-in-Err-from_slice-clause-refused g c =
     c.in_default.not-Classic
     c.in_default-progress.not-Section in
     let other : HasSectionType c.args.bytes.now → ⊥ = λ has. let t = c.if-begins_section.ensures.1 has in absurd cc in
-    subst (λ (x : Expectation). Refuses c.args.bytes.now x (File r)) (sym e ∙ c.self.view_is)
+    subst (λ (x : CaptureExpectation). RefusesCapture c.args.bytes.now x (File r)) (sym e ∙ c.self.view_is)
     (file_header_refused _ r other c.in-Err-from_slice.ensures.refused)
 
 pub returns-clause-unit : goal.returns-clause-unit
@@ -38,5 +38,5 @@ returns-clause-unit g c =
     c.in_default.not-Classic
     c.in_default-progress.not-Section in
     let other : HasSectionType c.args.bytes.now → ⊥ = λ has. let t = c.if-begins_section.ensures.1 has in absurd cc in
-    subst (λ (x : Expectation). Begins c.args.bytes.now x 24 None (Records h)) (sym e ∙ c.self.view_is)
+    subst (λ (x : CaptureExpectation). Begins c.args.bytes.now x 24 None (Records h)) (sym e ∙ c.self.view_is)
     (file_header _ h other c.in-Ok-from_slice.ensures.header)
