@@ -187,7 +187,9 @@ ORDER = {
         ether_pcap: Capture
         ether_stream: Task Packets LinuxSll2Lines FrameLines Answering Copying Composition
         ether_text: Run
-        ether_stream: Run Tags Words
+        ether_stream: Run
+        ether_format: Splits
+        ether_stream: VlanOptions OptionValues
         ether_capture: Options
         ether_pcap: Texts PcapngTexts CaptureTexts
         ether_filter: ErrorTexts

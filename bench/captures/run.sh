@@ -10,7 +10,7 @@ trap 'rm -rf "$work"' EXIT
 python3 "$here/make.py" "$work" "${2:-100}"
 rounds=${3:-7}
 
-set -- "$rounds" -- "cat=$(command -v cat)" "plain=$program --plain" "lines=$program" "json=$program --format json" "brief=$program --format brief" "write=$program --write" \
+set -- "$rounds" -- "cat=$(command -v cat)" "plain=$program --plain" "lines=$program" "json=$program --format json" "brief=$program --format brief" "fields=$program --fields vlan.vid,eth.src" "write=$program --write" \
     "select=$program --select 'vlan 5' --write" "headers=$program --write --cut-to-headers"
 if gcc -O2 -o "$work/walk" "$here/walk.c" -lpcap 2> /dev/null; then
     set -- "$@" "libpcap=$work/walk"
@@ -48,7 +48,7 @@ if command -v valgrind > /dev/null 2>&1; then
     python3 "$here/make.py" "$work" 10 > "$work/counts"
     for file in mixed small; do
         packets=$(sed -n "s/.*$file.pcap: \([0-9]*\) packets/\1/p" "$work/counts")
-        for words in --plain '' '--format brief' '--format json'; do
+        for words in --plain '' '--format brief' '--format json' '--fields vlan.vid,eth.src' '--fields frame.number,vlan.vid,eth.src'; do
             valgrind --tool=callgrind --callgrind-out-file=/dev/null "$program" $words < "$work/$file.pcap" 2>&1 > /dev/null |
                 awk -v packets="$packets" -v name="$file $words" '/Collected/ { printf "%s: %.0f instructions a packet\n", name, $4 / packets }'
         done

@@ -5,8 +5,8 @@ use Rattle.clap.specs.declared.error.Error.{Error}
 use Rattle.clap.specs.declared.error.kind.ErrorKind.{ErrorKind}
 use Rattle.clap.specs.declared.parser.matches.ArgMatches.{ArgMatches}
 use Rattle.ether_capture.specs.Options.{AskedValue, Asks, IsRequestOf, KindNames, MeansNothing, NamesNothing, NamesRequest, RefusesAsked, RefusesKind, RefusesRows, RefusesWords, capture_app, help, options, request_view, version}
-use Rattle.ether_stream.specs.declared.words.Usage.{Usage}
-use Rattle.ether_stream.specs.declared.words.Usage.TheVariants as usages
+use Rattle.ether_stream.specs.declared.option_values.Usage.{Usage}
+use Rattle.ether_stream.specs.declared.option_values.Usage.TheVariants as usages
 use Rattle.ether_capture.specs.declared.asked.Request.{Request}
 use Rattle.ether_capture.specs.declared.asked.RequestError.{RequestError}
 use Rattle.ether_capture.specs.declared.asked.RequestError.TheVariants as reasons

@@ -15,13 +15,13 @@ use Rattle.ether_content.specs.EditingViews.{edit_view}
 use Rattle.ether_format.specs.declared.format.Format.{Format}
 use Rattle.ether_format.specs.declared.format.Format.TheVariants.{Fields}
 use Rattle.ether_format.specs.declared.columns.Columns.{Columns}
-use Rattle.ether_stream.specs.Words.{AreFields, IsCount, IsFormat, IsIfAny, IsLimit, IsOneEdit, IsSelection, MeansUndecided}
+use Rattle.ether_stream.specs.OptionValues.{AreFields, IsCount, IsFormat, IsIfAny, IsLimit, IsOneEdit, IsSelection, MeansUndecided}
 use Rattle.ether_pcap.specs.CopiedUnits.{ModeValue, Exact, Changed}
 use Rattle.ether_stream.specs.Copying.{growth_if}
 use Rattle.ether_stream.specs.declared.selection.Selection.{Selection}
 use Rattle.ether_stream.specs.declared.selection.Undecided.{Undecided}
-use Rattle.ether_stream.specs.declared.words.Usage.{Usage}
-use Rattle.ether_stream.specs.declared.words.Usage.TheVariants as usages
+use Rattle.ether_stream.specs.declared.option_values.Usage.{Usage}
+use Rattle.ether_stream.specs.declared.option_values.Usage.TheVariants as usages
 use Rattle.ether_stream.specs.Task.{TaskValue, FormValue, Lines, Copy, task_view}
 use Rattle.ether_capture.specs.declared.asked.Asked.{Asked}
 use Rattle.ether_capture.specs.declared.asked.Listing.{Listing}

@@ -1,5 +1,5 @@
 -- What the program has read and written, and how it ends.
-use Rattle.std.specs.Prelude.{◌≡◌, ◌≢◌, ◌⊎◌, ℕ, List, [], Option, Some, None, Result, Ok, Err, IfNone, OnOk, Bool, true, false, map, String, string_bytes}
+use Rattle.std.specs.Prelude.{◌≡◌, ◌⊎◌, ℕ, List, [], Option, Some, None, Result, Ok, Err, IfNone, OnOk, Bool, true, false, map, String, string_bytes}
 use Rattle.std.specs.Vec.Iter.{into_iter_items}
 use Rattle.std.specs.declared.vec.IntoIter.{IntoIter}
 use Rattle.std.specs.Io.KnownBytes.{Appends}
@@ -98,14 +98,14 @@ heading_asked (Lists l) = l.heading
 heading_asked request = None
 
 -- That line was written, and then what is asked for was done. Or the writer failed at the line, and nothing was read, told or copied.
-pub data HasBegun (has : List ℕ → Option (List ℕ) → Type 0) (can_fail : Type 0) (can_refuse : OpenFault → Type 0)
+pub data HasHeaded (has : List ℕ → Option (List ℕ) → Type 0) (can_fail : Type 0) (can_refuse : OpenFault → Type 0)
     (can_read can_write can_tell : Type 0) (can_keep : WriteFault → Type 0) (can_copy : Type 0) (request : RequestValue)
     (before after held holds told tells : Option (List ℕ)) (had gets : List ℕ → Option (List ℕ)) : Outcome → Type 0 where
   headed : (outcome : Outcome) (mid : Option (List ℕ)) → Appends held mid (heading_if (heading_asked request))
       → HasAnswered has can_fail can_refuse can_read can_write can_tell can_keep can_copy request before after mid holds told tells had gets outcome
-      → HasBegun has can_fail can_refuse can_read can_write can_tell can_keep can_copy request before after held holds told tells had gets outcome
+      → HasHeaded has can_fail can_refuse can_read can_write can_tell can_keep can_copy request before after held holds told tells had gets outcome
   failed : (columns : Columns) → heading_asked request ≡ Some columns → can_write → after ≡ before → tells ≡ told → gets ≡ had
-      → HasBegun has can_fail can_refuse can_read can_write can_tell can_keep can_copy request before after held holds told tells had gets
+      → HasHeaded has can_fail can_refuse can_read can_write can_tell can_keep can_copy request before after held holds told tells had gets
       (outcomes.Run (Err Output))
 
 -- how the program answers arguments that ask for nothing
@@ -127,7 +127,7 @@ pub data HasObeyed (has : List ℕ → Option (List ℕ) → Type 0) (can_fail :
       (refusal_outcome e)
   done : (words : List (List ℕ)) (request : RequestValue) (before after held holds told tells : Option (List ℕ))
       (had gets : List ℕ → Option (List ℕ)) (outcome : Outcome) → NamesRequest words request
-      → HasBegun has can_fail can_refuse can_read can_write can_tell can_keep can_copy request before after held holds told tells had gets outcome
+      → HasHeaded has can_fail can_refuse can_read can_write can_tell can_keep can_copy request before after held holds told tells had gets outcome
       → HasObeyed has can_fail can_refuse can_read can_write can_tell can_keep can_copy (Some words) before after held holds told tells had gets
       outcome
 

@@ -10,4 +10,5 @@ pub mod ParsingLemmas
 pub mod RowLemmas
 pub mod OneText
 pub mod SpellingLemmas
+pub mod SplitLemmas
 pub mod WalkLemmas

@@ -1,46 +1,17 @@
 -- A text that names columns, word by word.
-use Rattle.std.proofs.Common.{◌≡◌, ℕ, suc, zero, ◌+◌, ◌<◌, ◌≤◌, List, [], ◌∷◌, ◌++◌, length, map, drop, Bool, true, false, Option, Some, None, Bor, refl, sym, ap, subst, ◌∙◌, arith, append_assoc, append-nil, length-append}
+use Rattle.std.proofs.Common.{◌≡◌, ℕ, suc, zero, ◌<◌, ◌≤◌, List, [], ◌∷◌, ◌++◌, length, map, Bool, true, false, Option, Some, None, Bor, refl, sym, ap, subst, ◌∙◌, arith, append_assoc, append-nil, length-append}
 use Rattle.std.specs.Prelude.{◌&&◌, ◌==◌, ◌≢◌, not, slice_index_or, IfNone}
 use Rattle.std.specs.Option.{option_map}
 use Rattle.std.specs.List.{All, IsAmong, slice_split}
-use Rattle.std.proofs.lemmas.List.{drop_at, get_or-map, length-map, map-append}
+use Rattle.std.proofs.lemmas.List.{get_or-map, length-map, map-append}
 use Rattle.std.proofs.lemmas.List.Elements.{All-nil, All-cons, All-append}
-use Rattle.std.proofs.lemmas.List.Splits.{slice_split_at, slice_split_none, length-slice_split}
+use Rattle.std.proofs.lemmas.List.Splits.{slice_split_none}
 use Rattle.ether_format.specs.declared.column.Section.{Section}
 use Rattle.ether_format.specs.declared.column.Section.TheVariants as sections
-use Rattle.ether_format.specs.Columns.{AreColumns, ColumnValue, IsColumn, SplitsAt, SplitsWord, column_name, section_members, section_name}
+use Rattle.ether_format.specs.Columns.{AreColumns, ColumnValue, IsColumn, column_name, section_members, section_name}
+use Rattle.ether_format.specs.Splits.{SplitsAt, SplitsWord}
+use Rattle.ether_format.proofs.SplitLemmas.{no_split, one_split, parts_are}
 use Rattle.ether_format.proofs.ColumnNames.{both, is_false, one_section}
-
--- ---- a text is split in one way
-
-abbrev first_of : List (List ℕ) → List ℕ
-first_of [] = []
-first_of (x ∷ xs) = x
-
-module _ (byte : ℕ) (same_byte : (byte == byte) ≡ true) where
-  pub parts_are : (text before after : List ℕ) → SplitsAt byte text before after
-      → slice_split (λ b. b == byte) text ≡ before ∷ slice_split (λ b. b == byte) after
-  parts_are text before after is =
-      ap (slice_split (λ b. b == byte)) is.parts ∙ slice_split_at (λ b. b == byte) before byte after is.none_before same_byte
-
-  after_is : (text before after : List ℕ) → SplitsAt byte text before after → drop (length before + 1) text ≡ after
-  after_is text before after is =
-      let front : before ++ byte ∷ after ≡ (before ++ byte ∷ []) ++ after = sym (append_assoc before (byte ∷ []) after) in
-      let len : length (before ++ byte ∷ []) ≡ length before + 1 = length-append before (byte ∷ []) in
-      ap (drop (length before + 1)) (is.parts ∙ front) ∙ drop_at (before ++ byte ∷ []) after (length before + 1) len
-
-  pub one_split : (text a b c d : List ℕ) → SplitsAt byte text a b → SplitsAt byte text c d → (a ≡ c) × (b ≡ d)
-  one_split text a b c d s t =
-      let same : a ≡ c = ap first_of (sym (parts_are text a b s) ∙ parts_are text c d t) in
-      (same, sym (after_is text a b s) ∙ ap (λ (l : List ℕ). drop (length l + 1) text) same ∙ after_is text c d t)
-
-  pub no_split : (text before after : List ℕ) → All (λ b. (b == byte) ≡ false) text → SplitsAt byte text before after → ⊥
-  no_split text before after none is =
-      let one : before ∷ slice_split (λ b. b == byte) after ≡ text ∷ [] =
-      sym (parts_are text before after is) ∙ slice_split_none (λ b. b == byte) text none in
-      let len : length (before ∷ slice_split (λ b. b == byte) after) ≡ 1 = ap length one in
-      let some = length-slice_split (λ b. b == byte) after in
-      omega (arith, len, some)
 
 -- ---- the name of a column
 

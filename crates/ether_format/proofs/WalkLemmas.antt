@@ -31,7 +31,7 @@ use Rattle.ether_format.specs.declared.place.Place.{Place as DeclaredPlace}
 use Rattle.ether_format.specs.Members.{ethernet2_members}
 use Rattle.ether_format.specs.Told.{Told, Walked, ToldEnd, Rest, fcs_in, placed_members, told_in, told_stack, told_end, told_members, TellsPayload}
 use Rattle.ether_format.specs.Json.{json_object}
-use Rattle.ether_format.specs.Walking.{fcs_shown, place_view, told_view, fault_shown, goes_on, header_text, end_text, told_text, AnswersTold}
+use Rattle.ether_format.specs.Walking.{fcs_shown, place_view, told_view, fault_shown, next_is_first, header_text, end_text, told_text, AnswersTold}
 
 -- ---- what a walker gives tells what it faces
 
@@ -117,7 +117,7 @@ module _ {W : Type 0} (contents : W → Option (List ℕ)) (can_fail : Type 0) (
       → place.start ≡ at + s.offset → place.header_end ≡ at + t.offset → place.payload_end ≡ at + (t.offset + length t.rest)
       → place.closed ≡ t.closed
       → Takes contents can_fail mid (header_text part is_first (told_view place u)) new
-      → WritesTold contents can_fail part first at x frame (goes_on part is_first (told_view place u)) t old new
+      → WritesTold contents can_fail part first at x frame (next_is_first part is_first (told_view place u)) t old new
   walk_unit is_first s t old mid new u place ok a gives from to end mark taken =
       let n =
       unit_next frame a.window a.left a.ending s t u (gives.next a.going frame a.window a.left a.ending a.faces) in
@@ -137,7 +137,7 @@ module _ {W : Type 0} (contents : W → Option (List ℕ)) (can_fail : Type 0) (
       let is : told_view place u ≡ told_in at frame a.window h =
       λ i. Walked (record { start = begin i; header_end = middle i; payload_end = last i; closed = closed i }) (header i) (fcs i) in
       let later =
-      λ (k : Told). told_text part (goes_on part is_first k) (told_stack at frame inner hs) (told_end at a.ending) in
+      λ (k : Told). told_text part (next_is_first part is_first k) (told_stack at frame inner hs) (told_end at a.ending) in
       let written = header_text part is_first (told_in at frame a.window h) in
       record {
         all = a.all;
@@ -231,7 +231,7 @@ pub record AnswersPayload (part : Part) (at : ℕ) (first : Told) (x : Expectati
 pub payload_told : {W : Type 0} {contents : W → Option (List ℕ)} {can_fail : Type 0} {part : Part} {at : ℕ} {x : Expectation}
     {payload : List ℕ} {old mid new : OutputBuffer W} {accepted : Bool} (first : Told)
     → Takes contents can_fail old (header_text part true first) mid
-    → TakesAnswer contents can_fail (AnswersTold part (goes_on part true first) at x payload) mid new accepted
+    → TakesAnswer contents can_fail (AnswersTold part (next_is_first part true first) at x payload) mid new accepted
     → TakesAnswer contents can_fail (AnswersPayload part at first x payload) old new accepted
 payload_told {part = part} first taken walk = record {
   text = header_text part true first ++ walk.text;

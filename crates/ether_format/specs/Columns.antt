@@ -1,5 +1,5 @@
 -- A packet as a row of columns.
-use Rattle.std.specs.Prelude.{◌≡◌, ◌≤◌, ◌==◌, ℕ, List, [], ◌∷◌, ◌++◌, codes, length, map, take, false, Option, Some, None, if◌then◌else◌, slice_index_or}
+use Rattle.std.specs.Prelude.{◌≡◌, ◌≤◌, ◌==◌, ℕ, List, [], ◌∷◌, ◌++◌, codes, length, map, take, Option, if◌then◌else◌, slice_index_or}
 use Rattle.std.specs.List.{All, IsAmong, flat_map, join_by, slice_split}
 use Rattle.std.specs.Str.{bytes_eq}
 use Rattle.ether_pcap.specs.Capture.{PacketValue}
@@ -118,15 +118,3 @@ column_view c = record { section = section_name c.section; member = slice_index_
 
 abbrev pub columns_view : DeclaredColumns → List ColumnValue
 columns_view c = column_view c.first ∷ map column_view (take c.count c.others)
-
--- ---- for the contracts of private functions
-
--- the first byte of a value in a text is between these parts
-pub record SplitsAt (byte : ℕ) (text before after : List ℕ) : Type 0 where
-  pub none_before : All (λ b. (b == byte) ≡ false) before
-  pub parts : text ≡ before ++ byte ∷ after
-
--- a text begins with a word, which a comma ends, or the text
-abbrev pub SplitsWord : (text word : List ℕ) → (after : Option (List ℕ)) → Type 0
-SplitsWord text word (Some after) = SplitsAt 44 text word after
-SplitsWord text word None = (word ≡ text) × All (λ b. (b == 44) ≡ false) text

@@ -4,6 +4,7 @@ pub mod Told
 pub mod Spelling
 pub mod Json
 pub mod Brief
+pub mod Splits
 pub mod Columns
 pub mod Texts
 pub mod Laws

@@ -161,9 +161,9 @@ header_text Brief first h = brief_told h
 header_text (Column c) first h = column_on first (header_values (column_view c) h)
 
 -- whether the next is the first
-abbrev pub goes_on : Part → (first : Bool) → Told → Bool
-goes_on (Column c) first h = still_first first (header_values (column_view c) h)
-goes_on _ first h = false
+abbrev pub next_is_first : Part → (first : Bool) → Told → Bool
+next_is_first (Column c) first h = still_first first (header_values (column_view c) h)
+next_is_first _ first h = false
 
 abbrev pub end_text : Part → ToldEnd → List ℕ
 end_text Json end = json_end end
@@ -173,7 +173,7 @@ end_text (Column c) end = column_on true (end_values (column_view c) end)
 -- headers, of which the first is the packet's first or not, and the end
 abbrev pub told_text : Part → (first : Bool) → List Told → ToldEnd → List ℕ
 told_text part first [] end = end_text part end
-told_text part first (h ∷ hs) end = header_text part first h ++ told_text part (goes_on part first h) hs end
+told_text part first (h ∷ hs) end = header_text part first h ++ told_text part (next_is_first part first h) hs end
 
 -- what is told of a walk is the text
 pub record AnswersTold (part : Part) (first : Bool) (at : ℕ) (start : Expectation) (frame text : List ℕ) (accepted : Bool) : Type 0 where

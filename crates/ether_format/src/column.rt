@@ -1,10 +1,11 @@
 //! Columns: which member of which part of a packet each shows.
 ghost use Rattle.std.specs.Prelude.{◌≡◌, ◌≢◌, ◌==◌, ◌<◌, [], IfNone, IfSome, false, length, map, slice_index_or};
 ghost use Rattle.ether_format.specs.declared.column.Section.{Section as DeclaredSection};
-ghost use Rattle.ether_format.specs.Columns.{ColumnValue, IsColumn, SplitsAt, column_name, column_view, section_members, section_name};
+ghost use Rattle.ether_format.specs.Columns.{ColumnValue, IsColumn, column_name, column_view, section_members, section_name};
 ghost use Rattle.std.specs.List.{All};
 ghost use Rattle.ether_text.specs.OutputBuffer.{Takes};
 
+use crate::split::split_at;
 use ether_text::{OutputBuffer, Sink};
 
 /// A part of what is written of a packet: the packet itself, headers with a name, all headers, or how the walk through them ends.
@@ -193,17 +194,6 @@ impl Column {
         if let Some(member) = self.section.members().get(usize::from(self.index)) {
             out.append(member.as_bytes());
         }
-    }
-}
-
-/// What is before and after the first byte of this value.
-pub(crate) fn split_at(byte: u8, text: &[u8]) -> Option<(&[u8], &[u8])>
-    ensures some { IfSome result (λ parts. SplitsAt byte text.now parts.0.now parts.1.now) }
-    ensures none { IfNone result (All (λ it. (it == byte) ≡ false) text.now) }
-{
-    match text.iter().position(|it| *it == byte) {
-        Some(at) => Some((&text[..at], &text[at + 1..])),
-        None => None,
     }
 }
 

@@ -3,9 +3,11 @@ ghost use Rattle.std.specs.Prelude.{◌≡◌, ◌≤◌, ◌<◌, ◌∷◌, �
 ghost use Rattle.std.specs.List.{flat_map};
 ghost use Rattle.std.specs.Option.{option_map};
 ghost use Rattle.ether_text.specs.OutputBuffer.{Takes};
-ghost use Rattle.ether_format.specs.Columns.{AreColumns, ColumnValue, SplitsWord, column_name, column_view, columns_view, heading_text};
+ghost use Rattle.ether_format.specs.Splits.{SplitsWord};
+ghost use Rattle.ether_format.specs.Columns.{AreColumns, ColumnValue, column_name, column_view, columns_view, heading_text};
 
-use crate::column::{Column, split_at};
+use crate::column::Column;
+use crate::split::split_at;
 use ether_text::{OutputBuffer, Sink};
 
 /// How many columns there may be after the first.

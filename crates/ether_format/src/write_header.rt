@@ -7,7 +7,7 @@ ghost use Rattle.ether_text.specs.OutputBuffer.{Takes};
 ghost use Rattle.ether_format.specs.declared.format.Part.TheVariants.{Json};
 ghost use Rattle.ether_format.specs.Json.{json_object};
 ghost use Rattle.ether_format.specs.Told.{Walked, CookedV2, told_members};
-ghost use Rattle.ether_format.specs.Walking.{comma_if, goes_on, header_text, place_view, told_view};
+ghost use Rattle.ether_format.specs.Walking.{comma_if, next_is_first, header_text, place_view, told_view};
 
 use crate::brief::{write_brief_cooked, write_brief_header, write_brief_linux_sll2};
 use crate::format::Part;
@@ -31,7 +31,7 @@ pub(crate) fn write_header<W: Sink>(
     out: &mut OutputBuffer<'_, W>,
 ) -> bool
     ensures text { Takes W.contents W.can_fail out.old (header_text part is_first (told_view place unit.now)) out.new }
-    ensures next { result ≡ goes_on part is_first (told_view place unit.now) }
+    ensures next { result ≡ next_is_first part is_first (told_view place unit.now) }
 {
     match part {
         Part::Json => {
@@ -56,7 +56,7 @@ pub(crate) fn write_cooked<W: Sink>(
 ) -> bool
     ensures text { Takes W.contents W.can_fail out.old
         (header_text part true (Walked (place_view place) (headers.LinuxSll (cooked_view header.now)) None)) out.new }
-    ensures next { result ≡ goes_on part true (Walked (place_view place) (headers.LinuxSll (cooked_view header.now)) None) }
+    ensures next { result ≡ next_is_first part true (Walked (place_view place) (headers.LinuxSll (cooked_view header.now)) None) }
 {
     match part {
         Part::Json => {
@@ -80,7 +80,7 @@ pub(crate) fn write_linux_sll2<W: Sink>(
 ) -> bool
     ensures text { Takes W.contents W.can_fail out.old
         (header_text part true (CookedV2 (place_view place) (linux_sll2_of packet.now))) out.new }
-    ensures next { result ≡ goes_on part true (CookedV2 (place_view place) (linux_sll2_of packet.now)) }
+    ensures next { result ≡ next_is_first part true (CookedV2 (place_view place) (linux_sll2_of packet.now)) }
 {
     match part {
         Part::Json => {

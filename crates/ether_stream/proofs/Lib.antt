@@ -5,5 +5,5 @@ pub mod FrameLinesLemmas
 pub mod MadeLemmas
 pub mod ProgressLemmas
 pub mod RunLemmas
-pub mod TagsLemmas
+pub mod VlanOptionLemmas
 pub mod CompositionLemmas

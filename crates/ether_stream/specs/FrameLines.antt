@@ -1,5 +1,5 @@
 -- The lines of a captured packet: one for the packet itself, and those of the walk through its headers.
-use Rattle.std.specs.Prelude.{◌≡◌, ℕ, ◌+◌, ◌/◌, ◌%◌, ◌^◌, ◌⊎◌, List, [], ◌∷◌, ◌++◌, length, codes, Bool, true, false, Option, Some, None, if◌then◌else◌}
+use Rattle.std.specs.Prelude.{◌≡◌, ℕ, ◌⊎◌, List, [], ◌∷◌, ◌++◌, length, codes, Bool, true, false, Option, Some, None, if◌then◌else◌}
 use Rattle.std.specs.Fmt.{decimal}
 use Rattle.ether_base.specs.Formats.LinuxSll.{LinuxSllValue}
 use Rattle.ether_peel.specs.Grammar.Expectation.{EtherType}

@@ -8,7 +8,7 @@ pub mod Copying
 pub mod Run
 pub mod Outcome
 pub mod Progress
-pub mod Tags
-pub mod Words
+pub mod VlanOptions
+pub mod OptionValues
 pub mod Counting
 pub mod Composition

@@ -13,8 +13,8 @@ use Rattle.ether_stream.specs.declared.open_fault.OpenFault.{OpenFault}
 use Rattle.ether_stream.specs.declared.open_fault.OpenFault.TheVariants as open_faults
 use Rattle.ether_stream.specs.declared.write_fault.WriteFault.{WriteFault}
 use Rattle.ether_stream.specs.declared.write_fault.WriteFault.TheVariants as write_faults
-use Rattle.ether_stream.specs.declared.words.Usage.{Usage}
-use Rattle.ether_stream.specs.declared.words.Usage.TheVariants as usages
+use Rattle.ether_stream.specs.declared.option_values.Usage.{Usage}
+use Rattle.ether_stream.specs.declared.option_values.Usage.TheVariants as usages
 use Rattle.ether_stream.specs.declared.outcome.Outcome.{Outcome}
 use Rattle.ether_stream.specs.declared.outcome.Outcome.TheVariants as outcomes
 use Rattle.ether_pcap.specs.declared.capture.capture_fault.CaptureFault.{CaptureFault}

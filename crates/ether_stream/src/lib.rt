@@ -18,14 +18,14 @@ mod linux_sll_lines;
 mod memory;
 mod no_memory;
 mod open_fault;
+mod option_values;
 mod outcome;
 mod progress;
 pub mod run;
 mod section_table;
 mod selection;
-mod tags;
 mod task;
-mod words;
+mod vlan_options;
 mod write_fault;
 
 pub use buffers::Buffers;
@@ -37,6 +37,9 @@ pub use line_sink::LineSink;
 pub use memory::Grow;
 pub use no_memory::NoMemory;
 pub use open_fault::OpenFault;
+pub use option_values::{
+    Usage, count_of, edit_of_words, fields_of, filter_of, format_of, limit_of, undecided_of,
+};
 pub use outcome::{
     FileEnd, HELP, LastLine, Outcome, Reason, RunFault, VERSION, is_message, last_line,
     line_of_file, program_status, status_of, status_of_file,
@@ -44,7 +47,4 @@ pub use outcome::{
 pub use section_table::{MAX_INTERFACES, SectionTable};
 pub use selection::{Selection, Undecided};
 pub use task::{Form, LineOptions, Task};
-pub use words::{
-    Usage, count_of, edit_of_words, fields_of, filter_of, format_of, limit_of, undecided_of,
-};
 pub use write_fault::WriteFault;

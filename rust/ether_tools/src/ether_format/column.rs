@@ -1,5 +1,6 @@
 //! Columns: which member of which part of a packet each shows.
 
+use crate::ether_format::split::split_at;
 use crate::ether_text::{OutputBuffer, Sink};
 
 /// A part of what is written of a packet: the packet itself, headers with a name, all headers, or how the walk through them ends.
@@ -176,14 +177,6 @@ impl Column {
         if let Some(member) = self.section.members().get(usize::from(self.index)) {
             out.append(member.as_bytes());
         }
-    }
-}
-
-/// What is before and after the first byte of this value.
-pub(crate) fn split_at(byte: u8, text: &[u8]) -> Option<(&[u8], &[u8])> {
-    match text.iter().position(|it| *it == byte) {
-        Some(at) => Some((&text[..at], &text[at + 1..])),
-        None => None,
     }
 }
 

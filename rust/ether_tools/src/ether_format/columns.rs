@@ -1,6 +1,7 @@
 //! The columns of a row.
 
-use crate::ether_format::column::{Column, split_at};
+use crate::ether_format::column::Column;
+use crate::ether_format::split::split_at;
 use crate::ether_text::{OutputBuffer, Sink};
 
 /// How many columns there may be after the first.

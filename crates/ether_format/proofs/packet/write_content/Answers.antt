@@ -7,7 +7,7 @@ use Rattle.ether_peel.specs.Grammar.Expectation.{EtherType}
 use Rattle.ether_text.specs.OutputBuffer.{TakesAnswer}
 use Rattle.ether_text.proofs.OutputBufferLemmas.{Takes-same}
 use Rattle.ether_format.specs.Told.{Place, Skipped, Tells, Walked, cooked_place}
-use Rattle.ether_format.specs.Walking.{AnswersTold, goes_on, header_text}
+use Rattle.ether_format.specs.Walking.{AnswersTold, next_is_first, header_text}
 use Rattle.ether_format.proofs.WalkLemmas.{payload_told}
 use Rattle.ether_format.proofs.packet.write_content.Goals as goal
 
@@ -22,7 +22,7 @@ returns-in-LinuxSll g c =
     c.write_cooked-is_first.ensures.text in
     let next =
     c.write_cooked-is_first.ensures.next
-    ∙ ap (λ (q : Place). goes_on c.args.part true (Walked q (headers.LinuxSll s) None)) c.cooked_place-place.ensures in
+    ∙ ap (λ (q : Place). next_is_first c.args.part true (Walked q (headers.LinuxSll s) None)) c.cooked_place-place.ensures in
     let told =
     payload_told first header
     (subst

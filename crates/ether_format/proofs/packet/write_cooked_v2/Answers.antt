@@ -11,7 +11,7 @@ use Rattle.ether_content.proofs.ContentLemmas.{none_of, started}
 use Rattle.ether_text.specs.OutputBuffer.{TakesAnswer}
 use Rattle.ether_text.proofs.OutputBufferLemmas.{Takes-same, Takes-then}
 use Rattle.ether_format.specs.Told.{Place, CookedV2, Fault, Rest, TellsAfter, cause_of_v2, cooked_place, read, refused}
-use Rattle.ether_format.specs.Walking.{AnswersCookedV2, AnswersTold, end_text, goes_on, header_text}
+use Rattle.ether_format.specs.Walking.{AnswersCookedV2, AnswersTold, end_text, next_is_first, header_text}
 use Rattle.ether_format.proofs.WalkLemmas.{payload_told}
 use Rattle.ether_format.proofs.packet.write_cooked_v2.Goals as goal
 
@@ -37,17 +37,17 @@ returns-in-Some g c =
     let found = started (told_ether_type (protocol_of_header packet)) c.in-Some.start (sym c.start.ensures ∙ c.in-Some.is) in
     let next =
     c.write_linux_sll2-is_first.ensures.next
-    ∙ ap (λ (q : Place). goes_on c.args.part true (CookedV2 q (linux_sll2_of packet))) c.cooked_place.ensures
-    ∙ ap (λ (l : List ℕ). goes_on c.args.part true (CookedV2 (cooked_place 20 (length l)) (linux_sll2_of packet))) (sym same) in
+    ∙ ap (λ (q : Place). next_is_first c.args.part true (CookedV2 q (linux_sll2_of packet))) c.cooked_place.ensures
+    ∙ ap (λ (l : List ℕ). next_is_first c.args.part true (CookedV2 (cooked_place 20 (length l)) (linux_sll2_of packet))) (sym same) in
     let walk =
     subst (λ (l : List ℕ). TakesAnswer g.W.Sink.contents g.W.Sink.can_fail
-    (AnswersTold c.args.part (goes_on c.args.part true first) 20 (start_with c.in-Some.start c.args.limit) l) c.write_linux_sll2-is_first.new.out c.write_walk.new.out
+    (AnswersTold c.args.part (next_is_first c.args.part true first) 20 (start_with c.in-Some.start c.args.limit) l) c.write_linux_sll2-is_first.new.out c.write_walk.new.out
     c.write_walk.result) c.payload_slice.ensures
     (subst (λ (b : Bool). TakesAnswer g.W.Sink.contents g.W.Sink.can_fail
     (AnswersTold c.args.part b 20 (start_with c.in-Some.start c.args.limit) c.payload_slice.result.now)
     c.write_linux_sll2-is_first.new.out c.write_walk.new.out c.write_walk.result) next c.write_walk.ensures) in
     let begun =
-    subst (λ (s : Start). TakesAnswer g.W.Sink.contents g.W.Sink.can_fail (AnswersTold c.args.part (goes_on c.args.part true first) 20 (start_with s c.args.limit)
+    subst (λ (s : Start). TakesAnswer g.W.Sink.contents g.W.Sink.can_fail (AnswersTold c.args.part (next_is_first c.args.part true first) 20 (start_with s c.args.limit)
     (slice_range packet 20 (length packet)))
     c.write_linux_sll2-is_first.new.out c.write_walk.new.out c.write_walk.result) found.2 walk in
     let told = payload_told first header begun in

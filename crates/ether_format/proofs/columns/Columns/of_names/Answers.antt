@@ -1,6 +1,7 @@
 use Rattle.std.proofs.Common.{List, ℕ, [], ap, sym, subst, arith}
 use Rattle.std.specs.Option.{option_map}
-use Rattle.ether_format.specs.Columns.{ColumnValue, SplitsWord, column_view, columns_view}
+use Rattle.ether_format.specs.Columns.{ColumnValue, column_view, columns_view}
+use Rattle.ether_format.specs.Splits.{SplitsWord}
 use Rattle.ether_format.proofs.ParsingLemmas.{TakesNames, all_taken, fewer, if_none, left_of, next_word, no_next, none_taken, one_more, too_many}
 use Rattle.ether_format.proofs.columns.Columns.of_names.Goals as goal
 

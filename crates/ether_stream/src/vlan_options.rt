@@ -4,10 +4,11 @@ ghost use Rattle.ether_filter.specs.Numerals.{number_in};
 ghost use Rattle.ether_base.specs.Formats.Vlan.{is_vlan_ether_type};
 ghost use Rattle.ether_content.specs.Editing.{EditValue, PushVlan, SetVlan};
 ghost use Rattle.ether_content.specs.EditingViews.{edit_view};
-ghost use Rattle.ether_stream.specs.Tags.{HasNoColon, IsPair, IsTagEdit, SplitsAtColon, tag_word};
+ghost use Rattle.ether_stream.specs.VlanOptions.{IsPair, IsTagEdit, tag_word};
 
 use ether_content::PacketEdit;
 use ether_filter::number_of;
+use ether_format::split_at;
 use etherparse::{EtherType, VlanId};
 
 /// An edit that two numbers say, with a colon between them.
@@ -73,7 +74,7 @@ fn pair_of(text: &[u8]) -> Option<(u32, u32)>
     ensures some { IfSome result (λ pair. IsPair text.now pair.0 pair.1) }
     ensures none { IfNone result ((m n : ℕ) → ¬ (IsPair text.now m n)) }
 {
-    let (before, after) = split_at_colon(text)?;
+    let (before, after) = split_at(b':', text)?;
     let first = small_number(before)?;
     let second = small_number(after)?;
     Some((first, second))
@@ -86,17 +87,6 @@ pub(crate) fn small_number(text: &[u8]) -> Option<u32>
 {
     match number_of(text) {
         Some(number) => number,
-        None => None,
-    }
-}
-
-/// What is before and after the first colon.
-fn split_at_colon(text: &[u8]) -> Option<(&[u8], &[u8])>
-    ensures some { IfSome result (λ parts. SplitsAtColon text.now parts.0.now parts.1.now) }
-    ensures none { IfNone result (HasNoColon text.now) }
-{
-    match text.iter().position(|byte| *byte == b':') {
-        Some(at) => Some((&text[..at], &text[at + 1..])),
         None => None,
     }
 }

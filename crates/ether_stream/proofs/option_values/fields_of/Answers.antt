@@ -2,8 +2,8 @@ use Rattle.std.proofs.Common.{List, ℕ, Bor, Option, Some, None, subst}
 use Rattle.std.specs.Option.{option_map}
 use Rattle.ether_format.specs.Columns.{AreColumns, ColumnValue, columns_view}
 use Rattle.ether_format.specs.declared.columns.Columns.{Columns}
-use Rattle.ether_stream.specs.Words.{AreFields, IsIfAny}
-use Rattle.ether_stream.proofs.words.fields_of.Goals as goal
+use Rattle.ether_stream.specs.OptionValues.{AreFields, IsIfAny}
+use Rattle.ether_stream.proofs.option_values.fields_of.Goals as goal
 
 no_fields : (text : List ℕ) → ((columns : List ColumnValue) → AreColumns text columns → ⊥) → (fields : Option Columns)
     → IsIfAny AreFields (Some text) fields → ⊥

@@ -8,11 +8,11 @@ ghost use Rattle.ether_stream.specs.declared.selection.Undecided.{Undecided as U
 ghost use Rattle.ether_format.specs.declared.columns.Columns.{Columns as ColumnsValue};
 ghost use Rattle.ether_format.specs.declared.format.Format.{Format as FormatValue};
 ghost use Rattle.ether_stream.specs.Outcome.{usage_text};
-ghost use Rattle.ether_stream.specs.Tags.{IsTagEdit, tag_word};
-ghost use Rattle.ether_stream.specs.Words.{AreFields, IsCount, IsFormat, IsIfAny, IsLimit, IsOneEdit, IsSelection, MeansUndecided, RefusesSelection};
+ghost use Rattle.ether_stream.specs.VlanOptions.{IsTagEdit, tag_word};
+ghost use Rattle.ether_stream.specs.OptionValues.{AreFields, IsCount, IsFormat, IsIfAny, IsLimit, IsOneEdit, IsSelection, MeansUndecided, RefusesSelection};
 
 use crate::selection::Undecided;
-use crate::tags::{TagEdit, small_number, tag_edit_of};
+use crate::vlan_options::{TagEdit, small_number, tag_edit_of};
 use ether_content::PacketEdit;
 use ether_filter::{Filter, FilterError};
 use ether_format::{Columns, Format};

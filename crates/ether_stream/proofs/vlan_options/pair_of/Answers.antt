@@ -1,10 +1,13 @@
-use Rattle.ether_stream.proofs.TagsLemmas.{if_none, no_split, no_numbers}
-use Rattle.ether_stream.proofs.tags.pair_of.Goals as goal
+use Rattle.std.proofs.Common.{refl}
+use Rattle.ether_format.proofs.ParsingLemmas.{if_none}
+use Rattle.ether_format.proofs.SplitLemmas.{no_split}
+use Rattle.ether_stream.proofs.VlanOptionLemmas.{no_numbers}
+use Rattle.ether_stream.proofs.vlan_options.pair_of.Goals as goal
 
 pub returns-in_err-before-clause-none : goal.returns-in_err-before-clause-none
 returns-in_err-before-clause-none c =
     if_none c.from_residual.result _
-    (λ m n pair. no_split c.args.text.now pair.before pair.after c.in_err-before.ensures.none pair.split)
+    (λ m n pair. no_split 58 refl c.args.text.now pair.before pair.after c.in_err-before.ensures.none pair.split)
 
 pub returns-in_err-first-clause-none : goal.returns-in_err-first-clause-none
 returns-in_err-first-clause-none c =

@@ -2,6 +2,7 @@
 
 use etherpeel::ether_content::PacketEdit;
 use etherpeel::ether_filter::number_of;
+use crate::ether_format::split_at;
 use etherpeel::{EtherType, VlanId};
 
 /// An edit that two numbers say, with a colon between them.
@@ -52,7 +53,7 @@ fn vlan_id_of(number: u32) -> Option<VlanId> {
 
 /// The two numbers of a text, with a colon between them.
 fn pair_of(text: &[u8]) -> Option<(u32, u32)> {
-    let (before, after) = split_at_colon(text)?;
+    let (before, after) = split_at(b':', text)?;
     let first = small_number(before)?;
     let second = small_number(after)?;
     Some((first, second))
@@ -62,14 +63,6 @@ fn pair_of(text: &[u8]) -> Option<(u32, u32)> {
 pub(crate) fn small_number(text: &[u8]) -> Option<u32> {
     match number_of(text) {
         Some(number) => number,
-        None => None,
-    }
-}
-
-/// What is before and after the first colon.
-fn split_at_colon(text: &[u8]) -> Option<(&[u8], &[u8])> {
-    match text.iter().position(|byte| *byte == b':') {
-        Some(at) => Some((&text[..at], &text[at + 1..])),
         None => None,
     }
 }

@@ -1,7 +1,8 @@
 use Rattle.std.proofs.Common.{rules}
-use Rattle.ether_stream.specs.Tags.{tag_word}
-use Rattle.ether_stream.proofs.TagsLemmas.{if_none, no_pair, none_then, some_then, is_push, is_set, no_push, no_set}
-use Rattle.ether_stream.proofs.tags.tag_edit_of.Goals as goal
+use Rattle.ether_stream.specs.VlanOptions.{tag_word}
+use Rattle.ether_format.proofs.ParsingLemmas.{if_none}
+use Rattle.ether_stream.proofs.VlanOptionLemmas.{no_pair, none_then, some_then, is_push, is_set, no_push, no_set}
+use Rattle.ether_stream.proofs.vlan_options.tag_edit_of.Goals as goal
 
 pub returns-in_err-first-clause-none : goal.returns-in_err-first-clause-none
 returns-in_err-first-clause-none c =

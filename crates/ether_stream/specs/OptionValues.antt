@@ -10,7 +10,7 @@ use Rattle.ether_format.specs.Columns.{AreColumns, columns_view}
 use Rattle.ether_format.specs.declared.columns.Columns.{Columns}
 use Rattle.ether_format.specs.declared.format.Format.{Format}
 use Rattle.ether_format.specs.declared.format.Format.TheVariants.{Json, Brief, Fields}
-use Rattle.ether_stream.specs.Tags.{IsTagEdit}
+use Rattle.ether_stream.specs.VlanOptions.{IsTagEdit}
 use Rattle.ether_stream.specs.declared.selection.Undecided.{Undecided}
 use Rattle.ether_stream.specs.declared.selection.Undecided.TheVariants.{Dropped, Kept}
 

@@ -1,7 +1,7 @@
 //! Words of a request.
 
 use crate::ether_stream::selection::Undecided;
-use crate::ether_stream::tags::{TagEdit, small_number, tag_edit_of};
+use crate::ether_stream::vlan_options::{TagEdit, small_number, tag_edit_of};
 use etherpeel::ether_content::PacketEdit;
 use etherpeel::ether_filter::{Filter, FilterError};
 use crate::ether_format::{Columns, Format};

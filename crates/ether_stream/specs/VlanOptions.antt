@@ -1,26 +1,17 @@
 -- The options that edit VLAN tags.
-use Rattle.std.specs.Prelude.{◌≡◌, ◌<◌, ◌==◌, ℕ, List, ◌∷◌, ◌++◌, codes, Some, true, false}
-use Rattle.std.specs.List.{All}
+use Rattle.std.specs.Prelude.{◌≡◌, ◌<◌, ℕ, List, codes, Some, true}
 use Rattle.ether_base.specs.Formats.Vlan.{is_vlan_ether_type}
 use Rattle.ether_filter.specs.Numerals.{number_in}
+use Rattle.ether_format.specs.Splits.{SplitsAt}
 use Rattle.ether_content.specs.Editing.{EditValue, PushVlan, SetVlan}
-use Rattle.ether_stream.specs.declared.tags.TagEdit.{TagEdit}
-use Rattle.ether_stream.specs.declared.tags.TagEdit.TheVariants as tag_edits
+use Rattle.ether_stream.specs.declared.vlan_options.TagEdit.{TagEdit}
+use Rattle.ether_stream.specs.declared.vlan_options.TagEdit.TheVariants as tag_edits
 
--- a text has no colon (58)
-abbrev pub HasNoColon : List ℕ → Type 0
-HasNoColon text = All (λ byte. (byte == 58) ≡ false) text
-
--- its first colon is between these
-pub record SplitsAtColon (text before after : List ℕ) : Type 0 where
-  pub no_colon : HasNoColon before
-  pub parts : text ≡ before ++ 58 ∷ after
-
--- two numbers, each written as in a filter, and a colon between them
+-- two numbers, each written as in a filter, and a colon (58) between them
 pub record IsPair (text : List ℕ) (m n : ℕ) : Type 0 where
   pub before : List ℕ
   pub after : List ℕ
-  pub split : SplitsAtColon text before after
+  pub split : SplitsAt 58 text before after
   pub first : number_in before ≡ Some (Some m)
   pub second : number_in after ≡ Some (Some n)
 
