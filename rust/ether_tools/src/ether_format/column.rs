@@ -55,99 +55,120 @@ impl Section {
     /// The names of its members.
     fn members(self) -> &'static [&'static str] {
         match self {
-            Section::Frame => &["number", "time", "link", "captured", "original"],
-            Section::Eth => &[
-                "header",
-                "start",
-                "end",
-                "payload_end",
-                "closed",
-                "dst",
-                "src",
-                "type",
-                "fcs",
-            ],
-            Section::Sll => &[
-                "header",
-                "start",
-                "end",
-                "payload_end",
-                "closed",
-                "packet_type",
-                "hw_type",
-                "addr_len",
-                "addr",
-                "protocol",
-            ],
-            Section::Sll2 => &[
-                "header",
-                "start",
-                "end",
-                "payload_end",
-                "closed",
-                "protocol",
-                "if_index",
-                "hw_type",
-                "packet_type",
-                "addr_len",
-                "addr",
-            ],
-            Section::Vlan => &[
-                "header",
-                "start",
-                "end",
-                "payload_end",
-                "closed",
-                "pcp",
-                "dei",
-                "vid",
-                "type",
-            ],
-            Section::Macsec => &[
-                "header",
-                "start",
-                "end",
-                "payload_end",
-                "closed",
-                "payload",
-                "es",
-                "scb",
-                "an",
-                "sl",
-                "pn",
-                "sci",
-                "type",
-            ],
-            Section::Arp => &[
-                "header",
-                "start",
-                "end",
-                "payload_end",
-                "closed",
-                "hrd",
-                "pro",
-                "hln",
-                "pln",
-                "op",
-                "sha",
-                "spa",
-                "tha",
-                "tpa",
-            ],
-            Section::Headers => &["header", "start", "end", "payload_end", "closed"],
-            Section::Rest => &["start", "end", "kind", "type"],
-            Section::Fault => &[
-                "start",
-                "closed",
-                "kind",
-                "required",
-                "available",
-                "source",
-                "value",
-            ],
+            Section::Frame => &FRAME,
+            Section::Eth => &ETH,
+            Section::Sll => &SLL,
+            Section::Sll2 => &SLL2,
+            Section::Vlan => &VLAN,
+            Section::Macsec => &MACSEC,
+            Section::Arp => &ARP,
+            Section::Headers => &HEADERS,
+            Section::Rest => &REST,
+            Section::Fault => &FAULT,
         }
     }
 }
+
+/// The names of the members of each section. A header has its name and its place first.
+static FRAME: [&str; 5] = ["number", "time", "link", "captured", "original"];
+
+static ETH: [&str; 9] = [
+    "header",
+    "start",
+    "end",
+    "payload_end",
+    "closed",
+    "dst",
+    "src",
+    "type",
+    "fcs",
+];
+
+static SLL: [&str; 10] = [
+    "header",
+    "start",
+    "end",
+    "payload_end",
+    "closed",
+    "packet_type",
+    "hw_type",
+    "addr_len",
+    "addr",
+    "protocol",
+];
+
+static SLL2: [&str; 11] = [
+    "header",
+    "start",
+    "end",
+    "payload_end",
+    "closed",
+    "protocol",
+    "if_index",
+    "hw_type",
+    "packet_type",
+    "addr_len",
+    "addr",
+];
+
+static VLAN: [&str; 9] = [
+    "header",
+    "start",
+    "end",
+    "payload_end",
+    "closed",
+    "pcp",
+    "dei",
+    "vid",
+    "type",
+];
+
+static MACSEC: [&str; 13] = [
+    "header",
+    "start",
+    "end",
+    "payload_end",
+    "closed",
+    "payload",
+    "es",
+    "scb",
+    "an",
+    "sl",
+    "pn",
+    "sci",
+    "type",
+];
+
+static ARP: [&str; 14] = [
+    "header",
+    "start",
+    "end",
+    "payload_end",
+    "closed",
+    "hrd",
+    "pro",
+    "hln",
+    "pln",
+    "op",
+    "sha",
+    "spa",
+    "tha",
+    "tpa",
+];
+
+static HEADERS: [&str; 5] = ["header", "start", "end", "payload_end", "closed"];
+
+static REST: [&str; 4] = ["start", "end", "kind", "type"];
+
+static FAULT: [&str; 7] = [
+    "start",
+    "closed",
+    "kind",
+    "required",
+    "available",
+    "source",
+    "value",
+];
 
 /// A column: a member of a section.
 #[derive(Clone, Copy, PartialEq, Eq, Debug)]
