@@ -19,7 +19,7 @@ _ether_capture() {
 
     case "${cmd}" in
         ether_capture)
-            opts="-c -r -w -h -V --plain --write --cut-to-headers --pop-vlan --progress --header --push-vlan --set-vlan --select --undecided --limit --format --fields --help --version [file]..."
+            opts="-c -r -w -h -V --plain --write --cut-to-headers --pop-vlan --progress --header --stats --push-vlan --set-vlan --select --undecided --limit --format --fields --help --version [file]..."
             if [[ ${cur} == -* || ${COMP_CWORD} -eq 1 ]] ; then
                 COMPREPLY=( $(compgen -W "${opts}" -- "${cur}") )
                 return 0

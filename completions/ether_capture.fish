@@ -14,5 +14,6 @@ complete -c ether_capture -l cut-to-headers -d 'cut each packet where its link-l
 complete -c ether_capture -l pop-vlan -d 'take the VLAN tag after the link\'s header off each frame'
 complete -c ether_capture -l progress -d 'show how many bytes are read'
 complete -c ether_capture -l header -d 'with --fields, print a line of the names first'
+complete -c ether_capture -l stats -d 'count packets and bytes by the values of columns'
 complete -c ether_capture -s h -l help -d 'Print help information'
 complete -c ether_capture -s V -l version -d 'Print version information'

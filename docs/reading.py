@@ -190,11 +190,12 @@ ORDER = {
         ether_stream: Run
         ether_format: Splits
         ether_stream: VlanOptions OptionValues
+        ether_format: Columns
         ether_capture: Options
         ether_pcap: Texts PcapngTexts CaptureTexts
         ether_filter: ErrorTexts
         ether_stream: Outcome
-        ether_capture: Copies Files Program
+        ether_capture: Copies Files KeyCounts RowFields Statistics Journal Program
     """,
     "Bridges": """
         ether_switch: Kinds VlanSets Arrivals Learning Relaying History Leaving Laws

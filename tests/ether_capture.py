@@ -22,10 +22,11 @@ from capture_copies import copied, copies, copies_of_copies, copies_that_fail, l
 from capture_files import several
 from capture_limits import limits
 from capture_streams import streams
+from counts import examples as counts
 from json_lines import examples
 from programs import count, on_a_full_disk, run, run_apart, run_until_a_fault, without_memory
 
-USAGE = ("usage: ether_capture [[--plain | --format lines|brief|json | --fields COLUMNS [--header]] [--limit N] | --write [-w COPY] [--cut-to-headers | --pop-vlan | --push-vlan TPID:ID | --set-vlan A:B]] "
+USAGE = ("usage: ether_capture [[--plain | --format lines|brief|json | --fields COLUMNS [--header] | --stats [--fields COLUMNS] [--format json]] [--limit N] | --write [-w COPY] [--cut-to-headers | --pop-vlan | --push-vlan TPID:ID | --set-vlan A:B]] "
          "[--select EXPR [--undecided keep|drop]] [-c N] [--progress] [-r FILE | FILE..]\n")
 
 
@@ -316,6 +317,15 @@ WRONG = [
     ("columns and JSON", ["--fields", "vlan.vid", "--format", "json"], CLASH),
     ("plain columns", ["--fields", "vlan.vid", "--plain"], CLASH),
     ("columns and a copy", ["--fields", "vlan.vid", "--write"], CLASH),
+    ("plain counts", ["--stats", "--plain"], CLASH),
+    ("counts with a line of names", ["--stats", "--header"], CLASH),
+    ("counts with a line of names of columns", ["--stats", "--fields", "vlan.vid", "--header"], CLASH),
+    ("counts for the eye", ["--stats", "--format", "brief"], CLASH),
+    ("counts and a copy", ["--stats", "--write"], CLASH),
+    ("counts and a copy to a file", ["--stats", "-w", "copy"], CLASH),
+    ("counts of 32 columns", ["--stats", "--fields", ",".join(["eth.src"] * 32)], CLASH),
+    ("counts of a column that is none", ["--stats", "--fields", "vlan.id"], FIELDS),
+    ("counts twice", ["--stats", "--stats"], OPTION),
     ("an option that is none", ["--plane"], OPTION),
     ("the beginning of an option", ["--pla"], OPTION),
     ("a letter that is none", ["-p"], OPTION),
@@ -432,7 +442,7 @@ def main():
     tried += several(program)
     tried += limits(program)
     tried += reasons(program)
-    tried += streams(program) + examples(program)
+    tried += streams(program) + examples(program) + counts(program)
     tried += copies(program)
     tried += copies_of_copies(program)
     tried += copies_that_fail(program)

@@ -17,6 +17,7 @@ import time
 from shutil import which
 
 from captures import TAGGED_V1, block, classic, cooked, joined
+from counts import counted_by_tshark
 from json_lines import readers
 from programs import count
 
@@ -161,7 +162,7 @@ def live(program):
 def main():
     program = os.path.realpath(sys.argv[1])
     tried = []
-    for needed, tests in (("tcpdump", snap_lengths), ("tshark", sections), ("tshark", cooked_headers), ("tshark", readers), ("dumpcap", live)):
+    for needed, tests in (("tcpdump", snap_lengths), ("tshark", sections), ("tshark", cooked_headers), ("tshark", readers), ("tshark", counted_by_tshark), ("dumpcap", live)):
         missing = [it for it in {needed, "tcpdump"} if not which(it)]
         if missing:
             print(f"left out: {tests.__name__.replace('_', ' ')}, since there is no {' and no '.join(missing)}")

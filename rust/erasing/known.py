@@ -76,10 +76,10 @@ PROGRAM_NAMES = {"ErrorKind", "Global", "NonZeroUsize", "Noted", "String", "Vec"
 PROGRAM_PATHS = set(
     """std::env std::error::Error std::fmt std::io std::io::ErrorKind std::io::Read std::io::Write std::num::NonZeroUsize
     NonZeroUsize::new env::Args io::Error
-    io::Result io::Write hex::decode_to_slice hex::encode_to_slice thiserror::Error u64::MAX""".split()
+    io::Result io::Sink io::Write io::sink hex::decode_to_slice hex::encode_to_slice thiserror::Error u64::MAX""".split()
 )
 PROGRAM_METHODS = set(
-    """as_bytes collect into_iter wrapping_add wrapping_mul flush iter_mut kind parse position read split_at starts_with write write_all""".split()
+    """as_bytes collect into_iter wrapping_add wrapping_mul flush iter_mut kind parse position read saturating_mul split_at starts_with write write_all""".split()
 )
 
 # What the programs among the examples use besides.

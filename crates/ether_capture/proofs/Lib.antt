@@ -1,2 +1,9 @@
 pub mod OptionsLemmas
 pub mod FilesLemmas
+pub mod CountTableLemmas
+pub mod KeyCountLemmas
+pub mod FieldLemmas
+pub mod CountRowLemmas
+pub mod RowsLemmas
+pub mod HeldRowsLemmas
+pub mod StatisticsLemmas

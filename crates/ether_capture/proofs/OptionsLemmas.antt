@@ -1,5 +1,5 @@
 -- What `clap` finds among the arguments.
-use Rattle.std.proofs.Common.{◌≡◌, List, [], true, Result, Ok, Err, IfOk, IfErr, IsErrAnd, inl, inr, refl, sym, ap, subst, ◌∙◌}
+use Rattle.std.proofs.Common.{◌≡◌, List, [], Bool, ◌||◌, true, false, Result, Ok, Err, IfOk, IfErr, IsErrAnd, inl, inr, refl, sym, ap, subst, ◌∙◌}
 use Rattle.clap.specs.Words.{App, FailsBy, HasKind, HasMatchesOf, IsAmong, Row, Text, fault_of, found_of, is_simple, is_simple_and_free, kind_of, matches_of, rows_of}
 use Rattle.clap.specs.declared.error.Error.{Error}
 use Rattle.clap.specs.declared.error.kind.ErrorKind.{ErrorKind}
@@ -125,3 +125,10 @@ module _ (words : List Text) (kind : ErrorKind) (e : Error) (fails : HasKind (fa
         no_help = no_help;
         no_version = no_version;
       }
+
+-- ---- options that clash
+
+pub any_last : (a b c : Bool) → c ≡ true → true ≡ (a || (b || c))
+any_last true b c e = refl
+any_last false true c e = refl
+any_last false false c e = sym e

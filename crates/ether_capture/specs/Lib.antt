@@ -3,3 +3,10 @@ pub mod Copies
 pub mod Options
 pub mod Program
 pub mod Files
+pub mod KeyCounts
+pub mod CountTable
+pub mod RowFields
+pub mod Tabulating
+pub mod Journal
+pub mod HeldRows
+pub mod Statistics

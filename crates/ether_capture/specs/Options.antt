@@ -1,5 +1,5 @@
 -- What the arguments ask for. `clap` defines which options words are, and which values these have.
-use Rattle.std.specs.Prelude.{◌≡◌, ◌≢◌, ◌⊎◌, ℕ, List, [], ◌∷◌, map, codes, Bool, true, false, if◌then◌else◌, ◌&&◌, ◌||◌, not, Option, Some, None, unwrap_or, ⊤}
+use Rattle.std.specs.Prelude.{◌≡◌, ◌≢◌, ◌⊎◌, ◌≤◌, ℕ, List, [], ◌∷◌, length, map, codes, Bool, true, false, if◌then◌else◌, ◌&&◌, ◌||◌, not, Option, Some, None, unwrap_or, ⊤}
 use Rattle.std.specs.Int.NonZero.{non_zero_usize_get}
 use Rattle.std.specs.Option.{option_and_then, option_map, option_map_or, is_some}
 use Rattle.std.specs.Str.{bytes_eq}
@@ -13,7 +13,8 @@ use Rattle.ether_filter.specs.declared.filter_error.FilterError.{FilterError}
 use Rattle.ether_content.specs.Editing.{EditValue}
 use Rattle.ether_content.specs.EditingViews.{edit_view}
 use Rattle.ether_format.specs.declared.format.Format.{Format}
-use Rattle.ether_format.specs.declared.format.Format.TheVariants.{Fields}
+use Rattle.ether_format.specs.declared.format.Format.TheVariants.{Brief, Fields, Json}
+use Rattle.ether_format.specs.Columns.{ColumnValue, columns_view, common_columns, original_column}
 use Rattle.ether_format.specs.declared.columns.Columns.{Columns}
 use Rattle.ether_stream.specs.OptionValues.{AreFields, IsCount, IsFormat, IsIfAny, IsLimit, IsOneEdit, IsSelection, MeansUndecided}
 use Rattle.ether_pcap.specs.CopiedUnits.{ModeValue, Exact, Changed}
@@ -24,6 +25,10 @@ use Rattle.ether_stream.specs.declared.option_values.Usage.{Usage}
 use Rattle.ether_stream.specs.declared.option_values.Usage.TheVariants as usages
 use Rattle.ether_stream.specs.Task.{TaskValue, FormValue, Lines, Copy, task_view}
 use Rattle.ether_capture.specs.declared.asked.Asked.{Asked}
+use Rattle.ether_capture.specs.declared.asked.Heading.{Heading}
+use Rattle.ether_capture.specs.declared.asked.Heading.TheVariants.{Absent, Line, Statistics}
+use Rattle.ether_capture.specs.declared.statistics_format.StatisticsFormat.{StatisticsFormat}
+use Rattle.ether_capture.specs.declared.statistics_format.StatisticsFormat.TheVariants as counts
 use Rattle.ether_capture.specs.declared.asked.Listing.{Listing}
 use Rattle.ether_stream.specs.declared.task.LineOptions.{LineOptions}
 use Rattle.ether_capture.specs.declared.asked.RequestError.{RequestError}
@@ -36,7 +41,7 @@ pub record ListingValue : Type 0 where
   pub select : Option Selection
   pub count : Option ℕ
   pub options : LineOptions
-  pub heading : Option Columns
+  pub heading : Heading
   pub files : List Text
 
 abbrev pub listing_view : Listing → ListingValue
@@ -48,10 +53,10 @@ listing_view l = record {
   files = map (λ s. s.now) l.files.items;
 }
 
--- this is made of the capture in the file of this name, or of standard input, and goes to the file of that name, or to standard output, after
--- a line of the names of columns, if that is asked for; or lines of several captures; the usage; the version
+-- this is made of the capture in the file of this name, or of standard input, and goes to the file of that name, or to standard output, with
+-- this heading; or lines of several captures; the usage; the version
 pub data RequestValue : Type 0 where
-  Run : TaskValue → (heading : Option Columns) → (input output : Option Text) → RequestValue
+  Run : TaskValue → (heading : Heading) → (input output : Option Text) → RequestValue
   Lists : ListingValue → RequestValue
   Help : RequestValue
   Version : RequestValue
@@ -62,6 +67,25 @@ request_view (requests.Run job) =
 request_view (requests.List listing) = Lists (listing_view listing)
 request_view requests.Help = Help
 request_view requests.Version = Version
+
+-- the columns whose names are written first
+abbrev pub columns_in : Heading → Option Columns
+columns_in Absent = None
+columns_in (Line columns) = Some columns
+columns_in (Statistics format columns) = Some columns
+
+-- how counts are written
+abbrev pub statistics_in : Heading → Option StatisticsFormat
+statistics_in (Statistics format columns) = Some format
+statistics_in heading = None
+
+abbrev pub heading_in : RequestValue → Heading
+heading_in (Run task heading input output) = heading
+heading_in (Lists l) = l.heading
+heading_in request = Absent
+
+abbrev pub statistics_asked : RequestValue → Option StatisticsFormat
+statistics_asked request = statistics_in (heading_in request)
 
 -- ---- the program's options
 
@@ -83,7 +107,7 @@ file_rule = record (new_rule (codes "file")) { action = Some Append }
 
 abbrev pub capture_rules : List Rule
 capture_rules = flag_rule (codes "plain") ∷ flag_rule (codes "write") ∷ flag_rule (codes "cut-to-headers") ∷ flag_rule (codes "pop-vlan")
-    ∷ flag_rule (codes "progress") ∷ flag_rule (codes "header")
+    ∷ flag_rule (codes "progress") ∷ flag_rule (codes "header") ∷ flag_rule (codes "stats")
     ∷ option_rule (codes "push-vlan") ∷ option_rule (codes "set-vlan") ∷ option_rule (codes "select") ∷ option_rule (codes "undecided")
     ∷ option_rule (codes "limit") ∷ option_rule (codes "format") ∷ option_rule (codes "fields")
     ∷ letter_rule (codes "count") 99 ∷ letter_rule (codes "read") 114 ∷ letter_rule (codes "output") 119
@@ -107,6 +131,8 @@ pub record AskedValue : Type 0 where
   pub format : Option Format
   pub fields : Option Columns
   pub header : Bool
+  pub stats : Bool
+  pub counted : Option Columns
   pub input : Option Text
   pub output : Option Text
   pub files : List Text
@@ -120,6 +146,17 @@ abbrev pub IsEdit : List Row → Option EditValue → Type 0
 IsEdit rows = IsOneEdit (is_set (codes "cut-to-headers") rows) (is_set (codes "pop-vlan") rows) (first_of (codes "push-vlan") rows)
     (first_of (codes "set-vlan") rows)
 
+-- the columns whose texts are counted, unless others are named
+abbrev pub named_or_common : Option Columns → List ColumnValue
+named_or_common None = common_columns
+named_or_common (Some columns) = columns_view columns
+
+-- .. after the length of the packet, if there are 32 at most
+abbrev pub AreCountedColumns : (stats : Bool) → (fields counted : Option Columns) → Type 0
+AreCountedColumns false fields counted = counted ≡ None
+AreCountedColumns true fields (Some columns) = columns_view columns ≡ original_column ∷ named_or_common fields
+AreCountedColumns true fields None = 32 ≤ length (named_or_common fields)
+
 -- what the values of options, by their names, ask for
 pub record Asks (rows : List Row) (a : AskedValue) : Type 0 where
   pub plain : a.plain ≡ is_set (codes "plain") rows
@@ -132,6 +169,8 @@ pub record Asks (rows : List Row) (a : AskedValue) : Type 0 where
   pub format : IsFormat (first_of (codes "format") rows) a.format
   pub fields : IsIfAny AreFields (first_of (codes "fields") rows) a.fields
   pub header : a.header ≡ is_set (codes "header") rows
+  pub stats : a.stats ≡ is_set (codes "stats") rows
+  pub counted : AreCountedColumns a.stats a.fields a.counted
   pub input : a.input ≡ first_of (codes "read") rows
   pub output : a.output ≡ first_of (codes "output") rows
   pub files : a.files ≡ unwrap_or (all_of (codes "file") rows) []
@@ -152,23 +191,52 @@ abbrev pub is_any : List Text → Bool
 is_any [] = false
 is_any (name ∷ names) = true
 
+-- the columns of rows, if these are asked for
+abbrev pub columns_asked : AskedValue → Option Columns
+columns_asked a = if a.stats then a.counted else a.fields
+
 -- the format that is asked for: columns are one, too
 abbrev pub format_asked : AskedValue → Option Format
-format_asked a = option_map_or (λ columns. Some (Fields columns)) a.fields a.format
+format_asked a = option_map_or (λ columns. Some (Fields columns)) (columns_asked a) a.format
 
--- the columns whose names are written first, if that is asked for
-abbrev pub heading_of : AskedValue → Option Columns
-heading_of a = if a.header then a.fields else None
+-- counts of the texts of columns, as lines of fields or of JSON
+abbrev pub statistics_of : (format : Option Format) → (columns : Option Columns) → Heading
+statistics_of (Some Json) (Some columns) = Statistics counts.Json columns
+statistics_of format (Some columns) = Statistics counts.Text columns
+statistics_of format None = Absent
 
--- an option is asked for that does not go with the others: no copy is plain, has a limit or a format, or is of several files; no packet is
--- edited without a copy; lines alone are plain; none is undecided without a filter; with `-r` no other file is named; names are those of
--- columns; and columns are no other format
+-- a line of their names
+abbrev pub line_of : (columns : Option Columns) → Heading
+line_of (Some columns) = Line columns
+line_of None = Absent
+
+-- what is made of columns
+abbrev pub heading_of : AskedValue → Heading
+heading_of a = if a.stats then statistics_of a.format a.counted else (if a.header then line_of a.fields else Absent)
+
+abbrev pub is_brief : Option Format → Bool
+is_brief (Some Brief) = true
+is_brief format = false
+
+-- names are those of columns, and columns are no other format; counts have no heading and are not brief
+abbrev pub clashes_in_columns : AskedValue → Bool
+clashes_in_columns a =
+    if a.stats then a.header || (not (is_some a.counted) || is_brief a.format)
+    else (a.header && not (is_some a.fields)) || (is_some a.format && is_some a.fields)
+
+-- no copy is plain, has a limit or a format, or is of several files; no packet is edited without a copy; lines alone are plain
+abbrev pub clashes_with_copy : AskedValue → Bool
+clashes_with_copy a =
+    if makes_copy a then a.plain || (is_some a.limit || (is_some (format_asked a) || are_several a.files))
+    else is_some a.edit || (a.plain && is_some (format_asked a))
+
+-- none is undecided without a filter; with `-r` no other file is named
+abbrev pub clashes_in_names : AskedValue → Bool
+clashes_in_names a = (is_some a.undecided && not (is_some a.text)) || (is_some a.input && is_any a.files)
+
+-- an option is asked for that does not go with the others
 abbrev pub clashes : AskedValue → Bool
-clashes a =
-    (if makes_copy a then a.plain || (is_some a.limit || (is_some (format_asked a) || are_several a.files))
-    else is_some a.edit || (a.plain && is_some (format_asked a)))
-    || ((is_some a.undecided && not (is_some a.text)) || ((is_some a.input && is_any a.files)
-    || ((a.header && not (is_some a.fields)) || (is_some a.format && is_some a.fields))))
+clashes a = clashes_with_copy a || (clashes_in_names a || clashes_in_columns a)
 
 -- which lines are asked for; no totals stand among those of another format
 abbrev pub options_of : AskedValue → LineOptions
@@ -290,6 +358,8 @@ asked_view asked = record {
   format = asked.format;
   fields = asked.fields;
   header = asked.has_header;
+  stats = asked.is_counted;
+  counted = asked.counted;
   input = option_map (λ s. s.now) asked.input;
   output = option_map (λ s. s.now) asked.output;
   files = map (λ s. s.now) asked.files.items;

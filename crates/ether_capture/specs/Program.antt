@@ -1,9 +1,9 @@
 -- What the program has read and written, and how it ends.
-use Rattle.std.specs.Prelude.{◌≡◌, ◌⊎◌, ℕ, List, [], Option, Some, None, Result, Ok, Err, IfNone, OnOk, Bool, true, false, map, String, string_bytes}
+use Rattle.std.specs.Prelude.{◌≡◌, ◌⊎◌, ℕ, List, [], Option, Some, None, Result, Ok, Err, IfNone, OnOk, Bool, true, false, ⊤, map, String, string_bytes}
 use Rattle.std.specs.Vec.Iter.{into_iter_items}
 use Rattle.std.specs.declared.vec.IntoIter.{IntoIter}
 use Rattle.std.specs.Io.KnownBytes.{Appends}
-use Rattle.ether_capture.specs.Options.{RequestValue, Run, Lists, Help, Version, NamesRequest, RefusesWords}
+use Rattle.ether_capture.specs.Options.{RequestValue, Run, Lists, Help, Version, NamesRequest, RefusesWords, columns_in, heading_in, statistics_asked}
 use Rattle.ether_capture.specs.declared.asked.RequestError.{RequestError}
 use Rattle.ether_capture.specs.declared.asked.RequestError.TheVariants as reasons
 use Rattle.ether_capture.specs.Copies.{HasRead, IsCopied}
@@ -16,6 +16,9 @@ use Rattle.ether_stream.specs.declared.write_fault.WriteFault.{WriteFault}
 use Rattle.ether_stream.specs.declared.outcome.Outcome.{Outcome}
 use Rattle.ether_stream.specs.declared.outcome.Outcome.TheVariants as outcomes
 use Rattle.ether_stream.specs.declared.outcome.RunFault.TheVariants.{Input, Output}
+use Rattle.ether_capture.specs.Journal.{known_if}
+use Rattle.ether_capture.specs.Statistics.{Shows}
+use Rattle.ether_capture.specs.declared.statistics_format.StatisticsFormat.{StatisticsFormat}
 use Rattle.ether_format.specs.Columns.{columns_view, heading_text}
 use Rattle.ether_format.specs.declared.columns.Columns.{Columns}
 
@@ -93,9 +96,7 @@ heading_if None = []
 heading_if (Some columns) = heading_text (columns_view columns)
 
 abbrev pub heading_asked : RequestValue → Option Columns
-heading_asked (Run task heading input output) = heading
-heading_asked (Lists l) = l.heading
-heading_asked request = None
+heading_asked request = columns_in (heading_in request)
 
 -- That line was written, and then what is asked for was done. Or the writer failed at the line, and nothing was read, told or copied.
 pub data HasHeaded (has : List ℕ → Option (List ℕ) → Type 0) (can_fail : Type 0) (can_refuse : OpenFault → Type 0)
@@ -108,6 +109,29 @@ pub data HasHeaded (has : List ℕ → Option (List ℕ) → Type 0) (can_fail :
       → HasHeaded has can_fail can_refuse can_read can_write can_tell can_keep can_copy request before after held holds told tells had gets
       (outcomes.Run (Err Output))
 
+-- What is asked for was done, but rows were not written: their texts were counted, as the journal knows them, and the counts were. Or memory
+-- for these was refused, or the writer has failed.
+pub record HasCountedTexts (has : List ℕ → Option (List ℕ) → Type 0) (can_fail : Type 0) (can_refuse : OpenFault → Type 0)
+    (can_read can_write can_tell : Type 0) (can_keep : WriteFault → Type 0) (can_copy : Type 0) (is_known : Bool) (format : StatisticsFormat)
+    (request : RequestValue) (before after held holds told tells : Option (List ℕ)) (had gets : List ℕ → Option (List ℕ)) (outcome : Outcome)
+    : Type 0 where
+  pub rows : Option (List ℕ)
+  pub end : Outcome
+  pub done : HasHeaded has can_fail can_refuse can_read ⊤ can_tell can_keep can_copy request before after (known_if is_known) rows told tells had
+      gets end
+  pub shown : ((outcome ≡ end) × Shows is_known rows format held holds)
+      ⊎ (((outcome ≡ outcomes.NoMemory) × (holds ≡ held)) ⊎ ((outcome ≡ outcomes.Run (Err Output)) × can_write))
+
+-- what is asked for was done
+abbrev pub HasDone : (has : List ℕ → Option (List ℕ) → Type 0) (can_fail : Type 0) (can_refuse : OpenFault → Type 0)
+    (can_read can_write can_tell : Type 0) (can_keep : WriteFault → Type 0) (can_copy : Type 0) (is_known : Bool)
+    → Option StatisticsFormat → RequestValue → (before after held holds told tells : Option (List ℕ)) → (had gets : List ℕ → Option (List ℕ))
+    → Outcome → Type 0
+HasDone has can_fail can_refuse can_read can_write can_tell can_keep can_copy is_known None =
+    HasHeaded has can_fail can_refuse can_read can_write can_tell can_keep can_copy
+HasDone has can_fail can_refuse can_read can_write can_tell can_keep can_copy is_known (Some format) =
+    HasCountedTexts has can_fail can_refuse can_read can_write can_tell can_keep can_copy is_known format
+
 -- how the program answers arguments that ask for nothing
 abbrev pub refusal_outcome : RequestError → Outcome
 refusal_outcome (reasons.Usage usage) = outcomes.Usage usage
@@ -117,18 +141,18 @@ refusal_outcome reasons.Memory = outcomes.NoMemory
 -- The arguments ask for something, and it was done. Or they are wrong, or can't be read, which is a fault of the input, or memory for them was
 -- refused: then nothing is read, written or told.
 pub data HasObeyed (has : List ℕ → Option (List ℕ) → Type 0) (can_fail : Type 0) (can_refuse : OpenFault → Type 0)
-    (can_read can_write can_tell : Type 0) (can_keep : WriteFault → Type 0) (can_copy : Type 0)
+    (can_read can_write can_tell : Type 0) (can_keep : WriteFault → Type 0) (can_copy : Type 0) (is_known : Bool)
     : Option (List (List ℕ)) → (before after held holds told tells : Option (List ℕ)) → (had gets : List ℕ → Option (List ℕ)) → Outcome → Type 0 where
   unread : (before held told : Option (List ℕ)) (had : List ℕ → Option (List ℕ))
-      → HasObeyed has can_fail can_refuse can_read can_write can_tell can_keep can_copy None before before held held told told had had
+      → HasObeyed has can_fail can_refuse can_read can_write can_tell can_keep can_copy is_known None before before held held told told had had
       (outcomes.Run (Err Input))
   refused : (words : List (List ℕ)) (e : RequestError) (before held told : Option (List ℕ)) (had : List ℕ → Option (List ℕ)) → RefusesWords words e
-      → HasObeyed has can_fail can_refuse can_read can_write can_tell can_keep can_copy (Some words) before before held held told told had had
+      → HasObeyed has can_fail can_refuse can_read can_write can_tell can_keep can_copy is_known (Some words) before before held held told told had had
       (refusal_outcome e)
   done : (words : List (List ℕ)) (request : RequestValue) (before after held holds told tells : Option (List ℕ))
       (had gets : List ℕ → Option (List ℕ)) (outcome : Outcome) → NamesRequest words request
-      → HasHeaded has can_fail can_refuse can_read can_write can_tell can_keep can_copy request before after held holds told tells had gets outcome
-      → HasObeyed has can_fail can_refuse can_read can_write can_tell can_keep can_copy (Some words) before after held holds told tells had gets
+      → HasDone has can_fail can_refuse can_read can_write can_tell can_keep can_copy is_known (statistics_asked request) request before after held holds told tells had gets outcome
+      → HasObeyed has can_fail can_refuse can_read can_write can_tell can_keep can_copy is_known (Some words) before after held holds told tells had gets
       outcome
 
 -- if no stream has failed
@@ -151,16 +175,16 @@ PrintsApart can_write can_tell true outcome held holds told tells printed = Prin
 
 -- The program has done what the words ask for, has printed the last line, and ends with the status of its outcome. has relates names to the
 -- bytes of their captures; the others hold if reading standard input, opening a capture, reading it, writing, telling a message, making a file of
--- a copy, or writing the copy fails. The writer of messages told this, and tells that; files had these bytes, by their names, and get those.
+-- a copy, or writing the copy fails; and is_known says whether the journal of counted rows is known. The writer of messages told this, and tells that; files had these bytes, by their names, and get those.
 pub record HasServed (has : List ℕ → Option (List ℕ) → Type 0) (can_fail : Type 0) (can_refuse : OpenFault → Type 0)
-    (can_read can_write can_tell : Type 0) (can_keep : WriteFault → Type 0) (can_copy : Type 0)
+    (can_read can_write can_tell : Type 0) (can_keep : WriteFault → Type 0) (can_copy : Type 0) (is_known : Bool)
     (words : Option (List (List ℕ)))
     (before after held holds told tells : Option (List ℕ)) (had gets : List ℕ → Option (List ℕ)) (status : ℕ) : Type 0 where
   pub outcome : Outcome
   pub printed : Bool
   pub mid : Option (List ℕ)
   pub between : Option (List ℕ)
-  pub obeyed : HasObeyed has can_fail can_refuse can_read can_write can_tell can_keep can_copy words before after held mid told between had gets
+  pub obeyed : HasObeyed has can_fail can_refuse can_read can_write can_tell can_keep can_copy is_known words before after held mid told between had gets
       outcome
   pub ended : PrintsApart can_write can_tell (is_message outcome) outcome mid holds between tells printed
   pub is_status : status ≡ status_of_program outcome printed

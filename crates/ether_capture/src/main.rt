@@ -10,14 +10,21 @@ pub mod captures;
 pub mod copies;
 pub mod copy_files;
 pub mod copy_run;
+pub mod count;
+pub mod count_table;
 pub mod files;
 pub mod heap_memory;
+pub mod heap_text;
 pub mod interface_buffer;
+pub mod journal;
 pub mod meter;
 pub mod opening;
 pub mod options;
 pub mod program;
+pub mod rows;
 pub mod run_input;
+pub mod statistics;
+pub mod statistics_format;
 
 use copy_files::CopyFiles;
 use ether_text::{Noted, tell_failure};
@@ -33,7 +40,7 @@ fn main(rt: HostRuntime) -> ExitCode {
     let gauge = Gauge::new(&rt, rt.stderr());
     let mut input = Noted::new(Meter::new(rt.reader(), None, &gauge));
     let mut output = Noted::new(io::writer(&rt));
-    let status = program::program(
+    let status = program::program::<io::Sink, _, _, _, _, _>(
         args,
         rt.alloc(),
         &CaptureFiles::new(&rt, &gauge),

@@ -6,7 +6,7 @@ ghost use Rattle.ether_content.specs.Editing.{EditValue};
 ghost use Rattle.ether_content.specs.EditingViews.{edit_view};
 ghost use Rattle.ether_capture.specs.Options.{Asks, IsEdit, KindNames, NamesRequest, RefusesKind, RefusesRows, RefusesWords, asked_view, capture_app, file_rule, flag_rule, is_set, letter_rule, option_rule, request_view};
 
-use crate::asked::{Asked, Request, RequestError};
+use crate::asked::{Asked, Request, RequestError, counted_of};
 use clap::error::ErrorKind;
 use clap::{Arg, ArgAction, ArgMatches, Command};
 use ether_content::PacketEdit;
@@ -64,6 +64,7 @@ fn command<'a>(alloc: Global) -> Result<Command<'a>, AllocError>
         .arg(flag(alloc, "pop-vlan"))?
         .arg(flag(alloc, "progress"))?
         .arg(flag(alloc, "header"))?
+        .arg(flag(alloc, "stats"))?
         .arg(option(alloc, "push-vlan"))?
         .arg(option(alloc, "set-vlan"))?
         .arg(option(alloc, "select"))?
@@ -80,9 +81,9 @@ fn command<'a>(alloc: Global) -> Result<Command<'a>, AllocError>
 
 /// What the program's arguments ask for. The first of them is its own name.
 ///
-/// Options go before, between and after the names of files: `--plain`, `--limit` with a number of headers, `--format` with `lines`, `brief` or `json`, and `--fields` with
-/// the names of columns, with it `--header`; or `--write`, or `-w` with the name
-/// of the copy, and with it one of `--cut-to-headers`, `--pop-vlan`, `--push-vlan` with a tag and `--set-vlan` with two identifiers; `--select`
+/// Options go before, between and after the names of files: `--plain`, `--limit` with a number of headers, `--format` with `lines`, `brief` or
+/// `json`, and `--fields` with the names of columns, with it `--header`, and `--stats`; or `--write`, or `-w` with the name of the copy, and
+/// with it one of `--cut-to-headers`, `--pop-vlan`, `--push-vlan` with a tag and `--set-vlan` with two identifiers; `--select`
 /// with the text of a filter, and with it `--undecided` with `keep` or `drop`; `-c` with a number of packets; `-r` with the name of the only
 /// file; and `--progress`. `--help` and `--version` need no others.
 pub fn request_of_words<'a>(words: &'a [String], alloc: Global) -> Result<Request<'a>, RequestError>
@@ -120,6 +121,7 @@ impl<'a> Asked<'a> {
         let limit = limit_of(text_of(matches, "limit"))?;
         let format = format_of(text_of(matches, "format"))?;
         let fields = fields_of(text_of(matches, "fields"))?;
+        let is_counted = is_set(matches, "stats");
         let undecided = undecided_of(text_of(matches, "undecided"))?;
         let files = names_of(matches, alloc)?;
         Ok(Asked {
@@ -127,6 +129,7 @@ impl<'a> Asked<'a> {
             is_write: is_set(matches, "write"),
             is_shown: is_set(matches, "progress"),
             has_header: is_set(matches, "header"),
+            is_counted,
             edit,
             text: text_of(matches, "select"),
             undecided,
@@ -134,6 +137,7 @@ impl<'a> Asked<'a> {
             limit,
             format,
             fields,
+            counted: counted_of(is_counted, &fields),
             input: text_of(matches, "read"),
             output: text_of(matches, "output"),
             files,

@@ -2,8 +2,9 @@
 ghost use Rattle.std.specs.Prelude.{◌≡◌, ◌≢◌, ◌⊎◌, Bool, true, false, IfErr, Some, map, string_bytes};
 ghost use Rattle.std.specs.Option.{option_map};
 ghost use Rattle.ether_stream.specs.Outcome.{is_message, status_of_program};
-ghost use Rattle.ether_capture.specs.Program.{HasObeyed, HasRunFile, HasRunJob, HasServed, IfGone, heading_if, PrintsApart, PrintsLast, arguments_of};
+ghost use Rattle.ether_capture.specs.Program.{HasCountedTexts, HasHeaded, HasObeyed, HasRunFile, HasRunJob, HasServed, IfGone, heading_if, PrintsApart, PrintsLast, arguments_of};
 ghost use Rattle.ether_capture.specs.Files.{Settles};
+ghost use Rattle.ether_capture.specs.Options.{request_view};
 ghost use Rattle.std.specs.Io.KnownBytes.{Appends};
 ghost use Rattle.ether_format.specs.declared.columns.Columns.{Columns as ColumnsValue};
 ghost use Rattle.std.specs.Prelude.{OnErr, OnOk};
@@ -14,8 +15,11 @@ use crate::captures::Captures;
 use crate::copies::Copies;
 use crate::copy_run::{copy_file, copy_input};
 use crate::files::run_files;
+use crate::journal::Journal;
 use crate::options::request_of_words;
 use crate::run_input::run_input;
+use crate::statistics::Statistics;
+use crate::statistics_format::StatisticsFormat;
 use ether_format::Columns;
 use ether_stream::{LineSink, Outcome, RunFault, Task, is_message, last_line, program_status};
 use ether_text::{OutputBuffer, OutputFault, Sink, Source};
@@ -28,7 +32,7 @@ use std::{env, io};
 /// Why something was not read goes to `messages`, as all last lines do, so that `writer` has the lines or the copy alone; but the usage and the
 /// version, if they are asked for, go to `writer`. If the arguments are wrong or can't be read, nothing is read. The latter is a fault of the
 /// input.
-pub fn program<C: Captures, K: Copies, R: Source, W: LineSink, M: LineSink>(
+pub fn program<J: Journal + Drop, C: Captures, K: Copies, R: Source, W: LineSink, M: LineSink>(
     args: io::Result<env::Args>,
     alloc: Global,
     captures: &C,
@@ -38,7 +42,7 @@ pub fn program<C: Captures, K: Copies, R: Source, W: LineSink, M: LineSink>(
     messages: &mut M,
 ) -> u8
     ensures served { HasServed (C.has captures.now) R.can_fail C.can_refuse C.Input.Source.can_fail W.Sink.can_fail M.Sink.can_fail
-        K.can_refuse K.Part.Sink.can_fail (arguments_of args) (R.remaining reader.old) (R.remaining reader.new)
+        K.can_refuse K.Part.Sink.can_fail J.is_known (arguments_of args) (R.remaining reader.old) (R.remaining reader.new)
         (W.Sink.contents writer.old) (W.Sink.contents writer.new) (M.Sink.contents messages.old) (M.Sink.contents messages.new)
         (K.file copies.old) (K.file copies.new) result }
     ensures flushed { result ≢ 4 → Settles W.Sink.is_flushed writer.old writer.new }
@@ -50,7 +54,7 @@ pub fn program<C: Captures, K: Copies, R: Source, W: LineSink, M: LineSink>(
     let Ok(words) = args.collect::<Vec<String>>(alloc) else {
         return end(&Outcome::NoMemory, writer, messages);
     };
-    let outcome = obey(
+    let outcome = obey::<J, C, K, R, W, M>(
         words.as_slice(),
         alloc,
         captures,
@@ -63,8 +67,8 @@ pub fn program<C: Captures, K: Copies, R: Source, W: LineSink, M: LineSink>(
     end(&outcome, writer, messages)
 }
 
-/// Writes the lines of a capture, or a copy of it, as the arguments say.
-fn obey<'a, C: Captures, K: Copies, R: Source, W: Sink, M: LineSink>(
+/// Does what the arguments say.
+fn obey<'a, J: Journal + Drop, C: Captures, K: Copies, R: Source, W: Sink, M: LineSink>(
     words: &'a [String],
     alloc: Global,
     captures: &C,
@@ -74,26 +78,90 @@ fn obey<'a, C: Captures, K: Copies, R: Source, W: Sink, M: LineSink>(
     messages: &mut M,
 ) -> Outcome<'a>
     ensures obeyed { HasObeyed (C.has captures.now) R.can_fail C.can_refuse C.Input.Source.can_fail W.can_fail M.Sink.can_fail
-        K.can_refuse K.Part.Sink.can_fail (Some (map string_bytes words.now)) (R.remaining reader.old) (R.remaining reader.new)
+        K.can_refuse K.Part.Sink.can_fail J.is_known (Some (map string_bytes words.now)) (R.remaining reader.old) (R.remaining reader.new)
         (W.contents writer.old) (W.contents writer.new) (M.Sink.contents messages.old) (M.Sink.contents messages.new)
         (K.file copies.old) (K.file copies.new) result }
     ensures flushed { IfGone result (Settles W.is_flushed writer.old writer.new) }
     ensures told { Settles M.Sink.is_flushed messages.old messages.new ⊎ M.Sink.can_fail }
 {
     match request_of_words(words, alloc) {
-        Ok(Request::Run(job)) => match write_heading(&job.heading, writer) {
-            Ok(()) => run_job(&job, alloc, captures, copies, reader, writer),
-            Err(OutputFault) => Outcome::Run(Err(RunFault::Output)),
+        Ok(request) => match request.statistics() {
+            None => answer(request, alloc, captures, copies, reader, writer, messages),
+            Some(format) => count::<J, C, K, R, W, M>(
+                request, format, alloc, captures, copies, reader, writer, messages,
+            ),
         },
-        Ok(Request::List(listing)) => match write_heading(&listing.heading, writer) {
-            Ok(()) => Outcome::Files(run_files(listing, alloc, captures, writer, messages)),
-            Err(OutputFault) => Outcome::Run(Err(RunFault::Output)),
-        },
-        Ok(Request::Help) => Outcome::Help,
-        Ok(Request::Version) => Outcome::Version,
         Err(RequestError::Usage(usage)) => Outcome::Usage(usage),
         Err(RequestError::Memory) => Outcome::NoMemory,
         Err(RequestError::Filter(error)) => Outcome::NoFilter(error),
+    }
+}
+
+/// Counts the texts of columns, and writes the counts.
+fn count<'a, J: Journal + Drop, C: Captures, K: Copies, R: Source, W: Sink, M: LineSink>(
+    request: Request<'a>,
+    format: StatisticsFormat,
+    alloc: Global,
+    captures: &C,
+    copies: &mut K,
+    reader: &mut R,
+    writer: &mut W,
+    messages: &mut M,
+) -> Outcome<'a>
+    ensures counted { HasCountedTexts (C.has captures.now) R.can_fail C.can_refuse C.Input.Source.can_fail W.can_fail M.Sink.can_fail
+        K.can_refuse K.Part.Sink.can_fail J.is_known format (request_view request.entry) (R.remaining reader.old) (R.remaining reader.new)
+        (W.contents writer.old) (W.contents writer.new) (M.Sink.contents messages.old) (M.Sink.contents messages.new)
+        (K.file copies.old) (K.file copies.new) result }
+    ensures flushed { IfGone result (Settles W.is_flushed writer.old writer.new) }
+    ensures told { Settles M.Sink.is_flushed messages.old messages.new ⊎ M.Sink.can_fail }
+{
+    let mut counts = Statistics::<J>::new(alloc);
+    let outcome = answer(
+        request,
+        alloc,
+        captures,
+        copies,
+        reader,
+        &mut counts,
+        messages,
+    );
+    if counts.has_failed() {
+        return Outcome::NoMemory;
+    }
+    match counts.write(format, writer) {
+        Ok(()) => outcome,
+        Err(OutputFault) => Outcome::Run(Err(RunFault::Output)),
+    }
+}
+
+/// Writes the lines of a capture, or a copy of it, as a request says.
+fn answer<'a, C: Captures, K: Copies, R: Source, W: Sink, M: LineSink>(
+    request: Request<'a>,
+    alloc: Global,
+    captures: &C,
+    copies: &mut K,
+    reader: &mut R,
+    writer: &mut W,
+    messages: &mut M,
+) -> Outcome<'a>
+    ensures done { HasHeaded (C.has captures.now) R.can_fail C.can_refuse C.Input.Source.can_fail W.can_fail M.Sink.can_fail
+        K.can_refuse K.Part.Sink.can_fail (request_view request.entry) (R.remaining reader.old) (R.remaining reader.new)
+        (W.contents writer.old) (W.contents writer.new) (M.Sink.contents messages.old) (M.Sink.contents messages.new)
+        (K.file copies.old) (K.file copies.new) result }
+    ensures flushed { IfGone result (Settles W.is_flushed writer.old writer.new) }
+    ensures told { Settles M.Sink.is_flushed messages.old messages.new ⊎ M.Sink.can_fail }
+{
+    match request {
+        Request::Run(job) => match write_heading(&job.heading.columns(), writer) {
+            Ok(()) => run_job(&job, alloc, captures, copies, reader, writer),
+            Err(OutputFault) => Outcome::Run(Err(RunFault::Output)),
+        },
+        Request::List(listing) => match write_heading(&listing.heading.columns(), writer) {
+            Ok(()) => Outcome::Files(run_files(listing, alloc, captures, writer, messages)),
+            Err(OutputFault) => Outcome::Run(Err(RunFault::Output)),
+        },
+        Request::Help => Outcome::Help,
+        Request::Version => Outcome::Version,
     }
 }
 

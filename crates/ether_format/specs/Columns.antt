@@ -111,6 +111,18 @@ pub record AreColumns (text : List ℕ) (columns : List ColumnValue) : Type 0 wh
   pub known : All IsColumn columns
   pub most : length columns ≤ 32
 
+-- the length that a packet had (snap lengths aside)
+abbrev pub original_column : ColumnValue
+original_column = record { section = codes "frame"; member = codes "original" }
+
+-- what a summary counts unless columns are named
+abbrev pub common_columns : List ColumnValue
+common_columns =
+    record { section = codes "headers"; member = codes "header" } ∷ record { section = codes "vlan"; member = codes "vid" }
+    ∷ record { section = codes "eth"; member = codes "type" } ∷ record { section = codes "vlan"; member = codes "type" }
+    ∷ record { section = codes "rest"; member = codes "type" } ∷ record { section = codes "fault"; member = codes "kind" }
+    ∷ record { section = codes "arp"; member = codes "sha" } ∷ record { section = codes "arp"; member = codes "spa" } ∷ []
+
 -- ---- columns as they are declared
 
 abbrev pub column_view : DeclaredColumn → ColumnValue

@@ -4,14 +4,50 @@ ghost use Rattle.std.specs.List.{flat_map};
 ghost use Rattle.std.specs.Option.{option_map};
 ghost use Rattle.ether_text.specs.OutputBuffer.{Takes};
 ghost use Rattle.ether_format.specs.Splits.{SplitsWord};
-ghost use Rattle.ether_format.specs.Columns.{AreColumns, ColumnValue, column_name, column_view, columns_view, heading_text};
+ghost use Rattle.ether_format.specs.Columns.{AreColumns, ColumnValue, column_name, column_view, columns_view, common_columns, heading_text, original_column};
 
-use crate::column::Column;
+use crate::column::{Column, Section};
 use crate::split::split_at;
 use ether_text::{OutputBuffer, Sink};
 
 /// How many columns there may be after the first.
 const MOST_OTHERS: usize = 31;
+
+/// `headers.header`, `vlan.vid`, `eth.type`, `vlan.type`, `rest.type`, `fault.kind`, `arp.sha` and `arp.spa`.
+static COMMON: [Column; 8] = [
+    Column {
+        section: Section::Headers,
+        index: 0,
+    },
+    Column {
+        section: Section::Vlan,
+        index: 7,
+    },
+    Column {
+        section: Section::Eth,
+        index: 7,
+    },
+    Column {
+        section: Section::Vlan,
+        index: 8,
+    },
+    Column {
+        section: Section::Rest,
+        index: 3,
+    },
+    Column {
+        section: Section::Fault,
+        index: 2,
+    },
+    Column {
+        section: Section::Arp,
+        index: 10,
+    },
+    Column {
+        section: Section::Arp,
+        index: 11,
+    },
+];
 
 /// The columns of a row, one at least and 32 at most.
 ///
@@ -40,6 +76,41 @@ impl Columns {
             let (word, after) = first_word(text);
             columns.push(Column::of_name(word)?)?;
             rest = after;
+        }
+        Some(columns)
+    }
+
+    /// What a summary counts unless columns are named: the headers of a packet, its VLAN identifiers, its ether types, what is wrong with it,
+    /// and the senders of ARP.
+    pub fn common() -> Columns
+        ensures { columns_view result ≡ common_columns }
+    {
+        let mut others = [COMMON[1]; MOST_OTHERS];
+        others[1] = COMMON[2];
+        others[2] = COMMON[3];
+        others[3] = COMMON[4];
+        others[4] = COMMON[5];
+        others[5] = COMMON[6];
+        others[6] = COMMON[7];
+        Columns {
+            first: COMMON[0],
+            others,
+            count: 7,
+        }
+    }
+
+    /// The length of the packet, `frame.original`, and these columns after it; `None` if there are 32 already.
+    pub fn after_original(&self) -> Option<Columns>
+        ensures some { IfSome result (λ it. columns_view it ≡ original_column ∷ columns_view self.now) }
+        ensures none { IfNone result (32 ≤ length (columns_view self.now)) }
+    {
+        let mut columns = Columns::of_one(Column {
+            section: Section::Frame,
+            index: 4,
+        });
+        columns.push(self.first)?;
+        for column in self.others() {
+            columns.push(*column)?;
         }
         Some(columns)
     }

@@ -83,7 +83,7 @@ not_edited_text offset =
     codes "byte " ++ (decimal offset ++ (codes ": " ++ codes "This packet can't be written: its block has no number of captured bytes, or it would be too long."))
 
 abbrev pub help_text : List ℕ
-help_text = codes "usage: ether_capture [[--plain | --format lines|brief|json | --fields COLUMNS [--header]] [--limit N] | --write [-w COPY] [--cut-to-headers | --pop-vlan | --push-vlan TPID:ID | --set-vlan A:B]] [--select EXPR [--undecided keep|drop]] [-c N] [--progress] [-r FILE | FILE..]\n\nPrints the link-layer headers of each packet of captures, pcap or pcapng: of each FILE, or of standard input, which a FILE of - also names. What can't be read or written is said on standard error.\n\n  -r FILE           read FILE, as if it was named alone\n  --progress        show on standard error how many bytes are read, and how fast\n\nWhich packets:\n  --select EXPR     only packets that match EXPR, as 'vlan 5 or arp'\n  --undecided keep|drop\n                    with --select, keep or drop packets that were cut too short to tell, in place of taking them as they are\n  -c N              end with the N-th of these packets, of all files together\n\nLines:\n  --plain           leave out the lines of packets and the totals\n  --limit N         read N VLAN tags and SecTags of each packet at most\n  --format lines|brief|json\n                    print lines as ever; or each packet on a line of its own, for the eye or as an object of JSON, without totals\n  --fields COLUMNS  print the values of COLUMNS, as frame.number,vlan.vid,eth.src, with tabs; more than one value with commas\n  --header          with --fields, print a line of the names first\n\nCopies:\n  --write           write the capture itself to standard output, of one FILE at most, without the other packets\n  -w COPY           write it to the file COPY, which changes only once all is written; without --write, too\n  --cut-to-headers  with --write, cut each packet where its link-layer headers end\n  --pop-vlan        with --write, take the VLAN tag after the link's header off each frame\n  --push-vlan TPID:ID\n                    with --write, put a VLAN tag after the link's header, as 0x8100:5\n  --set-vlan A:B    with --write, give the outermost VLAN tag with identifier A identifier B\n\n  -h, --help        print this text\n  -V, --version     print the version\n\nEXPR has these primitives, with not, and, or and parentheses:\n\n  vlan [ID], outer vlan ID, inner vlan ID, macsec, arp, ip, ip6\n  ether proto TYPE, ether src ADDR, ether dst ADDR, ether host ADDR\n  ether broadcast, ether multicast, less N, greater N, cut, refused\n\nEach says something of all headers of a packet: unlike in pcap-filter(7), arp is true after any tags, too.\n\nA column is a member of the objects that --format json prints: of the packet (frame), of its headers (eth, vlan, macsec, arp, sll, sll2, or headers for the place of each), or of its end (rest, fault). ether-capture(1) lists them.\n\nExamples:\n\n  ether_capture --select 'vlan 5 or arp' f.pcap\n  ether_capture --fields frame.time,vlan.vid,eth.src --header f.pcap\n  tcpdump -U --immediate-mode -w - | ether_capture\n  ether_capture -r f.pcap -w tagged.pcap --push-vlan 0x8100:5"
+help_text = codes "usage: ether_capture [[--plain | --format lines|brief|json | --fields COLUMNS [--header] | --stats [--fields COLUMNS] [--format json]] [--limit N] | --write [-w COPY] [--cut-to-headers | --pop-vlan | --push-vlan TPID:ID | --set-vlan A:B]] [--select EXPR [--undecided keep|drop]] [-c N] [--progress] [-r FILE | FILE..]\n\nPrints the link-layer headers of each packet of captures, pcap or pcapng: of each FILE, or of standard input, which a FILE of - also names. What can't be read or written is said on standard error.\n\n  -r FILE           read FILE, as if it was named alone\n  --progress        show on standard error how many bytes are read, and how fast\n\nWhich packets:\n  --select EXPR     only packets that match EXPR, as 'vlan 5 or arp'\n  --undecided keep|drop\n                    with --select, keep or drop packets that were cut too short to tell, in place of taking them as they are\n  -c N              end with the N-th of these packets, of all files together\n\nLines:\n  --plain           leave out the lines of packets and the totals\n  --limit N         read N VLAN tags and SecTags of each packet at most\n  --format lines|brief|json\n                    print lines as ever; or each packet on a line of its own, for the eye or as an object of JSON, without totals\n  --fields COLUMNS  print the values of COLUMNS, as frame.number,vlan.vid,eth.src, with tabs; more than one value with commas\n  --header          with --fields, print a line of the names first\n  --stats           count packets and bytes by the values of COLUMNS, or without --fields of headers, VLANs, types, faults and ARP senders\n\nCopies:\n  --write           write the capture itself to standard output, of one FILE at most, without the other packets\n  -w COPY           write it to the file COPY, which changes only once all is written; without --write, too\n  --cut-to-headers  with --write, cut each packet where its link-layer headers end\n  --pop-vlan        with --write, take the VLAN tag after the link's header off each frame\n  --push-vlan TPID:ID\n                    with --write, put a VLAN tag after the link's header, as 0x8100:5\n  --set-vlan A:B    with --write, give the outermost VLAN tag with identifier A identifier B\n\n  -h, --help        print this text\n  -V, --version     print the version\n\nEXPR has these primitives, with not, and, or and parentheses:\n\n  vlan [ID], outer vlan ID, inner vlan ID, macsec, arp, ip, ip6\n  ether proto TYPE, ether src ADDR, ether dst ADDR, ether host ADDR\n  ether broadcast, ether multicast, less N, greater N, cut, refused\n\nEach says something of all headers of a packet: unlike in pcap-filter(7), arp is true after any tags, too.\n\nA column is a member of the objects that --format json prints: of the packet (frame), of its headers (eth, vlan, macsec, arp, sll, sll2, or headers for the place of each), or of its end (rest, fault). ether-capture(1) lists them.\n\nExamples:\n\n  ether_capture --select 'vlan 5 or arp' f.pcap\n  ether_capture --fields frame.time,vlan.vid,eth.src --header f.pcap\n  tcpdump -U --immediate-mode -w - | ether_capture\n  ether_capture -r f.pcap -w tagged.pcap --push-vlan 0x8100:5"
 
 abbrev pub version_text : List ℕ
 version_text = codes "ether_capture 3.0.0"

@@ -18,7 +18,15 @@ fn main() -> io::Result<ExitCode> {
     let mut input = Noted::new(Meter::new(input()?, None, &gauge));
     let mut output = Noted::new(output()?);
     let captures = CaptureFiles { gauge: &gauge };
-    let status = program(args, Global, &captures, &mut CopyFiles, &mut input, &mut output, &mut io::stderr());
+    let status = program::<io::Sink, _, _, _, _, _>(
+        args,
+        Global,
+        &captures,
+        &mut CopyFiles,
+        &mut input,
+        &mut output,
+        &mut io::stderr(),
+    );
     let (input, output) = (input.error(), output.error());
     let is_stream = unread.is_some() || input.is_some() || output.is_some();
     if status == 4 && is_stream {

@@ -1,5 +1,6 @@
 //! What the options together ask for.
 
+use crate::ether_capture::statistics_format::StatisticsFormat;
 use etherpeel::ether_content::PacketEdit;
 use etherpeel::ether_filter::{Filter, FilterError};
 use crate::ether_format::{Columns, Format};
@@ -37,6 +38,17 @@ pub enum Request<'a> {
     Version,
 }
 
+/// What is made of columns.
+#[derive(Clone, Copy, Debug)]
+pub enum Heading {
+    /// Rows, if columns are asked for.
+    Absent,
+    /// A line of their names, and then rows.
+    Line(Columns),
+    /// Counts of the texts in the rows, whose first column is the length of the packet.
+    Statistics(StatisticsFormat, Columns),
+}
+
 /// What is made of one capture.
 #[derive(Debug)]
 pub struct Job<'a> {
@@ -46,8 +58,8 @@ pub struct Job<'a> {
     pub input: Option<&'a str>,
     /// The name of the copy's file, unless what is made goes to standard output.
     pub output: Option<&'a str>,
-    /// The columns whose names are written first, if a line of them is asked for.
-    pub heading: Option<Columns>,
+    /// What is made of columns.
+    pub heading: Heading,
     /// Whether is shown how far it is read.
     pub is_shown: bool,
 }
@@ -63,8 +75,8 @@ pub struct Listing<'a> {
     pub options: LineOptions,
     /// The names of their files, two at least.
     pub files: Vec<&'a str>,
-    /// The columns whose names are written first, if a line of them is asked for.
-    pub heading: Option<Columns>,
+    /// What is made of columns.
+    pub heading: Heading,
     /// Whether is shown how far they are read.
     pub is_shown: bool,
 }
@@ -75,6 +87,7 @@ pub(crate) struct Asked<'a> {
     pub(crate) is_write: bool,
     pub(crate) is_shown: bool,
     pub(crate) has_header: bool,
+    pub(crate) is_counted: bool,
     pub(crate) edit: Option<PacketEdit>,
     pub(crate) text: Option<&'a str>,
     pub(crate) undecided: Option<Undecided>,
@@ -82,6 +95,8 @@ pub(crate) struct Asked<'a> {
     pub(crate) limit: Option<usize>,
     pub(crate) format: Option<Format>,
     pub(crate) fields: Option<Columns>,
+    /// The columns whose texts are counted, if that is asked for and there is room.
+    pub(crate) counted: Option<Columns>,
     pub(crate) input: Option<&'a str>,
     pub(crate) output: Option<&'a str>,
     pub(crate) files: Vec<&'a str>,
@@ -106,10 +121,7 @@ impl<'a> Asked<'a> {
         if self.input.is_some() && !self.files.is_empty() {
             return true;
         }
-        if self.has_header && self.fields.is_none() {
-            return true;
-        }
-        if self.format.is_some() && self.fields.is_some() {
+        if self.clashes_in_columns() {
             return true;
         }
         if self.is_copy() {
@@ -119,22 +131,49 @@ impl<'a> Asked<'a> {
         }
     }
 
+    /// Tests that there is an option of columns that does not go with the others.
+    fn clashes_in_columns(&self) -> bool {
+        if self.is_counted {
+            return self.has_header || self.counted.is_none() || self.is_brief();
+        }
+        self.has_header && self.fields.is_none() || self.format.is_some() && self.fields.is_some()
+    }
+
+    /// Tests that lines for the eye are asked for.
+    fn is_brief(&self) -> bool {
+        matches!(self.format, Some(Format::Brief))
+    }
+
     /// Tests that another format than lines is asked for.
     fn has_format(&self) -> bool {
-        self.format.is_some() || self.fields.is_some()
+        self.format.is_some() || self.columns().is_some()
+    }
+
+    /// The columns of rows, if these are asked for.
+    fn columns(&self) -> Option<Columns> {
+        if self.is_counted {
+            return self.counted;
+        }
+        self.fields
     }
 
     /// The format that is asked for, if it is another than lines.
     fn format(&self) -> Option<Format> {
-        match self.fields {
+        match self.columns() {
             Some(columns) => Some(Format::Fields(columns)),
             None => self.format,
         }
     }
 
-    /// The columns whose names are written first, if a line of them is asked for.
-    fn heading(&self) -> Option<Columns> {
-        if self.has_header { self.fields } else { None }
+    /// What is made of columns.
+    fn heading(&self) -> Heading {
+        if self.is_counted {
+            return statistics_of(&self.format, &self.counted);
+        }
+        if self.has_header {
+            return line_of(&self.fields);
+        }
+        Heading::Absent
     }
 
     /// What all options together ask for.
@@ -232,6 +271,65 @@ impl<'a> Asked<'a> {
             format: self.format(),
             limit: self.limit,
             before: None,
+        }
+    }
+}
+
+/// Counts of the texts of columns, in a format.
+fn statistics_of(format: &Option<Format>, columns: &Option<Columns>) -> Heading {
+    match (columns, format) {
+        (Some(columns), Some(Format::Json)) => {
+            Heading::Statistics(StatisticsFormat::Json, *columns)
+        }
+        (Some(columns), _) => Heading::Statistics(StatisticsFormat::Text, *columns),
+        (None, _) => Heading::Absent,
+    }
+}
+
+/// A line of the names of columns.
+fn line_of(columns: &Option<Columns>) -> Heading {
+    match columns {
+        Some(columns) => Heading::Line(*columns),
+        None => Heading::Absent,
+    }
+}
+
+/// The columns whose texts are counted: the length of the packet, and then these, or common ones.
+pub(crate) fn counted_of(is_counted: bool, fields: &Option<Columns>) -> Option<Columns> {
+    if !is_counted {
+        return None;
+    }
+    match fields {
+        Some(columns) => columns.after_original(),
+        None => Columns::common().after_original(),
+    }
+}
+
+impl Heading {
+    /// The columns whose names are written first, if a line of them is.
+    pub(crate) fn columns(&self) -> Option<Columns> {
+        match self {
+            Heading::Absent => None,
+            Heading::Line(columns) | Heading::Statistics(_, columns) => Some(*columns),
+        }
+    }
+
+    /// How counts are written, if they are asked for.
+    pub(crate) fn statistics(&self) -> Option<StatisticsFormat> {
+        match self {
+            Heading::Statistics(format, _) => Some(*format),
+            Heading::Absent | Heading::Line(_) => None,
+        }
+    }
+}
+
+impl Request<'_> {
+    /// How counts are written, if they are asked for.
+    pub(crate) fn statistics(&self) -> Option<StatisticsFormat> {
+        match self {
+            Request::Run(job) => job.heading.statistics(),
+            Request::List(listing) => listing.heading.statistics(),
+            Request::Help | Request::Version => None,
         }
     }
 }

@@ -1,18 +1,19 @@
 //! What the arguments ask for, by their words, which `clap` reads. Written by hand, not proved.
-use crate::ether_capture::asked::{Asked, Request, RequestError};
+use crate::ether_capture::asked::{Asked, Request, RequestError, counted_of};
 use crate::ether_stream::{Usage, count_of, edit_of_words, fields_of, format_of, limit_of, undecided_of};
 use crate::ether_capture::memory::Global;
 use clap::error::ErrorKind;
 use clap::{Arg, ArgAction, ArgMatches, Command, ValueHint};
 
 /// Options without a value, and what the completions of shells say of them.
-const FLAGS: [(&str, &str); 6] = [
+const FLAGS: [(&str, &str); 7] = [
     ("plain", "leave out the lines of packets and the totals"),
     ("write", "write the capture itself"),
     ("cut-to-headers", "cut each packet where its link-layer headers end"),
     ("pop-vlan", "take the VLAN tag after the link's header off each frame"),
     ("progress", "show how many bytes are read"),
     ("header", "with --fields, print a line of the names first"),
+    ("stats", "count packets and bytes by the values of columns"),
 ];
 
 /// Options with a value.
@@ -58,18 +59,22 @@ pub fn request_of_words(words: &[String], _alloc: Global) -> Result<Request<'_>,
 fn asked<'a>(matches: &ArgMatches, words: &'a [String]) -> Result<Asked<'a>, Usage> {
     let (cuts, pops) = (matches.get_flag("cut-to-headers"), matches.get_flag("pop-vlan"));
     let (push, set) = (text_of(matches, words, "push-vlan"), text_of(matches, words, "set-vlan"));
+    let is_counted = matches.get_flag("stats");
+    let fields = fields_of(text_of(matches, words, "fields"))?;
     Ok(Asked {
         is_plain: matches.get_flag("plain"),
         is_write: matches.get_flag("write"),
         is_shown: matches.get_flag("progress"),
         has_header: matches.get_flag("header"),
+        is_counted,
         edit: edit_of_words(cuts, pops, push, set)?,
         text: text_of(matches, words, "select"),
         undecided: undecided_of(text_of(matches, words, "undecided"))?,
         count: count_of(text_of(matches, words, "count"))?,
         limit: limit_of(text_of(matches, words, "limit"))?,
         format: format_of(text_of(matches, words, "format"))?,
-        fields: fields_of(text_of(matches, words, "fields"))?,
+        fields,
+        counted: counted_of(is_counted, &fields),
         input: text_of(matches, words, "read"),
         output: text_of(matches, words, "output"),
         files: texts_of(matches, words, "file"),

@@ -5,8 +5,11 @@ use crate::ether_capture::captures::Captures;
 use crate::ether_capture::copies::Copies;
 use crate::ether_capture::copy_run::{copy_file, copy_input};
 use crate::ether_capture::files::run_files;
+use crate::ether_capture::journal::Journal;
 use crate::ether_capture::options::request_of_words;
 use crate::ether_capture::run_input::run_input;
+use crate::ether_capture::statistics::Statistics;
+use crate::ether_capture::statistics_format::StatisticsFormat;
 use crate::ether_format::Columns;
 use crate::ether_stream::{LineSink, Outcome, RunFault, Task, is_message, last_line, program_status};
 use crate::ether_text::{OutputBuffer, OutputFault, Sink, Source};
@@ -24,7 +27,7 @@ use std::{env, io};
 ///
 /// ```text
 /// ensures served { HasServed (C.has captures.now) R.can_fail C.can_refuse C.Input.Source.can_fail W.Sink.can_fail M.Sink.can_fail
-///     K.can_refuse K.Part.Sink.can_fail (arguments_of args) (R.remaining reader.old) (R.remaining reader.new)
+///     K.can_refuse K.Part.Sink.can_fail J.is_known (arguments_of args) (R.remaining reader.old) (R.remaining reader.new)
 ///     (W.Sink.contents writer.old) (W.Sink.contents writer.new) (M.Sink.contents messages.old) (M.Sink.contents messages.new)
 ///     (K.file copies.old) (K.file copies.new) result }
 /// ensures flushed { result ≢ 4 → Settles W.Sink.is_flushed writer.old writer.new }
@@ -32,7 +35,7 @@ use std::{env, io};
 /// ```
 ///
 /// </details>
-pub fn program<C: Captures, K: Copies, R: Source, W: LineSink, M: LineSink>(
+pub fn program<J: Journal, C: Captures, K: Copies, R: Source, W: LineSink, M: LineSink>(
     args: io::Result<env::Args>,
     alloc: Global,
     captures: &C,
@@ -47,7 +50,7 @@ pub fn program<C: Captures, K: Copies, R: Source, W: LineSink, M: LineSink>(
     let Ok(words) = Ok::<Vec<String>, crate::ether_capture::memory::NoMemory>(args.collect()) else {
         return end(&Outcome::NoMemory, writer, messages);
     };
-    let outcome = obey(
+    let outcome = obey::<J, C, K, R, W, M>(
         words.as_slice(),
         alloc,
         captures,
@@ -60,8 +63,8 @@ pub fn program<C: Captures, K: Copies, R: Source, W: LineSink, M: LineSink>(
     end(&outcome, writer, messages)
 }
 
-/// Writes the lines of a capture, or a copy of it, as the arguments say.
-fn obey<'a, C: Captures, K: Copies, R: Source, W: Sink, M: LineSink>(
+/// Does what the arguments say.
+fn obey<'a, J: Journal, C: Captures, K: Copies, R: Source, W: Sink, M: LineSink>(
     words: &'a [String],
     alloc: Global,
     captures: &C,
@@ -71,19 +74,69 @@ fn obey<'a, C: Captures, K: Copies, R: Source, W: Sink, M: LineSink>(
     messages: &mut M,
 ) -> Outcome<'a> {
     match request_of_words(words, alloc) {
-        Ok(Request::Run(job)) => match write_heading(&job.heading, writer) {
-            Ok(()) => run_job(&job, alloc, captures, copies, reader, writer),
-            Err(OutputFault) => Outcome::Run(Err(RunFault::Output)),
+        Ok(request) => match request.statistics() {
+            None => answer(request, alloc, captures, copies, reader, writer, messages),
+            Some(format) => count::<J, C, K, R, W, M>(
+                request, format, alloc, captures, copies, reader, writer, messages,
+            ),
         },
-        Ok(Request::List(listing)) => match write_heading(&listing.heading, writer) {
-            Ok(()) => Outcome::Files(run_files(listing, alloc, captures, writer, messages)),
-            Err(OutputFault) => Outcome::Run(Err(RunFault::Output)),
-        },
-        Ok(Request::Help) => Outcome::Help,
-        Ok(Request::Version) => Outcome::Version,
         Err(RequestError::Usage(usage)) => Outcome::Usage(usage),
         Err(RequestError::Memory) => Outcome::NoMemory,
         Err(RequestError::Filter(error)) => Outcome::NoFilter(error),
+    }
+}
+
+/// Counts the texts of columns, and writes the counts.
+fn count<'a, J: Journal, C: Captures, K: Copies, R: Source, W: Sink, M: LineSink>(
+    request: Request<'a>,
+    format: StatisticsFormat,
+    alloc: Global,
+    captures: &C,
+    copies: &mut K,
+    reader: &mut R,
+    writer: &mut W,
+    messages: &mut M,
+) -> Outcome<'a> {
+    let mut counts = Statistics::<J>::new(alloc);
+    let outcome = answer(
+        request,
+        alloc,
+        captures,
+        copies,
+        reader,
+        &mut counts,
+        messages,
+    );
+    if counts.has_failed() {
+        return Outcome::NoMemory;
+    }
+    match counts.write(format, writer) {
+        Ok(()) => outcome,
+        Err(OutputFault) => Outcome::Run(Err(RunFault::Output)),
+    }
+}
+
+/// Writes the lines of a capture, or a copy of it, as a request says.
+fn answer<'a, C: Captures, K: Copies, R: Source, W: Sink, M: LineSink>(
+    request: Request<'a>,
+    alloc: Global,
+    captures: &C,
+    copies: &mut K,
+    reader: &mut R,
+    writer: &mut W,
+    messages: &mut M,
+) -> Outcome<'a> {
+    match request {
+        Request::Run(job) => match write_heading(&job.heading.columns(), writer) {
+            Ok(()) => run_job(&job, alloc, captures, copies, reader, writer),
+            Err(OutputFault) => Outcome::Run(Err(RunFault::Output)),
+        },
+        Request::List(listing) => match write_heading(&listing.heading.columns(), writer) {
+            Ok(()) => Outcome::Files(run_files(listing, alloc, captures, writer, messages)),
+            Err(OutputFault) => Outcome::Run(Err(RunFault::Output)),
+        },
+        Request::Help => Outcome::Help,
+        Request::Version => Outcome::Version,
     }
 }
 

@@ -1,11 +1,47 @@
 //! The columns of a row.
 
-use crate::ether_format::column::Column;
+use crate::ether_format::column::{Column, Section};
 use crate::ether_format::split::split_at;
 use crate::ether_text::{OutputBuffer, Sink};
 
 /// How many columns there may be after the first.
 const MOST_OTHERS: usize = 31;
+
+/// `headers.header`, `vlan.vid`, `eth.type`, `vlan.type`, `rest.type`, `fault.kind`, `arp.sha` and `arp.spa`.
+static COMMON: [Column; 8] = [
+    Column {
+        section: Section::Headers,
+        index: 0,
+    },
+    Column {
+        section: Section::Vlan,
+        index: 7,
+    },
+    Column {
+        section: Section::Eth,
+        index: 7,
+    },
+    Column {
+        section: Section::Vlan,
+        index: 8,
+    },
+    Column {
+        section: Section::Rest,
+        index: 3,
+    },
+    Column {
+        section: Section::Fault,
+        index: 2,
+    },
+    Column {
+        section: Section::Arp,
+        index: 10,
+    },
+    Column {
+        section: Section::Arp,
+        index: 11,
+    },
+];
 
 /// The columns of a row, one at least and 32 at most.
 ///
@@ -40,6 +76,53 @@ impl Columns {
             let (word, after) = first_word(text);
             columns.push(Column::of_name(word)?)?;
             rest = after;
+        }
+        Some(columns)
+    }
+
+    /// What a summary counts unless columns are named: the headers of a packet, its VLAN identifiers, its ether types, what is wrong with it,
+    /// and the senders of ARP.
+    ///
+    /// <details><summary>Contract</summary>
+    ///
+    /// ```text
+    /// ensures { columns_view result ≡ common_columns }
+    /// ```
+    ///
+    /// </details>
+    pub fn common() -> Columns {
+        let mut others = [COMMON[1]; MOST_OTHERS];
+        others[1] = COMMON[2];
+        others[2] = COMMON[3];
+        others[3] = COMMON[4];
+        others[4] = COMMON[5];
+        others[5] = COMMON[6];
+        others[6] = COMMON[7];
+        Columns {
+            first: COMMON[0],
+            others,
+            count: 7,
+        }
+    }
+
+    /// The length of the packet, `frame.original`, and these columns after it; `None` if there are 32 already.
+    ///
+    /// <details><summary>Contract</summary>
+    ///
+    /// ```text
+    /// ensures some { IfSome result (λ it. columns_view it ≡ original_column ∷ columns_view self.now) }
+    /// ensures none { IfNone result (32 ≤ length (columns_view self.now)) }
+    /// ```
+    ///
+    /// </details>
+    pub fn after_original(&self) -> Option<Columns> {
+        let mut columns = Columns::of_one(Column {
+            section: Section::Frame,
+            index: 4,
+        });
+        columns.push(self.first)?;
+        for column in self.others() {
+            columns.push(*column)?;
         }
         Some(columns)
     }

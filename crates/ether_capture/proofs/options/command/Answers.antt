@@ -15,14 +15,15 @@ returns c =
     let s4 = c.in_ok-arg-4.ensures.shape c.flag-4.ensures.1 ∙ ap₂ with_rule s3 c.flag-4.ensures.0 in
     let s5 = c.in_ok-arg-5.ensures.shape c.flag-5.ensures.1 ∙ ap₂ with_rule s4 c.flag-5.ensures.0 in
     let s6 = c.in_ok-arg-6.ensures.shape c.flag-6.ensures.1 ∙ ap₂ with_rule s5 c.flag-6.ensures.0 in
-    let s7 = c.in_ok-arg-7.ensures.shape c.option.ensures.1 ∙ ap₂ with_rule s6 c.option.ensures.0 in
-    let s8 = c.in_ok-arg-8.ensures.shape c.option-2.ensures.1 ∙ ap₂ with_rule s7 c.option-2.ensures.0 in
-    let s9 = c.in_ok-arg-9.ensures.shape c.option-3.ensures.1 ∙ ap₂ with_rule s8 c.option-3.ensures.0 in
-    let s10 = c.in_ok-arg-10.ensures.shape c.option-4.ensures.1 ∙ ap₂ with_rule s9 c.option-4.ensures.0 in
-    let s11 = c.in_ok-arg-11.ensures.shape c.option-5.ensures.1 ∙ ap₂ with_rule s10 c.option-5.ensures.0 in
-    let s12 = c.in_ok-arg-12.ensures.shape c.option-6.ensures.1 ∙ ap₂ with_rule s11 c.option-6.ensures.0 in
-    let s13 = c.in_ok-arg-13.ensures.shape c.option-7.ensures.1 ∙ ap₂ with_rule s12 c.option-7.ensures.0 in
-    let s14 = c.in_ok-arg-14.ensures.shape c.letter.ensures.1 ∙ ap₂ with_rule s13 c.letter.ensures.0 in
-    let s15 = c.in_ok-arg-15.ensures.shape c.letter-2.ensures.1 ∙ ap₂ with_rule s14 c.letter-2.ensures.0 in
-    let s16 = c.in_ok-arg-16.ensures.shape c.letter-3.ensures.1 ∙ ap₂ with_rule s15 c.letter-3.ensures.0 in
-    c.in_ok-command.ensures.shape c.files.ensures.1 ∙ ap₂ with_rule s16 c.files.ensures.0
+    let s7 = c.in_ok-arg-7.ensures.shape c.flag-7.ensures.1 ∙ ap₂ with_rule s6 c.flag-7.ensures.0 in
+    let s8 = c.in_ok-arg-8.ensures.shape c.option.ensures.1 ∙ ap₂ with_rule s7 c.option.ensures.0 in
+    let s9 = c.in_ok-arg-9.ensures.shape c.option-2.ensures.1 ∙ ap₂ with_rule s8 c.option-2.ensures.0 in
+    let s10 = c.in_ok-arg-10.ensures.shape c.option-3.ensures.1 ∙ ap₂ with_rule s9 c.option-3.ensures.0 in
+    let s11 = c.in_ok-arg-11.ensures.shape c.option-4.ensures.1 ∙ ap₂ with_rule s10 c.option-4.ensures.0 in
+    let s12 = c.in_ok-arg-12.ensures.shape c.option-5.ensures.1 ∙ ap₂ with_rule s11 c.option-5.ensures.0 in
+    let s13 = c.in_ok-arg-13.ensures.shape c.option-6.ensures.1 ∙ ap₂ with_rule s12 c.option-6.ensures.0 in
+    let s14 = c.in_ok-arg-14.ensures.shape c.option-7.ensures.1 ∙ ap₂ with_rule s13 c.option-7.ensures.0 in
+    let s15 = c.in_ok-arg-15.ensures.shape c.letter.ensures.1 ∙ ap₂ with_rule s14 c.letter.ensures.0 in
+    let s16 = c.in_ok-arg-16.ensures.shape c.letter-2.ensures.1 ∙ ap₂ with_rule s15 c.letter-2.ensures.0 in
+    let s17 = c.in_ok-arg-17.ensures.shape c.letter-3.ensures.1 ∙ ap₂ with_rule s16 c.letter-3.ensures.0 in
+    c.in_ok-command.ensures.shape c.files.ensures.1 ∙ ap₂ with_rule s17 c.files.ensures.0

@@ -52,7 +52,7 @@ returns-clause-served g c =
           (λ (it : List (List ℕ)).
           HasObeyed (g.C.Captures.has c.args.captures.now) g.R.Source.can_fail g.C.Captures.can_refuse
           g.C.Input.Source.can_fail g.W.Sink.can_fail g.M.Sink.can_fail g.K.Copies.can_refuse g.K.Part.Sink.can_fail
-          (Some it)
+          g.J.Journal.is_known (Some it)
           (g.R.Source.remaining c.args.reader.now) (g.R.Source.remaining c.obey-outcome.new.reader)
           (g.W.Sink.contents c.args.writer.now) (g.W.Sink.contents c.obey-outcome.new.writer)
           (g.M.Sink.contents c.args.messages.now) (g.M.Sink.contents c.obey-outcome.new.messages)

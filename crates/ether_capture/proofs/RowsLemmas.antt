@@ -1,0 +1,74 @@
+-- Lines that are taken one after the other.
+use Rattle.std.proofs.Common.{◌≡◌, ℕ, List, [], ◌∷◌, ◌++◌, true, false, sym, ap, subst, ◌∙◌, append_assoc, append-nil}
+use Rattle.std.specs.Prelude.{◌==◌}
+use Rattle.std.specs.List.{All, flat_map}
+use Rattle.std.proofs.lemmas.Grind.{flat_map-append}
+use Rattle.ether_capture.specs.declared.rows.Rows.{Rows}
+use Rattle.ether_capture.specs.KeyCounts.{CountHits, Hit}
+use Rattle.ether_capture.specs.CountTable.{count_at}
+use Rattle.ether_capture.specs.RowFields.{last_piece, lines_hits, lines_of, row_hits}
+use Rattle.ether_format.specs.Splits.{SplitsAt}
+use Rattle.ether_capture.specs.Tabulating.{HasHeading, TabulatesLines, Tabulates}
+use Rattle.ether_capture.proofs.FieldLemmas.{last_after, last_none, pieces_after, pieces_none}
+
+-- the first line
+pub first_line : (lines : List (List ℕ)) (line : List ℕ) (old new : Rows) → old.has_heading ≡ false
+    → TabulatesLines lines old → new.has_heading ≡ true → new.heading.bytes.items ≡ old.heading.bytes.items ++ line
+    → new.counts ≡ old.counts → TabulatesLines (lines ++ line ∷ []) new
+first_line [] line old new none so_far is heading counts = (
+  (is, heading ∙ ap (λ (l : List ℕ). l ++ line) so_far.0.1),
+  subst (λ t. CountHits [] (count_at t)) (sym counts) so_far.1,
+)
+first_line (h ∷ hs) line old new none so_far is heading counts = let e : true ≡ false = sym so_far.0.0 ∙ none in absurd cc
+
+-- a row
+pub next_row : (lines : List (List ℕ)) (line : List ℕ) (old new : Rows) → old.has_heading ≡ true
+    → TabulatesLines lines old → new.has_heading ≡ old.has_heading → new.heading ≡ old.heading
+    → ((hits : List Hit) → CountHits hits (count_at old.counts)
+    → CountHits (hits ++ row_hits old.heading.bytes.items line) (count_at new.counts))
+    → TabulatesLines (lines ++ line ∷ []) new
+next_row [] line old new some so_far is heading counts = let e : true ≡ false = sym some ∙ so_far.0.0 in absurd cc
+next_row (h ∷ hs) line old new some so_far is heading counts = (
+  (is ∙ some, ap (λ t. t.bytes.items) heading ∙ so_far.0.1),
+  subst (λ l. CountHits l (count_at new.counts))
+      ((λ i. lines_hits (h ∷ hs) ++ row_hits (so_far.0.1 i) line)
+      ∙ ap (λ l. flat_map (row_hits h) hs ++ l) (sym (append-nil (row_hits h line)))
+      ∙ sym (flat_map-append (row_hits h) hs (line ∷ [])))
+      (counts (lines_hits (h ∷ hs)) so_far.1),
+)
+
+has_same : (l : List (List ℕ)) (old new : Rows) → new.has_heading ≡ old.has_heading → new.heading ≡ old.heading → HasHeading l old → HasHeading l new
+has_same [] old new is heading (a, b) = (is ∙ a, ap (λ t. t.bytes.items) heading ∙ b)
+has_same (h ∷ hs) old new is heading (a, b) = (is ∙ a, ap (λ t. t.bytes.items) heading ∙ b)
+
+-- the line goes on
+pub line_goes_on : (text bytes : List ℕ) (old new : Rows) → All (λ b. (b == 10) ≡ false) bytes
+    → Tabulates text old → new.has_heading ≡ old.has_heading → new.heading ≡ old.heading
+    → new.counts ≡ old.counts → new.line.bytes.items ≡ old.line.bytes.items ++ bytes → Tabulates (text ++ bytes) new
+line_goes_on text bytes old new none so_far is heading counts line =
+    let lines : lines_of (text ++ bytes) ≡ lines_of text =
+    pieces_after 10 [] text bytes ∙ ap (λ l. lines_of text ++ l) (pieces_none 10 (last_piece 10 [] text) bytes none)
+    ∙ append-nil (lines_of text) in (
+      subst (λ l. TabulatesLines l new) (sym lines)
+          (has_same (lines_of text) old new is heading so_far.0.0, subst (λ t. CountHits (lines_hits (lines_of text)) (count_at t)) (sym counts) so_far.0.1),
+      line ∙ ap (λ l. l ++ bytes) so_far.1 ∙ sym (last_after 10 [] text bytes ∙ last_none 10 (last_piece 10 [] text) bytes none),
+    )
+
+-- the line ends
+pub line_ends : (text : List ℕ) (old mid new : Rows) → Tabulates text old → TabulatesLines (lines_of text ++ old.line.bytes.items ∷ []) mid
+    → new.has_heading ≡ mid.has_heading → new.heading ≡ mid.heading → new.counts ≡ mid.counts
+    → new.line.bytes.items ≡ [] → Tabulates (text ++ 10 ∷ []) new
+line_ends text old mid new so_far taken is heading counts line = (
+  subst (λ l. TabulatesLines l new)
+      (ap (λ l. lines_of text ++ l ∷ []) so_far.1 ∙ sym (pieces_after 10 [] text (10 ∷ []))) (
+        has_same (lines_of text ++ old.line.bytes.items ∷ []) mid new is heading taken.0,
+        subst (λ t. CountHits (lines_hits (lines_of text ++ old.line.bytes.items ∷ [])) (count_at t)) (sym counts) taken.1,
+      ),
+  line ∙ sym (last_after 10 [] text (10 ∷ [])),
+)
+
+-- one line of a text was taken, and the rest is left
+pub next_part : (bytes done rest before after : List ℕ) → bytes ≡ done ++ rest → SplitsAt 10 rest before after
+    → bytes ≡ (done ++ (before ++ 10 ∷ [])) ++ after
+next_part bytes done rest before after e is =
+    e ∙ ap (λ l. done ++ l) (is.parts ∙ sym (append_assoc before (10 ∷ []) after)) ∙ sym (append_assoc done (before ++ 10 ∷ []) after)

@@ -1,0 +1,7 @@
+use Rattle.std.proofs.Common.{refl}
+use Rattle.ether_capture.proofs.RowsLemmas.{line_goes_on}
+use Rattle.ether_capture.proofs.rows.Rows.extend_line.Goals as goal
+
+pub returns : goal.returns
+returns c text so_far none =
+    line_goes_on text c.args.bytes.now c.args.self.now _ none so_far refl refl refl c.in_ok-append.ensures

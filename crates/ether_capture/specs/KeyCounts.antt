@@ -1,0 +1,34 @@
+-- The summary of rows: how many packets have each text of each column, and how many bytes these had.
+use Rattle.std.specs.Prelude.{◌≡◌, ℕ, ◌+◌, List, [], ◌∷◌, length, filter, Option, Some, None, if◌then◌else◌}
+use Rattle.std.specs.Str.{bytes_eq}
+use Rattle.std.specs.List.{sum_by}
+use Rattle.ether_stream.specs.Packets.{counted}
+use Rattle.ether_capture.specs.declared.count.Count.{Count}
+
+-- ---- what is counted
+
+-- a packet of so many bytes has a key
+pub record Hit : Type 0 where
+  pub key : List ℕ
+  pub bytes : ℕ
+
+-- with one packet more
+abbrev pub plus : Option Count → ℕ → Count
+plus None bytes = record { packets = 1; bytes = bytes }
+plus (Some c) bytes = record { packets = counted (c.packets + 1); bytes = counted (c.bytes + bytes) }
+
+abbrev pub AddsHit : (key : List ℕ) → (bytes : ℕ) → (old new : List ℕ → Option Count) → Type 0
+AddsHit key bytes old new = (q : List ℕ) → new q ≡ (if bytes_eq key q then Some (plus (old q) bytes) else old q)
+
+-- so many packets
+abbrev pub sum_of : List Hit → Option Count
+sum_of [] = None
+sum_of (h ∷ hs) = Some (record { packets = counted (length (h ∷ hs)); bytes = counted (sum_by (λ k. k.bytes) (h ∷ hs)) })
+
+-- those with a key
+abbrev pub count_of : List Hit → (key : List ℕ) → Option Count
+count_of hits key = sum_of (filter (λ h. bytes_eq h.key key) hits)
+
+-- the packets of these have the counts of a table
+abbrev pub CountHits : List Hit → (table : List ℕ → Option Count) → Type 0
+CountHits hits table = (key : List ℕ) → table key ≡ count_of hits key

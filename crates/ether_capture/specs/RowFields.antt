@@ -1,0 +1,72 @@
+-- Lines of fields, the first of which names columns.
+use Rattle.std.specs.Prelude.{◌==◌, ℕ, ◌+◌, ◌-◌, ◌*◌, List, [], ◌∷◌, ◌++◌, codes, map, Option, Some, None, if◌then◌else◌}
+use Rattle.std.specs.List.{flat_map}
+use Rattle.ether_capture.specs.KeyCounts.{Hit}
+use Rattle.ether_stream.specs.Packets.{counted}
+
+-- ---- lines and fields
+
+-- the pieces of a text that a byte ends, each without it; some bytes come before the text
+abbrev pub pieces : (byte : ℕ) → (before text : List ℕ) → List (List ℕ)
+pieces byte before [] = []
+pieces byte before (b ∷ bs) = if b == byte then before ∷ pieces byte [] bs else pieces byte (before ++ b ∷ []) bs
+
+-- what follows the last of them
+abbrev pub last_piece : (byte : ℕ) → (before text : List ℕ) → List ℕ
+last_piece byte before [] = before
+last_piece byte before (b ∷ bs) = if b == byte then last_piece byte [] bs else last_piece byte (before ++ b ∷ []) bs
+
+-- a line ends in a line feed (10)
+abbrev pub lines_of : List ℕ → List (List ℕ)
+lines_of text = pieces 10 [] text
+
+-- between two fields is a tab (9)
+abbrev pub row_fields : List ℕ → List (List ℕ)
+row_fields line = pieces 9 [] line ++ last_piece 9 [] line ∷ []
+
+abbrev pub fields_if : Option (List ℕ) → List (List ℕ)
+fields_if None = []
+fields_if (Some text) = row_fields text
+
+-- ---- what is counted
+
+-- the number that decimal digits spell after so many; the digit 0 is 48
+abbrev pub decimal_value : ℕ → List ℕ → ℕ
+decimal_value before [] = before
+decimal_value before (d ∷ ds) = decimal_value (before * 10 + (d - 48)) ds
+
+-- the key of a column's text
+abbrev pub key_text : (column text : List ℕ) → List ℕ
+key_text column text = column ++ (codes "\t" ++ text)
+
+abbrev pub key_if : (column text : List ℕ) → List (List ℕ)
+key_if column [] = []
+key_if column (b ∷ bs) = key_text column (b ∷ bs) ∷ []
+
+-- those of the columns that have a text
+abbrev pub keys_in : (columns fields : List (List ℕ)) → List (List ℕ)
+keys_in [] fields = []
+keys_in (c ∷ cs) [] = []
+keys_in (c ∷ cs) (f ∷ fs) = key_if c f ++ keys_in cs fs
+
+abbrev pub after_first : List (List ℕ) → List (List ℕ)
+after_first [] = []
+after_first (f ∷ fs) = fs
+
+-- so many bytes under each key
+abbrev pub hits_under : (bytes : ℕ) → (keys : List (List ℕ)) → List Hit
+hits_under bytes keys = map (λ k. record { key = k; bytes = bytes }) keys
+
+-- The first column is the length of the packet. The packet counts for the total, and for each of the others that has a text.
+abbrev pub fields_hits : (columns fields : List (List ℕ)) → List Hit
+fields_hits columns [] = []
+fields_hits columns (len ∷ fields) =
+    hits_under (counted (decimal_value 0 len)) (key_text (codes "total") [] ∷ keys_in (after_first columns) fields)
+
+abbrev pub row_hits : (heading row : List ℕ) → List Hit
+row_hits heading row = fields_hits (row_fields heading) (row_fields row)
+
+-- of lines, the first of which is the heading
+abbrev pub lines_hits : List (List ℕ) → List Hit
+lines_hits [] = []
+lines_hits (heading ∷ rows) = flat_map (row_hits heading) rows

@@ -1,0 +1,57 @@
+-- The summary of rows: a line for each key, in the order of their bytes.
+use Rattle.std.specs.Prelude.{◌≡◌, ℕ, List, [], ◌∷◌, ◌++◌, codes, decimal, map, Bool, true, false, Option, Some, None, ⊤}
+use Rattle.std.specs.Ordering.{nat_cmp}
+use Rattle.std.specs.Cmp.Lexicographic.{slice_cmp}
+use Rattle.std.specs.Io.KnownBytes.{Appends}
+use Rattle.std.specs.List.{flat_map}
+use Rattle.std.specs.List.Sorted.{IsStrictlySortedBy}
+use Rattle.std.specs.Map.{lookup}
+use Rattle.std.specs.Str.{bytes_eq}
+use Rattle.ether_capture.specs.KeyCounts.{count_of}
+use Rattle.ether_capture.specs.RowFields.{after_first, row_fields, lines_hits, lines_of}
+use Rattle.ether_text.specs.OutputBuffer.{Takes}
+use Rattle.ether_capture.specs.declared.count.Count.{Count}
+use Rattle.ether_capture.specs.declared.statistics_format.StatisticsFormat.{StatisticsFormat}
+use Rattle.ether_capture.specs.declared.statistics_format.StatisticsFormat.TheVariants.{Text, Json}
+use Rattle.ether_text.specs.declared.output_buffer.OutputBuffer.{OutputBuffer}
+
+-- a key and its count
+pub record StatisticsRow : Type 0 where
+  pub key : List ℕ
+  pub count : Count
+
+abbrev pub first_in : List (List ℕ) → List ℕ
+first_in [] = []
+first_in (f ∷ fs) = f
+
+-- as four fields; or as an object of JSON, where a key is the name of a column and a text
+abbrev pub statistics_line : StatisticsFormat → StatisticsRow → List ℕ
+statistics_line Text r = r.key ++ (codes "\t" ++ (decimal r.count.packets ++ (codes "\t" ++ (decimal r.count.bytes ++ codes "\n"))))
+statistics_line Json r =
+    codes "{\"column\":\"" ++ (first_in (row_fields r.key)
+    ++ (codes "\",\"value\":\"" ++ (first_in (after_first (row_fields r.key))
+    ++ (codes "\",\"packets\":" ++ (decimal r.count.packets ++ (codes ",\"bytes\":" ++ (decimal r.count.bytes ++ codes "}\n")))))))
+
+-- these are all keys of a table, each once, in the order of their bytes
+pub record AreRows (table : (key : List ℕ) → Option Count) (rows : List StatisticsRow) : Type 0 where
+  pub sorted : IsStrictlySortedBy (slice_cmp nat_cmp) (map (λ r. r.key) rows)
+  pub exact : (key : List ℕ) → lookup (bytes_eq key) (map (λ r. (r.key, r.count)) rows) ≡ table key
+
+-- their lines are written
+pub record TakesStatistics {W : Type 0} (contents : W → Option (List ℕ)) (can_fail : Type 0) (format : StatisticsFormat) (table : (key : List ℕ) → Option Count)
+    (old new : OutputBuffer W) : Type 0 where
+  pub rows : List StatisticsRow
+  pub are_rows : AreRows table rows
+  pub taken : Takes contents can_fail old (flat_map (statistics_line format) rows) new
+
+-- this is the summary of a text, the first line of which names the columns
+pub record IsStatistics (format : StatisticsFormat) (text summary : List ℕ) : Type 0 where
+  pub rows : List StatisticsRow
+  pub are_rows : AreRows (count_of (lines_hits (lines_of text))) rows
+  pub is_text : summary ≡ flat_map (statistics_line format) rows
+
+-- the summary of what is known is appended
+abbrev pub Shows : (is_known : Bool) → (text : Option (List ℕ)) → StatisticsFormat → (held holds : Option (List ℕ)) → Type 0
+Shows false text format held holds = ⊤
+Shows true None format held holds = ⊥
+Shows true (Some text) format held holds = (summary : List ℕ) × IsStatistics format text summary × Appends held holds summary

@@ -1,0 +1,67 @@
+//! How many packets, and how many bytes, by keys.
+ghost use Rattle.std.specs.Prelude.{◌≡◌, ℕ, List, None, Some, OnOk, if◌then◌else◌};
+ghost use Rattle.std.specs.Str.{bytes_eq};
+ghost use Rattle.ether_capture.specs.KeyCounts.{AddsHit};
+ghost use Rattle.ether_capture.specs.CountTable.{count_at};
+ghost use Rattle.ether_capture.specs.Statistics.{TakesStatistics};
+
+use crate::count::Count;
+use crate::statistics_format::{StatisticsFormat, write_statistic};
+use ether_stream::NoMemory;
+use ether_text::{OutputBuffer, Sink};
+use std::alloc::Global;
+use std::collections::BTreeMap;
+
+/// Counts by keys, which are texts.
+#[derive(Drop)]
+pub struct CountTable {
+    alloc: Global,
+    counts: BTreeMap<Vec<u8>, Count>,
+}
+
+impl CountTable {
+    /// A table with no key, which takes no memory.
+    pub fn new(alloc: Global) -> CountTable
+        ensures { (key : List ℕ) → count_at result key ≡ None }
+    {
+        CountTable {
+            alloc,
+            counts: BTreeMap::new(alloc),
+        }
+    }
+
+    /// Counts a packet of so many bytes under a key.
+    pub fn add(&mut self, key: &[u8], bytes: usize) -> Result<(), NoMemory>
+        ensures { OnOk result (AddsHit key.now bytes (count_at self.old) (count_at self.new)) }
+    {
+        match self.counts.get_mut(key) {
+            Some(count) => {
+                *count = count.with(bytes);
+                Ok(())
+            }
+            None => self.insert(key, Count::of_packet(bytes)),
+        }
+    }
+
+    /// Puts in a count under a key.
+    fn insert(&mut self, key: &[u8], count: Count) -> Result<(), NoMemory>
+        ensures { OnOk result ((q : List ℕ) → count_at self.new q ≡ (if bytes_eq key.now q then Some count else count_at self.old q)) }
+    {
+        let Ok(key) = Vec::from_slice(self.alloc, key) else {
+            return Err(NoMemory);
+        };
+        match self.counts.insert(key, count) {
+            Ok(_) => Ok(()),
+            Err(_) => Err(NoMemory),
+        }
+    }
+
+    /// Writes a line for each key, in the order of their bytes.
+    pub fn write<W: Sink>(&self, format: StatisticsFormat, out: &mut OutputBuffer<'_, W>)
+        ensures { TakesStatistics W.contents W.can_fail format (count_at self.now) out.old out.new }
+    {
+        for (key, count) in self.counts.iter() {
+            write_statistic(format, key.as_slice(), *count, out);
+        }
+    }
+}

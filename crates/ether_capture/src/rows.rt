@@ -1,0 +1,177 @@
+//! Rows of columns, whose texts are counted.
+ghost use Rattle.std.specs.Prelude.{◌≡◌, ◌==◌, ◌++◌, ◌∷◌, [], ℕ, List, OnOk, IfSome, IfNone, false};
+ghost use Rattle.std.specs.Option.{option_map};
+ghost use Rattle.std.specs.List.{All};
+ghost use Rattle.ether_capture.specs.KeyCounts.{AddsHit, Hit, CountHits};
+ghost use Rattle.ether_stream.specs.Packets.{counted};
+ghost use Rattle.ether_capture.specs.CountTable.{count_at};
+ghost use Rattle.ether_capture.specs.RowFields.{row_fields, fields_if, decimal_value, key_text, row_hits};
+ghost use Rattle.ether_format.specs.Splits.{SplitsAt};
+ghost use Rattle.ether_capture.specs.Statistics.{TakesStatistics};
+ghost use Rattle.ether_capture.specs.Tabulating.{TabulatesLines, Tabulates};
+
+use crate::count_table::CountTable;
+use crate::heap_text::HeapText;
+use crate::statistics_format::StatisticsFormat;
+use ether_format::split_at;
+use ether_stream::NoMemory;
+use ether_text::{OutputBuffer, Sink};
+use std::alloc::Global;
+
+/// The counts of the lines so far, and what follows the last of them. The first line names the columns.
+#[derive(Drop)]
+pub struct Rows {
+    heading: HeapText,
+    has_heading: bool,
+    line: HeapText,
+    key: HeapText,
+    counts: CountTable,
+}
+
+impl Rows {
+    /// No line yet.
+    pub fn new(alloc: Global) -> Rows
+        ensures { Tabulates [] result }
+    {
+        Rows {
+            heading: HeapText::new(alloc),
+            has_heading: false,
+            line: HeapText::new(alloc),
+            key: HeapText::new(alloc),
+            counts: CountTable::new(alloc),
+        }
+    }
+
+    /// Takes the bytes that come next.
+    pub fn take(&mut self, bytes: &[u8]) -> Result<(), NoMemory>
+        ensures { (text : List ℕ) → Tabulates text self.old → OnOk result (Tabulates (text ++ bytes.now) self.new) }
+    {
+        let mut rest = bytes;
+        while let Some((before, after)) = split_at(b'\n', rest) {
+            self.extend_line(before)?;
+            self.end_line()?;
+            rest = after;
+        }
+        self.extend_line(rest)?;
+        Ok(())
+    }
+
+    /// Writes a line for each text of a column, in the order of their bytes.
+    pub fn write<W: Sink>(&self, format: StatisticsFormat, out: &mut OutputBuffer<'_, W>)
+        ensures { TakesStatistics W.contents W.can_fail format (count_at self.now.counts) out.old out.new }
+    {
+        self.counts.write(format, out);
+    }
+
+    /// Takes bytes of the line.
+    fn extend_line(&mut self, bytes: &[u8]) -> Result<(), NoMemory>
+        ensures { (text : List ℕ) → Tabulates text self.old → All (λ it. (it == 10) ≡ false) bytes.now
+            → OnOk result (Tabulates (text ++ bytes.now) self.new) }
+    {
+        self.line.append(bytes)?;
+        Ok(())
+    }
+
+    /// Ends the line, which is the heading or a row.
+    fn end_line(&mut self) -> Result<(), NoMemory>
+        ensures { (text : List ℕ) → Tabulates text self.old
+            → OnOk result (Tabulates (text ++ 10 ∷ []) self.new) }
+    {
+        self.take_line()?;
+        self.line.clear();
+        Ok(())
+    }
+
+    /// Takes the line as the heading if there is none yet, or counts it.
+    fn take_line(&mut self) -> Result<(), NoMemory>
+        ensures { (lines : List (List ℕ)) → TabulatesLines lines self.old
+            → OnOk result (TabulatesLines (lines ++ self.old.line.bytes.items ∷ []) self.new) }
+    {
+        if !self.has_heading {
+            self.heading.append(self.line.as_slice())?;
+            self.has_heading = true;
+            return Ok(());
+        }
+        count_row(
+            self.heading.as_slice(),
+            self.line.as_slice(),
+            &mut self.key,
+            &mut self.counts,
+        )?;
+        Ok(())
+    }
+}
+
+/// Counts a packet for a row, and for each text of its columns.
+fn count_row(
+    heading: &[u8],
+    row: &[u8],
+    key: &mut HeapText,
+    counts: &mut CountTable,
+) -> Result<(), NoMemory>
+    ensures { (hits : List Hit) → CountHits hits (count_at counts.old)
+        → OnOk result (CountHits (hits ++ row_hits heading.now row.now) (count_at counts.new)) }
+{
+    let (_, mut columns) = first_field(heading);
+    let (len, mut fields) = first_field(row);
+    let bytes = decimal_value(len);
+    count(b"total", b"", bytes, key, counts)?;
+    while let (Some(names), Some(texts)) = (columns, fields) {
+        let (column, later_columns) = first_field(names);
+        let (text, later_fields) = first_field(texts);
+        if !text.is_empty() {
+            count(column, text, bytes, key, counts)?;
+        }
+        columns = later_columns;
+        fields = later_fields;
+    }
+    Ok(())
+}
+
+/// Counts a packet of so many bytes for the text of a column.
+fn count(
+    column: &[u8],
+    text: &[u8],
+    bytes: usize,
+    key: &mut HeapText,
+    counts: &mut CountTable,
+) -> Result<(), NoMemory>
+    ensures { OnOk result (AddsHit (key_text column.now text.now) bytes (count_at counts.old) (count_at counts.new)) }
+{
+    write_key(column, text, key)?;
+    counts.add(key.as_slice(), bytes)
+}
+
+/// Writes the key of a column's text, in place of what was written.
+fn write_key(column: &[u8], text: &[u8], key: &mut HeapText) -> Result<(), NoMemory>
+    ensures { OnOk result (key.new.bytes.items ≡ key_text column.now text.now) }
+{
+    key.clear();
+    key.append(column)?;
+    key.append(b"\t")?;
+    key.append(text)?;
+    Ok(())
+}
+
+/// The first field, and the text after the tab that ends it, if there is one.
+pub(crate) fn first_field(text: &[u8]) -> (&[u8], Option<&[u8]>)
+    ensures { row_fields text.now ≡ result.0.now ∷ fields_if (option_map (λ s. s.now) result.1) }
+{
+    match split_at(b'\t', text) {
+        Some((field, after)) => (field, Some(after)),
+        None => (text, None),
+    }
+}
+
+/// The number that decimal digits spell, or the greatest there is.
+fn decimal_value(digits: &[u8]) -> usize
+    ensures { result ≡ counted (decimal_value 0 digits.now) }
+{
+    let mut value: usize = 0;
+    for digit in digits {
+        value = value
+            .saturating_mul(10)
+            .saturating_add(usize::from(digit.saturating_sub(48)));
+    }
+    value
+}

@@ -1,0 +1,81 @@
+//! Counts the texts of rows.
+ghost use Rattle.std.specs.Prelude.{◌≡◌, ⊤, false, OnOk, OnErr};
+ghost use Rattle.ether_capture.specs.HeldRows.{HoldsRows, HoldsRows-prop};
+ghost use Rattle.ether_capture.specs.Journal.{known_if};
+ghost use Rattle.ether_capture.specs.Statistics.{Shows};
+
+use crate::journal::Journal;
+use crate::rows::Rows;
+use crate::statistics_format::StatisticsFormat;
+use ether_text::{OutputBuffer, OutputFault, Sink};
+use std::alloc::Global;
+
+/// A sink of rows, whose texts are counted.
+#[derive(Drop)]
+pub struct Statistics<J: Journal> {
+    journal: J,
+    rows: Rows,
+    has_failed: bool,
+    ghost kept: { HoldsRows J.is_known has_failed (J.Sink.contents journal) rows } by { HoldsRows-prop J.is_known has_failed (J.Sink.contents journal) rows },
+}
+
+impl<J: Journal> Statistics<J> {
+    /// Of no row yet.
+    pub fn new(alloc: Global) -> Statistics<J>
+        ensures { J.Sink.contents result.journal ≡ known_if J.is_known }
+    {
+        Statistics {
+            journal: J::start(),
+            rows: Rows::new(alloc),
+            has_failed: false,
+        }
+    }
+
+    /// Tests that a row could not be counted, since memory was refused.
+    pub fn has_failed(&self) -> bool
+        ensures { result ≡ self.now.has_failed }
+    {
+        self.has_failed
+    }
+
+    /// Writes a line for each text of a column, in the order of their bytes.
+    pub fn write<W: Sink>(
+        &self,
+        format: StatisticsFormat,
+        writer: &mut W,
+    ) -> Result<(), OutputFault>
+        ensures written { OnOk result (self.now.has_failed ≡ false
+            → Shows J.is_known (J.Sink.contents self.now.journal) format (W.contents writer.old) (W.contents writer.new)) }
+        ensures flushed { OnOk result (W.is_flushed writer.new) }
+        ensures failed { OnErr result W.can_fail }
+    {
+        let mut out = OutputBuffer::new(writer);
+        self.rows.write(format, &mut out);
+        out.flush()
+    }
+}
+
+impl<J: Journal> Sink for Statistics<J> {
+    ghost contents = { λ counted. J.Sink.contents counted.journal };
+
+    ghost can_fail = { ⊤ };
+
+    ghost is_flushed = { λ _. ⊤ };
+
+    fn put(&mut self, bytes: &[u8]) -> Result<(), OutputFault> {
+        if self.has_failed {
+            return Err(OutputFault);
+        }
+        self.has_failed = true;
+        self.journal.put(bytes)?;
+        let Ok(()) = self.rows.take(bytes) else {
+            return Err(OutputFault);
+        };
+        self.has_failed = false;
+        Ok(())
+    }
+
+    fn flush_all(&mut self) -> Result<(), OutputFault> {
+        Ok(())
+    }
+}

@@ -1,0 +1,63 @@
+//! Writes the count of a key.
+ghost use Rattle.std.specs.Prelude.{◌≡◌};
+ghost use Rattle.ether_capture.specs.RowFields.{after_first, row_fields};
+ghost use Rattle.ether_text.specs.OutputBuffer.{Takes};
+ghost use Rattle.ether_capture.specs.Statistics.{first_in, statistics_line};
+
+use crate::count::Count;
+use crate::rows::first_field;
+use ether_text::{OutputBuffer, Sink, write_decimal};
+
+/// How counts are written.
+#[derive(Clone, Copy, PartialEq, Eq, Debug)]
+pub enum StatisticsFormat {
+    /// Lines of four fields, with a tab between two: column, text, packets and bytes.
+    Text,
+    /// Lines of JSON (RFC 8259), each an object with these four members.
+    Json,
+}
+
+/// Writes the line of a key and its count.
+pub(crate) fn write_statistic<W: Sink>(
+    format: StatisticsFormat,
+    key: &[u8],
+    count: Count,
+    out: &mut OutputBuffer<'_, W>,
+)
+    ensures { Takes W.contents W.can_fail out.old (statistics_line format (record { key = key.now; count = count })) out.new }
+{
+    match format {
+        StatisticsFormat::Text => {
+            out.append(key);
+            out.append(b"\t");
+            write_decimal(out, count.packets);
+            out.append(b"\t");
+            write_decimal(out, count.bytes);
+            out.append(b"\n");
+        }
+        StatisticsFormat::Json => {
+            let (column, text) = parts_of(key);
+            out.append(b"{\"column\":\"");
+            out.append(column);
+            out.append(b"\",\"value\":\"");
+            out.append(text);
+            out.append(b"\",\"packets\":");
+            write_decimal(out, count.packets);
+            out.append(b",\"bytes\":");
+            write_decimal(out, count.bytes);
+            out.append(b"}\n");
+        }
+    }
+}
+
+/// The column and the text of a key.
+fn parts_of(key: &[u8]) -> (&[u8], &[u8])
+    ensures column { result.0.now ≡ first_in (row_fields key.now) }
+    ensures text { result.1.now ≡ first_in (after_first (row_fields key.now)) }
+{
+    let (column, after) = first_field(key);
+    match after {
+        Some(rest) => (column, first_field(rest).0),
+        None => (column, b""),
+    }
+}

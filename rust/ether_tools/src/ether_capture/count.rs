@@ -1,0 +1,25 @@
+//! How many packets there are, and how many bytes they had.
+
+/// How many packets there are, and how many bytes they had.
+#[derive(Clone, Copy, PartialEq, Eq, Debug)]
+pub struct Count {
+    /// How many packets.
+    pub packets: usize,
+    /// How many bytes these had.
+    pub bytes: usize,
+}
+
+impl Count {
+    /// One packet of so many bytes.
+    pub(crate) fn of_packet(bytes: usize) -> Count {
+        Count { packets: 1, bytes }
+    }
+
+    /// These and a packet of so many bytes.
+    pub(crate) fn with(self, bytes: usize) -> Count {
+        Count {
+            packets: self.packets.saturating_add(1),
+            bytes: self.bytes.saturating_add(bytes),
+        }
+    }
+}

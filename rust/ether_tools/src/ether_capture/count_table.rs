@@ -1,0 +1,37 @@
+//! How many packets, and how many bytes, by keys. Written by hand, not proved.
+use crate::ether_capture::count::Count;
+use crate::ether_capture::memory::Global;
+use crate::ether_capture::statistics_format::{StatisticsFormat, write_statistic};
+use crate::ether_stream::NoMemory;
+use crate::ether_text::{OutputBuffer, Sink};
+use std::collections::BTreeMap;
+
+/// Counts by keys, which are texts.
+pub struct CountTable {
+    counts: BTreeMap<Vec<u8>, Count>,
+}
+
+impl CountTable {
+    /// A table with no key, which takes no memory.
+    pub fn new(_alloc: Global) -> CountTable {
+        CountTable { counts: BTreeMap::new() }
+    }
+
+    /// Counts a packet of so many bytes under a key.
+    pub fn add(&mut self, key: &[u8], bytes: usize) -> Result<(), NoMemory> {
+        match self.counts.get_mut(key) {
+            Some(count) => *count = count.with(bytes),
+            None => {
+                self.counts.insert(key.to_vec(), Count::of_packet(bytes));
+            }
+        }
+        Ok(())
+    }
+
+    /// Writes a line for each key, in the order of their bytes.
+    pub fn write<W: Sink>(&self, format: StatisticsFormat, out: &mut OutputBuffer<'_, W>) {
+        for (key, count) in &self.counts {
+            write_statistic(format, key.as_slice(), *count, out);
+        }
+    }
+}

@@ -1,0 +1,27 @@
+//! What is counted, word for word.
+
+use crate::ether_text::Sink;
+use std::io;
+
+/// A sink for the rows that are counted.
+///
+/// The program's journal keeps none of them. That the counts are those of the rows that a journal holds is proved for every journal, also for
+/// one that keeps them.
+pub trait Journal: Sink {
+    /// A journal with nothing in it.
+    ///
+    /// <details><summary>Contract</summary>
+    ///
+    /// ```text
+    /// ensures { Self.Sink.contents result ≡ known_if is_known }
+    /// ```
+    ///
+    /// </details>
+    fn start() -> Self;
+}
+
+impl Journal for io::Sink {
+    fn start() -> Self {
+        io::sink()
+    }
+}

@@ -1,0 +1,164 @@
+//! Rows of columns, whose texts are counted.
+
+use crate::ether_capture::count_table::CountTable;
+use crate::ether_capture::heap_text::HeapText;
+use crate::ether_capture::statistics_format::StatisticsFormat;
+use crate::ether_format::split_at;
+use crate::ether_stream::NoMemory;
+use crate::ether_text::{OutputBuffer, Sink};
+use crate::ether_capture::memory::Global;
+
+/// The counts of the lines so far, and what follows the last of them. The first line names the columns.
+pub struct Rows {
+    heading: HeapText,
+    has_heading: bool,
+    line: HeapText,
+    key: HeapText,
+    counts: CountTable,
+}
+
+impl Rows {
+    /// No line yet.
+    ///
+    /// <details><summary>Contract</summary>
+    ///
+    /// ```text
+    /// ensures { Tabulates [] result }
+    /// ```
+    ///
+    /// </details>
+    pub fn new(alloc: Global) -> Rows {
+        Rows {
+            heading: HeapText::new(alloc),
+            has_heading: false,
+            line: HeapText::new(alloc),
+            key: HeapText::new(alloc),
+            counts: CountTable::new(alloc),
+        }
+    }
+
+    /// Takes the bytes that come next.
+    ///
+    /// <details><summary>Contract</summary>
+    ///
+    /// ```text
+    /// ensures { (text : List ℕ) → Tabulates text self.old → OnOk result (Tabulates (text ++ bytes.now) self.new) }
+    /// ```
+    ///
+    /// </details>
+    pub fn take(&mut self, bytes: &[u8]) -> Result<(), NoMemory> {
+        let mut rest = bytes;
+        while let Some((before, after)) = split_at(b'\n', rest) {
+            self.extend_line(before)?;
+            self.end_line()?;
+            rest = after;
+        }
+        self.extend_line(rest)?;
+        Ok(())
+    }
+
+    /// Writes a line for each text of a column, in the order of their bytes.
+    ///
+    /// <details><summary>Contract</summary>
+    ///
+    /// ```text
+    /// ensures { TakesStatistics W.contents W.can_fail format (count_at self.now.counts) out.old out.new }
+    /// ```
+    ///
+    /// </details>
+    pub fn write<W: Sink>(&self, format: StatisticsFormat, out: &mut OutputBuffer<'_, W>) {
+        self.counts.write(format, out);
+    }
+
+    /// Takes bytes of the line.
+    fn extend_line(&mut self, bytes: &[u8]) -> Result<(), NoMemory> {
+        self.line.append(bytes)?;
+        Ok(())
+    }
+
+    /// Ends the line, which is the heading or a row.
+    fn end_line(&mut self) -> Result<(), NoMemory> {
+        self.take_line()?;
+        self.line.clear();
+        Ok(())
+    }
+
+    /// Takes the line as the heading if there is none yet, or counts it.
+    fn take_line(&mut self) -> Result<(), NoMemory> {
+        if !self.has_heading {
+            self.heading.append(self.line.as_slice())?;
+            self.has_heading = true;
+            return Ok(());
+        }
+        count_row(
+            self.heading.as_slice(),
+            self.line.as_slice(),
+            &mut self.key,
+            &mut self.counts,
+        )?;
+        Ok(())
+    }
+}
+
+/// Counts a packet for a row, and for each text of its columns.
+fn count_row(
+    heading: &[u8],
+    row: &[u8],
+    key: &mut HeapText,
+    counts: &mut CountTable,
+) -> Result<(), NoMemory> {
+    let (_, mut columns) = first_field(heading);
+    let (len, mut fields) = first_field(row);
+    let bytes = decimal_value(len);
+    count(b"total", b"", bytes, key, counts)?;
+    while let (Some(names), Some(texts)) = (columns, fields) {
+        let (column, later_columns) = first_field(names);
+        let (text, later_fields) = first_field(texts);
+        if !text.is_empty() {
+            count(column, text, bytes, key, counts)?;
+        }
+        columns = later_columns;
+        fields = later_fields;
+    }
+    Ok(())
+}
+
+/// Counts a packet of so many bytes for the text of a column.
+fn count(
+    column: &[u8],
+    text: &[u8],
+    bytes: usize,
+    key: &mut HeapText,
+    counts: &mut CountTable,
+) -> Result<(), NoMemory> {
+    write_key(column, text, key)?;
+    counts.add(key.as_slice(), bytes)
+}
+
+/// Writes the key of a column's text, in place of what was written.
+fn write_key(column: &[u8], text: &[u8], key: &mut HeapText) -> Result<(), NoMemory> {
+    key.clear();
+    key.append(column)?;
+    key.append(b"\t")?;
+    key.append(text)?;
+    Ok(())
+}
+
+/// The first field, and the text after the tab that ends it, if there is one.
+pub(crate) fn first_field(text: &[u8]) -> (&[u8], Option<&[u8]>) {
+    match split_at(b'\t', text) {
+        Some((field, after)) => (field, Some(after)),
+        None => (text, None),
+    }
+}
+
+/// The number that decimal digits spell, or the greatest there is.
+fn decimal_value(digits: &[u8]) -> usize {
+    let mut value: usize = 0;
+    for digit in digits {
+        value = value
+            .saturating_mul(10)
+            .saturating_add(usize::from(digit.saturating_sub(48)));
+    }
+    value
+}

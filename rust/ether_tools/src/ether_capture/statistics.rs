@@ -1,0 +1,87 @@
+//! Counts the texts of rows.
+
+use crate::ether_capture::journal::Journal;
+use crate::ether_capture::rows::Rows;
+use crate::ether_capture::statistics_format::StatisticsFormat;
+use crate::ether_text::{OutputBuffer, OutputFault, Sink};
+use crate::ether_capture::memory::Global;
+
+/// A sink of rows, whose texts are counted.
+pub struct Statistics<J: Journal> {
+    journal: J,
+    rows: Rows,
+    has_failed: bool,
+}
+
+impl<J: Journal> Statistics<J> {
+    /// Of no row yet.
+    ///
+    /// <details><summary>Contract</summary>
+    ///
+    /// ```text
+    /// ensures { J.Sink.contents result.journal ≡ known_if J.is_known }
+    /// ```
+    ///
+    /// </details>
+    pub fn new(alloc: Global) -> Statistics<J> {
+        Statistics {
+            journal: J::start(),
+            rows: Rows::new(alloc),
+            has_failed: false,
+        }
+    }
+
+    /// Tests that a row could not be counted, since memory was refused.
+    ///
+    /// <details><summary>Contract</summary>
+    ///
+    /// ```text
+    /// ensures { result ≡ self.now.has_failed }
+    /// ```
+    ///
+    /// </details>
+    pub fn has_failed(&self) -> bool {
+        self.has_failed
+    }
+
+    /// Writes a line for each text of a column, in the order of their bytes.
+    ///
+    /// <details><summary>Contract</summary>
+    ///
+    /// ```text
+    /// ensures written { OnOk result (self.now.has_failed ≡ false
+    ///     → Shows J.is_known (J.Sink.contents self.now.journal) format (W.contents writer.old) (W.contents writer.new)) }
+    /// ensures flushed { OnOk result (W.is_flushed writer.new) }
+    /// ensures failed { OnErr result W.can_fail }
+    /// ```
+    ///
+    /// </details>
+    pub fn write<W: Sink>(
+        &self,
+        format: StatisticsFormat,
+        writer: &mut W,
+    ) -> Result<(), OutputFault> {
+        let mut out = OutputBuffer::new(writer);
+        self.rows.write(format, &mut out);
+        out.flush()
+    }
+}
+
+impl<J: Journal> Sink for Statistics<J> {
+    fn put(&mut self, bytes: &[u8]) -> Result<(), OutputFault> {
+        if self.has_failed {
+            return Err(OutputFault);
+        }
+        self.has_failed = true;
+        self.journal.put(bytes)?;
+        let Ok(()) = self.rows.take(bytes) else {
+            return Err(OutputFault);
+        };
+        self.has_failed = false;
+        Ok(())
+    }
+
+    fn flush_all(&mut self) -> Result<(), OutputFault> {
+        Ok(())
+    }
+}

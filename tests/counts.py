@@ -1,0 +1,123 @@
+"""Tests `ether_capture --stats`: by worked examples, and by what tshark says of drawn packets.
+
+`ether_capture.py` runs `examples`, `other_programs.py` runs `counted_by_tshark`.
+"""
+import collections
+import json
+import os
+import subprocess
+import tempfile
+from shutil import which
+
+from captures import CLASSIC, INPUT, classic, joined, record_is_cut
+from json_lines import drawn
+from programs import run_apart
+
+ARP = classic(joined("ffffffffffff 020000000001 0806 0001 0800 06 04 0001 020000000001 0a000001 000000000000 0a000002"))
+TAGS = classic(joined("ffffffffffff 020000000001 88a8 a001 8100 0005 0800 aabb"), joined("ffffffffffff 020000000001 0800"),
+               joined("ffffffffffff 020000000001 0800 4500"))
+
+# What is counted, by hand: name, capture, words, status, and for each text of a column its packets and their bytes.
+COUNTS = [
+    ("a classic capture, with a fault", CLASSIC, [], 1, """\
+eth.type	0x8100	1	46
+eth.type	0x88A8	1	60
+fault.kind	length	1	60
+headers.header	eth,vlan	2	106
+rest.type	0x0800	1	46
+total		2	106
+vlan.type	0x0800	1	46
+vlan.type	0x8100	1	60
+vlan.vid	1	1	60
+vlan.vid	291	1	46
+"""),
+    ("an ARP packet", ARP, [], 0, """\
+arp.sha	02:00:00:00:00:01	1	42
+arp.spa	10.0.0.1	1	42
+eth.type	0x0806	1	42
+headers.header	eth,arp	1	42
+total		1	42
+"""),
+    ("two tags", TAGS, ["--format", "lines"], 0, """\
+eth.type	0x0800	2	30
+eth.type	0x88A8	1	24
+headers.header	eth	2	30
+headers.header	eth,vlan,vlan	1	24
+rest.type	0x0800	3	54
+total		3	54
+vlan.type	0x8100,0x0800	1	24
+vlan.vid	1,5	1	24
+"""),
+    ("columns that are named", TAGS, ["--fields", "eth.src,vlan.pcp,frame.original"], 0, """\
+eth.src	02:00:00:00:00:01	3	54
+frame.original	14	1	14
+frame.original	16	1	16
+frame.original	24	1	24
+total		3	54
+vlan.pcp	5,0	1	24
+"""),
+    ("packets that are selected", CLASSIC, ["--select", "vlan 291", "--fields", "vlan.vid"], 0, "total		1	46\nvlan.vid	291	1	46\n"),
+    ("the first packet", TAGS, ["-c", "1", "--fields", "rest.type"], 0, "rest.type	0x0800	1	24\ntotal		1	24\n"),
+    ("at a limit", TAGS, ["--limit", "1", "--fields", "headers.header"], 0,
+     "headers.header	eth	2	30\nheaders.header	eth,vlan	1	24\ntotal		3	54\n"),
+    ("no packet", classic(), [], 0, ""),
+]
+
+
+def as_objects(text):
+    """What JSON has for these lines."""
+    rows = [line.split("\t") for line in text.splitlines()]
+    return [{"column": column, "value": value, "packets": int(packets), "bytes": int(size)} for column, value, packets, size in rows]
+
+
+def examples(program):
+    """Returns what was tried, as (name, found, expected)."""
+    tried = []
+    for name, capture, words, status, text in COUNTS:
+        tried.append((f"counts: {name}", run_apart(program, ["--stats", *words], capture), (text, "", status)))
+        if "--format" not in words:
+            out, err, code = run_apart(program, ["--stats", "--format", "json", *words], capture)
+            tried.append((f"counts as JSON: {name}", ([json.loads(line) for line in out.splitlines()], err, code), (as_objects(text), "", status)))
+    line = '{"column":"vlan.vid","value":"291","packets":1,"bytes":46}\n'
+    found = run_apart(program, ["--stats", "--format", "json", "--fields", "vlan.vid", "--select", "vlan 291"], CLASSIC)
+    tried.append(("counts as JSON, byte for byte", found, ('{"column":"total","value":"","packets":1,"bytes":46}\n' + line, "", 0)))
+    tried.append(("counts up to a cut record", run_apart(program, ["--stats", "--fields", "vlan.vid"], TAGS[:82]),
+                  ("total\t\t1\t24\nvlan.vid\t1,5\t1\t24\n", INPUT + record_is_cut(64, 30, 18), 3)))
+    return tried + files(program)
+
+
+def files(program):
+    """Counts of several captures are those of their packets together."""
+    with tempfile.TemporaryDirectory() as folder:
+        names = [os.path.join(folder, name) for name in ("a.pcap", "b.pcap")]
+        for name, capture in zip(names, (TAGS, ARP)):
+            with open(name, "wb") as file:
+                file.write(capture)
+        found = run_apart(program, ["--stats", "--fields", "eth.src", *names], b"")
+        absent = os.path.join(folder, "c.pcap")
+        lacking = run_apart(program, ["--stats", "--fields", "eth.src", names[1], absent], b"")
+    return [("counts of two captures", found, ("eth.src\t02:00:00:00:00:01\t4\t96\ntotal\t\t4\t96\n", "", 0)),
+            ("counts without a file that is not there", lacking,
+             ("eth.src\t02:00:00:00:00:01\t1\t42\ntotal\t\t1\t42\n", f"{absent}: can't be opened: there is no such file\n", 4))]
+
+
+def counted_by_tshark(program):
+    """20,000 drawn packets: what is counted is what tshark's fields give."""
+    if not which("tshark"):
+        print("left out: counts with tshark, since it is not there")
+        return []
+    fields = {"eth.src": "eth.src", "eth.dst": "eth.dst", "arp.op": "arp.opcode", "arp.sha": "arp.src.hw_mac", "arp.spa": "arp.src.proto_ipv4"}
+    with tempfile.NamedTemporaryFile(suffix=".pcap") as pcap:
+        pcap.write(classic(*drawn(20_000)))
+        pcap.flush()
+        words = [word for it in ("frame.len", *fields.values()) for word in ("-e", it)]
+        done = subprocess.run(["tshark", "-n", "-r", pcap.name, "-T", "fields", *words], capture_output=True, text=True, check=False)
+        out = subprocess.run([program, "--stats", "--format", "json", "--fields", ",".join(fields), pcap.name], capture_output=True, text=True, check=False)
+    wanted = collections.defaultdict(lambda: [0, 0])
+    for line in done.stdout.splitlines():
+        size, *values = line.split("\t")
+        for key in [("total", ""), *((column, value) for column, value in zip(fields, values) if value)]:
+            wanted[key][0] += 1
+            wanted[key][1] += int(size)
+    found = {(it["column"], it["value"]): [it["packets"], it["bytes"]] for it in map(json.loads, out.stdout.splitlines())}
+    return [("counts with tshark", (found, len(found) > 100), (dict(wanted), True))]
