@@ -91,6 +91,7 @@ ARTEFACTS = {
         "ether_stream/src/run.rt": ["run"],
         "ether_stream/src/laws.rt": ["runs_compose"],
         "ether_capture/src/program.rt": ["program"],
+        "ether_capture/src/laws.rt": ["statistics_are_one"],
     },
     "Bridges": {
         "ether_switch/src/bridge.rt": ["receive", "receive_in"],

@@ -7,3 +7,4 @@ pub mod CountRowLemmas
 pub mod RowsLemmas
 pub mod HeldRowsLemmas
 pub mod StatisticsLemmas
+pub mod OneStatistics

@@ -55,3 +55,7 @@ abbrev pub Shows : (is_known : Bool) → (text : Option (List ℕ)) → Statisti
 Shows false text format held holds = ⊤
 Shows true None format held holds = ⊥
 Shows true (Some text) format held holds = (summary : List ℕ) × IsStatistics format text summary × Appends held holds summary
+
+-- the counts of a text are one text
+abbrev pub StatisticsAreOne : Type 0
+StatisticsAreOne = (format : StatisticsFormat) (text a b : List ℕ) → IsStatistics format text a → IsStatistics format text b → a ≡ b

@@ -17,6 +17,7 @@ pub mod heap_memory;
 pub mod heap_text;
 pub mod interface_buffer;
 pub mod journal;
+pub mod laws;
 pub mod meter;
 pub mod opening;
 pub mod options;
