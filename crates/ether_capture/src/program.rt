@@ -2,9 +2,9 @@
 ghost use Rattle.std.specs.Prelude.{◌≡◌, ◌≢◌, ◌⊎◌, Bool, true, false, IfErr, Some, map, string_bytes};
 ghost use Rattle.std.specs.Option.{option_map};
 ghost use Rattle.ether_stream.specs.Outcome.{is_message, status_of_program};
-ghost use Rattle.ether_capture.specs.Program.{HasCountedTexts, HasHeaded, HasObeyed, HasRunFile, HasRunJob, HasServed, IfGone, heading_if, PrintsApart, PrintsLast, arguments_of};
+ghost use Rattle.ether_capture.specs.Program.{HasDone, HasHeaded, HasObeyed, HasRunFile, HasRunJob, HasServed, IfGone, heading_if, PrintsApart, PrintsLast, arguments_of};
 ghost use Rattle.ether_capture.specs.Files.{Settles};
-ghost use Rattle.ether_capture.specs.Options.{request_view};
+ghost use Rattle.ether_capture.specs.Options.{request_view, statistics_asked};
 ghost use Rattle.std.specs.Io.KnownBytes.{Appends};
 ghost use Rattle.ether_format.specs.declared.columns.Columns.{Columns as ColumnsValue};
 ghost use Rattle.std.specs.Prelude.{OnErr, OnOk};
@@ -19,7 +19,6 @@ use crate::journal::Journal;
 use crate::options::request_of_words;
 use crate::run_input::run_input;
 use crate::statistics::Statistics;
-use crate::statistics_format::StatisticsFormat;
 use ether_format::Columns;
 use ether_stream::{LineSink, Outcome, RunFault, Task, is_message, last_line, program_status};
 use ether_text::{OutputBuffer, OutputFault, Sink, Source};
@@ -85,22 +84,18 @@ fn obey<'a, J: Journal + Drop, C: Captures, K: Copies, R: Source, W: Sink, M: Li
     ensures told { Settles M.Sink.is_flushed messages.old messages.new ⊎ M.Sink.can_fail }
 {
     match request_of_words(words, alloc) {
-        Ok(request) => match request.statistics() {
-            None => answer(request, alloc, captures, copies, reader, writer, messages),
-            Some(format) => count::<J, C, K, R, W, M>(
-                request, format, alloc, captures, copies, reader, writer, messages,
-            ),
-        },
+        Ok(request) => respond::<J, C, K, R, W, M>(
+            request, alloc, captures, copies, reader, writer, messages,
+        ),
         Err(RequestError::Usage(usage)) => Outcome::Usage(usage),
         Err(RequestError::Memory) => Outcome::NoMemory,
         Err(RequestError::Filter(error)) => Outcome::NoFilter(error),
     }
 }
 
-/// Counts the texts of columns, and writes the counts.
-fn count<'a, J: Journal + Drop, C: Captures, K: Copies, R: Source, W: Sink, M: LineSink>(
+/// Does what a request says. If counts are asked for, it counts the texts of columns, and writes the counts.
+fn respond<'a, J: Journal + Drop, C: Captures, K: Copies, R: Source, W: Sink, M: LineSink>(
     request: Request<'a>,
-    format: StatisticsFormat,
     alloc: Global,
     captures: &C,
     copies: &mut K,
@@ -108,13 +103,17 @@ fn count<'a, J: Journal + Drop, C: Captures, K: Copies, R: Source, W: Sink, M: L
     writer: &mut W,
     messages: &mut M,
 ) -> Outcome<'a>
-    ensures counted { HasCountedTexts (C.has captures.now) R.can_fail C.can_refuse C.Input.Source.can_fail W.can_fail M.Sink.can_fail
-        K.can_refuse K.Part.Sink.can_fail J.is_known format (request_view request.entry) (R.remaining reader.old) (R.remaining reader.new)
+    ensures done { HasDone (C.has captures.now) R.can_fail C.can_refuse C.Input.Source.can_fail W.can_fail M.Sink.can_fail
+        K.can_refuse K.Part.Sink.can_fail J.is_known (statistics_asked (request_view request.entry)) (request_view request.entry)
+        (R.remaining reader.old) (R.remaining reader.new)
         (W.contents writer.old) (W.contents writer.new) (M.Sink.contents messages.old) (M.Sink.contents messages.new)
         (K.file copies.old) (K.file copies.new) result }
     ensures flushed { IfGone result (Settles W.is_flushed writer.old writer.new) }
     ensures told { Settles M.Sink.is_flushed messages.old messages.new ⊎ M.Sink.can_fail }
 {
+    let Some(format) = request.statistics() else {
+        return answer(request, alloc, captures, copies, reader, writer, messages);
+    };
     let mut counts = Statistics::<J>::new(alloc);
     let outcome = answer(
         request,

@@ -9,7 +9,6 @@ use crate::ether_capture::journal::Journal;
 use crate::ether_capture::options::request_of_words;
 use crate::ether_capture::run_input::run_input;
 use crate::ether_capture::statistics::Statistics;
-use crate::ether_capture::statistics_format::StatisticsFormat;
 use crate::ether_format::Columns;
 use crate::ether_stream::{LineSink, Outcome, RunFault, Task, is_message, last_line, program_status};
 use crate::ether_text::{OutputBuffer, OutputFault, Sink, Source};
@@ -74,22 +73,18 @@ fn obey<'a, J: Journal, C: Captures, K: Copies, R: Source, W: Sink, M: LineSink>
     messages: &mut M,
 ) -> Outcome<'a> {
     match request_of_words(words, alloc) {
-        Ok(request) => match request.statistics() {
-            None => answer(request, alloc, captures, copies, reader, writer, messages),
-            Some(format) => count::<J, C, K, R, W, M>(
-                request, format, alloc, captures, copies, reader, writer, messages,
-            ),
-        },
+        Ok(request) => respond::<J, C, K, R, W, M>(
+            request, alloc, captures, copies, reader, writer, messages,
+        ),
         Err(RequestError::Usage(usage)) => Outcome::Usage(usage),
         Err(RequestError::Memory) => Outcome::NoMemory,
         Err(RequestError::Filter(error)) => Outcome::NoFilter(error),
     }
 }
 
-/// Counts the texts of columns, and writes the counts.
-fn count<'a, J: Journal, C: Captures, K: Copies, R: Source, W: Sink, M: LineSink>(
+/// Does what a request says. If counts are asked for, it counts the texts of columns, and writes the counts.
+fn respond<'a, J: Journal, C: Captures, K: Copies, R: Source, W: Sink, M: LineSink>(
     request: Request<'a>,
-    format: StatisticsFormat,
     alloc: Global,
     captures: &C,
     copies: &mut K,
@@ -97,6 +92,9 @@ fn count<'a, J: Journal, C: Captures, K: Copies, R: Source, W: Sink, M: LineSink
     writer: &mut W,
     messages: &mut M,
 ) -> Outcome<'a> {
+    let Some(format) = request.statistics() else {
+        return answer(request, alloc, captures, copies, reader, writer, messages);
+    };
     let mut counts = Statistics::<J>::new(alloc);
     let outcome = answer(
         request,
