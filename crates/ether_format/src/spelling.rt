@@ -13,6 +13,9 @@ use crate::value::Value;
 use ether_text::{OutputBuffer, Sink, eight_digits, hex_type, write_decimal};
 use etherparse::EtherType;
 
+/// The hexadecimal digits, in lower case.
+static DIGITS: [u8; 16] = *b"0123456789abcdef";
+
 /// Writes a value as JSON has it.
 #[inline(always)]
 pub(crate) fn write_json_value<W: Sink>(value: &Value<'_>, out: &mut OutputBuffer<'_, W>)
@@ -198,11 +201,7 @@ fn digit(number: u8) -> u8
     requires { number < 16 }
     ensures { result ≡ digit_glyph false number }
 {
-    if number < 10 {
-        b'0' + number
-    } else {
-        b'a' - 10 + number
-    }
+    DIGITS[usize::from(number)]
 }
 
 /// Writes a moment as in ISO 8601.

@@ -5,6 +5,9 @@ use crate::ether_format::value::Value;
 use crate::ether_text::{OutputBuffer, Sink, eight_digits, hex_type, write_decimal};
 use etherpeel::EtherType;
 
+/// The hexadecimal digits, in lower case.
+static DIGITS: [u8; 16] = *b"0123456789abcdef";
+
 /// Writes a value as JSON has it.
 #[inline(always)]
 pub(crate) fn write_json_value<W: Sink>(value: &Value<'_>, out: &mut OutputBuffer<'_, W>) {
@@ -157,11 +160,7 @@ fn digit_pair(byte: u8) -> [u8; 2] {
 /// The hexadecimal digit of a number below 16, in lower case.
 #[inline(always)]
 fn digit(number: u8) -> u8 {
-    if number < 10 {
-        b'0' + number
-    } else {
-        b'a' - 10 + number
-    }
+    DIGITS[usize::from(number)]
 }
 
 /// Writes a moment as in ISO 8601.
