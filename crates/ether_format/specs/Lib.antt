@@ -9,3 +9,4 @@ pub mod Columns
 pub mod Texts
 pub mod Laws
 pub mod Walking
+pub mod Gathered

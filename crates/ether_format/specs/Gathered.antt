@@ -1,0 +1,48 @@
+-- What one walk gathers for the columns of a row: for the contracts of private functions.
+use Rattle.std.specs.Prelude.{ℕ, List, Bool, true, false, Option, map}
+use Rattle.std.specs.List.{flat_map}
+use Rattle.ether_pcap.specs.Capture.{PacketValue}
+use Rattle.ether_text.specs.OutputBuffer.{Takes}
+use Rattle.ether_text.specs.declared.output_buffer.OutputBuffer.{OutputBuffer}
+use Rattle.ether_format.specs.declared.column.Column.{Column as DeclaredColumn}
+use Rattle.ether_format.specs.declared.moment.Moment.{Moment}
+use Rattle.ether_format.specs.declared.found.Found.{Found}
+use Rattle.ether_format.specs.declared.gathered.End.{End}
+use Rattle.ether_format.specs.declared.gathered.End.TheVariants as ends
+use Rattle.ether_format.specs.Members.{Value}
+use Rattle.ether_format.specs.Calendar.{AreMoments}
+use Rattle.ether_format.specs.Columns.{ColumnValue, column_text, column_view, row_text, sections}
+use Rattle.ether_format.specs.Told.{Told, ToldEnd, Rest, Fault}
+use Rattle.ether_format.specs.Walking.{cause_shown, header_values, told_view}
+
+-- a header in its place
+abbrev pub found_told : Found → Told
+found_told f = told_view f.place f.unit
+
+-- how the walk ends
+abbrev pub end_told : End → ToldEnd
+end_told (ends.Rest start finish kind) = Rest start finish kind
+end_told (ends.Fault start closed error) = Fault start closed (cause_shown error)
+
+-- whether no header is refused
+abbrev pub is_accepted : End → Bool
+is_accepted (ends.Rest start finish kind) = true
+is_accepted (ends.Fault start closed error) = false
+
+-- the values of a column in headers
+abbrev pub found_values : ColumnValue → List Found → List Value
+found_values c headers = flat_map (header_values c) (map found_told headers)
+
+-- a column is written of headers that are gathered, whichever the packet's moment is
+abbrev pub TakesGathered : {W : Type 0} → (contents : W → Option (List ℕ)) → (can_fail : Type 0) → DeclaredColumn → ℕ → PacketValue → List Found → End
+    → (old new : OutputBuffer W) → Type 0
+TakesGathered contents can_fail c number p headers end old new =
+    (moment : Option Moment) → AreMoments p.time moment
+    → Takes contents can_fail old (column_text (column_view c) (sections number p moment (map found_told headers) (end_told end))) new
+
+-- .. a row
+abbrev pub TakesGatheredRow : {W : Type 0} → (contents : W → Option (List ℕ)) → (can_fail : Type 0) → List ColumnValue → ℕ → PacketValue → List Found
+    → End → (old new : OutputBuffer W) → Type 0
+TakesGatheredRow contents can_fail columns number p headers end old new =
+    (moment : Option Moment) → AreMoments p.time moment
+    → Takes contents can_fail old (row_text columns (sections number p moment (map found_told headers) (end_told end))) new

@@ -1,0 +1,85 @@
+//! The headers of one walk, gathered for all columns of a row.
+ghost use Rattle.std.specs.Prelude.{◌≡◌, [], IfSome, map};
+ghost use Rattle.ether_peel.specs.Walker.Start.{start_with};
+ghost use Rattle.ether_format.specs.Told.{TellsWalk};
+ghost use Rattle.ether_format.specs.Gathered.{end_told, found_told, is_accepted};
+
+use crate::column_value::section_of;
+use crate::found::Found;
+use crate::place::Place;
+use crate::walk::walker;
+use arrayvec::ArrayVec;
+use ether_peel::{PeelError, RestKind, Start};
+
+/// How many headers there is room for.
+const ROOM: usize = 4;
+
+/// The headers of a walk, in order.
+pub(crate) type Headers<'a> = ArrayVec<Found<'a>, ROOM>;
+
+/// How a walk ends.
+#[derive(Drop)]
+pub(crate) enum End {
+    /// What is left, from a place to a place.
+    Rest(usize, usize, RestKind),
+    /// A fault: where, and whether further bytes of the packet could not belong there.
+    Fault(usize, bool, PeelError),
+}
+
+impl End {
+    /// Whether no header is refused.
+    pub(crate) fn is_accepted(&self) -> bool
+        ensures { result ≡ is_accepted self.now }
+    {
+        match self {
+            End::Rest(_, _, _) => true,
+            End::Fault(_, _, _) => false,
+        }
+    }
+}
+
+/// Gathers the headers of a walk, and returns how it ends. Each place is counted from `header_len` bytes before the frame. Returns
+/// `None` if there is no room for the headers.
+#[inline(always)]
+pub(crate) fn gather<'a>(
+    header_len: u8,
+    start: Start,
+    limit: Option<usize>,
+    frame: &'a [u8],
+    headers: &mut Headers<'a>,
+) -> Option<End>
+    requires { headers.old.items ≡ [] }
+    ensures { IfSome result
+        (λ end. TellsWalk header_len (start_with start limit) frame.now (map found_told headers.new.items) (end_told end) (is_accepted end)) }
+{
+    let at = usize::from(header_len);
+    let mut peel = walker(start, limit, frame);
+    loop {
+        let start = at + peel.offset();
+        match peel.next() {
+            Some(Ok(unit)) => {
+                let header_end = at + peel.offset();
+                let place = Place {
+                    start,
+                    header_end,
+                    payload_end: header_end + peel.rest().len(),
+                    closed: peel.closed(),
+                };
+                if headers.is_full() {
+                    return None;
+                }
+                headers.push(Found {
+                    section: section_of(&unit),
+                    place,
+                    unit,
+                });
+            }
+            Some(Err(fault)) => {
+                return Some(End::Fault(at + fault.offset, fault.closed, fault.error));
+            }
+            None => {
+                return Some(End::Rest(start, start + peel.rest().len(), peel.kind()));
+            }
+        }
+    }
+}

@@ -1,0 +1,139 @@
+//! Writes a packet as a row of columns, from the headers of one walk.
+ghost use Rattle.std.specs.Prelude.{◌≡◌, [], IfSome, length, map, true};
+ghost use Rattle.ether_pcap.specs.CaptureViews.{captured_packet_view};
+ghost use Rattle.ether_content.specs.Content.{content_of};
+ghost use Rattle.ether_text.specs.OutputBuffer.{Takes, TakesAnswer};
+ghost use Rattle.ether_format.specs.declared.format.Format.TheVariants.{Fields};
+ghost use Rattle.ether_format.specs.Columns.{column_view, columns_view};
+ghost use Rattle.ether_format.specs.Gathered.{TakesGathered, TakesGatheredRow, end_told, found_told, found_values, is_accepted};
+ghost use Rattle.ether_format.specs.Texts.{HasText};
+ghost use Rattle.ether_format.specs.Told.{Tells};
+ghost use Rattle.ether_format.specs.Walking.{column_on, end_values};
+
+use crate::Columns;
+use crate::column::{Column, Section};
+use crate::found::Found;
+use crate::gathered::{End, Headers, gather};
+use crate::packet::moment_if;
+use crate::row::{write_only, write_row, write_value};
+use ether_content::Content;
+use ether_pcap::CapturedPacket;
+use ether_text::{OutputBuffer, Sink};
+
+/// Writes the row of a packet, and returns whether no header of the packet is refused.
+///
+/// One walk gathers the headers for all columns. If there are too many, or if a cooked header comes before those that are walked, each
+/// column walks them again.
+pub(crate) fn write_columns<W: Sink>(
+    columns: &Columns,
+    limit: Option<usize>,
+    number: usize,
+    packet: &CapturedPacket<'_>,
+    out: &mut OutputBuffer<'_, W>,
+) -> bool
+    ensures { TakesAnswer W.contents W.can_fail (HasText (Fields columns.now) limit number (captured_packet_view packet.now))
+        out.old out.new result }
+{
+    let mut headers = Headers::new();
+    match gather_packet(limit, packet, &mut headers) {
+        Some(end) => {
+            write_gathered(columns, number, packet, headers.as_slice(), &end, out);
+            end.is_accepted()
+        }
+        None => write_row(columns, limit, number, packet, moment_if(packet.time), out),
+    }
+}
+
+/// Gathers the headers of a packet, and returns how the walk ends. `None` if not all of them are walked, or if there is no room.
+#[inline(always)]
+fn gather_packet<'a>(
+    limit: Option<usize>,
+    packet: &CapturedPacket<'a>,
+    headers: &mut Headers<'a>,
+) -> Option<End>
+    requires { headers.old.items ≡ [] }
+    ensures { IfSome result
+        (λ end. Tells limit (length (captured_packet_view packet.now).packet) (content_of (captured_packet_view packet.now))
+        (map found_told headers.new.items) (end_told end) (is_accepted end)) }
+{
+    match Content::of(packet) {
+        Content::Frame(start, bytes) => gather(0, start, limit, bytes, headers),
+        _ => None,
+    }
+}
+
+/// Writes the row of a packet whose headers are gathered.
+#[inline(always)]
+fn write_gathered<W: Sink>(
+    columns: &Columns,
+    number: usize,
+    packet: &CapturedPacket<'_>,
+    headers: &[Found<'_>],
+    end: &End,
+    out: &mut OutputBuffer<'_, W>,
+)
+    ensures { TakesGatheredRow W.contents W.can_fail (columns_view columns.now) number (captured_packet_view packet.now) headers.now end.now
+        out.old out.new }
+{
+    let mut column = columns.first();
+    let mut others = columns.others();
+    loop {
+        write_column(column, number, packet, headers, end, out);
+        match others {
+            [next, rest @ ..] => {
+                out.append(b"\t");
+                column = *next;
+                others = rest;
+            }
+            [] => {
+                out.append(b"\n");
+                return;
+            }
+        }
+    }
+}
+
+/// Writes a column of a packet whose headers are gathered.
+#[inline(always)]
+fn write_column<W: Sink>(
+    column: Column,
+    number: usize,
+    packet: &CapturedPacket<'_>,
+    headers: &[Found<'_>],
+    end: &End,
+    out: &mut OutputBuffer<'_, W>,
+)
+    ensures { TakesGathered W.contents W.can_fail column number (captured_packet_view packet.now) headers.now end.now out.old out.new }
+{
+    if column.section == Section::Frame {
+        write_only(column.in_frame(number, packet), out);
+    } else if column.section.is_end() {
+        write_in_end(column, end, out);
+    } else {
+        write_in_headers(column, headers, out);
+    }
+}
+
+/// Writes the values of a column in headers.
+#[inline(always)]
+fn write_in_headers<W: Sink>(column: Column, headers: &[Found<'_>], out: &mut OutputBuffer<'_, W>)
+    ensures { Takes W.contents W.can_fail out.old (column_on true (found_values (column_view column) headers.now)) out.new }
+{
+    let mut is_first = true;
+    for found in headers {
+        is_first = write_value(is_first, column.in_found(found), out);
+    }
+}
+
+/// Writes the value of a column in how a walk ends, if there is one.
+#[inline(always)]
+fn write_in_end<W: Sink>(column: Column, end: &End, out: &mut OutputBuffer<'_, W>)
+    ensures { Takes W.contents W.can_fail out.old (column_on true (end_values (column_view column) (end_told end.now))) out.new }
+{
+    match end {
+        End::Rest(start, end, kind) => write_only(column.in_rest(*start, *end, *kind), out),
+        End::Fault(start, closed, error) => {
+            write_only(column.in_fault(*start, *closed, error), out);
+        }
+    }
+}
