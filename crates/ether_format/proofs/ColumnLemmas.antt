@@ -1,5 +1,5 @@
 -- A column that is written along a walk is that of the packet.
-use Rattle.std.proofs.Common.{◌≡◌, ℕ, zero, suc, ◌-◌, ◌≤◌, arith, List, [], ◌∷◌, ◌++◌, map, Bool, true, false, Option, refl, sym, ap, subst, ◌∙◌, append_assoc, append-nil}
+use Rattle.std.proofs.Common.{◌≡◌, ℕ, zero, suc, ◌-◌, ◌<◌, ◌≤◌, arith, List, [], ◌∷◌, ◌++◌, map, Bool, true, false, Option, refl, sym, ap, subst, ◌∙◌, append_assoc, append-nil}
 use Rattle.std.specs.Prelude.{codes, if◌then◌else◌}
 use Rattle.std.specs.List.{flat_map, join_by}
 use Rattle.etherparse.specs.Header as headers
@@ -16,6 +16,9 @@ use Rattle.ether_format.specs.declared.format.Part.TheVariants as written
 use Rattle.ether_format.specs.declared.place.Place.{Place as DeclaredPlace}
 use Rattle.ether_format.specs.declared.value.Member.{Member as DeclaredMember}
 use Rattle.ether_format.specs.Columns.{column_text, column_view, header_sections, section, section_members, section_name, sections, values_in}
+use Rattle.ether_format.specs.declared.found_header.FoundHeader.{FoundHeader}
+use Rattle.ether_format.specs.declared.found_header.FoundHeader.TheVariants as found
+use Rattle.ether_format.specs.FoundHeaders.{found_members, found_section, header_told}
 use Rattle.ether_format.specs.Members.{Member, Value, packet_members}
 use Rattle.ether_format.specs.Laws.{ColumnsAreMembers}
 use Rattle.ether_format.specs.Spelling.{column_value}
@@ -206,19 +209,47 @@ later_at name place os n le =
     let same : n ≡ suc (suc (suc (suc (suc (n - 5))))) = omega (arith, le) in
     ap (value_at (member_values (placed_members name place os))) (sym same)
 
--- a member of its own
-pub in_own : (c : Column) (place : DeclaredPlace) (u : PeelUnit) → c.section ≡ unit_section u → 5 ≤ c.index
-    → value_at (member_values (unit_members u)) (c.index - 5) ≡ header_values (column_view c) (told_view place u)
-in_own c place u same le =
-    let told = told_view place u in
-    let unit = is_unit place u in
-    let s = unit_section u in
-    let all = placed_members (section_name s) (place_view place) (unit_members u) in
-    let names : map (λ m. m.name) all ≡ section_members s =
-    ap (map (λ m. m.name)) (sym unit.members) ∙ names_told told ∙ ap section_members unit.of in
-    later_at (section_name s) (place_view place) (unit_members u) c.index le ∙ sym (values_some c s all same names)
-    ∙ (λ i. values_in (column_view c) (section (section_name (sym unit.of i)) (sym unit.members i)))
-    ∙ own_value c told (same ∙ sym unit.of)
+-- .. and those of the name and the place, whatever comes after them
+first_at : (name : List ℕ) (place : Place) (os : List Member) (n : ℕ) → n < 5
+    → value_at (member_values (placed_members name place [])) n ≡ value_at (member_values (placed_members name place os)) n
+first_at name place os zero lt = refl
+first_at name place os (suc zero) lt = refl
+first_at name place os (suc (suc zero)) lt = refl
+first_at name place os (suc (suc (suc zero))) lt = refl
+first_at name place os (suc (suc (suc (suc zero)))) lt = refl
+first_at name place os (suc (suc (suc (suc (suc n))))) lt = absurd (omega (arith, lt))
+
+-- a header has the members of its section
+record HasMembers (told : Told) (s : Section) (place : Place) (os : List Member) : Type 0 where
+  of : section_of told ≡ s
+  members : told_members told ≡ placed_members (section_name s) place os
+
+has_members : (place : DeclaredPlace) (h : FoundHeader) → HasMembers (header_told place h) (found_section h) (place_view place) (found_members h)
+has_members place (found.Walked u) = let unit = is_unit place u in record { of = unit.of; members = unit.members }
+has_members place (found.Cooked header) = record { of = refl; members = refl }
+has_members place (found.CookedV2 packet) = record { of = refl; members = refl }
+
+module _ (c : Column) (place : DeclaredPlace) (h : FoundHeader) (same : c.section ≡ found_section h) where
+  in_all : value_at (member_values (placed_members (section_name (found_section h)) (place_view place) (found_members h))) c.index
+      ≡ header_values (column_view c) (header_told place h)
+  in_all =
+      let told = header_told place h in
+      let s = found_section h in
+      let is = has_members place h in
+      let all = placed_members (section_name s) (place_view place) (found_members h) in
+      let names : map (λ m. m.name) all ≡ section_members s =
+      ap (map (λ m. m.name)) (sym is.members) ∙ names_told told ∙ ap section_members is.of in
+      sym (values_some c s all same names) ∙ (λ i. values_in (column_view c) (section (section_name (sym is.of i)) (sym is.members i)))
+      ∙ own_value c told (same ∙ sym is.of)
+
+  -- a member of its own
+  pub in_own : 5 ≤ c.index → value_at (member_values (found_members h)) (c.index - 5) ≡ header_values (column_view c) (header_told place h)
+  in_own le = later_at (section_name (found_section h)) (place_view place) (found_members h) c.index le ∙ in_all
+
+  -- its name, or a member of its place
+  pub in_front : c.index < 5 → value_at (member_values (placed_members (section_name (found_section h)) (place_view place) [])) c.index
+      ≡ header_values (column_view c) (header_told place h)
+  in_front lt = first_at (section_name (found_section h)) (place_view place) (found_members h) c.index lt ∙ in_all
 
 abbrev Parted : (vs ws us : List Value) → Type 0
 Parted vs ws us = column_on true vs ++ (column_on true ws ++ column_on true us) ≡ column_on true (vs ++ (ws ++ us))

@@ -19,7 +19,7 @@ use crate::column::{Column, Section};
 use crate::found::Found;
 use crate::members::placed;
 use crate::place::Place;
-use crate::unit_value::{packet_value, placed_value, unit_value};
+use crate::unit_value::{header_value, packet_value, placed_value};
 use crate::value::{Member, Value};
 use crate::{Moment, endings, members};
 use ether_content::CookedHeader;
@@ -99,7 +99,7 @@ impl Column {
         if self.index < MEMBERS_OF_PLACE {
             return placed_value(found.section, found.place, self.index);
         }
-        unit_value(&found.unit, self.index - MEMBERS_OF_PLACE)
+        header_value(&found.header, self.index - MEMBERS_OF_PLACE)
     }
 
     /// Its value in a header of cooked capture v1 that is not walked.

@@ -1,20 +1,21 @@
-//! A header that a walk finds.
+//! A header that is found in a packet, and where it is.
 ghost use Rattle.std.specs.Prelude.{◌≡◌};
-ghost use Rattle.ether_format.specs.Walking.{unit_section};
+ghost use Rattle.ether_format.specs.FoundHeaders.{found_section};
 
 use crate::column::Section;
+use crate::found_header::FoundHeader;
 use crate::place::Place;
 use ether_peel::PeelUnit;
 use etherparse::SingleVlanSlice;
 
-/// A header that a walk finds, and where.
+/// A header that is found in a packet, and where it is.
 #[derive(Drop)]
 pub(crate) struct Found<'a> {
     /// Its section of columns.
     pub(crate) section: Section,
     pub(crate) place: Place,
-    pub(crate) unit: PeelUnit<'a>,
-    ghost own: { section ≡ unit_section unit },
+    pub(crate) header: FoundHeader<'a>,
+    ghost own: { section ≡ found_section header },
 }
 
 /// A VLAN tag of zeros at offset 0, as the unused places of a list of a fixed capacity hold it.
@@ -29,7 +30,7 @@ impl<'a> Default for Found<'a> {
                     payload_end: 0,
                     closed: false,
                 },
-                unit: PeelUnit::Vlan(tag),
+                header: FoundHeader::Walked(PeelUnit::Vlan(tag)),
             },
             Err(_) => unreachable!(),
         }

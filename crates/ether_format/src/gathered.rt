@@ -1,11 +1,11 @@
 //! The headers of one walk, gathered for all columns of a row.
-ghost use Rattle.std.specs.Prelude.{◌≡◌, [], IfSome, map};
+ghost use Rattle.std.specs.Prelude.{◌≡◌, IfSome};
 ghost use Rattle.ether_peel.specs.Walker.Start.{start_with};
-ghost use Rattle.ether_format.specs.Told.{TellsWalk};
-ghost use Rattle.ether_format.specs.Gathered.{end_told, found_told, is_accepted};
+ghost use Rattle.ether_format.specs.Gathered.{GathersWalk, is_accepted};
 
 use crate::column_value::section_of;
 use crate::found::Found;
+use crate::found_header::FoundHeader;
 use crate::place::Place;
 use crate::walk::walker;
 use arrayvec::ArrayVec;
@@ -22,6 +22,8 @@ pub(crate) type Headers<'a> = ArrayVec<Found<'a>, ROOM>;
 pub(crate) enum End {
     /// What is left, from a place to a place.
     Rest(usize, usize, RestKind),
+    /// Nothing is walked of a packet of so many bytes.
+    Skipped(usize),
     /// A fault: where, and whether further bytes of the packet could not belong there.
     Fault(usize, bool, PeelError),
 }
@@ -32,14 +34,14 @@ impl End {
         ensures { result ≡ is_accepted self.now }
     {
         match self {
-            End::Rest(_, _, _) => true,
+            End::Rest(_, _, _) | End::Skipped(_) => true,
             End::Fault(_, _, _) => false,
         }
     }
 }
 
-/// Gathers the headers of a walk, and returns how it ends. Each place is counted from `header_len` bytes before the frame. Returns
-/// `None` if there is no room for the headers.
+/// Adds the headers of a walk to those before it, and returns how it ends. Each place is counted from `header_len` bytes before the
+/// frame. Returns `None` if there is no room for the headers.
 #[inline(always)]
 pub(crate) fn gather<'a>(
     header_len: u8,
@@ -48,9 +50,7 @@ pub(crate) fn gather<'a>(
     frame: &'a [u8],
     headers: &mut Headers<'a>,
 ) -> Option<End>
-    requires { headers.old.items ≡ [] }
-    ensures { IfSome result
-        (λ end. TellsWalk header_len (start_with start limit) frame.now (map found_told headers.new.items) (end_told end) (is_accepted end)) }
+    ensures { IfSome result (λ end. GathersWalk header_len (start_with start limit) frame.now headers.old.items headers.new.items end) }
 {
     let at = usize::from(header_len);
     let mut peel = walker(start, limit, frame);
@@ -71,7 +71,7 @@ pub(crate) fn gather<'a>(
                 headers.push(Found {
                     section: section_of(&unit),
                     place,
-                    unit,
+                    header: FoundHeader::Walked(unit),
                 });
             }
             Some(Err(fault)) => {

@@ -9,6 +9,7 @@ mod columns;
 mod endings;
 mod format;
 mod found;
+mod found_header;
 mod gathered;
 mod gathered_row;
 mod json;

@@ -229,7 +229,7 @@ fn write_cooked_v2<W: Sink>(
 }
 
 /// The place of a cooked header at the front of so many bytes.
-fn cooked_place(header_len: usize, len: usize) -> Place
+pub(crate) fn cooked_place(header_len: usize, len: usize) -> Place
     ensures { place_view result ≡ cooked_place header_len len }
 {
     Place {

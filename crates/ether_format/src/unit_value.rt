@@ -6,29 +6,63 @@ ghost use Rattle.etherparse.specs.Ethernet2.{ethernet2_of, fcs_of};
 ghost use Rattle.etherparse.specs.LinuxSll.{linux_sll_of};
 ghost use Rattle.etherparse.specs.Macsec.{sec_tag_of, tag_bytes};
 ghost use Rattle.etherparse.specs.Vlan.{vlan_of};
+ghost use Rattle.ether_content.specs.ContentViews.{cooked_view};
+ghost use Rattle.ether_sll2.specs.LinuxSll2.{linux_sll2_of};
 ghost use Rattle.ether_pcap.specs.CaptureViews.{captured_packet_view, timestamp_view};
 ghost use Rattle.ether_format.specs.declared.moment.Moment.{Moment as DeclaredMoment};
 ghost use Rattle.ether_format.specs.Calendar.{AreMoments};
 ghost use Rattle.ether_format.specs.Columns.{section_name};
-ghost use Rattle.ether_format.specs.Members.{arp_members, ethernet2_members, linux_sll_members, macsec_members, packet_members, vlan_members};
+ghost use Rattle.ether_format.specs.FoundHeaders.{found_members};
+ghost use Rattle.ether_format.specs.Members.{arp_members, ethernet2_members, linux_sll2_members, linux_sll_members, macsec_members, packet_members, vlan_members};
 ghost use Rattle.ether_format.specs.Told.{placed_members};
 ghost use Rattle.ether_format.specs.Walking.{if_any, member_values, place_view, unit_members, value_at, value_view};
 
 use crate::column::Section;
 use crate::column_value::member_at;
+use crate::found_header::FoundHeader;
 use crate::members::{self, fcs_value, placed, protocol_address, time_value};
 use crate::packet::moment_if;
 use crate::place::Place;
 use crate::value::Value;
+use ether_content::CookedHeader;
 use ether_pcap::CapturedPacket;
 use ether_peel::PeelUnit;
+use ether_sll2::LinuxSll2Slice;
 use etherparse::{
     ArpPacketSlice, Ethernet2Slice, LinuxSllSlice, MacsecHeaderSlice, SingleVlanSlice,
 };
 
 /// The value of a member of a header, counted from the first after its place.
 #[inline(always)]
-pub(crate) fn unit_value<'a>(unit: &'a PeelUnit<'_>, index: u8) -> Option<Value<'a>>
+pub(crate) fn header_value<'a>(header: &'a FoundHeader<'_>, index: u8) -> Option<Value<'a>>
+    ensures { if_any (option_map value_view result) ≡ value_at (member_values (found_members header.now)) index }
+{
+    match header {
+        FoundHeader::Walked(unit) => unit_value(unit, index),
+        FoundHeader::Cooked(header) => cooked_value(header, index),
+        FoundHeader::CookedV2(packet) => linux_sll2_value(packet, index),
+    }
+}
+
+/// The value of a member of a header of cooked capture v1 that is not walked.
+#[inline(never)]
+fn cooked_value<'a>(header: &'a CookedHeader, index: u8) -> Option<Value<'a>>
+    ensures { if_any (option_map value_view result) ≡ value_at (member_values (linux_sll_members (cooked_view header.now))) index }
+{
+    member_at(&[], &members::cooked(header), index)
+}
+
+/// The value of a member of a header of cooked capture v2.
+#[inline(never)]
+fn linux_sll2_value<'a>(packet: &'a LinuxSll2Slice<'_>, index: u8) -> Option<Value<'a>>
+    ensures { if_any (option_map value_view result) ≡ value_at (member_values (linux_sll2_members (linux_sll2_of packet.now))) index }
+{
+    member_at(&[], &members::linux_sll2(packet), index)
+}
+
+/// The value of a member of a header of the walk.
+#[inline(always)]
+fn unit_value<'a>(unit: &'a PeelUnit<'_>, index: u8) -> Option<Value<'a>>
     ensures { if_any (option_map value_view result) ≡ value_at (member_values (unit_members unit.now)) index }
 {
     match unit {

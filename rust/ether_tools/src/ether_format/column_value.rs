@@ -4,7 +4,7 @@ use crate::ether_format::column::{Column, Section};
 use crate::ether_format::found::Found;
 use crate::ether_format::members::placed;
 use crate::ether_format::place::Place;
-use crate::ether_format::unit_value::{packet_value, placed_value, unit_value};
+use crate::ether_format::unit_value::{header_value, packet_value, placed_value};
 use crate::ether_format::value::{Member, Value};
 use crate::ether_format::{Moment, endings, members};
 use etherpeel::ether_content::CookedHeader;
@@ -72,7 +72,7 @@ impl Column {
         if self.index < MEMBERS_OF_PLACE {
             return placed_value(found.section, found.place, self.index);
         }
-        unit_value(&found.unit, self.index - MEMBERS_OF_PLACE)
+        header_value(&found.header, self.index - MEMBERS_OF_PLACE)
     }
 
     /// Its value in a header of cooked capture v1 that is not walked.

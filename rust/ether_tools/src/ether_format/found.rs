@@ -1,16 +1,17 @@
-//! A header that a walk finds.
+//! A header that is found in a packet, and where it is.
 
 use crate::ether_format::column::Section;
+use crate::ether_format::found_header::FoundHeader;
 use crate::ether_format::place::Place;
 use etherpeel::ether_peel::PeelUnit;
 use etherpeel::SingleVlanSlice;
 
-/// A header that a walk finds, and where.
+/// A header that is found in a packet, and where it is.
 pub(crate) struct Found<'a> {
     /// Its section of columns.
     pub(crate) section: Section,
     pub(crate) place: Place,
-    pub(crate) unit: PeelUnit<'a>,
+    pub(crate) header: FoundHeader<'a>,
 }
 
 /// A VLAN tag of zeros at offset 0, as the unused places of a list of a fixed capacity hold it.
@@ -25,7 +26,7 @@ impl<'a> Default for Found<'a> {
                     payload_end: 0,
                     closed: false,
                 },
-                unit: PeelUnit::Vlan(tag),
+                header: FoundHeader::Walked(PeelUnit::Vlan(tag)),
             },
             Err(_) => unreachable!(),
         }

@@ -2,6 +2,7 @@
 
 use crate::ether_format::column_value::section_of;
 use crate::ether_format::found::Found;
+use crate::ether_format::found_header::FoundHeader;
 use crate::ether_format::place::Place;
 use crate::ether_format::walk::walker;
 use arrayvec::ArrayVec;
@@ -17,6 +18,8 @@ pub(crate) type Headers<'a> = ArrayVec<Found<'a>, ROOM>;
 pub(crate) enum End {
     /// What is left, from a place to a place.
     Rest(usize, usize, RestKind),
+    /// Nothing is walked of a packet of so many bytes.
+    Skipped(usize),
     /// A fault: where, and whether further bytes of the packet could not belong there.
     Fault(usize, bool, PeelError),
 }
@@ -25,14 +28,14 @@ impl End {
     /// Whether no header is refused.
     pub(crate) fn is_accepted(&self) -> bool {
         match self {
-            End::Rest(_, _, _) => true,
+            End::Rest(_, _, _) | End::Skipped(_) => true,
             End::Fault(_, _, _) => false,
         }
     }
 }
 
-/// Gathers the headers of a walk, and returns how it ends. Each place is counted from `header_len` bytes before the frame. Returns
-/// `None` if there is no room for the headers.
+/// Adds the headers of a walk to those before it, and returns how it ends. Each place is counted from `header_len` bytes before the
+/// frame. Returns `None` if there is no room for the headers.
 #[inline(always)]
 pub(crate) fn gather<'a>(
     header_len: u8,
@@ -60,7 +63,7 @@ pub(crate) fn gather<'a>(
                 headers.push(Found {
                     section: section_of(&unit),
                     place,
-                    unit,
+                    header: FoundHeader::Walked(unit),
                 });
             }
             Some(Err(fault)) => {

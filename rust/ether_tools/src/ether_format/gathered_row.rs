@@ -3,17 +3,19 @@
 use crate::ether_format::Columns;
 use crate::ether_format::column::{Column, Section};
 use crate::ether_format::found::Found;
+use crate::ether_format::found_header::FoundHeader;
 use crate::ether_format::gathered::{End, Headers, gather};
-use crate::ether_format::packet::moment_if;
+use crate::ether_format::packet::{cooked_place, moment_if};
 use crate::ether_format::row::{write_only, write_row, write_value};
-use etherpeel::ether_content::Content;
+use etherpeel::ether_content::{Content, CookedHeader};
 use etherpeel::ether_pcap::CapturedPacket;
+use etherpeel::ether_peel::{RestKind, Start};
+use etherpeel::ether_sll2::{LinuxSll2Header, LinuxSll2Slice};
 use crate::ether_text::{OutputBuffer, Sink};
 
 /// Writes the row of a packet, and returns whether no header of the packet is refused.
 ///
-/// One walk gathers the headers for all columns. If there are too many, or if a cooked header comes before those that are walked, each
-/// column walks them again.
+/// One walk gathers the headers for all columns. If there is no room for them, each column walks them again.
 pub(crate) fn write_columns<W: Sink>(
     columns: &Columns,
     limit: Option<usize>,
@@ -31,7 +33,8 @@ pub(crate) fn write_columns<W: Sink>(
     }
 }
 
-/// Gathers the headers of a packet, and returns how the walk ends. `None` if not all of them are walked, or if there is no room.
+/// Gathers the headers of a packet, and returns how the walk ends. `None` if there is no room for the headers, or if one of cooked
+/// capture v2 is refused.
 #[inline(always)]
 fn gather_packet<'a>(
     limit: Option<usize>,
@@ -40,7 +43,53 @@ fn gather_packet<'a>(
 ) -> Option<End> {
     match Content::of(packet) {
         Content::Frame(start, bytes) => gather(0, start, limit, bytes, headers),
-        _ => None,
+        Content::LinuxSll(header, payload) => gather_cooked(limit, header, payload, headers),
+        Content::LinuxSll2(bytes) => gather_cooked_v2(limit, bytes, headers),
+        Content::Unknown => Some(End::Skipped(packet.packet.len())),
+    }
+}
+
+/// Gathers a header of cooked capture v1 that is not walked, and those of its payload.
+#[inline(never)]
+fn gather_cooked<'a>(
+    limit: Option<usize>,
+    header: CookedHeader,
+    payload: &'a [u8],
+    headers: &mut Headers<'a>,
+) -> Option<End> {
+    let len = CookedHeader::LEN + payload.len();
+    let start = Start::EtherType(header.protocol);
+    headers.push(Found {
+        section: Section::Sll,
+        place: cooked_place(CookedHeader::LEN, len),
+        header: FoundHeader::Cooked(header),
+    });
+    gather(CookedHeader::LEN as u8, start, limit, payload, headers)
+}
+
+/// Gathers the headers of a packet of cooked capture v2.
+#[inline(never)]
+fn gather_cooked_v2<'a>(
+    limit: Option<usize>,
+    bytes: &'a [u8],
+    headers: &mut Headers<'a>,
+) -> Option<End> {
+    let packet = match LinuxSll2Slice::from_slice(bytes) {
+        Ok(packet) => packet,
+        Err(_) => return None,
+    };
+    let len = LinuxSll2Header::LEN;
+    let start = packet.start();
+    let payload = packet.payload_slice();
+    let kind = RestKind::Sll(packet.protocol_type());
+    headers.push(Found {
+        section: Section::Sll2,
+        place: cooked_place(len, bytes.len()),
+        header: FoundHeader::CookedV2(packet),
+    });
+    match start {
+        Some(start) => gather(len as u8, start, limit, payload, headers),
+        None => Some(End::Rest(len, bytes.len(), kind)),
     }
 }
 
@@ -105,6 +154,7 @@ fn write_in_headers<W: Sink>(column: Column, headers: &[Found<'_>], out: &mut Ou
 fn write_in_end<W: Sink>(column: Column, end: &End, out: &mut OutputBuffer<'_, W>) {
     match end {
         End::Rest(start, end, kind) => write_only(column.in_rest(*start, *end, *kind), out),
+        End::Skipped(len) => write_only(column.in_skipped(*len), out),
         End::Fault(start, closed, error) => {
             write_only(column.in_fault(*start, *closed, error), out);
         }

@@ -221,7 +221,7 @@ fn write_cooked_v2<W: Sink>(
 }
 
 /// The place of a cooked header at the front of so many bytes.
-fn cooked_place(header_len: usize, len: usize) -> Place {
+pub(crate) fn cooked_place(header_len: usize, len: usize) -> Place {
     Place {
         start: 0,
         header_end: header_len,

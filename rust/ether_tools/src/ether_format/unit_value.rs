@@ -2,19 +2,44 @@
 
 use crate::ether_format::column::Section;
 use crate::ether_format::column_value::member_at;
+use crate::ether_format::found_header::FoundHeader;
 use crate::ether_format::members::{self, fcs_value, placed, protocol_address, time_value};
 use crate::ether_format::packet::moment_if;
 use crate::ether_format::place::Place;
 use crate::ether_format::value::Value;
+use etherpeel::ether_content::CookedHeader;
 use etherpeel::ether_pcap::CapturedPacket;
 use etherpeel::ether_peel::PeelUnit;
+use etherpeel::ether_sll2::LinuxSll2Slice;
 use etherpeel::{
     ArpPacketSlice, Ethernet2Slice, LinuxSllSlice, MacsecHeaderSlice, SingleVlanSlice,
 };
 
 /// The value of a member of a header, counted from the first after its place.
 #[inline(always)]
-pub(crate) fn unit_value<'a>(unit: &'a PeelUnit<'_>, index: u8) -> Option<Value<'a>> {
+pub(crate) fn header_value<'a>(header: &'a FoundHeader<'_>, index: u8) -> Option<Value<'a>> {
+    match header {
+        FoundHeader::Walked(unit) => unit_value(unit, index),
+        FoundHeader::Cooked(header) => cooked_value(header, index),
+        FoundHeader::CookedV2(packet) => linux_sll2_value(packet, index),
+    }
+}
+
+/// The value of a member of a header of cooked capture v1 that is not walked.
+#[inline(never)]
+fn cooked_value<'a>(header: &'a CookedHeader, index: u8) -> Option<Value<'a>> {
+    member_at(&[], &members::cooked(header), index)
+}
+
+/// The value of a member of a header of cooked capture v2.
+#[inline(never)]
+fn linux_sll2_value<'a>(packet: &'a LinuxSll2Slice<'_>, index: u8) -> Option<Value<'a>> {
+    member_at(&[], &members::linux_sll2(packet), index)
+}
+
+/// The value of a member of a header of the walk.
+#[inline(always)]
+fn unit_value<'a>(unit: &'a PeelUnit<'_>, index: u8) -> Option<Value<'a>> {
     match unit {
         PeelUnit::Ethernet2(slice) => ethernet2_value(slice, index),
         PeelUnit::LinuxSll(slice) => linux_sll_value(slice, index),
