@@ -21,7 +21,7 @@ use Rattle.ether_format.proofs.OneMoment.{one_moment}
 abbrev pub Same : (told other : List Told) (end last : ToldEnd) (accepted also : Bool) → Type 0
 Same told other end last accepted also = (told ≡ other) × (end ≡ last) × (accepted ≡ also)
 
-one_walk : (at : ℕ) (x : Expectation) (frame : List ℕ) (told other : List Told) (end last : ToldEnd) (accepted also : Bool)
+pub one_walk : (at : ℕ) (x : Expectation) (frame : List ℕ) (told other : List Told) (end last : ToldEnd) (accepted also : Bool)
     → TellsWalk at x frame told end accepted → TellsWalk at x frame other last also → Same told other end last accepted also
 one_walk at x frame told other end last accepted also a b =
     let same = one_stack frame x (whole x frame) a.headers b.headers a.ending b.ending a.walk b.walk in (

@@ -1,7 +1,8 @@
 //! The headers of one walk, gathered for all columns of a row.
-ghost use Rattle.std.specs.Prelude.{◌≡◌, IfSome};
+ghost use Rattle.std.specs.Prelude.{◌≡◌, IfNone, IfSome, length};
 ghost use Rattle.ether_peel.specs.Walker.Start.{start_with};
-ghost use Rattle.ether_format.specs.Gathered.{GathersWalk, is_accepted};
+ghost use Rattle.ether_format.specs.Gathered.{GathersWalk, HasNoRoom, is_accepted};
+ghost use Rattle.ether_format.specs.Told.{TellsWalk};
 
 use crate::column_value::section_of;
 use crate::found::Found;
@@ -10,6 +11,7 @@ use crate::place::Place;
 use crate::walk::walker;
 use arrayvec::ArrayVec;
 use ether_peel::{PeelError, RestKind, Start};
+use ether_sll2::LinuxSll2Error;
 
 /// How many headers there is room for.
 const ROOM: usize = 4;
@@ -26,6 +28,8 @@ pub(crate) enum End {
     Skipped(usize),
     /// A fault: where, and whether further bytes of the packet could not belong there.
     Fault(usize, bool, PeelError),
+    /// A header of cooked capture v2 is refused.
+    RefusedV2(LinuxSll2Error),
 }
 
 impl End {
@@ -35,7 +39,7 @@ impl End {
     {
         match self {
             End::Rest(_, _, _) | End::Skipped(_) => true,
-            End::Fault(_, _, _) => false,
+            End::Fault(_, _, _) | End::RefusedV2(_) => false,
         }
     }
 }
@@ -50,7 +54,9 @@ pub(crate) fn gather<'a>(
     frame: &'a [u8],
     headers: &mut Headers<'a>,
 ) -> Option<End>
-    ensures { IfSome result (λ end. GathersWalk header_len (start_with start limit) frame.now headers.old.items headers.new.items end) }
+    ensures some { IfSome result
+        (λ end. GathersWalk header_len (start_with start limit) frame.now headers.old.items headers.new.items end) }
+    ensures none { IfNone result (HasNoRoom (TellsWalk header_len (start_with start limit) frame.now) (length headers.old.items)) }
 {
     let at = usize::from(header_len);
     let mut peel = walker(start, limit, frame);

@@ -1,5 +1,5 @@
 //! Writes a packet as a row of columns, from the headers of one walk.
-ghost use Rattle.std.specs.Prelude.{◌≡◌, [], IfSome, length, map, true};
+ghost use Rattle.std.specs.Prelude.{◌≡◌, [], IfNone, IfSome, length, map, true};
 ghost use Rattle.ether_pcap.specs.CaptureViews.{captured_packet_view};
 ghost use Rattle.ether_content.specs.Content.{content_of};
 ghost use Rattle.ether_content.specs.Content as contents;
@@ -7,7 +7,7 @@ ghost use Rattle.ether_content.specs.ContentViews.{cooked_view};
 ghost use Rattle.ether_text.specs.OutputBuffer.{Takes, TakesAnswer};
 ghost use Rattle.ether_format.specs.declared.format.Format.TheVariants.{Fields};
 ghost use Rattle.ether_format.specs.Columns.{column_view, columns_view};
-ghost use Rattle.ether_format.specs.Gathered.{TakesGathered, TakesGatheredRow, end_told, found_told, found_values, is_accepted};
+ghost use Rattle.ether_format.specs.Gathered.{HasNoRoom, TakesGathered, TakesGatheredRow, end_told, found_told, found_values, is_accepted};
 ghost use Rattle.ether_format.specs.Texts.{HasText};
 ghost use Rattle.ether_format.specs.Told.{Tells, TellsCookedV2};
 ghost use Rattle.ether_format.specs.Walking.{column_on, end_values};
@@ -48,8 +48,7 @@ pub(crate) fn write_columns<W: Sink>(
     }
 }
 
-/// Gathers the headers of a packet, and returns how the walk ends. `None` if there is no room for the headers, or if one of cooked
-/// capture v2 is refused.
+/// Gathers the headers of a packet, and returns how the walk ends. `None` if there is no room for the headers.
 #[inline(always)]
 fn gather_packet<'a>(
     limit: Option<usize>,
@@ -57,9 +56,11 @@ fn gather_packet<'a>(
     headers: &mut Headers<'a>,
 ) -> Option<End>
     requires { headers.old.items ≡ [] }
-    ensures { IfSome result
+    ensures some { IfSome result
         (λ end. Tells limit (length (captured_packet_view packet.now).packet) (content_of (captured_packet_view packet.now))
         (map found_told headers.new.items) (end_told end) (is_accepted end)) }
+    ensures none { IfNone result
+        (HasNoRoom (Tells limit (length (captured_packet_view packet.now).packet) (content_of (captured_packet_view packet.now))) 0) }
 {
     match Content::of(packet) {
         Content::Frame(start, bytes) => gather(0, start, limit, bytes, headers),
@@ -78,9 +79,10 @@ fn gather_cooked<'a>(
     headers: &mut Headers<'a>,
 ) -> Option<End>
     requires { headers.old.items ≡ [] }
-    ensures { IfSome result
+    ensures some { IfSome result
         (λ end. Tells limit 0 (contents.LinuxSll (cooked_view header) payload.now) (map found_told headers.new.items) (end_told end)
         (is_accepted end)) }
+    ensures none { IfNone result (HasNoRoom (Tells limit 0 (contents.LinuxSll (cooked_view header) payload.now)) 0) }
 {
     let len = CookedHeader::LEN + payload.len();
     let start = Start::EtherType(header.protocol);
@@ -100,12 +102,13 @@ fn gather_cooked_v2<'a>(
     headers: &mut Headers<'a>,
 ) -> Option<End>
     requires { headers.old.items ≡ [] }
-    ensures { IfSome result
+    ensures some { IfSome result
         (λ end. TellsCookedV2 limit bytes.now (map found_told headers.new.items) (end_told end) (is_accepted end)) }
+    ensures none { IfNone result (HasNoRoom (TellsCookedV2 limit bytes.now) 0) }
 {
     let packet = match LinuxSll2Slice::from_slice(bytes) {
         Ok(packet) => packet,
-        Err(_) => return None,
+        Err(error) => return Some(End::RefusedV2(error)),
     };
     let len = LinuxSll2Header::LEN;
     let start = packet.start();
@@ -196,5 +199,6 @@ fn write_in_end<W: Sink>(column: Column, end: &End, out: &mut OutputBuffer<'_, W
         End::Fault(start, closed, error) => {
             write_only(column.in_fault(*start, *closed, error), out);
         }
+        End::RefusedV2(error) => write_only(column.in_linux_sll2_fault(error), out),
     }
 }

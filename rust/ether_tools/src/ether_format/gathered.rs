@@ -7,6 +7,7 @@ use crate::ether_format::place::Place;
 use crate::ether_format::walk::walker;
 use arrayvec::ArrayVec;
 use etherpeel::ether_peel::{PeelError, RestKind, Start};
+use etherpeel::ether_sll2::LinuxSll2Error;
 
 /// How many headers there is room for.
 const ROOM: usize = 4;
@@ -22,6 +23,8 @@ pub(crate) enum End {
     Skipped(usize),
     /// A fault: where, and whether further bytes of the packet could not belong there.
     Fault(usize, bool, PeelError),
+    /// A header of cooked capture v2 is refused.
+    RefusedV2(LinuxSll2Error),
 }
 
 impl End {
@@ -29,7 +32,7 @@ impl End {
     pub(crate) fn is_accepted(&self) -> bool {
         match self {
             End::Rest(_, _, _) | End::Skipped(_) => true,
-            End::Fault(_, _, _) => false,
+            End::Fault(_, _, _) | End::RefusedV2(_) => false,
         }
     }
 }

@@ -33,8 +33,7 @@ pub(crate) fn write_columns<W: Sink>(
     }
 }
 
-/// Gathers the headers of a packet, and returns how the walk ends. `None` if there is no room for the headers, or if one of cooked
-/// capture v2 is refused.
+/// Gathers the headers of a packet, and returns how the walk ends. `None` if there is no room for the headers.
 #[inline(always)]
 fn gather_packet<'a>(
     limit: Option<usize>,
@@ -76,7 +75,7 @@ fn gather_cooked_v2<'a>(
 ) -> Option<End> {
     let packet = match LinuxSll2Slice::from_slice(bytes) {
         Ok(packet) => packet,
-        Err(_) => return None,
+        Err(error) => return Some(End::RefusedV2(error)),
     };
     let len = LinuxSll2Header::LEN;
     let start = packet.start();
@@ -158,5 +157,6 @@ fn write_in_end<W: Sink>(column: Column, end: &End, out: &mut OutputBuffer<'_, W
         End::Fault(start, closed, error) => {
             write_only(column.in_fault(*start, *closed, error), out);
         }
+        End::RefusedV2(error) => write_only(column.in_linux_sll2_fault(error), out),
     }
 }

@@ -1,9 +1,9 @@
-use Rattle.std.proofs.Common.{ℕ, List, ◌+◌, length, refl, sym, ap, subst, arith}
+use Rattle.std.proofs.Common.{◌≡◌, rules, ℕ, List, ◌+◌, length, refl, sym, ap, subst, arith}
 use Rattle.ether_peel.specs.Walker.Start.{start_with}
 use Rattle.ether_format.specs.declared.found.Found.{Found}
 use Rattle.ether_format.specs.declared.gathered.End.TheVariants as ends
 use Rattle.ether_format.specs.Gathered.{GathersWalk}
-use Rattle.ether_format.proofs.GatherLemmas.{Gathers, gather_starts, gather_unit, gather_ends}
+use Rattle.ether_format.proofs.GatherLemmas.{Gathers, gather_full, gather_starts, gather_unit, gather_ends}
 use Rattle.ether_format.proofs.WalkLemmas.{fault_told, rest_told}
 use Rattle.ether_format.proofs.gathered.gather.Goals as goal
 
@@ -28,8 +28,8 @@ loop-unit-preserved c =
     c.next.new.self c.loop-unit.headers.items _ c.in-Some-Ok.unit refl (λ i. omega (arith, c.type_inv.frame i)) c.loop-unit.invariant gives
     (λ i. at i + begin i) (λ i. at i + middle i) (omega (arith, at, middle, left)) c.closed.ensures)
 
-pub returns-in-Some-Err : goal.returns-in-Some-Err
-returns-in-Some-Err c =
+pub returns-in-Some-Err-clause-some : goal.returns-in-Some-Err-clause-some
+returns-in-Some-Err-clause-some c =
     let gives = rw c.in-Some-Err.field-0-is at c.in-Some-Err.ensures.steps in
     let f = c.in-Some-Err.fault in
     let a = c.loop-unit.invariant in
@@ -42,8 +42,8 @@ returns-in-Some-Err c =
     (ends.Fault (c.args.header_len + f.offset) f.closed f.error) a
     (fault_told c.args.header_len c.args.frame.now a.window a.left a.ending c.loop-unit.peel c.next.new.self a.faces a.going f gives))
 
-pub returns-in-None : goal.returns-in-None
-returns-in-None c =
+pub returns-in-None-clause-some : goal.returns-in-None-clause-some
+returns-in-None-clause-some c =
     let a = c.loop-unit.invariant in
     let at = c.from-at.ensures in
     let begin = c.offset.ensures.value in
@@ -52,3 +52,10 @@ returns-in-None c =
     c.loop-unit.headers.items (ends.Rest _ _ c.kind.result) a
     (rest_told c.args.header_len c.args.frame.now a.window a.left a.ending c.loop-unit.peel c.next.new.self a.faces a.going _ _ c.kind.result
     c.in-None.ensures.steps (λ i. at i + begin i) (omega (arith, at, begin, left)) c.kind.ensures)
+
+pub returns-then-is_full-clause-none : goal.returns-then-is_full-clause-none
+returns-then-is_full-clause-none c =
+    let gives = rw c.in-Some-Ok.field-0-is at c.in-Some-Ok.ensures.steps in
+    let full : length c.loop-unit.headers.items ≡ 4 = search rules in
+    gather_full c.args.header_len (start_with c.args.start c.args.limit) c.args.frame.now c.args.headers.now.items c.loop-unit.peel
+    c.next.new.self c.loop-unit.headers.items c.in-Some-Ok.unit c.loop-unit.invariant gives full

@@ -15,7 +15,7 @@ returns-in-Some g c =
     let moment = some_moments p.time in
     let gathered = subst
     (λ (l : List Found). Tells c.args.limit (length p.packet) (content_of p) (map found_told l) (end_told end) (is_accepted end))
-    (sym c.as_slice.ensures.value) c.in-Some.ensures in
+    (sym c.as_slice.ensures.value) c.in-Some.ensures.some in
     record {
       text = _;
       answers = record {
