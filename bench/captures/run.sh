@@ -49,7 +49,8 @@ if command -v valgrind > /dev/null 2>&1; then
     for file in mixed small; do
         packets=$(sed -n "s/.*$file.pcap: \([0-9]*\) packets/\1/p" "$work/counts")
         for words in --plain '' '--format brief' '--format json' '--fields vlan.vid' '--fields vlan.vid,eth.src' \
-            '--fields frame.number,vlan.vid,eth.src' '--fields frame.number,frame.time,eth.src,eth.dst,eth.type,vlan.vid,arp.spa,rest.type' \
+            '--fields frame.number,vlan.vid,eth.src' '--fields eth.dst,eth.src,eth.type,vlan.vid' \
+            '--fields frame.number,frame.time,eth.src,eth.dst,eth.type,vlan.vid,arp.spa,rest.type' \
             '--stats' '--stats --fields vlan.vid'; do
             valgrind --tool=callgrind --callgrind-out-file=/dev/null "$program" $words < "$work/$file.pcap" 2>&1 > /dev/null |
                 awk -v packets="$packets" -v name="$file $words" '/Collected/ { printf "%s: %.0f instructions a packet\n", name, $4 / packets }'

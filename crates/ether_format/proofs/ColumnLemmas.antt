@@ -1,14 +1,10 @@
 -- A column that is written along a walk is that of the packet.
-use Rattle.std.proofs.Common.{◌≡◌, ℕ, zero, suc, arith, List, [], ◌∷◌, ◌++◌, map, Bool, true, false, Option, refl, sym, ap, subst, ◌∙◌, append_assoc, append-nil}
+use Rattle.std.proofs.Common.{◌≡◌, ℕ, zero, suc, ◌-◌, ◌<◌, ◌≤◌, arith, List, [], ◌∷◌, ◌++◌, map, Bool, true, false, Option, refl, sym, ap, subst, ◌∙◌, append_assoc, append-nil}
 use Rattle.std.specs.Prelude.{codes, if◌then◌else◌}
 use Rattle.std.specs.List.{flat_map, join_by}
 use Rattle.etherparse.specs.Header as headers
 use Rattle.std.proofs.lemmas.List.Concat.{flat_map-append}
-use Rattle.etherparse.specs.Arp.{arp_of}
 use Rattle.etherparse.specs.Ethernet2.{Frame, ethernet2_of, fcs_of}
-use Rattle.etherparse.specs.LinuxSll.{linux_sll_of}
-use Rattle.etherparse.specs.Macsec.{sec_tag_of, tag_bytes}
-use Rattle.etherparse.specs.Vlan.{vlan_of}
 use Rattle.ether_peel.specs.declared.peel_unit.PeelUnit.{PeelUnit}
 use Rattle.ether_peel.specs.declared.peel_unit.PeelUnit.TheVariants as units
 use Rattle.ether_pcap.specs.Capture.{PacketValue}
@@ -20,12 +16,15 @@ use Rattle.ether_format.specs.declared.format.Part.TheVariants as written
 use Rattle.ether_format.specs.declared.place.Place.{Place as DeclaredPlace}
 use Rattle.ether_format.specs.declared.value.Member.{Member as DeclaredMember}
 use Rattle.ether_format.specs.Columns.{column_text, column_view, header_sections, section, section_members, section_name, sections, values_in}
-use Rattle.ether_format.specs.Members.{Member, Value, arp_members, ethernet2_members, linux_sll_members, macsec_members, packet_members, vlan_members}
+use Rattle.ether_format.specs.declared.found_header.FoundHeader.{FoundHeader}
+use Rattle.ether_format.specs.declared.found_header.FoundHeader.TheVariants as found
+use Rattle.ether_format.specs.FoundHeaders.{found_members, found_section, header_told}
+use Rattle.ether_format.specs.Members.{Member, Value, packet_members}
 use Rattle.ether_format.specs.Laws.{ColumnsAreMembers}
 use Rattle.ether_format.specs.Spelling.{column_value}
-use Rattle.ether_format.specs.Told.{Told, Walked, CookedV2, ToldEnd, Rest, Skipped, Fault, Cause, Length, UnknownPacketType, UnknownHardwareType, Version, ShortLength, end_members, end_name, placed_members, told_members, told_name, told_place}
-use Rattle.ether_format.specs.Walking.{column_on, comma_if, end_values, front_text, header_values, keyed, keyed_view, others, place_view, still_first, told_text, told_view, unit_section, value_at, value_view, values_placed}
-use Rattle.ether_format.proofs.ColumnNames.{one_section, true_false, value_is, values_none}
+use Rattle.ether_format.specs.Told.{Told, Walked, CookedV2, ToldEnd, Place, Rest, Skipped, Fault, Cause, Length, UnknownPacketType, UnknownHardwareType, Version, ShortLength, end_members, end_name, placed_members, told_members, told_name, told_place}
+use Rattle.ether_format.specs.Walking.{column_on, comma_if, end_values, front_text, header_values, is_end_section, keyed, keyed_view, member_values, others, place_view, still_first, told_text, told_view, unit_members, unit_section, value_at, value_view, values_placed}
+use Rattle.ether_format.proofs.ColumnNames.{one_section, true_false, value_is, values_none, values_some}
 
 -- ---- which section a header is
 
@@ -86,6 +85,42 @@ abbrev is_headers : Section → Bool
 is_headers parts.Headers = true
 is_headers _ = false
 
+first_rank : (s : Section) → rank s ≡ 0 → s ≡ parts.Frame
+first_rank parts.Frame is = refl
+first_rank parts.Eth is = absurd (omega (arith, is))
+first_rank parts.Sll is = absurd (omega (arith, is))
+first_rank parts.Sll2 is = absurd (omega (arith, is))
+first_rank parts.Vlan is = absurd (omega (arith, is))
+first_rank parts.Macsec is = absurd (omega (arith, is))
+first_rank parts.Arp is = absurd (omega (arith, is))
+first_rank parts.Headers is = absurd (omega (arith, is))
+first_rank parts.Rest is = absurd (omega (arith, is))
+first_rank parts.Fault is = absurd (omega (arith, is))
+
+last_rank : (s : Section) → rank s ≡ 2 → is_end_section s ≡ true
+last_rank parts.Frame is = absurd (omega (arith, is))
+last_rank parts.Eth is = absurd (omega (arith, is))
+last_rank parts.Sll is = absurd (omega (arith, is))
+last_rank parts.Sll2 is = absurd (omega (arith, is))
+last_rank parts.Vlan is = absurd (omega (arith, is))
+last_rank parts.Macsec is = absurd (omega (arith, is))
+last_rank parts.Arp is = absurd (omega (arith, is))
+last_rank parts.Headers is = absurd (omega (arith, is))
+last_rank parts.Rest is = refl
+last_rank parts.Fault is = refl
+
+end_is_last : (s : Section) → is_end_section s ≡ true → rank s ≡ 2
+end_is_last parts.Frame is = absurd (true_false (sym is))
+end_is_last parts.Eth is = absurd (true_false (sym is))
+end_is_last parts.Sll is = absurd (true_false (sym is))
+end_is_last parts.Sll2 is = absurd (true_false (sym is))
+end_is_last parts.Vlan is = absurd (true_false (sym is))
+end_is_last parts.Macsec is = absurd (true_false (sym is))
+end_is_last parts.Arp is = absurd (true_false (sym is))
+end_is_last parts.Headers is = absurd (true_false (sym is))
+end_is_last parts.Rest is = refl
+end_is_last parts.Fault is = refl
+
 header_rank : (h : Told) → rank (section_of h) ≡ 1
 header_rank (Walked place (headers.Ethernet2 e) fcs) = refl
 header_rank (Walked place (headers.Ethernet2Fcs e) fcs) = refl
@@ -131,13 +166,6 @@ module _ (c : Column) (h : Told) where
 
 -- ---- the value in a view
 
-abbrev pub unit_members : PeelUnit → List Member
-unit_members (units.Ethernet2 f) = ethernet2_members (ethernet2_of f.bytes) (fcs_of f)
-unit_members (units.LinuxSll bytes) = linux_sll_members (linux_sll_of bytes)
-unit_members (units.Vlan bytes) = vlan_members (vlan_of bytes)
-unit_members (units.Macsec packet) = macsec_members (sec_tag_of (tag_bytes packet.header))
-unit_members (units.Arp bytes) = arp_members (arp_of bytes)
-
 -- the header of a view has these members
 abbrev Ethernet2 : (fcs : Bool) → DeclaredPlace → Frame → Told
 Ethernet2 fcs place f =
@@ -174,6 +202,55 @@ in_unit c place u name s first own os begins is_name is_section same goes_on is 
     ∙ (λ i. values_in (column_view c) (section (section_name (sym here i)) (sym whole i)))
     ∙ own_value c told (same ∙ sym here)
 
+-- the values after those of the name and the place
+later_at : (name : List ℕ) (place : Place) (os : List Member) (n : ℕ) → 5 ≤ n
+    → value_at (member_values os) (n - 5) ≡ value_at (member_values (placed_members name place os)) n
+later_at name place os n le =
+    let same : n ≡ suc (suc (suc (suc (suc (n - 5))))) = omega (arith, le) in
+    ap (value_at (member_values (placed_members name place os))) (sym same)
+
+-- .. and those of the name and the place, whatever comes after them
+first_at : (name : List ℕ) (place : Place) (os : List Member) (n : ℕ) → n < 5
+    → value_at (member_values (placed_members name place [])) n ≡ value_at (member_values (placed_members name place os)) n
+first_at name place os zero lt = refl
+first_at name place os (suc zero) lt = refl
+first_at name place os (suc (suc zero)) lt = refl
+first_at name place os (suc (suc (suc zero))) lt = refl
+first_at name place os (suc (suc (suc (suc zero)))) lt = refl
+first_at name place os (suc (suc (suc (suc (suc n))))) lt = absurd (omega (arith, lt))
+
+-- a header has the members of its section
+record HasMembers (told : Told) (s : Section) (place : Place) (os : List Member) : Type 0 where
+  of : section_of told ≡ s
+  members : told_members told ≡ placed_members (section_name s) place os
+
+has_members : (place : DeclaredPlace) (h : FoundHeader) → HasMembers (header_told place h) (found_section h) (place_view place) (found_members h)
+has_members place (found.Walked u) = let unit = is_unit place u in record { of = unit.of; members = unit.members }
+has_members place (found.Cooked header) = record { of = refl; members = refl }
+has_members place (found.CookedV2 packet) = record { of = refl; members = refl }
+
+module _ (c : Column) (place : DeclaredPlace) (h : FoundHeader) (same : c.section ≡ found_section h) where
+  in_all : value_at (member_values (placed_members (section_name (found_section h)) (place_view place) (found_members h))) c.index
+      ≡ header_values (column_view c) (header_told place h)
+  in_all =
+      let told = header_told place h in
+      let s = found_section h in
+      let is = has_members place h in
+      let all = placed_members (section_name s) (place_view place) (found_members h) in
+      let names : map (λ m. m.name) all ≡ section_members s =
+      ap (map (λ m. m.name)) (sym is.members) ∙ names_told told ∙ ap section_members is.of in
+      sym (values_some c s all same names) ∙ (λ i. values_in (column_view c) (section (section_name (sym is.of i)) (sym is.members i)))
+      ∙ own_value c told (same ∙ sym is.of)
+
+  -- a member of its own
+  pub in_own : 5 ≤ c.index → value_at (member_values (found_members h)) (c.index - 5) ≡ header_values (column_view c) (header_told place h)
+  in_own le = later_at (section_name (found_section h)) (place_view place) (found_members h) c.index le ∙ in_all
+
+  -- its name, or a member of its place
+  pub in_front : c.index < 5 → value_at (member_values (placed_members (section_name (found_section h)) (place_view place) [])) c.index
+      ≡ header_values (column_view c) (header_told place h)
+  in_front lt = first_at (section_name (found_section h)) (place_view place) (found_members h) c.index lt ∙ in_all
+
 abbrev Parted : (vs ws us : List Value) → Type 0
 Parted vs ws us = column_on true vs ++ (column_on true ws ++ column_on true us) ≡ column_on true (vs ++ (ws ++ us))
 
@@ -206,7 +283,7 @@ module _ (c : Column) where
   never [] = refl
   never (v ∷ vs) = refl
 
-  more : (first : Bool) (vs ws : List Value) → column_on first (vs ++ ws) ≡ column_on first vs ++ column_on (still_first first vs) ws
+  pub more : (first : Bool) (vs ws : List Value) → column_on first (vs ++ ws) ≡ column_on first vs ++ column_on (still_first first vs) ws
   more first [] ws = refl
   more first (v ∷ vs) ws =
       ap (λ t. comma_if first ++ (column_value v ++ t)) (more false vs ws ∙ ap (λ (b : Bool). column_on false vs ++ column_on b ws) (never vs))
@@ -293,6 +370,30 @@ module _ (c : Column) where
       ∙ ap (join_by column_value (codes ","))
       (sym (append-nil (frame_values number p moment))
       ∙ (λ i. frame_values number p moment ++ (sym ws i ++ sym us i)) ∙ sym (all_values number p moment hs end))
+
+  -- a column of headers, whatever the packet and the end are
+  pub headers_only : (c.section ≡ parts.Frame → ⊥) → is_end_section c.section ≡ false
+      → (number : ℕ) (p : PacketValue) (moment : Option Moment) (hs : List Told) (end : ToldEnd)
+      → column_on true (flat_map (header_values (column_view c)) hs) ≡ column_text (column_view c) (sections number p moment hs end)
+  headers_only other none number p moment hs end =
+      let vs = no_frame number p moment (λ e. other (first_rank c.section e)) in
+      let us = no_end end (λ e. true_false (sym (last_rank c.section e) ∙ none)) in
+      let ws = flat_map (header_values (column_view c)) hs in
+      joined _
+      ∙ ap (join_by column_value (codes ","))
+      (sym (append-nil ws) ∙ (λ i. sym vs i ++ (ws ++ sym us i)) ∙ sym (all_values number p moment hs end))
+
+  -- a column of the end, whatever the packet and the headers are
+  pub end_only : is_end_section c.section ≡ true
+      → (number : ℕ) (p : PacketValue) (moment : Option Moment) (hs : List Told) (end : ToldEnd)
+      → column_on true (end_values (column_view c) end) ≡ column_text (column_view c) (sections number p moment hs end)
+  end_only last number p moment hs end =
+      let is = end_is_last c.section last in
+      let vs = no_frame number p moment (λ e. let never : 2 ≡ 0 = sym is ∙ e in omega (arith, never)) in
+      let ws = no_headers hs (λ e. let never : 2 ≡ 1 = sym is ∙ e in omega (arith, never)) in
+      joined _
+      ∙ ap (join_by column_value (codes ","))
+      ((λ i. sym vs i ++ (sym ws i ++ end_values (column_view c) end)) ∙ sym (all_values number p moment hs end))
 
 -- ---- the members of a section are those that columns name
 

@@ -160,6 +160,15 @@ keyed_values : (ms : List Member) → map (λ (k : Keyed). k.value) (keyed ms) �
 keyed_values [] = refl
 keyed_values (m ∷ ms) = ap (λ vs. m.value ∷ vs) (others_values (codes ",") ms)
 
+-- the values of first members, and of those that others precede
+pub first_values : (first : List DeclaredMember) (ms : List Member) → map keyed_view first ≡ keyed ms
+    → map (λ m. value_view m.value) first ≡ map (λ m. m.value) ms
+first_values first ms are = declared_values first ∙ ap (map (λ (k : Keyed). k.value)) are ∙ keyed_values ms
+
+pub own_values : (own : List DeclaredMember) (os : List Member) → map keyed_view own ≡ others os
+    → map (λ m. value_view m.value) own ≡ map (λ m. m.value) os
+own_values own os are = declared_values own ∙ ap (map (λ (k : Keyed). k.value)) are ∙ others_values (codes ",") os
+
 -- the member at a place of two lists, which together are all of a section, is that of a column
 pub value_is : (c : Column) (s : Section) (first own : List DeclaredMember) (ms os all : List Member) → map keyed_view first ≡ keyed ms
     → map keyed_view own ≡ others os → map (λ m. m.value) all ≡ map (λ m. m.value) ms ++ map (λ m. m.value) os
@@ -167,8 +176,8 @@ pub value_is : (c : Column) (s : Section) (first own : List DeclaredMember) (ms 
     → value_at (map (λ m. value_view m.value) first ++ map (λ m. value_view m.value) own) c.index
     ≡ values_in (column_view c) (section (section_name s) all)
 value_is c s first own ms os all begins goes_on values names same =
-    let front = declared_values first ∙ ap (map (λ (k : Keyed). k.value)) begins ∙ keyed_values ms in
-    let back = declared_values own ∙ ap (map (λ (k : Keyed). k.value)) goes_on ∙ others_values (codes ",") os in
+    let front = first_values first ms begins in
+    let back = own_values own os goes_on in
     (λ i. value_at (front i ++ back i) c.index) ∙ ap (λ vs. value_at vs c.index) (sym values) ∙ sym (values_some c s all same names)
 
 -- ---- an element of two lists

@@ -12,3 +12,6 @@ pub mod OneText
 pub mod SpellingLemmas
 pub mod SplitLemmas
 pub mod WalkLemmas
+pub mod SomeMoment
+pub mod GatherLemmas
+pub mod GatheredRowLemmas

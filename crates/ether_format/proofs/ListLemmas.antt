@@ -1,5 +1,5 @@
 -- Text that is written for each element of a list.
-use Rattle.std.proofs.Common.{◌≡◌, ℕ, zero, suc, ◌+◌, ◌<◌, ◌≤◌, List, [], ◌∷◌, ◌++◌, length, drop, Option, refl, sym, ap, ◌∙◌, append_assoc, append-nil, arith}
+use Rattle.std.proofs.Common.{◌≡◌, ℕ, zero, suc, ◌+◌, ◌-◌, ◌<◌, ◌≤◌, List, [], ◌∷◌, ◌++◌, length, take, drop, Option, refl, sym, ap, ◌∙◌, append_assoc, append-nil, arith}
 use Rattle.std.specs.Prelude.{slice_index_or}
 use Rattle.std.specs.List.{flat_map}
 use Rattle.ether_text.specs.OutputBuffer.{Takes}
@@ -45,3 +45,19 @@ module _ {W X : Type 0} (contents : W → Option (List ℕ)) (can_fail : Type 0)
       → Takes contents can_fail old (flat_map f list) new
   first_all n old new le a =
       Takes-same (sym (append-nil a.text) ∙ ap (λ (l : List ℕ). a.text ++ l) (sym (none_after f list n le)) ∙ a.parts) a.taken
+
+-- ---- the first of a list, and the others
+
+take_all : {X : Type 0} (l : List X) (n : ℕ) → n ≡ length l → take n l ≡ l
+take_all [] zero is = refl
+take_all [] (suc n) is = absurd (omega (arith, is))
+take_all (x ∷ l) zero is = absurd (omega (arith, is))
+take_all (x ∷ l) (suc n) is = ap (λ k. x ∷ k) (take_all l n (omega (arith, is)))
+
+pub first_others : {X : Type 0} (l : List X) (d : X) → 1 ≤ length l → l ≡ slice_index_or l 0 d ∷ take (length l - 1) (drop 1 l)
+first_others [] d le = absurd (omega (arith, le))
+first_others (x ∷ l) d le = ap (λ k. x ∷ k) (sym (take_all l (length (x ∷ l) - 1) (omega arith)))
+
+pub none_of : {X : Type 0} (l : List X) → length l ≡ 0 → l ≡ []
+none_of [] is = refl
+none_of (x ∷ l) is = absurd (omega (arith, is))

@@ -8,7 +8,7 @@ use Rattle.ether_format.specs.Calendar.{IsDate, IsHour, IsMoment, days_before_mo
 
 -- ---- days of years
 
-len_of : (y : ℕ) → 1 ≤ y → days_before_year y + sum (month_lens (is_leap_year y)) ≡ days_before_year (y + 1)
+pub len_of : (y : ℕ) → 1 ≤ y → days_before_year y + sum (month_lens (is_leap_year y)) ≡ days_before_year (y + 1)
 len_of y from = search rules
 
 later_year : (y z : ℕ) → y ≤ z → days_before_year y ≤ days_before_year z

@@ -21,7 +21,7 @@ use Rattle.ether_format.proofs.OneMoment.{one_moment}
 abbrev pub Same : (told other : List Told) (end last : ToldEnd) (accepted also : Bool) → Type 0
 Same told other end last accepted also = (told ≡ other) × (end ≡ last) × (accepted ≡ also)
 
-one_walk : (at : ℕ) (x : Expectation) (frame : List ℕ) (told other : List Told) (end last : ToldEnd) (accepted also : Bool)
+pub one_walk : (at : ℕ) (x : Expectation) (frame : List ℕ) (told other : List Told) (end last : ToldEnd) (accepted also : Bool)
     → TellsWalk at x frame told end accepted → TellsWalk at x frame other last also → Same told other end last accepted also
 one_walk at x frame told other end last accepted also a b =
     let same = one_stack frame x (whole x frame) a.headers b.headers a.ending b.ending a.walk b.walk in (
@@ -60,7 +60,7 @@ one_told limit len (LinuxSll s payload) told other end last accepted also a b = 
 one_told limit len (LinuxSll2 bytes) told other end last accepted also a b = one_cooked limit bytes told other end last accepted also a b
 one_told limit len Unknown told other end last accepted also a b = (a.0 ∙ sym b.0, a.1 ∙ sym b.1, a.2 ∙ sym b.2)
 
-one_time : (t : Option TimeValue) (m n : Option Moment) → AreMoments t m → AreMoments t n → m ≡ n
+pub one_time : (t : Option TimeValue) (m n : Option Moment) → AreMoments t m → AreMoments t n → m ≡ n
 one_time None None None a b = refl
 one_time None None (Some n) a b = absurd b
 one_time None (Some m) n a b = absurd a

@@ -17,8 +17,20 @@ use Rattle.ether_format.specs.Walking.{AnswersPart, AnswersRow, TakesColumn}
 use Rattle.ether_format.proofs.ListLemmas.{WritesFirst, first_none, first_next, first_all}
 use Rattle.ether_format.proofs.OneText.{one_told}
 
-abbrev after_tab : List Section → Column → List ℕ
+abbrev pub after_tab : List Section → Column → List ℕ
 after_tab parts c = codes "\t" ++ column_text (column_view c) parts
+
+-- the text of a row from a column on
+abbrev pub row_from : List Section → Column → List Column → List ℕ
+row_from parts c others = column_text (column_view c) parts ++ (flat_map (after_tab parts) others ++ codes "\n")
+
+pub row_is : (parts : List Section) (columns : List ColumnValue) (first : Column) (list : List Column)
+    → columns ≡ column_view first ∷ map column_view list → row_from parts first list ≡ row_text columns parts
+row_is parts columns first list are =
+    let begin = column_text (column_view first) parts in
+    sym (append_assoc begin (flat_map (after_tab parts) list) (codes "\n"))
+    ∙ ap (λ t. (begin ++ t) ++ codes "\n") (sym (flat_map-map (λ c. codes "\t" ++ column_text c parts) column_view list))
+    ∙ ap (λ (l : List ColumnValue). row_text l parts) (sym are)
 
 module _ {W : Type 0} (contents : W → Option (List ℕ)) (can_fail : Type 0) (limit : Option ℕ) (number : ℕ) (p : PacketValue) (moment : Option Moment) where
   -- the first column is written, and so many of the others
@@ -69,12 +81,7 @@ module _ {W : Type 0} (contents : W → Option (List ℕ)) (can_fail : Type 0) (
       → Takes contents can_fail mid (codes "\n") new → TakesAnswer contents can_fail (AnswersRow columns limit number p moment) old new accepted
   row_ends columns first list n accepted old mid new le are a taken =
       let parts = sections number p moment a.headers a.end in
-      let begin = column_text (column_view first) parts in
-      let after = flat_map (after_tab parts) list in
-      let text : begin ++ (after ++ codes "\n") ≡ row_text columns parts =
-      sym (append_assoc begin after (codes "\n"))
-      ∙ ap (λ t. (begin ++ t) ++ codes "\n") (sym (flat_map-map (λ c. codes "\t" ++ column_text c parts) column_view list))
-      ∙ ap (λ (l : List ColumnValue). row_text l parts) (sym are) in
+      let text : row_from parts first list ≡ row_text columns parts = row_is parts columns first list are in
       record {
         text = row_text columns parts;
         answers = record { headers = a.headers; end = a.end; tells = a.tells; is_text = refl };

@@ -77,6 +77,84 @@ fault_is at w x (UnsupportedHardwareType n) = refl
 fault_is at w x UnexpectedVersion = refl
 fault_is at w x InvalidShortLen = refl
 
+-- a header that a walker gives is the first of those that it faces
+pub record TellsUnit (at : ℕ) (frame : List ℕ) (w : Window) (left : List Header) (e : Ending) (place : DeclaredPlace) (u : PeelUnit) (t : State)
+    : Type 0 where
+  pub header : Header
+  pub later : List Header
+  pub parts : left ≡ header ∷ later
+  pub is : told_view place u ≡ told_in at frame w header
+  pub faces : Faces frame (payload w header) t later e
+  pub going : t.over ≡ false
+
+-- what a walker faces when it gives its last answer, and what that tells
+pub record TellsEnd (at : ℕ) (left : List Header) (e : Ending) (end : ToldEnd) (accepted : Bool) : Type 0 where
+  pub none_left : left ≡ []
+  pub is : end ≡ told_end at e
+  pub verdict : accepted ≡ is_accepted e
+
+module _ (at : ℕ) (frame : List ℕ) (w : Window) (left : List Header) (e : Ending) (s t : State) (facing : Faces frame w s left e)
+    (going : s.over ≡ false) where
+  pub unit_told : (u : PeelUnit) (place : DeclaredPlace) → IsBytes frame → Gives s (Some (Ok u)) t
+      → place.start ≡ at + s.offset → place.header_end ≡ at + t.offset → place.payload_end ≡ at + (t.offset + length t.rest)
+      → place.closed ≡ t.closed → TellsUnit at frame w left e place u t
+  unit_told u place ok gives from to end mark =
+      let n = unit_next frame w left e s t u (gives.next going frame w left e facing) in
+      let h = n.header in
+      let hs = n.later in
+      let inner = payload w h in
+      let faces = subst (λ (l : List Header). Faces frame w s l e) n.parts facing in
+      let shows = subst (λ (l : List ℕ). ShowsUnit l t.rest h u) faces.rest n.shows in
+      let bytes = IsBytes-part w.start w.finish frame ok in
+      let header = unit_header-shown (within frame w) t.rest h u bytes faces.stack.0.means shows in
+      let fcs = fcs_of_unit frame t.rest s.expected w h u faces.inside faces.stack.0 shows in
+      let begin : place.start ≡ at + w.start = from ∙ ap (λ (n : ℕ). at + n) faces.offset in
+      let middle : place.header_end ≡ at + inner.start = to ∙ ap (λ (n : ℕ). at + n) n.faces.offset in
+      let last : place.payload_end ≡ at + inner.finish = end ∙ ap (λ (n : ℕ). at + n) (same_end frame inner t hs e n.faces) in
+      let closed : place.closed ≡ inner.closed = mark ∙ n.faces.closed in
+      record {
+        header = h;
+        later = hs;
+        parts = n.parts;
+        is =
+            λ i. Walked (record { start = begin i; header_end = middle i; payload_end = last i; closed = closed i }) (header i) (fcs i);
+        faces = n.faces;
+        going = n.going;
+      }
+
+  pub fault_told : (f : PeelFault) → Gives s (Some (Err f)) t → TellsEnd at left e (fault_shown at f) false
+  fault_told f gives =
+      let n = fault_next frame w left e s t f (gives.next going frame w left e facing) in
+      let stack =
+      (subst (λ (k : Ending). Faces frame w s [] k) n.ending (subst (λ (l : List Header). Faces frame w s l e) n.none_left facing)).stack in
+      record {
+        none_left = n.none_left;
+        is =
+            ap (fault_shown at) n.fault ∙ fault_is at w n.expected n.refusal
+            ∙ ap (λ (v : Window). told_end at (endings.Fault v n.expected n.refusal)) (sym stack.0) ∙ ap (told_end at) (sym n.ending);
+        verdict = ap is_accepted (sym n.ending);
+      }
+
+  pub rest_told : (start end : ℕ) (k : RestKind) → Gives s None t → start ≡ at + s.offset → end ≡ at + (s.offset + length t.rest)
+      → k ≡ kind_shown t.expected → TellsEnd at left e (Rest start end k) true
+  rest_told start end k gives from to kind =
+      let n = none_next frame w left e s t (gives.next going frame w left e facing) in
+      let v = n.window in
+      let faces =
+      subst (λ (k : Ending). Faces frame w s [] k) n.ending (subst (λ (l : List Header). Faces frame w s l e) n.none_left facing) in
+      let same : t ≡ s = n.state in
+      let begin : start ≡ at + w.start = from ∙ ap (λ (n : ℕ). at + n) faces.offset in
+      let until : end ≡ at + w.finish =
+      to ∙ ap (λ (u : State). at + (s.offset + length u.rest)) same ∙ ap (λ (n : ℕ). at + n) (same_end frame w s [] _ faces) in
+      let shown : k ≡ kind_shown s.expected = kind ∙ ap (λ (u : State). kind_shown u.expected) same in
+      record {
+        none_left = n.none_left;
+        is =
+            (λ i. Rest (begin i) (until i) (shown i)) ∙ ap (λ (w : Window). told_end at (endings.Accepted w s.expected)) (sym faces.stack.0)
+            ∙ ap (λ (y : Expectation). told_end at (endings.Accepted v y)) (sym faces.stack.1) ∙ ap (told_end at) (sym n.ending);
+        verdict = ap is_accepted (sym n.ending);
+      }
+
 -- ---- the text so far, and that which is left
 
 pub record WritesTold {W : Type 0} (contents : W → Option (List ℕ)) (can_fail : Type 0) (part : Part) (first : Bool) (at : ℕ)
@@ -119,23 +197,11 @@ module _ {W : Type 0} (contents : W → Option (List ℕ)) (can_fail : Type 0) (
       → Takes contents can_fail mid (header_text part is_first (told_view place u)) new
       → WritesTold contents can_fail part first at x frame (next_is_first part is_first (told_view place u)) t old new
   walk_unit is_first s t old mid new u place ok a gives from to end mark taken =
-      let n =
-      unit_next frame a.window a.left a.ending s t u (gives.next a.going frame a.window a.left a.ending a.faces) in
+      let n = unit_told at frame a.window a.left a.ending s t a.faces a.going u place ok gives from to end mark in
       let h = n.header in
       let hs = n.later in
       let inner = payload a.window h in
-      let faces = subst (λ (l : List Header). Faces frame a.window s l a.ending) n.parts a.faces in
-      let shows = subst (λ (l : List ℕ). ShowsUnit l t.rest h u) faces.rest n.shows in
-      let bytes = IsBytes-part a.window.start a.window.finish frame ok in
-      let header = unit_header-shown (within frame a.window) t.rest h u bytes faces.stack.0.means shows in
-      let fcs = fcs_of_unit frame t.rest s.expected a.window h u faces.inside faces.stack.0 shows in
-      let begin : place.start ≡ at + a.window.start = from ∙ ap (λ (n : ℕ). at + n) faces.offset in
-      let middle : place.header_end ≡ at + inner.start = to ∙ ap (λ (n : ℕ). at + n) n.faces.offset in
-      let last : place.payload_end ≡ at + inner.finish =
-      end ∙ ap (λ (n : ℕ). at + n) (same_end frame inner t hs a.ending n.faces) in
-      let closed : place.closed ≡ inner.closed = mark ∙ n.faces.closed in
-      let is : told_view place u ≡ told_in at frame a.window h =
-      λ i. Walked (record { start = begin i; header_end = middle i; payload_end = last i; closed = closed i }) (header i) (fcs i) in
+      let is = n.is in
       let later =
       λ (k : Told). told_text part (next_is_first part is_first k) (told_stack at frame inner hs) (told_end at a.ending) in
       let written = header_text part is_first (told_in at frame a.window h) in
@@ -184,15 +250,8 @@ module _ {W : Type 0} (contents : W → Option (List ℕ)) (can_fail : Type 0) (
       → Takes contents can_fail mid (end_text part (fault_shown at f)) new
       → TakesAnswer contents can_fail (AnswersTold part first at x frame) old new false
   walk_fault is_first s t old mid new f a gives taken =
-      let n =
-      fault_next frame a.window a.left a.ending s t f (gives.next a.going frame a.window a.left a.ending a.faces) in
-      let stack =
-      (subst (λ (e : Ending). Faces frame a.window s [] e) n.ending
-      (subst (λ (l : List Header). Faces frame a.window s l a.ending) n.none_left a.faces)).stack in
-      let is : fault_shown at f ≡ told_end at a.ending =
-      ap (fault_shown at) n.fault ∙ fault_is at a.window n.expected n.refusal
-      ∙ ap (λ (w : Window). told_end at (endings.Fault w n.expected n.refusal)) (sym stack.0) ∙ ap (told_end at) (sym n.ending) in
-      answered is_first s old mid new false (fault_shown at f) a n.none_left is (ap is_accepted (sym n.ending)) taken
+      let n = fault_told at frame a.window a.left a.ending s t a.faces a.going f gives in
+      answered is_first s old mid new false (fault_shown at f) a n.none_left n.is n.verdict taken
 
   -- what is left
   pub walk_rest : (is_first : Bool) (s t : State) (old mid new : OutputBuffer W) (start end : ℕ) (k : RestKind)
@@ -201,23 +260,8 @@ module _ {W : Type 0} (contents : W → Option (List ℕ)) (can_fail : Type 0) (
       → Takes contents can_fail mid (end_text part (Rest start end k)) new
       → TakesAnswer contents can_fail (AnswersTold part first at x frame) old new true
   walk_rest is_first s t old mid new start end k a gives from to kind taken =
-      let n =
-      none_next frame a.window a.left a.ending s t (gives.next a.going frame a.window a.left a.ending a.faces) in
-      let v = n.window in
-      let faces =
-      subst (λ (e : Ending). Faces frame a.window s [] e) n.ending
-      (subst (λ (l : List Header). Faces frame a.window s l a.ending) n.none_left a.faces) in
-      let same : t ≡ s = n.state in
-      let begin : start ≡ at + a.window.start = from ∙ ap (λ (n : ℕ). at + n) faces.offset in
-      let until : end ≡ at + a.window.finish =
-      to ∙ ap (λ (u : State). at + (s.offset + length u.rest)) same
-      ∙ ap (λ (n : ℕ). at + n) (same_end frame a.window s [] _ faces) in
-      let shown : k ≡ kind_shown s.expected = kind ∙ ap (λ (u : State). kind_shown u.expected) same in
-      let is : Rest start end k ≡ told_end at a.ending =
-      (λ i. Rest (begin i) (until i) (shown i))
-      ∙ ap (λ (w : Window). told_end at (endings.Accepted w s.expected)) (sym faces.stack.0)
-      ∙ ap (λ (y : Expectation). told_end at (endings.Accepted v y)) (sym faces.stack.1) ∙ ap (told_end at) (sym n.ending) in
-      answered is_first s old mid new true (Rest start end k) a n.none_left is (ap is_accepted (sym n.ending)) taken
+      let n = rest_told at frame a.window a.left a.ending s t a.faces a.going start end k gives from to kind in
+      answered is_first s old mid new true (Rest start end k) a n.none_left n.is n.verdict taken
 
 -- ---- a cooked header, and the walk of its payload
 

@@ -76,7 +76,7 @@ section_name declared.Headers = codes "headers"
 section_name declared.Rest = codes "rest"
 section_name declared.Fault = codes "fault"
 
--- the names of a header's members, the first of which are its name and its place
+-- the names of a header's members: first those of its name and its place, then those of its own
 abbrev pub after_place : List (List ℕ) → List (List ℕ)
 after_place names = codes "header" ∷ codes "start" ∷ codes "end" ∷ codes "payload_end" ∷ codes "closed" ∷ names
 

@@ -9,3 +9,5 @@ pub mod Columns
 pub mod Texts
 pub mod Laws
 pub mod Walking
+pub mod FoundHeaders
+pub mod Gathered

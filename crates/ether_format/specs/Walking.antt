@@ -1,6 +1,10 @@
 -- Text as it is written along a walk: for the contracts of private functions.
 use Rattle.std.specs.Prelude.{◌≡◌, ℕ, ◌+◌, List, [], ◌∷◌, ◌++◌, length, take, drop, codes, Bool, true, false, Option, Some, None, map}
-use Rattle.etherparse.specs.Ethernet2.{fcs_of}
+use Rattle.etherparse.specs.Arp.{arp_of}
+use Rattle.etherparse.specs.Ethernet2.{ethernet2_of, fcs_of}
+use Rattle.etherparse.specs.LinuxSll.{linux_sll_of}
+use Rattle.etherparse.specs.Macsec.{sec_tag_of, tag_bytes}
+use Rattle.etherparse.specs.Vlan.{vlan_of}
 use Rattle.etherparse.specs.Types.LinuxSllHeaderError.{HeaderError as LinuxSllHeaderError}
 use Rattle.etherparse.specs.Types.LinuxSllHeaderError.TheVariants as linux_sll
 use Rattle.etherparse.specs.Types.MacsecHeaderError.{HeaderError as MacsecHeaderError}
@@ -25,7 +29,7 @@ use Rattle.ether_format.specs.declared.place.Place.{Place as DeclaredPlace}
 use Rattle.ether_format.specs.declared.value.Value.{Value as DeclaredValue}
 use Rattle.ether_format.specs.declared.value.Value.TheVariants as values
 use Rattle.ether_format.specs.declared.value.Member.{Member as DeclaredMember}
-use Rattle.ether_format.specs.Members.{Value, Nothing, Number, Protocol, Flag, Bytes, Dotted, Word, Time, Member, packet_members}
+use Rattle.ether_format.specs.Members.{Value, Nothing, Number, Protocol, Flag, Bytes, Dotted, Word, Time, Member, arp_members, ethernet2_members, linux_sll_members, macsec_members, packet_members, vlan_members}
 use Rattle.ether_format.specs.Told.{Place, Told, Walked, Cause, Length, UnknownPacketType, UnknownHardwareType, Version, ShortLength, ToldEnd, Fault, Tells, TellsCookedV2, TellsWalk, end_members, end_name, placed_members, told_members, told_name, told_place}
 use Rattle.ether_format.specs.Spelling.{column_value, json_value, quoted}
 use Rattle.ether_format.specs.Json.{json_end, json_front, json_line, json_object}
@@ -141,6 +145,23 @@ unit_section (units.LinuxSll bytes) = parts.Sll
 unit_section (units.Vlan bytes) = parts.Vlan
 unit_section (units.Macsec packet) = parts.Macsec
 unit_section (units.Arp bytes) = parts.Arp
+
+-- whether it is how the walk ends
+abbrev pub is_end_section : Section → Bool
+is_end_section parts.Rest = true
+is_end_section parts.Fault = true
+is_end_section _ = false
+
+-- the members of a view's header after its place
+abbrev pub unit_members : PeelUnit → List Member
+unit_members (units.Ethernet2 f) = ethernet2_members (ethernet2_of f.bytes) (fcs_of f)
+unit_members (units.LinuxSll bytes) = linux_sll_members (linux_sll_of bytes)
+unit_members (units.Vlan bytes) = vlan_members (vlan_of bytes)
+unit_members (units.Macsec packet) = macsec_members (sec_tag_of (tag_bytes packet.header))
+unit_members (units.Arp bytes) = arp_members (arp_of bytes)
+
+abbrev pub member_values : List Member → List Value
+member_values members = map (λ m. m.value) members
 
 -- values with a comma between two, and one before the first if others precede
 abbrev pub column_on : (first : Bool) → List Value → List ℕ

@@ -1,9 +1,10 @@
-//! Columns: which member of which part of a packet each shows.
+//! Columns. Each shows one member of one part of a packet.
 ghost use Rattle.std.specs.Prelude.{◌≡◌, ◌≢◌, ◌==◌, ◌<◌, [], IfNone, IfSome, false, length, map, slice_index_or};
 ghost use Rattle.ether_format.specs.declared.column.Section.{Section as DeclaredSection};
 ghost use Rattle.ether_format.specs.Columns.{ColumnValue, IsColumn, column_name, column_view, section_members, section_name};
 ghost use Rattle.std.specs.List.{All};
 ghost use Rattle.ether_text.specs.OutputBuffer.{Takes};
+ghost use Rattle.ether_format.specs.Walking.{is_end_section};
 
 use crate::split::split_at;
 use ether_text::{OutputBuffer, Sink};
@@ -40,6 +41,14 @@ impl Section {
             Section::Rest => "rest",
             Section::Fault => "fault",
         }
+    }
+
+    /// Whether it is how the walk ends.
+    #[inline(always)]
+    pub(crate) fn is_end(self) -> bool
+        ensures { result ≡ is_end_section self }
+    {
+        matches!(self, Section::Rest | Section::Fault)
     }
 
     /// The section of a name.

@@ -1,25 +1,34 @@
 //! The values of a column: in the packet, in a header, and in how the walk ends.
-ghost use Rattle.std.specs.Prelude.{◌≡◌, ◌++◌, None, codes, false, map};
+ghost use Rattle.std.specs.Prelude.{◌≡◌, ◌++◌, None, Option, codes, false, map};
 ghost use Rattle.std.specs.Option.{option_map};
 ghost use Rattle.etherparse.specs.Header as headers;
 ghost use Rattle.ether_pcap.specs.CaptureViews.{captured_packet_view};
 ghost use Rattle.ether_content.specs.ContentViews.{cooked_view};
 ghost use Rattle.ether_sll2.specs.LinuxSll2.{linux_sll2_of};
 ghost use Rattle.ether_sll2.specs.Views.{refusal_view};
+ghost use Rattle.ether_format.specs.declared.column.Section.TheVariants as parts;
+ghost use Rattle.ether_format.specs.declared.moment.Moment.{Moment as DeclaredMoment};
+ghost use Rattle.ether_format.specs.Calendar.{AreMoments};
+ghost use Rattle.ether_format.specs.Gathered.{found_told};
 ghost use Rattle.ether_format.specs.Columns.{column_view, section, section_name, values_in};
 ghost use Rattle.ether_format.specs.Members.{packet_members};
 ghost use Rattle.ether_format.specs.Told.{CookedV2, Fault, Rest, Skipped, Walked, cause_of_v2};
 ghost use Rattle.ether_format.specs.Walking.{cause_shown, end_values, header_values, if_any, place_view, told_view, unit_section, value_at, value_view, values_placed};
 
 use crate::column::{Column, Section};
+use crate::found::Found;
 use crate::members::placed;
 use crate::place::Place;
+use crate::unit_value::{header_value, packet_value, placed_value};
 use crate::value::{Member, Value};
 use crate::{Moment, endings, members};
 use ether_content::CookedHeader;
 use ether_pcap::CapturedPacket;
 use ether_peel::{PeelError, PeelUnit, RestKind};
 use ether_sll2::{LinuxSll2Error, LinuxSll2Slice};
+
+/// How many members the name and the place of a header are, which come before its own.
+const MEMBERS_OF_PLACE: u8 = 5;
 
 impl Column {
     /// Its value in the packet.
@@ -36,6 +45,21 @@ impl Column {
             return None;
         }
         member_at(&members::packet(number, packet, moment), &[], self.index)
+    }
+
+    /// Its value in the packet, whose section is its own. The packet's moment is computed only if it is the value.
+    #[inline(always)]
+    pub(crate) fn in_frame<'a>(
+        self,
+        number: usize,
+        packet: &CapturedPacket<'_>,
+    ) -> Option<Value<'a>>
+        requires { self.section ≡ parts.Frame }
+        ensures { (moment : Option DeclaredMoment) → AreMoments (captured_packet_view packet.now).time moment
+            → if_any (option_map value_view result)
+            ≡ values_in (column_view self) (section (codes "frame") (packet_members number (captured_packet_view packet.now) moment)) }
+    {
+        packet_value(number, packet, self.index)
     }
 
     /// Its value in a header of a walk.
@@ -59,6 +83,23 @@ impl Column {
             ),
             PeelUnit::Arp(slice) => member_at(&first, &members::arp(slice), self.index),
         }
+    }
+
+    /// Its value in a header that was found.
+    #[inline(always)]
+    pub(crate) fn in_found<'a>(self, found: &'a Found<'_>) -> Option<Value<'a>>
+        ensures { if_any (option_map value_view result) ≡ header_values (column_view self) (found_told found.now) }
+    {
+        if self.section != found.section {
+            if self.section != Section::Headers {
+                return None;
+            }
+            return placed_value(found.section, found.place, self.index);
+        }
+        if self.index < MEMBERS_OF_PLACE {
+            return placed_value(found.section, found.place, self.index);
+        }
+        header_value(&found.header, self.index - MEMBERS_OF_PLACE)
     }
 
     /// Its value in a header of cooked capture v1 that is not walked.
@@ -158,7 +199,7 @@ impl Column {
 
 /// The section of a header of a walk.
 #[inline(always)]
-fn section_of(unit: &PeelUnit<'_>) -> Section
+pub(crate) fn section_of(unit: &PeelUnit<'_>) -> Section
     ensures { result ≡ unit_section unit.now }
 {
     match unit {
@@ -172,7 +213,11 @@ fn section_of(unit: &PeelUnit<'_>) -> Section
 
 /// The value of a member of two lists, counted from the first of the first one.
 #[inline(always)]
-fn member_at<'a>(first: &[Member<'a>], others: &[Member<'a>], index: u8) -> Option<Value<'a>>
+pub(crate) fn member_at<'a>(
+    first: &[Member<'a>],
+    others: &[Member<'a>],
+    index: u8,
+) -> Option<Value<'a>>
     ensures { if_any (option_map value_view result)
         ≡ value_at (map (λ m. value_view m.value) first.now ++ map (λ m. value_view m.value) others.now) index }
 {

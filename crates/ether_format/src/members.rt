@@ -78,7 +78,7 @@ pub(crate) fn ethernet2<'a>(slice: &Ethernet2Slice<'_>) -> [Member<'a>; 4]
 
 /// The value of a frame check sequence.
 #[inline(always)]
-fn fcs_value<'a>(fcs: Option<[u8; 4]>) -> Value<'a>
+pub(crate) fn fcs_value<'a>(fcs: Option<[u8; 4]>) -> Value<'a>
     ensures { value_view result ≡ if_some Bytes fcs }
 {
     match fcs {
@@ -177,7 +177,7 @@ pub(crate) fn arp<'a>(packet: &'a ArpPacketSlice<'_>) -> [Member<'a>; 9]
 }
 
 /// The value of an address of a protocol.
-fn protocol_address(protocol: EtherType, bytes: &[u8]) -> Value<'_>
+pub(crate) fn protocol_address(protocol: EtherType, bytes: &[u8]) -> Value<'_>
     ensures { value_view result ≡ protocol_address protocol.0 bytes.now }
 {
     if protocol == EtherType::IPV4 && bytes.len() == 4 {
@@ -277,7 +277,7 @@ pub(crate) fn packet<'a>(
 }
 
 /// The value of a time.
-fn time_value<'a>(moment: Option<Moment>) -> Value<'a>
+pub(crate) fn time_value<'a>(moment: Option<Moment>) -> Value<'a>
     ensures { value_view result ≡ if_some Time moment }
 {
     match moment {

@@ -12,9 +12,10 @@ ghost use Rattle.ether_format.specs.Walking.{AnswersContent, AnswersCookedV2, An
 use crate::brief::{write_brief_front, write_brief_tail};
 use crate::calendar::moment_of;
 use crate::format::Part;
+use crate::gathered_row::write_columns;
 use crate::json::write_members;
 use crate::place::Place;
-use crate::row::{write_only, write_row};
+use crate::row::write_only;
 use crate::walk::write_walk;
 use crate::write_end::{write_linux_sll2_fault, write_rest, write_skipped};
 use crate::write_header::{write_cooked, write_linux_sll2};
@@ -50,6 +51,7 @@ use ether_text::{OutputBuffer, Sink};
 /// \"fcs\":null}],\"rest\":{\"start\":14,\"end\":14,\"kind\":\"ether_type\",\"type\":2048}}\n".as_slice()
 /// );
 /// ```
+#[inline(never)]
 pub fn write_packet<W: Sink>(
     format: &Format,
     limit: Option<usize>,
@@ -60,11 +62,24 @@ pub fn write_packet<W: Sink>(
     ensures { TakesAnswer W.contents W.can_fail (HasText format.now limit number (captured_packet_view packet.now))
         out.old out.new result }
 {
-    let moment = moment_if(packet.time);
     match format {
-        Format::Json => write_part(Part::Json, limit, number, packet, moment, out),
-        Format::Brief => write_part(Part::Brief, limit, number, packet, moment, out),
-        Format::Fields(columns) => write_row(columns, limit, number, packet, moment, out),
+        Format::Json => write_part(
+            Part::Json,
+            limit,
+            number,
+            packet,
+            moment_if(packet.time),
+            out,
+        ),
+        Format::Brief => write_part(
+            Part::Brief,
+            limit,
+            number,
+            packet,
+            moment_if(packet.time),
+            out,
+        ),
+        Format::Fields(columns) => write_columns(columns, limit, number, packet, out),
     }
 }
 
@@ -88,7 +103,7 @@ pub(crate) fn write_part<W: Sink>(
 }
 
 /// The moment of a time, if there is one.
-fn moment_if(time: Option<Timestamp>) -> Option<Moment>
+pub(crate) fn moment_if(time: Option<Timestamp>) -> Option<Moment>
     ensures { AreMoments (option_map timestamp_view time) result }
 {
     match time {
@@ -214,7 +229,7 @@ fn write_cooked_v2<W: Sink>(
 }
 
 /// The place of a cooked header at the front of so many bytes.
-fn cooked_place(header_len: usize, len: usize) -> Place
+pub(crate) fn cooked_place(header_len: usize, len: usize) -> Place
     ensures { place_view result ≡ cooked_place header_len len }
 {
     Place {

@@ -56,7 +56,7 @@ pub(crate) fn write_walk<W: Sink>(
 }
 
 /// The walk of a frame, with a limit on VLAN tags and SecTags or without.
-fn walker(start: Start, limit: Option<usize>, frame: &[u8]) -> Peel<'_>
+pub(crate) fn walker(start: Start, limit: Option<usize>, frame: &[u8]) -> Peel<'_>
     ensures going { result.over ≡ false }
     ensures walk { FacesWalk (start_with start limit) frame.now result }
 {

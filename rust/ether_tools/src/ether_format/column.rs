@@ -1,4 +1,4 @@
-//! Columns: which member of which part of a packet each shows.
+//! Columns. Each shows one member of one part of a packet.
 
 use crate::ether_format::split::split_at;
 use crate::ether_text::{OutputBuffer, Sink};
@@ -33,6 +33,12 @@ impl Section {
             Section::Rest => "rest",
             Section::Fault => "fault",
         }
+    }
+
+    /// Whether it is how the walk ends.
+    #[inline(always)]
+    pub(crate) fn is_end(self) -> bool {
+        matches!(self, Section::Rest | Section::Fault)
     }
 
     /// The section of a name.

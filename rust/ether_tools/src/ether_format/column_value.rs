@@ -1,14 +1,19 @@
 //! The values of a column: in the packet, in a header, and in how the walk ends.
 
 use crate::ether_format::column::{Column, Section};
+use crate::ether_format::found::Found;
 use crate::ether_format::members::placed;
 use crate::ether_format::place::Place;
+use crate::ether_format::unit_value::{header_value, packet_value, placed_value};
 use crate::ether_format::value::{Member, Value};
 use crate::ether_format::{Moment, endings, members};
 use etherpeel::ether_content::CookedHeader;
 use etherpeel::ether_pcap::CapturedPacket;
 use etherpeel::ether_peel::{PeelError, PeelUnit, RestKind};
 use etherpeel::ether_sll2::{LinuxSll2Error, LinuxSll2Slice};
+
+/// How many members the name and the place of a header are, which come before its own.
+const MEMBERS_OF_PLACE: u8 = 5;
 
 impl Column {
     /// Its value in the packet.
@@ -22,6 +27,16 @@ impl Column {
             return None;
         }
         member_at(&members::packet(number, packet, moment), &[], self.index)
+    }
+
+    /// Its value in the packet, whose section is its own. The packet's moment is computed only if it is the value.
+    #[inline(always)]
+    pub(crate) fn in_frame<'a>(
+        self,
+        number: usize,
+        packet: &CapturedPacket<'_>,
+    ) -> Option<Value<'a>> {
+        packet_value(number, packet, self.index)
     }
 
     /// Its value in a header of a walk.
@@ -43,6 +58,21 @@ impl Column {
             ),
             PeelUnit::Arp(slice) => member_at(&first, &members::arp(slice), self.index),
         }
+    }
+
+    /// Its value in a header that was found.
+    #[inline(always)]
+    pub(crate) fn in_found<'a>(self, found: &'a Found<'_>) -> Option<Value<'a>> {
+        if self.section != found.section {
+            if self.section != Section::Headers {
+                return None;
+            }
+            return placed_value(found.section, found.place, self.index);
+        }
+        if self.index < MEMBERS_OF_PLACE {
+            return placed_value(found.section, found.place, self.index);
+        }
+        header_value(&found.header, self.index - MEMBERS_OF_PLACE)
     }
 
     /// Its value in a header of cooked capture v1 that is not walked.
@@ -126,7 +156,7 @@ impl Column {
 
 /// The section of a header of a walk.
 #[inline(always)]
-fn section_of(unit: &PeelUnit<'_>) -> Section {
+pub(crate) fn section_of(unit: &PeelUnit<'_>) -> Section {
     match unit {
         PeelUnit::Ethernet2(_) => Section::Eth,
         PeelUnit::LinuxSll(_) => Section::Sll,
@@ -138,7 +168,11 @@ fn section_of(unit: &PeelUnit<'_>) -> Section {
 
 /// The value of a member of two lists, counted from the first of the first one.
 #[inline(always)]
-fn member_at<'a>(first: &[Member<'a>], others: &[Member<'a>], index: u8) -> Option<Value<'a>> {
+pub(crate) fn member_at<'a>(
+    first: &[Member<'a>],
+    others: &[Member<'a>],
+    index: u8,
+) -> Option<Value<'a>> {
     let index = usize::from(index);
     if index < first.len() {
         return Some(first[index].value);

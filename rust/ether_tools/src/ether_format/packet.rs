@@ -3,9 +3,10 @@
 use crate::ether_format::brief::{write_brief_front, write_brief_tail};
 use crate::ether_format::calendar::moment_of;
 use crate::ether_format::format::Part;
+use crate::ether_format::gathered_row::write_columns;
 use crate::ether_format::json::write_members;
 use crate::ether_format::place::Place;
-use crate::ether_format::row::{write_only, write_row};
+use crate::ether_format::row::write_only;
 use crate::ether_format::walk::write_walk;
 use crate::ether_format::write_end::{write_linux_sll2_fault, write_rest, write_skipped};
 use crate::ether_format::write_header::{write_cooked, write_linux_sll2};
@@ -60,6 +61,7 @@ use crate::ether_text::{OutputBuffer, Sink};
 /// ```
 ///
 /// </details>
+#[inline(never)]
 pub fn write_packet<W: Sink>(
     format: &Format,
     limit: Option<usize>,
@@ -67,11 +69,24 @@ pub fn write_packet<W: Sink>(
     packet: &CapturedPacket<'_>,
     out: &mut OutputBuffer<'_, W>,
 ) -> bool {
-    let moment = moment_if(packet.time);
     match format {
-        Format::Json => write_part(Part::Json, limit, number, packet, moment, out),
-        Format::Brief => write_part(Part::Brief, limit, number, packet, moment, out),
-        Format::Fields(columns) => write_row(columns, limit, number, packet, moment, out),
+        Format::Json => write_part(
+            Part::Json,
+            limit,
+            number,
+            packet,
+            moment_if(packet.time),
+            out,
+        ),
+        Format::Brief => write_part(
+            Part::Brief,
+            limit,
+            number,
+            packet,
+            moment_if(packet.time),
+            out,
+        ),
+        Format::Fields(columns) => write_columns(columns, limit, number, packet, out),
     }
 }
 
@@ -92,7 +107,7 @@ pub(crate) fn write_part<W: Sink>(
 }
 
 /// The moment of a time, if there is one.
-fn moment_if(time: Option<Timestamp>) -> Option<Moment> {
+pub(crate) fn moment_if(time: Option<Timestamp>) -> Option<Moment> {
     match time {
         Some(time) => Some(moment_of(time)),
         None => None,
@@ -206,7 +221,7 @@ fn write_cooked_v2<W: Sink>(
 }
 
 /// The place of a cooked header at the front of so many bytes.
-fn cooked_place(header_len: usize, len: usize) -> Place {
+pub(crate) fn cooked_place(header_len: usize, len: usize) -> Place {
     Place {
         start: 0,
         header_end: header_len,

@@ -48,7 +48,7 @@ pub(crate) fn write_walk<W: Sink>(
 }
 
 /// The walk of a frame, with a limit on VLAN tags and SecTags or without.
-fn walker(start: Start, limit: Option<usize>, frame: &[u8]) -> Peel<'_> {
+pub(crate) fn walker(start: Start, limit: Option<usize>, frame: &[u8]) -> Peel<'_> {
     match limit {
         Some(limit) => Peel::with_limit(start, frame, limit),
         None => Peel::new(start, frame),

@@ -1,5 +1,6 @@
 use Rattle.std.proofs.Common.{◌≡◌, ◌∙◌, ap, rules}
-use Rattle.ether_format.proofs.ColumnLemmas.{in_unit, unit_members}
+use Rattle.ether_format.specs.Walking.{unit_members}
+use Rattle.ether_format.proofs.ColumnLemmas.{in_unit}
 use Rattle.ether_format.proofs.column.Column.in_header.Goals as goal
 
 pub returns-in-Ethernet2 : goal.returns-in-Ethernet2

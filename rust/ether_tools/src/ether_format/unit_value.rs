@@ -1,0 +1,126 @@
+//! The value of one member of a header or of a packet, without the others.
+
+use crate::ether_format::column::Section;
+use crate::ether_format::column_value::member_at;
+use crate::ether_format::found_header::FoundHeader;
+use crate::ether_format::members::{self, fcs_value, placed, protocol_address, time_value};
+use crate::ether_format::packet::moment_if;
+use crate::ether_format::place::Place;
+use crate::ether_format::value::Value;
+use etherpeel::ether_content::CookedHeader;
+use etherpeel::ether_pcap::CapturedPacket;
+use etherpeel::ether_peel::PeelUnit;
+use etherpeel::ether_sll2::LinuxSll2Slice;
+use etherpeel::{
+    ArpPacketSlice, Ethernet2Slice, LinuxSllSlice, MacsecHeaderSlice, SingleVlanSlice,
+};
+
+/// The value of a member of a header, counted from the first after its place.
+#[inline(always)]
+pub(crate) fn header_value<'a>(header: &'a FoundHeader<'_>, index: u8) -> Option<Value<'a>> {
+    match header {
+        FoundHeader::Walked(unit) => unit_value(unit, index),
+        FoundHeader::Cooked(header) => cooked_value(header, index),
+        FoundHeader::CookedV2(packet) => linux_sll2_value(packet, index),
+    }
+}
+
+/// The value of a member of a header of cooked capture v1 that is not walked.
+#[inline(never)]
+fn cooked_value<'a>(header: &'a CookedHeader, index: u8) -> Option<Value<'a>> {
+    member_at(&[], &members::cooked(header), index)
+}
+
+/// The value of a member of a header of cooked capture v2.
+#[inline(never)]
+fn linux_sll2_value<'a>(packet: &'a LinuxSll2Slice<'_>, index: u8) -> Option<Value<'a>> {
+    member_at(&[], &members::linux_sll2(packet), index)
+}
+
+/// The value of a member of a header of the walk.
+#[inline(always)]
+fn unit_value<'a>(unit: &'a PeelUnit<'_>, index: u8) -> Option<Value<'a>> {
+    match unit {
+        PeelUnit::Ethernet2(slice) => ethernet2_value(slice, index),
+        PeelUnit::LinuxSll(slice) => linux_sll_value(slice, index),
+        PeelUnit::Vlan(slice) => vlan_value(slice, index),
+        PeelUnit::Macsec(slice) => macsec_value(&slice.header, index),
+        PeelUnit::Arp(slice) => arp_value(slice, index),
+    }
+}
+
+/// The value of a member of the name and the place of a header.
+#[inline(never)]
+pub(crate) fn placed_value<'a>(section: Section, place: Place, index: u8) -> Option<Value<'a>> {
+    member_at(&placed(section.name(), place), &[], index)
+}
+
+/// The value of a member of a header of Linux cooked capture v1.
+#[inline(never)]
+fn linux_sll_value<'a>(slice: &'a LinuxSllSlice<'_>, index: u8) -> Option<Value<'a>> {
+    member_at(&[], &members::linux_sll(slice), index)
+}
+
+/// The value of a member of a SecTag.
+#[inline(never)]
+fn macsec_value<'a>(tag: &MacsecHeaderSlice<'_>, index: u8) -> Option<Value<'a>> {
+    member_at(&[], &members::macsec(tag), index)
+}
+
+/// The value of a member of a header of Ethernet II.
+#[inline(always)]
+fn ethernet2_value<'a>(slice: &Ethernet2Slice<'_>, index: u8) -> Option<Value<'a>> {
+    match index {
+        0 => Some(Value::Mac(slice.destination())),
+        1 => Some(Value::Mac(slice.source())),
+        2 => Some(Value::Protocol(slice.ether_type().0)),
+        3 => Some(fcs_value(slice.fcs())),
+        _ => None,
+    }
+}
+
+/// The value of a member of a VLAN tag.
+#[inline(always)]
+fn vlan_value<'a>(slice: &SingleVlanSlice<'_>, index: u8) -> Option<Value<'a>> {
+    match index {
+        0 => Some(Value::Number(u64::from(slice.priority_code_point().value()))),
+        1 => Some(Value::Number(u64::from(slice.drop_eligible_indicator()))),
+        2 => Some(Value::Number(u64::from(slice.vlan_identifier().value()))),
+        3 => Some(Value::Protocol(slice.ether_type().0)),
+        _ => None,
+    }
+}
+
+/// The value of a member of an ARP packet.
+#[inline(always)]
+fn arp_value<'a>(packet: &'a ArpPacketSlice<'_>, index: u8) -> Option<Value<'a>> {
+    match index {
+        0 => Some(Value::Number(u64::from(packet.hw_addr_type().0))),
+        1 => Some(Value::Protocol(packet.proto_addr_type().0)),
+        2 => Some(Value::Number(u64::from(packet.hw_addr_size()))),
+        3 => Some(Value::Number(u64::from(packet.proto_addr_size()))),
+        4 => Some(Value::Number(u64::from(packet.operation().0))),
+        5 => Some(Value::Bytes(packet.sender_hw_addr())),
+        6 => Some(protocol_address(packet.proto_addr_type(), packet.sender_protocol_addr())),
+        7 => Some(Value::Bytes(packet.target_hw_addr())),
+        8 => Some(protocol_address(packet.proto_addr_type(), packet.target_protocol_addr())),
+        _ => None,
+    }
+}
+
+/// The value of a member of a packet. Its moment is computed only if it is asked for.
+#[inline(always)]
+pub(crate) fn packet_value<'a>(
+    number: usize,
+    packet: &CapturedPacket<'_>,
+    index: u8,
+) -> Option<Value<'a>> {
+    match index {
+        0 => Some(Value::Number(number as u64)),
+        1 => Some(time_value(moment_if(packet.time))),
+        2 => Some(Value::Number(u64::from(packet.link_type.0))),
+        3 => Some(Value::Number(packet.packet.len() as u64)),
+        4 => Some(Value::Number(u64::from(packet.original_len))),
+        _ => None,
+    }
+}
