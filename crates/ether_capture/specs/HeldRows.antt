@@ -1,4 +1,4 @@
--- Rows are those of what a journal holds.
+-- The rows that are counted are those that a journal holds.
 use Rattle.std.specs.Prelude.{ℕ, List, [], ◌∷◌, Bool, true, false, Option, Some, None, ⊤, refl}
 use Rattle.std.specs.Coded.{Coded, Coded-set, code_by, coded_bool, coded_list, coded_option, coded_ℕ, coded×, Unit-prop, ×_prop, Π_prop}
 use Rattle.ether_capture.specs.CountTable.{count_at}

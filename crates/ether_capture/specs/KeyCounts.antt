@@ -1,4 +1,4 @@
--- The summary of rows: how many packets have each text of each column, and how many bytes these had.
+-- How many packets have a key, and how many bytes these had.
 use Rattle.std.specs.Prelude.{◌≡◌, ℕ, ◌+◌, List, [], ◌∷◌, length, filter, Option, Some, None, if◌then◌else◌}
 use Rattle.std.specs.Str.{bytes_eq}
 use Rattle.std.specs.List.{sum_by}
@@ -7,7 +7,7 @@ use Rattle.ether_capture.specs.declared.count.Count.{Count}
 
 -- ---- what is counted
 
--- a packet of so many bytes has a key
+-- a packet of so many bytes that has a key
 pub record Hit : Type 0 where
   pub key : List ℕ
   pub bytes : ℕ
@@ -20,15 +20,15 @@ plus (Some c) bytes = record { packets = counted (c.packets + 1); bytes = counte
 abbrev pub AddsHit : (key : List ℕ) → (bytes : ℕ) → (old new : List ℕ → Option Count) → Type 0
 AddsHit key bytes old new = (q : List ℕ) → new q ≡ (if bytes_eq key q then Some (plus (old q) bytes) else old q)
 
--- so many packets
+-- how many these are, if there are any
 abbrev pub sum_of : List Hit → Option Count
 sum_of [] = None
 sum_of (h ∷ hs) = Some (record { packets = counted (length (h ∷ hs)); bytes = counted (sum_by (λ k. k.bytes) (h ∷ hs)) })
 
--- those with a key
+-- .. with a key
 abbrev pub count_of : List Hit → (key : List ℕ) → Option Count
 count_of hits key = sum_of (filter (λ h. bytes_eq h.key key) hits)
 
--- the packets of these have the counts of a table
+-- a table has the counts of these packets
 abbrev pub CountHits : List Hit → (table : List ℕ → Option Count) → Type 0
 CountHits hits table = (key : List ℕ) → table key ≡ count_of hits key

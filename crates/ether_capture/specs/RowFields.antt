@@ -1,4 +1,4 @@
--- Lines of fields, the first of which names columns.
+-- Lines of fields. The first line names the columns.
 use Rattle.std.specs.Prelude.{◌==◌, ℕ, ◌+◌, ◌-◌, ◌*◌, List, [], ◌∷◌, ◌++◌, codes, map, Option, Some, None, if◌then◌else◌}
 use Rattle.std.specs.List.{flat_map}
 use Rattle.ether_capture.specs.KeyCounts.{Hit}
@@ -66,7 +66,7 @@ fields_hits columns (len ∷ fields) =
 abbrev pub row_hits : (heading row : List ℕ) → List Hit
 row_hits heading row = fields_hits (row_fields heading) (row_fields row)
 
--- of lines, the first of which is the heading
+-- of the rows after a heading
 abbrev pub lines_hits : List (List ℕ) → List Hit
 lines_hits [] = []
 lines_hits (heading ∷ rows) = flat_map (row_hits heading) rows

@@ -1,4 +1,4 @@
--- The summary of rows: a line for each key, in the order of their bytes.
+-- The counts of rows as a text: a line for each key, in the order of their bytes.
 use Rattle.std.specs.Prelude.{◌≡◌, ℕ, List, [], ◌∷◌, ◌++◌, codes, decimal, map, Bool, true, false, Option, Some, None, ⊤}
 use Rattle.std.specs.Ordering.{nat_cmp}
 use Rattle.std.specs.Cmp.Lexicographic.{slice_cmp}
@@ -44,7 +44,7 @@ pub record TakesStatistics {W : Type 0} (contents : W → Option (List ℕ)) (ca
   pub are_rows : AreRows table rows
   pub taken : Takes contents can_fail old (flat_map (statistics_line format) rows) new
 
--- this is the summary of a text, the first line of which names the columns
+-- this is the summary of the rows in a text, whose first line names the columns
 pub record IsStatistics (format : StatisticsFormat) (text summary : List ℕ) : Type 0 where
   pub rows : List StatisticsRow
   pub are_rows : AreRows (count_of (lines_hits (lines_of text))) rows

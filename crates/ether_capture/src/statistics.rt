@@ -20,7 +20,7 @@ pub struct Statistics<J: Journal> {
 }
 
 impl<J: Journal> Statistics<J> {
-    /// Of no row yet.
+    /// No row is counted yet.
     pub fn new(alloc: Global) -> Statistics<J>
         ensures { J.Sink.contents result.journal ≡ known_if J.is_known }
     {

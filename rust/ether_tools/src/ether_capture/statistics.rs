@@ -14,7 +14,7 @@ pub struct Statistics<J: Journal> {
 }
 
 impl<J: Journal> Statistics<J> {
-    /// Of no row yet.
+    /// No row is counted yet.
     ///
     /// <details><summary>Contract</summary>
     ///
