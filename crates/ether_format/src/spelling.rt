@@ -1,6 +1,6 @@
 //! Writes values as text.
-ghost use Rattle.std.specs.Prelude.{◌≡◌, ◌<◌, ◌≤◌, ◌+◌, ◌++◌, codes, false, take};
-ghost use Rattle.std.specs.Fmt.{decimal, digit_glyph};
+ghost use Rattle.std.specs.Prelude.{◌≡◌, ◌++◌, codes, false, take};
+ghost use Rattle.std.specs.Fmt.{decimal};
 ghost use Rattle.std.specs.List.{flat_map};
 ghost use Rattle.ether_base.specs.Texts.NumberText.{hex_byte};
 ghost use Rattle.ether_text.specs.OutputBuffer.{Takes};
@@ -10,11 +10,8 @@ ghost use Rattle.ether_format.specs.Walking.{value_view};
 
 use crate::Moment;
 use crate::value::Value;
-use ether_text::{OutputBuffer, Sink, eight_digits, hex_type, write_decimal};
+use ether_text::{OutputBuffer, Sink, digit_pair, eight_digits, hex_type, write_decimal};
 use etherparse::EtherType;
-
-/// The hexadecimal digits, in lower case.
-static DIGITS: [u8; 16] = *b"0123456789abcdef";
 
 /// Writes a value as JSON has it.
 #[inline(always)]
@@ -38,6 +35,7 @@ pub(crate) fn write_json_value<W: Sink>(value: &Value<'_>, out: &mut OutputBuffe
 }
 
 /// Writes a value as a column has it.
+#[inline(always)]
 pub(crate) fn write_column_value<W: Sink>(value: &Value<'_>, out: &mut OutputBuffer<'_, W>)
     ensures { Takes W.contents W.can_fail out.old (column_value (value_view value.now)) out.new }
 {
@@ -185,23 +183,6 @@ pub(crate) fn mac_text(address: [u8; 6]) -> [u8; 17]
         a[0], a[1], b':', b[0], b[1], b':', c[0], c[1], b':', d[0], d[1], b':', e[0], e[1], b':',
         f[0], f[1],
     ]
-}
-
-/// The two digits of a byte, in lower case.
-#[inline(always)]
-fn digit_pair(byte: u8) -> [u8; 2]
-    ensures { result ≡ hex_byte false byte }
-{
-    [digit(byte / 16), digit(byte % 16)]
-}
-
-/// The hexadecimal digit of a number below 16, in lower case.
-#[inline(always)]
-fn digit(number: u8) -> u8
-    requires { number < 16 }
-    ensures { result ≡ digit_glyph false number }
-{
-    DIGITS[usize::from(number)]
 }
 
 /// Writes a moment as in ISO 8601.

@@ -55,7 +55,7 @@ pub fn hex_address(address: [u8; 6]) -> [u8; 12]
 
 /// The two digits of a byte, in lower case.
 #[inline(always)]
-fn digit_pair(byte: u8) -> [u8; 2]
+pub fn digit_pair(byte: u8) -> [u8; 2]
     ensures { result ≡ hex_byte false byte }
 {
     PAIRS[usize::from(byte)]

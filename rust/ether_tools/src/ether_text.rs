@@ -31,5 +31,5 @@ pub use sink::Sink;
 pub use source::{SliceSource, Source};
 pub use verdict::Verdict;
 pub use walk_lines::{write_walk, write_walk_after};
-pub use write_hex::{hex_long, hex_type};
+pub use write_hex::{digit_pair, hex_long, hex_type};
 pub use write_lines::{source_of, write_number, write_rest};

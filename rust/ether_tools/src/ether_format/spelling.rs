@@ -2,11 +2,8 @@
 
 use crate::ether_format::Moment;
 use crate::ether_format::value::Value;
-use crate::ether_text::{OutputBuffer, Sink, eight_digits, hex_type, write_decimal};
+use crate::ether_text::{OutputBuffer, Sink, digit_pair, eight_digits, hex_type, write_decimal};
 use etherpeel::EtherType;
-
-/// The hexadecimal digits, in lower case.
-static DIGITS: [u8; 16] = *b"0123456789abcdef";
 
 /// Writes a value as JSON has it.
 #[inline(always)]
@@ -28,6 +25,7 @@ pub(crate) fn write_json_value<W: Sink>(value: &Value<'_>, out: &mut OutputBuffe
 }
 
 /// Writes a value as a column has it.
+#[inline(always)]
 pub(crate) fn write_column_value<W: Sink>(value: &Value<'_>, out: &mut OutputBuffer<'_, W>) {
     match value {
         Value::Nothing => {}
@@ -149,18 +147,6 @@ pub(crate) fn mac_text(address: [u8; 6]) -> [u8; 17] {
         a[0], a[1], b':', b[0], b[1], b':', c[0], c[1], b':', d[0], d[1], b':', e[0], e[1], b':',
         f[0], f[1],
     ]
-}
-
-/// The two digits of a byte, in lower case.
-#[inline(always)]
-fn digit_pair(byte: u8) -> [u8; 2] {
-    [digit(byte / 16), digit(byte % 16)]
-}
-
-/// The hexadecimal digit of a number below 16, in lower case.
-#[inline(always)]
-fn digit(number: u8) -> u8 {
-    DIGITS[usize::from(number)]
 }
 
 /// Writes a moment as in ISO 8601.

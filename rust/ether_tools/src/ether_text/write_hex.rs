@@ -55,8 +55,16 @@ pub fn hex_address(address: [u8; 6]) -> [u8; 12] {
 }
 
 /// The two digits of a byte, in lower case.
+///
+/// <details><summary>Contract</summary>
+///
+/// ```text
+/// ensures { result ≡ hex_byte false byte }
+/// ```
+///
+/// </details>
 #[inline(always)]
-fn digit_pair(byte: u8) -> [u8; 2] {
+pub fn digit_pair(byte: u8) -> [u8; 2] {
     PAIRS[usize::from(byte)]
 }
 
