@@ -190,9 +190,10 @@ ORDER = {
         ether_text: Run
         ether_stream: Run
         ether_format: Splits
-        ether_stream: VlanOptions OptionValues
+        ether_stream: VlanOptions
         ether_format: Columns
-        ether_capture: Options
+        ether_stream: Usage OptionValues
+        ether_capture: WrongWords Options
         ether_pcap: Texts PcapngTexts CaptureTexts
         ether_filter: ErrorTexts
         ether_stream: Outcome

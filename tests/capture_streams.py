@@ -74,7 +74,7 @@ READS = [
     ("nothing shown of no expression", ["--progress", "--select", "vlan x"], b"", {}, "",
      "--select: At byte 5: expected a number up to 4095, `and`, `or`, `)` or the end.\n", 2, {}),
     ("two files by -r", ["-r", "one", "-r", "one"], b"", {"one": CLASSIC}, "",
-     "ether_capture: an option is unknown, comes twice, or lacks its value; try --help\n", 2, {}),
+     "ether_capture: an option occurs twice, or has a value and takes none; try --help\n", 2, {}),
 ]
 
 

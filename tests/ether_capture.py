@@ -270,49 +270,74 @@ CASES += [
 
 
 # Words that are wrong, and what standard error says of them.
-OPTION = "ether_capture: an option is unknown, comes twice, or lacks its value; try --help\n"
-CLASH = "ether_capture: these options do not go together; try --help\n"
-EDIT = "ether_capture: expected at most one edit, as --push-vlan 0x8100:5 or --set-vlan 5:6; try --help\n"
-COUNT = "ether_capture: -c: expected a number from 1 to 4294967295; try --help\n"
-LIMIT = "ether_capture: --limit: expected a number up to 4294967295; try --help\n"
-FORMAT = "ether_capture: --format: expected lines, brief or json; try --help\n"
-FIELDS = "ether_capture: --fields: expected at most 32 columns, as vlan.vid,eth.src; try --help\n"
-UNDECIDED = "ether_capture: --undecided: expected keep or drop; try --help\n"
+def wrong(reason):
+    """The line that says what is wrong with the words."""
+    return f"ether_capture: {reason}; try --help\n"
+
+
+def unknown(word):
+    return wrong(f"{word}: there is no such option")
+
+
+def missing(option):
+    return wrong(f"{option}: its value is missing")
+
+
+def expected(option, value):
+    return wrong(f"{option} '{value}': expected {EXPECTED[option]}")
+
+
+def no_column(name):
+    return wrong(f"--fields: there is no column '{name}'")
+
+
+EXPECTED = {
+    "-c": "a number from 1 to 4294967295",
+    "--limit": "a number up to 4294967295",
+    "--format": "lines, brief or json",
+    "--fields": "at most 32 columns, as vlan.vid,eth.src",
+    "--undecided": "keep or drop",
+    "--push-vlan": "a TPID of VLAN tags and an identifier up to 4095, as 0x8100:5",
+    "--set-vlan": "two identifiers up to 4095, as 5:6",
+}
+TWICE = wrong("an option occurs twice, or has a value and takes none")
+CLASH = wrong("these options do not go together")
+EDITS = wrong("--cut-to-headers, --pop-vlan, --push-vlan and --set-vlan do not go together")
 WRONG = [
-    ("no number of packets", ["-c"], OPTION),
-    ("no packets", ["-c", "0"], COUNT),
-    ("a number that is none", ["-c", "x"], COUNT),
-    ("a number of packets of more than 32 bits", ["-c", "4294967296"], COUNT),
-    ("two numbers of packets", ["-c", "1", "-c", "2"], OPTION),
-    ("no limit", ["--limit"], OPTION),
-    ("a limit that is none", ["--limit", "x"], LIMIT),
-    ("a limit below zero", ["--limit", "-1"], OPTION),
-    ("a limit with a zero before it", ["--limit", "01"], LIMIT),
-    ("a limit of more than 32 bits", ["--limit", "4294967296"], LIMIT),
-    ("two limits", ["--limit", "1", "--limit", "1"], OPTION),
+    ("no number of packets", ["-c"], missing("-c")),
+    ("no packets", ["-c", "0"], expected("-c", "0")),
+    ("a number that is none", ["-c", "x"], expected("-c", "x")),
+    ("a number of packets of more than 32 bits", ["-c", "4294967296"], expected("-c", "4294967296")),
+    ("two numbers of packets", ["-c", "1", "-c", "2"], TWICE),
+    ("no limit", ["--limit"], missing("--limit")),
+    ("a limit that is none", ["--limit", "x"], expected("--limit", "x")),
+    ("a limit below zero", ["--limit", "-1"], unknown("-1")),
+    ("a limit with a zero before it", ["--limit", "01"], expected("--limit", "01")),
+    ("a limit of more than 32 bits", ["--limit", "4294967296"], expected("--limit", "4294967296")),
+    ("two limits", ["--limit", "1", "--limit", "1"], TWICE),
     ("a limit of a copy", ["--write", "--limit", "1"], CLASH),
     ("a limit of an edited copy", ["--limit", "0", "--cut-to-headers", "--write"], CLASH),
     ("a copy of two files", ["--write", "one", "two"], CLASH),
     ("an edited copy of three files", ["--pop-vlan", "--write", "one", "two", "three"], CLASH),
-    ("a format that is none", ["--format", "xml"], FORMAT),
-    ("no format", ["--format", ""], FORMAT),
-    ("a format in capitals", ["--format", "JSON"], FORMAT),
-    ("two formats", ["--format", "json", "--format", "json"], OPTION),
-    ("a format without its name", ["--format"], OPTION),
+    ("a format that is none", ["--format", "xml"], expected("--format", "xml")),
+    ("no format", ["--format", ""], expected("--format", "")),
+    ("a format in capitals", ["--format", "JSON"], expected("--format", "JSON")),
+    ("two formats", ["--format", "json", "--format", "json"], TWICE),
+    ("a format without its name", ["--format"], missing("--format")),
     ("plain JSON", ["--format", "json", "--plain"], CLASH),
     ("JSON and a copy", ["--write", "--format", "json"], CLASH),
     ("JSON and a copy to a file", ["-w", "copy", "--format", "json"], CLASH),
-    ("no columns", ["--fields", ""], FIELDS),
-    ("a column of no section", ["--fields", "ip.src"], FIELDS),
-    ("a column of no member", ["--fields", "vlan.id"], FIELDS),
-    ("a section without its member", ["--fields", "vlan"], FIELDS),
-    ("a member of the place of all headers alone", ["--fields", "headers.vid"], FIELDS),
-    ("a comma after the last column", ["--fields", "vlan.vid,"], FIELDS),
-    ("a space after a comma", ["--fields", "vlan.vid, eth.src"], FIELDS),
-    ("33 columns", ["--fields", ",".join(["eth.src"] * 33)], FIELDS),
-    ("columns in capitals", ["--fields", "VLAN.VID"], FIELDS),
-    ("columns twice", ["--fields", "vlan.vid", "--fields", "eth.src"], OPTION),
-    ("columns without their names", ["--fields"], OPTION),
+    ("no columns", ["--fields", ""], no_column("")),
+    ("a column of no section", ["--fields", "ip.src"], no_column("ip.src")),
+    ("a column of no member", ["--fields", "vlan.id"], no_column("vlan.id")),
+    ("a section without its member", ["--fields", "vlan"], no_column("vlan")),
+    ("a member of the place of all headers alone", ["--fields", "headers.vid"], no_column("headers.vid")),
+    ("a comma after the last column", ["--fields", "vlan.vid,"], no_column("")),
+    ("a space after a comma", ["--fields", "vlan.vid, eth.src"], no_column(" eth.src")),
+    ("33 columns", ["--fields", ",".join(["eth.src"] * 33)], expected("--fields", ",".join(["eth.src"] * 33))),
+    ("columns in capitals", ["--fields", "VLAN.VID"], no_column("VLAN.VID")),
+    ("columns twice", ["--fields", "vlan.vid", "--fields", "eth.src"], TWICE),
+    ("columns without their names", ["--fields"], missing("--fields")),
     ("a line of names without columns", ["--header"], CLASH),
     ("columns and JSON", ["--fields", "vlan.vid", "--format", "json"], CLASH),
     ("plain columns", ["--fields", "vlan.vid", "--plain"], CLASH),
@@ -324,46 +349,46 @@ WRONG = [
     ("counts and a copy", ["--stats", "--write"], CLASH),
     ("counts and a copy to a file", ["--stats", "-w", "copy"], CLASH),
     ("counts of 32 columns", ["--stats", "--fields", ",".join(["eth.src"] * 32)], CLASH),
-    ("counts of a column that is none", ["--stats", "--fields", "vlan.id"], FIELDS),
-    ("counts twice", ["--stats", "--stats"], OPTION),
-    ("an option that is none", ["--plane"], OPTION),
-    ("the beginning of an option", ["--pla"], OPTION),
-    ("a letter that is none", ["-p"], OPTION),
-    ("a value of an option that has none", ["--plain=yes"], OPTION),
-    ("no filter before an option", ["--select", "--plain"], OPTION),
-    ("an option that is none, and help after it", ["--plane", "--help"], OPTION),
-    ("a word twice", ["--plain", "--plain"], OPTION),
-    ("an expression that is missing", ["--select"], OPTION),
+    ("counts of a column that is none", ["--stats", "--fields", "vlan.id"], no_column("vlan.id")),
+    ("counts twice", ["--stats", "--stats"], TWICE),
+    ("an option that is none", ["--plane"], unknown("--plane")),
+    ("the beginning of an option", ["--pla"], unknown("--pla")),
+    ("a letter that is none", ["-p"], unknown("-p")),
+    ("a value of an option that has none", ["--plain=yes"], TWICE),
+    ("no filter before an option", ["--select", "--plain"], missing("--select")),
+    ("an option that is none, and help after it", ["--plane", "--help"], unknown("--plane")),
+    ("a word twice", ["--plain", "--plain"], TWICE),
+    ("an expression that is missing", ["--select"], missing("--select")),
     ("lines and a copy", ["--plain", "--write"], CLASH),
-    ("a copy twice", ["--write", "--select", "arp", "--write"], OPTION),
-    ("two filters", ["--select", "arp", "--select", "arp"], OPTION),
+    ("a copy twice", ["--write", "--select", "arp", "--write"], TWICE),
+    ("two filters", ["--select", "arp", "--select", "arp"], TWICE),
     ("headers without a copy", ["--cut-to-headers"], CLASH),
-    ("headers twice", ["--write", "--cut-to-headers", "--cut-to-headers"], OPTION),
+    ("headers twice", ["--write", "--cut-to-headers", "--cut-to-headers"], TWICE),
     ("a tag less without a copy", ["--pop-vlan"], CLASH),
     ("a tag more without a copy", ["--push-vlan", "0x8100:5"], CLASH),
-    ("no tag to put in", ["--write", "--push-vlan"], OPTION),
-    ("a tag without a TPID", ["--write", "--push-vlan", "5"], EDIT),
-    ("a TPID of another kind", ["--write", "--push-vlan", "0x8101:5"], EDIT),
-    ("a tag of 13 bits", ["--write", "--push-vlan", "0x8100:4096"], EDIT),
-    ("a tag in three parts", ["--write", "--push-vlan", "0x8100:5:6"], EDIT),
-    ("an octal identifier", ["--write", "--push-vlan", "0x8100:05"], EDIT),
-    ("a number of more than 32 bits", ["--write", "--push-vlan", "0x100008100:5"], EDIT),
-    ("two edits", ["--write", "--pop-vlan", "--cut-to-headers"], EDIT),
+    ("no tag to put in", ["--write", "--push-vlan"], missing("--push-vlan")),
+    ("a tag without a TPID", ["--write", "--push-vlan", "5"], expected("--push-vlan", "5")),
+    ("a TPID of another kind", ["--write", "--push-vlan", "0x8101:5"], expected("--push-vlan", "0x8101:5")),
+    ("a tag of 13 bits", ["--write", "--push-vlan", "0x8100:4096"], expected("--push-vlan", "0x8100:4096")),
+    ("a tag in three parts", ["--write", "--push-vlan", "0x8100:5:6"], expected("--push-vlan", "0x8100:5:6")),
+    ("an octal identifier", ["--write", "--push-vlan", "0x8100:05"], expected("--push-vlan", "0x8100:05")),
+    ("a number of more than 32 bits", ["--write", "--push-vlan", "0x100008100:5"], expected("--push-vlan", "0x100008100:5")),
+    ("two edits", ["--write", "--pop-vlan", "--cut-to-headers"], EDITS),
     ("another identifier without a copy", ["--set-vlan", "5:6"], CLASH),
-    ("no identifiers", ["--write", "--set-vlan"], OPTION),
-    ("one identifier", ["--write", "--set-vlan", "5"], EDIT),
-    ("no second identifier", ["--write", "--set-vlan", "5:"], EDIT),
-    ("no first identifier", ["--write", "--set-vlan", ":5"], EDIT),
-    ("a new identifier of 13 bits", ["--write", "--set-vlan", "5:4096"], EDIT),
-    ("an old identifier of 13 bits", ["--write", "--set-vlan", "0x1000:5"], EDIT),
-    ("an identifier that is no number", ["--write", "--set-vlan", "x:1"], EDIT),
-    ("three identifiers", ["--write", "--set-vlan", "5:6:7"], EDIT),
-    ("other identifiers twice", ["--write", "--set-vlan", "5:6", "--set-vlan", "6:7"], OPTION),
-    ("another identifier and a tag less", ["--write", "--set-vlan", "5:6", "--pop-vlan"], EDIT),
-    ("a tag more and another identifier", ["--write", "--push-vlan", "0x8100:5", "--set-vlan", "5:6"], EDIT),
-    ("undecided packets that are neither kept nor dropped", ["--select", "vlan", "--undecided", "maybe"], UNDECIDED),
+    ("no identifiers", ["--write", "--set-vlan"], missing("--set-vlan")),
+    ("one identifier", ["--write", "--set-vlan", "5"], expected("--set-vlan", "5")),
+    ("no second identifier", ["--write", "--set-vlan", "5:"], expected("--set-vlan", "5:")),
+    ("no first identifier", ["--write", "--set-vlan", ":5"], expected("--set-vlan", ":5")),
+    ("a new identifier of 13 bits", ["--write", "--set-vlan", "5:4096"], expected("--set-vlan", "5:4096")),
+    ("an old identifier of 13 bits", ["--write", "--set-vlan", "0x1000:5"], expected("--set-vlan", "0x1000:5")),
+    ("an identifier that is no number", ["--write", "--set-vlan", "x:1"], expected("--set-vlan", "x:1")),
+    ("three identifiers", ["--write", "--set-vlan", "5:6:7"], expected("--set-vlan", "5:6:7")),
+    ("other identifiers twice", ["--write", "--set-vlan", "5:6", "--set-vlan", "6:7"], TWICE),
+    ("another identifier and a tag less", ["--write", "--set-vlan", "5:6", "--pop-vlan"], EDITS),
+    ("a tag more and another identifier", ["--write", "--push-vlan", "0x8100:5", "--set-vlan", "5:6"], EDITS),
+    ("undecided packets that are neither kept nor dropped", ["--select", "vlan", "--undecided", "maybe"], expected("--undecided", "maybe")),
     ("undecided packets without a filter", ["--undecided", "keep"], CLASH),
-    ("a filter that is wrong, and an option that is none", ["--select", "vlan 4096", "-c", "0"], COUNT),
+    ("a filter that is wrong, and an option that is none", ["--select", "vlan 4096", "-c", "0"], expected("-c", "0")),
 ]
 
 
@@ -371,7 +396,7 @@ def wrong_words_alone(program):
     """Wrong words if standard output is full, or there is no standard error."""
     silent = subprocess.run([program, "--plane"], stdin=subprocess.DEVNULL, stdout=subprocess.PIPE, preexec_fn=lambda: os.close(2), check=False)
     return [
-        ("wrong words on a full disk", on_a_full_disk(program, ["--plane"], b""), (OPTION, 2)),
+        ("wrong words on a full disk", on_a_full_disk(program, ["--plane"], b""), (unknown("--plane"), 2)),
         ("wrong words without standard error", (silent.stdout, silent.returncode), (b"", 2)),
     ]
 

@@ -43,7 +43,7 @@ METHODS = set(
     """and_then as_mut_slice as_ref as_slice as_str clear clone contains copied copy_from_slice copy_within
     debug_struct div_ceil enumerate field find finish first_chunk first_chunk_mut fmt get hash insert is_empty is_err is_full
     is_none is_ok is_some iter last_chunk len map max min next ok or overflowing_add pop pow push retain rev
-    saturating_add saturating_sub split_at_mut split_first split_last then_some to_be_bytes to_digit to_le_bytes truncate try_extend_from_slice
+    saturating_add saturating_sub split_at_mut split_first split_last split_once then_some to_be_bytes to_digit to_le_bytes truncate try_extend_from_slice
     unwrap unwrap_or write_str""".split()
 )
 

@@ -1,3 +1,4 @@
+pub mod WrongWordLemmas
 pub mod OptionsLemmas
 pub mod FilesLemmas
 pub mod CountTableLemmas

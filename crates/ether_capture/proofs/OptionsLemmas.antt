@@ -4,9 +4,8 @@ use Rattle.clap.specs.Words.{App, FailsBy, HasKind, HasMatchesOf, IsAmong, Row, 
 use Rattle.clap.specs.declared.error.Error.{Error}
 use Rattle.clap.specs.declared.error.kind.ErrorKind.{ErrorKind}
 use Rattle.clap.specs.declared.parser.matches.ArgMatches.{ArgMatches}
-use Rattle.ether_capture.specs.Options.{AskedValue, Asks, IsRequestOf, KindNames, MeansNothing, NamesNothing, NamesRequest, RefusesAsked, RefusesKind, RefusesRows, RefusesWords, capture_app, help, options, request_view, version}
-use Rattle.ether_stream.specs.declared.option_values.Usage.{Usage}
-use Rattle.ether_stream.specs.declared.option_values.Usage.TheVariants as usages
+use Rattle.ether_capture.specs.Options.{AskedValue, Asks, IsRefusedUsage, IsRequestOf, KindNames, MeansNothing, NamesRequest, RefusesAsked, RefusesKind, RefusesRows, RefusesWords, capture_app, clash, help, no_filter, no_memory, nothing, options, refused, request_view, version}
+use Rattle.ether_stream.specs.declared.usage.Usage.TheVariants as usages
 use Rattle.ether_capture.specs.declared.asked.Request.{Request}
 use Rattle.ether_capture.specs.declared.asked.RequestError.{RequestError}
 use Rattle.ether_capture.specs.declared.asked.RequestError.TheVariants as reasons
@@ -38,27 +37,16 @@ refuses a words e is fails =
 
 module _ (words : List Text) (rows : List Row) (taken : fault_of capture_app words ≡ [])
     (is : rows ≡ matches_of capture_app words) where
-  means_nothing : (usage : Usage) → MeansNothing rows usage → NamesNothing words usage
-  means_nothing usage nothing =
-      record { taken = taken; nothing = subst (λ it. MeansNothing it usage) is nothing }
-
   rows_refused : (e : RequestError) → RefusesRows rows e → RefusesWords words e
-  rows_refused (reasons.Usage usages.Words) never = absurd never
-  rows_refused (reasons.Usage usages.Clash) never = absurd never
-  rows_refused (reasons.Usage usages.Edit) nothing = means_nothing usages.Edit nothing
-  rows_refused (reasons.Usage usages.Count) nothing = means_nothing usages.Count nothing
-  rows_refused (reasons.Usage usages.Limit) nothing = means_nothing usages.Limit nothing
-  rows_refused (reasons.Usage usages.Undecided) nothing = means_nothing usages.Undecided nothing
-  rows_refused (reasons.Usage usages.Format) nothing = means_nothing usages.Format nothing
-  rows_refused (reasons.Usage usages.Fields) nothing = means_nothing usages.Fields nothing
+  rows_refused (reasons.Usage usage) means = nothing usage taken (subst (λ it. MeansNothing it usage) is means)
   rows_refused (reasons.Filter e) never = absurd never
-  rows_refused reasons.Memory no_memory = tt
+  rows_refused reasons.Memory refused = no_memory
 
   -- the values of options ask for nothing
   pub nothing_asked : (e : RequestError) (r : Result Request RequestError) → RefusesRows rows e
       → IsErrAnd r (λ it. it ≡ e) → IfErr r (RefusesWords words)
   nothing_asked e (Ok request) refused same = tt
-  nothing_asked e (Err other) refused same = subst (RefusesWords words) (sym same) (rows_refused e refused)
+  nothing_asked e (Err other) means same = subst (RefusesWords words) (sym same) (rows_refused e means)
 
   -- .. or for a request
   pub request_named : (a : AskedValue) (r : Result Request RequestError) → Asks rows a
@@ -71,18 +59,17 @@ module _ (words : List Text) (rows : List Row) (taken : fault_of capture_app wor
   pub asked_refused : (a : AskedValue) (r : Result Request RequestError) → Asks rows a → IfErr r (RefusesAsked a)
       → IfErr r (RefusesWords words)
   asked_refused a (Ok request) asks refused = tt
-  asked_refused a (Err (reasons.Usage usages.Clash)) asks clash =
-      record { asked = a; taken = taken; asks = subst (λ it. Asks it a) is asks; clash = clash }
+  asked_refused a (Err (reasons.Usage usages.Clash)) asks clashed =
+      clash (record { asked = a; taken = taken; asks = subst (λ it. Asks it a) is asks; clash = clashed })
+  asked_refused a (Err (reasons.Usage (usages.Unknown word))) asks never = absurd never
+  asked_refused a (Err (reasons.Usage (usages.NoValue word))) asks never = absurd never
   asked_refused a (Err (reasons.Usage usages.Words)) asks never = absurd never
-  asked_refused a (Err (reasons.Usage usages.Edit)) asks never = absurd never
-  asked_refused a (Err (reasons.Usage usages.Count)) asks never = absurd never
-  asked_refused a (Err (reasons.Usage usages.Limit)) asks never = absurd never
-  asked_refused a (Err (reasons.Usage usages.Undecided)) asks never = absurd never
-  asked_refused a (Err (reasons.Usage usages.Format)) asks never = absurd never
-  asked_refused a (Err (reasons.Usage usages.Fields)) asks never = absurd never
-  asked_refused a (Err (reasons.Filter e)) asks no_filter =
-      record { asked = a; taken = taken; asks = subst (λ it. Asks it a) is asks; no_filter = no_filter }
-  asked_refused a (Err reasons.Memory) asks refused = tt
+  asked_refused a (Err (reasons.Usage usages.Edits)) asks never = absurd never
+  asked_refused a (Err (reasons.Usage (usages.NoColumn name))) asks never = absurd never
+  asked_refused a (Err (reasons.Usage (usages.Value option text))) asks never = absurd never
+  asked_refused a (Err (reasons.Filter e)) asks refused =
+      no_filter e (record { asked = a; taken = taken; asks = subst (λ it. Asks it a) is asks; no_filter = refused })
+  asked_refused a (Err reasons.Memory) asks refused = absurd refused
 
 -- ---- it fails
 
@@ -104,20 +91,13 @@ module _ (words : List Text) (kind : ErrorKind) (e : Error) (fails : HasKind (fa
           subst (NamesRequest words) (sym it)
           (version words (subst (λ k. IsAmong k (fault_of capture_app words)) (sym is ∙ kind_is) among))
 
-  pub kind_refused : (r : Result Request RequestError) → IfErr r (RefusesKind kind) → IfErr r (RefusesWords words)
-  kind_refused (Ok request) refused = tt
+  pub kind_refused : (r : Result Request RequestError) → IfErr r (RefusesKind words kind) → IfErr r (RefusesWords words)
+  kind_refused (Ok request) means = tt
   kind_refused (Err (reasons.Filter other)) never = absurd never
-  kind_refused (Err reasons.Memory) refused = tt
-  kind_refused (Err (reasons.Usage usages.Clash)) never = absurd never
-  kind_refused (Err (reasons.Usage usages.Edit)) never = absurd never
-  kind_refused (Err (reasons.Usage usages.Count)) never = absurd never
-  kind_refused (Err (reasons.Usage usages.Limit)) never = absurd never
-  kind_refused (Err (reasons.Usage usages.Undecided)) never = absurd never
-  kind_refused (Err (reasons.Usage usages.Format)) never = absurd never
-  kind_refused (Err (reasons.Usage usages.Fields)) never = absurd never
-  kind_refused (Err (reasons.Usage usages.Words)) (no_help, no_version, no_memory) = by_kind fails
+  kind_refused (Err reasons.Memory) means = no_memory
+  kind_refused (Err (reasons.Usage usage)) ((no_help, no_version, no_memory), means) = refused usage (by_kind fails) means
     where
-      by_kind : HasKind (fault_of capture_app words) e → RefusesWords words (reasons.Usage usages.Words)
+      by_kind : HasKind (fault_of capture_app words) e → IsRefusedUsage words
       by_kind (inl ends) = absurd (no_memory (is ∙ ends))
       by_kind (inr among) = record {
         kind = kind;

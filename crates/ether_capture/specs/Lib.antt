@@ -1,5 +1,6 @@
 pub mod Captures
 pub mod Copies
+pub mod WrongWords
 pub mod Options
 pub mod Program
 pub mod Files

@@ -1,5 +1,5 @@
 -- What the arguments ask for. `clap` defines which options words are, and which values these have.
-use Rattle.std.specs.Prelude.{◌≡◌, ◌≢◌, ◌⊎◌, ◌≤◌, ℕ, List, [], ◌∷◌, length, map, codes, Bool, true, false, if◌then◌else◌, ◌&&◌, ◌||◌, not, Option, Some, None, unwrap_or, ⊤}
+use Rattle.std.specs.Prelude.{◌≡◌, ◌≢◌, ◌⊎◌, ◌≤◌, ℕ, List, [], ◌∷◌, ◌++◌, length, map, codes, Bool, true, false, if◌then◌else◌, ◌&&◌, ◌||◌, not, Option, Some, None, unwrap_or, ⊤}
 use Rattle.std.specs.Int.NonZero.{non_zero_usize_get}
 use Rattle.std.specs.Option.{option_and_then, option_map, option_map_or, is_some}
 use Rattle.std.specs.Str.{bytes_eq}
@@ -16,14 +16,17 @@ use Rattle.ether_format.specs.declared.format.Format.{Format}
 use Rattle.ether_format.specs.declared.format.Format.TheVariants.{Brief, Fields, Json}
 use Rattle.ether_format.specs.Columns.{ColumnValue, columns_view, common_columns, original_column}
 use Rattle.ether_format.specs.declared.columns.Columns.{Columns}
-use Rattle.ether_stream.specs.OptionValues.{AreFields, IsCount, IsFormat, IsIfAny, IsLimit, IsOneEdit, IsSelection, MeansUndecided}
+use Rattle.ether_stream.specs.OptionValues.{AreFields, AreWrongFields, IsCount, IsFormat, IsIfAny, IsLimit, IsOneEdit, IsSelection, IsWrongEdit, MeansUndecided}
+use Rattle.ether_stream.specs.Usage.{IsWrongValue}
 use Rattle.ether_pcap.specs.CopiedUnits.{ModeValue, Exact, Changed}
 use Rattle.ether_stream.specs.Copying.{growth_if}
 use Rattle.ether_stream.specs.declared.selection.Selection.{Selection}
 use Rattle.ether_stream.specs.declared.selection.Undecided.{Undecided}
-use Rattle.ether_stream.specs.declared.option_values.Usage.{Usage}
-use Rattle.ether_stream.specs.declared.option_values.Usage.TheVariants as usages
+use Rattle.ether_stream.specs.declared.usage.Usage.{Usage}
+use Rattle.ether_stream.specs.declared.usage.Usage.TheVariants as usages
+use Rattle.ether_stream.specs.declared.usage.ValueOption.TheVariants as value_options
 use Rattle.ether_stream.specs.Task.{TaskValue, FormValue, Lines, Copy, task_view}
+use Rattle.ether_capture.specs.WrongWords.{IsUsageOf, flag_names, option_names}
 use Rattle.ether_capture.specs.declared.asked.Asked.{Asked}
 use Rattle.ether_capture.specs.declared.asked.Heading.{Heading}
 use Rattle.ether_capture.specs.declared.asked.Heading.TheVariants.{Absent, Line, Statistics}
@@ -106,12 +109,9 @@ abbrev pub file_rule : Rule
 file_rule = record (new_rule (codes "file")) { action = Some Append }
 
 abbrev pub capture_rules : List Rule
-capture_rules = flag_rule (codes "plain") ∷ flag_rule (codes "write") ∷ flag_rule (codes "cut-to-headers") ∷ flag_rule (codes "pop-vlan")
-    ∷ flag_rule (codes "progress") ∷ flag_rule (codes "header") ∷ flag_rule (codes "stats")
-    ∷ option_rule (codes "push-vlan") ∷ option_rule (codes "set-vlan") ∷ option_rule (codes "select") ∷ option_rule (codes "undecided")
-    ∷ option_rule (codes "limit") ∷ option_rule (codes "format") ∷ option_rule (codes "fields")
-    ∷ letter_rule (codes "count") 99 ∷ letter_rule (codes "read") 114 ∷ letter_rule (codes "output") 119
-    ∷ file_rule ∷ []  -- the letters are c, r and w
+capture_rules = map flag_rule flag_names ++ (map option_rule option_names
+    ++ letter_rule (codes "count") 99 ∷ letter_rule (codes "read") 114 ∷ letter_rule (codes "output") 119
+    ∷ file_rule ∷ [])  -- the letters are c, r and w
 
 -- .. with `--help` and `--version`, which `clap` adds
 abbrev pub capture_app : App
@@ -300,21 +300,24 @@ pub record IsRefusedUsage (words : List Text) : Type 0 where
   pub no_help : kind ≢ DisplayHelp
   pub no_version : kind ≢ DisplayVersion
 
--- the value of an option means nothing, or there are several edits
-abbrev pub MeansNothing : List Row → Usage → Type 0
-MeansNothing rows usages.Edit = (e : Option EditValue) → ¬ (IsEdit rows e)
-MeansNothing rows usages.Count = (n : Option ℕ) → ¬ (IsIfAny IsCount (first_of (codes "count") rows) n)
-MeansNothing rows usages.Limit = (n : Option ℕ) → ¬ (IsIfAny IsLimit (first_of (codes "limit") rows) n)
-MeansNothing rows usages.Undecided = (u : Option Undecided) → ¬ (IsIfAny MeansUndecided (first_of (codes "undecided") rows) u)
-MeansNothing rows usages.Format = (f : Option Format) → ¬ (IsFormat (first_of (codes "format") rows) f)
-MeansNothing rows usages.Fields = (c : Option Columns) → ¬ (IsIfAny AreFields (first_of (codes "fields") rows) c)
-MeansNothing rows usages.Words = ⊥
-MeansNothing rows usages.Clash = ⊥
+-- several edits are asked for, or the value of one means nothing
+abbrev pub IsWrongEditOf : List Row → Usage → Type 0
+IsWrongEditOf rows = IsWrongEdit (is_set (codes "cut-to-headers") rows) (is_set (codes "pop-vlan") rows) (first_of (codes "push-vlan") rows)
+    (first_of (codes "set-vlan") rows)
 
--- .. or takes them, but a value means nothing
-pub record NamesNothing (words : List Text) (usage : Usage) : Type 0 where
-  pub taken : fault_of capture_app words ≡ []
-  pub nothing : MeansNothing (matches_of capture_app words) usage
+-- .. or that of another option
+pub data MeansNothing (rows : List Row) : Usage → Type 0 where
+  edit : (usage : Usage) → ((e : Option EditValue) → ¬ (IsEdit rows e)) → IsWrongEditOf rows usage → MeansNothing rows usage
+  count : (usage : Usage) → ((n : Option ℕ) → ¬ (IsIfAny IsCount (first_of (codes "count") rows) n))
+      → IsWrongValue value_options.Count (first_of (codes "count") rows) usage → MeansNothing rows usage
+  limit : (usage : Usage) → ((n : Option ℕ) → ¬ (IsIfAny IsLimit (first_of (codes "limit") rows) n))
+      → IsWrongValue value_options.Limit (first_of (codes "limit") rows) usage → MeansNothing rows usage
+  format : (usage : Usage) → ((f : Option Format) → ¬ (IsFormat (first_of (codes "format") rows) f))
+      → IsWrongValue value_options.Format (first_of (codes "format") rows) usage → MeansNothing rows usage
+  fields : (usage : Usage) → ((c : Option Columns) → ¬ (IsIfAny AreFields (first_of (codes "fields") rows) c))
+      → AreWrongFields (first_of (codes "fields") rows) usage → MeansNothing rows usage
+  undecided : (usage : Usage) → ((u : Option Undecided) → ¬ (IsIfAny MeansUndecided (first_of (codes "undecided") rows) u))
+      → IsWrongValue value_options.Undecided (first_of (codes "undecided") rows) usage → MeansNothing rows usage
 
 -- .. or options do not go together
 pub record NamesClash (words : List Text) : Type 0 where
@@ -336,13 +339,15 @@ pub record NamesNoFilter (words : List Text) (e : FilterError) : Type 0 where
   pub asks : Asks (matches_of capture_app words) asked
   pub no_filter : HasNoFilter asked e
 
--- why arguments ask for nothing, or that memory for them was refused
-abbrev pub RefusesWords : (words : List Text) → RequestError → Type 0
-RefusesWords words (reasons.Usage usages.Words) = IsRefusedUsage words
-RefusesWords words (reasons.Usage usages.Clash) = NamesClash words
-RefusesWords words (reasons.Usage usage) = NamesNothing words usage
-RefusesWords words (reasons.Filter e) = NamesNoFilter words e
-RefusesWords words reasons.Memory = ⊤
+-- Why arguments ask for nothing: `clap` refuses them, or takes them, but a value means nothing, or they do not go together, or the filter is no
+-- expression; or memory for them was refused.
+pub data RefusesWords (words : List Text) : RequestError → Type 0 where
+  refused : (usage : Usage) → IsRefusedUsage words → IsUsageOf words usage → RefusesWords words (reasons.Usage usage)
+  nothing : (usage : Usage) → fault_of capture_app words ≡ [] → MeansNothing (matches_of capture_app words) usage
+      → RefusesWords words (reasons.Usage usage)
+  clash : NamesClash words → RefusesWords words (reasons.Usage usages.Clash)
+  no_filter : (e : FilterError) → NamesNoFilter words e → RefusesWords words (reasons.Filter e)
+  no_memory : RefusesWords words reasons.Memory
 
 -- ---- step by step
 
@@ -370,11 +375,11 @@ abbrev pub KindNames : ErrorKind → RequestValue → Type 0
 KindNames kind request = ((kind ≡ DisplayHelp) × (request ≡ Help)) ⊎ ((kind ≡ DisplayVersion) × (request ≡ Version))
 
 -- .. or why it is one
-abbrev pub RefusesKind : ErrorKind → RequestError → Type 0
-RefusesKind kind (reasons.Usage usages.Words) = (kind ≢ DisplayHelp) × (kind ≢ DisplayVersion) × (kind ≢ OutOfMemory)
-RefusesKind kind (reasons.Usage usage) = ⊥
-RefusesKind kind (reasons.Filter e) = ⊥
-RefusesKind kind reasons.Memory = kind ≡ OutOfMemory
+abbrev pub RefusesKind : (words : List Text) → ErrorKind → RequestError → Type 0
+RefusesKind words kind (reasons.Usage usage) =
+    ((kind ≢ DisplayHelp) × (kind ≢ DisplayVersion) × (kind ≢ OutOfMemory)) × IsUsageOf words usage
+RefusesKind words kind (reasons.Filter e) = ⊥
+RefusesKind words kind reasons.Memory = kind ≡ OutOfMemory
 
 -- why values of options ask for nothing
 abbrev pub RefusesRows : List Row → RequestError → Type 0

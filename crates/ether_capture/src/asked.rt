@@ -16,21 +16,21 @@ use std::num::NonZeroUsize;
 
 /// Why the arguments ask for nothing.
 #[derive(Clone, Copy, Debug)]
-pub enum RequestError {
+pub enum RequestError<'a> {
     /// They are wrong in this way.
-    Usage(Usage),
+    Usage(Usage<'a>),
     /// Memory for them was refused.
     Memory,
     /// The filter is no expression.
     Filter(FilterError),
 }
 
-impl From<Usage> for RequestError {
+impl<'a> From<Usage<'a>> for RequestError<'a> {
     ghost use Rattle.ether_capture.specs.declared.asked.RequestError.TheVariants as reasons;
 
     ghost from_gives = { λ usage error. error ≡ reasons.Usage usage };
 
-    fn from(usage: Usage) -> RequestError {
+    fn from(usage: Usage<'a>) -> RequestError<'a> {
         RequestError::Usage(usage)
     }
 }
@@ -206,7 +206,7 @@ impl<'a> Asked<'a> {
     }
 
     /// What all options together ask for.
-    pub(crate) fn request(self) -> Result<Request<'a>, RequestError>
+    pub(crate) fn request(self) -> Result<Request<'a>, RequestError<'a>>
         ensures ok { IfOk result (λ request. IsRequestOf (asked_view self.entry) (request_view request)) }
         ensures err { IfErr result (RefusesAsked (asked_view self.entry)) }
     {

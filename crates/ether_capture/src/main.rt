@@ -26,6 +26,7 @@ pub mod rows;
 pub mod run_input;
 pub mod statistics;
 pub mod statistics_format;
+pub mod wrong_words;
 
 use copy_files::CopyFiles;
 use ether_text::{Noted, tell_failure};

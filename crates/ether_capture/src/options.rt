@@ -4,9 +4,10 @@ ghost use Rattle.std.specs.Option.{option_map};
 ghost use Rattle.clap.specs.Words.{all_of, app_of, first_of, found_of, rows_of, rule_of};
 ghost use Rattle.ether_content.specs.Editing.{EditValue};
 ghost use Rattle.ether_content.specs.EditingViews.{edit_view};
-ghost use Rattle.ether_capture.specs.Options.{Asks, IsEdit, KindNames, NamesRequest, RefusesKind, RefusesRows, RefusesWords, asked_view, capture_app, file_rule, flag_rule, is_set, letter_rule, option_rule, request_view};
+ghost use Rattle.ether_capture.specs.Options.{Asks, IsEdit, IsWrongEditOf, KindNames, NamesRequest, RefusesKind, RefusesRows, RefusesWords, asked_view, capture_app, file_rule, flag_rule, is_set, letter_rule, option_rule, request_view};
 
 use crate::asked::{Asked, Request, RequestError, counted_of};
+use crate::wrong_words::usage_of;
 use clap::error::ErrorKind;
 use clap::{Arg, ArgAction, ArgMatches, Command};
 use ether_content::PacketEdit;
@@ -14,12 +15,12 @@ use ether_stream::{Usage, count_of, edit_of_words, fields_of, format_of, limit_o
 use std::alloc::{AllocError, Global};
 use std::env;
 
-impl From<AllocError> for RequestError {
+impl<'a> From<AllocError> for RequestError<'a> {
     ghost use Rattle.ether_capture.specs.declared.asked.RequestError.TheVariants.{Memory};
 
     ghost from_gives = { λ _ error. error ≡ Memory };
 
-    fn from(_error: AllocError) -> RequestError {
+    fn from(_error: AllocError) -> RequestError<'a> {
         RequestError::Memory
     }
 }
@@ -86,33 +87,39 @@ fn command<'a>(alloc: Global) -> Result<Command<'a>, AllocError>
 /// with it one of `--cut-to-headers`, `--pop-vlan`, `--push-vlan` with a tag and `--set-vlan` with two identifiers; `--select`
 /// with the text of a filter, and with it `--undecided` with `keep` or `drop`; `-c` with a number of packets; `-r` with the name of the only
 /// file; and `--progress`. `--help` and `--version` need no others.
-pub fn request_of_words<'a>(words: &'a [String], alloc: Global) -> Result<Request<'a>, RequestError>
+pub fn request_of_words<'a>(
+    words: &'a [String],
+    alloc: Global,
+) -> Result<Request<'a>, RequestError<'a>>
     ensures ok { IfOk result (λ request. NamesRequest (map string_bytes words.now) (request_view request)) }
     ensures err { IfErr result (RefusesWords (map string_bytes words.now)) }
 {
     let command = command(alloc)?;
     match command.try_get_matches_from(words) {
         Ok(matches) => Asked::of(&matches, alloc)?.request(),
-        Err(error) => request_of_kind(error.kind()),
+        Err(error) => request_of_kind(error.kind(), words),
     }
 }
 
 /// What arguments ask for that `clap` finds no options in: to it `--help` and `--version` are errors.
-fn request_of_kind<'a>(kind: ErrorKind) -> Result<Request<'a>, RequestError>
+fn request_of_kind<'a>(
+    kind: ErrorKind,
+    words: &'a [String],
+) -> Result<Request<'a>, RequestError<'a>>
     ensures ok { IfOk result (λ request. KindNames kind (request_view request)) }
-    ensures err { IfErr result (RefusesKind kind) }
+    ensures err { IfErr result (RefusesKind (map string_bytes words.now) kind) }
 {
     match kind {
         ErrorKind::DisplayHelp => Ok(Request::Help),
         ErrorKind::DisplayVersion => Ok(Request::Version),
         ErrorKind::OutOfMemory => Err(RequestError::Memory),
-        _ => Err(RequestError::Usage(Usage::Words)),
+        _ => Err(RequestError::Usage(usage_of(words))),
     }
 }
 
 impl<'a> Asked<'a> {
     /// What options ask for.
-    fn of(matches: &ArgMatches<'a>, alloc: Global) -> Result<Asked<'a>, RequestError>
+    fn of(matches: &ArgMatches<'a>, alloc: Global) -> Result<Asked<'a>, RequestError<'a>>
         ensures ok { IfOk result (λ it. Asks (rows_of (found_of matches.now)) (asked_view it)) }
         ensures err { IfErr result (RefusesRows (rows_of (found_of matches.now))) }
     {
@@ -174,14 +181,13 @@ fn names_of<'a>(matches: &ArgMatches<'a>, alloc: Global) -> Result<Vec<&'a str>,
 }
 
 /// The edit that is asked for, if there is one.
-fn edit_of(matches: &ArgMatches<'_>) -> Result<Option<PacketEdit>, RequestError>
+fn edit_of<'a>(matches: &ArgMatches<'a>) -> Result<Option<PacketEdit>, Usage<'a>>
     ensures ok { IfOk result (λ it. IsEdit (rows_of (found_of matches.now)) (option_map edit_view it)) }
     ensures err { OnErr result ((e : Option EditValue) → ¬ (IsEdit (rows_of (found_of matches.now)) e)) }
-    ensures usage { IfErr result (λ e. e ≡ RequestError.Usage Usage.Edit) }
+    ensures usage { IfErr result (IsWrongEditOf (rows_of (found_of matches.now))) }
 {
     let cuts = is_set(matches, "cut-to-headers");
     let pops = is_set(matches, "pop-vlan");
     let push = text_of(matches, "push-vlan");
-    let edit = edit_of_words(cuts, pops, push, text_of(matches, "set-vlan"))?;
-    Ok(edit)
+    edit_of_words(cuts, pops, push, text_of(matches, "set-vlan"))
 }

@@ -15,3 +15,4 @@ pub mod WalkLemmas
 pub mod SomeMoment
 pub mod GatherLemmas
 pub mod GatheredRowLemmas
+pub mod UnknownLemmas

@@ -1,5 +1,5 @@
 -- A packet as a row of columns.
-use Rattle.std.specs.Prelude.{◌≡◌, ◌≤◌, ◌==◌, ℕ, List, [], ◌∷◌, ◌++◌, codes, length, map, take, Option, if◌then◌else◌, slice_index_or}
+use Rattle.std.specs.Prelude.{◌≡◌, ◌⊎◌, ◌≤◌, ◌==◌, ℕ, List, [], ◌∷◌, ◌++◌, codes, length, map, take, Option, Some, None, if◌then◌else◌, slice_index_or}
 use Rattle.std.specs.List.{All, IsAmong, flat_map, join_by, slice_split}
 use Rattle.std.specs.Str.{bytes_eq}
 use Rattle.ether_pcap.specs.Capture.{PacketValue}
@@ -110,6 +110,14 @@ pub record AreColumns (text : List ℕ) (columns : List ColumnValue) : Type 0 wh
   pub names : slice_split (λ b. b == 44) text ≡ map column_name columns
   pub known : All IsColumn columns
   pub most : length columns ≤ 32
+
+-- the first of these names that no column has, if there is one
+abbrev pub NamesColumn : (name : List ℕ) → Type 0
+NamesColumn name = (c : ColumnValue) × IsColumn c × (column_name c ≡ name)
+
+abbrev pub IsUnknownIn : (names : List (List ℕ)) → (unknown : Option (List ℕ)) → Type 0
+IsUnknownIn [] unknown = unknown ≡ None
+IsUnknownIn (name ∷ names) unknown = ((¬ (NamesColumn name)) × (unknown ≡ Some name)) ⊎ (NamesColumn name × IsUnknownIn names unknown)
 
 -- the length that a packet had (snap lengths aside)
 abbrev pub original_column : ColumnValue

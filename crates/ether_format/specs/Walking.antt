@@ -196,7 +196,7 @@ abbrev pub told_text : Part → (first : Bool) → List Told → ToldEnd → Lis
 told_text part first [] end = end_text part end
 told_text part first (h ∷ hs) end = header_text part first h ++ told_text part (next_is_first part first h) hs end
 
--- what is told of a walk is the text
+-- the text is that of a walk
 pub record AnswersTold (part : Part) (first : Bool) (at : ℕ) (start : Expectation) (frame text : List ℕ) (accepted : Bool) : Type 0 where
   pub headers : List Told
   pub end : ToldEnd
@@ -221,7 +221,7 @@ part_text Json number p moment headers end = json_line number p moment headers e
 part_text Brief number p moment headers end = brief_line number p moment headers end
 part_text (Column c) number p moment headers end = column_text (column_view c) (sections number p moment headers end)
 
--- what is told of a packet of cooked capture v2
+-- .. and that of a packet of cooked capture v2
 pub record AnswersCookedV2 (part : Part) (limit : Option ℕ) (bytes text : List ℕ) (accepted : Bool) : Type 0 where
   pub headers : List Told
   pub end : ToldEnd

@@ -1,10 +1,10 @@
 //! The columns of a row.
-ghost use Rattle.std.specs.Prelude.{◌≡◌, ◌≤◌, ◌<◌, ◌∷◌, ◌++◌, [], IfNone, IfSome, List, codes, length, map};
-ghost use Rattle.std.specs.List.{flat_map};
+ghost use Rattle.std.specs.Prelude.{◌≡◌, ◌==◌, ◌≤◌, ◌<◌, ◌∷◌, ◌++◌, [], IfNone, IfSome, List, codes, length, map};
+ghost use Rattle.std.specs.List.{flat_map, slice_split};
 ghost use Rattle.std.specs.Option.{option_map};
 ghost use Rattle.ether_text.specs.OutputBuffer.{Takes};
 ghost use Rattle.ether_format.specs.Splits.{SplitsWord};
-ghost use Rattle.ether_format.specs.Columns.{AreColumns, ColumnValue, column_name, column_view, columns_view, common_columns, heading_text, original_column};
+ghost use Rattle.ether_format.specs.Columns.{AreColumns, ColumnValue, IsUnknownIn, column_name, column_view, columns_view, common_columns, heading_text, original_column};
 
 use crate::column::{Column, Section};
 use crate::split::split_at;
@@ -65,7 +65,7 @@ pub struct Columns {
 impl Columns {
     /// The columns that a text names, with a comma between two: `vlan.vid,eth.src`.
     ///
-    /// Returns `None` if there is no column of a name, or if there are more than 32.
+    /// Returns `None` if a name is not that of a column ([`Columns::unknown_name`] gives it), or if there are more than 32.
     pub fn of_names(text: &str) -> Option<Columns>
         ensures some { IfSome result (λ it. AreColumns text.now (columns_view it)) }
         ensures none { IfNone result ((columns : List ColumnValue) → ¬ (AreColumns text.now columns)) }
@@ -78,6 +78,23 @@ impl Columns {
             rest = after;
         }
         Some(columns)
+    }
+
+    /// The first name that no column has, in a text with a comma between two names.
+    pub fn unknown_name(text: &str) -> Option<&str>
+        ensures { IsUnknownIn (slice_split (λ b. b == 44) text.now) (option_map (λ s. s.now) result) }
+    {
+        let mut rest = text;
+        while let Some((name, after)) = rest.split_once(',') {
+            if Column::of_name(name.as_bytes()).is_none() {
+                return Some(name);
+            }
+            rest = after;
+        }
+        if Column::of_name(rest.as_bytes()).is_none() {
+            return Some(rest);
+        }
+        None
     }
 
     /// What a summary counts unless columns are named: the headers of a packet, its VLAN identifiers, its ether types, what is wrong with it,

@@ -6,6 +6,7 @@ pub mod FrameLines
 pub mod Answering
 pub mod Copying
 pub mod Run
+pub mod Usage
 pub mod Outcome
 pub mod Progress
 pub mod VlanOptions

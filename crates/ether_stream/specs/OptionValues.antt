@@ -1,16 +1,21 @@
 -- What words of a request mean.
-use Rattle.std.specs.Prelude.{◌≡◌, ◌<◌, ℕ, List, codes, Bool, true, false, Option, Some, None, ⊤}
+use Rattle.std.specs.Prelude.{◌≡◌, ◌<◌, ◌==◌, ℕ, List, codes, Bool, true, false, Option, Some, None, ⊤}
+use Rattle.std.specs.List.{slice_split}
 use Rattle.ether_filter.specs.Expressions.{Expression}
 use Rattle.ether_filter.specs.Texts.{IsExpressionOf}
 use Rattle.ether_filter.specs.Numerals.{number_in}
 use Rattle.ether_filter.specs.Refusals.{RefusesText}
 use Rattle.ether_filter.specs.declared.filter_error.FilterError.{FilterError}
 use Rattle.ether_content.specs.Editing.{EditValue, CutToHeaders, PopVlan}
-use Rattle.ether_format.specs.Columns.{AreColumns, columns_view}
+use Rattle.ether_format.specs.Columns.{AreColumns, IsUnknownIn, columns_view}
 use Rattle.ether_format.specs.declared.columns.Columns.{Columns}
 use Rattle.ether_format.specs.declared.format.Format.{Format}
 use Rattle.ether_format.specs.declared.format.Format.TheVariants.{Json, Brief, Fields}
 use Rattle.ether_stream.specs.VlanOptions.{IsTagEdit}
+use Rattle.ether_stream.specs.Usage.{IsWrongValue}
+use Rattle.ether_stream.specs.declared.usage.Usage.{Usage}
+use Rattle.ether_stream.specs.declared.usage.Usage.TheVariants as usages
+use Rattle.ether_stream.specs.declared.usage.ValueOption.TheVariants as value_options
 use Rattle.ether_stream.specs.declared.selection.Undecided.{Undecided}
 use Rattle.ether_stream.specs.declared.selection.Undecided.TheVariants.{Dropped, Kept}
 
@@ -45,6 +50,13 @@ IsFormat (Some text) (Some (Fields columns)) = ⊥
 abbrev pub AreFields : List ℕ → Columns → Type 0
 AreFields text columns = AreColumns text (columns_view columns)
 
+-- .. or a name that no column has, the first of them, or too many
+abbrev pub AreWrongFields : Option (List ℕ) → Usage → Type 0
+AreWrongFields (Some text) (usages.NoColumn name) = IsUnknownIn (slice_split (λ b. b == 44) text) (Some name.now)
+AreWrongFields (Some text) (usages.Value value_options.Fields named) =
+    (named.now ≡ text) × IsUnknownIn (slice_split (λ b. b == 44) text) None
+AreWrongFields text usage = ⊥
+
 -- one edit at most
 abbrev pub IsOneEdit : (cuts pops : Bool) → (push set : Option (List ℕ)) → Option EditValue → Type 0
 IsOneEdit false false None None edit = edit ≡ None
@@ -53,6 +65,12 @@ IsOneEdit false true None None edit = edit ≡ Some PopVlan
 IsOneEdit false false (Some text) None edit = IsIfAny (IsTagEdit (codes "--push-vlan")) (Some text) edit
 IsOneEdit false false None (Some text) edit = IsIfAny (IsTagEdit (codes "--set-vlan")) (Some text) edit
 IsOneEdit cuts pops push set edit = ⊥
+
+-- .. is not asked for: there are several, or the value of one means nothing
+abbrev pub IsWrongEdit : (cuts pops : Bool) → (push set : Option (List ℕ)) → Usage → Type 0
+IsWrongEdit false false (Some text) None usage = IsWrongValue value_options.PushVlan (Some text) usage
+IsWrongEdit false false None (Some text) usage = IsWrongValue value_options.SetVlan (Some text) usage
+IsWrongEdit cuts pops push set usage = usage ≡ usages.Edits
 
 -- the expression that a text means, if there is one
 abbrev pub IsSelection : (text : Option (List ℕ)) → Option Expression → Type 0

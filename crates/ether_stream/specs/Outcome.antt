@@ -13,8 +13,8 @@ use Rattle.ether_stream.specs.declared.open_fault.OpenFault.{OpenFault}
 use Rattle.ether_stream.specs.declared.open_fault.OpenFault.TheVariants as open_faults
 use Rattle.ether_stream.specs.declared.write_fault.WriteFault.{WriteFault}
 use Rattle.ether_stream.specs.declared.write_fault.WriteFault.TheVariants as write_faults
-use Rattle.ether_stream.specs.declared.option_values.Usage.{Usage}
-use Rattle.ether_stream.specs.declared.option_values.Usage.TheVariants as usages
+use Rattle.ether_stream.specs.Usage.{usage_text}
+use Rattle.ether_stream.specs.declared.usage.Usage.{Usage}
 use Rattle.ether_stream.specs.declared.outcome.Outcome.{Outcome}
 use Rattle.ether_stream.specs.declared.outcome.Outcome.TheVariants as outcomes
 use Rattle.ether_pcap.specs.declared.capture.capture_fault.CaptureFault.{CaptureFault}
@@ -37,17 +37,7 @@ exit_status (Err Input) = 4
 exit_status (Err Output) = 4
 exit_status (Err Memory) = 5
 
--- what is wrong with words
-abbrev pub usage_text : Usage → List ℕ
-usage_text usages.Words = codes "an option is unknown, comes twice, or lacks its value"
-usage_text usages.Clash = codes "these options do not go together"
-usage_text usages.Edit = codes "expected at most one edit, as --push-vlan 0x8100:5 or --set-vlan 5:6"
-usage_text usages.Count = codes "-c: expected a number from 1 to 4294967295"
-usage_text usages.Limit = codes "--limit: expected a number up to 4294967295"
-usage_text usages.Undecided = codes "--undecided: expected keep or drop"
-usage_text usages.Format = codes "--format: expected lines, brief or json"
-usage_text usages.Fields = codes "--fields: expected at most 32 columns, as vlan.vid,eth.src"
-
+-- what is said of words that are wrong
 abbrev pub usage_line_text : Usage → List ℕ
 usage_line_text usage = codes "ether_capture: " ++ (usage_text usage ++ codes "; try --help")
 

@@ -7,164 +7,122 @@ ghost use Rattle.ether_content.specs.EditingViews.{edit_view};
 ghost use Rattle.ether_stream.specs.declared.selection.Undecided.{Undecided as UndecidedValue};
 ghost use Rattle.ether_format.specs.declared.columns.Columns.{Columns as ColumnsValue};
 ghost use Rattle.ether_format.specs.declared.format.Format.{Format as FormatValue};
-ghost use Rattle.ether_stream.specs.Outcome.{usage_text};
-ghost use Rattle.ether_stream.specs.VlanOptions.{IsTagEdit, tag_word};
-ghost use Rattle.ether_stream.specs.OptionValues.{AreFields, IsCount, IsFormat, IsIfAny, IsLimit, IsOneEdit, IsSelection, MeansUndecided, RefusesSelection};
+ghost use Rattle.ether_stream.specs.Usage.{IsWrongValue};
+ghost use Rattle.ether_stream.specs.OptionValues.{AreFields, AreWrongFields, IsCount, IsFormat, IsIfAny, IsLimit, IsOneEdit, IsSelection, IsWrongEdit, MeansUndecided, RefusesSelection};
 
 use crate::selection::Undecided;
+use crate::usage::{Usage, ValueOption};
 use crate::vlan_options::{TagEdit, small_number, tag_edit_of};
 use ether_content::PacketEdit;
 use ether_filter::{Filter, FilterError};
 use ether_format::{Columns, Format};
 use std::num::NonZeroUsize;
 
-/// What is wrong with the words of a request.
-#[derive(Clone, Copy, PartialEq, Eq, Debug)]
-pub enum Usage {
-    /// An option is unknown, comes twice, or lacks its value.
-    Words,
-    /// Words do not go together.
-    Clash,
-    /// There are several edits, or the value of one means nothing.
-    Edit,
-    /// The number of packets is none.
-    Count,
-    /// The number of headers is none.
-    Limit,
-    /// What is to become of undecided packets is neither of the two.
-    Undecided,
-    /// There is no such format.
-    Format,
-    /// A column is not known, or there are more than 32.
-    Fields,
-}
-
-impl Usage {
-    /// What the program says of it.
-    pub(crate) fn text(self) -> &'static str
-        ensures { result.now ≡ usage_text self }
-    {
-        match self {
-            Usage::Words => "an option is unknown, comes twice, or lacks its value",
-            Usage::Clash => "these options do not go together",
-            Usage::Edit => "expected at most one edit, as --push-vlan 0x8100:5 or --set-vlan 5:6",
-            Usage::Count => "-c: expected a number from 1 to 4294967295",
-            Usage::Limit => "--limit: expected a number up to 4294967295",
-            Usage::Undecided => "--undecided: expected keep or drop",
-            Usage::Format => "--format: expected lines, brief or json",
-            Usage::Fields => "--fields: expected at most 32 columns, as vlan.vid,eth.src",
-        }
-    }
-}
-
 /// The edit, if one at most is asked for: packets are cut, a VLAN tag is taken off, put in by a TPID and an identifier,
 /// or gets another identifier.
-pub fn edit_of_words(
+pub fn edit_of_words<'a>(
     cuts: bool,
     pops: bool,
-    push: Option<&str>,
-    set: Option<&str>,
-) -> Result<Option<PacketEdit>, Usage>
+    push: Option<&'a str>,
+    set: Option<&'a str>,
+) -> Result<Option<PacketEdit>, Usage<'a>>
     ensures ok { IfOk result (λ it. IsOneEdit cuts pops (option_map (λ s. s.now) push.entry) (option_map (λ s. s.now) set.entry) (option_map edit_view it)) }
     ensures err { OnErr result ((e : Option EditValue)
         → ¬ (IsOneEdit cuts pops (option_map (λ s. s.now) push.entry) (option_map (λ s. s.now) set.entry) e)) }
-    ensures usage { IfErr result (λ usage. usage ≡ Usage.Edit) }
+    ensures usage { IfErr result (IsWrongEdit cuts pops (option_map (λ s. s.now) push.entry) (option_map (λ s. s.now) set.entry)) }
 {
     match (cuts, pops, push, set) {
         (false, false, None, None) => Ok(None),
         (true, false, None, None) => Ok(Some(PacketEdit::CutToHeaders)),
         (false, true, None, None) => Ok(Some(PacketEdit::PopVlan)),
-        (false, false, Some(text), None) => tag_edit(TagEdit::Push, text),
-        (false, false, None, Some(text)) => tag_edit(TagEdit::Set, text),
-        _ => Err(Usage::Edit),
-    }
-}
-
-/// The edit of VLAN tags that a text says.
-fn tag_edit(kind: TagEdit, text: &str) -> Result<Option<PacketEdit>, Usage>
-    ensures ok { IfOk result (λ it. IsIfAny (IsTagEdit (tag_word kind)) (Some text.now) (option_map edit_view it)) }
-    ensures err { OnErr result ((e : EditValue) → ¬ (IsTagEdit (tag_word kind) text.now e)) }
-    ensures usage { IfErr result (λ usage. usage ≡ Usage.Edit) }
-{
-    match tag_edit_of(kind, text.as_bytes()) {
-        Some(edit) => Ok(Some(edit)),
-        None => Err(Usage::Edit),
+        (false, false, Some(text), None) => match tag_edit_of(TagEdit::Push, text.as_bytes()) {
+            Some(edit) => Ok(Some(edit)),
+            None => Err(Usage::Value(ValueOption::PushVlan, text)),
+        },
+        (false, false, None, Some(text)) => match tag_edit_of(TagEdit::Set, text.as_bytes()) {
+            Some(edit) => Ok(Some(edit)),
+            None => Err(Usage::Value(ValueOption::SetVlan, text)),
+        },
+        _ => Err(Usage::Edits),
     }
 }
 
 /// The number of packets that a text says, if there is one.
-pub fn count_of(text: Option<&str>) -> Result<Option<NonZeroUsize>, Usage>
+pub fn count_of<'a>(text: Option<&'a str>) -> Result<Option<NonZeroUsize>, Usage<'a>>
     ensures ok { IfOk result (λ it. IsIfAny IsCount (option_map (λ s. s.now) text.entry) (option_map non_zero_usize_get it)) }
     ensures err { OnErr result ((n : Option ℕ) → ¬ (IsIfAny IsCount (option_map (λ s. s.now) text.entry) n)) }
-    ensures usage { IfErr result (λ usage. usage ≡ Usage.Count) }
+    ensures usage { IfErr result (IsWrongValue ValueOption.Count (option_map (λ s. s.now) text.entry)) }
 {
     let Some(text) = text else {
         return Ok(None);
     };
     let Some(number) = small_number(text.as_bytes()) else {
-        return Err(Usage::Count);
+        return Err(Usage::Value(ValueOption::Count, text));
     };
     match NonZeroUsize::new(number as usize) {
         Some(count) => Ok(Some(count)),
-        None => Err(Usage::Count),
+        None => Err(Usage::Value(ValueOption::Count, text)),
     }
 }
 
 /// The number of headers that a text says, if there is one.
-pub fn limit_of(text: Option<&str>) -> Result<Option<usize>, Usage>
+pub fn limit_of<'a>(text: Option<&'a str>) -> Result<Option<usize>, Usage<'a>>
     ensures ok { IfOk result (IsIfAny IsLimit (option_map (λ s. s.now) text.entry)) }
     ensures err { OnErr result ((n : Option ℕ) → ¬ (IsIfAny IsLimit (option_map (λ s. s.now) text.entry) n)) }
-    ensures usage { IfErr result (λ usage. usage ≡ Usage.Limit) }
+    ensures usage { IfErr result (IsWrongValue ValueOption.Limit (option_map (λ s. s.now) text.entry)) }
 {
     let Some(text) = text else {
         return Ok(None);
     };
     match small_number(text.as_bytes()) {
         Some(number) => Ok(Some(number as usize)),
-        None => Err(Usage::Limit),
+        None => Err(Usage::Value(ValueOption::Limit, text)),
     }
 }
 
 /// What becomes of packets that are undecided, as a text says it, if there is one: `keep` or `drop`.
-pub fn undecided_of(text: Option<&str>) -> Result<Option<Undecided>, Usage>
+pub fn undecided_of<'a>(text: Option<&'a str>) -> Result<Option<Undecided>, Usage<'a>>
     ensures ok { IfOk result (IsIfAny MeansUndecided (option_map (λ s. s.now) text.entry)) }
     ensures err { OnErr result ((u : Option UndecidedValue) → ¬ (IsIfAny MeansUndecided (option_map (λ s. s.now) text.entry) u)) }
-    ensures usage { IfErr result (λ usage. usage ≡ Usage.Undecided) }
+    ensures usage { IfErr result (IsWrongValue ValueOption.Undecided (option_map (λ s. s.now) text.entry)) }
 {
     match text {
         None => Ok(None),
         Some("keep") => Ok(Some(Undecided::Kept)),
         Some("drop") => Ok(Some(Undecided::Dropped)),
-        Some(_) => Err(Usage::Undecided),
+        Some(text) => Err(Usage::Value(ValueOption::Undecided, text)),
     }
 }
 
 /// The columns that a text names, if there is one.
-pub fn fields_of(text: Option<&str>) -> Result<Option<Columns>, Usage>
+pub fn fields_of<'a>(text: Option<&'a str>) -> Result<Option<Columns>, Usage<'a>>
     ensures ok { IfOk result (IsIfAny AreFields (option_map (λ s. s.now) text.entry)) }
     ensures err { OnErr result ((columns : Option ColumnsValue) → ¬ (IsIfAny AreFields (option_map (λ s. s.now) text.entry) columns)) }
-    ensures usage { IfErr result (λ usage. usage ≡ Usage.Fields) }
+    ensures usage { IfErr result (AreWrongFields (option_map (λ s. s.now) text.entry)) }
 {
     let Some(text) = text else {
         return Ok(None);
     };
-    match Columns::of_names(text) {
-        Some(columns) => Ok(Some(columns)),
-        None => Err(Usage::Fields),
+    if let Some(columns) = Columns::of_names(text) {
+        return Ok(Some(columns));
+    }
+    match Columns::unknown_name(text) {
+        Some(name) => Err(Usage::NoColumn(name)),
+        None => Err(Usage::Value(ValueOption::Fields, text)),
     }
 }
 
 /// The format that a text names, if it is another than lines.
-pub fn format_of(text: Option<&str>) -> Result<Option<Format>, Usage>
+pub fn format_of<'a>(text: Option<&'a str>) -> Result<Option<Format>, Usage<'a>>
     ensures ok { IfOk result (IsFormat (option_map (λ s. s.now) text.entry)) }
     ensures err { OnErr result ((f : Option FormatValue) → ¬ (IsFormat (option_map (λ s. s.now) text.entry) f)) }
-    ensures usage { IfErr result (λ usage. usage ≡ Usage.Format) }
+    ensures usage { IfErr result (IsWrongValue ValueOption.Format (option_map (λ s. s.now) text.entry)) }
 {
     match text {
         None | Some("lines") => Ok(None),
         Some("json") => Ok(Some(Format::Json)),
         Some("brief") => Ok(Some(Format::Brief)),
-        Some(_) => Err(Usage::Format),
+        Some(text) => Err(Usage::Value(ValueOption::Format, text)),
     }
 }
 

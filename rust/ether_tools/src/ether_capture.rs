@@ -23,3 +23,4 @@ pub mod rows;
 pub mod run_input;
 pub mod statistics;
 pub mod statistics_format;
+pub mod wrong_words;

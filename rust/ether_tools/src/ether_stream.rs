@@ -23,6 +23,7 @@ pub mod run;
 mod section_table;
 mod selection;
 mod task;
+mod usage;
 mod vlan_options;
 mod write_fault;
 
@@ -36,7 +37,7 @@ pub use memory::Grow;
 pub use no_memory::NoMemory;
 pub use open_fault::OpenFault;
 pub use option_values::{
-    Usage, count_of, edit_of_words, fields_of, filter_of, format_of, limit_of, undecided_of,
+    count_of, edit_of_words, fields_of, filter_of, format_of, limit_of, undecided_of,
 };
 pub use outcome::{
     FileEnd, HELP, LastLine, Outcome, Reason, RunFault, VERSION, is_message, last_line,
@@ -45,4 +46,5 @@ pub use outcome::{
 pub use section_table::{MAX_INTERFACES, SectionTable};
 pub use selection::{Selection, Undecided};
 pub use task::{Form, LineOptions, Task};
+pub use usage::{Usage, ValueOption};
 pub use write_fault::WriteFault;

@@ -10,17 +10,17 @@ use std::num::NonZeroUsize;
 
 /// Why the arguments ask for nothing.
 #[derive(Clone, Copy, Debug)]
-pub enum RequestError {
+pub enum RequestError<'a> {
     /// They are wrong in this way.
-    Usage(Usage),
+    Usage(Usage<'a>),
     /// Memory for them was refused.
     Memory,
     /// The filter is no expression.
     Filter(FilterError),
 }
 
-impl From<Usage> for RequestError {
-    fn from(usage: Usage) -> RequestError {
+impl<'a> From<Usage<'a>> for RequestError<'a> {
+    fn from(usage: Usage<'a>) -> RequestError<'a> {
         RequestError::Usage(usage)
     }
 }
@@ -177,7 +177,7 @@ impl<'a> Asked<'a> {
     }
 
     /// What all options together ask for.
-    pub(crate) fn request(self) -> Result<Request<'a>, RequestError> {
+    pub(crate) fn request(self) -> Result<Request<'a>, RequestError<'a>> {
         if self.clashes() {
             return Err(RequestError::Usage(Usage::Clash));
         }

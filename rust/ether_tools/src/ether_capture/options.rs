@@ -1,5 +1,6 @@
 //! What the arguments ask for, by their words, which `clap` reads. Written by hand, not proved.
 use crate::ether_capture::asked::{Asked, Request, RequestError, counted_of};
+use crate::ether_capture::wrong_words::usage_of;
 use crate::ether_stream::{Usage, count_of, edit_of_words, fields_of, format_of, limit_of, undecided_of};
 use crate::ether_capture::memory::Global;
 use clap::error::ErrorKind;
@@ -44,19 +45,19 @@ pub fn command() -> Command {
 }
 
 /// What the program's arguments ask for. The first of them is its own name.
-pub fn request_of_words(words: &[String], _alloc: Global) -> Result<Request<'_>, RequestError> {
+pub fn request_of_words(words: &[String], _alloc: Global) -> Result<Request<'_>, RequestError<'_>> {
     match command().try_get_matches_from(words) {
         Ok(matches) => asked(&matches, words)?.request(),
         Err(error) => match error.kind() {
             ErrorKind::DisplayHelp => Ok(Request::Help),
             ErrorKind::DisplayVersion => Ok(Request::Version),
-            _ => Err(RequestError::Usage(Usage::Words)),
+            _ => Err(RequestError::Usage(usage_of(words))),
         },
     }
 }
 
 /// What options ask for.
-fn asked<'a>(matches: &ArgMatches, words: &'a [String]) -> Result<Asked<'a>, Usage> {
+fn asked<'a>(matches: &ArgMatches, words: &'a [String]) -> Result<Asked<'a>, Usage<'a>> {
     let (cuts, pops) = (matches.get_flag("cut-to-headers"), matches.get_flag("pop-vlan"));
     let (push, set) = (text_of(matches, words, "push-vlan"), text_of(matches, words, "set-vlan"));
     let is_counted = matches.get_flag("stats");

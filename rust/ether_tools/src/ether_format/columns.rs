@@ -59,7 +59,7 @@ pub struct Columns {
 impl Columns {
     /// The columns that a text names, with a comma between two: `vlan.vid,eth.src`.
     ///
-    /// Returns `None` if there is no column of a name, or if there are more than 32.
+    /// Returns `None` if a name is not that of a column ([`Columns::unknown_name`] gives it), or if there are more than 32.
     ///
     /// <details><summary>Contract</summary>
     ///
@@ -78,6 +78,29 @@ impl Columns {
             rest = after;
         }
         Some(columns)
+    }
+
+    /// The first name that no column has, in a text with a comma between two names.
+    ///
+    /// <details><summary>Contract</summary>
+    ///
+    /// ```text
+    /// ensures { IsUnknownIn (slice_split (λ b. b == 44) text.now) (option_map (λ s. s.now) result) }
+    /// ```
+    ///
+    /// </details>
+    pub fn unknown_name(text: &str) -> Option<&str> {
+        let mut rest = text;
+        while let Some((name, after)) = rest.split_once(',') {
+            if Column::of_name(name.as_bytes()).is_none() {
+                return Some(name);
+            }
+            rest = after;
+        }
+        if Column::of_name(rest.as_bytes()).is_none() {
+            return Some(rest);
+        }
+        None
     }
 
     /// What a summary counts unless columns are named: the headers of a packet, its VLAN identifiers, its ether types, what is wrong with it,

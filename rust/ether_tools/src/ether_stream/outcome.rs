@@ -118,7 +118,7 @@ pub enum Outcome<'a> {
     /// The arguments ask for the version.
     Version,
     /// The arguments are wrong.
-    Usage(Usage),
+    Usage(Usage<'a>),
     /// Memory for the arguments was refused.
     NoMemory,
 }
@@ -201,7 +201,7 @@ pub enum LastLine<'a> {
     /// The version.
     Version,
     /// The arguments are wrong.
-    Usage(Usage),
+    Usage(Usage<'a>),
     /// The text of the filter is no expression.
     NoFilter(&'a FilterError),
     /// Memory for the arguments was refused.
@@ -222,10 +222,7 @@ impl fmt::Display for LastLine<'_> {
             }
             LastLine::Help => write!(f, "{HELP}"),
             LastLine::Version => write!(f, "{VERSION}"),
-            LastLine::Usage(usage) => {
-                let text = usage.text();
-                write!(f, "ether_capture: {text}; try --help")
-            }
+            LastLine::Usage(usage) => write!(f, "ether_capture: {usage}; try --help"),
             LastLine::NoFilter(error) => write!(f, "--select: {error}"),
             LastLine::NoMemory => f.write_str("ether_capture: out of memory"),
         }

@@ -1,0 +1,5 @@
+use Rattle.ether_stream.proofs.usage.UsageDisplay.fmt.Goals as goal
+
+pub returns-in-Value-clause-writes : goal.returns-in-Value-clause-writes
+returns-in-Value-clause-writes g c plain ok =
+    rw (c.in-Value.is, ← c.name-name.ensures, ← c.expected-expected.ensures) (c.write-in-Value.ensures.writes plain ok)

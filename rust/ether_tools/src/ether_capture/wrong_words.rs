@@ -1,0 +1,143 @@
+//! What is wrong with words that `clap` refuses.
+
+use crate::ether_format::split_at;
+use crate::ether_stream::Usage;
+
+/// The names of options without a value.
+static FLAGS: [&str; 9] = [
+    "plain",
+    "write",
+    "cut-to-headers",
+    "pop-vlan",
+    "progress",
+    "header",
+    "stats",
+    "help",
+    "version",
+];
+
+/// The names of options with a value.
+static OPTIONS: [&str; 7] = [
+    "push-vlan",
+    "set-vlan",
+    "select",
+    "undecided",
+    "limit",
+    "format",
+    "fields",
+];
+
+/// What is wrong with words that `clap` refuses, the first of which is the program's name: an option that is not known, or else one that lacks its
+/// value.
+///
+/// <details><summary>Contract</summary>
+///
+/// ```text
+/// ensures { IsUsageOf (map string_bytes words.now) result }
+/// ```
+///
+/// </details>
+pub fn usage_of(words: &[String]) -> Usage<'_> {
+    let [_, words @ ..] = words else {
+        return Usage::Words;
+    };
+    if let Some(word) = unknown_option(words) {
+        return Usage::Unknown(word);
+    }
+    match bare_option(words) {
+        Some(word) => Usage::NoValue(word),
+        None => Usage::Words,
+    }
+}
+
+/// The first option that is not known, before a word `--`.
+fn unknown_option(words: &[String]) -> Option<&str> {
+    let mut rest = words;
+    while let [word, others @ ..] = rest {
+        let text = word.as_str();
+        if text == "--" {
+            return None;
+        }
+        if need_of(text.as_bytes()).is_none() {
+            return Some(text);
+        }
+        rest = others;
+    }
+    None
+}
+
+/// The first option that lacks its value, before a word `--`.
+fn bare_option(words: &[String]) -> Option<&str> {
+    let mut rest = words;
+    while let [word, others @ ..] = rest {
+        let text = word.as_str();
+        if text == "--" {
+            return None;
+        }
+        if need_of(text.as_bytes()) == Some(true) && !begins_with_value(others) {
+            return Some(text);
+        }
+        rest = others;
+    }
+    None
+}
+
+/// Tests that the first word can be a value: it is no option.
+fn begins_with_value(words: &[String]) -> bool {
+    match words {
+        [] => false,
+        [word, ..] => is_value(word.as_bytes()),
+    }
+}
+
+/// Tests that a word can be a value: it is `-`, or does not begin with that.
+fn is_value(word: &[u8]) -> bool {
+    !matches!(word, [b'-', _, ..])
+}
+
+/// Whether a word is an option whose value has to be the next word. Returns `None` for an option that is not known.
+fn need_of(word: &[u8]) -> Option<bool> {
+    match word {
+        [b'-', b'-', text @ ..] if !text.is_empty() => long_need(text),
+        [b'-', b'-'] => Some(false),
+        [b'-', letter, attached @ ..] => letter_need(*letter, attached.is_empty()),
+        _ => Some(false),
+    }
+}
+
+/// .. of an option with a long name, which may have `=` and a value after it.
+fn long_need(text: &[u8]) -> Option<bool> {
+    match split_at(b'=', text) {
+        Some((name, _)) => name_need(name, false),
+        None => name_need(text, true),
+    }
+}
+
+/// .. of an option with this name, which is all of the word or not.
+fn name_need(name: &[u8], is_all: bool) -> Option<bool> {
+    if has_name(&FLAGS, name) {
+        return Some(false);
+    }
+    if has_name(&OPTIONS, name) {
+        return Some(is_all);
+    }
+    None
+}
+
+/// .. of an option with this letter, which is all of the word or not.
+fn letter_need(letter: u8, is_all: bool) -> Option<bool> {
+    match letter {
+        b'c' | b'r' | b'w' => Some(is_all),
+        b'h' | b'V' => Some(false),
+        _ => None,
+    }
+}
+
+/// Tests that a name is one of these.
+fn has_name(names: &[&str], name: &[u8]) -> bool {
+    let mut found = false;
+    for it in names {
+        found |= it.as_bytes() == name;
+    }
+    found
+}

@@ -1,0 +1,90 @@
+//! What is wrong with the words of a request.
+
+use std::fmt;
+
+/// An option whose value can be wrong.
+#[derive(Clone, Copy, PartialEq, Eq, Debug)]
+pub enum ValueOption {
+    /// `--push-vlan`.
+    PushVlan,
+    /// `--set-vlan`.
+    SetVlan,
+    /// `-c`.
+    Count,
+    /// `--limit`.
+    Limit,
+    /// `--undecided`.
+    Undecided,
+    /// `--format`.
+    Format,
+    /// `--fields`.
+    Fields,
+}
+
+impl ValueOption {
+    /// The option as it is written.
+    fn name(self) -> &'static str {
+        match self {
+            ValueOption::PushVlan => "--push-vlan",
+            ValueOption::SetVlan => "--set-vlan",
+            ValueOption::Count => "-c",
+            ValueOption::Limit => "--limit",
+            ValueOption::Undecided => "--undecided",
+            ValueOption::Format => "--format",
+            ValueOption::Fields => "--fields",
+        }
+    }
+
+    /// The values that it takes.
+    fn expected(self) -> &'static str {
+        match self {
+            ValueOption::PushVlan =>
+                "a TPID of VLAN tags and an identifier up to 4095, as 0x8100:5",
+            ValueOption::SetVlan => "two identifiers up to 4095, as 5:6",
+            ValueOption::Count => "a number from 1 to 4294967295",
+            ValueOption::Limit => "a number up to 4294967295",
+            ValueOption::Undecided => "keep or drop",
+            ValueOption::Format => "lines, brief or json",
+            ValueOption::Fields => "at most 32 columns, as vlan.vid,eth.src",
+        }
+    }
+}
+
+/// What is wrong with the words of a request.
+#[derive(Clone, Copy, Debug)]
+pub enum Usage<'a> {
+    /// There is no such option.
+    Unknown(&'a str),
+    /// This option lacks its value.
+    NoValue(&'a str),
+    /// An option occurs twice, or has a value and takes none.
+    Words,
+    /// Options do not go together.
+    Clash,
+    /// There are several edits.
+    Edits,
+    /// No column has this name.
+    NoColumn(&'a str),
+    /// The value of an option means nothing.
+    Value(ValueOption, &'a str),
+}
+
+impl fmt::Display for Usage<'_> {
+    fn fmt(&self, f: &mut fmt::Formatter<'_>) -> fmt::Result {
+        match self {
+            Usage::Unknown(word) => write!(f, "{word}: there is no such option"),
+            Usage::NoValue(word) => write!(f, "{word}: its value is missing"),
+            Usage::Words => f.write_str("an option occurs twice, or has a value and takes none"),
+            Usage::Clash => f.write_str("these options do not go together"),
+            Usage::Edits => f.write_str(
+                "--cut-to-headers, --pop-vlan, --push-vlan and --set-vlan do not go together",
+            ),
+            Usage::NoColumn(name) => write!(f, "--fields: there is no column '{name}'"),
+            Usage::Value(option, text) => {
+                let name = option.name();
+                let expected = option.expected();
+                write!(f, "{name} '{text}': expected {expected}")
+            }
+        }
+    }
+}
