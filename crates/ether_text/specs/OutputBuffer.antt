@@ -15,8 +15,8 @@ contents_of contents g = append_known (contents g.writer.now) g.waiting.items
 pub record Marks {W : Type 0} (can_fail : Type 0) (old new : OutputBuffer W) : Type 0 where
   pub cause : new.has_failed ≡ true → (old.has_failed ≡ true) ⊎ can_fail
 
--- The writer is the same. Unless it has failed by now, it had not failed before either, and it and the text that waits together
--- hold the bytes after what they held. Once it has failed it is not called again.
+-- The writer is the same. Unless it has failed by now, it had not failed before, and its contents and the text that waits have
+-- together grown by the bytes. Once it has failed it is not called again.
 pub record Grows {W : Type 0} (contents : W → Option (List ℕ)) (can_fail : Type 0) (old : OutputBuffer W) (bytes : List ℕ) (new : OutputBuffer W) : Type 0 where
   pub same_writer : new.writer.ghost_name ≡ old.writer.ghost_name
   pub going : new.has_failed ≡ false → old.has_failed ≡ false

@@ -49,7 +49,7 @@ fn limit_of(digits: &str) -> Result<usize, Usage>
     }
 }
 
-/// Like [`command_of`], but for the program's arguments, the first of which is its own name.
+/// Like [`command_of`], but for the program's arguments, which begin with its own name.
 pub fn command_of_args(mut args: env::Args) -> Result<(Mode, Option<usize>), Usage>
     ensures ok { IfOk result (NamesCommand (words_after (into_iter_items args))) }
     ensures err { OnErr result (NamesNoCommand (words_after (into_iter_items args))) }

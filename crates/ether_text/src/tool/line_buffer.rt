@@ -30,7 +30,7 @@ impl LineBuffer {
     ghost use Rattle.ether_text.specs.Tool.Frame.{max_frame_len, IsFrame, IsBadLine};
     ghost use Rattle.ether_text.specs.Tool.LineBuffer.{KeepsLine, without_end};
 
-    /// Makes a buffer for a line of which nothing was read yet.
+    /// Makes a buffer for a line that has no byte yet.
     pub fn new() -> Self
         ensures { KeepsLine result [] }
     {
@@ -67,7 +67,7 @@ impl LineBuffer {
     }
 
     /// Ends the line with its last piece, writes the frame that it names to the front of `frame`, and returns the
-    /// frame's length in bytes. `None` if the line is bad. The next line is then begun.
+    /// frame's length in bytes. `None` if the line is bad. The next line then begins.
     ///
     /// A line that is one piece is not copied.
     pub fn end(

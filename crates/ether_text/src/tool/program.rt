@@ -15,8 +15,8 @@ use std::{env, io};
 
 /// Runs the command that the arguments name, prints the last line if there is one, and returns the exit status.
 ///
-/// If the arguments name no command, nothing is read, the usage is printed, and the status is 2. If they can't be read,
-/// nothing is read either, and the status is 4, as for a fault of the input.
+/// If the arguments name no command, nothing is read, the usage is printed, and the status is 2. If the arguments
+/// can't be read, nothing else is read, and the status is 4, as for a fault of the input.
 pub fn program<R: Source, W: Sink>(
     args: io::Result<env::Args>,
     reader: &mut R,

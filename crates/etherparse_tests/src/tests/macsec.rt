@@ -9,7 +9,7 @@ use etherparse::{
 };
 use std::test::Fail;
 
-/// A SecTag of these numbers, without an SCI.
+/// A SecTag with these numbers, without an SCI.
 fn tag(ptype: MacsecPType, an: u8, short_len: u8, packet_nr: u32) -> Result<MacsecHeader, Fail> {
     Ok(MacsecHeader {
         ptype,
@@ -216,7 +216,7 @@ fn the_short_length_follows_the_payload_length(rt: HostRuntime) -> Result<(), Fa
     Ok(())
 }
 
-/// A SecTag of a readable payload with each other bit of the first byte, and a byte after it.
+/// A SecTag of a readable payload with the bits ES and SCB set and the association number 3, and a byte after it.
 const NUMBERED: [u8; 9] = [0x53, 0x2A, 1, 2, 3, 4, 0x08, 0x00, 0x45];
 
 /// The SecTag of [`SEALED`] without its reserved bits.

@@ -98,7 +98,7 @@ fn a_write_error_names_the_room_that_is_needed(rt: HostRuntime) -> Result<(), Fa
     Ok(())
 }
 
-/// A header that is cut short after six bytes that were read before.
+/// A header that begins at offset 6 and is cut short.
 const EARLY: LenError = LenError {
     required_len: 6,
     len: 3,

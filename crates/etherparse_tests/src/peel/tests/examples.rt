@@ -80,7 +80,7 @@ fn a_payload_length_bounds_what_is_left(rt: HostRuntime) {
     }
 }
 
-/// A walk through tags, the last of which is cut short, takes the greatest number of calls that its length allows.
+/// A walk through tags that ends in one cut short takes the greatest number of calls that its length allows.
 #[test]
 fn each_call_of_a_walk_takes_four_bytes_but_the_last(rt: HostRuntime) {
     let cut = [0, 0, 0x81, 0, 0, 0, 0x81, 0, 0, 0, 0x81, 0, 0];

@@ -48,7 +48,7 @@ fn limit_of(digits: &str) -> Result<usize, Usage> {
     }
 }
 
-/// Like [`command_of`], but for the program's arguments, the first of which is its own name.
+/// Like [`command_of`], but for the program's arguments, which begin with its own name.
 ///
 /// <details><summary>Contract</summary>
 ///

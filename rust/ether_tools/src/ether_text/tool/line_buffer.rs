@@ -25,7 +25,7 @@ pub struct LineBuffer {
 }
 
 impl LineBuffer {
-    /// Makes a buffer for a line of which nothing was read yet.
+    /// Makes a buffer for a line that has no byte yet.
     ///
     /// <details><summary>Contract</summary>
     ///
@@ -86,7 +86,7 @@ impl LineBuffer {
     }
 
     /// Ends the line with its last piece, writes the frame that it names to the front of `frame`, and returns the
-    /// frame's length in bytes. `None` if the line is bad. The next line is then begun.
+    /// frame's length in bytes. `None` if the line is bad. The next line then begins.
     ///
     /// A line that is one piece is not copied.
     ///

@@ -17,7 +17,7 @@ const NETLINK: LinuxSllHeader = LinuxSllHeader {
     protocol_type: LinuxSllProtocolType::NetlinkProtocolType(1),
 };
 
-/// A byte with a VLAN tag, as a payload of cooked capture.
+/// A payload of cooked capture: one byte, which is announced as a VLAN tag.
 const VLAN: LinuxSllPayloadSlice<'static> = LinuxSllPayloadSlice {
     protocol_type: LinuxSllProtocolType::EtherType(EtherType(0x8100)),
     payload: &[0xAA],

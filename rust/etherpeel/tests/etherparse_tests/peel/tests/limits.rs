@@ -112,7 +112,7 @@ fn a_limited_walk_reads_no_tag_beyond_its_limit() {
     }
 }
 
-/// An Ethernet II header and a VLAN tag, and a byte after them, as the examples of the calls have them.
+/// An Ethernet II header and a VLAN tag, and a byte after them, as in the examples of the calls.
 const EXAMPLE: [u8; 19] = [
     0xFF, 0xFF, 0xFF, 0xFF, 0xFF, 0xFF, 0x02, 0x00, 0x00, 0x00, 0x00, 0x01, 0x81, 0x00, 0xB1, 0x23,
     0x08, 0x00, 0x45,
