@@ -1,4 +1,5 @@
--- The addresses that a packet can't hold: it has one size for both of a kind, which is a byte (RFC 826, "Packet format").
+-- The addresses that a packet can't hold: it has one size for both addresses of a kind, and a size is one byte (RFC 826,
+-- "Packet format").
 use Rattle.std.specs.Prelude.{◌≡◌, ℕ, ◌<◌, ◌≤◌, Result, MatchResult}
 use Rattle.ether_base.specs.declared.err.arp.arp_hw_addr_error.ArpHwAddrError.{ArpHwAddrError}
 use Rattle.ether_base.specs.declared.err.arp.arp_hw_addr_error.ArpHwAddrError.TheVariants as hw
@@ -7,17 +8,17 @@ use Rattle.ether_base.specs.declared.err.arp.arp_proto_addr_error.ArpProtoAddrEr
 use Rattle.ether_base.specs.declared.err.arp.arp_new_error.ArpNewError.{ArpNewError}
 use Rattle.ether_base.specs.declared.err.arp.arp_new_error.ArpNewError.TheVariants.{HwAddr, ProtoAddr}
 
--- the rows of two hardware addresses of these lengths
+-- the rows for two hardware addresses of these lengths
 pub data RefusesHwAddrs (sender target : ℕ) : ArpHwAddrError → Type 0 where
   hw_unequal : (sender ≡ target → ⊥) → RefusesHwAddrs sender target (hw.LenNonMatching sender target)
   hw_too_long : sender ≡ target → 255 < sender → RefusesHwAddrs sender target (hw.LenTooBig sender)
 
--- the rows of two protocol addresses of these lengths
+-- the rows for two protocol addresses of these lengths
 pub data RefusesProtoAddrs (sender target : ℕ) : ArpProtoAddrError → Type 0 where
   proto_unequal : (sender ≡ target → ⊥) → RefusesProtoAddrs sender target (proto.LenNonMatching sender target)
   proto_too_long : sender ≡ target → 255 < sender → RefusesProtoAddrs sender target (proto.LenTooBig sender)
 
--- the rows of all four: both kinds are compared before either is measured
+-- the rows for all four: lengths that differ are refused before lengths above 255
 pub data RefusesAddrs (sender_hw sender_proto target_hw target_proto : ℕ) : ArpNewError → Type 0 where
   hardware_unequal : (sender_hw ≡ target_hw → ⊥)
       → RefusesAddrs sender_hw sender_proto target_hw target_proto (HwAddr (hw.LenNonMatching sender_hw target_hw))
@@ -38,7 +39,7 @@ AcceptsProtoAddrs sender target = (e : ArpProtoAddrError) → RefusesProtoAddrs 
 abbrev pub AcceptsAddrs : ℕ → ℕ → ℕ → ℕ → Type 0
 AcceptsAddrs sender_hw sender_proto target_hw target_proto = (e : ArpNewError) → RefusesAddrs sender_hw sender_proto target_hw target_proto e → ⊥
 
--- what two addresses of a kind, or all four, are answered by: a refusal exactly if a row holds, and that row
+-- the answer to two addresses of a kind, or to all four: a refusal exactly if a row holds, and that row
 abbrev pub AnswersHwAddrs : {A : Type 0} → (sender target : ℕ) → Result A ArpHwAddrError → Type 0
 AnswersHwAddrs sender target result = MatchResult result (λ _. AcceptsHwAddrs sender target) (RefusesHwAddrs sender target)
 

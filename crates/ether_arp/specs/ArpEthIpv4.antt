@@ -22,7 +22,7 @@ eth_ipv4_view p = record {
 abbrev pub eth_ipv4_bytes : ArpEthIpv4Packet → List ℕ
 eth_ipv4_bytes p = spelled 8 (1 * 2 ^ 48 + 2048 * 2 ^ 32 + 6 * 2 ^ 24 + 4 * 2 ^ 16 + p.operation.0) ++ p.sender_mac ++ p.sender_ipv4 ++ p.target_mac ++ p.target_ipv4
 
--- the rows of a value that is none of Ethernet and IPv4, each with what the value has instead
+-- the rows for a value that is not of Ethernet and IPv4, each with what the value has instead
 pub data RefusesEthIpv4 (a : ArpValue) : ArpEthIpv4FromError → Type 0 where
   hardware_type : (a.hardware_type ≡ 1 → ⊥)
       → RefusesEthIpv4 a (NonMatchingHwType (record { 0 = a.hardware_type }))

@@ -25,7 +25,8 @@ pub record ArpRowsAreApart : Type 0 where
   pub one_eth_ipv4 : (a : ArpValue) (d e : ArpEthIpv4FromError) → RefusesEthIpv4 a d → RefusesEthIpv4 a e → d ≡ e
   pub decided_eth_ipv4 : (a : ArpValue) → ((e : ArpEthIpv4FromError) × RefusesEthIpv4 a e) ⊎ AcceptsEthIpv4 a
 
--- accepted bytes mean the packet of their parts, and the bytes of a packet that fits are bytes
+-- Accepted bytes mean the packet whose fields are at their places, a packet that bytes mean fits, and a packet that fits is
+-- written as bytes.
 pub record ArpPacketsAreMeant : Type 0 where
   pub read : (bound : LenSource) (bytes : List ℕ) → IsBytes bytes → Accepts bound bytes kinds.Arp → Means bytes (headers.Arp (arp_of bytes))
   pub fits : (bytes : List ℕ) → IsBytes bytes → (a : ArpValue) → Means bytes (headers.Arp a) → FitsArp a

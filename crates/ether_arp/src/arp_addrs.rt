@@ -1,10 +1,11 @@
-//! The bytes of an address: at most 255, since their number is a byte on the wire (RFC 826, "Packet format").
+//! The bytes of an address. There are at most 255, since the size of an address is one byte on the wire (RFC 826,
+//! "Packet format").
 ghost use Rattle.std.specs.Prelude.{◌≡◌, ◌+◌, ◌≤◌, ◌++◌, length};
 ghost use Rattle.ether_base.specs.Bytes.{IsBytes};
 
 use arrayvec::ArrayVec;
 
-/// An address of these bytes.
+/// Copies at most 255 bytes into an address.
 pub fn address(bytes: &[u8]) -> ArrayVec<u8, 255>
     requires { length bytes.now ≤ 255 }
     ensures items { result.items ≡ bytes.now }
@@ -15,7 +16,7 @@ pub fn address(bytes: &[u8]) -> ArrayVec<u8, 255>
     address
 }
 
-/// Puts these bytes in the place of those of an address.
+/// Replaces the bytes of an address by these, at most 255.
 pub fn replace(address: &mut ArrayVec<u8, 255>, bytes: &[u8])
     requires { length bytes.now ≤ 255 }
     ensures items { address.new.items ≡ bytes.now }
@@ -25,7 +26,7 @@ pub fn replace(address: &mut ArrayVec<u8, 255>, bytes: &[u8])
     append(address, bytes);
 }
 
-/// Appends bytes.
+/// Appends bytes to a list that has room for them.
 pub fn append<const N: usize>(bytes: &mut ArrayVec<u8, N>, part: &[u8])
     requires { length bytes.old.items + length part.now ≤ N }
     ensures items { bytes.new.items ≡ bytes.old.items ++ part.now }

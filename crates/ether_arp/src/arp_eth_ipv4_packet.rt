@@ -11,10 +11,10 @@ use ether_base::err::arp::ArpEthIpv4FromError;
 use ether_base::{ArpHardwareId, ArpOperation, EtherType};
 use std::net::Ipv4Addr;
 
-/// An ARP packet that asks for the MAC address of an IPv4 address, or answers: hardware type 1, protocol type 0x0800,
-/// addresses of 6 and of 4 bytes (RFC 826).
+/// An ARP packet of Ethernet and IPv4 (RFC 826), which asks for the MAC address of an IPv4 address, or answers:
+/// hardware type 1, protocol type 0x0800, hardware addresses of 6 bytes and protocol addresses of 4.
 ///
-/// Who has 10.0.0.2?
+/// The request "who has 10.0.0.2?":
 ///
 /// ```
 /// let request = ArpEthIpv4Packet {
@@ -35,7 +35,7 @@ pub struct ArpEthIpv4Packet {
     pub sender_mac: [u8; 6],
     /// The IPv4 address of the sender.
     pub sender_ipv4: [u8; 4],
-    /// The MAC address of the target, which a request does not know.
+    /// The MAC address of the target. In a request it is not known yet.
     pub target_mac: [u8; 6],
     /// The IPv4 address of the target.
     pub target_ipv4: [u8; 4],
@@ -61,7 +61,7 @@ impl ArpEthIpv4Packet {
         Ipv4Addr::new(a, b, c, d)
     }
 
-    /// The packet as it is on the wire, numbers in network byte order.
+    /// The 28 bytes of the packet on the wire.
     pub const fn to_bytes(&self) -> [u8; 28]
         ensures value { result ≡ eth_ipv4_bytes self.now }
         ensures packet { result ≡ arp_bytes (eth_ipv4_view self.now) }
@@ -84,7 +84,7 @@ impl ArpEthIpv4Packet {
         )
     }
 
-    /// The packet as one of any hardware and any protocol. Read as a packet of Ethernet and IPv4, it is this packet.
+    /// The packet as an [`ArpPacket`]. [`ArpPacket::try_eth_ipv4`] turns that into this packet again.
     pub fn to_arp_packet(&self) -> ArpPacket
         ensures value { result ≡ eth_ipv4_view self.now }
         ensures bytes { arp_bytes result ≡ eth_ipv4_bytes self.now }
@@ -103,7 +103,7 @@ impl ArpEthIpv4Packet {
     }
 }
 
-/// Eight bytes and four addresses, one after the other.
+/// The 28 bytes of a packet: the eight bytes before the addresses, and the four addresses in order.
 const fn joined(
     front: [u8; 8],
     sender_mac: [u8; 6],
@@ -122,7 +122,7 @@ const fn joined(
     ]
 }
 
-/// Refused as by [`ArpPacket::try_eth_ipv4`]; a refused packet is dropped.
+/// Errors are those of [`ArpPacket::try_eth_ipv4`]. A refused packet is dropped.
 impl TryFrom<ArpPacket> for ArpEthIpv4Packet {
     type Error = ArpEthIpv4FromError;
 

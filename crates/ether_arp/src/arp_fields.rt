@@ -1,5 +1,5 @@
-//! The fields of an ARP packet in the bytes that begin with it (RFC 826, "Packet format"): hardware type, protocol type,
-//! the two sizes and the operation in eight bytes, then the addresses of the sender and those of the target.
+//! The fields of an ARP packet in the bytes that begin with it (RFC 826, "Packet format"): hardware type, protocol
+//! type, the two sizes and the operation in eight bytes, then the addresses of the sender and those of the target.
 ghost use Rattle.std.specs.Prelude.{◌≡◌, ◌+◌, ◌*◌, ◌≤◌, ◌<◌, length, slice_range, drop, IfOk, IfErr};
 ghost use Rattle.ether_base.specs.Formats.Arp.{arp_front_in, arp_len, arp_of};
 ghost use Rattle.ether_base.specs.Bytes.{number};
@@ -27,10 +27,10 @@ const PROTOCOL_SIZE: usize = 5;
 /// Where the operation begins.
 const OPERATION: usize = 6;
 
-/// The length of the part before the addresses.
+/// The length of the part before the addresses, in bytes.
 const FRONT_LEN: usize = 8;
 
-/// The bytes of the packet that a slice begins with.
+/// The bytes of the packet that a slice begins with, 8 to 1028. Errors are those of `ArpPacketSlice::from_slice`.
 pub fn packet(slice: &[u8]) -> Result<&[u8], LenError>
     ensures bytes { IfOk result
         (λ packet. packet.now ≡ slice_range slice.now 0 (arp_len (arp_front_in slice.now))) }
@@ -53,7 +53,7 @@ pub fn packet(slice: &[u8]) -> Result<&[u8], LenError>
     Ok(&slice[..required_len])
 }
 
-/// The length of the packet by its sizes.
+/// The length of the packet in bytes, from the two sizes: 8 to 1028.
 fn packet_len(packet: &[u8]) -> usize
     requires { 8 ≤ length packet.now }
     ensures { result ≡ arp_len (arp_front_in packet.now) }
@@ -77,7 +77,7 @@ pub fn proto_addr_type(packet: &[u8]) -> EtherType
     EtherType(u16_at(packet, PROTOCOL_TYPE))
 }
 
-/// The size of a hardware address.
+/// The size of a hardware address in bytes.
 pub fn hw_addr_size(packet: &[u8]) -> u8
     requires { 8 ≤ length packet.now }
     ensures { result ≡ (arp_front_in packet.now).hardware_size }
@@ -85,7 +85,7 @@ pub fn hw_addr_size(packet: &[u8]) -> u8
     packet[HARDWARE_SIZE]
 }
 
-/// The size of a protocol address.
+/// The size of a protocol address in bytes.
 pub fn proto_addr_size(packet: &[u8]) -> u8
     requires { 8 ≤ length packet.now }
     ensures { result ≡ (arp_front_in packet.now).protocol_size }

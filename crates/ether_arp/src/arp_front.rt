@@ -3,7 +3,7 @@ ghost use Rattle.std.specs.Prelude.{◌≡◌};
 ghost use Rattle.ether_base.specs.Formats.Arp.{ArpFront, FitsArpFront, arp_front_number};
 ghost use Rattle.ether_base.specs.Bytes.{spelled};
 
-/// The bytes before the addresses.
+/// The eight bytes before the addresses. The sizes are in bytes.
 pub const fn front_bytes(
     hw_addr_type: u16,
     proto_addr_type: u16,

@@ -26,16 +26,16 @@ use std::fmt;
 use std::hash::{Hash, Hasher};
 use std::marker::Model;
 
-/// The greatest length of an address, whose size is a byte.
+/// The greatest length of an address in bytes: its size is one byte on the wire.
 const MAX_ADDR_LEN: usize = 255;
 
-/// A packet of the Address Resolution Protocol (RFC 826): it asks which hardware address belongs to a protocol address, or
-/// answers.
+/// A packet of the Address Resolution Protocol (RFC 826): it asks which hardware address belongs to a protocol
+/// address, or answers.
 ///
-/// The two hardware addresses have one length, at most 255 bytes, and so have the two protocol addresses. Equality and
-/// hashing are of what the packet says: types, sizes, operation and addresses.
+/// Both hardware addresses have the same length, at most 255 bytes, and so do both protocol addresses. Packets are
+/// equal, and have the same hash, if types, sizes, operation and addresses are equal.
 ///
-/// The answer to a request for 10.0.0.2:
+/// The reply to a request for 10.0.0.2:
 ///
 /// ```
 /// let request = [
@@ -94,10 +94,16 @@ impl ArpPacket {
     /// The greatest length of a packet in bytes: with four addresses of 255 bytes.
     pub const MAX_LEN: usize = 1028;
 
-    /// A packet with the given types, operation and addresses.
+    /// Makes a packet with the given types, operation and addresses.
     ///
-    /// Refused are, in this order: hardware addresses of two lengths, protocol addresses of two lengths, hardware
-    /// addresses of more than 255 bytes, protocol addresses of more than 255 bytes.
+    /// # Errors
+    ///
+    /// The first of these that holds:
+    ///
+    /// - `ArpNewError::HwAddr` with `LenNonMatching`: the hardware addresses differ in length.
+    /// - `ArpNewError::ProtoAddr` with `LenNonMatching`: the protocol addresses differ in length.
+    /// - `ArpNewError::HwAddr` with `LenTooBig`: the hardware addresses are longer than 255 bytes.
+    /// - `ArpNewError::ProtoAddr` with `LenTooBig`: the protocol addresses are longer than 255 bytes.
     #[tactic(auto, using(crate::specs::ArpAddresses::hardware_unequal, crate::specs::ArpAddresses::protocol_unequal, crate::specs::ArpAddresses::hardware_too_long, crate::specs::ArpAddresses::protocol_too_long))]
     pub fn new(
         hw_addr_type: ArpHardwareId,
@@ -151,7 +157,7 @@ impl ArpPacket {
         ))
     }
 
-    /// The packet of addresses that are known to fit.
+    /// The packet with these fields. The addresses of each kind have the same length, at most 255 bytes.
     pub(crate) fn holding(
         hw_addr_type: ArpHardwareId,
         proto_addr_type: EtherType,
@@ -186,7 +192,11 @@ impl ArpPacket {
         }
     }
 
-    /// The packet that a slice begins with, refused as by [`ArpPacketSlice::from_slice`]. What follows it is ignored.
+    /// Copies the packet that a slice begins with. What follows it is ignored.
+    ///
+    /// # Errors
+    ///
+    /// Those of [`ArpPacketSlice::from_slice`].
     pub fn from_slice(slice: &[u8]) -> Result<ArpPacket, LenError>
         ensures accepted { IfOk result (λ p. Accepts sources.Slice slice.now kinds.Arp) }
         ensures value { IfOk result (λ p. Means slice.now (headers.Arp p)) }
@@ -226,7 +236,7 @@ impl ArpPacket {
         self.sender_protocol_addr.as_slice()
     }
 
-    /// The hardware address of the target, which a request does not know.
+    /// The hardware address of the target. In a request it is not known yet.
     pub fn target_hw_addr(&self) -> &[u8]
         ensures { result.now ≡ self.now.target_hardware }
     {
@@ -242,7 +252,10 @@ impl ArpPacket {
 
     /// Replaces both hardware addresses, and with them their size.
     ///
-    /// Refused are addresses of two lengths, then addresses of more than 255 bytes. The packet is then as it was.
+    /// # Errors
+    ///
+    /// [`ArpHwAddrError::LenNonMatching`] if the addresses differ in length, else [`ArpHwAddrError::LenTooBig`] if
+    /// they are longer than 255 bytes. The packet is then unchanged.
     #[tactic(auto, using(crate::specs::ArpAddresses::hw_unequal, crate::specs::ArpAddresses::hw_too_long))]
     pub fn set_hw_addrs(
         &mut self,
@@ -271,7 +284,10 @@ impl ArpPacket {
 
     /// Replaces both protocol addresses, and with them their size.
     ///
-    /// Refused are addresses of two lengths, then addresses of more than 255 bytes. The packet is then as it was.
+    /// # Errors
+    ///
+    /// [`ArpProtoAddrError::LenNonMatching`] if the addresses differ in length, else [`ArpProtoAddrError::LenTooBig`]
+    /// if they are longer than 255 bytes. The packet is then unchanged.
     #[tactic(auto, using(crate::specs::ArpAddresses::proto_unequal, crate::specs::ArpAddresses::proto_too_long))]
     pub fn set_protocol_addrs(
         &mut self,
@@ -306,9 +322,9 @@ impl ArpPacket {
         8 + 2 * usize::from(self.hw_addr_size()) + 2 * usize::from(self.protocol_addr_size())
     }
 
-    /// The packet as it is on the wire, numbers in network byte order: [`ArpPacket::packet_len`] bytes.
+    /// The bytes of the packet on the wire. Their number is [`ArpPacket::packet_len`].
     ///
-    /// Read again, whatever follows them, they are this packet.
+    /// They are read back as this packet, whatever follows them.
     pub fn to_bytes(&self) -> ArrayVec<u8, 1028>
         ensures value { result.items ≡ arp_bytes self.now }
         ensures len { length result.items ≡ arp_len (arp_front_of self.now) }
@@ -320,7 +336,7 @@ impl ArpPacket {
         self.spelled()
     }
 
-    /// The bytes of the packet, whose numbers have room in them.
+    /// The bytes of the packet. Each number fits in its field.
     fn spelled(&self) -> ArrayVec<u8, 1028>
         ensures value { result.items ≡ arp_bytes self.now }
         ensures fits { FitsArp self.now }
@@ -348,10 +364,16 @@ impl ArpPacket {
         )
     }
 
-    /// The packet as one of Ethernet and IPv4.
+    /// The packet as a packet of Ethernet and IPv4.
     ///
-    /// Refused are, in this order: another hardware type than Ethernet's, another protocol type than that of IPv4,
-    /// hardware addresses that have not 6 bytes, protocol addresses that have not 4.
+    /// # Errors
+    ///
+    /// The first of these that holds; each error has what the packet has instead:
+    ///
+    /// - [`ArpEthIpv4FromError::NonMatchingHwType`]: the hardware type is not 1, Ethernet.
+    /// - [`ArpEthIpv4FromError::NonMatchingProtocolType`]: the protocol type is not 0x0800, IPv4.
+    /// - [`ArpEthIpv4FromError::NonMatchingHwAddrSize`]: the hardware addresses are not 6 bytes long.
+    /// - [`ArpEthIpv4FromError::NonMatchingProtoAddrSize`]: the protocol addresses are not 4 bytes long.
     #[tactic(auto, using(crate::proofs::Refusals::row_hardware_type, crate::proofs::Refusals::row_protocol_type, crate::proofs::Refusals::row_hardware_size, crate::proofs::Refusals::row_protocol_size, crate::proofs::Refusals::differs, crate::proofs::Refusals::agrees))]
     pub fn try_eth_ipv4(&self) -> Result<ArpEthIpv4Packet, ArpEthIpv4FromError>
         ensures { AnswersEthIpv4 self.now result }
@@ -380,7 +402,7 @@ impl ArpPacket {
     }
 }
 
-/// An address as an array, by one test of its length.
+/// An address of `N` bytes as an array. Its length is tested once.
 fn array<const N: usize>(address: &[u8]) -> [u8; N]
     requires { length address.now ≡ N }
     ensures { result ≡ address.now }

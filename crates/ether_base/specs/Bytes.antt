@@ -5,12 +5,12 @@ use Rattle.std.specs.Prelude.{ℕ, zero, suc, ◌+◌, ◌*◌, ◌/◌, ◌%◌
 abbrev pub IsBytes : List ℕ → Type 0
 IsBytes bytes = (i : ℕ) → slice_index bytes i < 256
 
--- the sum of each byte times the power of 256 that its place has, the last one's being 1
+-- the number whose digits to the base 256 are the bytes, the most significant one first
 abbrev pub number : List ℕ → ℕ
 number [] = 0
 number (b ∷ bytes) = b * 256 ^ length bytes + number bytes
 
--- the k bytes whose number is n, for an n that has room in them
+-- the k bytes whose number is n, for an n below 256 ^ k
 unfoldable pub spelled : ℕ → ℕ → List ℕ
 spelled zero n = []
 spelled (suc k) n = n / 256 ^ k % 256 ∷ spelled k n
@@ -20,6 +20,6 @@ abbrev pub bit : Bool → ℕ
 bit false = 0
 bit true = 1
 
--- a list with these bytes from a place on, in place of as many of its own
+-- a list in which these bytes, from a place on, replace as many of its own
 abbrev pub overwritten : List ℕ → ℕ → List ℕ → List ℕ
 overwritten list at bytes = take at list ++ bytes ++ drop (at + length bytes) list

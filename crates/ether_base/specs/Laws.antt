@@ -32,8 +32,8 @@ LengthRowsAreShort =
     → Refuses bound bytes kind (Length required n source layer)
     → (n ≡ length bytes) × (n < required)
 
--- Accepted bytes mean a header, and a list means at most one of a kind. Of fourteen bytes, of four, of sixteen, and of as many as
--- the front of a SecTag says it is the one whose fields are in their places.
+-- Accepted bytes mean a header, and a list means at most one header of a kind. The other clauses name it, for a list that is
+-- long enough (14, 4 or 16 bytes, or as many as the front of a SecTag says): its fields are read at their places.
 pub record HeadersAreMeant : Type 0 where
   pub some : (bound : LenSource) (bytes : List ℕ) (kind : Kind) → IsBytes bytes → Accepts bound bytes kind → (h : Header) × (kind_of h ≡ kind) × Means bytes h
   pub one : (bytes : List ℕ) (h k : Header) → kind_of h ≡ kind_of k → Means bytes h → Means bytes k → h ≡ k
@@ -42,7 +42,7 @@ pub record HeadersAreMeant : Type 0 where
   pub linux_sll : (bytes : List ℕ) → IsBytes bytes → 16 ≤ length bytes → Means bytes (headers.LinuxSll (linux_sll_of bytes))
   pub macsec : (bytes : List ℕ) → IsBytes bytes → 6 ≤ length bytes → sec_tag_len (sec_tag_front_in bytes) ≤ length bytes → Means bytes (headers.Macsec (sec_tag_of bytes))
 
--- the bytes of a header are as many as its length, and mean it, whatever follows them
+-- a header's bytes have its length, and they mean it, whatever follows them
 pub record BytesMeanTheirHeader : Type 0 where
   pub len : (h : Header) → FitsHeader h → length (header_bytes h) ≡ header_len h
   pub means : (h : Header) (more : List ℕ) → FitsHeader h → Means (header_bytes h ++ more) h

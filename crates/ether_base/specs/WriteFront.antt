@@ -1,4 +1,4 @@
--- Writing to the front of a slice, whose bytes after that are lent on.
+-- Writing to the front of a slice, and lending the bytes after it to the caller.
 use Rattle.std.specs.Prelude.{◌≡◌, ℕ, ◌≤◌, ◌<◌, List, ◌++◌, length, drop, Result, MatchResult}
 use Rattle.std.specs.Borrow.{MutBor, Fml, LendsIfOk, Array, u8}
 use Rattle.ether_base.specs.declared.err.layer.Layer.{Layer}

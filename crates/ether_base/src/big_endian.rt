@@ -26,8 +26,8 @@ pub fn u64_of(bytes: [u8; 8]) -> u64
     u64::from_be_bytes(bytes)
 }
 
-/// The number of the two bytes from a place on: `u16_at(&[0x45, 0x88, 0xA8], 1)` is `0x88A8`. If the slice ends before
-/// them, the number of those that are there.
+/// Returns the number of the two bytes from offset `at` on: `u16_at(&[0x45, 0x88, 0xA8], 1)` is `0x88A8`. If the
+/// slice ends before `at + 2`, it is the number of the bytes that are left, which is 0 if there are none.
 #[inline(always)]
 pub fn u16_at(bytes: &[u8], at: usize) -> u16
     ensures { result ≡ number (slice_range bytes.now at (at + 2)) }
@@ -38,7 +38,8 @@ pub fn u16_at(bytes: &[u8], at: usize) -> u16
     }
 }
 
-/// The number of the four bytes from a place on. If the slice ends before them, the number of those that are there.
+/// Returns the number of the four bytes from offset `at` on. If the slice ends before `at + 4`, it is the number of
+/// the bytes that are left, which is 0 if there are none.
 #[inline(always)]
 pub fn u32_at(bytes: &[u8], at: usize) -> u32
     ensures { result ≡ number (slice_range bytes.now at (at + 4)) }
@@ -49,7 +50,8 @@ pub fn u32_at(bytes: &[u8], at: usize) -> u32
     }
 }
 
-/// The number of the eight bytes from a place on. If the slice ends before them, the number of those that are there.
+/// Returns the number of the eight bytes from offset `at` on. If the slice ends before `at + 8`, it is the number of
+/// the bytes that are left, which is 0 if there are none.
 #[inline(always)]
 pub fn u64_at(bytes: &[u8], at: usize) -> u64
     ensures { result ≡ number (slice_range bytes.now at (at + 8)) }
@@ -60,7 +62,7 @@ pub fn u64_at(bytes: &[u8], at: usize) -> u64
     }
 }
 
-/// The `N` bytes from a place on. Returns `None` if the slice ends before them.
+/// Returns the `N` bytes from offset `at` on, or `None` if the slice ends before `at + N`.
 #[inline(always)]
 pub fn array_at<const N: usize>(bytes: &[u8], at: usize) -> Option<[u8; N]>
     ensures some { IfSome result (λ array. array ≡ slice_range bytes.now at (at + N)) }
@@ -73,7 +75,7 @@ pub fn array_at<const N: usize>(bytes: &[u8], at: usize) -> Option<[u8; N]>
     }
 }
 
-/// The number of the bytes from a place on, which are fewer than eight.
+/// Returns the number of all bytes from offset `at` on. They are fewer than eight, and perhaps none.
 #[inline(never)]
 fn number_from(bytes: &[u8], at: usize) -> u64
     requires { length bytes.now < at + 8 }
@@ -85,7 +87,7 @@ fn number_from(bytes: &[u8], at: usize) -> u64
     }
 }
 
-/// The number of fewer than eight bytes.
+/// Returns the number of a slice, which has fewer than eight bytes.
 fn number_of(bytes: &[u8]) -> u64
     requires { length bytes.now < 8 }
     ensures { result ≡ number bytes.now }

@@ -73,7 +73,7 @@ impl LinuxNonstandardEtherType {
     /// Dummy type for Atalk over PPP.
     pub const PPPTALK: LinuxNonstandardEtherType = LinuxNonstandardEtherType(0x10);
 
-    /// 802.2 frames.
+    /// 802.2 frames on token ring.
     pub const TR_802_2: LinuxNonstandardEtherType = LinuxNonstandardEtherType(0x11);
 
     /// Mobitex.
@@ -91,7 +91,7 @@ impl LinuxNonstandardEtherType {
     /// HDLC frames.
     pub const HDLC: LinuxNonstandardEtherType = LinuxNonstandardEtherType(0x19);
 
-    /// 1A for ArcNet.
+    /// ARCnet.
     pub const ARCNET: LinuxNonstandardEtherType = LinuxNonstandardEtherType(0x1A);
 
     /// Distributed Switch Arch.

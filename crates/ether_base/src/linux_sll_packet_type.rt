@@ -60,7 +60,7 @@ impl LinuxSllPacketType {
     /// The greatest packet type, 7.
     pub const MAX_VAL: u16 = 7;
 
-    /// What the number means, which is `Some` for each packet type.
+    /// Returns what the number means. This is `Some` for each packet type.
     fn description(self) -> Option<&'static str>
         ensures { option_copied result ≡ description_in packet_type_descriptions self }
     {

@@ -52,7 +52,7 @@ impl MacsecAn {
         }
     }
 
-    /// The number of the association number.
+    /// The association number, 0 to 3.
     pub const fn value(self) -> u8
         ensures value { result ≡ self }
         ensures bound { result ≤ 3 }

@@ -8,8 +8,9 @@ use std::marker::Model;
 
 /// The short length (SL) of a MACsec SecTag (IEEE 802.1AE, 9.7): 6 bits, 0 to 63.
 ///
-/// It counts the bytes after the SecTag, those of the ether type there among them, and 0 names no length. The
-/// standard ends at 47; the values from 48 to 63 are accepted, and [`MacsecShortLen::from_len`] makes them too.
+/// It counts the bytes between the SecTag and the integrity check value, including the two of the payload's ether
+/// type; 0 names no length. The standard ends at 47. Values from 48 to 63 are accepted too, and
+/// [`MacsecShortLen::from_len`] makes them.
 ///
 /// ```
 /// let short_len = MacsecShortLen::try_from_u8(46)?;
@@ -58,8 +59,8 @@ impl MacsecShortLen {
         }
     }
 
-    /// The short length that names `len` bytes: `len` up to [`MacsecShortLen::MAX_USIZE`], and above that 0, which names no
-    /// length.
+    /// Returns `len` as a short length if it is at most [`MacsecShortLen::MAX_USIZE`]. A greater `len` has none, so
+    /// the result is 0, which names no length.
     pub fn from_len(len: usize) -> MacsecShortLen
         ensures named { len ≤ 63 → result ≡ len }
         ensures unnamed { 63 < len → result ≡ 0 }
@@ -71,7 +72,7 @@ impl MacsecShortLen {
         }
     }
 
-    /// The short length as a number.
+    /// The short length, 0 to 63.
     pub const fn value(self) -> u8
         ensures value { result ≡ self }
         ensures bound { result ≤ 63 }

@@ -4,7 +4,7 @@ ghost use Rattle.std.specs.Prelude.{◌≡◌};
 use crate::LenSource;
 use crate::err::{Layer, LenError};
 
-/// The error of a slice of `len` bytes whose first layer takes `required_len`.
+/// Returns the error for a slice of `len` bytes whose first layer needs `required_len`. The layer starts at offset 0.
 pub fn too_short(required_len: usize, len: usize, len_source: LenSource, layer: Layer) -> LenError
     ensures { result ≡ record {
       required_len = required_len;

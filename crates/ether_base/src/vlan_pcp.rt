@@ -52,7 +52,7 @@ impl VlanPcp {
         }
     }
 
-    /// The priority code point as a number.
+    /// The priority code point, 0 to 7.
     pub const fn value(self) -> u8
         ensures value { result ≡ self }
         ensures bound { result ≤ 7 }

@@ -5,7 +5,7 @@ ghost use Rattle.ether_base.specs.WriteFront.{AnswersRest, LendsRest};
 
 use crate::err::{Layer, SliceWriteSpaceError};
 
-/// Writes the bytes to the front of a slice, and returns the whole slice. A slice that is too short stays as it was.
+/// Writes the bytes to the front of a slice, and returns the whole slice. A slice that is too short is unchanged.
 pub fn put<const N: usize>(bytes: [u8; N], slice: &mut [u8]) -> &mut [u8]
     ensures same_reference { result.ghost_name ≡ slice.entry.ghost_name }
     ensures wrote { N ≤ length slice.old → result.now ≡ bytes.entry ++ drop N slice.old }
@@ -17,7 +17,12 @@ pub fn put<const N: usize>(bytes: [u8; N], slice: &mut [u8]) -> &mut [u8]
     slice
 }
 
-/// The part of a slice after its first `required_len` bytes, refused if the slice is shorter.
+/// Lends the part of a slice after its first `required_len` bytes.
+///
+/// # Errors
+///
+/// The slice is shorter: the error has `required_len`, the slice's length as `len`, the `layer`, and 0 as
+/// `layer_start_offset`.
 pub fn rest_from(
     slice: &mut [u8],
     required_len: usize,

@@ -9,27 +9,30 @@ use arrayvec::ArrayVec;
 use etherparse::MacsecHeaderSlice;
 use etherparse::err::Layer;
 
-/// What a fill has at most after its first byte.
+/// The bytes of a fill after its first one: at most 1,027, all 0.
 const ZEROS: [u8; 1027] = [0; 1027];
 
-/// The fewest bytes that, after a frame cut short, make it accepted: they complete the unit in which it ends.
+/// Returns the fewest bytes that make a frame which was cut short accepted if they follow it. They complete the unit
+/// in which the frame ends.
 ///
-/// The unit is an Ethernet II header, a VLAN tag, an ARP packet, or a MACsec SecTag with the payload whose length it names.
-/// Each byte is 0, and a size of an ARP packet that is missing too is therefore 0. The one exception: if the frame ends
-/// between the two bytes of the unit's ether type, and the first of these is 0x81 or 0x91, then the second one is 1, since
-/// 0x8100 and 0x9100 would announce a VLAN tag. So exactly one unit is added, and no other header is announced after it.
+/// The unit is an Ethernet II header, a VLAN tag, an ARP packet, or a MACsec SecTag with the payload whose length it
+/// names. Each byte is 0, and a size of an ARP packet that is missing too is therefore 0. The one exception: if the
+/// frame ends between the two bytes of the unit's ether type, and the first of these is 0x81 or 0x91, then the second
+/// one is 1, since 0x8100 and 0x9100 would announce a VLAN tag. So exactly one unit is added, and no other header is
+/// announced after it.
 ///
 /// `None` if the frame
 ///
 /// - is accepted,
 /// - is refused for its contents,
-/// - is refused in a closed window, as is each frame with a frame check sequence, so that more bytes would not help,
-/// - ends in a header of Linux cooked capture,
-/// - ends in a SecTag and has fewer than six bytes of it, so that its length is unknown,
-/// - ends in the payload of a SecTag that it has whole.
+/// - is refused in a closed window, as every refused frame with a frame check sequence is, so that more bytes would
+///   not help,
+/// - ends before the end of its header of Linux cooked capture,
+/// - has fewer than six bytes of a SecTag that is announced,
+/// - has a whole SecTag, but not the whole payload whose length the tag names.
 ///
-/// The bytes are returned by value. There are at most 1,028, of an ARP packet with the longest addresses, and as many are
-/// kept free: the result takes 1,028 bytes of stack and its length, in the callee and in the caller.
+/// The bytes are returned by value, in a list with room for 1,028 bytes, the length of the longest ARP packet. So the
+/// result takes 1,028 bytes of stack and its length, in the callee and in the caller.
 ///
 /// ```
 /// let frame = [
@@ -46,10 +49,10 @@ pub fn completion(start: Start, bytes: &[u8]) -> Option<ArrayVec<u8, 1028>>
     completed(start, bytes, None)
 }
 
-/// The fewest bytes that make a frame accepted by the walk that reads no more than `limit` VLAN tags and MACsec SecTags:
-/// [`completion`] with the walk of [`Peel::with_limit`](crate::Peel::with_limit).
+/// Like [`completion`], but for the walk of [`Peel::with_limit`](crate::Peel::with_limit), which reads at most `limit`
+/// VLAN tags and MACsec SecTags.
 ///
-/// `None` also if a tag that is cut short is beyond the limit, since that walk accepts the frame.
+/// It is also `None` if a tag that was cut short is beyond the limit, since that walk accepts the frame.
 ///
 /// ```
 /// let frame = [
@@ -88,9 +91,9 @@ fn completed(start: Start, bytes: &[u8], limit: Option<usize>) -> Option<ArrayVe
 /// A unit whose first bytes a frame has.
 #[derive(Drop)]
 struct Plan {
-    /// The number of its bytes.
+    /// The length of the whole unit in bytes.
     total: usize,
-    /// Where its ether type is, if it has one.
+    /// The offset of its ether type in the unit, if it has one.
     ether_type_at: Option<usize>,
 }
 

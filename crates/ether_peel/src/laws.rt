@@ -1,5 +1,5 @@
-//! The laws of the definitions, and the main theorem. Each law is the contract of a function that does nothing: what its
-//! clause says holds for every list of bytes.
+//! The laws of the definitions, and the main theorem. Each law is the contract of a function that does nothing: what
+//! its clause says holds for every list of bytes.
 ghost use Rattle.ether_peel.specs.Grammar.Laws.{StacksAreOne};
 ghost use Rattle.ether_peel.specs.Grammar.Places.{StacksAreLocal};
 ghost use Rattle.ether_peel.specs.Grammar.Cleared.{HeadersGoBack};
@@ -12,29 +12,30 @@ ghost use Rattle.ether_peel.specs.Walker.MainTheorem.{MainTheorem};
 use crate::{Peel, Start, Summary, summary, write_back};
 use etherparse::err::SliceWriteSpaceError;
 
-/// In each window of each list of bytes there is a stack from each expectation, and no second one.
+/// Each window of each list of bytes has exactly one stack from each expectation.
 pub fn stacks_are_one()
     ensures { StacksAreOne }
 {}
 
-/// A stack depends on no bytes but its window's, and moves with the window.
+/// A stack depends only on the bytes of its window, and moves with the window.
 pub fn stacks_are_local()
     ensures { StacksAreLocal }
 {}
 
-/// The headers of a walk, written back before the rest, are the front of the list but for the reserved bits of SecTags.
+/// The headers of a walk, written back before the rest, give the front of the list, except that the two reserved bits
+/// of each SecTag are 0.
 pub fn headers_go_back()
     ensures { HeadersGoBack }
 {}
 
-/// The headers of a cut are a front of the headers of the whole list. A cut of an accepted list that has all its units is accepted
-/// alike; any other one ends in an open refusal at the first unit that it does not have whole.
+/// The headers of a cut are a front of the headers of the whole list. A cut of an accepted list that has all its units
+/// is accepted alike; any other one ends in an open refusal at the first unit that it does not have whole.
 pub fn cuts_keep()
     ensures { CutsKeep }
 {}
 
-/// Bytes after a list leave it accepted, leave a refusal for content or in a closed window as it is, and leave an open refusal until
-/// its named length is there.
+/// Appended bytes keep an accepted list accepted, keep a refusal for content or in a closed window, and keep an open
+/// refusal until its named length is there.
 pub fn extensions_keep()
     ensures { ExtensionsKeep }
 {}
@@ -44,7 +45,7 @@ pub fn units_mean_headers()
     ensures { UnitsMeanHeaders }
 {}
 
-/// What is found in a list of bytes.
+/// What the calls of the main theorem find in a list of bytes.
 #[derive(Drop)]
 pub struct Findings<'a> {
     /// A walk that has read nothing yet.
@@ -57,8 +58,8 @@ pub struct Findings<'a> {
 
 /// The main theorem: its contract has each clause, by name, for every list and starting point.
 ///
-/// The function makes the calls that it speaks of: [`Peel::new`], [`summary`], and [`write_back`] to `target`. A user of the
-/// program `ether_tool` reads most clauses in its lines:
+/// The function makes the calls that the theorem is about: [`Peel::new`], [`summary`], and [`write_back`] to `target`.
+/// A user of the program `ether_tool` reads most clauses in its lines:
 ///
 /// | Clause | Of a frame | Its line |
 /// |---|---|---|

@@ -55,7 +55,7 @@ pub struct Peel<'a> {
     rest: &'a [u8],
     /// Where it begins in the frame.
     start: usize,
-    /// Whether bytes after the window would not belong to it.
+    /// Whether bytes appended to the frame would lie outside the window.
     is_closed: bool,
     /// Whether the fault was returned.
     is_over: bool,
@@ -84,7 +84,7 @@ impl<'a> Model for Peel<'a> {
 impl<'a> Peel<'a> {
     ghost use Rattle.ether_peel.specs.Walker.Next.{begun, FacesWalk};
 
-    /// A walk that has read nothing yet.
+    /// Begins a walk through a frame, which has read nothing yet.
     #[inline(always)]
     pub fn new(start: Start, bytes: &'a [u8]) -> Peel<'a>
         ensures state { result ≡ begun (start_of start) bytes.now }
@@ -93,11 +93,11 @@ impl<'a> Peel<'a> {
         Peel::begin(start, bytes, None)
     }
 
-    /// A walk that has read nothing yet, and that reads no more than `limit` VLAN tags and MACsec SecTags.
+    /// Begins a walk that reads at most `limit` VLAN tags and MACsec SecTags.
     ///
     /// After these an ether type of a VLAN tag or of MACsec announces nothing: the walk ends there, with no fault, and
-    /// [`kind`](Self::kind) is that ether type. ARP packets and the header that the frame begins with don't count, but the
-    /// unit that [`Start::EtherType`] announces does.
+    /// [`kind`](Self::kind) is that ether type. ARP packets and the header that the frame begins with don't count, but
+    /// the unit that [`Start::EtherType`] announces does.
     ///
     /// ```
     /// let tags = [
@@ -119,7 +119,7 @@ impl<'a> Peel<'a> {
         Peel::begin(start, bytes, Some(limit))
     }
 
-    /// A walk that has read nothing yet, with a limit or without.
+    /// Begins a walk with a limit or without.
     #[inline(always)]
     pub(crate) fn begin(start: Start, bytes: &'a [u8], limit: Option<usize>) -> Peel<'a>
         ensures state { result ≡ begun (start_with start limit) bytes.now }
@@ -146,7 +146,7 @@ impl<'a> Peel<'a> {
         }
     }
 
-    /// The bytes of the window left to read: after a fault, of the window in which it came.
+    /// The bytes of the window left to read. After a fault this is the window of the refused unit.
     #[inline(always)]
     pub fn rest(&self) -> &'a [u8]
         ensures { result.now ≡ self.now.rest }
@@ -171,7 +171,7 @@ impl<'a> Peel<'a> {
         self.kind
     }
 
-    /// Whether the window left to read is closed: bytes that follow the frame would not belong to it.
+    /// Whether the window left to read is closed: bytes appended to the frame would lie outside it.
     #[inline(always)]
     pub fn closed(&self) -> bool
         ensures { result ≡ self.now.closed }
@@ -181,8 +181,8 @@ impl<'a> Peel<'a> {
 
     /// What bounds the window left to read: the frame, or the short length of a SecTag around the window.
     ///
-    /// A length error of the walk names it as the source of the length, unless the unit itself names its length. A frame check sequence
-    /// closes a window, but does not bound it.
+    /// A length error of the walk names it as the source of the length, unless the unit itself names its length. A
+    /// frame check sequence closes a window, but does not bound it.
     #[inline(always)]
     pub fn bound(&self) -> LenSource
         ensures { result ≡ self.now.bound }
@@ -230,7 +230,7 @@ impl<'a> Peel<'a> {
     ghost use Rattle.ether_peel.specs.Walker.Next.{Gives, IsNearer};
     ghost use Rattle.ether_peel.specs.Walker.Reading.{IsRefusedBy};
 
-    /// Goes on after the fault, in a longer front of the frame.
+    /// Goes on at the refused unit, with a longer front of the frame.
     #[inline(always)]
     pub(crate) fn go_on(&mut self, bytes: &'a [u8])
         requires { self.old.offset ≤ length bytes.now }
@@ -406,7 +406,7 @@ impl<'a> Peel<'a> {
     }
 }
 
-/// How many extensions may still be read after one more, if that is limited.
+/// The limit on extensions after one of them was read.
 #[inline(always)]
 fn lowered(limit: Option<usize>) -> Option<usize>
     ensures { result ≡ lowered_of true limit }

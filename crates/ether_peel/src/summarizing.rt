@@ -6,7 +6,7 @@ ghost use Rattle.ether_peel.specs.Walker.Limits.{IsFrontOfUnlimited};
 
 use crate::{Peel, PeelFault, Start, Summary};
 
-/// The result of the walk through a frame.
+/// Walks through a frame to its end, and returns the result.
 ///
 /// ```
 /// let frame = [
@@ -27,10 +27,11 @@ pub fn summary(start: Start, bytes: &[u8]) -> Summary
     summarized(start, bytes, None)
 }
 
-/// The result of the walk of [`Peel::with_limit`], which reads no more than `limit` VLAN tags and MACsec SecTags.
+/// Like [`summary`], but for the walk of [`Peel::with_limit`], which reads at most `limit` VLAN tags and MACsec
+/// SecTags.
 ///
-/// Its units are the first ones of the walk without a limit. Since each tag takes at least four bytes, a limit greater than
-/// `bytes.len() / 4` changes nothing.
+/// Its units are the first ones of the walk without a limit. Since each tag takes at least four bytes, a limit greater
+/// than `bytes.len() / 4` changes nothing.
 ///
 /// ```
 /// let frame = [
@@ -68,13 +69,13 @@ pub(crate) fn summarized(start: Start, bytes: &[u8], limit: Option<usize>) -> Su
     }
 }
 
-/// The result of the walk through the first `n` bytes of a frame, as if it was captured with that snap length.
+/// Like [`summary`], but for the first `n` bytes of a frame, as if it was captured with that snap length.
 ///
-/// `n` is at most the length of the frame: the caller shows that.
+/// `n` must be at most the length of the frame.
 ///
-/// Unless the frame ends in a frame check sequence, the units are the first ones of the whole frame. If the whole frame
-/// is accepted, the cut has exactly the units that fit into it, and if one is cut off the fault says how many bytes that
-/// one needs at least.
+/// Unless the frame ends in a frame check sequence, the units are the first ones of the whole frame. If the whole
+/// frame is accepted, the cut has exactly the units that fit into it, and if a unit is cut off, the fault says how
+/// many bytes it needs at least.
 ///
 /// ```
 /// let frame = [
@@ -93,9 +94,9 @@ pub fn snap(start: Start, bytes: &[u8], n: usize) -> Summary
     snapped(start, bytes, n, None)
 }
 
-/// Does as [`snap`] with the walk of [`Peel::with_limit`], which reads no more than `limit` VLAN tags and MACsec SecTags.
+/// Like [`snap`], but for the walk of [`Peel::with_limit`], which reads at most `limit` VLAN tags and MACsec SecTags.
 ///
-/// `n` is at most the length of the frame: the caller shows that.
+/// `n` must be at most the length of the frame.
 ///
 /// ```
 /// let frame = [

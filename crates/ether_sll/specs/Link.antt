@@ -1,4 +1,4 @@
--- The packets of links by cases: their headers, their payloads, and what names these.
+-- The packets of links by cases: their headers, their payloads, and what names the lengths of the payloads.
 use Rattle.std.specs.Prelude.{◌≡◌, ℕ, List, length, slice_range, Option, Some, None}
 use Rattle.std.specs.Borrow.{LendsIf, MutBor, Fml}
 use Rattle.ether_base.specs.declared.len_source.LenSource.{LenSource}
@@ -33,14 +33,14 @@ abbrev pub link_header_len : LinkHeader → ℕ
 link_header_len (link_headers.LinuxSll h) = 16
 link_header_len (link_headers.Ethernet2 h) = 14
 
--- what is written through the header is in the link's header; if there is none of the kind, that is unchanged
+-- what is written through the lent header is in the link's header; a link of the other kind is unchanged
 abbrev pub LendsEthernet2 : MutBor LinkHeader → Option (MutBor Ethernet2Header) → Fml
 LendsEthernet2 s r = LendsIf link_row ethernet2_row s r link_headers.Ethernet2 s.now
 
 abbrev pub LendsLinuxSll : MutBor LinkHeader → Option (MutBor LinuxSllHeader) → Fml
 LendsLinuxSll s r = LendsIf link_row linux_sll_row s r link_headers.LinuxSll s.now
 
--- the header as a value, of cooked capture with the protocol type that its hardware type makes of the number
+-- the header as a value; that of cooked capture also has its protocol type
 pub data LinkValue : Type 0 where
   Ethernet2 : Ethernet2Value → LinkValue
   LinuxSll : LinuxSllValue → LinuxSllProtocolType → LinkValue

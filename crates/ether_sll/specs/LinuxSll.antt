@@ -48,15 +48,15 @@ IsRefusedSll bytes (Content error) = IsRefusedContent bytes error
 abbrev pub HoldsLinuxSll : List ℕ → Type 0
 HoldsLinuxSll bytes = (16 ≤ length bytes) × ((linux_sll_of bytes).packet_type ≤ 7) × (is_supported (linux_sll_of bytes).hardware_type ≡ true)
 
--- the protocol number by what the hardware type makes of it
+-- the protocol number, read according to the hardware type
 abbrev pub protocol_type_of_header : List ℕ → LinuxSllProtocolType
 protocol_type_of_header bytes = protocol_of (linux_sll_of bytes).hardware_type (linux_sll_of bytes).protocol
 
--- of the eight bytes of the address those that the header counts as valid, and no more than there are
+-- the bytes of the address field that the header counts as valid, at most eight
 abbrev pub valid_address : List ℕ → List ℕ
 valid_address bytes = slice_range bytes 6 (6 + min (linux_sll_of bytes).address_len 8)
 
--- the protocol type is the one that the hardware type makes of its number
+-- the hardware type is supported, and its protocol number means this protocol type
 abbrev pub HasOwnType : LinuxSllHeader → Type 0
 HasOwnType h = protocol_type_of h.arp_hrd_type (protocol_number h.protocol_type) ≡ Ok h.protocol_type
 

@@ -1,4 +1,5 @@
-//! Linux cooked capture v1 (LINKTYPE_LINUX_SLL), and link headers and packets of either kind: Ethernet II or cooked capture.
+//! Linux cooked capture v1 (LINKTYPE_LINUX_SLL), and link headers and packets of either kind: Ethernet II or cooked
+//! capture.
 #![tactic(auto)]
 
 mod link_header;

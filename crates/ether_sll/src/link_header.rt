@@ -26,7 +26,7 @@ pub enum LinkHeader {
 }
 
 impl LinkHeader {
-    /// The Ethernet II header; `None` of cooked capture.
+    /// The Ethernet II header; `None` if the header is of cooked capture.
     pub fn ethernet2(self) -> Option<Ethernet2Header>
         ensures { result ≡ ethernet2_header self }
     {
@@ -36,7 +36,7 @@ impl LinkHeader {
         }
     }
 
-    /// The Ethernet II header, lent for writing; `None` of cooked capture.
+    /// The Ethernet II header, lent for writing; `None` if the header is of cooked capture.
     pub fn mut_ethernet2(&mut self) -> Option<&mut Ethernet2Header>
         ensures* writes_back { sem 𝓛 (LendsEthernet2 self.entry result) }
         ensures value { option_copied_mut result ≡ ethernet2_header self.old }
@@ -48,7 +48,7 @@ impl LinkHeader {
         }
     }
 
-    /// The header of cooked capture; `None` of an Ethernet II header.
+    /// The header of cooked capture; `None` if the header is of Ethernet II.
     pub fn linux_sll(self) -> Option<LinuxSllHeader>
         ensures { result ≡ linux_sll_header self }
     {
@@ -58,7 +58,7 @@ impl LinkHeader {
         }
     }
 
-    /// The header of cooked capture, lent for writing; `None` of an Ethernet II header.
+    /// The header of cooked capture, lent for writing; `None` if the header is of Ethernet II.
     pub fn mut_linux_sll(&mut self) -> Option<&mut LinuxSllHeader>
         ensures* writes_back { sem 𝓛 (LendsLinuxSll self.entry result) }
         ensures value { option_copied_mut result ≡ linux_sll_header self.old }
@@ -70,7 +70,7 @@ impl LinkHeader {
         }
     }
 
-    /// The length of the header in bytes: 14 of Ethernet II, 16 of cooked capture.
+    /// The length of the header in bytes: 14 for Ethernet II, 16 for cooked capture.
     pub fn header_len(&self) -> usize
         ensures { result ≡ link_header_len self.now }
     {

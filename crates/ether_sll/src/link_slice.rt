@@ -31,7 +31,7 @@ pub enum LinkSlice<'a> {
 }
 
 impl<'a> LinkSlice<'a> {
-    /// The header as a value; `None` of a payload without header.
+    /// The header as a value; `None` if this is a payload without header.
     pub fn to_header(&self) -> Option<LinkHeader>
         ensures { header_value result ≡ link_value self.now }
     {
@@ -42,7 +42,8 @@ impl<'a> LinkSlice<'a> {
         }
     }
 
-    /// The payload and its ether type; `None` if its protocol type of cooked capture has none, as of netlink or GRE.
+    /// The payload and its ether type. `None` if its protocol type of cooked capture is not an `EtherType` or
+    /// `LinuxNonstandardEtherType`, but a netlink, GRE or ignored protocol.
     pub fn ether_payload(&self) -> Option<EtherPayloadSlice<'a>>
         ensures { MatchOption result (told_ether_type (link_protocol self.now) ≡ None)
             (λ p. (told_ether_type (link_protocol self.now) ≡ Some p.ether_type.0)
@@ -57,8 +58,8 @@ impl<'a> LinkSlice<'a> {
         }
     }
 
-    /// The payload and its protocol type of cooked capture, which is the ether type of an Ethernet II frame or of an
-    /// [`EtherPayloadSlice`].
+    /// The payload and its protocol type of cooked capture. For an Ethernet II frame or an [`EtherPayloadSlice`] that
+    /// is `LinuxSllProtocolType::EtherType` with its ether type.
     pub fn sll_payload(&self) -> LinuxSllPayloadSlice<'a>
         ensures protocol { result.protocol_type ≡ link_protocol self.now }
         ensures bytes { result.payload.now ≡ link_payload self.now }

@@ -1,6 +1,7 @@
-//! The fields of a header of Linux cooked capture v1 (LINKTYPE_LINUX_SLL) in bytes that begin with one: packet type, ARPHRD_
-//! type, length of the sender's address (2 bytes each), sender's address (8 bytes) and protocol (2 bytes), in this order.
-//! The public functions also read a header that the views refuse; where bytes are missing, they read those that are there.
+//! The fields of a header of Linux cooked capture v1 (LINKTYPE_LINUX_SLL) in bytes that begin with one: packet type,
+//! ARPHRD_ type, length of the sender's address (2 bytes each), sender's address (8 bytes) and protocol (2 bytes), in
+//! this order. The public functions also read a header that the views refuse. If bytes of a field are missing, they
+//! read the others.
 ghost use Rattle.std.specs.Prelude.{◌≡◌, ◌+◌, ◌≤◌, length, slice_range, IfOk, IfErr, ◌<◌};
 ghost use Rattle.ether_base.specs.Bytes.{IsBytes, number, spelled};
 ghost use Rattle.ether_base.specs.Formats.LinuxSll.{linux_sll_of};
@@ -29,7 +30,8 @@ const ADDRESS: usize = 6;
 /// Where the protocol begins.
 const PROTOCOL: usize = 14;
 
-/// Tests that a slice begins with a header whose contents are supported.
+/// Tests that a slice begins with a header whose packet type and hardware type are supported. Errors are those of
+/// `LinuxSllHeader::from_slice`.
 pub(crate) fn require_header(slice: &[u8]) -> Result<(), HeaderSliceError>
     ensures holds { IfOk result (λ _. HoldsLinuxSll slice.now) }
     ensures refused { IfErr result (IsRefusedSll slice.now) }
@@ -49,7 +51,7 @@ pub(crate) fn require_header(slice: &[u8]) -> Result<(), HeaderSliceError>
     }
 }
 
-/// Tests that the packet type, and then the hardware type, are supported.
+/// Tests that the packet type is supported, and then that the hardware type is. The error names the number.
 pub(crate) fn require_content(bytes: &[u8]) -> Result<(), HeaderError>
     requires { 16 ≤ length bytes.now }
     ensures holds { IfOk result (λ _. HoldsLinuxSll bytes.now) }
@@ -80,7 +82,7 @@ pub fn arp_hardware_type(bytes: &[u8]) -> ArpHardwareId
     ArpHardwareId(u16_at(bytes, HARDWARE_TYPE))
 }
 
-/// The length of the sender's address in bytes, which may be more than there is room for.
+/// The length of the sender's address in bytes. May exceed 8, though the field holds only 8 bytes.
 pub fn sender_address_valid_length(bytes: &[u8]) -> u16
     ensures { result ≡ (linux_sll_of bytes.now).address_len }
 {
@@ -94,7 +96,7 @@ pub fn sender_address_full(bytes: &[u8]) -> [u8; 8]
     bytes_of_u64(u64_at(bytes, ADDRESS))
 }
 
-/// As many bytes of the sender's address as its length says, at most 8.
+/// The sender's address, or its first 8 bytes if it is longer.
 pub(crate) fn sender_address(bytes: &[u8]) -> &[u8]
     requires { 16 ≤ length bytes.now }
     ensures { result.now ≡ valid_address bytes.now }
@@ -116,7 +118,7 @@ pub(crate) fn protocol_type(bytes: &[u8]) -> LinuxSllProtocolType
     }
 }
 
-/// All fields.
+/// The header with all its fields.
 pub(crate) fn header(bytes: &[u8]) -> LinuxSllHeader
     requires { HoldsLinuxSll bytes.now }
     ensures view { linux_sll_view result ≡ linux_sll_of bytes.now }

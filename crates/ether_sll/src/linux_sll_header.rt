@@ -48,12 +48,12 @@ pub struct LinuxSllHeader {
     pub packet_type: LinuxSllPacketType,
     /// The hardware type (ARPHRD_) of the device that the packet was seen on.
     pub arp_hrd_type: ArpHardwareId,
-    /// The length of the sender's address in bytes. It may exceed the 8 bytes that have room.
+    /// The length of the sender's address in bytes. May exceed 8, though the field holds only 8 bytes.
     pub sender_address_valid_length: u16,
-    /// The address field: the sender's address, cut off after 8 bytes or filled up with bytes of no meaning.
+    /// The sender's address, truncated to 8 bytes or padded.
     pub sender_address: [u8; 8],
-    /// The protocol of what follows the header. When a header is read, the hardware type decides which variant the number
-    /// has.
+    /// The protocol of what follows the header. When a header is read, the hardware type decides which variant the
+    /// number has.
     pub protocol_type: LinuxSllProtocolType,
 }
 
@@ -61,7 +61,7 @@ impl LinuxSllHeader {
     /// The length of the header in bytes.
     pub const LEN: usize = 16;
 
-    /// The header at the front of a slice, and the rest of the slice.
+    /// Reads the header at the front of a slice, and returns it with the rest of the slice.
     ///
     /// # Errors
     ///
@@ -69,10 +69,10 @@ impl LinuxSllHeader {
     ///
     /// - `HeaderSliceError::Len`: the slice has fewer than 16 bytes. `required_len` is 16, `len` the slice's length,
     ///   `len_source` is `LenSource::Slice`, `layer` is `Layer::LinuxSllHeader` and `layer_start_offset` is 0.
-    /// - `HeaderSliceError::Content` with `HeaderError::UnsupportedPacketTypeField`: the packet type, which the error names,
-    ///   is above 7.
-    /// - `HeaderSliceError::Content` with `HeaderError::UnsupportedArpHardwareId`: the meaning of protocol numbers is not
-    ///   known for the hardware type, which the error names.
+    /// - `HeaderSliceError::Content` with `HeaderError::UnsupportedPacketTypeField`: the packet type, which the error
+    ///   names, is above 7.
+    /// - `HeaderSliceError::Content` with `HeaderError::UnsupportedArpHardwareId`: the hardware type, which the error
+    ///   names, is not one of `LinuxSllProtocolType::SUPPORTED_ARPHWD`.
     pub fn from_slice(slice: &[u8]) -> Result<(LinuxSllHeader, &[u8]), HeaderSliceError>
         ensures accepted { IfOk result (λ answer. Accepts sources.Slice slice.now kinds.LinuxSll) }
         ensures value { IfOk result
@@ -88,13 +88,13 @@ impl LinuxSllHeader {
         Ok((header, &slice[LinuxSllHeader::LEN..]))
     }
 
-    /// The header in 16 bytes.
+    /// Reads the header from its 16 bytes.
     ///
     /// # Errors
     ///
     /// [`HeaderError::UnsupportedPacketTypeField`] if the packet type is above 7, else
-    /// [`HeaderError::UnsupportedArpHardwareId`] if the meaning of protocol numbers is not known for the hardware type.
-    /// Each error names the number.
+    /// [`HeaderError::UnsupportedArpHardwareId`] if the hardware type is not one of
+    /// `LinuxSllProtocolType::SUPPORTED_ARPHWD`. Each error names the number.
     pub fn from_bytes(bytes: [u8; 16]) -> Result<LinuxSllHeader, HeaderError>
         ensures answers { AnswersHeader bytes result }
         ensures inverse { IfOk result (λ h. linux_sll_bytes (linux_sll_view h) ≡ bytes) }
@@ -112,8 +112,8 @@ impl LinuxSllHeader {
 
     /// The bytes of the header on the wire.
     ///
-    /// They hold the number of the protocol type and not its variant. When they are read back, the hardware type decides
-    /// the variant.
+    /// They hold the number of the protocol type but not its variant. When they are read back, the hardware type
+    /// decides the variant, and a hardware type that is not supported is refused.
     pub fn to_bytes(&self) -> [u8; 16]
         ensures value { result ≡ linux_sll_bytes (linux_sll_view self.now) }
         ensures len { length result ≡ 16 }
@@ -135,7 +135,7 @@ impl LinuxSllHeader {
     ///
     /// # Errors
     ///
-    /// The slice has fewer than 16 bytes, and stays as it was: `required_len` is 16, `len` the slice's length, `layer` is
+    /// The slice has fewer than 16 bytes, and is unchanged: `required_len` is 16, `len` the slice's length, `layer` is
     /// [`Layer::LinuxSllHeader`] and `layer_start_offset` is 0.
     pub fn write_to_slice<'a>(
         &self,
@@ -149,7 +149,7 @@ impl LinuxSllHeader {
         write_front::rest_from(whole, LinuxSllHeader::LEN, Layer::LinuxSllHeader)
     }
 
-    /// Writes the header to the front of a slice that has room for it, and hands the whole slice back.
+    /// Writes the header to the front of a slice, and returns the whole slice. A slice that is too short is unchanged.
     fn put<'a>(&self, slice: &'a mut [u8]) -> &'a mut [u8]
         ensures same_reference { result.ghost_name ≡ slice.entry.ghost_name }
         ensures wrote { 16 ≤ length slice.old
@@ -161,7 +161,7 @@ impl LinuxSllHeader {
     }
 }
 
-/// Three numbers, an address and a number, one after the other.
+/// The 16 bytes of a header with these numbers and this address of 8 bytes.
 fn joined(
     packet_type: u16,
     hardware: u16,

@@ -45,7 +45,7 @@ pub record BeginsLinuxSll2 (bytes : List ℕ) (s : LinuxSll2Value) : Type 0 wher
 abbrev pub linux_sll2_bytes : LinuxSll2Value → List ℕ
 linux_sll2_bytes s = spelled 20 (linux_sll2_number 0 s)
 
--- bytes with zeros in the place of the reserved ones
+-- bytes in which the two reserved ones are 0
 abbrev pub cleared : List ℕ → List ℕ
 cleared bytes = overwritten bytes 2 (0 ∷ 0 ∷ [])
 
@@ -79,8 +79,8 @@ AcceptsLinuxSll2 bytes = (r : LinuxSll2Refusal) → RefusesLinuxSll2 bytes r →
 
 -- ---- protocols
 
--- What a protocol number means, by the hardware type of the link: 824 netlink, 778 GRE over IP; 803 radiotap and 770 frame relay have
--- no meaning for it; on any other link it is an ether type, or one of the numbers that Linux has below these.
+-- What a protocol number means, by the hardware type of the link: 824 netlink and 778 GRE over IP give it a meaning of their own,
+-- 803 radiotap and 770 frame relay give it none; on any other link it is an ether type, or a number that Linux has below these.
 abbrev pub protocol_on : (hardware number : ℕ) → LinuxSllProtocolType
 protocol_on hardware number =
     if hardware == 824 then NetlinkProtocolType number

@@ -35,7 +35,7 @@ refusal_view (errors.PacketType n) = PacketType n
 abbrev pub IsRefusedSll2 : List ℕ → LinuxSll2Error → Type 0
 IsRefusedSll2 bytes error = RefusesLinuxSll2 bytes (refusal_view error)
 
--- a refused length has its numbers; of another error nothing is said
+-- the numbers of a length error; nothing is claimed of the other error
 abbrev pub IsShort : List ℕ → LinuxSll2Error → Type 0
 IsShort bytes (errors.Len required len) = (required ≡ 20) × (len ≡ length bytes) × (length bytes < 20)
 IsShort bytes (errors.PacketType n) = Unit {0}
@@ -46,15 +46,15 @@ IsShort bytes (errors.PacketType n) = Unit {0}
 abbrev pub HoldsLinuxSll2 : List ℕ → Type 0
 HoldsLinuxSll2 bytes = (20 ≤ length bytes) × ((linux_sll2_of bytes).packet_type ≤ 7)
 
--- the bytes of the address that the header counts, at most eight
+-- the bytes of the address field that the header counts as valid, at most eight
 abbrev pub valid_address : List ℕ → List ℕ
 valid_address bytes = slice_range bytes 12 (12 + min (linux_sll2_of bytes).address_len 8)
 
--- what the payload is walked as: what its ether type announces, if its protocol type has one
+-- what a walk of the payload starts with: its ether type, if its protocol type has one
 abbrev pub start_in : List ℕ → Option Start
 start_in bytes = option_map (λ n. starts.EtherType (record { 0 = n })) (told_ether_type (protocol_of_header bytes))
 
--- the protocol type is the one that the hardware type makes of its number
+-- the hardware type gives the protocol number this protocol type
 abbrev pub HasOwnType : LinuxSll2Header → Type 0
 HasOwnType h = protocol_on h.arp_hrd_type.0 (protocol_number h.protocol_type) ≡ h.protocol_type
 

@@ -1,6 +1,6 @@
-//! Linux cooked capture v2 (LINKTYPE_LINUX_SLL2, link type 276), which `tcpdump -i any` writes: its header as a value, and
-//! views that borrow the bytes of a packet. [`LinuxSll2Slice::start`] says how `ether_peel` walks the payload. No call
-//! allocates memory.
+//! Linux cooked capture v2 (LINKTYPE_LINUX_SLL2, link type 276), which `tcpdump -i any` writes: its header as a value,
+//! and views that borrow the bytes of a packet. [`LinuxSll2Slice::start`] says how `ether_peel` walks the payload. No
+//! call allocates memory.
 #![tactic(auto)]
 
 pub mod laws;

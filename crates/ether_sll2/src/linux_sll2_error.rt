@@ -23,11 +23,11 @@ pub enum LinuxSll2Error {
     Len {
         /// The length of the header in bytes, 20.
         required_len: usize,
-        /// The length of the slice.
+        /// The length of the slice in bytes.
         len: usize,
     },
-    /// The header has this packet type, which is above
-    /// [`LinuxSllPacketType::MAX_VAL`](ether_base::LinuxSllPacketType::MAX_VAL), 7.
+    /// The packet type of the header, which is above 7,
+    /// [`LinuxSllPacketType::MAX_VAL`](ether_base::LinuxSllPacketType::MAX_VAL).
     PacketType(u8),
 }
 

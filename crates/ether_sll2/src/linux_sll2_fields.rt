@@ -1,6 +1,6 @@
-//! The fields of a header of Linux cooked capture v2 (LINKTYPE_LINUX_SLL2) in bytes that begin with one: protocol (2 bytes),
-//! reserved (2 bytes), interface index (4 bytes), ARPHRD_ type (2 bytes), packet type and length of the sender's address
-//! (1 byte each), and the sender's address (8 bytes), in this order.
+//! The fields of a header of Linux cooked capture v2 (LINKTYPE_LINUX_SLL2) in bytes that begin with one: protocol (2
+//! bytes), reserved (2 bytes), interface index (4 bytes), ARPHRD_ type (2 bytes), packet type and length of the
+//! sender's address (1 byte each), and the sender's address (8 bytes), in this order.
 ghost use Rattle.std.specs.Prelude.{◌≡◌, ◌+◌, ◌≤◌, ◌<◌, length, slice_range, IfOk, IfErr};
 ghost use Rattle.ether_base.specs.Bytes.{IsBytes, number, spelled};
 ghost use Rattle.ether_base.specs.Formats.LinuxSllProtocolType.{ethernet_protocol_type};
@@ -31,7 +31,8 @@ const ADDRESS_LENGTH: usize = 11;
 /// Where the sender's address begins.
 const ADDRESS: usize = 12;
 
-/// Tests that a slice begins with a header whose packet type is supported.
+/// Tests that a slice begins with a header whose packet type is supported. Errors are those of
+/// `LinuxSll2Header::from_slice`.
 pub fn require_header(slice: &[u8]) -> Result<(), LinuxSll2Error>
     ensures holds { IfOk result (λ _. HoldsLinuxSll2 slice.now) }
     ensures refused { IfErr result (IsRefusedSll2 slice.now) }
@@ -46,7 +47,7 @@ pub fn require_header(slice: &[u8]) -> Result<(), LinuxSll2Error>
     require_packet_type(slice)
 }
 
-/// Tests that the packet type is supported.
+/// Tests that the packet type is at most 7. The error has the packet type.
 pub fn require_packet_type(bytes: &[u8]) -> Result<(), LinuxSll2Error>
     requires { 20 ≤ length bytes.now }
     ensures holds { IfOk result (λ _. HoldsLinuxSll2 bytes.now) }
@@ -69,7 +70,7 @@ pub fn protocol_type(bytes: &[u8]) -> LinuxSllProtocolType
     protocol_type_on(arp_hardware_type(bytes), protocol_number(bytes))
 }
 
-/// The index of the interface.
+/// The index of the interface on the capturing machine.
 pub fn interface_index(bytes: &[u8]) -> u32
     requires { 20 ≤ length bytes.now }
     ensures { result ≡ (linux_sll2_of bytes.now).interface_index }
@@ -77,7 +78,7 @@ pub fn interface_index(bytes: &[u8]) -> u32
     u32_at(bytes, INTERFACE_INDEX)
 }
 
-/// The ARPHRD_ type of the device.
+/// The ARPHRD_ type of the interface.
 pub fn arp_hardware_type(bytes: &[u8]) -> ArpHardwareId
     requires { 20 ≤ length bytes.now }
     ensures { result.0 ≡ (linux_sll2_of bytes.now).hardware_type }
@@ -114,7 +115,7 @@ pub fn packet_type(bytes: &[u8]) -> LinuxSllPacketType
     }
 }
 
-/// The length of the sender's address in bytes, which may be more than there is room for.
+/// The length of the sender's address in bytes. May exceed 8, though the field holds only 8 bytes.
 pub fn sender_address_valid_length(bytes: &[u8]) -> u8
     requires { 20 ≤ length bytes.now }
     ensures { result ≡ (linux_sll2_of bytes.now).address_len }
@@ -122,14 +123,14 @@ pub fn sender_address_valid_length(bytes: &[u8]) -> u8
     byte_at(bytes, ADDRESS_LENGTH)
 }
 
-/// The 8 bytes of the sender's address, used or not.
+/// All 8 bytes of the address field: the sender's address, truncated or padded.
 pub fn sender_address_full(bytes: &[u8]) -> [u8; 8]
     ensures { result ≡ spelled 8 (linux_sll2_of bytes.now).address }
 {
     bytes_of_u64(u64_at(bytes, ADDRESS))
 }
 
-/// As many bytes of the sender's address as its length says, at most 8.
+/// The sender's address, or its first 8 bytes if it is longer.
 pub fn sender_address(bytes: &[u8]) -> &[u8]
     requires { 20 ≤ length bytes.now }
     ensures { result.now ≡ valid_address bytes.now }
@@ -139,7 +140,7 @@ pub fn sender_address(bytes: &[u8]) -> &[u8]
     &bytes[ADDRESS..ADDRESS + len]
 }
 
-/// All fields.
+/// The header with all its fields.
 pub fn header(bytes: &[u8]) -> LinuxSll2Header
     requires { HoldsLinuxSll2 bytes.now }
     ensures view { linux_sll2_view result ≡ linux_sll2_of bytes.now }
@@ -157,7 +158,8 @@ pub fn header(bytes: &[u8]) -> LinuxSll2Header
     }
 }
 
-/// What a protocol number means on a link of a hardware type.
+/// What a protocol number means on a link of this hardware type. Types other than netlink, GRE over IP, radiotap and
+/// frame relay are treated like Ethernet.
 fn protocol_type_on(hardware: ArpHardwareId, number: u16) -> LinuxSllProtocolType
     ensures { result ≡ protocol_on hardware.0 number }
 {
@@ -172,7 +174,7 @@ fn protocol_type_on(hardware: ArpHardwareId, number: u16) -> LinuxSllProtocolTyp
     }
 }
 
-/// What a protocol number means on Ethernet.
+/// What a protocol number means on Ethernet: one that Linux numbers below the ether types, or an ether type.
 fn on_ethernet(number: u16) -> LinuxSllProtocolType
     ensures { result ≡ ethernet_protocol_type number }
 {

@@ -39,8 +39,8 @@ use ether_base::{ArpHardwareId, LinuxSllPacketType, LinuxSllProtocolType};
 /// ```
 #[derive(Clone, Copy, PartialEq, Eq, Debug)]
 pub struct LinuxSll2Header {
-    /// The protocol of what follows the header. When a header is read, the hardware type decides which variant the number
-    /// has.
+    /// The protocol of what follows the header. When a header is read, the hardware type decides which variant the
+    /// number has.
     pub protocol_type: LinuxSllProtocolType,
     /// The index of the interface that the packet was seen on, as the capturing machine numbers its interfaces.
     pub interface_index: u32,
@@ -58,7 +58,7 @@ impl LinuxSll2Header {
     /// The length of the header in bytes.
     pub const LEN: usize = 20;
 
-    /// The header at the front of a slice, and the rest of the slice.
+    /// Reads the header at the front of a slice, and returns it with the rest of the slice.
     ///
     /// # Errors
     ///
@@ -82,7 +82,7 @@ impl LinuxSll2Header {
         Ok((header, &slice[LinuxSll2Header::LEN..]))
     }
 
-    /// The header in 20 bytes.
+    /// Reads the header from its 20 bytes.
     ///
     /// # Errors
     ///
@@ -102,10 +102,10 @@ impl LinuxSll2Header {
         LinuxSll2Header::LEN
     }
 
-    /// The bytes of the header on the wire, with the reserved ones 0.
+    /// The bytes of the header on the wire. The reserved ones are 0.
     ///
-    /// They hold the number of the protocol type and not its variant. When they are read back, the hardware type decides
-    /// the variant.
+    /// They hold the number of the protocol type but not its variant. When they are read back, the hardware type
+    /// decides the variant.
     pub fn to_bytes(&self) -> [u8; 20]
         ensures value { result ≡ linux_sll2_bytes (linux_sll2_view self.now) }
         ensures len { length result ≡ 20 }
@@ -125,7 +125,7 @@ impl LinuxSll2Header {
     }
 }
 
-/// Five numbers, with two zeros after the first, and an address, one after the other.
+/// The 20 bytes of a header with these numbers and this address of 8 bytes. The reserved ones are 0.
 fn joined(
     protocol: u16,
     interface_index: u32,

@@ -13,9 +13,9 @@ use std::alloc::AllocError;
 use std::marker::Model;
 
 /// A view of a header of Linux cooked capture v2 (LINKTYPE_LINUX_SLL2), which borrows its 20 bytes from a packet
-/// ([`LinuxSll2Header`] has a picture of them). The packet type is supported.
+/// ([`LinuxSll2Header`] has a picture of them). The packet type of a view is always a supported one.
 ///
-/// Two views are equal if their bytes are, the reserved ones included, wherever these are.
+/// Two views are equal if their bytes are equal, including the reserved ones, wherever they are in memory.
 ///
 /// ```
 /// let bytes = [
@@ -47,7 +47,7 @@ impl<'a> Model for LinuxSll2HeaderSlice<'a> {
 }
 
 impl<'a> LinuxSll2HeaderSlice<'a> {
-    /// The header at the front of a slice. The bytes after it are not part of the view.
+    /// Borrows the header at the front of a slice. The bytes after it are not part of the view.
     ///
     /// # Errors
     ///
@@ -85,7 +85,7 @@ impl<'a> LinuxSll2HeaderSlice<'a> {
         linux_sll2_fields::protocol_type(self.slice)
     }
 
-    /// The protocol as a number.
+    /// The protocol number, without the variant that the hardware type gives it.
     pub fn protocol_number(&self) -> u16
         ensures { result ≡ (linux_sll2_of self.now).protocol }
     {
@@ -120,15 +120,14 @@ impl<'a> LinuxSll2HeaderSlice<'a> {
         linux_sll2_fields::packet_type_number(self.slice)
     }
 
-    /// The length of the sender's address in bytes, as the header gives it. May exceed 8, though the field holds only 8
-    /// bytes.
+    /// The length of the sender's address in bytes. May exceed 8, though the field holds only 8 bytes.
     pub fn sender_address_valid_length(&self) -> u8
         ensures { result ≡ (linux_sll2_of self.now).address_len }
     {
         linux_sll2_fields::sender_address_valid_length(self.slice)
     }
 
-    /// All 8 bytes of the address field, those after the sender's address included.
+    /// All 8 bytes of the address field: the sender's address, truncated or padded.
     pub fn sender_address_full(&self) -> [u8; 8]
         ensures { result ≡ spelled 8 (linux_sll2_of self.now).address }
     {

@@ -15,10 +15,10 @@ use std::alloc::AllocError;
 use std::fmt;
 use std::marker::Model;
 
-/// A view of a packet of Linux cooked capture v2 (LINKTYPE_LINUX_SLL2): a header ([`LinuxSll2Header`] has a picture of it)
-/// and its payload, which `ether_peel` walks. The packet type is supported.
+/// A view of a packet of Linux cooked capture v2 (LINKTYPE_LINUX_SLL2): a header ([`LinuxSll2Header`] has a picture of
+/// it) and its payload, which `ether_peel` walks. The packet type of a view is always a supported one.
 ///
-/// Two views are equal if their bytes are, the reserved ones included, wherever these are.
+/// Two views are equal if their bytes are equal, including the reserved ones, wherever they are in memory.
 ///
 /// ```
 /// let bytes = [
@@ -52,7 +52,7 @@ impl<'a> Model for LinuxSll2Slice<'a> {
 }
 
 impl<'a> LinuxSll2Slice<'a> {
-    /// The packet that a slice holds. The payload reaches to the end of the slice.
+    /// Borrows the packet in a slice. The payload reaches to the end of the slice.
     ///
     /// # Errors
     ///
@@ -88,7 +88,7 @@ impl<'a> LinuxSll2Slice<'a> {
         linux_sll2_fields::protocol_type(self.slice)
     }
 
-    /// The protocol as a number.
+    /// The protocol number, without the variant that the hardware type gives it.
     pub fn protocol_number(&self) -> u16
         ensures { result ≡ (linux_sll2_of self.now).protocol }
     {
@@ -124,15 +124,14 @@ impl<'a> LinuxSll2Slice<'a> {
         linux_sll2_fields::packet_type_number(self.slice)
     }
 
-    /// The length of the sender's address in bytes, as the header gives it. May exceed 8, though the field holds only 8
-    /// bytes.
+    /// The length of the sender's address in bytes. May exceed 8, though the field holds only 8 bytes.
     pub fn sender_address_valid_length(&self) -> u8
         ensures { result ≡ (linux_sll2_of self.now).address_len }
     {
         linux_sll2_fields::sender_address_valid_length(self.slice)
     }
 
-    /// All 8 bytes of the address field, those after the sender's address included.
+    /// All 8 bytes of the address field: the sender's address, truncated or padded.
     pub fn sender_address_full(&self) -> [u8; 8]
         ensures { result ≡ spelled 8 (linux_sll2_of self.now).address }
     {
@@ -188,11 +187,11 @@ impl<'a> LinuxSll2Slice<'a> {
         &slice[LinuxSll2Header::LEN..]
     }
 
-    /// What a walk of [`payload_slice`](Self::payload_slice) starts with, for `Peel::new` and its kin; `None` if the protocol
-    /// type has no ether type, as of netlink or GRE.
+    /// What a walk through [`payload_slice`](Self::payload_slice) starts with, to be passed to `Peel::new` and the
+    /// other calls that take a [`Start`]. `None` if the protocol is a netlink, GRE or ignored one.
     ///
-    /// A number that Linux has below the ether types is taken for one, as after cooked capture v1, and announces nothing.
-    /// Offsets of the walk count from the start of the payload.
+    /// A number that Linux has below the ether types is used as an ether type, as after cooked capture v1, and
+    /// announces nothing. Offsets of the walk count from the start of the payload.
     pub fn start(&self) -> Option<Start>
         ensures { result ≡ start_in self.now }
     {

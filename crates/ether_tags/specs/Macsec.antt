@@ -45,7 +45,7 @@ sec_tag_view h = record {
   sci = h.sci;
 }
 
--- the front of its bytes, version and reserved bit 0
+-- the front of its bytes, with version and reserved bits 0
 abbrev pub header_front : MacsecHeader → SecTagFront
 header_front h = sec_tag_front_of 0 0 (sec_tag_view h)
 
@@ -53,7 +53,7 @@ header_front h = sec_tag_front_of 0 0 (sec_tag_view h)
 abbrev pub number_of : Option EtherType → Option ℕ
 number_of = option_map (λ ether_type. ether_type.0)
 
--- the short length that names a payload of n bytes: with the ether type's two if that can be read, and 0 above 63
+-- the short length for a payload of n bytes: n, and 2 for an ether type that can be read; 0 if the sum is above 63
 abbrev pub short_len_for : PayloadType → ℕ → ℕ
 short_len_for (payloads.Unmodified ether_type) n = if nat_lt n 62 then n + 2 else 0
 short_len_for _ n = if nat_lt n 64 then n else 0

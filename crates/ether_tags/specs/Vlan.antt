@@ -1,4 +1,4 @@
--- VLAN tags as values of the wire format, one or two, from the outermost on.
+-- VLAN tags as values of the wire format, one or two, the outermost first.
 use Rattle.std.specs.Prelude.{ℕ, List, [], ◌∷◌}
 use Rattle.ether_base.specs.Formats.Vlan.{VlanValue, vlan_of}
 use Rattle.ether_base.specs.Bytes.{bit}

@@ -40,8 +40,8 @@ impl<'a> DoubleVlanSlice<'a> {
         }
     }
 
-    /// The payload of the inner tag and its ether type. The length of the inner view decides how long it is, so its
-    /// `len_source` is `LenSource::Slice`.
+    /// The payload of the inner tag and its ether type. The payload ends with the inner view, so its `len_source` is
+    /// `LenSource::Slice`.
     pub fn payload(&self) -> EtherPayloadSlice<'a>
         ensures ether_type { result.ether_type.0 ≡ (vlan_of self.now.inner).ether_type }
         ensures len_source { result.len_source ≡ sources.Slice }

@@ -3,7 +3,7 @@ use ether_base::{EtherType, LenSource};
 
 /// The payload of a layer, and the ether type that names its protocol.
 ///
-/// Compared field by field, in the order of the fields. Public fields are not checked against each other.
+/// Payloads are compared and ordered field by field. Public fields are not checked against each other.
 ///
 /// ```
 /// let tag = SingleVlanSlice::from_slice(&[0xB1, 0x23, 0x08, 0x00, 0x45])?;

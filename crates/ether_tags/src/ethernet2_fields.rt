@@ -36,7 +36,7 @@ pub fn source(bytes: &[u8]) -> [u8; 6]
     address_at(bytes, SOURCE)
 }
 
-/// The ether type (IEEE 802.3, 3.2.6), a length if it is below 0x0600.
+/// The ether type, which is a length if it is at most 1500 (IEEE 802.3, 3.2.6).
 pub fn ether_type(bytes: &[u8]) -> EtherType
     requires { 14 ≤ length bytes.now }
     ensures { result.0 ≡ (ethernet2_of bytes.now).ether_type }
@@ -44,7 +44,7 @@ pub fn ether_type(bytes: &[u8]) -> EtherType
     EtherType(u16_at(bytes, ETHER_TYPE))
 }
 
-/// All fields.
+/// The header with all its fields.
 pub fn header(bytes: &[u8]) -> Ethernet2Header
     requires { 14 ≤ length bytes.now }
     ensures fields { result ≡ ethernet2_header_of bytes.now }
@@ -58,7 +58,8 @@ pub fn header(bytes: &[u8]) -> Ethernet2Header
     }
 }
 
-/// Whether two headers have the same bytes. Arrays of 8, 4 and 2 bytes are compared in one piece each, and a slice by a call.
+/// Whether two headers have the same bytes. They are compared as arrays of 8, 4 and 2 bytes, each in one piece; slices
+/// would be compared by a call.
 pub fn are_same(a: &[u8], b: &[u8]) -> bool
     requires first { length a.now ≡ 14 }
     requires second { length b.now ≡ 14 }
@@ -70,7 +71,7 @@ pub fn are_same(a: &[u8], b: &[u8]) -> bool
         && [a[12], a[13]] == [b[12], b[13]]
 }
 
-/// Six bytes in their order on the wire.
+/// The six bytes of an address, in their order on the wire.
 fn address_at(bytes: &[u8], field: Range<usize>) -> [u8; 6]
     requires width { field.end ≡ field.start + 6 }
     requires within { field.end ≤ length bytes.now }

@@ -27,7 +27,7 @@ const FCS_LEN: usize = 4;
 
 /// A view of an Ethernet II frame, with or without a frame check sequence (FCS) at its end.
 ///
-/// Two views are equal if their bytes are, and if both or neither of them end in a frame check sequence.
+/// Two views are equal if their bytes are equal, and both or neither of them end in a frame check sequence.
 ///
 /// ```
 /// let bytes = [
@@ -56,7 +56,7 @@ impl<'a> Model for Ethernet2Slice<'a> {
 }
 
 impl<'a> Ethernet2Slice<'a> {
-    /// The frame that a slice holds, without a frame check sequence: the payload reaches to the end of the slice.
+    /// Borrows the frame in a slice that has no frame check sequence. The payload reaches to the end of the slice.
     ///
     /// # Errors
     ///
@@ -82,12 +82,13 @@ impl<'a> Ethernet2Slice<'a> {
         Ok(Ethernet2Slice { fcs_len: 0, slice })
     }
 
-    /// The frame that a slice holds, with a frame check sequence in its last 4 bytes. The sequence is not verified.
+    /// Borrows the frame in a slice whose last 4 bytes are a frame check sequence. The sequence is not verified.
     ///
     /// # Errors
     ///
     /// The slice has fewer than 18 bytes, those of a header and the sequence: `required_len` is 18, `len` the slice's
-    /// length, `len_source` is [`LenSource::Slice`], `layer` is [`Layer::Ethernet2Header`] and `layer_start_offset` is 0.
+    /// length, `len_source` is [`LenSource::Slice`], `layer` is [`Layer::Ethernet2Header`] and `layer_start_offset` is
+    /// 0.
     pub fn from_slice_with_crc32_fcs(slice: &'a [u8]) -> Result<Ethernet2Slice<'a>, LenError>
         ensures frame { IfOk result (λ f. f ≡ record { bytes = slice.now; has_fcs = true }) }
         ensures accepted { IfOk result (λ f. Accepts sources.Slice slice.now kinds.Ethernet2Fcs) }
@@ -110,7 +111,7 @@ impl<'a> Ethernet2Slice<'a> {
         })
     }
 
-    /// All bytes of the frame, with the frame check sequence.
+    /// All bytes of the frame, including a frame check sequence.
     pub fn slice(&self) -> &'a [u8]
         ensures { result.now ≡ self.now.bytes }
     {
@@ -131,14 +132,14 @@ impl<'a> Ethernet2Slice<'a> {
         ethernet2_fields::source(self.slice)
     }
 
-    /// The protocol of the payload; below 0x0600 the length of an IEEE 802.3 frame.
+    /// The protocol of the payload, or its length if the number is at most 1500 (IEEE 802.3, 3.2.6).
     pub fn ether_type(&self) -> EtherType
         ensures { result.0 ≡ (ethernet2_of self.now.bytes).ether_type }
     {
         ethernet2_fields::ether_type(self.slice)
     }
 
-    /// The frame check sequence, unverified; `None` if the frame was read without one.
+    /// The frame check sequence, the last 4 bytes of the frame, unverified. `None` if the frame was read without one.
     pub fn fcs(&self) -> Option<[u8; 4]>
         ensures { result ≡ fcs_of self.now }
     {
@@ -164,8 +165,8 @@ impl<'a> Ethernet2Slice<'a> {
         ethernet2_fields::header(self.slice)
     }
 
-    /// The payload and its ether type. The slice's length decides how long it is, so its `len_source` is
-    /// [`LenSource::Slice`].
+    /// The payload and its ether type. The payload ends with the slice, before a frame check sequence if there is one,
+    /// so its `len_source` is [`LenSource::Slice`].
     pub fn payload(&self) -> EtherPayloadSlice<'a>
         ensures ether_type { result.ether_type.0 ≡ (ethernet2_of self.now.bytes).ether_type }
         ensures len_source { result.len_source ≡ sources.Slice }

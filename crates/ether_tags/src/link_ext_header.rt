@@ -21,7 +21,7 @@ pub enum LinkExtHeader {
 }
 
 impl LinkExtHeader {
-    /// The length of the tag in bytes: 4 of a VLAN tag, 6 to 16 of a MACsec SecTag.
+    /// The length of the tag in bytes: 4 for a VLAN tag, 6 to 16 for a MACsec SecTag.
     pub fn header_len(&self) -> usize
         ensures value { result ≡ ext_header_len self.now }
         ensures bound { result ≤ 16 }

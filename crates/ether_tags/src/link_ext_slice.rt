@@ -26,7 +26,7 @@ pub enum LinkExtSlice<'a> {
 }
 
 impl<'a> LinkExtSlice<'a> {
-    /// The length of the tag in bytes: 4 of a VLAN tag, 6 to 16 of a MACsec SecTag.
+    /// The length of the tag in bytes: 4 for a VLAN tag, 6 to 16 for a MACsec SecTag.
     pub fn header_len(&self) -> usize
         ensures { result ≡ ext_slice_len self.now }
     {

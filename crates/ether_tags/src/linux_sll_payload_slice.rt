@@ -7,7 +7,7 @@ use std::alloc::AllocError;
 
 /// The payload of a packet of Linux cooked capture v1, and the protocol type that names its protocol.
 ///
-/// Compared field by field, in the order of the fields. Public fields are not checked against each other.
+/// Payloads are compared and ordered field by field. Public fields are not checked against each other.
 ///
 /// ```
 /// let ipv4 = LinuxSllPayloadSlice {
@@ -29,7 +29,8 @@ pub struct LinuxSllPayloadSlice<'a> {
     pub payload: &'a [u8],
 }
 
-// By hand, field by field: that the whole is copied is not proved of a struct that borrows and holds a type with a model.
+// Written by hand, field by field: for a struct that borrows and has a field with a model, a copy of the whole is not
+// proved.
 impl<'a> Clone for LinuxSllPayloadSlice<'a> {
     ghost is_clone = { λ a b. b ≡ a };
 
@@ -43,7 +44,7 @@ impl<'a> Clone for LinuxSllPayloadSlice<'a> {
     }
 }
 
-/// The payload with its ether type as protocol type. Its `len_source` is dropped.
+/// Keeps the payload, with its ether type as protocol type. Its `len_source` is dropped.
 impl<'a> From<EtherPayloadSlice<'a>> for LinuxSllPayloadSlice<'a> {
     ghost use Rattle.ether_base.specs.declared.linux_sll_protocol_type.LinuxSllProtocolType.TheVariants as protocols;
 
@@ -57,8 +58,8 @@ impl<'a> From<EtherPayloadSlice<'a>> for LinuxSllPayloadSlice<'a> {
     }
 }
 
-/// The payload with the number of its protocol type as ether type, if it is an ether type or one of the numbers that
-/// Linux keeps with them. Its `len_source` is [`LenSource::Slice`]. Netlink, GRE and ignored protocols are refused.
+/// Keeps the payload, with the number of an `EtherType` or `LinuxNonstandardEtherType` as ether type. Its `len_source`
+/// is [`LenSource::Slice`]. Netlink, GRE and ignored protocols are refused.
 impl<'a> TryFrom<LinuxSllPayloadSlice<'a>> for EtherPayloadSlice<'a> {
     type Error = ();
 

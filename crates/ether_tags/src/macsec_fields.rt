@@ -1,7 +1,7 @@
-//! The fields of a MACsec SecTag in bytes that begin with one (IEEE 802.1AE, 9.3). Byte 0 is the TCI (9.5) with the bits V,
-//! ES, SC, SCB, E and C, and the association number (2 bits, 9.6). Byte 1 is two reserved bits and the short length (6 bits,
-//! 9.7). The packet number (4 bytes, 9.8) follows, then the SCI (8 bytes, 9.9) if SC is set, and then the ether type of
-//! the user data if E and C are clear.
+//! The fields of a MACsec SecTag in bytes that begin with one (IEEE 802.1AE, 9.3). Byte 0 is the TCI (9.5) with the
+//! bits V, ES, SC, SCB, E and C, and the association number (2 bits, 9.6). Byte 1 is two reserved bits and the short
+//! length (6 bits, 9.7). The packet number (4 bytes, 9.8) follows, then the SCI (8 bytes, 9.9) if SC is set, and then
+//! the ether type of the user data if E and C are clear.
 ghost use Rattle.std.specs.Prelude.{◌≡◌, ◌↔◌, ◌≤◌, ◌<◌, ◌+◌, ◌*◌, ◌/◌, ◌%◌, ◌^◌, IsTrue, length, slice_index, slice_range};
 ghost use Rattle.ether_base.specs.Bytes.{bit, number};
 ghost use Rattle.ether_base.specs.Formats.Macsec.{known_payload_len, sec_tag_front_in, sec_tag_len, sec_tag_of, known_len};
@@ -134,8 +134,8 @@ pub fn sci(bytes: &[u8]) -> Option<u64>
     }
 }
 
-/// Whether the user data is encrypted and changed, and its ether type if neither is. The bytes are those of the tag
-/// alone, so an ether type is at their end.
+/// Whether the user data is encrypted and changed, and its ether type if it is neither. The bytes are those of the tag
+/// alone, so that the ether type is at their end.
 pub fn ptype(bytes: &[u8]) -> MacsecPType
     requires { length bytes.now ≡ sec_tag_len (sec_tag_front_in bytes.now) }
     ensures { payload_type_view result ≡ (sec_tag_of bytes.now).payload_type }
@@ -156,7 +156,7 @@ pub fn is_unmodified(bytes: &[u8]) -> bool
     !encrypted(bytes) && !userdata_changed(bytes)
 }
 
-/// Whether the short length has no room for the ether type that follows the tag.
+/// Whether an ether type follows the tag, and the short length, which counts its 2 bytes, is only 1.
 pub fn is_too_short(bytes: &[u8]) -> bool
     requires { 2 ≤ length bytes.now }
     ensures { IsTrue result ↔ IsTooShort (sec_tag_front_in bytes.now) }
@@ -172,7 +172,7 @@ pub fn header_len(bytes: &[u8]) -> usize
     tag_len(sci_present(bytes), is_unmodified(bytes))
 }
 
-/// The payload's length that the short length names, without the ether type after the tag.
+/// The length in bytes of the payload, without the ether type after the tag. `None` if the short length names none.
 pub fn expected_payload_len(bytes: &[u8]) -> Option<usize>
     requires { 2 ≤ length bytes.now }
     ensures { result ≡ known_payload_len (sec_tag_front_in bytes.now) }
@@ -180,7 +180,7 @@ pub fn expected_payload_len(bytes: &[u8]) -> Option<usize>
     payload_len(short_len(bytes), is_unmodified(bytes))
 }
 
-/// The length of a tag in bytes, by whether there are an SCI and an ether type after it.
+/// The length of a tag in bytes: 6, and 8 for an SCI and 2 for an ether type if it has them.
 pub fn tag_len(has_sci: bool, is_unmodified: bool) -> usize
     ensures { result ≡ 6 + 8 * bit has_sci + 2 * bit is_unmodified }
 {
@@ -189,7 +189,8 @@ pub fn tag_len(has_sci: bool, is_unmodified: bool) -> usize
     MacsecHeader::MIN_LEN + sci + ether_type
 }
 
-/// The length that a short length names, which counts the ether type after the tag.
+/// The length in bytes of the payload that a short length names. The short length counts the ether type after the tag
+/// too. `None` if it is 0, or 1 with such an ether type.
 pub fn payload_len(short_len: MacsecShortLen, is_unmodified: bool) -> Option<usize>
     ensures { result ≡ known_len (2 * bit is_unmodified) short_len }
 {
@@ -211,7 +212,7 @@ fn is_set(bytes: &[u8], power: u32) -> bool
     bit_of(bytes[TCI_AN], power)
 }
 
-/// Whether bit `power` is set.
+/// Whether bit `power` of a byte is set. Bit 0 is the least significant one.
 fn bit_of(byte: u8, power: u32) -> bool
     requires { power < 8 }
     ensures { bit result ≡ byte / 2 ^ power % 2 }

@@ -18,9 +18,9 @@ use ether_base::{EtherType, MacsecAn, MacsecShortLen};
 
 /// A MACsec SecTag (IEEE 802.1AE, 9.3), 6 to 16 bytes on the wire.
 ///
-/// The standard counts the MACsec ether type 0x88E5 as the first two bytes of a SecTag. It is the `ether_type` of the
-/// layer before here, and the tag begins after it. The ether type of the payload counts as the tag's end if it can
-/// be read, which is so if the bits E and C are clear:
+/// The standard counts the MACsec ether type 0x88E5 as the first two bytes of a SecTag. Here it is the `ether_type` of
+/// the layer before, and the tag begins after it. If the bits E and C are clear, the ether type of the payload can be
+/// read, and it counts as the end of the tag:
 ///
 /// ```text
 /// byte 0        1              2                6                     6 or 14
@@ -35,10 +35,10 @@ use ether_base::{EtherType, MacsecAn, MacsecShortLen};
 ///                +---+----+----+-----+---+---+-----+
 /// ```
 ///
-/// The version bit V is 0 in each tag. The short length has the lower 6 bits of byte 1; the upper 2 are reserved, ignored
-/// when a tag is read and written as 0.
+/// The version bit V is 0 in each tag. The short length is in the lower 6 bits of byte 1. The upper 2 are reserved:
+/// they are ignored when a tag is read, and written as 0.
 ///
-/// In IEEE 802.1AE a short length ends at 47 (9.7). Those of 48 to 63 are accepted too and name that many bytes, and
+/// IEEE 802.1AE allows short lengths up to 47 (9.7). Here 48 to 63 are accepted too and name that many bytes, and
 /// [`MacsecHeader::set_payload_len`] writes them.
 ///
 /// Public fields are not checked against each other.
@@ -67,14 +67,15 @@ use ether_base::{EtherType, MacsecAn, MacsecShortLen};
 pub struct MacsecHeader {
     /// Whether the payload is encrypted and changed (bits E and C), and its ether type if it is neither.
     pub ptype: MacsecPType,
-    /// The end station bit (ES): the SCI is made of the frame's source address, and is left out.
+    /// The end station bit (ES, 9.5). If it is set, the standard leaves out the SCI, which begins with the frame's
+    /// source address.
     pub endstation_id: bool,
-    /// The single copy broadcast bit (SCB), of a passive optical network.
+    /// The single copy broadcast bit (SCB, 9.5), of a passive optical network.
     pub scb: bool,
     /// The association number (AN, 9.6).
     pub an: MacsecAn,
-    /// The short length (SL, 9.7): the number of bytes after the SCI up to the integrity check value, with the next
-    /// ether type. 0 names no length.
+    /// The short length (SL, 9.7): the number of bytes from the next ether type, or from the payload if there is none,
+    /// up to the integrity check value. 0 names no length.
     pub short_len: MacsecShortLen,
     /// The packet number (PN, 9.8).
     pub packet_nr: u32,
@@ -89,11 +90,11 @@ impl MacsecHeader {
     /// The length in bytes of the longest tag, with both.
     pub const MAX_LEN: usize = 16;
 
-    /// The tag at the front of a slice.
+    /// Reads the tag at the front of a slice. What follows it is ignored.
     ///
     /// # Errors
     ///
-    /// As [`MacsecHeaderSlice::from_slice`].
+    /// Those of [`MacsecHeaderSlice::from_slice`].
     pub fn from_slice(slice: &[u8]) -> Result<MacsecHeader, HeaderSliceError>
         ensures accepted { IfOk result (λ h. AcceptsHeader sources.Slice slice.now kinds.Macsec) }
         ensures value { IfOk result (λ h. Means slice.now (headers.Macsec (sec_tag_view h))) }
@@ -139,18 +140,19 @@ impl MacsecHeader {
         macsec_fields::tag_len(self.sci.is_some(), self.next_ether_type().is_some())
     }
 
-    /// The length of the payload in bytes that the short length names, without the next ether type. `None` if the short
-    /// length is 0, which names none, or 1 though it counts the 2 bytes of a next ether type.
+    /// The length of the payload in bytes that the short length names, without the next ether type. `None` if the
+    /// short length is 0, or if it is 1 and there is a next ether type, which alone has 2 bytes.
     pub fn expected_payload_len(&self) -> Option<usize>
         ensures { result ≡ known_payload_len (header_front self.now) }
     {
         macsec_fields::payload_len(self.short_len, self.next_ether_type().is_some())
     }
 
-    /// Sets the short length to name a payload of `payload_len` bytes, or to 0, which names none, if there is no room.
+    /// Sets the short length so that it names a payload of `payload_len` bytes, or to 0, which names no length, if
+    /// that is too long.
     ///
-    /// There is room for 63 bytes, which is more than the 47 of IEEE 802.1AE. A next ether type takes 2 of them, so up to
-    /// 61 bytes of payload are named then. No short length names an encrypted or changed payload of 0 bytes.
+    /// A short length is at most 63, while IEEE 802.1AE ends at 47. It counts the 2 bytes of a next ether type, so
+    /// with one the payload has at most 61 bytes. No short length names an encrypted or changed payload of 0 bytes.
     pub fn set_payload_len(&mut self, payload_len: usize)
         ensures short_len { self.new.short_len
             ≡ short_len_for (payload_type_view self.old.ptype) payload_len }
@@ -167,9 +169,9 @@ impl MacsecHeader {
         };
     }
 
-    /// The bytes of the tag on the wire, [`MacsecHeader::header_len`] of them.
+    /// The bytes of the tag on the wire. Their number is [`MacsecHeader::header_len`].
     ///
-    /// They are read back as this tag, but for a short length of 1 with a next ether type, which is refused when read.
+    /// They are read back as this tag, except that a short length of 1 with a next ether type is refused.
     pub fn to_bytes(&self) -> ArrayVec<u8, 16>
         ensures value { result.items ≡ sec_tag_bytes (sec_tag_view self.now) }
         ensures len { length result.items ≡ sec_tag_len (header_front self.now) }
@@ -186,7 +188,7 @@ impl MacsecHeader {
         self.spelled()
     }
 
-    /// The bytes of the tag, whose numbers have room in them.
+    /// The bytes of the tag. Each number fits in its field.
     fn spelled(&self) -> ArrayVec<u8, 16>
         ensures value { result.items ≡ sec_tag_bytes (sec_tag_view self.now) }
         ensures fits { FitsSecTag (sec_tag_view self.now) }

@@ -17,7 +17,7 @@ use ether_base::{EtherType, LenSource, MacsecAn, MacsecShortLen};
 
 /// A view of a MACsec SecTag, which borrows its 6 to 16 bytes from a packet ([`MacsecHeader`] has a picture of them).
 ///
-/// Two views are equal if their bytes are, wherever these are.
+/// Two views are equal if their bytes are equal, wherever they are in memory.
 ///
 /// ```
 /// let bytes = [0x53, 0x2A, 0x01, 0x02, 0x03, 0x04, 0x08, 0x00, 0x45];
@@ -41,7 +41,8 @@ impl<'a> MacsecHeaderSlice<'a> {
     ghost use Rattle.ether_base.specs.Formats.Macsec.{known_payload_len};
     ghost use Rattle.ether_tags.specs.Macsec.{IsRefusedTag, IsUnmodified, tag_bytes, tag_front, tag_in, payload_type_view, readable_type, sec_tag_view, number_of};
 
-    /// The tag at the front of a slice, with the next ether type. The bytes after it are not part of the view.
+    /// Borrows the tag at the front of a slice, including a next ether type. The bytes after it are not part of the
+    /// view.
     ///
     /// # Errors
     ///
@@ -49,8 +50,8 @@ impl<'a> MacsecHeaderSlice<'a> {
     ///
     /// - `HeaderSliceError::Len`: the slice has fewer than 6 bytes. `required_len` is 6.
     /// - `HeaderSliceError::Content` with [`HeaderError::UnexpectedVersion`]: the version bit V is 1.
-    /// - `HeaderSliceError::Content` with [`HeaderError::InvalidUnmodifiedShortLen`]: the short length is 1 and the bits E
-    ///   and C are clear, though the next ether type alone takes 2 bytes.
+    /// - `HeaderSliceError::Content` with [`HeaderError::InvalidUnmodifiedShortLen`]: the short length is 1 and the
+    ///   bits E and C are clear, though the next ether type alone takes 2 bytes.
     /// - `HeaderSliceError::Len`: the slice ends within the tag. `required_len` is the length of the tag.
     ///
     /// In both length errors `len` is the slice's length, `len_source` is [`LenSource::Slice`], `layer` is
@@ -107,7 +108,8 @@ impl<'a> MacsecHeaderSlice<'a> {
         macsec_fields::tci_an(self.slice)
     }
 
-    /// The end station bit (ES, 9.5): the SCI is made of the frame's source address, and is left out.
+    /// The end station bit (ES, 9.5). If it is set, the standard leaves out the SCI, which begins with the frame's
+    /// source address.
     pub fn endstation_id(&self) -> bool
         ensures { bit result ≡ (sec_tag_of (tag_bytes self.now)).end_station }
     {
@@ -135,8 +137,8 @@ impl<'a> MacsecHeaderSlice<'a> {
         macsec_fields::userdata_changed(self.slice)
     }
 
-    /// Whether the payload is neither encrypted nor changed: the bits E and C are clear, and a next ether type is part of
-    /// the tag.
+    /// Whether the payload is neither encrypted nor changed: the bits E and C are clear, and a next ether type is part
+    /// of the tag.
     pub fn is_unmodified(&self) -> bool
         ensures { IsTrue result ↔ IsUnmodified (tag_front self.now) }
     {
@@ -203,8 +205,8 @@ impl<'a> MacsecHeaderSlice<'a> {
         self.slice.len()
     }
 
-    /// The length of the payload in bytes that the short length names, without the next ether type. `None` if the short
-    /// length is 0, so that the payload and the integrity check value reach to the end of the frame.
+    /// The length of the payload in bytes that the short length names, without the next ether type. `None` if the
+    /// short length is 0, so that the payload and the integrity check value reach to the end of the frame.
     pub fn expected_payload_len(&self) -> Option<usize>
         ensures { result ≡ known_payload_len (tag_front self.now) }
     {

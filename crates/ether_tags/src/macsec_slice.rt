@@ -40,16 +40,17 @@ pub struct MacsecSlice<'a> {
 }
 
 impl<'a> MacsecSlice<'a> {
-    /// The tag at the front of a slice, and its payload.
+    /// Borrows the tag at the front of a slice, and its payload.
     ///
-    /// If the short length names a length, the payload ends there, and the integrity check value (ICV) is not part of it.
-    /// Otherwise the payload is the rest of the slice, with the ICV at its end.
+    /// If the short length names a length, the payload ends there, and the integrity check value (ICV) is not part of
+    /// it. Otherwise the payload is the rest of the slice, with the ICV at its end.
     ///
     /// # Errors
     ///
-    /// Those of [`MacsecHeaderSlice::from_slice`] first. Then `HeaderSliceError::Len` if the slice ends before the payload
-    /// does that the short length names: `required_len` is the length of tag and payload, `len` the slice's length,
-    /// `len_source` is [`LenSource::MacsecShortLength`], `layer` is [`Layer::MacsecPacket`] and `layer_start_offset` is 0.
+    /// Those of [`MacsecHeaderSlice::from_slice`] are tested first. Otherwise the error is `HeaderSliceError::Len` if
+    /// the short length names a payload that ends after the slice: `required_len` is the length of tag and payload,
+    /// `len` the slice's length, `len_source` is [`LenSource::MacsecShortLength`], `layer` is [`Layer::MacsecPacket`]
+    /// and `layer_start_offset` is 0.
     pub fn from_slice(slice: &'a [u8]) -> Result<MacsecSlice<'a>, HeaderSliceError>
         ensures header { IfOk result (λ m. tag_bytes m.header ≡ tag_in slice.now) }
         ensures payload { IfOk result
@@ -90,8 +91,9 @@ impl<'a> MacsecSlice<'a> {
     }
 }
 
-/// Where the payload after a tag ends: after the length that the tag gives, otherwise with the slice. An error if the slice
-/// ends before. The short length counts the ether type, so the end needs neither E nor C.
+/// Returns where the payload after a tag ends, in bytes from the tag's start: after the length that the tag names, or
+/// with the slice. It is an error if the slice ends before. E and C are not read, since the short length counts the
+/// ether type.
 fn end_within(header: &MacsecHeaderSlice<'_>, slice_len: usize) -> Result<usize, HeaderSliceError>
     ensures end { IfOk result (λ end. end ≡ payload_end_after (tag_front header.now) slice_len) }
     ensures within { IfOk result (λ end. end ≤ slice_len) }
@@ -116,7 +118,7 @@ fn end_within(header: &MacsecHeaderSlice<'_>, slice_len: usize) -> Result<usize,
     Ok(end)
 }
 
-/// What gives the length of the payload after a tag.
+/// What gives the length of the payload after a tag: the short length if it names one, otherwise the slice.
 fn source_of(header: &MacsecHeaderSlice<'_>) -> LenSource
     ensures { result ≡ payload_source (known_payload_len (tag_front header.now)) }
 {
@@ -126,7 +128,7 @@ fn source_of(header: &MacsecHeaderSlice<'_>) -> LenSource
     }
 }
 
-/// A payload with its type if that can be read.
+/// A payload, with its ether type if that can be read.
 fn payload_of<'a>(
     ether_type: Option<EtherType>,
     len_source: LenSource,

@@ -17,8 +17,8 @@ use ether_base::{EtherType, VlanId, VlanPcp};
 /// A VLAN tag (IEEE 802.1Q, 9.4): the tag control information (TCI) and the *next* ether type, 4 bytes on the wire.
 ///
 /// The standard counts the tag protocol identifier (TPID), such as 0x8100, as the first two bytes of a tag. In a frame
-/// it is at the place of the ether type of the layer before, so it is that layer's `ether_type` here, and the tag begins
-/// after it:
+/// it is at the place of the ether type of the layer before, so it is that layer's `ether_type` here, and the tag
+/// begins after it:
 ///
 /// ```text
 ///     layer before  |      SingleVlanHeader
@@ -33,7 +33,7 @@ use ether_base::{EtherType, VlanId, VlanPcp};
 ///                     +---------+-----+--------------+
 /// ```
 ///
-/// A next ether type below 0x0600 is the length of IEEE 802.3 data, and is passed through unchanged.
+/// A next ether type of at most 1500 is a length (IEEE 802.3, 3.2.6). It is passed through unchanged.
 ///
 /// ```
 /// let mut tag = SingleVlanHeader::from_bytes([0xB1, 0x23, 0x08, 0x00]);
@@ -64,7 +64,7 @@ impl SingleVlanHeader {
     /// The same as [`SingleVlanHeader::LEN`], under its older name.
     pub const SERIALIZED_SIZE: usize = 4;
 
-    /// The tag at the front of a slice, and the rest of the slice.
+    /// Reads the tag at the front of a slice, and returns it with the rest of the slice.
     ///
     /// # Errors
     ///
@@ -96,7 +96,7 @@ impl SingleVlanHeader {
         SingleVlanHeader::from_slice(slice)
     }
 
-    /// The tag in 4 bytes. Any 4 bytes are one.
+    /// Reads the tag from its 4 bytes. Any 4 bytes are a tag.
     pub fn from_bytes(bytes: [u8; 4]) -> SingleVlanHeader
         ensures value { IsVlan bytes (vlan_view result) }
         ensures inverse { vlan_bytes (vlan_view result) ≡ bytes }

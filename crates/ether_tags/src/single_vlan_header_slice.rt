@@ -23,7 +23,7 @@ use std::marker::Model;
 /// A view of a VLAN tag, which borrows the 4 bytes of its TCI and the next ether type from a packet
 /// ([`SingleVlanHeader`] has a picture of them).
 ///
-/// Two views are equal if their bytes are, wherever these are.
+/// Two views are equal if their bytes are equal, wherever they are in memory.
 ///
 /// ```
 /// let tag = SingleVlanHeaderSlice::from_slice(&[0xB1, 0x23, 0x08, 0x00, 0x45])?;
@@ -48,7 +48,7 @@ impl<'a> Model for SingleVlanHeaderSlice<'a> {
 }
 
 impl<'a> SingleVlanHeaderSlice<'a> {
-    /// The tag at the front of a slice. The bytes after it are not part of the view.
+    /// Borrows the tag at the front of a slice. The bytes after it are not part of the view.
     ///
     /// # Errors
     ///

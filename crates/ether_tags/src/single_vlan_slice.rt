@@ -24,7 +24,7 @@ use std::marker::Model;
 /// A view of a VLAN tag and its payload, which borrows the bytes from the tag's TCI on
 /// ([`SingleVlanHeader`] has a picture of them).
 ///
-/// Two views are equal if their bytes are, wherever these are.
+/// Two views are equal if their bytes are equal, wherever they are in memory.
 ///
 /// ```
 /// let tag = SingleVlanSlice::from_slice(&[0xB1, 0x23, 0x08, 0x00, 0x45])?;
@@ -48,7 +48,7 @@ impl<'a> Model for SingleVlanSlice<'a> {
 }
 
 impl<'a> SingleVlanSlice<'a> {
-    /// The tag at the front of a slice, and its payload, which reaches to the end of the slice.
+    /// Borrows the tag at the front of a slice, and its payload, which reaches to the end of the slice.
     ///
     /// # Errors
     ///
@@ -122,8 +122,7 @@ impl<'a> SingleVlanSlice<'a> {
         vlan_fields::header(self.slice)
     }
 
-    /// The payload and its ether type. The slice's length decides how long it is, so its `len_source` is
-    /// [`LenSource::Slice`].
+    /// The payload and its ether type. The payload ends with the slice, so its `len_source` is [`LenSource::Slice`].
     pub fn payload(&self) -> EtherPayloadSlice<'a>
         ensures ether_type { result.ether_type.0 ≡ (vlan_of self.now).ether_type }
         ensures len_source { result.len_source ≡ sources.Slice }

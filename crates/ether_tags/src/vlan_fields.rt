@@ -1,5 +1,6 @@
-//! The fields of a VLAN tag in bytes that begin with one: the tag control information (IEEE 802.1Q, 9.6), which is 3 bits
-//! priority code point, 1 bit drop eligible indicator and 12 bits VLAN identifier, and the ether type of what follows.
+//! The fields of a VLAN tag in bytes that begin with one: the tag control information (IEEE 802.1Q, 9.6), which is 3
+//! bits priority code point, 1 bit drop eligible indicator and 12 bits VLAN identifier, and the ether type of what
+//! follows.
 ghost use Rattle.std.specs.Prelude.{◌≡◌, ◌/◌, ◌%◌, ◌^◌, ◌+◌, ◌*◌, ◌<◌, ◌≤◌, length, slice_range};
 ghost use Rattle.ether_base.specs.Bytes.{IsBytes, bit, number, spelled};
 ghost use Rattle.ether_base.specs.Formats.Vlan.{vlan_of};
@@ -47,7 +48,8 @@ pub fn ether_type(bytes: &[u8]) -> EtherType
     EtherType(u16_at(bytes, ETHER_TYPE))
 }
 
-/// All fields. The tag control information is read once: read three times, it is taken apart byte by byte.
+/// The tag with all its fields. The tag control information is read once, since three reads of it are compiled byte by
+/// byte.
 pub fn header(bytes: &[u8]) -> SingleVlanHeader
     requires { 4 ≤ length bytes.now }
     ensures value { vlan_view result ≡ vlan_of bytes.now }
@@ -70,7 +72,7 @@ pub fn tag(bytes: &[u8]) -> [u8; 4]
     [bytes[0], bytes[1], bytes[2], bytes[3]]
 }
 
-/// The tag control information of three fields.
+/// The tag control information with these three fields.
 pub fn tag_control_of(pcp: VlanPcp, drop_eligible: bool, vlan_id: VlanId) -> u16
     ensures sum { result ≡ pcp * 2 ^ 13 + bit drop_eligible * 2 ^ 12 + vlan_id }
     ensures pcp { pcp < 8 }

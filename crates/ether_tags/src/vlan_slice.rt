@@ -35,7 +35,7 @@ impl<'a> VlanSlice<'a> {
         }
     }
 
-    /// The payload of the last tag and its ether type.
+    /// The payload of the last tag and its ether type. Its `len_source` is `LenSource::Slice`.
     pub fn payload(&self) -> EtherPayloadSlice<'a>
         ensures ether_type { result.ether_type.0 ≡ (vlan_of (innermost self.now)).ether_type }
         ensures len_source { result.len_source ≡ sources.Slice }

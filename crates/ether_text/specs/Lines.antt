@@ -78,7 +78,7 @@ unfoldable pub arp_text : ℕ → ArpValue → List ℕ
 arp_text start a =
     spaced (codes "arp" ∷ decimal start ∷ codes "hw" ∷ decimal a.hardware_type ∷ codes "proto" ∷ hex_number a.protocol_type ∷ codes "hlen" ∷ decimal (length a.sender_hardware) ∷ codes "plen" ∷ decimal (length a.sender_protocol) ∷ codes "op" ∷ decimal a.operation ∷ [])
 
--- a unit of the list, with its window; each place is counted from so many bytes before the list
+-- a unit of the list, with its window; each offset is counted from `at` bytes before the list
 unfoldable pub unit_text : (at : ℕ) → List ℕ → Window → Header → List ℕ
 unit_text at list w (headers.Ethernet2 e) = ethernet2_text (at + w.start) e
 unit_text at list w (headers.Ethernet2Fcs e) = ethernet2_fcs_text (at + w.start) e (slice_range list (w.finish - 4) w.finish)
@@ -90,7 +90,7 @@ unit_text at list w (headers.Arp a) = arp_text (at + w.start) a
 
 -- ---- the ending
 
--- the protocol of a cooked capture; the last two are announced as ether types, so that nothing is left under their names
+-- the protocol of a cooked capture; the last two rows are empty, since these protocols are announced as ether types
 unfoldable pub protocol_text : LinuxSllProtocolType → List ℕ
 protocol_text (protocols.Ignored n) = codes "sll ignored " ++ hex_number n
 protocol_text (protocols.NetlinkProtocolType n) = codes "sll netlink " ++ hex_number n
@@ -98,7 +98,7 @@ protocol_text (protocols.GenericRoutingEncapsulationProtocolType n) = codes "sll
 protocol_text (protocols.EtherType t) = []
 protocol_text (protocols.LinuxNonstandardEtherType n) = []
 
--- nothing is left expected of a start kind, which announces itself
+-- The row of a start kind is empty: it announces a unit, so an accepted walk does not end there.
 unfoldable pub kind_text : Next → List ℕ
 kind_text (Start kind) = []
 kind_text (EtherType t) = codes "type " ++ hex_number t

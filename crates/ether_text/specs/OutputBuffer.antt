@@ -15,8 +15,8 @@ contents_of contents g = append_known (contents g.writer.now) g.waiting.items
 pub record Marks {W : Type 0} (can_fail : Type 0) (old new : OutputBuffer W) : Type 0 where
   pub cause : new.has_failed ≡ true → (old.has_failed ≡ true) ⊎ can_fail
 
--- The writer is the same. Unless it has failed by now, it had not failed before either, and holds bytes more, with the text that waits.
--- Once it has failed it is not called again.
+-- The writer is the same. Unless it has failed by now, it had not failed before, and its contents and the text that waits have
+-- together grown by the bytes. Once it has failed it is not called again.
 pub record Grows {W : Type 0} (contents : W → Option (List ℕ)) (can_fail : Type 0) (old : OutputBuffer W) (bytes : List ℕ) (new : OutputBuffer W) : Type 0 where
   pub same_writer : new.writer.ghost_name ≡ old.writer.ghost_name
   pub going : new.has_failed ≡ false → old.has_failed ≡ false
@@ -42,7 +42,7 @@ pub record WritesOut {W : Type 0} (contents : W → Option (List ℕ)) (old new 
   pub written : Appends (contents old.writer.now) (contents new.writer.now) old.waiting.items
   pub none_waits : new.waiting.items ≡ []
 
--- takes the text for a frame
+-- the buffer takes the text for a frame
 pub record TakesAnswer {W : Type 0} (contents : W → Option (List ℕ)) (can_fail : Type 0) (IsAnswer : (text : List ℕ) → (accepted : Bool) → Type 0) (old new : OutputBuffer W) (accepted : Bool) : Type 0 where
   pub text : List ℕ
   pub answers : IsAnswer text accepted

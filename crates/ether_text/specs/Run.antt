@@ -4,7 +4,8 @@ use Rattle.std.specs.Io.KnownBytes.{Appends, Consumes, IsAtEnd}
 use Rattle.ether_text.specs.Verdict.{verdict_of}
 use Rattle.ether_text.specs.declared.verdict.Verdict.{Verdict}
 
--- From before to after the reader gave all its bytes, and the writer took the text for them. All says that each unit is accepted.
+-- Between `before` and `after` the reader gave all its bytes, and the writer took the text for them. `all` says whether each unit
+-- is accepted.
 pub record AnswersAll (Answers : (input text : List ℕ) → (all : Bool) → Type 0) (before after held holds : Option (List ℕ)) (verdict : Verdict)
     : Type 0 where
   pub input : List ℕ
@@ -20,8 +21,8 @@ pub record AnswersAll (Answers : (input text : List ℕ) → (all : Bool) → Ty
 abbrev pub IsLeft : Option (List ℕ) → List ℕ → Type 0
 IsLeft after bytes = IfSome after (λ known. bytes ≡ known)
 
--- From before to after the reader gave some of its bytes. With those that are left, the run stops in them, and the writer took the
--- text for what comes before.
+-- Between `before` and `after` the reader gave some of its bytes. The run stops in these and those that are left, and the writer
+-- took the text for what precedes the stop.
 pub record StopsIn (Stops : (input text : List ℕ) → Type 0) (before after held holds : Option (List ℕ)) : Type 0 where
   pub taken : List ℕ
   pub left : List ℕ
@@ -31,7 +32,7 @@ pub record StopsIn (Stops : (input text : List ℕ) → Type 0) (before after he
   pub stops : Stops (taken ++ left) text
   pub written : Appends held holds text
 
--- From before to after the reader gave some of its bytes, and the writer took the text for the units that end in them.
+-- Between `before` and `after` the reader gave some of its bytes, and the writer took the text for the units that end in them.
 pub record BreaksOffAfter (Begins : (taken text : List ℕ) → Type 0) (before after held holds : Option (List ℕ)) : Type 0 where
   pub taken : List ℕ
   pub text : List ℕ
@@ -39,26 +40,26 @@ pub record BreaksOffAfter (Begins : (taken text : List ℕ) → Type 0) (before 
   pub begins : Begins taken text
   pub written : Appends held holds text
 
--- from before to after the reader gave at least as many bytes as a run may have reads
+-- between `before` and `after` the reader gave at least as many bytes as a run may have reads
 pub record IsEndless (before after : Option (List ℕ)) : Type 0 where
   pub taken : List ℕ
   pub read : Consumes before after taken
   pub long : 2 ^ 64 - 1 ≤ length taken
 
--- ---- what is said of a fault
+-- ---- claims about a fault
 
 -- a stream that may fail
 pub data Stream : Type 0 where
   Input : Stream
   Output : Stream
 
--- of a fault of the reader, and of one of the writer
+-- a claim for a fault of the reader, and one for a fault of the writer
 abbrev pub OnStream : Option Stream → (input output : Type 0) → Type 0
 OnStream None P Q = ⊤
 OnStream (Some Input) P Q = P
 OnStream (Some Output) P Q = Q
 
--- of a fault of no stream
+-- a claim for a fault of neither stream
 abbrev pub IfNoStream : Option Stream → Type 0 → Type 0
 IfNoStream None P = P
 IfNoStream (Some stream) P = ⊤

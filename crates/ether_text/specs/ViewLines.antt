@@ -1,4 +1,4 @@
--- The lines of what a walker gives.
+-- The lines of the units and the fault that a walker returns.
 use Rattle.std.specs.Prelude.{ℕ, List, [], ◌∷◌, ◌++◌, codes, Option, Some, None, Bool}
 use Rattle.std.specs.Fmt.{decimal}
 use Rattle.etherparse.specs.Types.LenError.{LenError}
@@ -41,7 +41,7 @@ abbrev pub fcs_text : Option (List ℕ) → List ℕ
 fcs_text None = []
 fcs_text (Some fcs) = codes " fcs " ++ hex_text fcs
 
--- a view of a unit that starts at a place, with the length and the mark of the window after it
+-- a view of a unit that starts at an offset, with the length and the mark of its payload's window
 abbrev pub view_text : (start len : ℕ) → (closed : Bool) → PeelUnit → List ℕ
 view_text start len closed (units.Ethernet2 frame) = ethernet2_view_text start (ethernet2_of frame.bytes) (fcs_of frame)
 view_text start len closed (units.LinuxSll bytes) = linux_sll_text start (linux_sll_of bytes)

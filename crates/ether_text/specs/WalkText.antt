@@ -6,8 +6,8 @@ use Rattle.ether_peel.specs.Grammar.Stack.{Ending, whole, Walk}
 use Rattle.ether_peel.specs.Grammar.Demands.{AreDemands, greatest}
 use Rattle.ether_text.specs.Lines.{frame_text, feed_text, fault_line, is_accepted}
 
--- The text is the lines of the frame's walk, with places counted from so many bytes before it, and the frame is accepted exactly if the
--- walk ends in no fault.
+-- The text is the lines of the frame's walk, with offsets counted from `at` bytes before the frame, and the frame is accepted
+-- exactly if the walk ends without a fault.
 pub record AnswersWalkAfter (at : ℕ) (start : Expectation) (frame text : List ℕ) (accepted : Bool) : Type 0 where
   pub headers : List Header
   pub ending : Ending
@@ -15,12 +15,13 @@ pub record AnswersWalkAfter (at : ℕ) (start : Expectation) (frame text : List 
   pub lines : text ≡ frame_text at frame (whole start frame) headers ending
   pub verdict : accepted ≡ is_accepted ending
 
--- .. counted from the frame's begin
+-- .. with offsets counted from the start of the frame
 abbrev pub AnswersWalk : (start : Expectation) → (frame text : List ℕ) → (accepted : Bool) → Type 0
 AnswersWalk start frame text accepted = AnswersWalkAfter 0 start frame text accepted
 
--- These are all the lengths that the frame is asked for, in order, and it is taken up to the greatest of them. The text is the line
--- with their number and this length, and the fault of the walk of what is taken. The frame is accepted exactly if there is no fault.
+-- The demands are all the lengths that walks of the frame's fronts ask for, in order, and the front with the greatest of them is
+-- taken. The text is a line with the number of demands and this length, and a line for the fault of the walk of that front, if it
+-- has one. The frame is accepted exactly if it has none.
 pub record AnswersFeed (start : Expectation) (frame text : List ℕ) (accepted : Bool) : Type 0 where
   pub demands : List ℕ
   pub are : AreDemands start frame 0 demands

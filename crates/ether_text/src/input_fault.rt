@@ -4,7 +4,8 @@ ghost use Rattle.std.specs.Prelude.{codes, Some};
 use std::error::Error;
 use std::fmt;
 
-/// The reader of an [`InputReader`](crate::InputReader) has failed, or never came to an end.
+/// A read by an [`InputReader`](crate::InputReader) failed: its reader did, or did not end within `u64::MAX` reads, or
+/// text waited for the writer.
 ///
 /// ```
 /// assert_eq!(rt; format!(in rt.alloc(); "{InputFault}")?.as_str(), "The reader has failed.");

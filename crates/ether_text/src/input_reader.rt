@@ -4,7 +4,7 @@ ghost use Rattle.ether_text.specs.InputReader.{HasCause};
 
 use crate::{InputFault, OutputBuffer, Sink, Source};
 
-/// A reader that is read a bounded number of times. After a fault it is not called again.
+/// A reader that is called at most `u64::MAX` times. After a fault it is not called again.
 ///
 /// ```
 /// let mut bytes = [1, 2, 3].as_slice();
@@ -27,7 +27,7 @@ pub struct InputReader<'a, R> {
 impl<'a, R: Source> InputReader<'a, R> {
     ghost use Rattle.std.specs.Prelude.{◌≡◌, ◌+◌, ◌-◌, ◌^◌, ◌≤◌, ◌<◌, [], length, take, true, false, IfOk, OnOk, OnErr};
 
-    /// A reader that has not failed, for up to `u64::MAX` reads.
+    /// Wraps a reader, which has not failed, for up to `u64::MAX` reads.
     pub fn new(reader: &'a mut R) -> Self
         ensures same_reader { result.inner.ghost_name ≡ reader.entry.ghost_name }
         ensures remaining { result.inner.now ≡ reader.old }
@@ -43,8 +43,10 @@ impl<'a, R: Source> InputReader<'a, R> {
 
     /// Reads some bytes to the front of `chunk`, and returns their number: 0 at the end of the input.
     ///
-    /// Returns [`InputFault`] if the read fails, if an earlier one failed, or after `u64::MAX` reads. Nothing is read either
-    /// while text waits in `out`: so whoever reads the output has the lines for all that was read so far.
+    /// # Errors
+    ///
+    /// [`InputFault`] if the read fails, if an earlier one failed, after `u64::MAX` reads, or while text waits in
+    /// `out`. The last makes sure that whoever reads the output has the lines for all that was read before.
     pub fn read<W: Sink>(
         &mut self,
         chunk: &mut [u8],

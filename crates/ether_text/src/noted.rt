@@ -8,7 +8,7 @@ use std::io::{ErrorKind, Read, Write};
 
 /// A reader or writer, and the error of the last call on it that failed.
 ///
-/// A run says only that a stream has failed. This says why.
+/// A run returns only that a stream has failed. This keeps the reason.
 ///
 /// ```
 /// let noted = Noted::new(SliceSource::new(&[1, 2, 3]));
@@ -21,7 +21,7 @@ pub struct Noted<T> {
 }
 
 impl<T> Noted<T> {
-    /// The stream. None of its calls has failed.
+    /// Wraps a stream. No error is kept yet.
     pub fn new(stream: T) -> Self
         ensures stream { result.stream ≡ stream }
         ensures error { result.error ≡ None }
@@ -32,7 +32,7 @@ impl<T> Noted<T> {
         }
     }
 
-    /// The error of the last call that failed, if one has.
+    /// The error of the last call that failed, or `None` if no call has failed.
     pub fn error(&self) -> Option<io::Error>
         ensures { result ≡ self.now.error }
     {
@@ -40,7 +40,7 @@ impl<T> Noted<T> {
     }
 }
 
-/// Keeps the error of a call, if it has failed, and returns what the call did.
+/// Keeps the error of a call that failed, and returns what the call returned.
 fn note<V>(answer: io::Result<V>, error: &mut Option<io::Error>) -> io::Result<V>
     ensures same { result ≡ answer }
     ensures noted { IfErr result (λ e. error.new ≡ Some e) }
@@ -79,9 +79,10 @@ impl<W: Write> Write for Noted<W> {
     }
 }
 
-/// Says in one line which stream of a program failed, or its arguments, and why; or if none of these did, that a file can't be read.
+/// Writes one line to `messages`, which says what failed in `program` and why: standard output, else the arguments,
+/// else standard input. If none of these failed, the line says that a file can't be read.
 ///
-/// Nothing is said where nobody reads the output any more, since who closed it knows.
+/// Nothing is written if output failed because nobody reads it any more: whoever closed it knows.
 pub fn tell_failure<M: Write>(
     program: &str,
     args: Option<io::Error>,

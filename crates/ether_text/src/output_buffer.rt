@@ -2,14 +2,14 @@
 use crate::{OutputFault, Sink};
 use arrayvec::ArrayVec;
 
-/// The room for text that waits.
+/// The number of bytes that may wait.
 const ROOM: usize = 65536;
 
 /// Text on its way to a writer, gathered so that many short pieces cost one write.
 ///
-/// What it holds is the writer's contents followed by the text that waits. After a fault the writer is not called
-/// again. Text that was not written out by [`write_out`](Self::write_out) or [`flush`](Self::flush) is lost when the
-/// buffer goes.
+/// It holds the writer's contents followed by the text that waits. After a fault the writer is not called again. Text
+/// that was not written out by [`write_out`](Self::write_out) or [`flush`](Self::flush) is lost when the buffer is
+/// dropped.
 ///
 /// ```
 /// let mut written = ArrayVec::<u8, 64>::new();
@@ -30,7 +30,7 @@ impl<'a, W: Sink> OutputBuffer<'a, W> {
     ghost use Rattle.std.specs.Prelude.{◌≡◌, ◌≤◌, ◌↔◌, [], length, true, false, OnOk, OnErr, IsFalse};
     ghost use Rattle.ether_text.specs.OutputBuffer.{Grows, Marks, Takes, WritesOut};
 
-    /// An empty buffer for `writer`.
+    /// Makes an empty buffer for `writer`.
     pub fn new(writer: &'a mut W) -> Self
         ensures same_writer { result.writer.ghost_name ≡ writer.entry.ghost_name }
         ensures contents { result.writer.now ≡ writer.old }
@@ -57,8 +57,8 @@ impl<'a, W: Sink> OutputBuffer<'a, W> {
         }
     }
 
-    /// Appends the bytes of an array, as [`append`](Self::append) does. If it was just made, it is written to its place at
-    /// once.
+    /// Like [`append`](Self::append), but for the bytes of an array. An array that was just made is written straight
+    /// into the buffer.
     #[inline(always)]
     pub fn append_array<const N: usize>(&mut self, bytes: [u8; N])
         ensures { Takes W.contents W.can_fail self.old bytes.entry self.new }
@@ -70,10 +70,10 @@ impl<'a, W: Sink> OutputBuffer<'a, W> {
         }
     }
 
-    /// Appends `bytes` for which there is no room before the text that waits is written out, piece by piece if they
-    /// are more than the room.
+    /// Appends `bytes` for which there is no room until the text that waits is written out. More than 65,536 bytes are
+    /// appended piece by piece.
     ///
-    /// They are copied, and not passed to the writer themselves: so callers need not keep in memory what they append.
+    /// They are copied, and not passed to the writer directly, so callers need not keep in memory what they append.
     #[cold]
     #[inline(never)]
     fn append_slowly(&mut self, bytes: &[u8])
@@ -100,7 +100,7 @@ impl<'a, W: Sink> OutputBuffer<'a, W> {
         }
     }
 
-    /// Returns [`OutputFault`] if the writer has failed.
+    /// Returns [`OutputFault`] if the writer has failed since the buffer was made.
     pub fn check(&self) -> Result<(), OutputFault>
         ensures ok { OnOk result (self.now.has_failed ≡ false) }
         ensures failed { OnErr result (self.now.has_failed ≡ true) }
@@ -118,9 +118,11 @@ impl<'a, W: Sink> OutputBuffer<'a, W> {
         !self.waiting.is_empty()
     }
 
-    /// Passes all that waits to the writer, which is not flushed.
+    /// Passes all text that waits to the writer, which is not flushed.
     ///
-    /// Returns [`OutputFault`] if the writer fails, or has failed before. Then the same text waits.
+    /// # Errors
+    ///
+    /// [`OutputFault`] if the writer fails, or has failed before. The text that waits is then unchanged.
     pub fn write_out(&mut self) -> Result<(), OutputFault>
         ensures same_writer { self.new.writer.ghost_name ≡ self.old.writer.ghost_name }
         ensures ok { OnOk result (WritesOut W.contents self.old self.new) }
@@ -141,9 +143,11 @@ impl<'a, W: Sink> OutputBuffer<'a, W> {
         }
     }
 
-    /// Passes all that waits to the writer, and flushes it.
+    /// Passes all text that waits to the writer, and flushes it.
     ///
-    /// Returns [`OutputFault`] if the writer fails, or has failed before.
+    /// # Errors
+    ///
+    /// [`OutputFault`] if the writer fails, or has failed before.
     pub fn flush(&mut self) -> Result<(), OutputFault>
         ensures same_writer { self.new.writer.ghost_name ≡ self.old.writer.ghost_name }
         ensures ok { OnOk result (WritesOut W.contents self.old self.new) }

@@ -7,16 +7,16 @@ use std::io::Write;
 
 /// What a run writes to: any [`Write`].
 ///
-/// What is proved for every sink is proved for one that can't fail, too. So whoever reports a fault has seen one, and
-/// whoever reports a flush has called it.
+/// What is proved for every sink also holds for one that can't fail. So a function that reports a fault has seen one,
+/// and a function that reports a flush has called it.
 pub trait Sink {
-    // The bytes that the sink holds, where they are known.
+    // The bytes that the sink holds, if they are known.
     ghost contents: { Self → Option (List ℕ) };
 
     // What holds if a call fails.
     ghost can_fail: { Type 0 };
 
-    // What holds of a sink that was flushed last.
+    // What holds of a sink whose last call was a flush.
     ghost is_flushed: { Self → Type 0 };
 
     /// Writes all of `bytes`.

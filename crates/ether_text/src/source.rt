@@ -7,9 +7,10 @@ use std::io::Read;
 
 /// What a run reads from: any [`Read`], or a [`SliceSource`].
 ///
-/// What is proved for every source is proved for one that can't fail, too. So whoever reports a fault has seen one.
+/// What is proved for every source also holds for one that can't fail. So a function that reports a fault has seen
+/// one.
 pub trait Source {
-    // The bytes that reads will give from here on, where they are known.
+    // The bytes that the next reads return, if they are known.
     ghost remaining: { Self → Option (List ℕ) };
 
     // What holds if a read fails.
@@ -54,7 +55,7 @@ pub struct SliceSource<'a> {
 }
 
 impl<'a> SliceSource<'a> {
-    /// All of `bytes`.
+    /// Makes a source of all of `bytes`.
     pub fn new(bytes: &'a [u8]) -> Self
         ensures { result.left.now ≡ bytes.now }
     {

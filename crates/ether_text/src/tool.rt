@@ -1,7 +1,7 @@
 //! The tool as functions: lines of hexadecimal digits, each a frame, are read and answered.
 //!
-//! [`program::program`] is the whole of `ether_tool` over any arguments, [`run::run`] is a run over any reader and writer, and
-//! [`run::run_slice`] one over lines in memory.
+//! [`program::program`] is the whole program `ether_tool`, over any arguments. [`run::run`] is a run over any reader
+//! and writer, and [`run::run_slice`] is a run over lines in memory.
 
 pub mod command;
 mod digit_table;

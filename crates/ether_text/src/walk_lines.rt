@@ -14,7 +14,7 @@ use ether_peel::{Peel, PeelFault, Start};
 /// Writes the lines of a frame's walk, and returns whether the frame is accepted.
 ///
 /// There is a line for each unit, in order, and one for the ending: `rest` with what is left of the frame, or `fault`.
-/// With a limit no more than so many VLAN tags and SecTags are read, as by [`Peel::with_limit`].
+/// With a limit, at most that many VLAN tags and SecTags are read, as by [`Peel::with_limit`].
 ///
 /// ```
 /// let frame = [
@@ -44,8 +44,7 @@ pub fn write_walk<W: Sink>(
     write_walk_after(0, start, limit, frame, out)
 }
 
-/// Does as [`write_walk`], with each place counted from `header_len` bytes before the frame: from the begin of a header that the walk
-/// does not know.
+/// Like [`write_walk`], but offsets count from an outer header of `header_len` bytes that precedes the frame.
 #[inline(always)]
 pub fn write_walk_after<W: Sink>(
     header_len: u8,
@@ -76,7 +75,7 @@ pub fn write_walk_after<W: Sink>(
     }
 }
 
-/// A fault whose place is counted from `at` bytes before the frame.
+/// The fault with an offset that counts from `at` bytes before the frame.
 fn after(at: usize, fault: PeelFault) -> PeelFault
     requires { at + fault.offset < 2 ^ 64 }
     ensures { result ≡ record fault { offset = at + fault.offset } }

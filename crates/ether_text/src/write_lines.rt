@@ -1,6 +1,6 @@
 //! Writes the lines of a walk: one for each unit and one for the ending, or one for the two counts of feeding it.
 //!
-//! Each is appended to the output piece by piece: through the formatter it would take twice as long.
+//! Each is appended to the output piece by piece, since the formatter would take twice as long.
 ghost use Rattle.std.specs.Prelude.{◌≡◌, ◌++◌, ◌≤◌, codes, decimal, length};
 ghost use Rattle.etherparse.specs.Ethernet2.{ethernet2_of, fcs_of};
 ghost use Rattle.etherparse.specs.Vlan.{vlan_of};
@@ -21,8 +21,8 @@ use etherparse::{
     MacsecHeaderSlice, MacsecPType, SingleVlanSlice,
 };
 
-/// Writes the line of a unit that starts at a place of the frame. After the unit there is left a
-/// window of `len` bytes, which is closed or open.
+/// Writes the line of a unit that starts at offset `start`. The window after its header has `len` bytes, and is closed
+/// or open.
 pub fn write_unit<W: Sink>(
     out: &mut OutputBuffer<'_, W>,
     start: usize,
@@ -193,8 +193,8 @@ fn write_arp<W: Sink>(out: &mut OutputBuffer<'_, W>, start: usize, slice: &ArpPa
     write_number(out, b" op ", usize::from(slice.operation().0));
 }
 
-/// Writes the line of what is left of a frame that was accepted: from a start to an end, and what it
-/// is announced as.
+/// Writes the line of what is left of an accepted frame: the offsets of its start and its end, and what it is
+/// announced as.
 #[inline(always)]
 pub fn write_rest<W: Sink>(out: &mut OutputBuffer<'_, W>, start: usize, end: usize, kind: RestKind)
     ensures { Takes W.contents W.can_fail out.old (rest_view_text start end kind ++ codes "\n") out.new }
@@ -246,7 +246,7 @@ fn write_protocol<W: Sink>(out: &mut OutputBuffer<'_, W>, protocol: LinuxSllProt
     }
 }
 
-/// Writes the line of a walk that is fed: how often it asks for more bytes, and how many it takes.
+/// Writes the line of a walk that is fed: how often it asks for more bytes, and how many bytes it takes.
 pub fn write_counts<W: Sink>(out: &mut OutputBuffer<'_, W>, refusals: usize, taken: usize)
     ensures { Takes W.contents W.can_fail out.old (feed_text refusals taken ++ codes "\n") out.new }
 {
@@ -332,7 +332,7 @@ pub fn write_number<W: Sink>(out: &mut OutputBuffer<'_, W>, word: &[u8], number:
     write_decimal(out, number);
 }
 
-/// The word for a window's mark.
+/// The word for a window's mark: `open` or `closed`.
 fn mark_of(closed: bool) -> &'static str
     ensures { result.now ≡ mark_text closed }
 {

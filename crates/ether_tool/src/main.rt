@@ -1,7 +1,8 @@
-//! Reads frames, one line of hexadecimal digits each, and prints the lines of the walk of each.
+//! Reads frames, each a line of hexadecimal digits, and prints the lines of the walk of each frame.
 //!
-//! `main` calls [`program::program`] on the arguments and the standard streams. All that it prints goes to standard
-//! output, but that a stream failed, which `main` says on standard error.
+//! `main` calls [`program::program`] on the arguments and the standard streams, and prints to standard output. If a
+//! stream failed or the arguments can't be read, the status is 4, and `main` also prints one line to standard error,
+//! unless nobody reads the output any more.
 #![tactic(auto)]
 
 pub use ether_text::tool::{command, laws, mode, outcome, parse_frame, program, run};
@@ -9,7 +10,7 @@ use ether_text::{Noted, tell_failure};
 use std::process::ExitCode;
 use std::{env, io};
 
-/// The program on the standard streams.
+/// Runs the program on the standard streams, and exits with its status.
 fn main(rt: HostRuntime) -> ExitCode {
     let args = env::args(&rt);
     let unread = args.as_ref().err().copied();

@@ -1,10 +1,11 @@
-//! The link layer of network packets: Ethernet II, VLAN tags (IEEE 802.1Q), MACsec SecTags (IEEE 802.1AE), Linux cooked
-//! capture v1 and ARP (RFC 826). No call allocates memory.
+//! The link layer of network packets: Ethernet II, VLAN tags (IEEE 802.1Q), MACsec SecTags (IEEE 802.1AE), Linux
+//! cooked capture v1 and ARP (RFC 826). No call allocates memory.
 //!
-//! Each format has up to three types. A `..Header` is a value with public fields, which is written by `to_bytes`. A
-//! `..HeaderSlice` is a view of the bytes of a header, and a `..Slice` one of a header and its payload: both borrow the
-//! packet, and read a field when it is asked for. `from_slice` makes any of the three from the front of a slice, or says
-//! in [`err`] why it can't.
+//! Most formats have three types. A `..Header` is a value with public fields, and `to_bytes` writes it. A
+//! `..HeaderSlice` is a view of the bytes of a header, and a `..Slice` is a view of a header and its payload. Both
+//! views borrow the packet, and read a field when it is asked for. `from_slice` makes each of the three from the front
+//! of a slice, or returns an error of [`err`]; a whole Ethernet II frame has `from_slice_without_fcs` and
+//! `from_slice_with_crc32_fcs` instead. ARP has the value [`ArpPacket`] and its view [`ArpPacketSlice`].
 //!
 //! A frame is read header by header, each from the payload of the one before:
 //!

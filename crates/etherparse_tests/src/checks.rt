@@ -1,11 +1,11 @@
-//! What the tests are written with.
+//! The comparison that the tests are written with.
 use arrayvec::ArrayString;
 use std::fmt::{Debug, Display, Write};
 
-/// The row, the value that differs, what was found and what is wanted. What has no room is cut off.
+/// The row, the value that differs, what was found and what is wanted. Text for which there is no room is cut off.
 type Difference = ArrayString<4096>;
 
-/// How two values differ, if they do. Its contract says nothing, so no proof of a test follows the comparison.
+/// How two values differ, if they do. It has no contract, so the proof of a test does not go through the comparison.
 pub(crate) fn difference<N: Display, T: PartialEq + Debug>(
     name: &N,
     value: &str,
@@ -23,7 +23,7 @@ pub(crate) fn difference<N: Display, T: PartialEq + Debug>(
     Some(text)
 }
 
-/// The first difference. A test with one branch for all its values is proved in half the time.
+/// The first difference. A test is proved in half the time if it has one branch for all its values.
 pub(crate) fn first<const N: usize>(differences: [Option<Difference>; N]) -> Option<Difference> {
     for difference in differences {
         if difference.is_some() {

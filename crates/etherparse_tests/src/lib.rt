@@ -1,6 +1,6 @@
-//! Tests of `etherparse` and of the libraries that it re-exports, by its public paths, of `ether_peel`, `ether_sll2` and
-//! `ether_text`, and what callers learn of the derived traits of their types. They are in a crate above them, so that each library is proved
-//! once.
+//! Tests of `etherparse` by its public paths, and so of the libraries that it re-exports, and tests of `ether_peel`,
+//! `ether_sll2` and `ether_text`; also what callers know of the derived traits of their types. The tests are in a
+//! crate above the libraries, so that each library is proved once.
 #![tactic(auto)]
 
 #[cfg(test)]

@@ -1,4 +1,5 @@
-//! Every public path, and worked examples. Rows stand in statics, since the proof of a function pays for each row that the function makes.
+//! Worked examples, by the public paths of `etherparse`. The rows are in statics, since each row that a function makes
+//! adds to the time of its proof.
 /// The error of a slice that is too short.
 macro_rules! cut_short {
     ($required_len:expr, $len:expr, $layer:expr $(,)?) => {
@@ -43,7 +44,7 @@ const fn ipv4(payload: &[u8]) -> EtherPayloadSlice<'_> {
     }
 }
 
-/// The variant of a protocol of cooked captures. A static holds no [`LinuxSllProtocolType`].
+/// The variant of a protocol of cooked captures. A static can't hold a [`LinuxSllProtocolType`].
 #[derive(Clone, Copy)]
 enum Protocol {
     Ignored,
@@ -52,7 +53,7 @@ enum Protocol {
     EtherType,
     /// The dummy type for 802.3 frames, whose number is 1.
     Dummy,
-    /// That for 802.2 frames, whose number is 4.
+    /// The type for 802.2 frames, whose number is 4.
     Llc,
 }
 

@@ -1,14 +1,14 @@
 //! The walk through the stack of link-layer headers of a frame: Ethernet II, VLAN tags, MACsec SecTags, Linux cooked
 //! capture v1 and ARP, each announced by the ether type of the one before it. No call allocates memory.
 //!
-//! [`Peel`] is an iterator over the headers with their payloads, and over the fault if there is one. [`summary`] returns
-//! the result of the whole walk, [`snap`] that of a frame cut short, and [`write_back`] writes the headers that were
-//! found, and what is left after them.
+//! [`Peel`] is an iterator over the headers with their payloads, and over the fault if there is one. [`summary`]
+//! returns the result of the whole walk, [`snap`] that of a frame cut short, and [`write_back`] writes the headers
+//! that were found, and what is left after them.
 //!
-//! If a header names the length of its payload, as a MACsec SecTag may, or the frame ends in a frame check sequence, the
-//! window of what is inside is closed: bytes that follow the frame would not belong to it. [`PeelFault::missing`] says
-//! how many bytes a header lacks in a window that is open; for most headers [`completion`] returns the bytes that
-//! complete them. [`feed`] says what a reader that asks for the missing bytes takes of a frame.
+//! If a header names the length of its payload, as a MACsec SecTag may, or the frame ends in a frame check sequence,
+//! the window of what is inside is closed: bytes appended to the frame would lie outside it. [`PeelFault::missing`]
+//! says how many bytes a header lacks in a window that is open; for most headers [`completion`] returns the bytes that
+//! complete them. [`feed`] returns how much of a frame is taken by a reader that asks for the missing bytes.
 //!
 //! [`Peel::with_limit`] reads no more than a given number of VLAN tags and SecTags. `summary`, `snap`, `write_back`,
 //! `feed` and `completion` each have a `_limited` form with that walk.

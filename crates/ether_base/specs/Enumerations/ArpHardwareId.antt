@@ -117,7 +117,7 @@ shown number None = hex_number number
 shown number (Some description) =
     described (if nat_lt number 0xFFFE then decimal number else hex_number number) description
 
--- a hardware type as it is shown: one with a description by its decimal digits, the last two by their
--- hexadecimal ones, and one without by its hexadecimal digits alone
+-- How a hardware type is shown: decimal digits and its description, 0xFFFE and 0xFFFF as hexadecimal digits and their
+-- description, and one without a description as hexadecimal digits alone.
 abbrev pub shown_arp_hardware_id : ℕ → List ℕ
 shown_arp_hardware_id number = shown number (arp_hardware_description number)

@@ -7,7 +7,7 @@ use Rattle.ether_base.specs.declared.err.value_type.ValueType.{ValueType}
 abbrev pub too_big : (number greatest : ℕ) → ValueType → ValueTooBigError ℕ
 too_big number greatest value_type = record { actual = number; max_allowed = greatest; value_type = value_type }
 
--- a field for the numbers up to a greatest one takes such a number, and refuses any other by name
+-- a field takes exactly the numbers up to a greatest one; a refusal names the field, the number and the greatest one
 abbrev pub TakesUpTo : ℕ → ValueType → ℕ → Result ℕ (ValueTooBigError ℕ) → Type 0
 TakesUpTo greatest value_type number result =
     MatchResult result

@@ -1,4 +1,4 @@
--- What the derived `Hash` of a type feeds a hasher: of an enumeration the place of the variant, and then the fields in their order.
+-- What the derived `Hash` of a type feeds a hasher: for an enumeration first the place of the variant, then the fields in order.
 use Rattle.std.specs.Prelude.{ℕ, pos, ◌++◌, fold}
 use Rattle.std.specs.Hash as fed
 use Rattle.std.specs.Hash.{HashWrites}

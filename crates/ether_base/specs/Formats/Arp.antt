@@ -56,7 +56,7 @@ arp_front_of a = record {
 abbrev pub bytes_at : List ℕ → ℕ → ℕ → List ℕ
 bytes_at bytes at n = slice_range bytes at (at + n)
 
--- The bytes of a packet mean a value: after the first eight come the four addresses.
+-- The bytes of a packet mean a value: the four addresses follow the first eight bytes.
 pub record IsArp (bytes : List ℕ) (a : ArpValue) : Type 0 where
   pub front : BeginsArp bytes (arp_front_of a)
   pub sender_hardware : bytes_at bytes 8 (length a.sender_hardware) ≡ a.sender_hardware
@@ -64,7 +64,7 @@ pub record IsArp (bytes : List ℕ) (a : ArpValue) : Type 0 where
   pub target_hardware : bytes_at bytes (8 + length a.sender_hardware + length a.sender_protocol) (length a.sender_hardware) ≡ a.target_hardware
   pub target_protocol : bytes_at bytes (8 + 2 * length a.sender_hardware + length a.sender_protocol) (length a.sender_protocol) ≡ a.target_protocol
 
--- the addresses are bytes, and those of a kind are of one length, which fits a byte
+-- the addresses are bytes, and the two of a kind have the same length, which fits in a byte
 pub record FitsArp (a : ArpValue) : Type 0 where
   pub front : FitsArpFront (arp_front_of a)
   pub hardware : length a.target_hardware ≡ length a.sender_hardware
@@ -90,7 +90,7 @@ arp_front_in bytes = record {
   operation = number (slice_range bytes 6 8);
 }
 
--- the packet with a front that a list begins with
+-- the packet that a list begins with, if this is its front
 abbrev pub arp_with : ArpFront → List ℕ → ArpValue
 arp_with front bytes = record {
   hardware_type = front.hardware_type;

@@ -39,18 +39,18 @@ abbrev pub payload_len : Header → Option ℕ
 payload_len (Macsec t) = known_payload_len (sec_tag_front_of 0 0 t)
 payload_len _ = None
 
--- the bytes after the payload that are no part of it: a frame check sequence
+-- the length of a frame check sequence, which follows the payload and is not part of it
 abbrev pub trailer_len : Header → ℕ
 trailer_len (Ethernet2Fcs e) = 4
 trailer_len _ = 0
 
--- the bytes of a unit: its header's, and with them its payload's if the header names their number
+-- the length of a unit: that of its header, and that of its payload if the header names it
 abbrev pub unit_len : Header → ℕ
 unit_len h = header_len h + unwrap_or (payload_len h) 0
 
 -- ---- meaning
 
--- these bytes, as many as the header has, mean it
+-- these bytes mean the header, if they are as many as it has
 abbrev pub Spells : List ℕ → Header → Type 0
 Spells bytes (Ethernet2 e) = IsEthernet2 bytes e
 Spells bytes (Ethernet2Fcs e) = IsEthernet2 bytes e

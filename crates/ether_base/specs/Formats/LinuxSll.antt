@@ -43,6 +43,6 @@ linux_sll_of bytes = record {
   protocol = number (slice_range bytes 14 16);
 }
 
--- the hardware types whose protocol numbers have a meaning: netlink, GRE over IP, radiotap, frame relay, Ethernet
+-- the hardware types that are supported: 824 netlink, 778 GRE over IP, 803 radiotap, 770 frame relay, 1 Ethernet
 abbrev pub is_supported : ℕ → Bool
 is_supported hardware = nat_eq hardware 824 || nat_eq hardware 778 || nat_eq hardware 803 || nat_eq hardware 770 || nat_eq hardware 1

@@ -13,14 +13,14 @@ abbrev pub ethernet_protocol_type : ℕ → LinuxSllProtocolType
 ethernet_protocol_type number =
     if is_nonstandard number then LinuxNonstandardEtherType number else EtherType (record { 0 = number })
 
--- What the protocol number of a cooked capture means, by a supported hardware type of the link (LINKTYPE_LINUX_SLL). On another link
--- than Ethernet: 824 netlink, 778 GRE over IP; 803 radiotap and 770 frame relay have no meaning for it.
+-- What it means on a supported link other than Ethernet (LINKTYPE_LINUX_SLL): 824 netlink and 778 GRE over IP give it a meaning,
+-- 803 radiotap and 770 frame relay do not.
 abbrev pub link_protocol_of : ℕ → ℕ → LinuxSllProtocolType
 link_protocol_of hardware number =
     if hardware == 824 then NetlinkProtocolType number
     else (if hardware == 778 then GenericRoutingEncapsulationProtocolType number else Ignored number)
 
--- 1 Ethernet
+-- what it means on a supported link; 1 is Ethernet
 abbrev pub protocol_of : ℕ → ℕ → LinuxSllProtocolType
 protocol_of hardware number = if hardware == 1 then ethernet_protocol_type number else link_protocol_of hardware number
 

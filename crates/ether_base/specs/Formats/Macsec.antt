@@ -37,7 +37,7 @@ pub record BeginsSecTag (bytes : List ℕ) (t : SecTagFront) : Type 0 where
 
 -- ---- lengths
 
--- the bytes of the ether type, which can be read exactly if E and C are 0
+-- the length of the ether type, which can be read exactly if E and C are 0
 abbrev pub ether_type_len : ℕ → ℕ → ℕ
 ether_type_len zero zero = 2
 ether_type_len _ _ = 0
@@ -46,8 +46,8 @@ ether_type_len _ _ = 0
 abbrev pub sec_tag_len : SecTagFront → ℕ
 sec_tag_len t = 6 + 8 * t.sci_present + ether_type_len t.encrypted t.changed
 
--- The payload's length that a short length names, which counts the ether type after the tag: 0 names none, and so does a number
--- with no room for that ether type.
+-- The length of the payload that a short length names. The short length also counts the ether type after the tag, if that can be
+-- read. It names no length if it is 0 or smaller than that ether type.
 abbrev pub known_len : (ether_type short : ℕ) → Option ℕ
 known_len ether_type short = if nat_eq short 0 || nat_lt short ether_type then None else Some (short - ether_type)
 
@@ -103,12 +103,12 @@ sec_tag_front_of version reserved t = record {
   short_len = t.short_len;
 }
 
--- the SCI follows the first six bytes
+-- the SCI, if there is one, follows the first six bytes
 abbrev pub HasSci : List ℕ → Option ℕ → Type 0
 HasSci bytes None = Unit {0}
 HasSci bytes (Some sci) = number (slice_range bytes 6 14) ≡ sci
 
--- the ether type begins at a place
+-- the ether type, if it can be read, begins at a place
 abbrev pub HasEtherType : List ℕ → ℕ → PayloadType → Type 0
 HasEtherType bytes at (Unmodified ether_type) = number (slice_range bytes at (at + 2)) ≡ ether_type
 HasEtherType bytes at _ = Unit {0}
@@ -142,7 +142,7 @@ sec_tag_front_at n = record {
 abbrev pub sec_tag_front_in : List ℕ → SecTagFront
 sec_tag_front_in bytes = sec_tag_front_at (number (slice_range bytes 0 2))
 
--- the payload type by E and C, of a tag with this ether type after it if one can be read
+-- the payload type by E and C; the ether type is part of it only if both are 0
 abbrev pub payload_type_for : (encrypted changed ether_type : ℕ) → PayloadType
 payload_type_for zero zero ether_type = Unmodified ether_type
 payload_type_for zero (suc changed) ether_type = Modified

@@ -18,13 +18,13 @@ pub data Refusal : Type 0 where
   UnexpectedVersion : Refusal
   InvalidShortLen : Refusal
 
--- E and C are 0, and the short length has no room for the ether type (IEEE 802.1AE, 9.7)
+-- E and C are 0, and the short length is too small for the two bytes of the ether type that it counts (IEEE 802.1AE, 9.7)
 pub record IsTooShort (t : SecTagFront) : Type 0 where
   pub encrypted : t.encrypted ≡ 0
   pub changed : t.changed ≡ 0
   pub short_len : t.short_len ≡ 1
 
--- the rows, for bytes whose number was named by a source
+-- the rows of the table; `bound` is what gave the number of the bytes
 pub data Refuses (bound : LenSource) (bytes : List ℕ) : Kind → Refusal → Type 0 where
   ethernet2 : length bytes < 14 → Refuses bound bytes kinds.Ethernet2 (Length 14 (length bytes) bound layers.Ethernet2Header)
   ethernet2_fcs : length bytes < 18 → Refuses bound bytes kinds.Ethernet2Fcs (Length 18 (length bytes) bound layers.Ethernet2Header)
@@ -53,7 +53,7 @@ Accepts bound bytes kind = (r : Refusal) → Refuses bound bytes kind r → ⊥
 
 -- ---- of a header alone, without the payload whose length it names
 
--- the row speaks of that payload
+-- the row is about that payload
 abbrev pub IsOfPayload : Refusal → Type 0
 IsOfPayload (Length required len source layer) = layer ≡ layers.MacsecPacket
 IsOfPayload (UnsupportedPacketType n) = ⊥

@@ -12,7 +12,7 @@ pub record IsRefusedLen (bytes : List ℕ) (kind : Kind) (e : LenError) : Type 0
   pub row : Refuses sources.Slice bytes kind (Length e.required_len e.len e.len_source e.layer)
   pub start : e.layer_start_offset ≡ 0
 
--- something holds of a length error; of any other nothing is said
+-- `holds` is true of a length error; nothing is claimed of other errors
 abbrev pub OnLen : {C : Type 0} → HeaderSliceError C → (LenError → Type 0) → Type 0
 OnLen (Len e) holds = holds e
 OnLen (Content c) holds = Unit {0}

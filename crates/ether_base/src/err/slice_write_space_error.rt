@@ -8,7 +8,7 @@ use std::fmt;
 
 /// A slice is too short to write a layer to it.
 ///
-/// All numbers are bytes.
+/// All lengths and offsets are in bytes.
 ///
 /// ```
 /// let error = SliceWriteSpaceError {
@@ -30,7 +30,7 @@ pub struct SliceWriteSpaceError {
     pub len: usize,
     /// The layer that was to be written.
     pub layer: Layer,
-    /// The offset at which the layer was to start, from the start of what is written.
+    /// The offset of the layer's first byte, from the start of what is written.
     pub layer_start_offset: usize,
 }
 

@@ -15,7 +15,7 @@ use Rattle.ether_peel.specs.Grammar.Endings.{refusal_of, OpenRefusal}
 
 -- ---- what can be completed
 
--- by its layer and the number of its bytes that are there: of a SecTag six, which are all but the SCI and the ether type
+-- a unit, by its layer and the number of its bytes that are there; a SecTag must have six, all but the SCI and the ether type
 pub data CanBeCompleted : Layer → ℕ → Type 0 where
   ethernet2 : (len : ℕ) → CanBeCompleted layers.Ethernet2Header len
   vlan : (len : ℕ) → CanBeCompleted layers.VlanHeader len
@@ -24,8 +24,8 @@ pub data CanBeCompleted : Layer → ℕ → Type 0 where
 
 -- ---- the whole unit
 
--- Where the ether type is in a SecTag, which has one exactly if E and C are 0: after the packet number, and the SCI if there is one
--- (IEEE 802.1AE, 9.3).
+-- Where the ether type is in a SecTag, which has one exactly if E and C are 0: after the packet number, and the SCI if there is
+-- one (IEEE 802.1AE, 9.3).
 abbrev pub type_place : (encrypted changed sci_present : ℕ) → Option ℕ
 type_place zero zero sci_present = Some (6 + 8 * sci_present)
 type_place _ _ sci_present = None
@@ -39,8 +39,8 @@ pub data Plan (begun : List ℕ) : Layer → ℕ → Option ℕ → Type 0 where
   -- the header, and the payload if the short length names its length (IEEE 802.1AE, 9.3 and 9.7)
   macsec : (t : SecTagFront) → BeginsSecTag begun t
       → Plan begun layers.MacsecHeader (sec_tag_len t + unwrap_or (known_payload_len t) 0) (type_place t.encrypted t.changed t.sci_present)
-  -- eight bytes and four addresses, whose two sizes are the fifth and the sixth byte (RFC 826, "Packet format"); a size that is not
-  -- there counts as 0
+  -- eight bytes and four addresses, whose two sizes are the fifth and the sixth byte (RFC 826, "Packet format"); a size that is
+  -- not there counts as 0
   arp : Plan begun layers.Arp (8 + 2 * slice_index begun 4 + 2 * slice_index begun 5) None
 
 -- ---- the bytes
@@ -74,7 +74,7 @@ pub record Completes (start : Expectation) (list bytes : List ℕ) : Type 0 wher
   pub plan : Plan (within list (last_window ending)) refusal.layer total place
   pub whole : length (within list (last_window ending)) + length bytes ≡ total
   pub is : bytes ≡ fill (within list (last_window ending)) total place
-  -- the list followed by them is accepted, with exactly one header more
+  -- the list followed by them is accepted, with exactly one further header
   pub unit : Header
   pub accepted : Ending
   pub walk_on : Walk start (list ++ bytes) (headers ++ unit ∷ []) accepted

@@ -1,4 +1,4 @@
--- Demands: the lengths that a reader of longer and longer fronts of a list is asked for, and how many there can be.
+-- Demands: the lengths that the walks of longer and longer fronts of a list ask for, and how many there can be.
 use Rattle.std.specs.Prelude.{◌≡◌, ℕ, ◌+◌, ◌-◌, ◌<◌, ◌≤◌, max, List, [], ◌∷◌, length, take, Option, Some, None, is_some, Bool, true, false, ◌||◌}
 use Rattle.etherparse.specs.Kind.{Kind}
 use Rattle.etherparse.specs.Kind as kinds
@@ -31,8 +31,8 @@ greatest (m ∷ ms) = max m (greatest ms)
 
 -- ---- how many there can be
 
--- how often a unit can ask for more: never in a closed window; for its header, for what its first bytes make of that (an ARP packet's
--- addresses, the rest of a SecTag), and for the payload whose length a SecTag names
+-- how often a unit can ask for more: never in a closed window; for its header, for what its first bytes make of that (an ARP
+-- packet's addresses, the rest of a SecTag), and for the payload whose length a SecTag names
 abbrev pub cap : Bool → Kind → ℕ
 cap true kind = 0
 cap false kinds.Ethernet2 = 1
@@ -55,8 +55,8 @@ announced_cap closed (Some kind) = cap closed kind
 abbrev pub last_cap : Ending → ℕ
 last_cap e = announced_cap (last_window e).closed (announced (last_expected e))
 
--- Of an accepted list, with headers hs, a walk with headers ks and ending f takes all units and nothing else: a shorter front does not
--- have all headers.
+-- A walk with headers ks and ending f takes exactly the units of an accepted list with headers hs: no shorter front has all
+-- headers.
 pub record TakesUnits (start : Expectation) (list : List ℕ) (hs : List Header) (taken : ℕ) (ks : List Header) (f : Ending) : Type 0 where
   pub reaches : taken ≡ reach 0 hs
   pub all : ks ≡ hs

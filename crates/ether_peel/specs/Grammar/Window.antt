@@ -20,8 +20,9 @@ pub record IsIn (list : List ℕ) (w : Window) : Type 0 where
   pub ordered : w.start ≤ w.finish
   pub inside : w.finish ≤ length list
 
--- The window of the payload after a header at the window's start. If the header names the payload's length, it ends after so many
--- bytes, is closed and is bounded by the short length; if not, it ends before the trailer, and is closed and bounded as the window is.
+-- The window of the payload after a header at the window's start. If the header names the payload's length, it ends after that
+-- many bytes, is closed and is bounded by the short length; if not, it ends before the trailer, and is closed and bounded as the
+-- window is.
 abbrev pub payload : Window → Header → Window
 payload w h = let start = w.start + header_len h in record {
   start = start;

@@ -22,7 +22,7 @@ error_at start InvalidShortLen = errors.Macsec macsec.InvalidUnmodifiedShortLen
 abbrev pub fault_in : Window → Refusal → PeelFault
 fault_in w r = record { offset = w.start; error = error_at w.start r; closed = w.closed }
 
--- so many bytes are missing: of a length, in an open window
+-- n bytes are missing: the fault is of a length, in an open window
 pub record Misses (f : PeelFault) (n : ℕ) : Type 0 where
   pub is_open : f.closed ≡ false
   pub error : LenError
@@ -30,7 +30,7 @@ pub record Misses (f : PeelFault) (n : ℕ) : Type 0 where
   pub short : error.len < error.required_len
   pub missing : error.len + n ≡ error.required_len
 
--- it names this length of the list, at least: of a length, in an open window
+-- the fault names m as a length that the list needs: it is of a length, in an open window
 pub record Names (f : PeelFault) (m : ℕ) : Type 0 where
   pub is_open : f.closed ≡ false
   pub error : LenError

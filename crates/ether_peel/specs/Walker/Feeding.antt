@@ -8,8 +8,9 @@ use Rattle.ether_peel.specs.Walker.Summary.{fault_of}
 use Rattle.ether_peel.specs.declared.walk_feed.Feed.{Feed}
 use Rattle.ether_peel.specs.Grammar.Demands.{AreDemands, TakesUnits, caps, greatest, last_cap}
 
--- The demands are counted, and the front of the length of the greatest is what is taken; its walk has this fault, and as many caps at
--- least. Without a frame check sequence all units of an accepted list are taken; with one, nothing is asked for.
+-- The feed counts the demands, and takes the front whose length is the greatest of them. The walk of this front has the fault, and
+-- its caps are at least as many. Without a frame check sequence all units of an accepted list are taken; with one, nothing is
+-- asked for.
 pub record IsFeed (start : Expectation) (list : List ℕ) (f : Feed) : Type 0 where
   pub demands : List ℕ
   pub are : AreDemands start list 0 demands

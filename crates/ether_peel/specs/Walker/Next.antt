@@ -51,9 +51,9 @@ ShowsUnit bytes rest (headers.Vlan v) u = u ≡ units.Vlan bytes
 ShowsUnit bytes rest (headers.Macsec t) u = (m : MacsecSlice) × (u ≡ units.Macsec m) × ShowsMacsec bytes rest t m
 ShowsUnit bytes rest (headers.Arp a) u = u ≡ units.Arp (slice_range bytes 0 (header_len (headers.Arp a)))
 
--- What comes next if these headers and this ending are faced: nothing, and nothing changes; the fault, after which
--- nothing comes; the first header's unit, after which what it announces is expected, and the others are faced in the
--- window of its payload.
+-- What a call returns if these headers and this ending are faced: nothing, and nothing changes; or the fault, after which calls
+-- return nothing; or the first header's unit, after which what it announces is expected, and the others are faced in the window of
+-- its payload.
 abbrev pub GivesNext : List ℕ → Window → List Header → Ending → State → Option (Result PeelUnit PeelFault) → State → Type 0
 GivesNext list w [] (Accepted v y) s result t = (result ≡ None) × (t ≡ s)
 GivesNext list w [] (Fault v y r) s result t = (result ≡ Some (Err (fault_in w r))) × (t ≡ record s { over = true })
@@ -71,8 +71,8 @@ pub data Yields : State → List (Result PeelUnit PeelFault) → Type 0 where
   item : (s t : State) (first : Result PeelUnit PeelFault) (others : List (Result PeelUnit PeelFault))
       → Gives s (Some first) t → Yields t others → Yields s (first ∷ others)
 
--- The items of these headers and this ending, each once and in order: the view of each header's unit, of the bytes of its window and
--- of its payload's; after them the fault, if it ends so.
+-- The items of these headers and this ending, each once and in order: the view of each header's unit, of the bytes of its window
+-- and of its payload's; after them the fault, if it ends so.
 abbrev pub AreItems : List ℕ → Window → List Header → Ending → List (Result PeelUnit PeelFault) → Type 0
 AreItems list w [] (Accepted v y) items = items ≡ []
 AreItems list w [] (Fault v y r) items = items ≡ Err (fault_in w r) ∷ []
@@ -80,7 +80,7 @@ AreItems list w (h ∷ hs) e items =
     (u : PeelUnit) × (others : List (Result PeelUnit PeelFault)) × (items ≡ Ok u ∷ others)
     × ShowsUnit (within list w) (within list (payload w h)) h u × AreItems list (payload w h) hs e others
 
--- of k bytes at most k / 4 units and a fault are still to come, and nothing after the fault
+-- k bytes yield at most k / 4 further units and a fault; nothing follows the fault
 abbrev pub items_left : State → Count
 items_left s = at_most (if s.over then 0 else length s.rest / 4 + 1)
 

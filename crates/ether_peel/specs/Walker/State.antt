@@ -20,7 +20,7 @@ pub record State : Type 0 where
 
 -- ---- the representation
 
--- What is expected where a kind is shown, once the first header was read. `Start` is never shown then (`IsShown`), so what stands for it
+-- What is expected where a kind is shown, once the first header was read. `Start` is never shown then (`IsShown`), so its row
 -- means nothing.
 abbrev pub shown_of : RestKind → Next
 shown_of rests.Start = AfterArp

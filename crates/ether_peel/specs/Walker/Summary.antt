@@ -25,7 +25,7 @@ summary_of hs e = record {
   fault = fault_of e;
 }
 
--- the summary of a walker that shows this, after so many units, with its fault
+-- the summary of a walker that shows this, after this number of units, with its fault
 abbrev pub summary_at : State → ℕ → Option PeelFault → Summary
 summary_at s units fault = record {
   units = units;
@@ -45,7 +45,8 @@ pub record IsSummary (start : Expectation) (list : List ℕ) (s : Summary) : Typ
   pub is : s ≡ summary_of headers ending
   pub extensions : has_fcs start ≡ false → KeepsExtensions start list headers ending
 
--- It is the summary of the list's first n bytes. Without a frame check sequence, this cut keeps what it has of the whole list's walk.
+-- It is the summary of the list's first n bytes. Without a frame check sequence, this cut keeps what it has of the whole list's
+-- walk.
 pub record IsCutSummary (start : Expectation) (list : List ℕ) (n : ℕ) (s : Summary) : Type 0 where
   pub summary : IsSummary start (take n list) s
   pub keeps : has_fcs start ≡ false → (hs : List Header) (e : Ending) → Walk start list hs e → KeepsCut hs e n summary.headers summary.ending

@@ -11,7 +11,7 @@ pub record NamesLimit (word : List ℕ) (limit : ℕ) : Type 0 where
   pub few : length word ≤ 4
   pub value : limit ≡ digits_value 10 word
 
--- the words of a mode, and after one or more of them `limit` and its number
+-- the words of a mode; `limit` and its number may follow if there is at least one word
 pub data NamesCommand : List (List ℕ) → Mode × Option ℕ → Type 0 where
   plain : (words : List (List ℕ)) (mode : Mode) → NamesMode words mode → NamesCommand words (mode, None)
   limited : (word : List ℕ) (words : List (List ℕ)) (digits : List ℕ) (mode : Mode) (limit : ℕ) → NamesMode (word ∷ words) mode

@@ -2,7 +2,7 @@
 use Rattle.std.specs.Prelude.{◌≡◌, ℕ, ◌<◌, List, slice_index, unwrap_or}
 use Rattle.hex.specs.Hex.{hex_digit_value}
 
--- the value of a digit, or 128 for a character that is none
+-- the value of a digit, or 128 for a character that is not a digit
 abbrev pub entry_of : ℕ → ℕ
 entry_of c = unwrap_or (hex_digit_value c) 128
 

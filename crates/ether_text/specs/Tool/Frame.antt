@@ -17,14 +17,14 @@ pub record NameByte (first second byte : ℕ) : Type 0 where
   pub second_value : hex_digit_value second ≡ Some low
   pub whole : byte ≡ 16 * high + low
 
--- a line of at most so many digits, two for each byte of the frame
+-- a line of at most 4,096 digits, two for each byte of the frame
 pub record IsFrame (line frame : List ℕ) : Type 0 where
   pub short : length line ≤ max_line_digits
   pub pairs : length line ≡ 2 * length frame
   pub bytes : (i : ℕ) → i < length frame
       → NameByte (slice_index line (2 * i)) (slice_index line (2 * i + 1)) (slice_index frame i)
 
--- a line that names no frame: it is too long, has an odd count of digits, or a character that is no digit
+-- a line that names no frame: it is too long, has an odd number of digits, or has a character that is not a digit
 pub data IsBadLine (line : List ℕ) : Type 0 where
   too_long : max_line_digits < length line → IsBadLine line
   odd : length line % 2 ≡ 1 → IsBadLine line

@@ -1,4 +1,4 @@
--- How far a run has come.
+-- The state of a run between two reads.
 use Rattle.std.specs.Prelude.{◌≡◌, ℕ, ◌-◌, ◌^◌, min, List, [], ◌∷◌, ◌++◌, length, Bool, Option}
 use Rattle.std.specs.Str.Lines.{lines}
 use Rattle.std.specs.Io.KnownBytes.{Appends}
@@ -19,7 +19,7 @@ pub record SplitsAtLineFeed (bytes before after : List ℕ) : Type 0 where
   pub in_line : HasNoLineFeed before
   pub parts : bytes ≡ before ++ 10 ∷ after
 
--- Of the input so far the done lines are answered, and the last of it is the line under way.
+-- The lines that ended in the input so far are answered, and the rest of the input is the line that is being read.
 pub record Reached {W : Type 0} (command : Command) (contents : W → Option (List ℕ)) (held : Option (List ℕ)) (input : List ℕ) (at : LineLoop) (out : OutputBuffer W) : Type 0 where
   pub done : List (List ℕ)
   pub line : List ℕ
@@ -43,18 +43,18 @@ pub record JudgesLine {W : Type 0} (command : Command) (contents : W → Option 
   pub is_count : new.count ≡ number_after old.count
   pub begins : KeepsLine new.line []
 
--- the line under way and its last piece are a bad line, and nothing is written for it
+-- the line that was being read and its last piece are a bad line, and nothing is written for it
 pub record RefusesLine {W : Type 0} (piece : List ℕ) (end : LineEnd) (old : LineLoop) (from to : OutputBuffer W) (number : ℕ) : Type 0 where
   pub is_bad : (line : List ℕ) → KeepsLine old.line line → IsBadLine (without_end end (line ++ piece))
   pub is_number : number ≡ number_after old.count
   pub same : to ≡ from
 
--- the run has come further by these bytes
+-- the run has answered the lines that end in these bytes, and keeps the rest of them
 pub record Advances {W : Type 0} (command : Command) (contents : W → Option (List ℕ)) (old : LineLoop) (from : OutputBuffer W) (bytes : List ℕ) (new : LineLoop) (to : OutputBuffer W) : Type 0 where
   pub reached : (held : Option (List ℕ)) (input : List ℕ) → Reached command contents held input old from
       → Reached command contents held (input ++ bytes) new to
 
--- a bad line ends in these bytes, whatever comes later
+-- a bad line ends in these bytes, whatever follows them
 pub record StopsWithin {W : Type 0} (command : Command) (contents : W → Option (List ℕ)) (old : LineLoop) (from : OutputBuffer W) (bytes later : List ℕ) (to : OutputBuffer W) (number : ℕ) : Type 0 where
   pub stops : (held : Option (List ℕ)) (input : List ℕ) → Reached command contents held input old from
       → (text : List ℕ) × Appends held (contents_of contents to) text
@@ -66,7 +66,7 @@ pub record Finishes {W : Type 0} (command : Command) (contents : W → Option (L
       → (text : List ℕ) × (all_accepted : Bool) × Appends held (contents_of contents to) text
       × AreAnswered command (lines input) text all_accepted × (verdict ≡ verdict_of all_accepted)
 
--- nothing is read
+-- nothing was read yet
 pub record IsStart (at : LineLoop) : Type 0 where
   pub is_count : at.count ≡ 0
   pub is_verdict : at.verdict ≡ AllAccepted

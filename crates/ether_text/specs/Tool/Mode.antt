@@ -4,8 +4,7 @@ use Rattle.hex.specs.Hex.{hex_digit_value}
 use Rattle.ether_text.specs.declared.tool.mode.Mode.{Mode}
 use Rattle.ether_text.specs.declared.tool.mode.Mode.TheVariants.{Eth, Fcs, Sll, EtherType, Feed}
 
--- hexadecimal digits of either case name a number: the sum of each one's value times the power of 16 that its place has,
--- the last one's being 1
+-- hexadecimal digits of either case name a number, the most significant digit first
 abbrev pub NamesNumber : (digits : List ℕ) → (number : ℕ) → Type 0
 NamesNumber [] number = number ≡ 0
 NamesNumber (digit ∷ digits) number =

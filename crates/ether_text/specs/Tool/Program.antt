@@ -10,14 +10,15 @@ use Rattle.ether_text.specs.declared.verdict.Verdict.{Verdict}
 use Rattle.ether_text.specs.declared.tool.outcome.ToolFault.{ToolFault}
 use Rattle.ether_text.specs.declared.tool.outcome.ToolFault.TheVariants.{Input}
 
--- The words name a command, and it has run. Or they name none, or can't be read, which is a fault of the input: then nothing is read or written.
+-- The words name a command, and it has run. Or they name none, or they can't be read, which counts as a fault of the input; then
+-- nothing is read or written.
 abbrev pub HasObeyed : Option (List (List ℕ)) → (before after held holds : Option (List ℕ)) → Result (Result Verdict ToolFault) Usage → Type 0
 HasObeyed (Some words) before after held holds (Ok outcome) =
     (command : Mode × Option ℕ) × NamesCommand words command × HasRun (record { mode = command.0; limit = command.1 }) before after held holds outcome
 HasObeyed (Some words) before after held holds (Err usage) = NamesNoCommand words × (after ≡ before) × (holds ≡ held)
 HasObeyed None before after held holds outcome = (outcome ≡ Ok (Err Input)) × (after ≡ before) × (holds ≡ held)
 
--- what holds of a fault of the input, and of one of the output
+-- a claim for a fault of the input, and one for a fault of the output
 abbrev pub OnFailure : Result (Result Verdict ToolFault) Usage → (input output : Type 0) → Type 0
 OnFailure (Ok outcome) input output = IfErr outcome (λ fault. OnStreamFault fault input output)
 OnFailure (Err usage) input output = ⊤

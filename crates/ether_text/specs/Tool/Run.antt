@@ -19,7 +19,7 @@ pub record IsLineAnswered (command : Command) (line text : List ℕ) (accepted :
   pub named : IsFrame line frame
   pub answered : Answers command frame text accepted
 
--- this is the text for the lines in order, and all says that each of their frames is accepted
+-- this is the text for the lines in order, and `all` says whether all their frames are accepted
 abbrev pub AreAnswered : Command → List (List ℕ) → List ℕ → Bool → Type 0
 AreAnswered command [] text all = (text ≡ []) × (all ≡ true)
 AreAnswered command (line ∷ others) text all =
@@ -31,11 +31,11 @@ AreAnswered command (line ∷ others) text all =
 abbrev pub HasNoLineFeed : List ℕ → Type 0
 HasNoLineFeed line = All (λ byte. (byte == 10) ≡ false) line
 
--- the number of the line after this many lines: counted from 1, it stays at its greatest value
+-- the number of the line after this many lines: lines are counted from 1, up to 2 ^ 64 - 1, which all later lines have too
 abbrev pub number_after : ℕ → ℕ
 number_after count = min (count + 1) (2 ^ 64 - 1)
 
--- The line of this number is the first bad line of the input, and this is the text for the lines before it.
+-- The line with this number is the first bad line of the input, and this is the text for the lines before it.
 pub record StopsAtLine (command : Command) (input : List ℕ) (number : ℕ) (text : List ℕ) : Type 0 where
   pub good : List (List ℕ)
   pub bad : List ℕ
@@ -46,16 +46,16 @@ pub record StopsAtLine (command : Command) (input : List ℕ) (number : ℕ) (te
   pub is_bad : IsBadLine bad
   pub is_number : number ≡ number_after (length good)
 
--- From before to after the reader gave all its bytes, and the writer took the text for their lines.
+-- Between `before` and `after` the reader gave all its bytes, and the writer took the text for their lines.
 abbrev pub AnswersInput : Command → (before after held holds : Option (List ℕ)) → Verdict → Type 0
 AnswersInput command before after held holds verdict = AnswersAll (λ input. AreAnswered command (lines input)) before after held holds verdict
 
--- From before to after the reader gave some of its bytes. The line of this number is the first bad line of all of
--- them, and the writer took the text for the lines before it.
+-- Between `before` and `after` the reader gave some of its bytes. The line with this number is the first bad line of its input,
+-- and the writer took the text for the lines before it.
 abbrev pub StopsInput : Command → (before after held holds : Option (List ℕ)) → (number : ℕ) → Type 0
 StopsInput command before after held holds number = StopsIn (λ input. StopsAtLine command input number) before after held holds
 
--- In these bytes these lines have ended, whatever follows, and this is the text for them.
+-- The lines `done` end in the bytes `taken`, whatever follows these, and `text` is the text for them.
 pub record EndsLines (command : Command) (taken text : List ℕ) : Type 0 where
   pub done : List (List ℕ)
   pub begun : List ℕ
@@ -64,18 +64,19 @@ pub record EndsLines (command : Command) (taken text : List ℕ) : Type 0 where
   pub in_line : HasNoLineFeed begun
   pub answered : AreAnswered command done text all_accepted
 
--- From before to after the reader gave some of its bytes, and the writer took the text for the lines that have ended in them.
+-- Between `before` and `after` the reader gave some of its bytes, and the writer took the text for the lines that end in them.
 abbrev pub BreaksOff : Command → (before after held holds : Option (List ℕ)) → Type 0
 BreaksOff command before after held holds = BreaksOffAfter (EndsLines command) before after held holds
 
--- What a run has read and written, by its outcome. Of a fault of the writer nothing is said.
+-- What a run has read and written, by its outcome. Nothing is claimed after a fault of the writer.
 abbrev pub HasRun : Command → (before after held holds : Option (List ℕ)) → Result Verdict ToolFault → Type 0
 HasRun command before after held holds (Ok verdict) = AnswersInput command before after held holds verdict
 HasRun command before after held holds (Err (BadLine number)) = StopsInput command before after held holds number
 HasRun command before after held holds (Err Input) = BreaksOff command before after held holds
 HasRun command before after held holds (Err Output) = ⊤
 
--- What a run over a slice of these bytes has written, by its outcome. There is no fault of the reader, and one of the writer only if that can fail.
+-- What a run over a slice of these bytes has written, by its outcome. There is never a fault of the reader, and a fault of the
+-- writer only if that can fail.
 abbrev pub AnswersSlice : Command → (can_fail : Type 0) → (bytes : List ℕ) → (held holds : Option (List ℕ)) → Result Verdict ToolFault → Type 0
 AnswersSlice command can_fail bytes held holds (Ok verdict) =
     (text : List ℕ) × (all_accepted : Bool) × AreAnswered command (lines bytes) text all_accepted × (verdict ≡ verdict_of all_accepted) × Appends held holds text
@@ -83,9 +84,9 @@ AnswersSlice command can_fail bytes held holds (Err (BadLine number)) = (text : 
 AnswersSlice command can_fail bytes held holds (Err Input) = ⊥
 AnswersSlice command can_fail bytes held holds (Err Output) = can_fail
 
--- ---- what is said of each outcome
+-- ---- claims about each outcome
 
--- of a fault that names a bad line; of the other faults nothing is said
+-- a claim for a fault that names a bad line; nothing is claimed of other faults
 abbrev pub OnBadLine : ToolFault → (ℕ → Type 0) → Type 0
 OnBadLine (BadLine number) P = P number
 OnBadLine Input P = ⊤
@@ -97,15 +98,15 @@ stream_of (BadLine number) = None
 stream_of Input = Some streams.Input
 stream_of Output = Some streams.Output
 
--- of a fault of the reader
+-- a claim for a fault of the reader
 abbrev pub OnInput : ToolFault → Type 0 → Type 0
 OnInput fault P = OnStream (stream_of fault) P ⊤
 
--- of a fault of the reader, and of one of the writer
+-- a claim for a fault of the reader, and one for a fault of the writer
 abbrev pub OnStreamFault : ToolFault → Type 0 → Type 0 → Type 0
 OnStreamFault fault P Q = OnStream (stream_of fault) P Q
 
--- if all lines are answered, or one is bad
+-- a claim for a run that answered all lines, or stopped at a bad one
 abbrev pub IfSettled : Result Verdict ToolFault → Type 0 → Type 0
 IfSettled (Ok verdict) P = P
 IfSettled (Err fault) P = IfNoStream (stream_of fault) P

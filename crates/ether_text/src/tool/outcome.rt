@@ -12,11 +12,11 @@ use thiserror::Error;
 /// Why a run stopped before the end of its input.
 #[derive(PartialEq, Eq, Debug, Drop, Error)]
 pub enum ToolFault {
-    /// The line of this number names no frame. Lines are counted from 1, and the count stays at
-    /// `u64::MAX`.
+    /// The line with this number names no frame. Lines are counted from 1, up to `u64::MAX`; later lines have that
+    /// number too.
     #[error("line {0}: bad line")]
     BadLine(u64),
-    /// The reader failed, or never came to an end.
+    /// The reader failed, or did not end within `u64::MAX` reads.
     #[error("input failed")]
     Input,
     /// The writer failed.
@@ -44,7 +44,8 @@ impl From<OutputFault> for ToolFault {
     }
 }
 
-/// The exit status of a run.
+/// The exit status of a run: 0 if all frames were accepted, 1 if one was refused, 3 after a bad line, 4 if a stream
+/// failed.
 pub fn status_of(outcome: &Result<Verdict, ToolFault>) -> u8
     ensures { result ≡ exit_status outcome.now }
 {
@@ -64,7 +65,7 @@ pub const USAGE: &str = "usage: ether_tool eth | fcs | sll | type XXXX | feed [l
 pub enum LastLine {
     /// The arguments are wrong.
     Usage,
-    /// The line of this number is no frame.
+    /// The line with this number names no frame.
     BadLine(u64),
 }
 
@@ -85,7 +86,7 @@ impl fmt::Display for LastLine {
 /// The outcome of a run, or that the arguments are wrong.
 pub type Outcome = Result<Result<Verdict, ToolFault>, Usage>;
 
-/// The line that the program prints last, if there is one.
+/// The line that the program prints last: the usage, or the number of a bad line. `None` after all other outcomes.
 pub fn last_line(outcome: &Outcome) -> Option<LastLine>
     ensures { option_map last_line_text result ≡ last_text outcome.now }
 {
@@ -96,8 +97,8 @@ pub fn last_line(outcome: &Outcome) -> Option<LastLine>
     }
 }
 
-/// The exit status of the program, by its outcome and whether the last line was printed. It is that of failed output if
-/// there was a last line and it was not printed.
+/// The exit status of the program: 2 if the arguments are wrong, otherwise that of its run. If `is_printed` is false,
+/// since the last line could not be printed, it is 4, that of failed output.
 pub fn program_status(outcome: &Outcome, is_printed: bool) -> u8
     ensures { result ≡ status_of_program outcome.now is_printed }
 {

@@ -10,9 +10,8 @@ pub const MAX_LINE_DIGITS: usize = 2 * MAX_FRAME_LEN;
 
 /// Reads the frame that `line` names to the front of `out`, and returns its length in bytes.
 ///
-/// `line` is given without its line ending, as pairs of hexadecimal digits of either case. `None`
-/// if it has more than 4,096 digits, an odd number of them, or a character that is no digit;
-/// nothing is said of `out` then.
+/// `line` has no line ending, and consists of pairs of hexadecimal digits of either case. `None` if it has more than
+/// 4,096 digits, an odd number of them, or a character that is not a digit. Nothing is claimed of `out` then.
 pub fn frame_of(line: &[u8], out: &mut [u8; MAX_FRAME_LEN]) -> Option<usize>
     ensures within { IfSome result (λ count. count ≤ max_frame_len) }
     ensures frame { IfSome result (λ count. IsFrame line.now (take count out.new)) }

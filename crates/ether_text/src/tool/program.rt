@@ -15,7 +15,8 @@ use std::{env, io};
 
 /// Runs the command that the arguments name, prints the last line if there is one, and returns the exit status.
 ///
-/// If the arguments name no command, or can't be read, nothing is read. The latter is a fault of the input.
+/// If the arguments name no command, nothing is read, the usage is printed, and the status is 2. If the arguments
+/// can't be read, nothing else is read, and the status is 4, as for a fault of the input.
 pub fn program<R: Source, W: Sink>(
     args: io::Result<env::Args>,
     reader: &mut R,
@@ -64,7 +65,7 @@ fn print_last_line<W: Sink>(outcome: &Outcome, writer: &mut W) -> bool
     out.flush().is_ok()
 }
 
-/// Writes the last line.
+/// Writes the last line and an LF.
 fn write_last_line<W: Sink>(line: LastLine, out: &mut OutputBuffer<'_, W>)
     ensures { Takes W.contents W.can_fail out.old (last_line_text line ++ codes "\n") out.new }
 {

@@ -13,18 +13,22 @@ use crate::tool::outcome::{ToolFault, Verdict};
 use crate::{InputReader, OutputBuffer, Sink, SliceSource, Source};
 use std::io::{Read, Write};
 
-/// The room for one read.
+/// The room for one read in bytes.
 const CHUNK_LEN: usize = 65536;
 
 /// Reads the input to its end, and writes the text for each line as soon as the line has ended.
 ///
-/// A line is a frame of up to 2,048 bytes as digits of either case. At the first line that is no
-/// frame the run stops with [`ToolFault::BadLine`]. The text for the lines before it has been
-/// written and flushed, and nothing is written for the line itself. Any fault of the reader,
-/// an interruption too, is [`ToolFault::Input`], as is a reader that never ends: the text
-/// for the lines that had ended has been written, and is not flushed. Any fault of the writer,
-/// also at the closing flush, is [`ToolFault::Output`], and nothing is said of how much was
-/// written. After a fault neither is called again. No memory is taken.
+/// A line is a frame of up to 2,048 bytes as hexadecimal digits of either case. No memory is allocated. After a fault
+/// neither the reader nor the writer is called again.
+///
+/// # Errors
+///
+/// - [`ToolFault::BadLine`] at the first line that names no frame. The text for the lines before it has been written
+///   and flushed, and nothing is written for the line itself.
+/// - [`ToolFault::Input`] after a fault of the reader, including an interruption, or if it does not end within
+///   `u64::MAX` reads. The text for the lines that had ended has been written, but is not flushed.
+/// - [`ToolFault::Output`] after a fault of the writer, including one at the closing flush. Nothing is claimed of how
+///   much was written.
 pub fn run<R: Read, W: Write>(
     mode: Mode,
     reader: &mut R,
@@ -36,7 +40,7 @@ pub fn run<R: Read, W: Write>(
     run_command(Command { mode, limit: None }, reader, writer)
 }
 
-/// Does as [`run`], but of each frame reads at most `limit` VLAN tags and SecTags.
+/// Like [`run`], but reads at most `limit` VLAN tags and SecTags of each frame.
 pub fn run_limited<R: Read, W: Write>(
     mode: Mode,
     limit: usize,
@@ -50,7 +54,7 @@ pub fn run_limited<R: Read, W: Write>(
     run_command(Command { mode, limit }, reader, writer)
 }
 
-/// Does as [`run`] on the lines of a slice, or as [`run_limited`] if there is a limit.
+/// Like [`run`], or [`run_limited`] if there is a limit, but for the lines of a slice.
 ///
 /// No read can fail, so the outcome is never [`ToolFault::Input`].
 ///
@@ -118,8 +122,7 @@ fn answer_input<R: Source, W: Sink>(
     outcome
 }
 
-/// Reads the input to its end, and gathers the text. What is gathered is written out before
-/// each read.
+/// Reads the input to its end, and gathers the text. The gathered text is written out before each read.
 fn read_lines<R: Source, W: Sink>(
     command: Command,
     input: &mut InputReader<'_, R>,

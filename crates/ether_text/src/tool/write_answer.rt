@@ -11,7 +11,7 @@ use ether_peel::Start;
 
 /// Writes the lines for a frame, and returns whether the frame is accepted.
 ///
-/// Inlined into the loop over the lines, it would make the decoding of their digits slower.
+/// It is not inlined, since that would slow down the decoding of the digits in the loop over the lines.
 #[inline(never)]
 pub fn write_answer<W: Sink>(command: Command, frame: &[u8], out: &mut OutputBuffer<'_, W>) -> bool
     ensures { TakesAnswer W.contents W.can_fail (Answers command frame.now) out.old out.new result }

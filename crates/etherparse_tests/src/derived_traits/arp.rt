@@ -1,5 +1,5 @@
-//! What callers learn of clones, equality and hashing at each type of `ether_arp`, of public fields that they write, and of
-//! what is read back. These functions are proved and never run.
+//! What callers know of clones, equality and hashing at each type of `ether_arp`, of public fields that they write,
+//! and of what is read back. These functions are proved and never run.
 ghost use Rattle.std.specs.Hash as fed;
 ghost use Rattle.std.specs.Prelude.{◌≡◌, ◌↔◌, ◌++◌, IsTrue, Ok};
 

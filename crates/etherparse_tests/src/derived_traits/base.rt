@@ -1,5 +1,5 @@
-//! What the traits of the numbers, names and errors of `ether_base` mean. A function without arguments has a clause for
-//! each type, on all its values.
+//! What the traits of the numbers, names and errors of `ether_base` mean. A function without arguments has a clause
+//! for each type, on all its values.
 mod constants;
 mod texts;
 
@@ -104,7 +104,8 @@ pub(crate) fn equality()
     ensures value_too_big_error_of_u8 { (a b : _) → IsTrue (⟦<ValueTooBigError<u8> as PartialEq>⟧.eq a b) ↔ (a ≡ b) }
 {}
 
-/// Of a number its bytes, of an enumeration the place of the variant, and then the fields in their order.
+/// What a hash feeds a hasher: the bytes of a number; for an enumeration the place of the variant, then the fields in
+/// order.
 pub(crate) fn hashes()
     ensures vlan_id { (a : _) → ⟦<VlanId as Hash>⟧.hash_input a ≡ fed.u16 a }
     ensures vlan_pcp { (a : _) → ⟦<VlanPcp as Hash>⟧.hash_input a ≡ fed.u8 a }
@@ -139,7 +140,7 @@ pub(crate) fn hashes()
         ≡ header_slice_error_fed macsec_header_error_fed a }
 {}
 
-/// Of numbers by the number, of enumerations by the variants in their order, and then by what they hold.
+/// Numbers are ordered by their value; enumerations by the order of their variants, then by what a variant holds.
 pub(crate) fn orders()
     ensures vlan_id { (a b : _) → ⟦<VlanId as Ord>⟧.cmp a b ≡ nat_cmp a b }
     ensures vlan_pcp { (a b : _) → ⟦<VlanPcp as Ord>⟧.cmp a b ≡ nat_cmp a b }
@@ -156,7 +157,7 @@ pub(crate) fn orders()
         ≡ then_cmp (on protocol_place nat_cmp) (on protocol_number nat_cmp) a b }
 {}
 
-/// The number 0, of the nonstandard ether types that of 802.3, and of the packet types HOST.
+/// The default is 0, which is `HOST` for a packet type. For a nonstandard ether type it is 1, `N802_3`.
 pub(crate) fn defaults()
     ensures vlan_id { (a : _) → ⟦<VlanId as Default>⟧.is_default a → a ≡ 0 }
     ensures vlan_pcp { (a : _) → ⟦<VlanPcp as Default>⟧.is_default a → a ≡ 0 }

@@ -1,5 +1,5 @@
-//! What a call returns at any type that has the trait, in words of the trait. The other modules say what the words mean at
-//! a type: `clones`, for example, gives what `clone_of` requires.
+//! What a call returns at any type that has the trait, in words of the trait. The other modules say what these words
+//! mean at each type: for example, `clones` proves what `clone_of` requires.
 ghost use Rattle.std.specs.Prelude.{◌≡◌, ◌↔◌, IsTrue, Some};
 ghost use Rattle.ether_base.specs.Enumerations.Hashes.{hashed};
 
@@ -29,7 +29,7 @@ pub(crate) fn hash_of<T: Hash>(value: &T) -> u64
     state.finish()
 }
 
-/// Values that `==` calls equal feed a hasher alike.
+/// Values that are equal by `==` feed a hasher the same.
 pub(crate) fn hashes_alike<T: Hash>(a: &T, b: &T) -> bool
     ensures { IsTrue result }
 {
@@ -60,7 +60,7 @@ pub(crate) fn twice<T: Copy>(value: T) -> (T, T)
     (value, value)
 }
 
-/// For example, at one type.
+/// An example of `clone_of` at one type.
 pub(crate) fn clone_of_vlan_id(value: &VlanId) -> Result<VlanId, AllocError>
     ensures { result ≡ Ok value.now }
 {

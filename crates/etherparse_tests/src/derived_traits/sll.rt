@@ -1,4 +1,4 @@
-//! What callers learn of the derived traits, of the constants, of what is read back and of what is written through a
+//! What callers know of the derived traits, of the constants, of what is read back and of what is written through a
 //! lent header, at each type of `ether_sll`. These functions are proved and never run.
 ghost use Rattle.std.specs.Prelude.{◌≡◌, ◌↔◌, IsTrue, MatchOption, Ok};
 ghost use Rattle.ether_sll.specs.Link.{ethernet2_header, linux_sll_header, SameLink};

@@ -1,5 +1,5 @@
-//! What callers learn of the derived traits, of the constant and of what is read back, at each type of `ether_sll2`. These
-//! functions are proved and never run.
+//! What callers know of the derived traits, of the constant and of what is read back, at each type of `ether_sll2`.
+//! These functions are proved and never run.
 ghost use Rattle.std.specs.Prelude.{◌≡◌, ◌↔◌, IsTrue, Ok};
 ghost use Rattle.ether_sll2.specs.Views.{HasOwnType};
 

@@ -1,4 +1,4 @@
-//! What callers learn of the derived traits and of the constants, at each type of `ether_tags`. These functions are
+//! What callers know of the derived traits and of the constants, at each type of `ether_tags`. These functions are
 //! proved and never run.
 ghost use Rattle.std.specs.Prelude.{◌≡◌, ◌↔◌, ◌++◌, IsTrue, Some, map};
 ghost use Rattle.std.specs.Hash as fed;
@@ -67,7 +67,7 @@ pub(crate) fn clones()
         (a b : _) → it.is_infallible a × (it.is_clone a b → b ≡ a) }
 {}
 
-/// `==` is equality, of views with a SecTag that of their bytes and of all else.
+/// `==` is equality. For views with a SecTag it is equality of their bytes and of all other fields.
 pub(crate) fn equality()
     ensures ethernet2_header { (a b : _) → IsTrue (⟦<Ethernet2Header as PartialEq>⟧.eq a b) ↔ (a ≡ b) }
     ensures single_vlan_header { (a b : _) → IsTrue (⟦<SingleVlanHeader as PartialEq>⟧.eq a b) ↔ (a ≡ b) }
@@ -96,7 +96,7 @@ pub(crate) fn equality()
         ↔ ((a.protocol_type ≡ b.protocol_type) × (a.payload.now ≡ b.payload.now)) }
 {}
 
-/// What a hash feeds a hasher.
+/// What the hash of each type feeds a hasher.
 pub(crate) fn hashes()
     ensures ether_payload_slice { (a : _) → ⟦<EtherPayloadSlice<'static> as Hash>⟧.hash_input a
         ≡ ether_payload_slice_fed a }
@@ -105,7 +105,7 @@ pub(crate) fn hashes()
         ≡ protocol_type_fed a.protocol_type ++ fed.slice fed.u8 a.payload.now }
 {}
 
-/// By the fields in their order.
+/// Values are ordered field by field, in the order of the fields.
 pub(crate) fn orders()
     ensures ether_payload_slice { (a b : _) → ⟦<EtherPayloadSlice<'static> as Ord>⟧.cmp a b
         ≡ then_cmp (on (λ p. p.ether_type.0) nat_cmp)
@@ -141,7 +141,7 @@ pub(crate) fn partial_order_of_linux_sll_payload_slices(
     partial_order_of(a, b)
 }
 
-/// The defaults.
+/// The default of each type that has one.
 pub(crate) fn defaults()
     ensures ethernet2_header { (a : _) → ⟦<Ethernet2Header as Default>⟧.is_default a
         → ethernet2_view a ≡ record { destination = 0; source = 0; ether_type = 0 } }

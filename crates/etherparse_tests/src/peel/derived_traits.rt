@@ -1,4 +1,4 @@
-//! What callers learn of the derived traits, at each type of this crate. These functions are proved and never run.
+//! What callers know of the derived traits, at each type of this crate. These functions are proved and never run.
 ghost use Rattle.std.specs.Prelude.{◌≡◌, ◌↔◌, IsTrue};
 ghost use Rattle.ether_peel.specs.Walker.SameUnit.{SameUnit};
 

@@ -1,5 +1,5 @@
-//! Worked examples of walks, by the calls of `Peel` and by the summary. The rows are in statics: to prove a function takes longer
-//! with each row that it makes.
+//! Worked examples of walks, by the calls of `Peel` and by the summary. The rows are in statics, since each row that a
+//! function makes adds to the time of its proof.
 /// What an ether type announces.
 macro_rules! ether_type {
     ($number:expr $(,)?) => {
@@ -121,7 +121,7 @@ use etherparse::{
 use limited::{summed, walker};
 use std::process::Abort;
 
-/// Puts bytes in the place of others, if they have room.
+/// Replaces the bytes of a target from a place on, if it has room for these.
 fn put(target: &mut [u8], place: usize, bytes: &[u8]) {
     if let Some(to) = target.get_mut(place..place.saturating_add(bytes.len())) {
         to.copy_from_slice(bytes);
@@ -159,7 +159,7 @@ fn content(offset: usize, closed: bool, error: PeelError) -> PeelFault {
     }
 }
 
-/// What is left to read: its place, its bytes, what announces it, and whether its window is closed.
+/// What is left to read: its offset, its bytes, what it is announced as, and whether its window is closed.
 type Left<'a> = (usize, &'a [u8], RestKind, bool);
 
 fn left<'a>(peel: &Peel<'a>) -> Left<'a> {
@@ -179,7 +179,7 @@ fn gives(rt: &impl Abort, name: &str, peel: &mut Peel<'_>, header: &PlainHeader<
     );
 }
 
-/// The walk is at its end, and stays there.
+/// The walk is at its end, and further calls return nothing.
 fn ends(rt: &impl Abort, name: &str, peel: &mut Peel<'_>, wanted: &Left<'_>) {
     for _ in 0..3 {
         equal!(rt, name; left(peel) => *wanted);
@@ -188,7 +188,7 @@ fn ends(rt: &impl Abort, name: &str, peel: &mut Peel<'_>, wanted: &Left<'_>) {
     equal!(rt, name; left(peel) => *wanted);
 }
 
-/// The next item is this fault. It ends the walk, and leaves the window as it was.
+/// The next item is this fault. It ends the walk, and the window is unchanged.
 fn refuses(
     rt: &impl Abort,
     name: &str,
@@ -203,7 +203,7 @@ fn refuses(
     ends(rt, name, peel, &wanted);
 }
 
-/// After `units` units comes this fault, in a window of `rest` that is announced as `kind`, by the walker and by `summary`.
+/// By the walker and by `summary`, this fault follows `units` units, in a window `rest` that is announced as `kind`.
 fn is_refused(
     rt: &impl Abort,
     name: &str,
@@ -231,7 +231,8 @@ fn is_refused(
     refuses(rt, name, &mut peel, fault, rest, kind);
 }
 
-/// A walk: its headers, where the rest starts and ends, what announces it, whether its window is closed, and why it was refused.
+/// A walk: its headers, where the rest starts and ends, what it is announced as, whether its window is closed, and why
+/// the walk was refused.
 struct Walk {
     name: &'static str,
     start: Start,
@@ -244,7 +245,7 @@ struct Walk {
     refusal: Option<PlainRefusal>,
 }
 
-/// What announces the bytes that are left.
+/// What the bytes that are left are announced as.
 fn kind_of(kind: PlainKind) -> RestKind {
     match kind {
         PlainKind::Start => RestKind::Start,
@@ -286,7 +287,7 @@ fn fault_at(offset: usize, closed: bool, refusal: PlainRefusal) -> PeelFault {
     content(offset, closed, error)
 }
 
-/// Walks a frame by [`Peel`], and by the summary. After its end or its fault the walk stays where it is.
+/// Walks through a frame by [`Peel`] and by the summary. After the end or the fault, further calls change nothing.
 fn check(rt: &impl Abort, walk: &Walk) {
     let (start, end) = walk.rest;
     let rest = walk.frame.get(start..end).unwrap_or(&[]);

@@ -1,4 +1,4 @@
-//! Addresses of ARP packets, refused or put in the place of others.
+//! Addresses of ARP packets, which are refused or replace others.
 use super::equal;
 use crate::test_frames::{REPLY, REQUEST};
 use etherparse::err::arp::{ArpHwAddrError, ArpNewError, ArpProtoAddrError};
@@ -6,7 +6,7 @@ use etherparse::{ArpHardwareId, ArpOperation, ArpPacket, EtherType};
 use std::hash::{DefaultHasher, Hash, Hasher};
 use std::test::Fail;
 
-/// A request of these addresses.
+/// A request with these addresses.
 fn request(addresses: [&[u8]; 4]) -> Result<ArpPacket, ArpNewError> {
     let [
         sender_hardware,
@@ -25,7 +25,7 @@ fn request(addresses: [&[u8]; 4]) -> Result<ArpPacket, ArpNewError> {
     )
 }
 
-/// Addresses, and why they are refused: lengths are compared before they are measured.
+/// Addresses, and why they are refused: lengths that differ are refused before lengths above 255.
 static REFUSED: [(&str, [&[u8]; 4], ArpNewError); 4] = [
     (
         "hardware addresses of two lengths",
@@ -62,7 +62,8 @@ fn hash_of(packet: &ArpPacket) -> u64 {
     state.finish()
 }
 
-/// A packet, addresses of the sender and the target that are put in the place of its own, and the packet then, with its operation.
+/// A packet, the addresses of sender and target that replace its own, and the packet that results, whose operation is
+/// set too.
 struct Change {
     name: &'static str,
     before: &'static [u8],
@@ -152,7 +153,7 @@ static CHANGES: [Change; 9] = [
     },
 ];
 
-/// Addresses that are set are those of the packet that is read from its bytes, and are hashed as these are.
+/// A packet whose addresses were set is written, and read back as an equal packet with the same hash.
 #[test]
 fn addresses_that_are_set_are_written_and_hashed(rt: HostRuntime) -> Result<(), Fail> {
     for change in &CHANGES {
@@ -175,7 +176,7 @@ fn addresses_that_are_set_are_written_and_hashed(rt: HostRuntime) -> Result<(), 
     Ok(())
 }
 
-/// Addresses that are set are those of the packet that is made of them.
+/// A packet whose addresses were set equals the packet that is made with these addresses.
 #[test]
 fn addresses_that_are_set_equal_those_given_at_first(rt: HostRuntime) -> Result<(), Fail> {
     let mut packet = ArpPacket::from_slice(&REQUEST)?;
@@ -192,7 +193,7 @@ fn addresses_that_are_set_equal_those_given_at_first(rt: HostRuntime) -> Result<
 static GREATEST: [[u8; 255]; 6] = [[1; 255], [2; 255], [3; 255], [4; 255], [5; 255], [6; 255]];
 
 #[test]
-fn arp_addresses_grow_and_shrink(rt: HostRuntime) -> Result<(), Fail> {
+fn set_arp_addresses_may_be_longer_or_shorter(rt: HostRuntime) -> Result<(), Fail> {
     let [one, two, three, four, five, six] = &GREATEST;
     let mut packet = request([one, two, three, four])?;
     let full = packet.packet_len();

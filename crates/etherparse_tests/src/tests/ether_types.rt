@@ -1,4 +1,4 @@
-//! Ether types, and the numbers below 0x0600 by which Linux names other frames.
+//! Ether types, and the numbers below 0x0600 that Linux gives to protocols without an ether type.
 use super::equal;
 use etherparse::{EtherType, LinuxNonstandardEtherType};
 use std::test::Fail;
@@ -88,11 +88,11 @@ fn each_nonstandard_ether_type_has_its_name(rt: HostRuntime) -> Result<(), Fail>
     Ok(())
 }
 
-/// Numbers between those.
+/// Numbers next to the nonstandard ether types, and the ether type of IPv4.
 static UNKNOWN: [u16; 8] = [0, 0x0A, 0x0F, 0x14, 0x1D, 0xF4, 0xFB, 0x0800];
 
 #[test]
-fn other_numbers_are_no_nonstandard_ether_types(rt: HostRuntime) {
+fn other_numbers_are_not_nonstandard_ether_types(rt: HostRuntime) {
     for &number in &UNKNOWN {
         equal!(rt, number; LinuxNonstandardEtherType::try_from(number) => Err(()));
     }

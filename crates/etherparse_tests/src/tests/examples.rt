@@ -1,4 +1,4 @@
-//! The examples of the documentation that no other table has.
+//! The examples of the documentation that are in no other table.
 use super::{equal, ipv4};
 use crate::test_frames::TAG;
 use ether_base::number_text::HexNumber;

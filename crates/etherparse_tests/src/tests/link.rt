@@ -17,13 +17,13 @@ const NETLINK: LinuxSllHeader = LinuxSllHeader {
     protocol_type: LinuxSllProtocolType::NetlinkProtocolType(1),
 };
 
-/// A byte with a VLAN tag, as a payload of cooked capture.
+/// A payload of cooked capture: one byte, which is announced as a VLAN tag.
 const VLAN: LinuxSllPayloadSlice<'static> = LinuxSllPayloadSlice {
     protocol_type: LinuxSllProtocolType::EtherType(EtherType(0x8100)),
     payload: &[0xAA],
 };
 
-/// A payload of cooked capture, as an ether type names it.
+/// A payload of cooked capture whose protocol is an ether type.
 const fn sll(ether_type: EtherType, payload: &[u8]) -> LinuxSllPayloadSlice<'_> {
     LinuxSllPayloadSlice {
         protocol_type: LinuxSllProtocolType::EtherType(ether_type),
@@ -162,7 +162,7 @@ fn a_payload_as_a_link_has_no_header(rt: HostRuntime) {
     );
 }
 
-/// Equality tells the variants apart, and of packets the bytes.
+/// Links of different variants differ, and so do packets with different bytes.
 #[test]
 fn links_differ_by_variant_and_by_bytes(rt: HostRuntime) -> Result<(), Fail> {
     let frame = LinkSlice::Ethernet2(Ethernet2Slice::from_slice_without_fcs(&FRAME)?);

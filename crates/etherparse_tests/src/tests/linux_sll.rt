@@ -32,7 +32,7 @@ const CAPTURED: LinuxSllHeader = LinuxSllHeader {
     protocol_type: LinuxSllProtocolType::EtherType(EtherType::ARP),
 };
 
-/// Name, packet, its header and the sender's address.
+/// Name, packet, its header, and the sender's address.
 const PACKETS: [(&str, &[u8], LinuxSllHeader, &[u8]); 5] = [
     (
         "the example",
@@ -83,7 +83,7 @@ const PACKETS: [(&str, &[u8], LinuxSllHeader, &[u8]); 5] = [
     ),
 ];
 
-/// The header as a value.
+/// The packet has this header, read and written as a value.
 fn is_header(rt: &impl Abort, name: &str, packet: &[u8], header: &LinuxSllHeader) {
     let bytes = header.to_bytes();
     let rest = packet.get(16..).unwrap_or(&[]);
@@ -95,7 +95,7 @@ fn is_header(rt: &impl Abort, name: &str, packet: &[u8], header: &LinuxSllHeader
     );
 }
 
-/// The header as a view.
+/// The packet has this header, as a view.
 fn is_view(
     rt: &impl Abort,
     name: &str,
@@ -117,7 +117,7 @@ fn is_view(
     Ok(())
 }
 
-/// The header with its payload.
+/// The packet has this header and its payload, as a view.
 fn is_packet(
     rt: &impl Abort,
     name: &str,
@@ -196,7 +196,7 @@ fn a_cooked_header_is_written_to_the_front(rt: HostRuntime) -> Result<(), Fail> 
     Ok(())
 }
 
-/// The length of an address, and the part of 1 to 8 that is the address.
+/// The length of an address, and which of the bytes 1 to 8 are the address then.
 static ADDRESSES: [(&str, u8, &[u8]); 5] = [
     ("no address", 0, &[]),
     ("six bytes", 6, &[1, 2, 3, 4, 5, 6]),
@@ -252,7 +252,7 @@ fn refusal(bytes: &[u8]) -> Option<HeaderSliceError> {
     }
 }
 
-/// The length is refused first, then the packet type.
+/// Bytes, and why they are refused. The length is tested first, then the packet type.
 static REFUSALS: [(&str, &[u8], Option<HeaderSliceError>); 8] = [
     (
         "fifteen bytes",

@@ -1,6 +1,6 @@
-//! Packets of Linux cooked capture v2. Captured ones are from `tcpdump -i any`, cut after a few bytes of their payload; the
-//! others were composed with scapy's CookedLinuxV2. The fields that are wanted are those that tshark prints of them, and
-//! scapy's where it prints none.
+//! Packets of Linux cooked capture v2. Captured ones are from `tcpdump -i any`, cut after a few bytes of their
+//! payload; the others were composed with scapy's CookedLinuxV2. The expected fields are those that tshark prints, and
+//! those of scapy where tshark prints none.
 use super::{Protocol, equal, protocol_type};
 use ether_peel::{Peel, PeelUnit, Start};
 use ether_sll2::{LinuxSll2Error, LinuxSll2Header, LinuxSll2HeaderSlice, LinuxSll2Slice};
@@ -238,7 +238,7 @@ fn refusal(bytes: &[u8]) -> Option<LinuxSll2Error> {
     }
 }
 
-/// Bytes of a header, why they are refused, and the text of that: the length is refused first.
+/// Bytes of a header, why they are refused, and the text of the error. The length is tested first.
 static REFUSALS: [(&str, &[u8], LinuxSll2Error, &str); 3] = [
     (
         "no byte",

@@ -1,4 +1,4 @@
-//! What callers learn of the derived traits, at each type of `ether_text`. These functions are proved and never run.
+//! What callers know of the derived traits, at each type of `ether_text`. These functions are proved and never run.
 ghost use Rattle.std.specs.Prelude.{◌≡◌, ◌↔◌, IsTrue};
 
 use ether_text::tool::command::Command;

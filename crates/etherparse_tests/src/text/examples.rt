@@ -1,4 +1,4 @@
-//! The examples, a fault of the writer, and what is shown of the types.
+//! The lines of the examples, faults of readers and writers, and the texts of faults, verdicts and modes.
 use crate::checks::equal;
 use arrayvec::ArrayVec;
 use ether_peel::Start;
@@ -63,7 +63,7 @@ fn a_reader_reads_no_byte_while_text_waits(rt: HostRuntime) -> Result<(), Fail> 
         source.read_some(&mut chunk),
         source.read_some(&mut chunk),
     ];
-    // While text waits nothing is read.
+    // nothing is read while text waits
     let mut left = [1].as_slice();
     let mut waiting = OutputBuffer::new(&mut written);
     waiting.append(b"rest");
@@ -100,7 +100,7 @@ fn a_line_in_memory_is_accepted(rt: HostRuntime) {
 }
 
 #[test]
-fn a_full_writer_stays_at_fault(rt: HostRuntime) {
+fn a_buffer_remembers_that_its_writer_failed(rt: HostRuntime) {
     let mut written = ArrayVec::<u8, 4>::new();
     let mut out = OutputBuffer::new(&mut written);
     out.append(b"rest ");

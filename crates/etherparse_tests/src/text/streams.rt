@@ -1,4 +1,5 @@
-//! What no contract of `run` says: that each fault of the reader and of the writer is reported, and the calls that come before and after.
+//! What no contract of `run` says: each fault of the reader and of the writer is reported, and which calls precede and
+//! follow it.
 use crate::checks::equal;
 use arrayvec::ArrayVec;
 use ether_text::tool::mode::Mode;
@@ -9,7 +10,7 @@ use etherparse::EtherType;
 use std::io;
 use std::io::{ErrorKind, Read, Write};
 
-/// Gives its bytes some at a time, and fails at the read of the number `fault`.
+/// Returns its bytes some at a time, and fails at the read with the number `fault`.
 #[derive(Drop)]
 struct Source<'a> {
     left: &'a [u8],

@@ -15,7 +15,7 @@ static PAIRS: [[u8; 2]; 100] = [
     *b"96", *b"97", *b"98", *b"99",
 ];
 
-/// Writes a number in decimal digits.
+/// Writes a number in decimal digits, without leading zeros.
 ///
 /// ```
 /// # use etherpeel::*;
@@ -53,7 +53,7 @@ pub fn write_decimal<W: Sink>(out: &mut OutputBuffer<'_, W>, number: usize) {
     }
 }
 
-/// Writes a number of any length: the digits before the last four, and these.
+/// Writes a number of any length: first the digits before the last four, then the last four.
 #[inline(never)]
 fn write_long_decimal<W: Sink>(out: &mut OutputBuffer<'_, W>, number: usize) {
     if number < 10_000 {
@@ -82,7 +82,7 @@ fn write_short_decimal<W: Sink>(out: &mut OutputBuffer<'_, W>, number: usize) {
     }
 }
 
-/// The decimal digit of a number below 10.
+/// The decimal digit of a number below 10, as a character of ASCII.
 #[inline(always)]
 fn digit(number: usize) -> u8 {
     b'0' + number as u8

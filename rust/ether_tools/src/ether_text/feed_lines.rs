@@ -1,11 +1,11 @@
-//! Writes the text for a frame that a walk is fed.
+//! Writes the text for a frame that is fed to a walk.
 
 use crate::ether_text::write_lines::{write_counts, write_fault};
 use crate::ether_text::{OutputBuffer, Sink};
 use etherpeel::ether_peel::{Feed, Start, feed, feed_limited};
 
-/// Writes how often a walk asks for more of the frame, how much it takes, and the fault of what it takes, if there is
-/// one. Returns whether there is none.
+/// Writes a line with the number of times that a walk asks for more of the frame and the number of bytes that it
+/// takes. If the bytes taken have a fault, a line for it follows. Returns whether there is no fault.
 ///
 /// The numbers and the fault are those of [`feed`], or of [`feed_limited`] if there is a limit.
 ///
@@ -57,7 +57,7 @@ pub fn write_feed<W: Sink>(
     }
 }
 
-/// What a walk takes of a frame that it is fed, with a limit on VLAN tags and SecTags or without.
+/// The result of feeding a frame to a walk, with a limit on VLAN tags and SecTags or without.
 fn fed(start: Start, limit: Option<usize>, frame: &[u8]) -> Feed {
     match limit {
         Some(limit) => feed_limited(start, frame, limit),

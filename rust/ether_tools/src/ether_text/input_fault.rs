@@ -3,7 +3,8 @@
 use std::error::Error;
 use std::fmt;
 
-/// The reader of an [`InputReader`](crate::ether_text::InputReader) has failed, or never came to an end.
+/// A read by an [`InputReader`](crate::ether_text::InputReader) failed: its reader did, or did not end within `u64::MAX` reads, or
+/// text waited for the writer.
 ///
 /// ```
 /// # use etherpeel::*;

@@ -2,7 +2,7 @@
 
 use crate::ether_text::{InputFault, OutputBuffer, Sink, Source};
 
-/// A reader that is read a bounded number of times. After a fault it is not called again.
+/// A reader that is called at most `u64::MAX` times. After a fault it is not called again.
 ///
 /// ```
 /// # use etherpeel::*;
@@ -32,7 +32,7 @@ pub struct InputReader<'a, R> {
 }
 
 impl<'a, R: Source> InputReader<'a, R> {
-    /// A reader that has not failed, for up to `u64::MAX` reads.
+    /// Wraps a reader, which has not failed, for up to `u64::MAX` reads.
     ///
     /// <details><summary>Contract</summary>
     ///
@@ -54,8 +54,10 @@ impl<'a, R: Source> InputReader<'a, R> {
 
     /// Reads some bytes to the front of `chunk`, and returns their number: 0 at the end of the input.
     ///
-    /// Returns [`InputFault`] if the read fails, if an earlier one failed, or after `u64::MAX` reads. Nothing is read either
-    /// while text waits in `out`: so whoever reads the output has the lines for all that was read so far.
+    /// # Errors
+    ///
+    /// [`InputFault`] if the read fails, if an earlier one failed, after `u64::MAX` reads, or while text waits in
+    /// `out`. The last makes sure that whoever reads the output has the lines for all that was read before.
     ///
     /// <details><summary>Contract</summary>
     ///

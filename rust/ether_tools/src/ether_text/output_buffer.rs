@@ -2,14 +2,14 @@
 use crate::ether_text::{OutputFault, Sink};
 use arrayvec::ArrayVec;
 
-/// The room for text that waits.
+/// The number of bytes that may wait.
 const ROOM: usize = 65536;
 
 /// Text on its way to a writer, gathered so that many short pieces cost one write.
 ///
-/// What it holds is the writer's contents followed by the text that waits. After a fault the writer is not called
-/// again. Text that was not written out by [`write_out`](Self::write_out) or [`flush`](Self::flush) is lost when the
-/// buffer goes.
+/// It holds the writer's contents followed by the text that waits. After a fault the writer is not called again. Text
+/// that was not written out by [`write_out`](Self::write_out) or [`flush`](Self::flush) is lost when the buffer is
+/// dropped.
 ///
 /// ```
 /// # use etherpeel::*;
@@ -36,7 +36,7 @@ pub struct OutputBuffer<'a, W> {
 }
 
 impl<'a, W: Sink> OutputBuffer<'a, W> {
-    /// An empty buffer for `writer`.
+    /// Makes an empty buffer for `writer`.
     ///
     /// <details><summary>Contract</summary>
     ///
@@ -75,8 +75,8 @@ impl<'a, W: Sink> OutputBuffer<'a, W> {
         }
     }
 
-    /// Appends the bytes of an array, as [`append`](Self::append) does. If it was just made, it is written to its place at
-    /// once.
+    /// Like [`append`](Self::append), but for the bytes of an array. An array that was just made is written straight
+    /// into the buffer.
     ///
     /// <details><summary>Contract</summary>
     ///
@@ -94,10 +94,10 @@ impl<'a, W: Sink> OutputBuffer<'a, W> {
         }
     }
 
-    /// Appends `bytes` for which there is no room before the text that waits is written out, piece by piece if they
-    /// are more than the room.
+    /// Appends `bytes` for which there is no room until the text that waits is written out. More than 65,536 bytes are
+    /// appended piece by piece.
     ///
-    /// They are copied, and not passed to the writer themselves: so callers need not keep in memory what they append.
+    /// They are copied, and not passed to the writer directly, so callers need not keep in memory what they append.
     #[cold]
     #[inline(never)]
     fn append_slowly(&mut self, bytes: &[u8]) {
@@ -119,7 +119,7 @@ impl<'a, W: Sink> OutputBuffer<'a, W> {
         }
     }
 
-    /// Returns [`OutputFault`] if the writer has failed.
+    /// Returns [`OutputFault`] if the writer has failed since the buffer was made.
     ///
     /// <details><summary>Contract</summary>
     ///
@@ -141,9 +141,11 @@ impl<'a, W: Sink> OutputBuffer<'a, W> {
         !self.waiting.is_empty()
     }
 
-    /// Passes all that waits to the writer, which is not flushed.
+    /// Passes all text that waits to the writer, which is not flushed.
     ///
-    /// Returns [`OutputFault`] if the writer fails, or has failed before. Then the same text waits.
+    /// # Errors
+    ///
+    /// [`OutputFault`] if the writer fails, or has failed before. The text that waits is then unchanged.
     ///
     /// <details><summary>Contract</summary>
     ///
@@ -170,9 +172,11 @@ impl<'a, W: Sink> OutputBuffer<'a, W> {
         }
     }
 
-    /// Passes all that waits to the writer, and flushes it.
+    /// Passes all text that waits to the writer, and flushes it.
     ///
-    /// Returns [`OutputFault`] if the writer fails, or has failed before.
+    /// # Errors
+    ///
+    /// [`OutputFault`] if the writer fails, or has failed before.
     ///
     /// <details><summary>Contract</summary>
     ///

@@ -5,8 +5,8 @@ use std::io::Write;
 
 /// What a run writes to: any [`Write`].
 ///
-/// What is proved for every sink is proved for one that can't fail, too. So whoever reports a fault has seen one, and
-/// whoever reports a flush has called it.
+/// What is proved for every sink also holds for one that can't fail. So a function that reports a fault has seen one,
+/// and a function that reports a flush has called it.
 pub trait Sink {
     /// Writes all of `bytes`.
     ///

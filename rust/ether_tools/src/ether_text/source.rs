@@ -5,7 +5,8 @@ use std::io::Read;
 
 /// What a run reads from: any [`Read`], or a [`SliceSource`].
 ///
-/// What is proved for every source is proved for one that can't fail, too. So whoever reports a fault has seen one.
+/// What is proved for every source also holds for one that can't fail. So a function that reports a fault has seen
+/// one.
 pub trait Source {
     /// Reads some bytes to the front of `chunk`, and returns their number: 0 at the end of the input.
     ///
@@ -57,7 +58,7 @@ pub struct SliceSource<'a> {
 }
 
 impl<'a> SliceSource<'a> {
-    /// All of `bytes`.
+    /// Makes a source of all of `bytes`.
     ///
     /// <details><summary>Contract</summary>
     ///

@@ -1,6 +1,6 @@
-//! What the frames of a run were.
+//! Whether all frames of a run were accepted.
 
-/// What a run that read all its input found.
+/// What a run found that has read all its input.
 ///
 /// ```
 /// # use etherpeel::*;
@@ -18,12 +18,12 @@
 pub enum Verdict {
     /// Each frame was accepted, or there was no frame.
     AllAccepted,
-    /// Some frame was refused.
+    /// At least one frame was refused.
     SomeRefused,
 }
 
 impl Verdict {
-    /// The verdict with one frame more.
+    /// The verdict with a further frame, which was accepted or not.
     ///
     /// <details><summary>Contract</summary>
     ///

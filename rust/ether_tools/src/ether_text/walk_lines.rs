@@ -7,7 +7,7 @@ use etherpeel::ether_peel::{Peel, PeelFault, Start};
 /// Writes the lines of a frame's walk, and returns whether the frame is accepted.
 ///
 /// There is a line for each unit, in order, and one for the ending: `rest` with what is left of the frame, or `fault`.
-/// With a limit no more than so many VLAN tags and SecTags are read, as by [`Peel::with_limit`].
+/// With a limit, at most that many VLAN tags and SecTags are read, as by [`Peel::with_limit`].
 ///
 /// ```
 /// # use etherpeel::*;
@@ -53,8 +53,7 @@ pub fn write_walk<W: Sink>(
     write_walk_after(0, start, limit, frame, out)
 }
 
-/// Does as [`write_walk`], with each place counted from `header_len` bytes before the frame: from the begin of a header that the walk
-/// does not know.
+/// Like [`write_walk`], but offsets count from an outer header of `header_len` bytes that precedes the frame.
 ///
 /// <details><summary>Contract</summary>
 ///
@@ -91,7 +90,7 @@ pub fn write_walk_after<W: Sink>(
     }
 }
 
-/// A fault whose place is counted from `at` bytes before the frame.
+/// The fault with an offset that counts from `at` bytes before the frame.
 fn after(at: usize, fault: PeelFault) -> PeelFault {
     PeelFault {
         offset: at + fault.offset,

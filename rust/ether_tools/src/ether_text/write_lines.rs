@@ -1,6 +1,6 @@
 //! Writes the lines of a walk: one for each unit and one for the ending, or one for the two counts of feeding it.
 //!
-//! Each is appended to the output piece by piece: through the formatter it would take twice as long.
+//! Each is appended to the output piece by piece, since the formatter would take twice as long.
 
 use crate::ether_text::decimals::write_decimal;
 use crate::ether_text::write_hex::{hex_address, hex_fcs, hex_long, hex_type};
@@ -12,8 +12,8 @@ use etherpeel::{
     MacsecHeaderSlice, MacsecPType, SingleVlanSlice,
 };
 
-/// Writes the line of a unit that starts at a place of the frame. After the unit there is left a
-/// window of `len` bytes, which is closed or open.
+/// Writes the line of a unit that starts at offset `start`. The window after its header has `len` bytes, and is closed
+/// or open.
 ///
 /// <details><summary>Contract</summary>
 ///
@@ -168,8 +168,8 @@ fn write_arp<W: Sink>(out: &mut OutputBuffer<'_, W>, start: usize, slice: &ArpPa
     write_number(out, b" op ", usize::from(slice.operation().0));
 }
 
-/// Writes the line of what is left of a frame that was accepted: from a start to an end, and what it
-/// is announced as.
+/// Writes the line of what is left of an accepted frame: the offsets of its start and its end, and what it is
+/// announced as.
 ///
 /// <details><summary>Contract</summary>
 ///
@@ -223,7 +223,7 @@ fn write_protocol<W: Sink>(out: &mut OutputBuffer<'_, W>, protocol: LinuxSllProt
     }
 }
 
-/// Writes the line of a walk that is fed: how often it asks for more bytes, and how many it takes.
+/// Writes the line of a walk that is fed: how often it asks for more bytes, and how many bytes it takes.
 ///
 /// <details><summary>Contract</summary>
 ///
@@ -319,7 +319,7 @@ pub fn write_number<W: Sink>(out: &mut OutputBuffer<'_, W>, word: &[u8], number:
     write_decimal(out, number);
 }
 
-/// The word for a window's mark.
+/// The word for a window's mark: `open` or `closed`.
 fn mark_of(closed: bool) -> &'static str {
     if closed { "closed" } else { "open" }
 }

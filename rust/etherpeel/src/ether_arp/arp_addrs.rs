@@ -1,8 +1,9 @@
-//! The bytes of an address: at most 255, since their number is a byte on the wire (RFC 826, "Packet format").
+//! The bytes of an address. There are at most 255, since the size of an address is one byte on the wire (RFC 826,
+//! "Packet format").
 
 use arrayvec::ArrayVec;
 
-/// An address of these bytes.
+/// Copies at most 255 bytes into an address.
 ///
 /// <details><summary>Contract</summary>
 ///
@@ -22,7 +23,7 @@ pub fn address(bytes: &[u8]) -> ArrayVec<u8, 255> {
     address
 }
 
-/// Puts these bytes in the place of those of an address.
+/// Replaces the bytes of an address by these, at most 255.
 ///
 /// <details><summary>Contract</summary>
 ///
@@ -41,7 +42,7 @@ pub fn replace(address: &mut ArrayVec<u8, 255>, bytes: &[u8]) {
     append(address, bytes);
 }
 
-/// Appends bytes.
+/// Appends bytes to a list that has room for them.
 ///
 /// <details><summary>Contract</summary>
 ///

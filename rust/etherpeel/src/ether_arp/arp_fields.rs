@@ -1,5 +1,5 @@
-//! The fields of an ARP packet in the bytes that begin with it (RFC 826, "Packet format"): hardware type, protocol type,
-//! the two sizes and the operation in eight bytes, then the addresses of the sender and those of the target.
+//! The fields of an ARP packet in the bytes that begin with it (RFC 826, "Packet format"): hardware type, protocol
+//! type, the two sizes and the operation in eight bytes, then the addresses of the sender and those of the target.
 
 use crate::ether_base::big_endian::u16_at;
 use crate::ether_base::err::{Layer, LenError};
@@ -21,10 +21,10 @@ const PROTOCOL_SIZE: usize = 5;
 /// Where the operation begins.
 const OPERATION: usize = 6;
 
-/// The length of the part before the addresses.
+/// The length of the part before the addresses, in bytes.
 const FRONT_LEN: usize = 8;
 
-/// The bytes of the packet that a slice begins with.
+/// The bytes of the packet that a slice begins with, 8 to 1028. Errors are those of `ArpPacketSlice::from_slice`.
 ///
 /// <details><summary>Contract</summary>
 ///
@@ -54,7 +54,7 @@ pub fn packet(slice: &[u8]) -> Result<&[u8], LenError> {
     Ok(&slice[..required_len])
 }
 
-/// The length of the packet by its sizes.
+/// The length of the packet in bytes, from the two sizes: 8 to 1028.
 #[inline]
 fn packet_len(packet: &[u8]) -> usize {
     FRONT_LEN + 2 * usize::from(hw_addr_size(packet)) + 2 * usize::from(proto_addr_size(packet))
@@ -94,7 +94,7 @@ pub fn proto_addr_type(packet: &[u8]) -> EtherType {
     EtherType(u16_at(packet, PROTOCOL_TYPE))
 }
 
-/// The size of a hardware address.
+/// The size of a hardware address in bytes.
 ///
 /// <details><summary>Contract</summary>
 ///
@@ -111,7 +111,7 @@ pub fn hw_addr_size(packet: &[u8]) -> u8 {
     packet[HARDWARE_SIZE]
 }
 
-/// The size of a protocol address.
+/// The size of a protocol address in bytes.
 ///
 /// <details><summary>Contract</summary>
 ///

@@ -1,6 +1,6 @@
 //! The part of an ARP packet before its addresses, as it is written (RFC 826, "Packet format").
 
-/// The bytes before the addresses.
+/// The eight bytes before the addresses. The sizes are in bytes.
 ///
 /// <details><summary>Contract</summary>
 ///

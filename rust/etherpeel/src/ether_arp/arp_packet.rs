@@ -8,16 +8,16 @@ use crate::ether_base::{ArpHardwareId, ArpOperation, EtherType};
 use core::fmt;
 use core::hash::{Hash, Hasher};
 
-/// The greatest length of an address, whose size is a byte.
+/// The greatest length of an address in bytes: its size is one byte on the wire.
 const MAX_ADDR_LEN: usize = 255;
 
-/// A packet of the Address Resolution Protocol (RFC 826): it asks which hardware address belongs to a protocol address, or
-/// answers.
+/// A packet of the Address Resolution Protocol (RFC 826): it asks which hardware address belongs to a protocol
+/// address, or answers.
 ///
-/// The two hardware addresses have one length, at most 255 bytes, and so have the two protocol addresses. Equality and
-/// hashing are of what the packet says: types, sizes, operation and addresses.
+/// Both hardware addresses have the same length, at most 255 bytes, and so do both protocol addresses. Packets are
+/// equal, and have the same hash, if types, sizes, operation and addresses are equal.
 ///
-/// The answer to a request for 10.0.0.2:
+/// The reply to a request for 10.0.0.2:
 ///
 /// ```
 /// # use etherpeel::*;
@@ -59,10 +59,16 @@ impl ArpPacket {
     /// The greatest length of a packet in bytes: with four addresses of 255 bytes.
     pub const MAX_LEN: usize = 1028;
 
-    /// A packet with the given types, operation and addresses.
+    /// Makes a packet with the given types, operation and addresses.
     ///
-    /// Refused are, in this order: hardware addresses of two lengths, protocol addresses of two lengths, hardware
-    /// addresses of more than 255 bytes, protocol addresses of more than 255 bytes.
+    /// # Errors
+    ///
+    /// The first of these that holds:
+    ///
+    /// - `ArpNewError::HwAddr` with `LenNonMatching`: the hardware addresses differ in length.
+    /// - `ArpNewError::ProtoAddr` with `LenNonMatching`: the protocol addresses differ in length.
+    /// - `ArpNewError::HwAddr` with `LenTooBig`: the hardware addresses are longer than 255 bytes.
+    /// - `ArpNewError::ProtoAddr` with `LenTooBig`: the protocol addresses are longer than 255 bytes.
     ///
     /// <details><summary>Contract</summary>
     ///
@@ -122,7 +128,7 @@ impl ArpPacket {
         ))
     }
 
-    /// The packet of addresses that are known to fit.
+    /// The packet with these fields. The addresses of each kind have the same length, at most 255 bytes.
     #[inline]
     pub(crate) fn holding(
         hw_addr_type: ArpHardwareId,
@@ -144,7 +150,11 @@ impl ArpPacket {
         }
     }
 
-    /// The packet that a slice begins with, refused as by [`ArpPacketSlice::from_slice`]. What follows it is ignored.
+    /// Copies the packet that a slice begins with. What follows it is ignored.
+    ///
+    /// # Errors
+    ///
+    /// Those of [`ArpPacketSlice::from_slice`].
     ///
     /// <details><summary>Contract</summary>
     ///
@@ -219,7 +229,7 @@ impl ArpPacket {
         self.sender_protocol_addr.as_slice()
     }
 
-    /// The hardware address of the target, which a request does not know.
+    /// The hardware address of the target. In a request it is not known yet.
     ///
     /// <details><summary>Contract</summary>
     ///
@@ -249,7 +259,10 @@ impl ArpPacket {
 
     /// Replaces both hardware addresses, and with them their size.
     ///
-    /// Refused are addresses of two lengths, then addresses of more than 255 bytes. The packet is then as it was.
+    /// # Errors
+    ///
+    /// [`ArpHwAddrError::LenNonMatching`] if the addresses differ in length, else [`ArpHwAddrError::LenTooBig`] if
+    /// they are longer than 255 bytes. The packet is then unchanged.
     ///
     /// <details><summary>Contract</summary>
     ///
@@ -284,7 +297,10 @@ impl ArpPacket {
 
     /// Replaces both protocol addresses, and with them their size.
     ///
-    /// Refused are addresses of two lengths, then addresses of more than 255 bytes. The packet is then as it was.
+    /// # Errors
+    ///
+    /// [`ArpProtoAddrError::LenNonMatching`] if the addresses differ in length, else [`ArpProtoAddrError::LenTooBig`]
+    /// if they are longer than 255 bytes. The packet is then unchanged.
     ///
     /// <details><summary>Contract</summary>
     ///
@@ -332,9 +348,9 @@ impl ArpPacket {
         8 + 2 * usize::from(self.hw_addr_size()) + 2 * usize::from(self.protocol_addr_size())
     }
 
-    /// The packet as it is on the wire, numbers in network byte order: [`ArpPacket::packet_len`] bytes.
+    /// The bytes of the packet on the wire. Their number is [`ArpPacket::packet_len`].
     ///
-    /// Read again, whatever follows them, they are this packet.
+    /// They are read back as this packet, whatever follows them.
     ///
     /// <details><summary>Contract</summary>
     ///
@@ -353,7 +369,7 @@ impl ArpPacket {
         self.spelled()
     }
 
-    /// The bytes of the packet, whose numbers have room in them.
+    /// The bytes of the packet. Each number fits in its field.
     #[inline]
     fn spelled(&self) -> ArrayVec<u8, 1028> {
         let mut bytes = ArrayVec::new();
@@ -377,10 +393,16 @@ impl ArpPacket {
         )
     }
 
-    /// The packet as one of Ethernet and IPv4.
+    /// The packet as a packet of Ethernet and IPv4.
     ///
-    /// Refused are, in this order: another hardware type than Ethernet's, another protocol type than that of IPv4,
-    /// hardware addresses that have not 6 bytes, protocol addresses that have not 4.
+    /// # Errors
+    ///
+    /// The first of these that holds; each error has what the packet has instead:
+    ///
+    /// - [`ArpEthIpv4FromError::NonMatchingHwType`]: the hardware type is not 1, Ethernet.
+    /// - [`ArpEthIpv4FromError::NonMatchingProtocolType`]: the protocol type is not 0x0800, IPv4.
+    /// - [`ArpEthIpv4FromError::NonMatchingHwAddrSize`]: the hardware addresses are not 6 bytes long.
+    /// - [`ArpEthIpv4FromError::NonMatchingProtoAddrSize`]: the protocol addresses are not 4 bytes long.
     ///
     /// <details><summary>Contract</summary>
     ///
@@ -415,7 +437,7 @@ impl ArpPacket {
     }
 }
 
-/// An address as an array, by one test of its length.
+/// An address of `N` bytes as an array. Its length is tested once.
 #[inline]
 fn array<const N: usize>(address: &[u8]) -> [u8; N] {
     match address.first_chunk::<N>() {

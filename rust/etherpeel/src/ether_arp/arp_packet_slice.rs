@@ -4,10 +4,10 @@ use crate::ether_arp::{ArpPacket, arp_fields};
 use crate::ether_base::err::LenError;
 use crate::ether_base::{ArpHardwareId, ArpOperation, EtherType};
 
-/// An ARP packet in the bytes of a frame (RFC 826): 8 to 1028 bytes, without what follows it, as the padding of a short
-/// frame.
+/// A view of an ARP packet (RFC 826), which borrows its 8 to 1028 bytes from a frame. What follows the packet, such as
+/// the padding of a short frame, is not part of the view.
 ///
-/// Two views are equal if their bytes are. A request in a short Ethernet frame that is filled up:
+/// Two views are equal if their bytes are equal. A request, followed by padding:
 ///
 /// ```
 /// # use etherpeel::*;
@@ -32,8 +32,14 @@ pub struct ArpPacketSlice<'a> {
 }
 
 impl<'a> ArpPacketSlice<'a> {
-    /// The packet that a slice begins with. Refused are fewer than 8 bytes, and fewer bytes than the sizes of the
-    /// addresses say. What follows the packet is no part of the view.
+    /// Borrows the packet that a slice begins with. What follows the packet is not part of the view.
+    ///
+    /// # Errors
+    ///
+    /// The slice has fewer than 8 bytes: `required_len` is 8 and `len_source` is `LenSource::Slice`. Or it has fewer
+    /// than the sizes of the addresses say: `required_len` is the length of the packet and `len_source` is
+    /// `LenSource::ArpAddrLengths`. In both, `len` is the slice's length, `layer` is `Layer::Arp` and
+    /// `layer_start_offset` is 0.
     ///
     /// <details><summary>Contract</summary>
     ///
@@ -171,7 +177,7 @@ impl<'a> ArpPacketSlice<'a> {
         arp_fields::sender_protocol_addr(self.slice)
     }
 
-    /// The hardware address of the target, which a request does not know.
+    /// The hardware address of the target. In a request it is not known yet.
     ///
     /// <details><summary>Contract</summary>
     ///
@@ -199,7 +205,7 @@ impl<'a> ArpPacketSlice<'a> {
         arp_fields::target_protocol_addr(self.slice)
     }
 
-    /// The packet as a value of its own.
+    /// The packet as a value, which does not borrow the frame.
     ///
     /// <details><summary>Contract</summary>
     ///

@@ -6,9 +6,9 @@ use core::fmt;
 /// A hardware type: 16 bits that say what kind of link a packet was sent on (RFC 826, and the `ARPHRD_` numbers of
 /// Linux).
 ///
-/// Any number is one; those with a description are constants. `Debug` shows a number with a description in decimal
-/// digits and the description in parentheses, `VOID` and `NONE` in hexadecimal digits instead, and any other number
-/// as `0x` and four upper-case digits.
+/// Any number is accepted; those with a description are constants. `Debug` shows a constant as decimal digits, `VOID`
+/// and `NONE` as hexadecimal digits, followed by the description in parentheses. It shows any other number as `0x` and
+/// four upper-case hexadecimal digits.
 ///
 /// ```
 /// # use etherpeel::*;
@@ -299,7 +299,7 @@ impl ArpHardwareId {
     /// Zero header length.
     pub const NONE: ArpHardwareId = ArpHardwareId(65534);
 
-    /// The description of the hardware type, if it is one of the constants.
+    /// Returns the description of the hardware type, or `None` if it is not one of the constants.
     ///
     /// <details><summary>Contract</summary>
     ///

@@ -13,6 +13,6 @@ pub struct ArpOperation(pub u16);
 impl ArpOperation {
     /// The sender asks who has the target's protocol address.
     pub const REQUEST: ArpOperation = ArpOperation(1);
-    /// The sender answers such a question.
+    /// The sender answers a request: the sender's hardware address is the one that was asked for.
     pub const REPLY: ArpOperation = ArpOperation(2);
 }

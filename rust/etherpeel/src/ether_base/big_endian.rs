@@ -45,8 +45,8 @@ pub fn u64_of(bytes: [u8; 8]) -> u64 {
     u64::from_be_bytes(bytes)
 }
 
-/// The number of the two bytes from a place on: `u16_at(&[0x45, 0x88, 0xA8], 1)` is `0x88A8`. If the slice ends before
-/// them, the number of those that are there.
+/// Returns the number of the two bytes from offset `at` on: `u16_at(&[0x45, 0x88, 0xA8], 1)` is `0x88A8`. If the
+/// slice ends before `at + 2`, it is the number of the bytes that are left, which is 0 if there are none.
 ///
 /// <details><summary>Contract</summary>
 ///
@@ -63,7 +63,8 @@ pub fn u16_at(bytes: &[u8], at: usize) -> u16 {
     }
 }
 
-/// The number of the four bytes from a place on. If the slice ends before them, the number of those that are there.
+/// Returns the number of the four bytes from offset `at` on. If the slice ends before `at + 4`, it is the number of
+/// the bytes that are left, which is 0 if there are none.
 ///
 /// <details><summary>Contract</summary>
 ///
@@ -80,7 +81,8 @@ pub fn u32_at(bytes: &[u8], at: usize) -> u32 {
     }
 }
 
-/// The number of the eight bytes from a place on. If the slice ends before them, the number of those that are there.
+/// Returns the number of the eight bytes from offset `at` on. If the slice ends before `at + 8`, it is the number of
+/// the bytes that are left, which is 0 if there are none.
 ///
 /// <details><summary>Contract</summary>
 ///
@@ -97,7 +99,7 @@ pub fn u64_at(bytes: &[u8], at: usize) -> u64 {
     }
 }
 
-/// The `N` bytes from a place on. Returns `None` if the slice ends before them.
+/// Returns the `N` bytes from offset `at` on, or `None` if the slice ends before `at + N`.
 ///
 /// <details><summary>Contract</summary>
 ///
@@ -116,7 +118,7 @@ pub fn array_at<const N: usize>(bytes: &[u8], at: usize) -> Option<[u8; N]> {
     }
 }
 
-/// The number of the bytes from a place on, which are fewer than eight.
+/// Returns the number of all bytes from offset `at` on. They are fewer than eight, and perhaps none.
 #[inline(never)]
 fn number_from(bytes: &[u8], at: usize) -> u64 {
     match bytes.get(at..) {
@@ -125,7 +127,7 @@ fn number_from(bytes: &[u8], at: usize) -> u64 {
     }
 }
 
-/// The number of fewer than eight bytes.
+/// Returns the number of a slice, which has fewer than eight bytes.
 #[inline]
 fn number_of(bytes: &[u8]) -> u64 {
     let mut number = 0;

@@ -1,4 +1,5 @@
-//! The number that says which protocol follows a header, and the ether types by name, each also a constant of [`EtherType`].
+//! Ether types, which say what protocol follows a header. Some have a name, as a constant of this module and of
+//! [`EtherType`].
 
 use crate::ether_base::number_text::ShownEtherType;
 use core::fmt;
@@ -29,9 +30,9 @@ pub const VLAN_DOUBLE_TAGGED_FRAME: EtherType = EtherType(0x9100);
 
 /// An ether type (IEEE 802, 9.2): the 16 bits that name the protocol of what follows a header.
 ///
-/// Any number is one. Ether types begin at 0x0600: smaller values are IEEE 802.3 lengths (802.3, 3.2.6), and are
-/// passed through unchanged. `Debug` shows `0x` and four upper-case digits, and after them the description of a number
-/// that has one, in parentheses.
+/// Any number is accepted. In IEEE 802.3 (3.2.6) ether types begin at 0x0600, and a number up to 1500 is a length;
+/// here it is passed through unchanged. `Debug` shows `0x` and four upper-case hexadecimal digits, followed by the
+/// description in parentheses if there is one.
 ///
 /// ```
 /// # use etherpeel::*;
@@ -72,7 +73,7 @@ impl EtherType {
     /// The outer VLAN tag of QinQ, as some devices sent it before service tags had a number.
     pub const VLAN_DOUBLE_TAGGED_FRAME: EtherType = VLAN_DOUBLE_TAGGED_FRAME;
 
-    /// The description of the ether type, if it is one of the constants.
+    /// Returns the description of the ether type, or `None` if it is not one of the constants.
     ///
     /// <details><summary>Contract</summary>
     ///
@@ -100,7 +101,7 @@ impl EtherType {
         }
     }
 
-    /// Whether a VLAN tag follows a header with this ether type.
+    /// Returns whether the ether type is 0x8100, 0x88A8 or 0x9100, so that a VLAN tag follows the header.
     ///
     /// ```
     /// # use etherpeel::*;

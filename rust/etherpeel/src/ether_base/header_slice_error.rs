@@ -6,19 +6,21 @@ use core::fmt::{self, Display};
 
 /// Why a header can't be read from a slice.
 ///
-/// Each format gives it a name of its own, with the format's error of contents: `err::linux_sll::HeaderSliceError` and
+/// Each format has an alias with its own content error: `err::linux_sll::HeaderSliceError` and
 /// `err::macsec::HeaderSliceError`. `Display` gives the text of the error within.
 #[derive(Clone, Copy, PartialEq, Eq, Hash, Debug)]
 pub enum HeaderSliceError<E> {
     /// The slice is too short.
     Len(LenError),
-    /// The contents are not allowed.
+    /// A field has a value that is not allowed or not supported.
     Content(E),
 }
 
 impl<E: Copy> HeaderSliceError<E> {
-    /// The error with the header's start moved by `offset` bytes: for a caller that passed on the tail of a slice, and
-    /// reports places in the whole. An error of the contents names no place, and stays as it is.
+    /// Returns a length error with `offset` added to its `layer_start_offset`; the sum must fit in a `usize`. A
+    /// content error has no offset and is returned unchanged.
+    ///
+    /// A caller that passed only the tail of a slice uses it to report the place in the whole slice.
     ///
     /// <details><summary>Contract</summary>
     ///

@@ -29,7 +29,7 @@ pub enum LinuxSllProtocolType {
 const SUPPORTED: usize = 5;
 
 impl LinuxSllProtocolType {
-    /// The hardware types that can be read.
+    /// The hardware types whose protocol numbers can be read. A cooked capture v1 header with another one is refused.
     pub const SUPPORTED_ARPHWD: [ArpHardwareId; SUPPORTED] = [
         ArpHardwareId::NETLINK,
         ArpHardwareId::IPGRE,
@@ -38,8 +38,8 @@ impl LinuxSllProtocolType {
         ArpHardwareId::ETHERNET,
     ];
 
-    /// Puts `value` in place of the number, as on the same link: the variant stays, except that on Ethernet the value
-    /// decides between `EtherType` and `LinuxNonstandardEtherType`.
+    /// Replaces the number by `value`. The variant is unchanged, except that `value` decides anew between `EtherType`
+    /// and `LinuxNonstandardEtherType`, the two variants of Ethernet.
     ///
     /// <details><summary>Contract</summary>
     ///
@@ -99,7 +99,7 @@ impl From<LinuxSllProtocolType> for u16 {
     }
 }
 
-/// The protocol type of a number on Ethernet.
+/// Returns what a protocol number means on Ethernet: one that Linux numbers below the ether types, or an ether type.
 #[inline(always)]
 fn on_ethernet(number: u16) -> LinuxSllProtocolType {
     match LinuxNonstandardEtherType::try_from(number) {

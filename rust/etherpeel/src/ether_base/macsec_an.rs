@@ -48,7 +48,7 @@ impl MacsecAn {
         }
     }
 
-    /// The number of the association number.
+    /// The association number, 0 to 3.
     ///
     /// <details><summary>Contract</summary>
     ///

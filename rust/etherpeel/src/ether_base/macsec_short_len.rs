@@ -5,8 +5,9 @@ use core::fmt;
 
 /// The short length (SL) of a MACsec SecTag (IEEE 802.1AE, 9.7): 6 bits, 0 to 63.
 ///
-/// It counts the bytes after the SecTag, those of the ether type there among them, and 0 names no length. The
-/// standard ends at 47; the values from 48 to 63 are accepted, and [`MacsecShortLen::from_len`] makes them too.
+/// It counts the bytes between the SecTag and the integrity check value, including the two of the payload's ether
+/// type; 0 names no length. The standard ends at 47. Values from 48 to 63 are accepted too, and
+/// [`MacsecShortLen::from_len`] makes them.
 ///
 /// ```
 /// # use etherpeel::*;
@@ -54,8 +55,8 @@ impl MacsecShortLen {
         }
     }
 
-    /// The short length that names `len` bytes: `len` up to [`MacsecShortLen::MAX_USIZE`], and above that 0, which names no
-    /// length.
+    /// Returns `len` as a short length if it is at most [`MacsecShortLen::MAX_USIZE`]. A greater `len` has none, so
+    /// the result is 0, which names no length.
     ///
     /// <details><summary>Contract</summary>
     ///
@@ -74,7 +75,7 @@ impl MacsecShortLen {
         }
     }
 
-    /// The short length as a number.
+    /// The short length, 0 to 63.
     ///
     /// <details><summary>Contract</summary>
     ///

@@ -3,7 +3,7 @@
 use crate::ether_base::LenSource;
 use crate::ether_base::err::{Layer, LenError};
 
-/// The error of a slice of `len` bytes whose first layer takes `required_len`.
+/// Returns the error for a slice of `len` bytes whose first layer needs `required_len`. The layer starts at offset 0.
 ///
 /// <details><summary>Contract</summary>
 ///

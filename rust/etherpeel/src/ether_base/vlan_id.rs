@@ -21,7 +21,7 @@ impl VlanId {
     /// The null identifier, 0: the tag carries a priority alone.
     pub const ZERO: VlanId = VlanId(0);
 
-    /// The greatest VLAN identifier, 4095.
+    /// The greatest VLAN identifier, 4095, which IEEE 802.1Q reserves (table 9-2). It is accepted.
     pub const MAX_U16: u16 = 0b0000_1111_1111_1111;
 
     /// The VLAN identifier `value`, refused above [`VlanId::MAX_U16`].
@@ -48,7 +48,7 @@ impl VlanId {
         }
     }
 
-    /// The VLAN identifier as a number.
+    /// The VLAN identifier, 0 to 4095.
     ///
     /// <details><summary>Contract</summary>
     ///

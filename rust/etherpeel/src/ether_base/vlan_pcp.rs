@@ -48,7 +48,7 @@ impl VlanPcp {
         }
     }
 
-    /// The priority code point as a number.
+    /// The priority code point, 0 to 7.
     ///
     /// <details><summary>Contract</summary>
     ///

@@ -2,7 +2,7 @@
 
 use crate::ether_base::err::{Layer, SliceWriteSpaceError};
 
-/// Writes the bytes to the front of a slice, and returns the whole slice. A slice that is too short stays as it was.
+/// Writes the bytes to the front of a slice, and returns the whole slice. A slice that is too short is unchanged.
 ///
 /// <details><summary>Contract</summary>
 ///
@@ -21,7 +21,12 @@ pub fn put<const N: usize>(bytes: [u8; N], slice: &mut [u8]) -> &mut [u8] {
     slice
 }
 
-/// The part of a slice after its first `required_len` bytes, refused if the slice is shorter.
+/// Lends the part of a slice after its first `required_len` bytes.
+///
+/// # Errors
+///
+/// The slice is shorter: the error has `required_len`, the slice's length as `len`, the `layer`, and 0 as
+/// `layer_start_offset`.
 ///
 /// <details><summary>Contract</summary>
 ///

@@ -2,15 +2,15 @@
 
 use crate::ether_peel::{Feed, Peel, PeelError, PeelFault, Start};
 
-/// Walks through a frame as a reader of a stream does, which asks for exactly the bytes that the walk needs next.
+/// Walks through a frame like a reader of a stream, which asks for exactly the bytes that the walk needs next.
 ///
-/// It begins with no bytes. While the walk stops at a unit that needs more bytes, in a window that is open, and the frame has
-/// them, it is given as many as the unit needs at least. The walk goes on from that unit, so that the time is linear in the
-/// number of units.
+/// The walk begins with no bytes. Whenever it stops at a unit that needs more bytes, in an open window, it is given
+/// the fewest bytes that the unit needs, if the frame has them, and goes on from that unit. So the time is linear in
+/// the number of units.
 ///
-/// Of an accepted frame without a frame check sequence it takes all units and no byte more: not the payload of the last
-/// header, unless a SecTag names its length. In a frame with a check sequence every window is closed, so that nothing is
-/// asked for.
+/// If the frame is accepted and has no frame check sequence, the walk takes exactly the bytes of its units: not the
+/// payload of the last header, unless a SecTag names its length. In a frame with a check sequence every window is
+/// closed, so nothing is asked for.
 ///
 /// ```
 /// # use etherpeel::*;
@@ -38,10 +38,9 @@ pub fn feed(start: Start, bytes: &[u8]) -> Feed {
     fed(start, bytes, None)
 }
 
-/// Walks through a frame as [`feed`] does, but reads no more than `limit` VLAN tags and MACsec SecTags, as the walk of
-/// [`Peel::with_limit`] does.
+/// Like [`feed`], but for the walk of [`Peel::with_limit`], which reads at most `limit` VLAN tags and MACsec SecTags.
 ///
-/// So it asks for no byte of the tags that it does not read.
+/// It asks for no byte of the tags that it does not read.
 ///
 /// ```
 /// # use etherpeel::*;

@@ -50,7 +50,7 @@ pub struct Peel<'a> {
     rest: &'a [u8],
     /// Where it begins in the frame.
     start: usize,
-    /// Whether bytes after the window would not belong to it.
+    /// Whether bytes appended to the frame would lie outside the window.
     is_closed: bool,
     /// Whether the fault was returned.
     is_over: bool,
@@ -66,7 +66,7 @@ pub struct Peel<'a> {
 }
 
 impl<'a> Peel<'a> {
-    /// A walk that has read nothing yet.
+    /// Begins a walk through a frame, which has read nothing yet.
     ///
     /// <details><summary>Contract</summary>
     ///
@@ -81,11 +81,11 @@ impl<'a> Peel<'a> {
         Peel::begin(start, bytes, None)
     }
 
-    /// A walk that has read nothing yet, and that reads no more than `limit` VLAN tags and MACsec SecTags.
+    /// Begins a walk that reads at most `limit` VLAN tags and MACsec SecTags.
     ///
     /// After these an ether type of a VLAN tag or of MACsec announces nothing: the walk ends there, with no fault, and
-    /// [`kind`](Self::kind) is that ether type. ARP packets and the header that the frame begins with don't count, but the
-    /// unit that [`Start::EtherType`] announces does.
+    /// [`kind`](Self::kind) is that ether type. ARP packets and the header that the frame begins with don't count, but
+    /// the unit that [`Start::EtherType`] announces does.
     ///
     /// ```
     /// # use etherpeel::*;
@@ -115,7 +115,7 @@ impl<'a> Peel<'a> {
         Peel::begin(start, bytes, Some(limit))
     }
 
-    /// A walk that has read nothing yet, with a limit or without.
+    /// Begins a walk with a limit or without.
     #[inline(always)]
     pub(crate) fn begin(start: Start, bytes: &'a [u8], limit: Option<usize>) -> Peel<'a> {
         let (first, announced, kind) = match start {
@@ -139,7 +139,7 @@ impl<'a> Peel<'a> {
         }
     }
 
-    /// The bytes of the window left to read: after a fault, of the window in which it came.
+    /// The bytes of the window left to read. After a fault this is the window of the refused unit.
     ///
     /// <details><summary>Contract</summary>
     ///
@@ -182,7 +182,7 @@ impl<'a> Peel<'a> {
         self.kind
     }
 
-    /// Whether the window left to read is closed: bytes that follow the frame would not belong to it.
+    /// Whether the window left to read is closed: bytes appended to the frame would lie outside it.
     ///
     /// <details><summary>Contract</summary>
     ///
@@ -198,8 +198,8 @@ impl<'a> Peel<'a> {
 
     /// What bounds the window left to read: the frame, or the short length of a SecTag around the window.
     ///
-    /// A length error of the walk names it as the source of the length, unless the unit itself names its length. A frame check sequence
-    /// closes a window, but does not bound it.
+    /// A length error of the walk names it as the source of the length, unless the unit itself names its length. A
+    /// frame check sequence closes a window, but does not bound it.
     ///
     /// <details><summary>Contract</summary>
     ///
@@ -241,7 +241,7 @@ impl<'a> Iterator for Peel<'a> {
 
 /// The steps of a walk that is not over, one for each kind of unit that can be announced.
 impl<'a> Peel<'a> {
-    /// Goes on after the fault, in a longer front of the frame.
+    /// Goes on at the refused unit, with a longer front of the frame.
     #[inline(always)]
     pub(crate) fn go_on(&mut self, bytes: &'a [u8]) {
         self.rest = &bytes[self.start..];
@@ -377,7 +377,7 @@ impl<'a> Peel<'a> {
     }
 }
 
-/// How many extensions may still be read after one more, if that is limited.
+/// The limit on extensions after one of them was read.
 #[inline(always)]
 fn lowered(limit: Option<usize>) -> Option<usize> {
     match limit {

@@ -11,14 +11,15 @@ use core::fmt;
 pub struct PeelFault {
     /// Where the unit starts, in bytes from the start of the frame.
     pub offset: usize,
-    /// Why it is refused. The lengths of a length error count from the unit's start, which is its `layer_start_offset`.
+    /// Why it is refused. The lengths of a length error count from the unit's start, which is its
+    /// `layer_start_offset`.
     pub error: PeelError,
-    /// Whether the unit's window is closed: bytes that follow the frame would not belong to the unit.
+    /// Whether the unit's window is closed: bytes appended to the frame would lie outside it.
     pub closed: bool, // the last field, since a flag between the others slows down what is copied
 }
 
 impl PeelFault {
-    /// How many bytes the unit needs at least beyond those that are there.
+    /// The minimum number of further bytes that the unit needs.
     ///
     /// `None` if more bytes after the frame would not help: the contents are refused, or the unit's window is closed.
     ///

@@ -10,7 +10,7 @@ pub enum RestKind {
     EtherType(EtherType),
     /// A protocol of a cooked capture that has no ether type.
     Sll(LinuxSllProtocolType),
-    /// A payload that MACsec has encrypted or changed, so that its protocol can't be told.
+    /// A payload that MACsec has encrypted or changed, so that its protocol is not known.
     Sealed,
     /// What follows an ARP packet: the padding of a short frame.
     AfterArp,

@@ -10,6 +10,7 @@ pub enum Start {
     Ethernet2Fcs,
     /// A header of Linux cooked capture v1.
     LinuxSll,
-    /// What an ether type announces: a VLAN tag, a MACsec SecTag, an ARP packet, or a payload that is not read further.
+    /// What an ether type announces: a VLAN tag, a MACsec SecTag, an ARP packet, or a payload that is not read
+    /// further.
     EtherType(EtherType),
 }

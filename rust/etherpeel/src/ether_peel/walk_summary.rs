@@ -8,9 +8,9 @@ pub struct Summary {
     pub units: usize,
     /// Where the window that is left starts, in bytes from the start of the frame.
     pub rest_start: usize,
-    /// Where it ends.
+    /// Where that window ends, in bytes from the start of the frame.
     pub rest_end: usize,
-    /// What it is announced as: after a fault, what was expected there.
+    /// What that window is announced as. After a fault, this is what was expected there.
     pub kind: RestKind,
     /// The unit that is refused, if one is.
     pub fault: Option<PeelFault>,

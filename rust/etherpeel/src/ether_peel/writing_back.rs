@@ -4,16 +4,16 @@ use crate::ether_peel::summarizing::summarized;
 use crate::ether_peel::{Peel, PeelUnit, Start};
 use crate::err::{Layer, SliceWriteSpaceError};
 
-/// Writes the headers of a frame to the front of a target, each by its `to_bytes`, and after them the bytes of the window
-/// that is left. Returns where that window ends, in bytes from the start of the frame.
+/// Writes the headers of a frame to the front of a target, each by its `to_bytes`, and after them the bytes of the
+/// window that is left. Returns where that window ends, in bytes from the start of the frame.
 ///
-/// The target then begins with the bytes of the frame up to there, but the two reserved bits of each MACsec SecTag are 0.
-/// Its further bytes stay unchanged. What follows the window, such as a frame check sequence, is not written.
-/// After a fault the window is the one in which it came.
+/// The target then begins with the bytes of the frame up to there, but the two reserved bits of each MACsec SecTag are
+/// 0. Its further bytes are unchanged. What follows the window, such as a frame check sequence, is not written. After
+/// a fault the window is that of the refused unit.
 ///
 /// # Errors
 ///
-/// The target is too short, and stays unchanged: `required_len` is where the window ends, `len` the
+/// The target is too short, and is unchanged: `required_len` is where the window ends, `len` the
 /// target's length, `layer` is [`Layer::EtherPayload`] and `layer_start_offset` is 0.
 ///
 /// ```
@@ -55,12 +55,12 @@ pub fn write_back(
     written(start, bytes, target, None)
 }
 
-/// Writes the headers of a frame to the front of a target as [`write_back`] does, but only those that the walk of
-/// [`Peel::with_limit`] finds: the tags beyond the `limit` are written as they are.
+/// Like [`write_back`], but for the walk of [`Peel::with_limit`], which reads at most `limit` VLAN tags and MACsec
+/// SecTags. Tags beyond the limit are part of the window, so their bytes are copied unchanged.
 ///
 /// # Errors
 ///
-/// As of [`write_back`], the target ends before the window does that this walk leaves.
+/// Those of [`write_back`], with the end of the window that this walk leaves.
 ///
 /// ```
 /// # use etherpeel::*;
@@ -134,7 +134,7 @@ fn write_walk(start: Start, bytes: &[u8], target: &mut [u8], limit: Option<usize
     at + rest.len()
 }
 
-/// Writes the bytes of a unit's header.
+/// Writes the bytes of a unit's header into a target, from offset `at` on.
 #[inline]
 fn write_header(target: &mut [u8], at: usize, unit: &PeelUnit<'_>) {
     match unit {
@@ -148,7 +148,7 @@ fn write_header(target: &mut [u8], at: usize, unit: &PeelUnit<'_>) {
     }
 }
 
-/// Replaces the bytes of a target from a place on.
+/// Replaces bytes of a target, from offset `at` on.
 #[inline]
 fn write_at(target: &mut [u8], at: usize, bytes: &[u8]) {
     target[at..at + bytes.len()].copy_from_slice(bytes);

@@ -23,7 +23,7 @@ pub enum LinkHeader {
 }
 
 impl LinkHeader {
-    /// The Ethernet II header; `None` of cooked capture.
+    /// The Ethernet II header; `None` if the header is of cooked capture.
     ///
     /// <details><summary>Contract</summary>
     ///
@@ -40,7 +40,7 @@ impl LinkHeader {
         }
     }
 
-    /// The Ethernet II header, lent for writing; `None` of cooked capture.
+    /// The Ethernet II header, lent for writing; `None` if the header is of cooked capture.
     ///
     /// <details><summary>Contract</summary>
     ///
@@ -59,7 +59,7 @@ impl LinkHeader {
         }
     }
 
-    /// The header of cooked capture; `None` of an Ethernet II header.
+    /// The header of cooked capture; `None` if the header is of Ethernet II.
     ///
     /// <details><summary>Contract</summary>
     ///
@@ -76,7 +76,7 @@ impl LinkHeader {
         }
     }
 
-    /// The header of cooked capture, lent for writing; `None` of an Ethernet II header.
+    /// The header of cooked capture, lent for writing; `None` if the header is of Ethernet II.
     ///
     /// <details><summary>Contract</summary>
     ///
@@ -95,7 +95,7 @@ impl LinkHeader {
         }
     }
 
-    /// The length of the header in bytes: 14 of Ethernet II, 16 of cooked capture.
+    /// The length of the header in bytes: 14 for Ethernet II, 16 for cooked capture.
     ///
     /// <details><summary>Contract</summary>
     ///

@@ -32,7 +32,7 @@ pub enum LinkSlice<'a> {
 }
 
 impl<'a> LinkSlice<'a> {
-    /// The header as a value; `None` of a payload without header.
+    /// The header as a value; `None` if this is a payload without header.
     ///
     /// <details><summary>Contract</summary>
     ///
@@ -50,7 +50,8 @@ impl<'a> LinkSlice<'a> {
         }
     }
 
-    /// The payload and its ether type; `None` if its protocol type of cooked capture has none, as of netlink or GRE.
+    /// The payload and its ether type. `None` if its protocol type of cooked capture is not an `EtherType` or
+    /// `LinuxNonstandardEtherType`, but a netlink, GRE or ignored protocol.
     ///
     /// <details><summary>Contract</summary>
     ///
@@ -72,8 +73,8 @@ impl<'a> LinkSlice<'a> {
         }
     }
 
-    /// The payload and its protocol type of cooked capture, which is the ether type of an Ethernet II frame or of an
-    /// [`EtherPayloadSlice`].
+    /// The payload and its protocol type of cooked capture. For an Ethernet II frame or an [`EtherPayloadSlice`] that
+    /// is `LinuxSllProtocolType::EtherType` with its ether type.
     ///
     /// <details><summary>Contract</summary>
     ///

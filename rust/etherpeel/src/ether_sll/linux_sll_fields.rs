@@ -1,6 +1,7 @@
-//! The fields of a header of Linux cooked capture v1 (LINKTYPE_LINUX_SLL) in bytes that begin with one: packet type, ARPHRD_
-//! type, length of the sender's address (2 bytes each), sender's address (8 bytes) and protocol (2 bytes), in this order.
-//! The public functions also read a header that the views refuse; where bytes are missing, they read those that are there.
+//! The fields of a header of Linux cooked capture v1 (LINKTYPE_LINUX_SLL) in bytes that begin with one: packet type,
+//! ARPHRD_ type, length of the sender's address (2 bytes each), sender's address (8 bytes) and protocol (2 bytes), in
+//! this order. The public functions also read a header that the views refuse. If bytes of a field are missing, they
+//! read the others.
 
 use crate::ether_sll::LinuxSllHeader;
 use crate::ether_base::big_endian::{bytes_of_u64, u16_at, u64_at};
@@ -24,7 +25,8 @@ const ADDRESS: usize = 6;
 /// Where the protocol begins.
 const PROTOCOL: usize = 14;
 
-/// Tests that a slice begins with a header whose contents are supported.
+/// Tests that a slice begins with a header whose packet type and hardware type are supported. Errors are those of
+/// `LinuxSllHeader::from_slice`.
 #[inline]
 pub(crate) fn require_header(slice: &[u8]) -> Result<(), HeaderSliceError> {
     if slice.len() < LinuxSllHeader::LEN {
@@ -41,7 +43,7 @@ pub(crate) fn require_header(slice: &[u8]) -> Result<(), HeaderSliceError> {
     }
 }
 
-/// Tests that the packet type, and then the hardware type, are supported.
+/// Tests that the packet type is supported, and then that the hardware type is. The error names the number.
 #[inline]
 pub(crate) fn require_content(bytes: &[u8]) -> Result<(), HeaderError> {
     LinuxSllPacketType::try_from(packet_type_number(bytes))?;
@@ -72,7 +74,7 @@ pub fn arp_hardware_type(bytes: &[u8]) -> ArpHardwareId {
     ArpHardwareId(u16_at(bytes, HARDWARE_TYPE))
 }
 
-/// The length of the sender's address in bytes, which may be more than there is room for.
+/// The length of the sender's address in bytes. May exceed 8, though the field holds only 8 bytes.
 ///
 /// <details><summary>Contract</summary>
 ///
@@ -100,7 +102,7 @@ pub fn sender_address_full(bytes: &[u8]) -> [u8; 8] {
     bytes_of_u64(u64_at(bytes, ADDRESS))
 }
 
-/// As many bytes of the sender's address as its length says, at most 8.
+/// The sender's address, or its first 8 bytes if it is longer.
 #[inline]
 pub(crate) fn sender_address(bytes: &[u8]) -> &[u8] {
     let valid = sender_address_valid_length(bytes);
@@ -117,7 +119,7 @@ pub(crate) fn protocol_type(bytes: &[u8]) -> LinuxSllProtocolType {
     }
 }
 
-/// All fields.
+/// The header with all its fields.
 #[inline]
 pub(crate) fn header(bytes: &[u8]) -> LinuxSllHeader {
     LinuxSllHeader {

@@ -5,9 +5,10 @@ use crate::ether_base::err::linux_sll::HeaderSliceError;
 use crate::ether_base::{ArpHardwareId, LinuxSllPacketType, LinuxSllProtocolType};
 
 /// A view of a header of Linux cooked capture v1 (LINKTYPE_LINUX_SLL), which borrows its 16 bytes from a packet
-/// ([`LinuxSllHeader`] has a picture of them). Packet type and hardware type are supported.
+/// ([`LinuxSllHeader`] has a picture of them). The packet type and the hardware type of a view are always supported
+/// ones.
 ///
-/// Two views are equal if their bytes are, wherever these are.
+/// Two views are equal if their bytes are equal, wherever they are in memory.
 ///
 /// ```
 /// # use etherpeel::*;
@@ -31,7 +32,7 @@ pub struct LinuxSllHeaderSlice<'a> {
 }
 
 impl<'a> LinuxSllHeaderSlice<'a> {
-    /// The header at the front of a slice. The bytes after it are not part of the view.
+    /// Borrows the header at the front of a slice. The bytes after it are not part of the view.
     ///
     /// # Errors
     ///
@@ -39,10 +40,10 @@ impl<'a> LinuxSllHeaderSlice<'a> {
     ///
     /// - `HeaderSliceError::Len`: the slice has fewer than 16 bytes. `required_len` is 16, `len` the slice's length,
     ///   `len_source` is `LenSource::Slice`, `layer` is `Layer::LinuxSllHeader` and `layer_start_offset` is 0.
-    /// - `HeaderSliceError::Content` with `HeaderError::UnsupportedPacketTypeField`: the packet type, which the error names,
-    ///   is above 7.
-    /// - `HeaderSliceError::Content` with `HeaderError::UnsupportedArpHardwareId`: the meaning of protocol numbers is not
-    ///   known for the hardware type, which the error names.
+    /// - `HeaderSliceError::Content` with `HeaderError::UnsupportedPacketTypeField`: the packet type, which the error
+    ///   names, is above 7.
+    /// - `HeaderSliceError::Content` with `HeaderError::UnsupportedArpHardwareId`: the hardware type, which the error
+    ///   names, is not one of `LinuxSllProtocolType::SUPPORTED_ARPHWD`.
     ///
     /// <details><summary>Contract</summary>
     ///
@@ -120,7 +121,7 @@ impl<'a> LinuxSllHeaderSlice<'a> {
         linux_sll_fields::arp_hardware_type(self.slice)
     }
 
-    /// The length of the sender's address in bytes, as the header gives it. It may exceed the 8 bytes that have room.
+    /// The length of the sender's address in bytes. May exceed 8, though the field holds only 8 bytes.
     ///
     /// <details><summary>Contract</summary>
     ///
@@ -134,7 +135,7 @@ impl<'a> LinuxSllHeaderSlice<'a> {
         linux_sll_fields::sender_address_valid_length(self.slice)
     }
 
-    /// All 8 bytes of the address field, those after the sender's address included.
+    /// All 8 bytes of the address field: the sender's address, truncated or padded.
     ///
     /// <details><summary>Contract</summary>
     ///
@@ -176,7 +177,7 @@ impl<'a> LinuxSllHeaderSlice<'a> {
         linux_sll_fields::protocol_type(self.slice)
     }
 
-    /// The protocol as a number.
+    /// The protocol number, without the variant that the hardware type gives it.
     ///
     /// <details><summary>Contract</summary>
     ///

@@ -6,10 +6,10 @@ use crate::ether_base::{ArpHardwareId, LinuxSllPacketType, LinuxSllProtocolType}
 use crate::ether_tags::LinuxSllPayloadSlice;
 use core::fmt;
 
-/// A view of a packet of Linux cooked capture v1 (LINKTYPE_LINUX_SLL): a header ([`LinuxSllHeader`] has a picture of it)
-/// and its payload. Packet type and hardware type are supported.
+/// A view of a packet of Linux cooked capture v1 (LINKTYPE_LINUX_SLL): a header ([`LinuxSllHeader`] has a picture of
+/// it) and its payload. The packet type and the hardware type of a view are always supported ones.
 ///
-/// Two views are equal if their bytes are, wherever these are.
+/// Two views are equal if their bytes are equal, wherever they are in memory.
 ///
 /// ```
 /// # use etherpeel::*;
@@ -28,7 +28,7 @@ pub struct LinuxSllSlice<'a> {
 }
 
 impl<'a> LinuxSllSlice<'a> {
-    /// The packet that a slice holds. The payload reaches to the end of the slice.
+    /// Borrows the packet in a slice. The payload reaches to the end of the slice.
     ///
     /// # Errors
     ///
@@ -36,10 +36,10 @@ impl<'a> LinuxSllSlice<'a> {
     ///
     /// - `HeaderSliceError::Len`: the slice has fewer than 16 bytes. `required_len` is 16, `len` the slice's length,
     ///   `len_source` is `LenSource::Slice`, `layer` is `Layer::LinuxSllHeader` and `layer_start_offset` is 0.
-    /// - `HeaderSliceError::Content` with `HeaderError::UnsupportedPacketTypeField`: the packet type, which the error names,
-    ///   is above 7.
-    /// - `HeaderSliceError::Content` with `HeaderError::UnsupportedArpHardwareId`: the meaning of protocol numbers is not
-    ///   known for the hardware type, which the error names.
+    /// - `HeaderSliceError::Content` with `HeaderError::UnsupportedPacketTypeField`: the packet type, which the error
+    ///   names, is above 7.
+    /// - `HeaderSliceError::Content` with `HeaderError::UnsupportedArpHardwareId`: the hardware type, which the error
+    ///   names, is not one of `LinuxSllProtocolType::SUPPORTED_ARPHWD`.
     ///
     /// <details><summary>Contract</summary>
     ///
@@ -114,7 +114,7 @@ impl<'a> LinuxSllSlice<'a> {
         linux_sll_fields::arp_hardware_type(self.slice)
     }
 
-    /// The length of the sender's address in bytes, as the header gives it. It may exceed the 8 bytes that have room.
+    /// The length of the sender's address in bytes. May exceed 8, though the field holds only 8 bytes.
     ///
     /// <details><summary>Contract</summary>
     ///
@@ -128,7 +128,7 @@ impl<'a> LinuxSllSlice<'a> {
         linux_sll_fields::sender_address_valid_length(self.slice)
     }
 
-    /// All 8 bytes of the address field, those after the sender's address included.
+    /// All 8 bytes of the address field: the sender's address, truncated or padded.
     ///
     /// <details><summary>Contract</summary>
     ///
@@ -170,7 +170,7 @@ impl<'a> LinuxSllSlice<'a> {
         linux_sll_fields::protocol_type(self.slice)
     }
 
-    /// The protocol as a number.
+    /// The protocol number, without the variant that the hardware type gives it.
     ///
     /// <details><summary>Contract</summary>
     ///

@@ -1,6 +1,6 @@
-//! The fields of a header of Linux cooked capture v2 (LINKTYPE_LINUX_SLL2) in bytes that begin with one: protocol (2 bytes),
-//! reserved (2 bytes), interface index (4 bytes), ARPHRD_ type (2 bytes), packet type and length of the sender's address
-//! (1 byte each), and the sender's address (8 bytes), in this order.
+//! The fields of a header of Linux cooked capture v2 (LINKTYPE_LINUX_SLL2) in bytes that begin with one: protocol (2
+//! bytes), reserved (2 bytes), interface index (4 bytes), ARPHRD_ type (2 bytes), packet type and length of the
+//! sender's address (1 byte each), and the sender's address (8 bytes), in this order.
 
 use crate::ether_sll2::{LinuxSll2Error, LinuxSll2Header};
 use crate::ether_base::big_endian::{bytes_of_u64, u16_at, u32_at, u64_at};
@@ -26,7 +26,8 @@ const ADDRESS_LENGTH: usize = 11;
 /// Where the sender's address begins.
 const ADDRESS: usize = 12;
 
-/// Tests that a slice begins with a header whose packet type is supported.
+/// Tests that a slice begins with a header whose packet type is supported. Errors are those of
+/// `LinuxSll2Header::from_slice`.
 ///
 /// <details><summary>Contract</summary>
 ///
@@ -48,7 +49,7 @@ pub fn require_header(slice: &[u8]) -> Result<(), LinuxSll2Error> {
     require_packet_type(slice)
 }
 
-/// Tests that the packet type is supported.
+/// Tests that the packet type is at most 7. The error has the packet type.
 ///
 /// <details><summary>Contract</summary>
 ///
@@ -88,7 +89,7 @@ pub fn protocol_type(bytes: &[u8]) -> LinuxSllProtocolType {
     protocol_type_on(arp_hardware_type(bytes), protocol_number(bytes))
 }
 
-/// The index of the interface.
+/// The index of the interface on the capturing machine.
 ///
 /// <details><summary>Contract</summary>
 ///
@@ -105,7 +106,7 @@ pub fn interface_index(bytes: &[u8]) -> u32 {
     u32_at(bytes, INTERFACE_INDEX)
 }
 
-/// The ARPHRD_ type of the device.
+/// The ARPHRD_ type of the interface.
 ///
 /// <details><summary>Contract</summary>
 ///
@@ -173,7 +174,7 @@ pub fn packet_type(bytes: &[u8]) -> LinuxSllPacketType {
     }
 }
 
-/// The length of the sender's address in bytes, which may be more than there is room for.
+/// The length of the sender's address in bytes. May exceed 8, though the field holds only 8 bytes.
 ///
 /// <details><summary>Contract</summary>
 ///
@@ -190,7 +191,7 @@ pub fn sender_address_valid_length(bytes: &[u8]) -> u8 {
     byte_at(bytes, ADDRESS_LENGTH)
 }
 
-/// The 8 bytes of the sender's address, used or not.
+/// All 8 bytes of the address field: the sender's address, truncated or padded.
 ///
 /// <details><summary>Contract</summary>
 ///
@@ -204,7 +205,7 @@ pub fn sender_address_full(bytes: &[u8]) -> [u8; 8] {
     bytes_of_u64(u64_at(bytes, ADDRESS))
 }
 
-/// As many bytes of the sender's address as its length says, at most 8.
+/// The sender's address, or its first 8 bytes if it is longer.
 ///
 /// <details><summary>Contract</summary>
 ///
@@ -223,7 +224,7 @@ pub fn sender_address(bytes: &[u8]) -> &[u8] {
     &bytes[ADDRESS..ADDRESS + len]
 }
 
-/// All fields.
+/// The header with all its fields.
 ///
 /// <details><summary>Contract</summary>
 ///
@@ -250,7 +251,8 @@ pub fn header(bytes: &[u8]) -> LinuxSll2Header {
     }
 }
 
-/// What a protocol number means on a link of a hardware type.
+/// What a protocol number means on a link of this hardware type. Types other than netlink, GRE over IP, radiotap and
+/// frame relay are treated like Ethernet.
 #[inline]
 fn protocol_type_on(hardware: ArpHardwareId, number: u16) -> LinuxSllProtocolType {
     match hardware {
@@ -264,7 +266,7 @@ fn protocol_type_on(hardware: ArpHardwareId, number: u16) -> LinuxSllProtocolTyp
     }
 }
 
-/// What a protocol number means on Ethernet.
+/// What a protocol number means on Ethernet: one that Linux numbers below the ether types, or an ether type.
 #[inline]
 fn on_ethernet(number: u16) -> LinuxSllProtocolType {
     match LinuxNonstandardEtherType::try_from(number) {

@@ -38,8 +38,8 @@ use crate::ether_base::{ArpHardwareId, LinuxSllPacketType, LinuxSllProtocolType}
 /// ```
 #[derive(Clone, Copy, PartialEq, Eq, Debug)]
 pub struct LinuxSll2Header {
-    /// The protocol of what follows the header. When a header is read, the hardware type decides which variant the number
-    /// has.
+    /// The protocol of what follows the header. When a header is read, the hardware type decides which variant the
+    /// number has.
     pub protocol_type: LinuxSllProtocolType,
     /// The index of the interface that the packet was seen on, as the capturing machine numbers its interfaces.
     pub interface_index: u32,
@@ -57,7 +57,7 @@ impl LinuxSll2Header {
     /// The length of the header in bytes.
     pub const LEN: usize = 20;
 
-    /// The header at the front of a slice, and the rest of the slice.
+    /// Reads the header at the front of a slice, and returns it with the rest of the slice.
     ///
     /// # Errors
     ///
@@ -88,7 +88,7 @@ impl LinuxSll2Header {
         Ok((header, &slice[LinuxSll2Header::LEN..]))
     }
 
-    /// The header in 20 bytes.
+    /// Reads the header from its 20 bytes.
     ///
     /// # Errors
     ///
@@ -122,10 +122,10 @@ impl LinuxSll2Header {
         LinuxSll2Header::LEN
     }
 
-    /// The bytes of the header on the wire, with the reserved ones 0.
+    /// The bytes of the header on the wire. The reserved ones are 0.
     ///
-    /// They hold the number of the protocol type and not its variant. When they are read back, the hardware type decides
-    /// the variant.
+    /// They hold the number of the protocol type but not its variant. When they are read back, the hardware type
+    /// decides the variant.
     ///
     /// <details><summary>Contract</summary>
     ///
@@ -152,7 +152,7 @@ impl LinuxSll2Header {
     }
 }
 
-/// Five numbers, with two zeros after the first, and an address, one after the other.
+/// The 20 bytes of a header with these numbers and this address of 8 bytes. The reserved ones are 0.
 #[inline]
 fn joined(
     protocol: u16,

@@ -4,9 +4,9 @@ use crate::ether_sll2::{LinuxSll2Error, LinuxSll2Header, linux_sll2_fields};
 use crate::ether_base::{ArpHardwareId, LinuxSllPacketType, LinuxSllProtocolType};
 
 /// A view of a header of Linux cooked capture v2 (LINKTYPE_LINUX_SLL2), which borrows its 20 bytes from a packet
-/// ([`LinuxSll2Header`] has a picture of them). The packet type is supported.
+/// ([`LinuxSll2Header`] has a picture of them). The packet type of a view is always a supported one.
 ///
-/// Two views are equal if their bytes are, the reserved ones included, wherever these are.
+/// Two views are equal if their bytes are equal, including the reserved ones, wherever they are in memory.
 ///
 /// ```
 /// # use etherpeel::*;
@@ -33,7 +33,7 @@ pub struct LinuxSll2HeaderSlice<'a> {
 }
 
 impl<'a> LinuxSll2HeaderSlice<'a> {
-    /// The header at the front of a slice. The bytes after it are not part of the view.
+    /// Borrows the header at the front of a slice. The bytes after it are not part of the view.
     ///
     /// # Errors
     ///
@@ -92,7 +92,7 @@ impl<'a> LinuxSll2HeaderSlice<'a> {
         linux_sll2_fields::protocol_type(self.slice)
     }
 
-    /// The protocol as a number.
+    /// The protocol number, without the variant that the hardware type gives it.
     ///
     /// <details><summary>Contract</summary>
     ///
@@ -162,8 +162,7 @@ impl<'a> LinuxSll2HeaderSlice<'a> {
         linux_sll2_fields::packet_type_number(self.slice)
     }
 
-    /// The length of the sender's address in bytes, as the header gives it. May exceed 8, though the field holds only 8
-    /// bytes.
+    /// The length of the sender's address in bytes. May exceed 8, though the field holds only 8 bytes.
     ///
     /// <details><summary>Contract</summary>
     ///
@@ -177,7 +176,7 @@ impl<'a> LinuxSll2HeaderSlice<'a> {
         linux_sll2_fields::sender_address_valid_length(self.slice)
     }
 
-    /// All 8 bytes of the address field, those after the sender's address included.
+    /// All 8 bytes of the address field: the sender's address, truncated or padded.
     ///
     /// <details><summary>Contract</summary>
     ///

@@ -6,10 +6,10 @@ use crate::ether_peel::Start;
 use crate::ether_tags::LinuxSllPayloadSlice;
 use core::fmt;
 
-/// A view of a packet of Linux cooked capture v2 (LINKTYPE_LINUX_SLL2): a header ([`LinuxSll2Header`] has a picture of it)
-/// and its payload, which `ether_peel` walks. The packet type is supported.
+/// A view of a packet of Linux cooked capture v2 (LINKTYPE_LINUX_SLL2): a header ([`LinuxSll2Header`] has a picture of
+/// it) and its payload, which `ether_peel` walks. The packet type of a view is always a supported one.
 ///
-/// Two views are equal if their bytes are, the reserved ones included, wherever these are.
+/// Two views are equal if their bytes are equal, including the reserved ones, wherever they are in memory.
 ///
 /// ```
 /// # use etherpeel::*;
@@ -37,7 +37,7 @@ pub struct LinuxSll2Slice<'a> {
 }
 
 impl<'a> LinuxSll2Slice<'a> {
-    /// The packet that a slice holds. The payload reaches to the end of the slice.
+    /// Borrows the packet in a slice. The payload reaches to the end of the slice.
     ///
     /// # Errors
     ///
@@ -93,7 +93,7 @@ impl<'a> LinuxSll2Slice<'a> {
         linux_sll2_fields::protocol_type(self.slice)
     }
 
-    /// The protocol as a number.
+    /// The protocol number, without the variant that the hardware type gives it.
     ///
     /// <details><summary>Contract</summary>
     ///
@@ -163,8 +163,7 @@ impl<'a> LinuxSll2Slice<'a> {
         linux_sll2_fields::packet_type_number(self.slice)
     }
 
-    /// The length of the sender's address in bytes, as the header gives it. May exceed 8, though the field holds only 8
-    /// bytes.
+    /// The length of the sender's address in bytes. May exceed 8, though the field holds only 8 bytes.
     ///
     /// <details><summary>Contract</summary>
     ///
@@ -178,7 +177,7 @@ impl<'a> LinuxSll2Slice<'a> {
         linux_sll2_fields::sender_address_valid_length(self.slice)
     }
 
-    /// All 8 bytes of the address field, those after the sender's address included.
+    /// All 8 bytes of the address field: the sender's address, truncated or padded.
     ///
     /// <details><summary>Contract</summary>
     ///
@@ -283,11 +282,11 @@ impl<'a> LinuxSll2Slice<'a> {
         &slice[LinuxSll2Header::LEN..]
     }
 
-    /// What a walk of [`payload_slice`](Self::payload_slice) starts with, for `Peel::new` and its kin; `None` if the protocol
-    /// type has no ether type, as of netlink or GRE.
+    /// What a walk through [`payload_slice`](Self::payload_slice) starts with, to be passed to `Peel::new` and the
+    /// other calls that take a [`Start`]. `None` if the protocol is a netlink, GRE or ignored one.
     ///
-    /// A number that Linux has below the ether types is taken for one, as after cooked capture v1, and announces nothing.
-    /// Offsets of the walk count from the start of the payload.
+    /// A number that Linux has below the ether types is used as an ether type, as after cooked capture v1, and
+    /// announces nothing. Offsets of the walk count from the start of the payload.
     ///
     /// <details><summary>Contract</summary>
     ///

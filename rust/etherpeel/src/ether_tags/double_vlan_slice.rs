@@ -47,8 +47,8 @@ impl<'a> DoubleVlanSlice<'a> {
         }
     }
 
-    /// The payload of the inner tag and its ether type. The length of the inner view decides how long it is, so its
-    /// `len_source` is `LenSource::Slice`.
+    /// The payload of the inner tag and its ether type. The payload ends with the inner view, so its `len_source` is
+    /// `LenSource::Slice`.
     ///
     /// <details><summary>Contract</summary>
     ///

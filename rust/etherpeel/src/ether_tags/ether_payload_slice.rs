@@ -3,7 +3,7 @@ use crate::ether_base::{EtherType, LenSource};
 
 /// The payload of a layer, and the ether type that names its protocol.
 ///
-/// Compared field by field, in the order of the fields. Public fields are not checked against each other.
+/// Payloads are compared and ordered field by field. Public fields are not checked against each other.
 ///
 /// ```
 /// # use etherpeel::*;

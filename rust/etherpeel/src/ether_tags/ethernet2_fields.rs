@@ -49,7 +49,7 @@ pub fn source(bytes: &[u8]) -> [u8; 6] {
     address_at(bytes, SOURCE)
 }
 
-/// The ether type (IEEE 802.3, 3.2.6), a length if it is below 0x0600.
+/// The ether type, which is a length if it is at most 1500 (IEEE 802.3, 3.2.6).
 ///
 /// <details><summary>Contract</summary>
 ///
@@ -66,7 +66,7 @@ pub fn ether_type(bytes: &[u8]) -> EtherType {
     EtherType(u16_at(bytes, ETHER_TYPE))
 }
 
-/// All fields.
+/// The header with all its fields.
 ///
 /// <details><summary>Contract</summary>
 ///
@@ -89,7 +89,8 @@ pub fn header(bytes: &[u8]) -> Ethernet2Header {
     }
 }
 
-/// Whether two headers have the same bytes. Arrays of 8, 4 and 2 bytes are compared in one piece each, and a slice by a call.
+/// Whether two headers have the same bytes. They are compared as arrays of 8, 4 and 2 bytes, each in one piece; slices
+/// would be compared by a call.
 ///
 /// <details><summary>Contract</summary>
 ///
@@ -110,7 +111,7 @@ pub fn are_same(a: &[u8], b: &[u8]) -> bool {
         && [a[12], a[13]] == [b[12], b[13]]
 }
 
-/// Six bytes in their order on the wire.
+/// The six bytes of an address, in their order on the wire.
 #[inline]
 fn address_at(bytes: &[u8], field: Range<usize>) -> [u8; 6] {
     let address = &bytes[field];

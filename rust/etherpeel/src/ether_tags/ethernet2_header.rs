@@ -13,8 +13,8 @@ use crate::ether_base::{EtherType, write_front};
 ///      +-------------+-------------+------+
 /// ```
 ///
-/// Where a frame carries a length in the place of the type, which is below 0x0600 (802.3, 3.2.6), `ether_type` is that
-/// length: it is passed through unchanged.
+/// If a frame has a length in place of the type, which is at most 1500 (IEEE 802.3, 3.2.6), `ether_type` is that
+/// length, unchanged.
 ///
 /// ```
 /// # use etherpeel::*;
@@ -33,7 +33,7 @@ pub struct Ethernet2Header {
     pub source: [u8; 6],
     /// The destination MAC address.
     pub destination: [u8; 6],
-    /// The protocol of what follows the header, or the length of an IEEE 802.3 frame.
+    /// The protocol of what follows the header, or the length of what follows in an IEEE 802.3 frame.
     pub ether_type: EtherType,
 }
 
@@ -44,7 +44,7 @@ impl Ethernet2Header {
     /// The same as [`Ethernet2Header::LEN`], under its older name.
     pub const SERIALIZED_SIZE: usize = 14;
 
-    /// The header at the front of a slice, and the rest of the slice.
+    /// Reads the header at the front of a slice, and returns it with the rest of the slice.
     ///
     /// # Errors
     ///
@@ -92,7 +92,7 @@ impl Ethernet2Header {
         Ethernet2Header::from_slice(slice)
     }
 
-    /// The header in 14 bytes. Any 14 bytes are one.
+    /// Reads the header from its 14 bytes. Any 14 bytes are a header.
     ///
     /// <details><summary>Contract</summary>
     ///
@@ -148,7 +148,7 @@ impl Ethernet2Header {
     ///
     /// # Errors
     ///
-    /// The slice has fewer than 14 bytes, and stays as it was: `required_len` is 14, `len` the slice's length, `layer` is
+    /// The slice has fewer than 14 bytes, and is unchanged: `required_len` is 14, `len` the slice's length, `layer` is
     /// [`Layer::Ethernet2Header`] and `layer_start_offset` is 0.
     ///
     /// <details><summary>Contract</summary>
@@ -169,14 +169,14 @@ impl Ethernet2Header {
         write_front::rest_from(whole, Ethernet2Header::LEN, Layer::Ethernet2Header)
     }
 
-    /// Writes the header to the front of a slice that has room for it, and hands the whole slice back.
+    /// Writes the header to the front of a slice, and returns the whole slice. One without room for it is unchanged.
     #[inline]
     fn put<'a>(&self, slice: &'a mut [u8]) -> &'a mut [u8] {
         write_front::put(self.to_bytes(), slice)
     }
 }
 
-/// Two addresses and a number, one after the other.
+/// The 14 bytes of a header with these two addresses of 6 bytes and this ether type.
 #[inline]
 fn joined(destination: &[u8], source: &[u8], ether_type: u16) -> [u8; 14] {
     let d = destination;

@@ -7,7 +7,7 @@ use crate::ether_base::{EtherType, LenSource};
 
 /// A view of an Ethernet II header, which borrows its 14 bytes from a packet.
 ///
-/// Two views are equal if their bytes are, wherever these are.
+/// Two views are equal if their bytes are equal, wherever they are in memory.
 ///
 /// ```
 /// # use etherpeel::*;
@@ -29,7 +29,7 @@ pub struct Ethernet2HeaderSlice<'a> {
 }
 
 impl<'a> Ethernet2HeaderSlice<'a> {
-    /// The header at the front of a slice. The bytes after it are not part of the view.
+    /// Borrows the header at the front of a slice. The bytes after it are not part of the view.
     ///
     /// # Errors
     ///
@@ -106,7 +106,7 @@ impl<'a> Ethernet2HeaderSlice<'a> {
         ethernet2_fields::source(self.slice)
     }
 
-    /// The protocol of what follows the header; below 0x0600 the length of an IEEE 802.3 frame.
+    /// The protocol of what follows the header, or its length if the number is at most 1500 (IEEE 802.3, 3.2.6).
     ///
     /// <details><summary>Contract</summary>
     ///

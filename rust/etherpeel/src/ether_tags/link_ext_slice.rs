@@ -28,7 +28,7 @@ pub enum LinkExtSlice<'a> {
 }
 
 impl<'a> LinkExtSlice<'a> {
-    /// The length of the tag in bytes: 4 of a VLAN tag, 6 to 16 of a MACsec SecTag.
+    /// The length of the tag in bytes: 4 for a VLAN tag, 6 to 16 for a MACsec SecTag.
     ///
     /// <details><summary>Contract</summary>
     ///

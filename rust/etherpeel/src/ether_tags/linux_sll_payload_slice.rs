@@ -5,7 +5,7 @@ use crate::ether_base::{EtherType, LenSource, LinuxSllProtocolType};
 
 /// The payload of a packet of Linux cooked capture v1, and the protocol type that names its protocol.
 ///
-/// Compared field by field, in the order of the fields. Public fields are not checked against each other.
+/// Payloads are compared and ordered field by field. Public fields are not checked against each other.
 ///
 /// ```
 /// # use etherpeel::*;
@@ -28,7 +28,8 @@ pub struct LinuxSllPayloadSlice<'a> {
     pub payload: &'a [u8],
 }
 
-// By hand, field by field: that the whole is copied is not proved of a struct that borrows and holds a type with a model.
+// Written by hand, field by field: for a struct that borrows and has a field with a model, a copy of the whole is not
+// proved.
 impl<'a> Clone for LinuxSllPayloadSlice<'a> {
     #[inline]
     fn clone(&self) -> Self {
@@ -39,7 +40,7 @@ impl<'a> Clone for LinuxSllPayloadSlice<'a> {
     }
 }
 
-/// The payload with its ether type as protocol type. Its `len_source` is dropped.
+/// Keeps the payload, with its ether type as protocol type. Its `len_source` is dropped.
 impl<'a> From<EtherPayloadSlice<'a>> for LinuxSllPayloadSlice<'a> {
     #[inline]
     fn from(payload: EtherPayloadSlice<'a>) -> LinuxSllPayloadSlice<'a> {
@@ -50,8 +51,8 @@ impl<'a> From<EtherPayloadSlice<'a>> for LinuxSllPayloadSlice<'a> {
     }
 }
 
-/// The payload with the number of its protocol type as ether type, if it is an ether type or one of the numbers that
-/// Linux keeps with them. Its `len_source` is [`LenSource::Slice`]. Netlink, GRE and ignored protocols are refused.
+/// Keeps the payload, with the number of an `EtherType` or `LinuxNonstandardEtherType` as ether type. Its `len_source`
+/// is [`LenSource::Slice`]. Netlink, GRE and ignored protocols are refused.
 impl<'a> TryFrom<LinuxSllPayloadSlice<'a>> for EtherPayloadSlice<'a> {
     type Error = ();
 

@@ -1,7 +1,7 @@
-//! The fields of a MACsec SecTag in bytes that begin with one (IEEE 802.1AE, 9.3). Byte 0 is the TCI (9.5) with the bits V,
-//! ES, SC, SCB, E and C, and the association number (2 bits, 9.6). Byte 1 is two reserved bits and the short length (6 bits,
-//! 9.7). The packet number (4 bytes, 9.8) follows, then the SCI (8 bytes, 9.9) if SC is set, and then the ether type of
-//! the user data if E and C are clear.
+//! The fields of a MACsec SecTag in bytes that begin with one (IEEE 802.1AE, 9.3). Byte 0 is the TCI (9.5) with the
+//! bits V, ES, SC, SCB, E and C, and the association number (2 bits, 9.6). Byte 1 is two reserved bits and the short
+//! length (6 bits, 9.7). The packet number (4 bytes, 9.8) follows, then the SCI (8 bytes, 9.9) if SC is set, and then
+//! the ether type of the user data if E and C are clear.
 
 use crate::ether_tags::{MacsecHeader, MacsecPType};
 use crate::ether_base::big_endian::{u16_at, u32_at, u64_at};
@@ -228,8 +228,8 @@ pub fn sci(bytes: &[u8]) -> Option<u64> {
     }
 }
 
-/// Whether the user data is encrypted and changed, and its ether type if neither is. The bytes are those of the tag
-/// alone, so an ether type is at their end.
+/// Whether the user data is encrypted and changed, and its ether type if it is neither. The bytes are those of the tag
+/// alone, so that the ether type is at their end.
 ///
 /// <details><summary>Contract</summary>
 ///
@@ -268,7 +268,7 @@ pub fn is_unmodified(bytes: &[u8]) -> bool {
     !encrypted(bytes) && !userdata_changed(bytes)
 }
 
-/// Whether the short length has no room for the ether type that follows the tag.
+/// Whether an ether type follows the tag, and the short length, which counts its 2 bytes, is only 1.
 ///
 /// <details><summary>Contract</summary>
 ///
@@ -302,7 +302,7 @@ pub fn header_len(bytes: &[u8]) -> usize {
     tag_len(sci_present(bytes), is_unmodified(bytes))
 }
 
-/// The payload's length that the short length names, without the ether type after the tag.
+/// The length in bytes of the payload, without the ether type after the tag. `None` if the short length names none.
 ///
 /// <details><summary>Contract</summary>
 ///
@@ -319,7 +319,7 @@ pub fn expected_payload_len(bytes: &[u8]) -> Option<usize> {
     payload_len(short_len(bytes), is_unmodified(bytes))
 }
 
-/// The length of a tag in bytes, by whether there are an SCI and an ether type after it.
+/// The length of a tag in bytes: 6, and 8 for an SCI and 2 for an ether type if it has them.
 ///
 /// <details><summary>Contract</summary>
 ///
@@ -335,7 +335,8 @@ pub fn tag_len(has_sci: bool, is_unmodified: bool) -> usize {
     MacsecHeader::MIN_LEN + sci + ether_type
 }
 
-/// The length that a short length names, which counts the ether type after the tag.
+/// The length in bytes of the payload that a short length names. The short length counts the ether type after the tag
+/// too. `None` if it is 0, or 1 with such an ether type.
 ///
 /// <details><summary>Contract</summary>
 ///
@@ -361,7 +362,7 @@ fn is_set(bytes: &[u8], power: u32) -> bool {
     bit_of(bytes[TCI_AN], power)
 }
 
-/// Whether bit `power` is set.
+/// Whether bit `power` of a byte is set. Bit 0 is the least significant one.
 #[inline]
 fn bit_of(byte: u8, power: u32) -> bool {
     byte >> power & 1 == 1

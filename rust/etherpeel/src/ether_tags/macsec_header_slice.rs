@@ -8,7 +8,7 @@ use crate::ether_base::{EtherType, LenSource, MacsecAn, MacsecShortLen};
 
 /// A view of a MACsec SecTag, which borrows its 6 to 16 bytes from a packet ([`MacsecHeader`] has a picture of them).
 ///
-/// Two views are equal if their bytes are, wherever these are.
+/// Two views are equal if their bytes are equal, wherever they are in memory.
 ///
 /// ```
 /// # use etherpeel::*;
@@ -29,7 +29,8 @@ pub struct MacsecHeaderSlice<'a> {
 }
 
 impl<'a> MacsecHeaderSlice<'a> {
-    /// The tag at the front of a slice, with the next ether type. The bytes after it are not part of the view.
+    /// Borrows the tag at the front of a slice, including a next ether type. The bytes after it are not part of the
+    /// view.
     ///
     /// # Errors
     ///
@@ -37,8 +38,8 @@ impl<'a> MacsecHeaderSlice<'a> {
     ///
     /// - `HeaderSliceError::Len`: the slice has fewer than 6 bytes. `required_len` is 6.
     /// - `HeaderSliceError::Content` with [`HeaderError::UnexpectedVersion`]: the version bit V is 1.
-    /// - `HeaderSliceError::Content` with [`HeaderError::InvalidUnmodifiedShortLen`]: the short length is 1 and the bits E
-    ///   and C are clear, though the next ether type alone takes 2 bytes.
+    /// - `HeaderSliceError::Content` with [`HeaderError::InvalidUnmodifiedShortLen`]: the short length is 1 and the
+    ///   bits E and C are clear, though the next ether type alone takes 2 bytes.
     /// - `HeaderSliceError::Len`: the slice ends within the tag. `required_len` is the length of the tag.
     ///
     /// In both length errors `len` is the slice's length, `len_source` is [`LenSource::Slice`], `layer` is
@@ -116,7 +117,8 @@ impl<'a> MacsecHeaderSlice<'a> {
         macsec_fields::tci_an(self.slice)
     }
 
-    /// The end station bit (ES, 9.5): the SCI is made of the frame's source address, and is left out.
+    /// The end station bit (ES, 9.5). If it is set, the standard leaves out the SCI, which begins with the frame's
+    /// source address.
     ///
     /// <details><summary>Contract</summary>
     ///
@@ -172,8 +174,8 @@ impl<'a> MacsecHeaderSlice<'a> {
         macsec_fields::userdata_changed(self.slice)
     }
 
-    /// Whether the payload is neither encrypted nor changed: the bits E and C are clear, and a next ether type is part of
-    /// the tag.
+    /// Whether the payload is neither encrypted nor changed: the bits E and C are clear, and a next ether type is part
+    /// of the tag.
     ///
     /// <details><summary>Contract</summary>
     ///
@@ -303,8 +305,8 @@ impl<'a> MacsecHeaderSlice<'a> {
         self.slice.len()
     }
 
-    /// The length of the payload in bytes that the short length names, without the next ether type. `None` if the short
-    /// length is 0, so that the payload and the integrity check value reach to the end of the frame.
+    /// The length of the payload in bytes that the short length names, without the next ether type. `None` if the
+    /// short length is 0, so that the payload and the integrity check value reach to the end of the frame.
     ///
     /// <details><summary>Contract</summary>
     ///

@@ -8,8 +8,8 @@ use crate::ether_base::{EtherType, VlanId, VlanPcp};
 /// A VLAN tag (IEEE 802.1Q, 9.4): the tag control information (TCI) and the *next* ether type, 4 bytes on the wire.
 ///
 /// The standard counts the tag protocol identifier (TPID), such as 0x8100, as the first two bytes of a tag. In a frame
-/// it is at the place of the ether type of the layer before, so it is that layer's `ether_type` here, and the tag begins
-/// after it:
+/// it is at the place of the ether type of the layer before, so it is that layer's `ether_type` here, and the tag
+/// begins after it:
 ///
 /// ```text
 ///     layer before  |      SingleVlanHeader
@@ -24,7 +24,7 @@ use crate::ether_base::{EtherType, VlanId, VlanPcp};
 ///                     +---------+-----+--------------+
 /// ```
 ///
-/// A next ether type below 0x0600 is the length of IEEE 802.3 data, and is passed through unchanged.
+/// A next ether type of at most 1500 is a length (IEEE 802.3, 3.2.6). It is passed through unchanged.
 ///
 /// ```
 /// # use etherpeel::*;
@@ -59,7 +59,7 @@ impl SingleVlanHeader {
     /// The same as [`SingleVlanHeader::LEN`], under its older name.
     pub const SERIALIZED_SIZE: usize = 4;
 
-    /// The tag at the front of a slice, and the rest of the slice.
+    /// Reads the tag at the front of a slice, and returns it with the rest of the slice.
     ///
     /// # Errors
     ///
@@ -105,7 +105,7 @@ impl SingleVlanHeader {
         SingleVlanHeader::from_slice(slice)
     }
 
-    /// The tag in 4 bytes. Any 4 bytes are one.
+    /// Reads the tag from its 4 bytes. Any 4 bytes are a tag.
     ///
     /// <details><summary>Contract</summary>
     ///

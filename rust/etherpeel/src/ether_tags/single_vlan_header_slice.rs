@@ -8,7 +8,7 @@ use crate::ether_base::{EtherType, LenSource, VlanId, VlanPcp};
 /// A view of a VLAN tag, which borrows the 4 bytes of its TCI and the next ether type from a packet
 /// ([`SingleVlanHeader`] has a picture of them).
 ///
-/// Two views are equal if their bytes are, wherever these are.
+/// Two views are equal if their bytes are equal, wherever they are in memory.
 ///
 /// ```
 /// # use etherpeel::*;
@@ -27,7 +27,7 @@ pub struct SingleVlanHeaderSlice<'a> {
 }
 
 impl<'a> SingleVlanHeaderSlice<'a> {
-    /// The tag at the front of a slice. The bytes after it are not part of the view.
+    /// Borrows the tag at the front of a slice. The bytes after it are not part of the view.
     ///
     /// # Errors
     ///

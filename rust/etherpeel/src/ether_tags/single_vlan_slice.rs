@@ -9,7 +9,7 @@ use core::fmt;
 /// A view of a VLAN tag and its payload, which borrows the bytes from the tag's TCI on
 /// ([`SingleVlanHeader`] has a picture of them).
 ///
-/// Two views are equal if their bytes are, wherever these are.
+/// Two views are equal if their bytes are equal, wherever they are in memory.
 ///
 /// ```
 /// # use etherpeel::*;
@@ -26,7 +26,7 @@ pub struct SingleVlanSlice<'a> {
 }
 
 impl<'a> SingleVlanSlice<'a> {
-    /// The tag at the front of a slice, and its payload, which reaches to the end of the slice.
+    /// Borrows the tag at the front of a slice, and its payload, which reaches to the end of the slice.
     ///
     /// # Errors
     ///
@@ -156,8 +156,7 @@ impl<'a> SingleVlanSlice<'a> {
         vlan_fields::header(self.slice)
     }
 
-    /// The payload and its ether type. The slice's length decides how long it is, so its `len_source` is
-    /// [`LenSource::Slice`].
+    /// The payload and its ether type. The payload ends with the slice, so its `len_source` is [`LenSource::Slice`].
     ///
     /// <details><summary>Contract</summary>
     ///

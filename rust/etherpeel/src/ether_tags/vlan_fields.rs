@@ -1,5 +1,6 @@
-//! The fields of a VLAN tag in bytes that begin with one: the tag control information (IEEE 802.1Q, 9.6), which is 3 bits
-//! priority code point, 1 bit drop eligible indicator and 12 bits VLAN identifier, and the ether type of what follows.
+//! The fields of a VLAN tag in bytes that begin with one: the tag control information (IEEE 802.1Q, 9.6), which is 3
+//! bits priority code point, 1 bit drop eligible indicator and 12 bits VLAN identifier, and the ether type of what
+//! follows.
 
 use crate::ether_tags::SingleVlanHeader;
 use crate::ether_base::big_endian::{bytes_of_u16, u16_at};
@@ -79,7 +80,8 @@ pub fn ether_type(bytes: &[u8]) -> EtherType {
     EtherType(u16_at(bytes, ETHER_TYPE))
 }
 
-/// All fields. The tag control information is read once: read three times, it is taken apart byte by byte.
+/// The tag with all its fields. The tag control information is read once, since three reads of it are compiled byte by
+/// byte.
 ///
 /// <details><summary>Contract</summary>
 ///
@@ -120,7 +122,7 @@ pub fn tag(bytes: &[u8]) -> [u8; 4] {
     [bytes[0], bytes[1], bytes[2], bytes[3]]
 }
 
-/// The tag control information of three fields.
+/// The tag control information with these three fields.
 ///
 /// <details><summary>Contract</summary>
 ///

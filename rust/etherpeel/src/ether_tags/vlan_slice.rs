@@ -40,7 +40,7 @@ impl<'a> VlanSlice<'a> {
         }
     }
 
-    /// The payload of the last tag and its ether type.
+    /// The payload of the last tag and its ether type. Its `len_source` is `LenSource::Slice`.
     ///
     /// <details><summary>Contract</summary>
     ///

@@ -1,5 +1,5 @@
-//! The bytes that tests of several modules read: made ones, and captured frames and worked examples that the tests of
-//! `ether_peel` read, too.
+//! The bytes that tests of several modules read: frames that were made, and captured frames and worked examples, which
+//! the tests of `ether_peel` read too.
 
 pub use crate::peel::test_frames::{
     ARP_REQUEST_FRAME as ARP_REQUEST, CONFIDENTIALITY, COOKED_ARP_REQUEST, COOKED_LOOPBACK,
@@ -18,8 +18,8 @@ pub const TAG: [u8; 5] = [0xB1, 0x23, 0x08, 0x00, 0x45];
 /// VLAN 1 around VLAN 2, IPv4 next, and one byte after the tags.
 pub const TWO_TAGS: [u8; 9] = [0x00, 0x01, 0x81, 0x00, 0x00, 0x02, 0x08, 0x00, 0x45];
 
-/// To us, on Ethernet, from 02:00:00:00:00:01 by an address length of 255, with the dummy type for 802.3 frames, and one
-/// byte after the header.
+/// To us, on Ethernet, from 02:00:00:00:00:01 with the address length 255, with the dummy type for 802.3 frames, and
+/// one byte after the header.
 pub const COOKED: [u8; 17] = [0, 0, 0, 1, 0, 0xFF, 2, 0, 0, 0, 0, 1, 0, 0, 0, 1, 0xAA];
 
 /// From us, on Ethernet, with IPv4, and one byte after the header.

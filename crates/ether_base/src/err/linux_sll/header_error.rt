@@ -20,7 +20,8 @@ pub enum HeaderError {
         /// The packet type of the header.
         packet_type: u16,
     },
-    /// The meaning of protocol numbers on links of this hardware type is not known.
+    /// The hardware type is not one of `LinuxSllProtocolType::SUPPORTED_ARPHWD`, so the meaning of the protocol
+    /// number is not known.
     UnsupportedArpHardwareId {
         /// The hardware type of the header.
         arp_hardware_type: ArpHardwareId,

@@ -18,7 +18,7 @@ use std::fmt;
 pub enum HeaderError {
     /// The version bit V is 1.
     UnexpectedVersion,
-    /// The short length of an unmodified payload is 1, which has no room for its ether type.
+    /// The payload is unmodified and the short length is 1, though the ether type that it counts takes 2 bytes.
     InvalidUnmodifiedShortLen,
 }
 

@@ -1,4 +1,4 @@
-//! The values of the constants: row by row the numbers of their tables, and the ends of the ranges.
+//! The values of the constants: the numbers of their tables, row by row, and the ends of the ranges.
 ghost use Rattle.std.specs.Prelude.{◌≡◌, map, [], ◌∷◌};
 ghost use Rattle.ether_base.specs.Enumerations.ArpHardwareId.{assigned_descriptions, device_descriptions, link_descriptions};
 ghost use Rattle.ether_base.specs.Enumerations.EtherType.{ether_type_descriptions};
@@ -154,7 +154,7 @@ pub(crate) fn device_hardware_types() -> [ArpHardwareId; 35]
     ]
 }
 
-/// Each under its second name.
+/// The hardware types that have a second name, under that name.
 pub(crate) fn hardware_types_by_another_name() -> [ArpHardwareId; 3]
     ensures { map (λ hardware. hardware.0) result ≡ 1 ∷ 8 ∷ 15 ∷ [] }
 {
@@ -240,7 +240,7 @@ pub(crate) fn zeros() -> (VlanId, VlanPcp, MacsecAn, MacsecShortLen)
     )
 }
 
-/// Of a VLAN ID, a priority, an association number, a short length (as a byte and as a length) and a packet type.
+/// The greatest VLAN ID, priority, association number, short length (as a byte and as a length) and packet type.
 pub(crate) fn greatest_numbers() -> (u16, u8, u8, u8, usize, u16)
     ensures { result ≡ (4095, 7, 3, 63, 63, 7) }
 {

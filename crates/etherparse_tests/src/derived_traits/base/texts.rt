@@ -18,7 +18,7 @@ impl fmt::Display for ShownRefusal {
     }
 }
 
-/// The text of a refused cooked capture: that of the length, or of the contents.
+/// The text of a refused cooked capture: that of the length error or of the content error.
 #[derive(Drop)]
 struct ShownLinuxSllError(linux_sll::HeaderSliceError);
 
@@ -34,7 +34,7 @@ impl fmt::Display for ShownLinuxSllError {
     }
 }
 
-/// The text of a refused SecTag: that of the length, or of the contents.
+/// The text of a refused SecTag: that of the length error or of the content error.
 #[derive(Drop)]
 struct ShownMacsecError(macsec::HeaderSliceError);
 

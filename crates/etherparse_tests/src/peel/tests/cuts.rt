@@ -216,7 +216,8 @@ fn nested_closed_windows_bound_what_is_left(rt: HostRuntime) {
     );
 }
 
-/// A byte of the nested tags, what is put in its place, the units before the fault, the window of that, and why it is refused.
+/// The place of a byte of the nested tags, what replaces it, the number of units before the fault, the fault's window,
+/// and why it is refused.
 type Changed = (&'static str, usize, u8, usize, (usize, usize), PlainRefusal);
 
 /// A payload longer than its window.
@@ -233,7 +234,7 @@ static CHANGED: [Changed; 3] = [
     ("a payload longer than a window in a window", 9, 0x11, 2, (16, 31), longer!(16, 15)),
 ];
 
-/// The nested tags with another byte at a place are refused, alone and with bytes after them, by the same fault.
+/// The nested tags in which a byte was replaced have the same fault, whether bytes follow them or not.
 #[test]
 fn bytes_after_a_closed_window_change_nothing(rt: HostRuntime) {
     for &(name, place, byte, units, (start, end), refusal) in &CHANGED {
@@ -257,13 +258,13 @@ fn bytes_after_a_closed_window_change_nothing(rt: HostRuntime) {
     }
 }
 
-/// Two tags, and three bytes of the second one.
+/// A tag, and the first three bytes of a second one.
 const WITH_08: [u8; 21] = [
     0xFF, 0xFF, 0xFF, 0xFF, 0xFF, 0xFF, 2, 0, 0, 0, 0, 1, 0x88, 0xA8, 0x00, 0x01, 0x81, 0x00, 0x00,
     0x02, 0x08,
 ];
 
-/// The first bytes of a frame, so many, and how many more are missing.
+/// A frame, how many of its first bytes are there, and how many are missing.
 #[rattlefmt::skip]
 static MISSING: [(&str, Start, &[u8], usize, Option<usize>); 11] = [
     ("an Ethernet header", Start::Ethernet2, &[], 0, Some(14)),
@@ -288,7 +289,7 @@ fn a_cut_frame_names_the_missing_bytes(rt: HostRuntime) {
     }
 }
 
-/// A required length, a length, whether the window is closed, and what is missing.
+/// The required length, the length, whether the window is closed, and the number of missing bytes.
 static LENS: [(&str, usize, usize, bool, Option<usize>); 4] = [
     ("too many bytes", 3, 5, false, None),
     ("just enough", 5, 5, false, None),

@@ -1,4 +1,5 @@
-//! The examples of walks and summaries, units that outlive the walker, and the most calls.
+//! The examples of walks and summaries, units that outlive the walker, what bounds a window, and the greatest number
+//! of calls.
 use super::{equal, shown};
 use crate::peel::test_frames::{NAMED, TAGGED};
 use ether_peel::{Peel, PeelUnit, RestKind, Start, Summary, snap, summary};
@@ -56,7 +57,7 @@ fn units_outlive_the_walker(rt: HostRuntime) {
     );
 }
 
-/// SecTags with a payload of known and of unknown length, and the source of the length of what is left then.
+/// SecTags with a payload of known and of unknown length, and the source of the length of what is left after each.
 static BOUNDS: [(&str, &[u8], LenSource); 2] = [
     ("a named payload", &NAMED, LenSource::MacsecShortLength),
     (
@@ -79,7 +80,7 @@ fn a_payload_length_bounds_what_is_left(rt: HostRuntime) {
     }
 }
 
-/// A walk of tags that are cut short takes all the calls that are allowed.
+/// A walk through tags that ends in one cut short takes the greatest number of calls that its length allows.
 #[test]
 fn each_call_of_a_walk_takes_four_bytes_but_the_last(rt: HostRuntime) {
     let cut = [0, 0, 0x81, 0, 0, 0, 0x81, 0, 0, 0, 0x81, 0, 0];

@@ -1,4 +1,4 @@
-//! The calls with a limit on VLAN tags and SecTags, and the plain ones.
+//! For each call, the form with a limit on VLAN tags and SecTags if there is a limit, otherwise the plain one.
 ghost use Rattle.std.specs.Prelude.{◌≤◌, length};
 
 use arrayvec::ArrayVec;
@@ -8,7 +8,7 @@ use ether_peel::{
 };
 use etherparse::err::SliceWriteSpaceError;
 
-/// The walk with a limit, or the plain one.
+/// The walk with a limit if there is one, otherwise the plain walk.
 pub(crate) fn walker<'a>(start: Start, frame: &'a [u8], limit: Option<usize>) -> Peel<'a> {
     match limit {
         Some(limit) => Peel::with_limit(start, frame, limit),

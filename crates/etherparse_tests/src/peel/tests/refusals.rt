@@ -1,4 +1,4 @@
-//! Faults with all their fields, and what is left then.
+//! Faults with all their fields, and the window that is left after them.
 use super::{Walk, check, equal, fault_at, is_refused, put};
 use crate::peel::plain::{PlainHeader, PlainKind, PlainRefusal};
 use crate::peel::test_frames::{
@@ -24,7 +24,7 @@ const MACSEC: Start = with_type!(0x88E5);
 
 const ARP: Start = with_type!(0x0806);
 
-/// A header with too few bytes, from one length up to another: how many it needs then.
+/// A header with too few bytes, for each length from one up to another, and how many bytes it needs then.
 struct Front {
     name: &'static str,
     start: Start,
@@ -100,13 +100,13 @@ fn the_greatest_arp_packet_needs_its_last_byte(rt: HostRuntime) {
     is_refused(&rt, "a byte less", ARP, &list, 0, fault, &list, kind);
 }
 
-/// The second tag, and one byte more of it.
+/// A tag, and the first three bytes of a second one.
 const WITH_08: [u8; 21] = [
     0xFF, 0xFF, 0xFF, 0xFF, 0xFF, 0xFF, 2, 0, 0, 0, 0, 1, 0x88, 0xA8, 0x00, 0x01, 0x81, 0x00, 0x00,
     0x02, 0x08,
 ];
 
-/// A tag before a check sequence, which takes all its bytes but one.
+/// A frame whose check sequence takes all bytes of its tag but one.
 const TAG_BEFORE_SEQUENCE: [u8; 19] = [
     0xFF, 0xFF, 0xFF, 0xFF, 0xFF, 0xFF, 2, 0, 0, 0, 0, 1, 0x81, 0x00, 0xB1, 0x23, 0x08, 0x00, 0x81,
 ];
@@ -156,9 +156,9 @@ static WALKS: [Walk; 14] = [
     refused!("a tag in a named payload", MACSEC, &[0, 4, 0, 0, 0, 1, 0x81, 0, 0xAA, 0xBB, 0xCC, 0xDD], &[readable!(4, 0x8100)], (8, 10), TAG, true, too_short!(4, 2, SHORT_LEN, Layer::VlanHeader)),
     refused!("a tag after an open SecTag", MACSEC, &[0, 0, 0, 0, 0, 1, 0x81, 0, 0xAA, 0xBB, 0xCC], &[readable!(0, 0x8100)], (8, 11), TAG, false, too_short!(4, 3, SLICE, Layer::VlanHeader)),
     refused!("an ARP packet in a named payload", MACSEC, &[0, 6, 0, 0, 0, 1, 8, 6, 0, 1, 8, 0], &[readable!(6, 0x0806)], (8, 12), ether_type!(0x0806), true, too_short!(8, 4, SHORT_LEN, Layer::Arp)),
-    // the addresses are missing by the sizes that the packet itself gives
+    // the sizes in the packet itself say that the addresses are missing
     refused!("its addresses", MACSEC, &[0, 10, 0, 0, 0, 1, 8, 6, 0, 1, 8, 0, 6, 4, 0, 1], &[readable!(10, 0x0806)], (8, 16), ether_type!(0x0806), true, too_short!(28, 8, ADDRS, Layer::Arp)),
-    // a check sequence closes a window, and does not bound it
+    // a check sequence closes a window, but does not bound it
     refused!("a byte of a tag before a check sequence", FCS, &TAG_BEFORE_SEQUENCE, &[with_sequence!(0x8100, 0x2308_0081)], (14, 15), TAG, true, too_short!(4, 1, SLICE, Layer::VlanHeader)),
     refused!("half a tag before a check sequence", FCS, &HALF_A_TAG_BEFORE_SEQUENCE, &[with_sequence!(0x8100, 0x1122_3344)], (14, 16), TAG, true, too_short!(4, 2, SLICE, Layer::VlanHeader)),
     refused!("half a tag in a named payload before one", FCS, &SEC_TAG_BEFORE_SEQUENCE, &[with_sequence!(0x88E5, 0x1122_3344), readable!(4, 0x8100)], (22, 24), TAG, true, too_short!(4, 2, SHORT_LEN, Layer::VlanHeader)),
@@ -189,7 +189,7 @@ static IN_PAYLOADS: [Refused; 11] = [
     ("a short length", [0x88, 0xE5], &[0x00, 1, 0, 0, 0, 1], PlainRefusal::ShortLen),
 ];
 
-/// After two units, from byte 22 on in a closed window, come the bytes of each row, and 2 bytes follow them.
+/// The bytes of each row follow two units, in a closed window that begins at byte 22, and 2 bytes follow them.
 #[test]
 fn each_refusal_in_a_named_payload_is_closed(rt: HostRuntime) {
     for &(name, announced, unit, refusal) in &IN_PAYLOADS {

@@ -7,7 +7,8 @@ use etherparse::err::Layer;
 use etherparse::{LenSource, LinuxSllProtocolType};
 use std::test::Fail;
 
-/// Faults, by their place, whether the window is closed and why, as users and as developers read them.
+/// A fault by its offset, whether the window is closed, and why it is refused; the text of the error, and what `Debug`
+/// shows of the fault.
 type Row = (usize, bool, PlainRefusal, &'static str, &'static str);
 
 #[rattlefmt::skip]

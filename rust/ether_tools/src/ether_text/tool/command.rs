@@ -8,17 +8,18 @@ use std::env;
 pub struct Command {
     /// How the frames begin, and how they are read.
     pub mode: Mode,
-    /// How many VLAN tags and SecTags are read of a frame at most; `None` for all.
+    /// The greatest number of VLAN tags and SecTags that are read of a frame; `None` for all.
     pub limit: Option<usize>,
 }
 
-/// The mode that the words name, and its limit on the VLAN tags and SecTags of a frame, if they name one.
+/// Returns the mode that the words name, and its limit on the VLAN tags and SecTags of a frame, if they name one.
 ///
-/// No word at all, or `eth`, is [`Mode::Eth`], `fcs` [`Mode::Fcs`], `sll` [`Mode::Sll`] and `feed` [`Mode::Feed`]. `type` and
-/// a second word of exactly four hexadecimal digits of either case is [`Mode::EtherType`]. After the words of a mode,
-/// at least one, `limit` and a word of one to four decimal digits name its limit. Nothing else names a mode.
+/// No word, or `eth`, names [`Mode::Eth`]; `fcs` names [`Mode::Fcs`], `sll` [`Mode::Sll`] and `feed` [`Mode::Feed`].
+/// `type` and a second word of exactly four hexadecimal digits name [`Mode::EtherType`]. If there is at least one of
+/// these words, `limit` and a word of one to four decimal digits may follow and name a limit. All other words are
+/// [`Usage`].
 ///
-/// The words are the arguments without the program's own name. Their case matters, but not that of the digits.
+/// The words are the arguments without the program's own name. Their case matters, but that of the digits does not.
 ///
 /// <details><summary>Contract</summary>
 ///
@@ -36,7 +37,7 @@ pub fn command_of(words: &[&str]) -> Result<(Mode, Option<usize>), Usage> {
     }
 }
 
-/// The number that one to four decimal digits name.
+/// The number that one to four decimal digits name. All other words are [`Usage`].
 fn limit_of(digits: &str) -> Result<usize, Usage> {
     if digits.len() > 4 || digits.starts_with('+') {
         return Err(Usage);
@@ -47,7 +48,7 @@ fn limit_of(digits: &str) -> Result<usize, Usage> {
     }
 }
 
-/// The mode and the limit that the program's arguments name. The first of them is its own name.
+/// Like [`command_of`], but for the program's arguments, which begin with its own name.
 ///
 /// <details><summary>Contract</summary>
 ///

@@ -2,19 +2,19 @@
 
 use crate::ether_text::tool::parse_frame::{MAX_FRAME_LEN, MAX_LINE_DIGITS};
 
-/// The entry of a character that is no digit.
+/// The entry of a character that is not a digit.
 const NO_DIGIT: u8 = 0x80;
 
 /// The value of each character as a hexadecimal digit.
 ///
-/// A line is decoded without a branch for each digit: the entries of its characters are joined, and the mark of one that is no
-/// digit remains.
+/// A line is decoded without a branch for each digit: the entries of all its characters are joined by a bitwise or, in
+/// which the mark of a character that is not a digit remains.
 pub struct DigitTable {
     entries: [u8; 256],
 }
 
 impl DigitTable {
-    /// The table that the crate `hex` fills.
+    /// Makes the table, by calls of the crate `hex`.
     pub fn new() -> Self {
         let mut entries = [NO_DIGIT; 256];
         for (character, value) in entries.iter_mut().enumerate() {
@@ -23,7 +23,7 @@ impl DigitTable {
         DigitTable { entries }
     }
 
-    /// Does as [`frame_of`](crate::ether_text::tool::parse_frame::frame_of).
+    /// Like [`frame_of`](crate::ether_text::tool::parse_frame::frame_of), but by this table.
     ///
     /// <details><summary>Contract</summary>
     ///

@@ -1,4 +1,4 @@
-//! The line under way.
+//! The line that is being read.
 use crate::ether_text::tool::digit_table::DigitTable;
 use crate::ether_text::tool::parse_frame::{MAX_FRAME_LEN, MAX_LINE_DIGITS};
 use arrayvec::ArrayVec;
@@ -6,18 +6,18 @@ use arrayvec::ArrayVec;
 /// What ended a line.
 #[derive(Clone, Copy, PartialEq, Eq, Debug)]
 pub enum LineEnd {
-    /// An LF, after which another line may come.
+    /// An LF, after which another line may follow.
     LineFeed,
     /// The end of the input.
     InputEnd,
 }
 
-/// The room for a line: the most digits, and a CR.
+/// The room for a line in bytes: the digits of the longest frame, and a CR.
 const ROOM: usize = MAX_LINE_DIGITS + 1;
 
-/// The bytes of the line under way, as far as a frame may need them.
+/// The bytes of the line that is being read.
 ///
-/// The most digits and a CR fit. Of a longer line only that it is too long is kept.
+/// There is room for the 4,096 digits of the longest frame and a CR. A longer line is only marked as too long.
 pub struct LineBuffer {
     bytes: ArrayVec<u8, ROOM>,
     is_long: bool,
@@ -25,7 +25,7 @@ pub struct LineBuffer {
 }
 
 impl LineBuffer {
-    /// A line that has just begun.
+    /// Makes a buffer for a line that has no byte yet.
     ///
     /// <details><summary>Contract</summary>
     ///
@@ -69,7 +69,7 @@ impl LineBuffer {
         !self.is_long && self.bytes.is_empty()
     }
 
-    /// Takes a further piece of the line.
+    /// Appends a further piece of the line.
     ///
     /// <details><summary>Contract</summary>
     ///
@@ -85,8 +85,8 @@ impl LineBuffer {
         }
     }
 
-    /// Ends the line with its last piece, and begins the next: the length of the frame that the
-    /// line names, which then begins `frame`. `None` if the line is bad.
+    /// Ends the line with its last piece, writes the frame that it names to the front of `frame`, and returns the
+    /// frame's length in bytes. `None` if the line is bad. The next line then begins.
     ///
     /// A line that is one piece is not copied.
     ///
@@ -117,7 +117,7 @@ impl LineBuffer {
         len
     }
 
-    /// The length of the frame that the line names, which then begins `frame`. `None` if the
+    /// Writes the frame that the line names to the front of `frame`, and returns its length in bytes. `None` if the
     /// line is bad.
     fn frame(&self, end: LineEnd, frame: &mut [u8; MAX_FRAME_LEN]) -> Option<usize> {
         if self.is_long {
@@ -128,7 +128,7 @@ impl LineBuffer {
     }
 }
 
-/// The line without the one CR that may precede the LF that ended it.
+/// The line without the CR that may precede its LF. Only one CR is removed, and only if an LF ended the line.
 fn without_end(line: &[u8], end: LineEnd) -> &[u8] {
     match (end, line) {
         (LineEnd::LineFeed, [front @ .., b'\r']) => front,

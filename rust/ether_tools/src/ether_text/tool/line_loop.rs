@@ -1,4 +1,4 @@
-//! How far a run has come.
+//! The state of a run between two reads: the line that is being read, and the results of the lines before it.
 use crate::ether_text::tool::command::Command;
 use crate::ether_text::tool::line_buffer::{LineBuffer, LineEnd};
 use crate::ether_text::tool::outcome::{ToolFault, Verdict};
@@ -6,7 +6,7 @@ use crate::ether_text::tool::parse_frame::MAX_FRAME_LEN;
 use crate::ether_text::tool::write_answer::write_answer;
 use crate::ether_text::{OutputBuffer, Sink};
 
-/// The line under way, and what the lines before it gave.
+/// The line that is being read, and the results of the lines before it.
 pub struct LineLoop {
     line: LineBuffer,
     count: u64,
@@ -14,7 +14,7 @@ pub struct LineLoop {
 }
 
 impl LineLoop {
-    /// The state of a run that has read nothing.
+    /// Makes the state of a run that has read nothing.
     ///
     /// <details><summary>Contract</summary>
     ///
@@ -31,8 +31,9 @@ impl LineLoop {
         }
     }
 
-    /// Writes the text for the line under way, which ends with this piece, and begins the next. `frame` is
-    /// room for the line's frame.
+    /// Writes the text for the line that ends with this piece, and begins the next line. `frame` is room for the
+    /// line's frame. The error is `ToolFault::BadLine` for a bad line, and `ToolFault::Output` if the writer has
+    /// failed.
     fn judge<W: Sink>(
         &mut self,
         command: Command,
@@ -52,7 +53,7 @@ impl LineLoop {
         Ok(())
     }
 
-    /// Takes the next bytes of the input, and writes the text for each line that ends in them.
+    /// Takes the next bytes of the input, and writes the text for each line that ends in them, up to a bad one.
     ///
     /// <details><summary>Contract</summary>
     ///
@@ -83,7 +84,7 @@ impl LineLoop {
         Ok(())
     }
 
-    /// Writes the text for the last line, if the input ends in one without an LF, and returns the verdict.
+    /// Writes the text for the last line if no LF ended it, and returns the verdict.
     ///
     /// <details><summary>Contract</summary>
     ///
@@ -122,7 +123,8 @@ fn split_line(bytes: &[u8]) -> Option<(&[u8], &[u8])> {
 /// The number of bytes that [`blocks_len`] tests at once.
 const BLOCK_LEN: usize = 32;
 
-/// The length of the whole blocks before the first that has an LF.
+/// The number of bytes in the blocks of 32 before the first block that has an LF. A last block that is shorter is not
+/// counted.
 fn blocks_len(bytes: &[u8]) -> usize {
     let mut len = 0;
     while bytes.len() - len >= BLOCK_LEN {
@@ -134,7 +136,7 @@ fn blocks_len(bytes: &[u8]) -> usize {
     len
 }
 
-/// Whether a byte is an LF. All bytes are tested, which a processor does for many at once.
+/// Whether one of the bytes is an LF. All bytes are tested, so that a processor can test many at once.
 fn has_line_feed(bytes: &[u8]) -> bool {
     let mut found = false;
     for byte in bytes {
@@ -143,7 +145,7 @@ fn has_line_feed(bytes: &[u8]) -> bool {
     found
 }
 
-/// Does as [`split_line`], byte by byte.
+/// Like [`split_line`], but byte by byte.
 fn split_near(bytes: &[u8]) -> Option<(&[u8], &[u8])> {
     match bytes.iter().position(|byte| *byte == b'\n') {
         Some(end) => Some((&bytes[..end], &bytes[end + 1..])),

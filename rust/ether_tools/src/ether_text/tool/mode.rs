@@ -21,7 +21,7 @@ pub enum Mode {
 #[derive(Clone, Copy, PartialEq, Eq, Debug)]
 pub struct Usage;
 
-/// The mode that the words name, which are all those of a command without a limit.
+/// The mode that the words name, which are all words of a command but those of its limit.
 pub(crate) fn named_mode(words: &[&str]) -> Result<Mode, Usage> {
     match words {
         [] => Ok(Mode::Eth),
@@ -37,7 +37,7 @@ pub(crate) fn named_mode(words: &[&str]) -> Result<Mode, Usage> {
     }
 }
 
-/// The number that exactly four hexadecimal digits name.
+/// The number that exactly four hexadecimal digits of either case name. `None` for any other word.
 fn number_of(digits: &str) -> Option<u16> {
     if digits.len() != 4 {
         return None;

@@ -8,9 +8,8 @@ pub const MAX_LINE_DIGITS: usize = 2 * MAX_FRAME_LEN;
 
 /// Reads the frame that `line` names to the front of `out`, and returns its length in bytes.
 ///
-/// `line` is given without its line ending, as pairs of hexadecimal digits of either case. `None`
-/// if it has more than 4,096 digits, an odd number of them, or a character that is no digit;
-/// nothing is said of `out` then.
+/// `line` has no line ending, and consists of pairs of hexadecimal digits of either case. `None` if it has more than
+/// 4,096 digits, an odd number of them, or a character that is not a digit. Nothing is claimed of `out` then.
 ///
 /// <details><summary>Contract</summary>
 ///

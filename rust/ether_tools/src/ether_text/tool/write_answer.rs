@@ -7,7 +7,7 @@ use etherpeel::ether_peel::Start;
 
 /// Writes the lines for a frame, and returns whether the frame is accepted.
 ///
-/// Inlined into the loop over the lines, it would make the decoding of their digits slower.
+/// It is not inlined, since that would slow down the decoding of the digits in the loop over the lines.
 ///
 /// <details><summary>Contract</summary>
 ///

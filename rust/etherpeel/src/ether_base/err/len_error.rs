@@ -7,7 +7,7 @@ use core::fmt;
 
 /// A layer has too few bytes, or too many.
 ///
-/// All numbers are bytes.
+/// All lengths and offsets are in bytes.
 ///
 /// ```
 /// # use etherpeel::*;
@@ -23,7 +23,7 @@ use core::fmt;
 /// ```
 #[derive(Clone, Copy, PartialEq, Eq, Hash, Debug)]
 pub struct LenError {
-    /// The length that is required; if `len` is no smaller, the greatest length that is allowed.
+    /// The length that the layer needs if `len` is smaller, and otherwise the greatest length that is allowed.
     pub required_len: usize,
     /// The length that is available, from the start of the layer.
     pub len: usize,
@@ -31,13 +31,14 @@ pub struct LenError {
     pub len_source: LenSource,
     /// The layer that was read or written.
     pub layer: Layer,
-    /// The offset at which the layer starts, from the start of what is read.
+    /// The offset of the layer's first byte, from the start of the slice or frame that is read.
     pub layer_start_offset: usize,
 }
 
 impl LenError {
-    /// The error with the layer's start moved by `offset` bytes: for a caller that passed on the tail of a slice, and
-    /// reports places in the whole.
+    /// Returns the error with `offset` added to `layer_start_offset`. The sum must fit in a `usize`.
+    ///
+    /// A caller that passed only the tail of a slice uses it to report the place in the whole slice.
     ///
     /// <details><summary>Contract</summary>
     ///

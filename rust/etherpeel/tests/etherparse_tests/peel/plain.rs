@@ -1,9 +1,9 @@
-//! What tests expect: headers and refusals as numbers, without the types of the libraries.
+//! Expected headers and refusals as numbers, without the types of the libraries.
 use etherpeel::LenSource;
 use etherpeel::err::Layer;
 
-/// A header as numbers. An Ethernet address is its six bytes as one number, the first byte the highest, and so are the
-/// address field of a cooked capture and an SCI. The addresses of an ARP packet are parts of the frame.
+/// A header as numbers. An Ethernet address, the address field of a cooked capture and an SCI are each one number,
+/// whose most significant byte is the first one. The addresses of an ARP packet are parts of the frame.
 #[derive(Clone, Copy, PartialEq, Debug)]
 pub enum PlainHeader<'a> {
     Ethernet2 {
@@ -52,7 +52,7 @@ pub enum PlainHeader<'a> {
     },
 }
 
-/// What announces the bytes that are left.
+/// What the bytes that are left are announced as.
 #[derive(Clone, Copy)]
 pub enum PlainKind {
     Start,

@@ -1,6 +1,6 @@
-//! Frames that the tests of several modules read: made ones, frames that were sent between two virtual Ethernet devices of
-//! Linux and captured there, and worked examples of IEEE 802.1AE. The fields that the tests expect of the latter two are
-//! those that tshark prints; where a payload ends is counted by hand.
+//! Frames that the tests of several modules read: made ones, frames that were sent between two virtual Ethernet
+//! devices of Linux and captured there, and worked examples of IEEE 802.1AE. The tests expect of the latter two the
+//! fields that tshark prints; where a payload ends was counted by hand.
 
 /// The addresses of the made frames: to all stations, from 02:00:00:00:00:01.
 pub const ADDRESSES: [u8; 12] = [0xFF, 0xFF, 0xFF, 0xFF, 0xFF, 0xFF, 2, 0, 0, 0, 0, 1];
@@ -26,20 +26,20 @@ pub const CHECKED: [u8; 18] = [
     0xFF, 0xFF, 0xFF, 0xFF, 0xFF, 0xFF, 2, 0, 0, 0, 0, 1, 0x08, 0x00, 0x11, 0x22, 0x33, 0x44,
 ];
 
-/// After the ether type of MACsec: a SecTag that names 4 bytes of payload, a VLAN tag with PCP 5, DEI 0 and VID 0xABB in
-/// these, and 2 bytes after them.
+/// After the ether type of MACsec: a SecTag that names 4 bytes of payload, a VLAN tag with PCP 5, DEI 0 and VID 0xABB
+/// in these, and 2 bytes after them.
 pub const NAMED: [u8; 14] = [
     0x00, 0x06, 0x00, 0x00, 0x00, 0x01, 0x81, 0x00, 0xAA, 0xBB, 0xCC, 0xDD, 0xEE, 0xEE,
 ];
 
-/// After the ether type of MACsec: a SecTag with both reserved bits, an SCI and an encrypted payload of one byte, which its
-/// short length does not name.
+/// After the ether type of MACsec: a SecTag with both reserved bits, an SCI and an encrypted payload of one byte,
+/// which its short length does not name.
 pub const SEALED: [u8; 15] = [
     0x2C, 0xC0, 0x00, 0x00, 0x00, 0x01, 0x00, 0x11, 0x22, 0x33, 0x44, 0x55, 0x66, 0x77, 0x99,
 ];
 
-/// A cooked capture: to us, on Ethernet, from 02:00:00:00:00:01 by an address length of 255, with the number 1 for 802.3
-/// frames.
+/// A cooked capture: to us, on Ethernet, from 02:00:00:00:00:01 with the address length 255, with the number 1 for
+/// 802.3 frames.
 pub const COOKED: [u8; 16] = [0, 0, 0, 1, 0, 0xFF, 2, 0, 0, 0, 0, 1, 0, 0, 0, 1];
 
 /// A cooked capture of a GRE tunnel.
@@ -60,7 +60,7 @@ pub const PADDED_ARP: [u8; 60] = [
     0x00, 0x00, 0x00, 0x00, 0x00, 0x00, 0x00, 0x00, 0x00, 0x00, 0x00, 0x00, 0x00, 0x00, 0x00,
 ];
 
-/// Four SecTags one in another. Each names the length of its payload.
+/// Four SecTags, each in the payload of the one before it. Each names the length of its payload.
 #[rustfmt::skip]
 pub const NESTED: [u8; 32] = [
     0x00, 0x1A, 0, 0, 0, 1, 0x88, 0xE5,
@@ -99,8 +99,8 @@ pub const ARP_REPLY_FRAME: [u8; 60] = [
     0x00, 0x00, 0x00, 0x00, 0x00, 0x00, 0x00, 0x00, 0x00, 0x00, 0x00, 0x00,
 ];
 
-/// Sent as composed by hand, and captured: an IEEE 802.3 frame of the spanning tree protocol, with a length of 38 in the
-/// place of the type.
+/// Sent as composed by hand, and captured: an IEEE 802.3 frame of the spanning tree protocol, with a length of 38 in
+/// the place of the type.
 pub const SPANNING_TREE: [u8; 60] = [
     0x01, 0x80, 0xC2, 0x00, 0x00, 0x00, 0x02, 0x00, 0x5E, 0x10, 0x00, 0x01, 0x00, 0x26, 0x42, 0x42,
     0x03, 0x00, 0x00, 0x00, 0x00, 0x00, 0x80, 0x00, 0x02, 0x00, 0x5E, 0x10, 0x00, 0x01, 0x00, 0x00,
@@ -151,8 +151,8 @@ pub const COOKED_ARP_REQUEST: [u8; 44] = [
     0x02, 0x01, 0x00, 0x00, 0x00, 0x00, 0x00, 0x00, 0xC0, 0x00, 0x02, 0x02,
 ];
 
-/// Sent as composed by hand, and captured with the link type LINUX_SLL, which gave it its header: an 802.2 frame of the
-/// spanning tree protocol.
+/// Sent as composed by hand, and captured with the link type LINUX_SLL, which gave it its header: an 802.2 frame of
+/// the spanning tree protocol.
 pub const COOKED_SPANNING_TREE: [u8; 62] = [
     0x00, 0x02, 0x00, 0x01, 0x00, 0x06, 0x02, 0x00, 0x5E, 0x10, 0x00, 0x01, 0x00, 0x00, 0x00, 0x04,
     0x42, 0x42, 0x03, 0x00, 0x00, 0x00, 0x00, 0x00, 0x80, 0x00, 0x02, 0x00, 0x5E, 0x10, 0x00, 0x01,
@@ -160,8 +160,8 @@ pub const COOKED_SPANNING_TREE: [u8; 62] = [
     0x14, 0x00, 0x02, 0x00, 0x0F, 0x00, 0x00, 0x00, 0x00, 0x00, 0x00, 0x00, 0x00, 0x00,
 ];
 
-/// Captured with the link type LINUX_SLL: the first bytes of an IPv4 packet on the loopback device, whose hardware type
-/// is 772.
+/// Captured with the link type LINUX_SLL: the first bytes of an IPv4 packet on the loopback device, whose hardware
+/// type is 772.
 pub const COOKED_LOOPBACK: [u8; 20] = [
     0x00, 0x00, 0x03, 0x04, 0x00, 0x06, 0x00, 0x00, 0x00, 0x00, 0x00, 0x00, 0x00, 0x00, 0x08, 0x00,
     0x45, 0x00, 0x00, 0x54,

@@ -142,7 +142,7 @@ fn an_arp_packet_has_the_fields_of_its_bytes() -> Result<(), Fail> {
     Ok(())
 }
 
-/// What is made of the types and addresses, and what a view is as a value, is the packet that was read.
+/// A packet made of the types and addresses, and a view as a value, both equal the packet that was read.
 #[test]
 fn an_arp_packet_made_of_fields_is_the_one_that_was_read() -> Result<(), Fail> {
     let rt = crate::kit::HostRuntime;
@@ -204,7 +204,8 @@ fn arp_addresses_of_255_bytes_are_read() -> Result<(), Fail> {
     Ok(())
 }
 
-/// The first bytes of a slice of sevens, its length, how many bytes it requires, and what says so.
+/// The first bytes of a slice whose other bytes are 7, its length, how many bytes are required, and the source of that
+/// length.
 static SHORT: [(&str, &[u8], usize, usize, LenSource); 7] = [
     ("no byte", &[], 0, 8, LenSource::Slice),
     (
@@ -215,7 +216,7 @@ static SHORT: [(&str, &[u8], usize, usize, LenSource); 7] = [
         LenSource::ArpAddrLengths,
     ),
     ("a byte less", &REQUEST, 27, 28, LenSource::ArpAddrLengths),
-    // the front names one byte of protocol address each
+    // the front says that each protocol address has one byte
     (
         "the front is asked for first",
         &[0, 1, 8, 0, 0, 1, 0],
@@ -288,7 +289,8 @@ fn an_ethernet_ipv4_request_converts_both_ways() -> Result<(), Fail> {
     Ok(())
 }
 
-/// The types and hardware addresses of a packet whose protocol addresses have 16 bytes, and why it is of another kind.
+/// The types and hardware addresses of a packet whose protocol addresses have 16 bytes, and why it is not a packet of
+/// Ethernet and IPv4.
 type Other = (
     &'static str,
     ArpHardwareId,
@@ -297,7 +299,7 @@ type Other = (
     ArpEthIpv4FromError,
 );
 
-/// Types are told before sizes.
+/// Types are tested before sizes.
 static OTHERS: [Other; 4] = [
     (
         "a hardware type",

@@ -9,7 +9,7 @@ use etherpeel::{
 };
 use crate::kit::Fail;
 
-/// A SecTag of these numbers, without an SCI.
+/// A SecTag with these numbers, without an SCI.
 fn tag(ptype: MacsecPType, an: u8, short_len: u8, packet_nr: u32) -> Result<MacsecHeader, Fail> {
     Ok(MacsecHeader {
         ptype,
@@ -34,8 +34,8 @@ fn changed() -> Result<MacsecHeader, Fail> {
 
 const READABLE: MacsecPType = MacsecPType::Unmodified(EtherType::IPV4);
 
-/// A tag: its payload type, whether it is of an end station and of a broadcast, its numbers and its SCI; and a frame in which it is
-/// from a place to another.
+/// A tag: its payload type, the bits ES and SCB, its numbers and its SCI; and a frame, with the places where the tag
+/// begins and ends.
 struct Row {
     name: &'static str,
     ptype: MacsecPType,
@@ -109,7 +109,7 @@ static TAGS: [Row; 5] = [
     },
 ];
 
-/// Each tag is written and read again.
+/// Each tag is written, and read back as the same tag.
 #[test]
 fn a_sec_tag_is_written_and_read_alike() -> Result<(), Fail> {
     let rt = crate::kit::HostRuntime;
@@ -220,7 +220,7 @@ fn the_short_length_follows_the_payload_length() -> Result<(), Fail> {
     Ok(())
 }
 
-/// A SecTag of a readable payload with each other bit of the first byte, and a byte after it.
+/// A SecTag of a readable payload with the bits ES and SCB set and the association number 3, and a byte after it.
 const NUMBERED: [u8; 9] = [0x53, 0x2A, 1, 2, 3, 4, 0x08, 0x00, 0x45];
 
 /// The SecTag of [`SEALED`] without its reserved bits.
@@ -228,8 +228,8 @@ const CLEARED: [u8; 14] = [
     0x2C, 0x00, 0x00, 0x00, 0x00, 0x01, 0x00, 0x11, 0x22, 0x33, 0x44, 0x55, 0x66, 0x77,
 ];
 
-/// A view of a header: its first byte, the bits of that, the other fields, its length and that of its payload, the payload's type, and what is
-/// written again.
+/// A view of a header: its first byte and the bits of that, the other fields, its length and its payload's, the
+/// payload's type, and the bytes that are written back.
 struct View {
     name: &'static str,
     bytes: &'static [u8],
@@ -382,7 +382,7 @@ fn the_payload_of_a_sec_tag_is_readable_or_modified() -> Result<(), Fail> {
     Ok(())
 }
 
-/// A refused length of a header, and of a payload that the tag names.
+/// Refusals for a length: of the tag, and of the payload whose length the tag names.
 macro_rules! cut {
     ($required_len:expr, $len:expr $(,)?) => {
         Some(HeaderSliceError::Len(cut_short!($required_len, $len, Layer::MacsecHeader)))
@@ -434,7 +434,7 @@ static REFUSALS: [(&str, &[u8], Option<HeaderSliceError>); 12] = [
     // a tag with version 1 and short length 1
     ("the length first", &[0x80, 1, 0, 0, 0], cut!(6, 5)),
     ("then the version", &[0x80, 1, 0, 0, 0, 0], VERSION),
-    // SCI and ether type are missing as well, the second time with a reserved bit
+    // SCI and ether type are missing too; the second row has a reserved bit
     (
         "then the short length",
         &[0x20, 0x01, 0, 0, 0, 0],

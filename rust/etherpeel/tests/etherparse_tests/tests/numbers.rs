@@ -24,7 +24,7 @@ const fn above_u8(actual: u8, max_allowed: u8, value_type: ValueType) -> ValueTo
     }
 }
 
-// the value of a number, the greatest one, and the refusal of one more
+// the value of a number, the greatest number, and the refusal of the one after it
 #[test]
 fn a_vlan_identifier_is_at_most_4095() -> Result<(), Fail> {
     let rt = crate::kit::HostRuntime;
@@ -108,7 +108,7 @@ fn a_length_above_63_has_the_short_length_0() {
     }
 }
 
-/// The first byte is the most significant, and comes first.
+/// The most significant byte is first, when numbers are read and when they are written.
 #[test]
 fn the_first_byte_is_the_most_significant() {
     let rt = crate::kit::HostRuntime;

@@ -100,7 +100,7 @@ fn a_write_error_names_the_room_that_is_needed() -> Result<(), Fail> {
     Ok(())
 }
 
-/// A header that is cut short after six bytes that were read before.
+/// A header that begins at offset 6 and is cut short.
 const EARLY: LenError = LenError {
     required_len: 6,
     len: 3,
@@ -117,7 +117,8 @@ const VERSION: macsec::HeaderSliceError = macsec::HeaderSliceError::Content(
     macsec::HeaderError::UnexpectedVersion,
 );
 
-/// An error, how many more bytes were read before, and the text then: lengths move, contents stay.
+/// An error, the number of bytes that precede the header, and the text after the move: length errors move, content
+/// errors are unchanged.
 static CAPTURES: [(linux_sll::HeaderSliceError, usize, &str); 3] = [
     (
         linux_sll::HeaderSliceError::Len(LenError {
@@ -199,7 +200,7 @@ static NEW_PACKETS: [(ArpNewError, &str); 4] = [
     ),
 ];
 
-/// The error of an address has the text that it has as one of a packet.
+/// An error of an address has the same text as the error of the packet that has it.
 #[test]
 fn an_address_error_reads_as_that_of_its_packet() -> Result<(), Fail> {
     let rt = crate::kit::HostRuntime;
@@ -264,7 +265,7 @@ fn display_and_debug_show_numbers() -> Result<(), Fail> {
     Ok(())
 }
 
-/// An error of any kind is cloned, compared, hashed and shown. True if the clone is equal.
+/// Clones, compares, hashes and shows an error of any kind. True if the clone is equal.
 fn same<E: Error + Clone + Eq + Hash>(error: E) -> Result<bool, AllocError> {
     Ok(error.clone() == error)
 }

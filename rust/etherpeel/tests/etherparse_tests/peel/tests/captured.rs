@@ -1,4 +1,4 @@
-//! Captured frames and worked examples of a standard. The fields that the tests expect are those that tshark prints of each
+//! Captured frames, and worked examples of IEEE 802.1AE. The expected fields are those that tshark prints of each
 //! frame.
 use super::{Walk, check};
 use crate::peel::plain::{PlainHeader, PlainKind, PlainRefusal};

@@ -1,4 +1,4 @@
-//! Frames cut short and the bytes that complete them.
+//! Frames that were cut short, and the bytes that complete them.
 use super::{equal, kind_of, put};
 use crate::peel::plain::PlainKind;
 use crate::peel::test_frames::{
@@ -25,7 +25,7 @@ fn kind_after(start: Start, frame: &[u8], fill: &[u8]) -> Option<RestKind> {
     }
 }
 
-/// A frame, how many bytes complete it and the first of them, after which all are 0, and the kind of the rest then.
+/// A frame, how many bytes complete it, the first of these (all others are 0), and the kind of the rest after them.
 struct Completed {
     start: Start,
     frame: &'static [u8],
@@ -52,7 +52,8 @@ const VLAN: Start = Start::EtherType(EtherType::VLAN_TAGGED_FRAME);
 
 const ZERO: PlainKind = ether_type!(0);
 
-/// Two addresses, ARP, and addresses of one and of two bytes.
+/// An Ethernet II header, and the first bytes of an ARP packet with hardware addresses of one byte and protocol
+/// addresses of two.
 const EXAMPLE: [u8; 20] = [
     0xFF, 0xFF, 0xFF, 0xFF, 0xFF, 0xFF, 0x02, 0x00, 0x00, 0x00, 0x00, 0x01, 0x08, 0x06, 0x00, 0x01,
     0x08, 0x00, 0x01, 0x02,
@@ -91,7 +92,7 @@ static ROWS: [Completed; 38] = [
     row!(MACSEC, &[0x20, 0, 0, 0, 0, 1, 0x81, 0x81, 0x81, 0x81, 0x81, 0x81, 0x81, 0x81], 0, 2, ZERO),
     row!(MACSEC, &[0x20, 0, 0, 0, 0, 1, 0x81, 0x81, 0x81, 0x81, 0x81, 0x81, 0x81, 0x81, 0x91], 1, 1, ether_type!(0x9101)),
     row!(MACSEC, &[0x20, 0, 0, 0, 0, 1, 0x81, 0x81, 0x81, 0x81, 0x81, 0x81, 0x81, 0x81, 0x92], 0, 1, ether_type!(0x9200)),
-    // short length 0 tells no length, 2 no payload, 63 the longest
+    // short length 0 names no length, 2 an empty payload, 63 the longest
     row!(MACSEC, &[0x00, 0, 0, 0, 0, 1, 0x08], 0, 1, ether_type!(0x0800)),
     row!(MACSEC, &[0x00, 2, 0, 0, 0, 1], 0, 2, ZERO),
     row!(MACSEC, &[0x00, 63, 0, 0, 0, 1], 0, 63, ZERO),
@@ -111,7 +112,7 @@ static ROWS: [Completed; 38] = [
     row!(ETH, &[0xFF, 0xFF, 0xFF, 0xFF, 0xFF, 0xFF, 2, 0, 0, 0, 0, 1, 0x90], 0, 1, ether_type!(0x9000)),
 ];
 
-/// The frame of a row is completed by its bytes.
+/// The bytes of each row complete its frame.
 #[test]
 fn the_planned_bytes_complete_a_frame() -> Result<(), Fail> {
     let rt = crate::kit::HostRuntime;
@@ -155,7 +156,7 @@ fn a_walk_ends_at_a_sealed_payload() {
     );
 }
 
-/// The first bytes of a frame, so many.
+/// A frame, and how many of its first bytes are there.
 #[rustfmt::skip]
 static INCOMPLETE: [(&str, Start, &[u8], usize); 16] = [
     ("no byte of IPv4", Start::EtherType(EtherType::IPV4), &[], 0),

@@ -27,7 +27,8 @@ const CLOSED: [u8; 12] = [
 
 const SLICE: LenSource = LenSource::Slice;
 
-/// A frame, how often and how many bytes are asked for, and the place, closedness and reason of the fault.
+/// A frame, how often bytes are asked for and how many, and of the fault the offset, whether its window is closed, and
+/// the reason.
 type Row = (
     &'static str,
     Start,
@@ -40,7 +41,8 @@ type Row = (
 #[rustfmt::skip]
 static ROWS: [Row; 11] = [
     ("the example", ETH, &EXAMPLE, 2, 18, None),
-    // 14, 20, 22 and 26 bytes: the Ethernet header, the SecTag's first six bytes, its ether type, and the payload that it names
+    // 14, 20, 22 and 26 bytes: the Ethernet header, the SecTag's first six bytes, its ether type, and the payload that
+    // it names
     ("a SecTag with its payload", ETH, &SEC_TAG, 4, 26, None),
     ("after the ether type of MACsec", MACSEC, &NAMED, 3, 12, None),
     ("a tag that is cut short", ETH, &SECOND_TAG_CUT, 2, 18, Some((18, false, too_short!(4, 0, SLICE, Layer::VlanHeader)))),

@@ -1,4 +1,4 @@
-//! The calls with a limit on VLAN tags and SecTags, and the plain ones.
+//! For each call, the form with a limit on VLAN tags and SecTags if there is a limit, otherwise the plain one.
 
 use arrayvec::ArrayVec;
 use etherpeel::ether_peel::{
@@ -7,7 +7,7 @@ use etherpeel::ether_peel::{
 };
 use etherpeel::err::SliceWriteSpaceError;
 
-/// The walk with a limit, or the plain one.
+/// The walk with a limit if there is one, otherwise the plain walk.
 pub(crate) fn walker<'a>(start: Start, frame: &'a [u8], limit: Option<usize>) -> Peel<'a> {
     match limit {
         Some(limit) => Peel::with_limit(start, frame, limit),

@@ -47,7 +47,7 @@ const SECOND: PlainHeader<'static> = PlainHeader::Macsec {
 
 const CUT: &[PlainHeader<'static>] = &[broadcast!(0x88A8), vlan!(0, 0, 1, 0x8100)];
 
-/// The second of two tags, which the limit lets be read.
+/// The second of two tags. The limit allows both to be read.
 const SECOND_OF_TWO: Walk = Walk {
     name: "a fault within the limit",
     start: ETH,
@@ -112,7 +112,7 @@ fn a_limited_walk_reads_no_tag_beyond_its_limit() {
     }
 }
 
-/// An Ethernet II header and a VLAN tag, and a byte after them, as the examples of the calls have them.
+/// An Ethernet II header and a VLAN tag, and a byte after them, as in the examples of the calls.
 const EXAMPLE: [u8; 19] = [
     0xFF, 0xFF, 0xFF, 0xFF, 0xFF, 0xFF, 0x02, 0x00, 0x00, 0x00, 0x00, 0x01, 0x81, 0x00, 0xB1, 0x23,
     0x08, 0x00, 0x45,
@@ -149,14 +149,13 @@ const IN_SEC_TAG: [u8; 28] = [
     0xAA, 0xBB, 0xCC, 0xDD, 0xEE, 0xEE,
 ];
 
-/// A frame, the limit, and how often and how many bytes are asked for.
+/// A frame, the limit, how often bytes are asked for, and how many.
 static FEEDS: [(&str, &[u8], usize, usize, usize); 3] = [
     ("a SecTag beyond the limit", &IN_SEC_TAG, 0, 1, 14),
     ("a SecTag within the limit", &IN_SEC_TAG, 1, 4, 26),
     ("a VLAN tag beyond the limit", &EXAMPLE, 0, 1, 14),
 ];
 
-/// No byte of a tag beyond the limit is asked for.
 #[test]
 fn no_byte_of_a_tag_beyond_the_limit_is_asked_for() {
     let rt = crate::kit::HostRuntime;
@@ -171,7 +170,6 @@ fn no_byte_of_a_tag_beyond_the_limit_is_asked_for() {
     }
 }
 
-/// A tag beyond the limit is written as it is.
 #[test]
 fn a_tag_beyond_the_limit_is_written_as_it_is() {
     let rt = crate::kit::HostRuntime;
@@ -185,7 +183,7 @@ fn a_tag_beyond_the_limit_is_written_as_it_is() {
     equal!(rt, "a SecTag"; found => [(Some(15), SEALED), (Some(15), cleared)]);
 }
 
-/// The first bytes of a frame, so many, a limit, and the bytes that complete them.
+/// A frame and how many of its first bytes are there, a limit, and the bytes that complete them.
 static COMPLETIONS: [(&str, &[u8], usize, Option<usize>, Option<&[u8]>); 5] = [
     (
         "a tag within the limit",

@@ -4,7 +4,7 @@ use crate::peel::test_frames::{CHECKED, PADDED_ARP, SEALED};
 use etherpeel::ether_peel::{Start, write_back};
 use etherpeel::err::{Layer, SliceWriteSpaceError};
 
-/// What a target holds before.
+/// What a target holds before it is written to.
 const OLD: u8 = 0x55;
 
 /// A SecTag with a reserved bit set, which names four bytes of payload: a VLAN tag. Two bytes follow it.
@@ -12,7 +12,7 @@ const TAG_IN_A_CLOSED_WINDOW: [u8; 14] = [
     0x00, 0x46, 0x00, 0x00, 0x00, 0x01, 0x81, 0x00, 0xAA, 0xBB, 0xCC, 0xDD, 0xEE, 0xEE,
 ];
 
-/// The example without its reserved bit, and as far as it is written.
+/// The example as it is written: without its reserved bit, and up to the end of the last window.
 const CLEARED: [u8; 12] = [
     0x00, 0x06, 0x00, 0x00, 0x00, 0x01, 0x81, 0x00, 0xAA, 0xBB, 0xCC, 0xDD,
 ];
@@ -34,7 +34,7 @@ const TWO_TAGS: [u8; 24] = [
     0x45, 0x00,
 ];
 
-/// The sender's address is said to have 255 bytes, and a header has room for 8.
+/// The header says that the sender's address has 255 bytes, though it holds only 8.
 const LONG_ADDRESS: [u8; 17] = [
     0x00, 0x00, 0x00, 0x01, 0x00, 0xFF, 0x02, 0x00, 0x00, 0x00, 0x00, 0x01, 0x00, 0x00, 0x00, 0x01,
     0x45,
@@ -44,7 +44,7 @@ const ETH: Start = Start::Ethernet2;
 
 const MACSEC: Start = with_type!(0x88E5);
 
-/// A frame, the room of its target, and the bytes, so many of them, that are written to the front of the target.
+/// A frame, the length of its target, and the bytes that are written to the front of the target, with their number.
 type Row = (
     &'static str,
     Start,
