@@ -40,7 +40,7 @@ ARTEFACTS = {
     "Filters in memory of the caller": {
         "ether_filter/src/filter.rt": ["instructions"],
         "ether_filter/src/instruction.rt": ["node"],
-        "ether_filter/src/program.rt": ["matches", "decide"],
+        "ether_filter/src/filter_program.rt": ["matches", "decide"],
     },
     "Packets": {
         "ether_packet/src/packet_units.rt": ["ghost"],
@@ -158,7 +158,7 @@ ORDER = {
         ether_filter: Primitives Expressions Deciding Words Numerals Tokens Grammar Texts Refusals
     """,
     "Filters in memory of the caller": """
-        ether_filter: Postfix Jumps Programs
+        ether_filter: Postfix Jumps FilterProgram
     """,
     "Packets": """
         ether_base: Bytes Formats/Ethernet2 Formats/Vlan Formats/Macsec Formats/LinuxSll Formats/LinuxSllProtocolType Formats/Arp

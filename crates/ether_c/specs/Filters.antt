@@ -1,7 +1,7 @@
 -- What the calls do that read the text of a filter.
 use Rattle.std.specs.Prelude.{◌≡◌, ◌⊎◌, ℕ, ◌<◌, ◌≤◌, List, ◌++◌, length, take, drop, Result, IfOk, IfErr}
 use Rattle.ether_filter.specs.Expressions.{Expression}
-use Rattle.ether_filter.specs.Programs.{IsProgramOf}
+use Rattle.ether_filter.specs.FilterProgram.{IsProgramOf}
 use Rattle.ether_filter.specs.Texts.{IsExpressionOf}
 use Rattle.ether_filter.specs.Refusals.{RefusesText}
 use Rattle.ether_filter.specs.ErrorTexts.{filter_error_text}

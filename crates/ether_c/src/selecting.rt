@@ -1,6 +1,6 @@
 //! The packets that a filter selects.
 ghost use Rattle.ether_filter.specs.Expressions.{Expression};
-ghost use Rattle.ether_filter.specs.Programs.{IsProgramOf};
+ghost use Rattle.ether_filter.specs.FilterProgram.{IsProgramOf};
 ghost use Rattle.ether_c.specs.Selection.{IsMark};
 ghost use Rattle.ether_c.specs.Filters.{GivesSelection, PutsMarks};
 

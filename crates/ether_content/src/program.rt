@@ -1,13 +1,13 @@
 //! Filters in memory of the caller: which packets of a capture they select.
 ghost use Rattle.std.specs.Prelude.{◌≡◌, ◌↔◌, length, IsTrue};
 ghost use Rattle.ether_filter.specs.Expressions.{Expression};
-ghost use Rattle.ether_filter.specs.Programs.{IsProgramOf};
+ghost use Rattle.ether_filter.specs.FilterProgram.{IsProgramOf};
 ghost use Rattle.ether_pcap.specs.CaptureViews.{captured_packet_view};
 ghost use Rattle.ether_peel.specs.Walker.Start.{next_of};
 ghost use Rattle.ether_content.specs.Selecting.{HoldsOf, IsUndecided, NeedsBytes, Selects, asked_of};
 
 use crate::content::{Content, is_cut, whole_len};
-use ether_filter::{Decision, Instruction, Packet, program};
+use ether_filter::{Decision, Instruction, Packet, filter_program};
 use ether_pcap::CapturedPacket;
 use ether_peel::Start;
 use ether_sll2::LinuxSll2Header;
@@ -34,7 +34,7 @@ fn holds(
     ensures { (x : Expression) → IsProgramOf instructions.now x → IsTrue result
         ↔ HoldsOf x (next_of start) frame.now (length packet.now.packet.now) packet.now.original_len }
 {
-    program::matches(
+    filter_program::matches(
         instructions,
         &Packet {
             start,
@@ -83,7 +83,7 @@ fn needs_bytes(
     ensures { (x : Expression) → IsProgramOf instructions.now x
         → IsTrue result ↔ NeedsBytes x (asked_of start frame.entry packet.now) }
 {
-    let decision = program::decide(
+    let decision = filter_program::decide(
         instructions,
         &Packet {
             start,

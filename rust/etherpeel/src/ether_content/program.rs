@@ -1,7 +1,7 @@
 //! Filters in memory of the caller: which packets of a capture they select.
 
 use crate::ether_content::content::{Content, is_cut, whole_len};
-use crate::ether_filter::{Decision, Instruction, Packet, program};
+use crate::ether_filter::{Decision, Instruction, Packet, filter_program};
 use crate::ether_pcap::CapturedPacket;
 use crate::ether_peel::Start;
 use crate::ether_sll2::LinuxSll2Header;
@@ -33,7 +33,7 @@ fn holds(
     frame: &[u8],
     packet: &CapturedPacket<'_>,
 ) -> bool {
-    program::matches(
+    filter_program::matches(
         instructions,
         &Packet {
             start,
@@ -84,7 +84,7 @@ fn needs_bytes(
     frame: &[u8],
     packet: &CapturedPacket<'_>,
 ) -> bool {
-    let decision = program::decide(
+    let decision = filter_program::decide(
         instructions,
         &Packet {
             start,

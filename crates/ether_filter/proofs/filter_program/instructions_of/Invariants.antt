@@ -3,8 +3,8 @@ use Rattle.std.specs.Prelude.{get_or}
 use Rattle.ether_filter.specs.declared.node.Node.{Node}
 use Rattle.ether_filter.specs.declared.instruction.Instruction.{Instruction}
 use Rattle.ether_filter.specs.Jumps.{jump_at}
-use Rattle.ether_filter.specs.Programs.{IsInstruction}
-use Rattle.ether_filter.proofs.program.instructions_of.Given as goal
+use Rattle.ether_filter.specs.FilterProgram.{IsInstruction}
+use Rattle.ether_filter.proofs.filter_program.instructions_of.Given as goal
 
 abbrev pub invariant-loop-at : goal.invariant-loop-at
 invariant-loop-at l =

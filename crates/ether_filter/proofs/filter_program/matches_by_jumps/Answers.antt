@@ -8,13 +8,13 @@ use Rattle.ether_filter.specs.Expressions.{Expression}
 use Rattle.ether_filter.specs.Postfix.{postfix}
 use Rattle.ether_filter.specs.Primitives.{walked}
 use Rattle.ether_filter.specs.Jumps.{chosen, first_jump, Misses, Reaches}
-use Rattle.ether_filter.specs.Programs.{IsProgramOf}
+use Rattle.ether_filter.specs.FilterProgram.{IsProgramOf}
 use Rattle.ether_filter.proofs.JumpsLemmas.{truth, reaches_next, reaches_test, reaches_end}
 use Rattle.ether_filter.proofs.Truth.{matching, matching_is, one_truth, expression_is, runs_begin, past_nodes, end_is}
 use Rattle.ether_filter.proofs.PastTags.{misses}
 use Rattle.ether_filter.proofs.ProgramLemmas.{no_instruction, is_test, never_test}
-use Rattle.ether_filter.proofs.program.matches_by_jumps.Goals as goal
-use Rattle.ether_filter.proofs.program.matches_by_jumps.Goals.{After-after-next, After-tags_seen-tags}
+use Rattle.ether_filter.proofs.filter_program.matches_by_jumps.Goals as goal
+use Rattle.ether_filter.proofs.filter_program.matches_by_jumps.Goals.{After-after-next, After-tags_seen-tags}
 
 few_nodes : (n m : ℕ) → n ≤ 192 → n ≡ m → m ≤ 192
 few_nodes n m few count = omega (arith, few, count)

@@ -1,4 +1,4 @@
-//! Filters in memory of the caller: runs the instructions of a filter on packets.
+//! Runs the instructions of a filter on packets: for filters that are kept in memory of the caller.
 
 use crate::ether_filter::deciding::{Opening, find_opening, joined_value, known};
 use crate::ether_filter::decision::Decision;
@@ -13,9 +13,10 @@ use crate::ether_filter::seen::{Seen, Tags, look, tags_seen};
 use arrayvec::ArrayVec;
 use crate::ether_peel::Start;
 
-/// Returns `true` if a packet matches the filter that gave the instructions, as [`Filter::matches`](crate::ether_filter::Filter::matches) says.
+/// Returns `true` if a packet matches the filter of these instructions, as [`Filter::matches`](crate::ether_filter::Filter::matches)
+/// says.
 ///
-/// If no filter gave them, the result says nothing.
+/// If the instructions are not those of a filter, nothing is claimed of the result.
 ///
 /// ```
 /// # use etherpeel::*;
@@ -23,7 +24,7 @@ use crate::ether_peel::Start;
 /// # use etherpeel::ether_sll2::*;
 /// # use etherpeel::ether_packet::*;
 /// # use etherpeel::ether_filter::*;
-/// # use etherpeel::ether_filter::program::*;
+/// # use etherpeel::ether_filter::filter_program::*;
 /// # fn main() -> Result<(), Box<dyn std::error::Error>> {
 /// let frame = [
 ///     0xFF, 0xFF, 0xFF, 0xFF, 0xFF, 0xFF, 0x02, 0x00, 0x00, 0x00, 0x00, 0x01, 0x81, 0x00, // Ethernet II
@@ -36,7 +37,7 @@ use crate::ether_peel::Start;
 ///     original_len: 64,
 /// };
 /// let filter = Filter::parse(b"vlan 5 and not ip")?;
-/// assert!(program::matches(filter.instructions(), &packet));
+/// assert!(filter_program::matches(filter.instructions(), &packet));
 /// # Ok(())
 /// # }
 /// ```
@@ -59,7 +60,7 @@ pub fn matches(instructions: &[Instruction], packet: &Packet<'_>) -> bool {
     matches_by_jumps(instructions, packet)
 }
 
-/// Whether a packet matches, by what one walk shows of all primitives.
+/// Whether a packet matches, by what one walk shows for all primitives.
 #[inline]
 fn matches_by_jumps(instructions: &[Instruction], packet: &Packet<'_>) -> bool {
     let seen = look_for(instructions, packet.start, packet.frame);
@@ -81,7 +82,7 @@ fn matches_by_jumps(instructions: &[Instruction], packet: &Packet<'_>) -> bool {
     at == usize::from(HOLDS)
 }
 
-/// Where the evaluation goes on past primitives that ask for VLAN tags, from an index on, by the tags that are seen.
+/// Where the evaluation goes on from the index `begin`, past primitives that these VLAN tags don't match.
 #[inline]
 fn past_misses(instructions: &[Instruction], begin: usize, tags: Tags) -> usize {
     match tags {
@@ -91,7 +92,7 @@ fn past_misses(instructions: &[Instruction], begin: usize, tags: Tags) -> usize 
     }
 }
 
-/// Past those that ask for VLAN tags, if there are none.
+/// .. past primitives that ask for VLAN tags, if there are none.
 #[inline]
 fn past_all(instructions: &[Instruction], begin: usize) -> usize {
     let mut at = begin;
@@ -105,7 +106,7 @@ fn past_all(instructions: &[Instruction], begin: usize) -> usize {
     at
 }
 
-/// Past those that ask for the identifier of a VLAN tag, if the only tag has another one.
+/// .. past primitives that ask for another identifier than that of the only VLAN tag.
 #[inline]
 fn past_others(instructions: &[Instruction], begin: usize, id: u16) -> usize {
     let mut at = begin;
@@ -119,10 +120,10 @@ fn past_others(instructions: &[Instruction], begin: usize, id: u16) -> usize {
     at
 }
 
-/// What is known of whether a packet matches the filter that gave the instructions, if not all of its bytes were captured, as
+/// Decides whether a packet matches the filter of these instructions if some of its bytes may be missing, as
 /// [`Filter::decide`](crate::ether_filter::Filter::decide) says.
 ///
-/// If no filter gave them, the result says nothing.
+/// If the instructions are not those of a filter, nothing is claimed of the result.
 ///
 /// <details><summary>Contract</summary>
 ///
@@ -163,7 +164,8 @@ pub(crate) fn instructions_of(nodes: &[Node]) -> ArrayVec<Instruction, MAX_WORDS
     instructions
 }
 
-/// What the headers of a packet show, if an instruction asks for them, and there is room for it.
+/// What the headers of a packet show. `None` if no instruction asks for headers, or if there is no room for what they
+/// show.
 #[inline]
 fn look_for(instructions: &[Instruction], start: Start, frame: &[u8]) -> Option<Seen> {
     for instruction in instructions {
@@ -185,7 +187,7 @@ fn asks_headers(primitive: Primitive) -> bool {
     )
 }
 
-/// The decision on an expression of this value.
+/// The decision on an expression with this value, where `None` is unknown.
 #[inline]
 fn decision(value: Option<bool>, opening: Option<Opening>) -> Decision {
     match (value, opening) {
@@ -196,7 +198,7 @@ fn decision(value: Option<bool>, opening: Option<Opening>) -> Decision {
     }
 }
 
-/// Puts the value of an expression in the place of those of its operands.
+/// Evaluates one postfix node: pops its operands' values and pushes its own.
 #[inline]
 fn decide_node(
     values: &mut ArrayVec<Option<bool>, MAX_WORDS>,

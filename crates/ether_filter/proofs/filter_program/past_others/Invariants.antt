@@ -2,8 +2,8 @@ use Rattle.std.proofs.Common.{◌≤◌, ◌-◌, length}
 use Rattle.ether_filter.specs.declared.seen.Tags.TheVariants.{One}
 use Rattle.ether_filter.specs.Expressions.{Expression}
 use Rattle.ether_filter.specs.Jumps.{LeadsOn}
-use Rattle.ether_filter.specs.Programs.{IsProgramOf}
-use Rattle.ether_filter.proofs.program.past_others.Given as goal
+use Rattle.ether_filter.specs.FilterProgram.{IsProgramOf}
+use Rattle.ether_filter.proofs.filter_program.past_others.Given as goal
 
 abbrev pub invariant-loop-at : goal.invariant-loop-at
 invariant-loop-at l =

@@ -1,6 +1,6 @@
 use Rattle.std.proofs.Common.{sym, ◌∙◌, arith}
 use Rattle.ether_filter.proofs.ProgramLemmas.{only_primitive}
-use Rattle.ether_filter.proofs.program.matches.Goals as goal
+use Rattle.ether_filter.proofs.filter_program.matches.Goals as goal
 
 pub returns-in-Some : goal.returns-in-Some
 returns-in-Some c x p hs e walk =

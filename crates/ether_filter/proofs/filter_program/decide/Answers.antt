@@ -10,7 +10,7 @@ use Rattle.ether_filter.specs.Evaluation.{AreValues, IsValue}
 use Rattle.ether_filter.proofs.Evaluated.{evaluates_next, evaluated}
 use Rattle.ether_filter.proofs.Completions.{says_one}
 use Rattle.ether_filter.proofs.ProgramLemmas.{no_instruction}
-use Rattle.ether_filter.proofs.program.decide.Goals as goal
+use Rattle.ether_filter.proofs.filter_program.decide.Goals as goal
 
 pub loop-instruction-init : goal.loop-instruction-init
 loop-instruction-init c = (

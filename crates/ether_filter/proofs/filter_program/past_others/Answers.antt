@@ -1,6 +1,6 @@
 use Rattle.std.proofs.Common.{◌∙◌, sym, arith}
 use Rattle.ether_filter.proofs.PastTags.{past_other}
-use Rattle.ether_filter.proofs.program.past_others.Goals as goal
+use Rattle.ether_filter.proofs.filter_program.past_others.Goals as goal
 
 pub loop-at-preserved : goal.loop-at-preserved
 loop-at-preserved c = (

@@ -1,4 +1,4 @@
--- A filter as numbers alone: the nodes of its expression, and where the evaluation goes on after each.
+-- A filter as numbers only: the nodes of its expression, and where the evaluation goes on after each.
 use Rattle.std.specs.Prelude.{◌≡◌, ℕ, ◌%◌, ◌^◌, ◌<◌, ◌≤◌, List, [], ◌∷◌, length, get_or, Option, Some, None, nat_eq, if◌then◌else◌}
 use Rattle.ether_filter.specs.declared.jumps.Jump.{Jump}
 use Rattle.ether_filter.specs.declared.node.Node.{Node}
@@ -11,7 +11,7 @@ use Rattle.ether_filter.specs.Expressions.{Expression}
 use Rattle.ether_filter.specs.Postfix.{postfix}
 use Rattle.ether_filter.specs.Jumps.{AreJumps, ArePassed, first_jump, jump_at}
 
--- the primitive with a number; some have an operand
+-- the primitive whose kind has this number; some kinds have an operand
 abbrev pub primitive_numbered : (kind operand : ℕ) → Option Primitive
 primitive_numbered kind operand =
     if nat_eq kind 0 then Some primitives.Vlan
@@ -31,14 +31,14 @@ primitive_numbered kind operand =
     else (if nat_eq kind 14 then Some (primitives.Greater (operand % 2 ^ 32))
     else None))))))))))))))
 
--- the operator with a number
+-- the operator whose kind has this number
 abbrev pub operator_numbered : (kind : ℕ) → Option Node
 operator_numbered kind =
     if nat_eq kind 15 then Some nodes.Not
     else (if nat_eq kind 16 then Some (nodes.Join operators.And)
     else (if nat_eq kind 17 then Some (nodes.Join operators.Or) else None))
 
--- a primitive, if it is one, or else an operator
+-- the primitive if there is one, else the operator
 abbrev pub test_or : Option Primitive → Option Node → Option Node
 test_or (Some primitive) operator = Some (nodes.Test primitive)
 test_or None operator = operator
@@ -52,7 +52,7 @@ pub record IsInstruction (n : Node) (j : Jump) (past : ℕ) (s : Instruction) : 
   pub jump : s.jump ≡ j
   pub past_tags : s.past_tags ≡ past
 
--- the instructions of an expression: those of its nodes, each after its operands
+-- the instructions of an expression: one for each of its nodes, in postfix order
 pub record IsProgramOf (instructions : List Instruction) (x : Expression) : Type 0 where
   pub jumps : List Jump
   pub past : List ℕ

@@ -2,7 +2,7 @@ use Rattle.std.proofs.Common.{subst}
 use Rattle.ether_filter.specs.Evaluation.{IsOpening, IsValue}
 use Rattle.ether_filter.specs.Deciding as deciding
 use Rattle.ether_filter.proofs.Kleene.{all_known}
-use Rattle.ether_filter.proofs.program.decision.Goals as goal
+use Rattle.ether_filter.proofs.filter_program.decision.Goals as goal
 
 pub returns-in-None-Some : goal.returns-in-None-Some
 returns-in-None-Some c packet hs e x at value = (

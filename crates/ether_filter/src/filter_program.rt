@@ -1,4 +1,4 @@
-//! Filters in memory of the caller: runs the instructions of a filter on packets.
+//! Runs the instructions of a filter on packets: for filters that are kept in memory of the caller.
 ghost use Rattle.std.specs.Prelude.{◌≡◌, ◌↔◌, ◌+◌, ◌<◌, ◌≤◌, ◌&&◌, ℕ, List, Bool, true, false, IsTrue, Some, length, reverse};
 ghost use Rattle.arrayvec.specs.ArrayVec.{array_vec_len};
 ghost use Rattle.etherparse.specs.Bytes.{IsBytes};
@@ -9,7 +9,7 @@ ghost use Rattle.ether_filter.specs.Primitives.{walked, Matches};
 ghost use Rattle.ether_filter.specs.Jumps.{LeadsOn};
 ghost use Rattle.ether_filter.specs.Expressions.{Expression, Holds};
 ghost use Rattle.ether_filter.specs.Postfix.{postfix, pushed};
-ghost use Rattle.ether_filter.specs.Programs.{IsProgramOf};
+ghost use Rattle.ether_filter.specs.FilterProgram.{IsProgramOf};
 ghost use Rattle.ether_filter.specs.Evaluation.{AreValues, IsOpening, IsValue};
 ghost use Rattle.ether_filter.specs.Seen.{IsSeen, asks_headers as asks_headers_of};
 ghost use Rattle.ether_filter.specs.Deciding.{Says};
@@ -27,9 +27,10 @@ use crate::seen::{Seen, Tags, look, tags_seen};
 use arrayvec::ArrayVec;
 use ether_peel::Start;
 
-/// Returns `true` if a packet matches the filter that gave the instructions, as [`Filter::matches`](crate::Filter::matches) says.
+/// Returns `true` if a packet matches the filter of these instructions, as [`Filter::matches`](crate::Filter::matches)
+/// says.
 ///
-/// If no filter gave them, the result says nothing.
+/// If the instructions are not those of a filter, nothing is claimed of the result.
 ///
 /// ```
 /// let frame = [
@@ -43,7 +44,7 @@ use ether_peel::Start;
 ///     original_len: 64,
 /// };
 /// let filter = Filter::parse(b"vlan 5 and not ip")?;
-/// assert!(rt; program::matches(filter.instructions(), &packet));
+/// assert!(rt; filter_program::matches(filter.instructions(), &packet));
 /// ```
 pub fn matches(instructions: &[Instruction], packet: &Packet<'_>) -> bool
     ensures { (x : Expression) → IsProgramOf instructions.now x → (hs : List Header) (e : Ending)
@@ -57,7 +58,7 @@ pub fn matches(instructions: &[Instruction], packet: &Packet<'_>) -> bool
     matches_by_jumps(instructions, packet)
 }
 
-/// Whether a packet matches, by what one walk shows of all primitives.
+/// Whether a packet matches, by what one walk shows for all primitives.
 fn matches_by_jumps(instructions: &[Instruction], packet: &Packet<'_>) -> bool
     ensures { (x : Expression) → IsProgramOf instructions.now x → (hs : List Header) (e : Ending)
         → Walk (start_of packet.now.start) packet.now.frame.now hs e → IsTrue result ↔ Holds x (walked packet.now hs e) }
@@ -81,7 +82,7 @@ fn matches_by_jumps(instructions: &[Instruction], packet: &Packet<'_>) -> bool
     at == usize::from(HOLDS)
 }
 
-/// Where the evaluation goes on past primitives that ask for VLAN tags, from an index on, by the tags that are seen.
+/// Where the evaluation goes on from the index `begin`, past primitives that these VLAN tags don't match.
 #[inline]
 fn past_misses(instructions: &[Instruction], begin: usize, tags: Tags) -> usize
     ensures forward { begin ≤ result }
@@ -94,7 +95,7 @@ fn past_misses(instructions: &[Instruction], begin: usize, tags: Tags) -> usize
     }
 }
 
-/// Past those that ask for VLAN tags, if there are none.
+/// .. past primitives that ask for VLAN tags, if there are none.
 fn past_all(instructions: &[Instruction], begin: usize) -> usize
     ensures forward { begin ≤ result }
     ensures reaches { (x : Expression) (p : IsProgramOf instructions.now x) → LeadsOn x p.jumps Tags.Untagged begin result }
@@ -110,7 +111,7 @@ fn past_all(instructions: &[Instruction], begin: usize) -> usize
     at
 }
 
-/// Past those that ask for the identifier of a VLAN tag, if the only tag has another one.
+/// .. past primitives that ask for another identifier than that of the only VLAN tag.
 fn past_others(instructions: &[Instruction], begin: usize, id: u16) -> usize
     ensures forward { begin ≤ result }
     ensures reaches { (x : Expression) (p : IsProgramOf instructions.now x) → LeadsOn x p.jumps (Tags.One id) begin result }
@@ -126,10 +127,10 @@ fn past_others(instructions: &[Instruction], begin: usize, id: u16) -> usize
     at
 }
 
-/// What is known of whether a packet matches the filter that gave the instructions, if not all of its bytes were captured, as
+/// Decides whether a packet matches the filter of these instructions if some of its bytes may be missing, as
 /// [`Filter::decide`](crate::Filter::decide) says.
 ///
-/// If no filter gave them, the result says nothing.
+/// If the instructions are not those of a filter, nothing is claimed of the result.
 pub fn decide(instructions: &[Instruction], packet: &Packet<'_>) -> Decision
     ensures says { (x : Expression) → IsProgramOf instructions.now x → (hs : List Header) (e : Ending)
         → Walk (start_of packet.now.start) packet.now.frame.now hs e
@@ -165,7 +166,8 @@ pub(crate) fn instructions_of(nodes: &[Node]) -> ArrayVec<Instruction, MAX_WORDS
     instructions
 }
 
-/// What the headers of a packet show, if an instruction asks for them, and there is room for it.
+/// What the headers of a packet show. `None` if no instruction asks for headers, or if there is no room for what they
+/// show.
 #[inline]
 fn look_for(instructions: &[Instruction], start: Start, frame: &[u8]) -> Option<Seen>
     ensures bytes { IsBytes frame.now }
@@ -191,7 +193,7 @@ fn asks_headers(primitive: Primitive) -> bool
     )
 }
 
-/// The decision on an expression of this value.
+/// The decision on an expression with this value, where `None` is unknown.
 fn decision(value: Option<bool>, opening: Option<Opening>) -> Decision
     ensures { (packet : Packet) (hs : List Header) (e : Ending) (x : Expression) → IsOpening packet e opening → IsValue packet hs e value x
         → Says packet hs e x result }
@@ -204,7 +206,7 @@ fn decision(value: Option<bool>, opening: Option<Opening>) -> Decision
     }
 }
 
-/// Puts the value of an expression in the place of those of its operands.
+/// Evaluates one postfix node: pops its operands' values and pushes its own.
 fn decide_node(
     values: &mut ArrayVec<Option<bool>, MAX_WORDS>,
     node: Node,

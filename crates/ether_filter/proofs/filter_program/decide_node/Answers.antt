@@ -5,7 +5,7 @@ use Rattle.ether_filter.specs.Postfix.{pushed}
 use Rattle.ether_filter.specs.Evaluation.{AreValues, IsValue}
 use Rattle.ether_filter.proofs.Evaluated.{join_step}
 use Rattle.ether_filter.proofs.Kleene.{joined_is}
-use Rattle.ether_filter.proofs.program.decide_node.Goals as goal
+use Rattle.ether_filter.proofs.filter_program.decide_node.Goals as goal
 
 pub returns-in-Some-Some-clause-values : goal.returns-in-Some-Some-clause-values
 returns-in-Some-Some-clause-values c hs e walk seen at xs are =

@@ -1,7 +1,7 @@
 use Rattle.std.proofs.Common.{ap, arith, refl, subst, sym, ◌∙◌, ◌≡◌, ◌+◌, length}
 use Rattle.ether_filter.specs.Jumps.{ArePassed}
 use Rattle.ether_filter.proofs.ProgramLemmas.{instructed}
-use Rattle.ether_filter.proofs.program.instructions_of.Goals as goal
+use Rattle.ether_filter.proofs.filter_program.instructions_of.Goals as goal
 
 pub loop-at-preserved : goal.loop-at-preserved
 loop-at-preserved c = (
