@@ -98,7 +98,7 @@ ARTEFACTS = {
         "ether_switch/src/received.rt": ["send", "goes_to", "tagged", "untagged"],
         "ether_switch/src/stations.rt": ["new"],
         "ether_switch/src/vlan_set.rt": ["new", "all", "contains", "insert", "remove"],
-        "ether_switch/src/kind.rt": ["tpid"],
+        "ether_switch/src/bridge_kind.rt": ["tpid"],
         "ether_switch/src/laws.rt": ["free_tables_know_nothing", "last_sightings_are_held", "frames_follow_stations", "vlans_are_isolated",
                                      "only_tags_change"],
     },
@@ -199,7 +199,7 @@ ORDER = {
         ether_capture: Copies Files KeyCounts RowFields Statistics Journal Program
     """,
     "Bridges": """
-        ether_switch: Kinds VlanSets Arrivals Learning Relaying History Leaving Laws
+        ether_switch: BridgeKinds VlanSets Arrivals Learning Relaying History Leaving Laws
     """,
     "C": """
         ether_c: Numbers Starts Found Units Walk

@@ -7,8 +7,8 @@ use Rattle.ether_peel.specs.Walker.Start.{start_of}
 use Rattle.ether_peel.specs.declared.start.Start.TheVariants as starts
 use Rattle.ether_switch.specs.declared.arrival.Discarded.{Discarded}
 use Rattle.ether_switch.specs.declared.arrival.Discarded.TheVariants as reasons
-use Rattle.ether_switch.specs.declared.kind.BridgeKind.{BridgeKind}
-use Rattle.ether_switch.specs.declared.kind.BridgeKind.TheVariants.{Customer, Provider}
+use Rattle.ether_switch.specs.declared.bridge_kind.BridgeKind.{BridgeKind}
+use Rattle.ether_switch.specs.declared.bridge_kind.BridgeKind.TheVariants.{Customer, Provider}
 use Rattle.ether_switch.specs.declared.port.AcceptableFrames.{AcceptableFrames}
 use Rattle.ether_switch.specs.declared.port.AcceptableFrames.TheVariants.{All, OnlyVlanTagged, OnlyUntaggedAndPriorityTagged}
 use Rattle.ether_switch.specs.declared.port.PortConfig.{PortConfig}

@@ -1,10 +1,10 @@
-//! Kinds of bridges.
+//! `BridgeKind`: customer bridges and provider bridges.
 ghost use Rattle.std.specs.Prelude.{◌≡◌};
-ghost use Rattle.ether_switch.specs.Kinds.{tpid_of, is_reserved as is_reserved_by};
+ghost use Rattle.ether_switch.specs.BridgeKinds.{tpid_of, is_reserved as is_reserved_by};
 
 use etherparse::EtherType;
 
-/// A kind of bridge, by the tags that it reads and writes. A tag of another kind is payload for it.
+/// A kind of bridge, by the tags that it reads and writes. A tag of the other kind is payload for it.
 #[derive(Clone, Copy, PartialEq, Eq, Debug)]
 pub enum BridgeKind {
     /// A bridge with customer tags, which 0x8100 announces.
@@ -24,7 +24,7 @@ impl BridgeKind {
         }
     }
 
-    /// Whether a bridge forwards no frame to an address, a number of 48 bits.
+    /// Whether the bridge forwards no frame to this address, a number of 48 bits (IEEE 802.1Q, tables 8-1 and 8-2).
     pub(crate) fn reserves(self, address: u64) -> bool
         ensures { result ≡ is_reserved_by self address }
     {
