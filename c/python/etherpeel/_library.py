@@ -157,7 +157,7 @@ CALLS = calls(lib)
 
 
 def number(name, value, bits):
-    """A number that is passed, if it has no more bits."""
+    """A number that is passed, if it fits in these bits."""
     if not 0 <= value < 2**bits:
         raise ValueError(f"{name} is 0 to {2**bits - 1}, not {value}")
     return value
@@ -169,14 +169,14 @@ def required(status):
 
 
 def text(call, *words):
-    """The text that a call writes after these words."""
+    """The text that a call with these words writes."""
     target, count = C.create_string_buffer(512), C.c_size_t()
     required(call(*words, target, len(target), C.byref(count)))
     return target.raw[:count.value].decode("ascii")
 
 
 def filled(kind, room, call, *words):
-    """The structs that a call writes after these words. It is called again if they are more than there is room for."""
+    """The structs that a call with these words writes. It is called again if there is not enough room."""
     while True:
         structs, count = (kind * room)(), C.c_size_t()
         required(call(*words, structs, room, C.byref(count)))
