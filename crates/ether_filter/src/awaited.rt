@@ -39,7 +39,7 @@ pub(crate) enum Awaited {
     Address(Addressed),
 }
 
-/// What a word does to a primitive of which some words were read.
+/// What a word does to a primitive that is partly read.
 #[derive(Clone, Copy)]
 pub(crate) enum Step {
     /// It completes the primitive.

@@ -28,7 +28,7 @@ impl Default for Pending {
     }
 }
 
-/// An expression of which some words were read.
+/// An expression that is read up to some word.
 #[derive(Drop)]
 pub(crate) struct Reading {
     /// The nodes of its complete parts.
@@ -39,7 +39,7 @@ pub(crate) struct Reading {
 }
 
 impl Reading {
-    /// An expression of which no word was read.
+    /// An expression of which nothing is read yet.
     pub fn new() -> Reading
         ensures { state_of result ≡ begun }
     {

@@ -1,4 +1,4 @@
--- A packet as it is built: headers of which each announces the next one, and a payload.
+-- A packet as it is built: headers, each of which announces the next one, and a payload.
 use Rattle.std.specs.Prelude.{◌≡◌, ℕ, List, [], ◌∷◌, ◌++◌, length, Bool, true, false, if◌then◌else◌}
 use Rattle.etherparse.specs.Vlan.{is_vlan_ether_type}
 use Rattle.etherparse.specs.Macsec.{PayloadType, SecTagValue, short_len_for}

@@ -21,8 +21,8 @@ pub fn changed_frames_are_read()
     ensures { ChangedFramesAreRead }
 {}
 
-/// Taking off a VLAN tag that was just put in returns that tag with the ether type that it was given, and leaves the frame
-/// as it was before both.
+/// Taking off a VLAN tag that was just put in returns that tag with the ether type that it was given, and leaves the
+/// frame as it was before both.
 pub fn popped_after_pushed()
     ensures { PoppedAfterPushed }
 {}

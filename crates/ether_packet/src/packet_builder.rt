@@ -261,8 +261,8 @@ fn write_ext_before(target: &mut [u8], len: usize, ext: &LinkExtHeader, front: F
     }
 }
 
-/// Writes a SecTag before `front`, which begins the last `following` bytes of the packet, and returns the offset of the
-/// SecTag. Inlined, it would take the registers of the loop over the tags.
+/// Writes a SecTag before `front`, which begins the last `following` bytes of the packet, and returns the offset of
+/// the SecTag. Inlined, it would take the registers of the loop over the tags.
 #[inline(never)]
 fn write_sec_tag(target: &mut [u8], tag: &MacsecHeader, front: Front, following: usize) -> usize
     requires start { header_len (headers.Macsec (sec_tag_view tag.now)) ≤ front.at }

@@ -30,8 +30,8 @@ use etherparse::{ArpPacket, ArpPacketSlice};
 ///
 /// # Examples
 ///
-/// The request for the hardware address of 10.0.0.2 becomes the reply to it. The addresses of the Ethernet II header are
-/// left to [`replace_link`](crate::replace_link).
+/// The request for the hardware address of 10.0.0.2 becomes the reply to it. The addresses of the Ethernet II header
+/// are left to [`replace_link`](crate::replace_link).
 ///
 /// ```
 /// let mut frame = [

@@ -53,7 +53,8 @@ pub data RefusesEnhancedPacket (order : Order) (body : List ℕ) : BodyRefusal �
   enhanced_packet : 20 ≤ length body → field order body 12 16 ≤ max_captured_len → length body < 20 + field order body 12 16
       → RefusesEnhancedPacket order body (Short (20 + field order body 12 16) (length body))
 
--- ---- simple packet (4.4): original length 4 bytes, packet; its interface is the section's first, whose snap length cuts it
+-- ---- simple packet (4.4): original length 4 bytes, packet; its interface is the section's first, whose snap length
+-- cuts it
 
 -- the number of captured bytes of a packet with this original length, where a snap length of 0 is no limit
 abbrev pub captured_by : (snap_len original_len : ℕ) → ℕ

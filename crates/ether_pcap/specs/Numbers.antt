@@ -2,7 +2,8 @@
 use Rattle.std.specs.Prelude.{ℕ, ◌+◌, ◌*◌, List, [], ◌∷◌, slice_range}
 use Rattle.ether_base.specs.Bytes.{number}
 
--- the order of the bytes of each number, that of the machine that wrote the file: the most significant byte first, or last
+-- the order of the bytes of each number, that of the machine that wrote the file: the most significant byte first, or
+-- last
 pub data Order : Type 0 where
   BigEndian : Order
   LittleEndian : Order

@@ -1,4 +1,5 @@
-//! Writes a capture with an ARP request to standard output, as an example of a program over `ether_packet` and `ether_pcap`.
+//! Writes a capture with an ARP request to standard output, as an example of a program over `ether_packet` and
+//! `ether_pcap`.
 #![tactic(auto)]
 
 ghost use Rattle.std.specs.Prelude.{◌++◌};

@@ -8,7 +8,8 @@ pub struct CapturedPacket<'a> {
     /// no time, and if the option `if_tsoffset` of the packet's interface moves the time before 1970 or past the last
     /// 64-bit second.
     pub time: Option<Timestamp>,
-    /// The number of the interface that captured the packet, counted from 0 in its section of a pcapng file. `None` in a classic file.
+    /// The number of the interface that captured the packet, counted from 0 in its section of a pcapng file. `None` in
+    /// a classic file.
     pub interface: Option<u32>,
     /// The length of the packet in bytes before it was cut.
     pub original_len: u32,

@@ -6,7 +6,8 @@ ghost use Rattle.ether_pcap.specs.Views.{order_of, resolution_of, file_header_vi
 
 use crate::{ByteOrder, FileHeaderError, LinkType, TimestampResolution};
 
-/// The header of a classic pcap file (draft-ietf-opsawg-pcap, section 4), 24 bytes: how the records after it are to be read.
+/// The header of a classic pcap file (draft-ietf-opsawg-pcap, section 4), 24 bytes: how the records after it are to be
+/// read.
 ///
 /// ```text
 ///  0       4       6       8            16         20         24
@@ -15,9 +16,9 @@ use crate::{ByteOrder, FileHeaderError, LinkType, TimestampResolution};
 ///  +-------+-------+-------+------------+----------+----------+
 /// ```
 ///
-/// Each number is in the byte order of the machine that wrote the file, which the magic number shows. In the last number the
-/// 16 lowest bits are the link type. If bit 26 is set (P; the lowest bit is bit 0), bits 28 to 31 are the length of the frame check
-/// sequence in units of two bytes. Bits 16 to 25 and 27 are reserved and ignored.
+/// Each number is in the byte order of the machine that wrote the file, which the magic number shows. In the last
+/// number the 16 lowest bits are the link type. If bit 26 is set (P; the lowest bit is bit 0), bits 28 to 31 are the
+/// length of the frame check sequence in units of two bytes. Bits 16 to 25 and 27 are reserved and ignored.
 ///
 /// ```
 /// let bytes = [

@@ -6,8 +6,8 @@ ghost use Rattle.ether_pcap.specs.Views.{order_of, resolution_of, record_view, r
 
 use crate::{ByteOrder, FileHeader, RecordError, TimestampResolution};
 
-/// A view of a record of a classic pcap file (draft-ietf-opsawg-pcap, section 5): a captured packet, with a header of 16 bytes
-/// before it.
+/// A view of a record of a classic pcap file (draft-ietf-opsawg-pcap, section 5): a captured packet, with a header of
+/// 16 bytes before it.
 ///
 /// ```text
 ///  0         4          8              12             16
@@ -66,8 +66,8 @@ impl<'a> PcapRecord<'a> {
     ///
     /// - `RecordError::Len`: the slice has fewer than 16 bytes. `required_len` is 16, `len` the slice's length.
     /// - `RecordError::CapturedLen`: the number of captured bytes, which the error names, is above 262,144.
-    /// - `RecordError::Len`: the slice ends within the packet. `required_len` is the length of the whole record, `len` that of
-    ///   the slice.
+    /// - `RecordError::Len`: the slice ends within the packet. `required_len` is the length of the whole record, `len`
+    ///   that of the slice.
     #[tactic(auto, using(crate::specs::Record::header, crate::specs::Record::too_long, crate::specs::Record::packet))]
     pub fn from_slice(file: &FileHeader, slice: &'a [u8]) -> Result<PcapRecord<'a>, RecordError>
         ensures record { IfOk result (λ r. BeginsRecord (order_of file.now.byte_order) slice.now (record_view r)) }

@@ -17,8 +17,8 @@ use crate::{BodyError, ByteOrder, PcapRecord, PcapngBlock};
 /// packet block.
 const FLAGS: u16 = 2;
 
-/// A view of the body of an enhanced packet (draft-ietf-opsawg-pcapng, section 4.3): a packet that was captured on one of several
-/// interfaces.
+/// A view of the body of an enhanced packet (draft-ietf-opsawg-pcapng, section 4.3): a packet that was captured on one
+/// of several interfaces.
 ///
 /// ```text
 ///  0           4           8           12             16             20
@@ -62,7 +62,8 @@ impl<'a> EnhancedPacket<'a> {
     ///
     /// - `BodyError::Len`: the body has fewer than 20 bytes. `required_len` is 20, `len` the body's length.
     /// - `BodyError::CapturedLen`: the number of captured bytes, which the error names, is above 262,144.
-    /// - `BodyError::Len`: the body ends within the packet. `required_len` is 20 more than the number of captured bytes.
+    /// - `BodyError::Len`: the body ends within the packet. `required_len` is 20 more than the number of captured
+    ///   bytes.
     pub fn from_body(byte_order: ByteOrder, body: &'a [u8]) -> Result<EnhancedPacket<'a>, BodyError>
         ensures packet { IfOk result (λ p. IsEnhancedPacket 4 (order_of byte_order) body.now (enhanced_packet_view p)) }
         ensures refused { IfErr result (λ e. RefusesEnhancedPacket (order_of byte_order) body.now (body_refusal_view e)) }

@@ -55,7 +55,8 @@ pub struct InterfaceDescription<'a> {
 }
 
 impl<'a> InterfaceDescription<'a> {
-    /// Reads the body of a block of type [`PcapngBlock::INTERFACE_DESCRIPTION`](crate::PcapngBlock::INTERFACE_DESCRIPTION).
+    /// Reads the body of a block of type
+    /// [`PcapngBlock::INTERFACE_DESCRIPTION`](crate::PcapngBlock::INTERFACE_DESCRIPTION).
     ///
     /// # Errors
     ///

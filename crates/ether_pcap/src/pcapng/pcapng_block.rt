@@ -70,7 +70,8 @@ impl<'a> PcapngBlock<'a> {
     /// - `BlockError::Len`: the slice has fewer than 12 bytes. `required_len` is 12, `len` the slice's length.
     /// - `BlockError::TotalLen`: the block's length, which the error names, is below 12, above 16 MiB, or not a
     ///   multiple of 4.
-    /// - `BlockError::Len`: the slice is shorter than the block. `required_len` is the block's length, `len` the slice's.
+    /// - `BlockError::Len`: the slice is shorter than the block. `required_len` is the block's length, `len` the
+    ///   slice's.
     /// - `BlockError::Trailer`: the length at the end of the block differs from that at its front. The error names
     ///   both.
     #[tactic(auto, using(crate::specs::Block::front, crate::specs::Block::total_len, crate::specs::Block::body))]

@@ -35,7 +35,8 @@ impl<'a> SimplePacket<'a> {
     ///
     /// - `BodyError::Len`: the body has fewer than 4 bytes. `required_len` is 4, `len` the body's length.
     /// - `BodyError::CapturedLen`: the number of captured bytes, which the error names, is above 262,144.
-    /// - `BodyError::Len`: the body ends within the packet. `required_len` is 4 more than the number of captured bytes.
+    /// - `BodyError::Len`: the body ends within the packet. `required_len` is 4 more than the number of captured
+    ///   bytes.
     #[tactic(auto, using(crate::specs::Bodies::simple, crate::specs::Bodies::simple_too_long, crate::specs::Bodies::simple_packet))]
     pub fn from_body(
         byte_order: ByteOrder,

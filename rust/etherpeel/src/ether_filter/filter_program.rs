@@ -142,7 +142,7 @@ pub fn decide(instructions: &[Instruction], packet: &Packet<'_>) -> Decision {
     let mut values = ArrayVec::new();
     for instruction in instructions {
         if values.is_full() {
-            return Decision::Fails; // not reached: no filter has so many instructions
+            return Decision::Fails; // not reached: a filter has at most as many instructions as there is room for
         }
         let Some(node) = instruction.node() else {
             return Decision::Fails; // not reached: each instruction has a node
@@ -194,7 +194,7 @@ fn decision(value: Option<bool>, opening: Option<Opening>) -> Decision {
         (Some(true), _) => Decision::Matches,
         (Some(false), _) => Decision::Fails,
         (None, Some(opening)) => Decision::Needs(opening.needed),
-        (None, None) => Decision::Fails, // not reached: of a packet that can have no more headers all is known
+        (None, None) => Decision::Fails, // not reached: without an opening every primitive is known
     }
 }
 

@@ -26,7 +26,7 @@ impl Default for Pending {
     }
 }
 
-/// An expression of which some words were read.
+/// An expression that is read up to some word.
 pub(crate) struct Reading {
     /// The nodes of its complete parts.
     nodes: ArrayVec<Node, MAX_WORDS>,
@@ -36,7 +36,7 @@ pub(crate) struct Reading {
 }
 
 impl Reading {
-    /// An expression of which no word was read.
+    /// An expression of which nothing is read yet.
     ///
     /// <details><summary>Contract</summary>
     ///

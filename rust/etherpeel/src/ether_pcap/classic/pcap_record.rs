@@ -2,8 +2,8 @@
 
 use crate::ether_pcap::{ByteOrder, FileHeader, RecordError, TimestampResolution};
 
-/// A view of a record of a classic pcap file (draft-ietf-opsawg-pcap, section 5): a captured packet, with a header of 16 bytes
-/// before it.
+/// A view of a record of a classic pcap file (draft-ietf-opsawg-pcap, section 5): a captured packet, with a header of
+/// 16 bytes before it.
 ///
 /// ```text
 ///  0         4          8              12             16
@@ -72,8 +72,8 @@ impl<'a> PcapRecord<'a> {
     ///
     /// - `RecordError::Len`: the slice has fewer than 16 bytes. `required_len` is 16, `len` the slice's length.
     /// - `RecordError::CapturedLen`: the number of captured bytes, which the error names, is above 262,144.
-    /// - `RecordError::Len`: the slice ends within the packet. `required_len` is the length of the whole record, `len` that of
-    ///   the slice.
+    /// - `RecordError::Len`: the slice ends within the packet. `required_len` is the length of the whole record, `len`
+    ///   that of the slice.
     ///
     /// <details><summary>Contract</summary>
     ///

@@ -8,8 +8,8 @@ use crate::ether_pcap::{BodyError, ByteOrder, PcapRecord, PcapngBlock};
 /// packet block.
 const FLAGS: u16 = 2;
 
-/// A view of the body of an enhanced packet (draft-ietf-opsawg-pcapng, section 4.3): a packet that was captured on one of several
-/// interfaces.
+/// A view of the body of an enhanced packet (draft-ietf-opsawg-pcapng, section 4.3): a packet that was captured on one
+/// of several interfaces.
 ///
 /// ```text
 ///  0           4           8           12             16             20
@@ -63,7 +63,8 @@ impl<'a> EnhancedPacket<'a> {
     ///
     /// - `BodyError::Len`: the body has fewer than 20 bytes. `required_len` is 20, `len` the body's length.
     /// - `BodyError::CapturedLen`: the number of captured bytes, which the error names, is above 262,144.
-    /// - `BodyError::Len`: the body ends within the packet. `required_len` is 20 more than the number of captured bytes.
+    /// - `BodyError::Len`: the body ends within the packet. `required_len` is 20 more than the number of captured
+    ///   bytes.
     ///
     /// <details><summary>Contract</summary>
     ///

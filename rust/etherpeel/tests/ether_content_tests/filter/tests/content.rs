@@ -31,7 +31,8 @@ fn packet(
     }
 }
 
-/// Two bytes of IPv4 after a header of cooked capture v1 on the loopback device, hardware type 772 (LINKTYPE_LINUX_SLL).
+/// Two bytes of IPv4 after a header of cooked capture v1 on the loopback device, hardware type 772
+/// (LINKTYPE_LINUX_SLL).
 const LOOPBACK: [u8; 18] = [
     0x00, 0x00, 0x03, 0x04, 0x00, 0x06, 0x00, 0x00, 0x00, 0x00, 0x00, 0x00, 0x00, 0x00, 0x08, 0x00,
     0x45, 0x00,

@@ -64,7 +64,8 @@ type Row = (
     Option<&'static [u8]>,
 );
 
-/// By the figures of draft-ietf-opsawg-pcap, section 5, and draft-ietf-opsawg-pcapng, sections 4.3, 4.4 and appendix A.
+/// By the figures of draft-ietf-opsawg-pcap, section 5, and draft-ietf-opsawg-pcapng, sections 4.3, 4.4 and appendix
+/// A.
 const ROWS: &[Row] = &[
     (
         "record, shorter",
