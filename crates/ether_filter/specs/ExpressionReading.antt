@@ -127,7 +127,7 @@ abbrev pub going_on : Outcome → (at : ℕ) → (ExpressionState → Result (Li
 going_on (Ok s) at rest = rest s
 going_on (Err kind) at rest = Err (record { offset = at; kind = kind })
 
--- reads on from a state, after count words of a text that ends at the offset end
+-- reads on from a state, after `count` words of a text that ends at the offset `end`
 abbrev pub read_from : ExpressionState → (count : ℕ) → List Word → (end : ℕ) → Result (List Node) FilterError
 read_from s count [] end = placed end (ended s)
 read_from s count (w ∷ ws) end =

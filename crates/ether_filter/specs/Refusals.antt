@@ -51,7 +51,7 @@ pub data Lacks (ts : List Token) : Option Token → FilterErrorKind → Type 0 w
   unopened : IsAfterOperand ts → Lacks ts (Some tokens.Close) kinds.Unopened
   unclosed : IsAfterOperand ts → Lacks ts None kinds.Unclosed
 
--- the rows, for the words of a text of length end
+-- the rows, for the words of a text of length `end`
 pub data RefusesExpression (ws : List Word) (end : ℕ) : FilterError → Type 0 where
   -- the first word that does not fit
   word : (front rest : List Word) (w : Word) (kind : FilterErrorKind) → ws ≡ front ++ w ∷ rest → length front < most_words

@@ -30,12 +30,12 @@ abbrev pub goes_on : ℕ → List ℕ → Bool
 goes_on c [] = false
 goes_on c (d ∷ cs) = are_joined (class_of c) (class_of d)
 
--- these words, the first of which now begins with this character at the offset at
+-- these words, the first of which now begins with this character at the offset `at`
 abbrev pub grown : ℕ → ℕ → List Word → List Word
 grown c at [] = []
 grown c at (w ∷ ws) = record { at = at; bytes = c ∷ w.bytes } ∷ ws
 
--- the words of a text that begins at the offset at
+-- the words of a text that begins at the offset `at`
 abbrev pub words_at : ℕ → List ℕ → List Word
 words_at at [] = []
 words_at at (c ∷ cs) =
@@ -46,7 +46,7 @@ words_at at (c ∷ cs) =
 abbrev pub words_from : List ℕ → ℕ → List Word
 words_from text from = words_at from (drop from text)
 
--- the first word from the offset from on begins and ends at these offsets
+-- the first word from the offset `from` on begins and ends at these offsets
 pub record IsNextWord (text : List ℕ) (from : ℕ) (word : Span) : Type 0 where
   pub after : from ≤ word.start
   pub nonempty : word.start < word.end

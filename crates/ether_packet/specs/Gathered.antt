@@ -20,8 +20,8 @@ abbrev pub window_after : Window → List Header → Window
 window_after w [] = w
 window_after w (h ∷ hs) = window_after (payload w h) hs
 
--- What is known of the headers before a unit that is to be read, where x is expected and free more extensions may be
--- read.
+-- What is known of the headers before a unit that is to be read: there `x` is expected, and up to `free` further
+-- extensions may be read.
 pub record Ready (r : Read) (x : Expectation) (free : ℕ) : Type 0 where
   pub limit : x.limit ≡ Some free
   pub first : (kind : Kind) → x.next ≡ Start kind → r.units ≡ []

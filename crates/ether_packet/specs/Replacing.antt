@@ -59,7 +59,7 @@ pub record IsPlacedExt (hs : List Header) (i : ℕ) (f : PlacedExt) : Type 0 whe
   pub found : IsExtAt hs i front (ext_header_view f.header) later
   pub begins : f.at ≡ place 0 front
 
--- The extension at the index begins at the offset at, and g can replace it.
+-- The extension at the index begins at the offset `at`, and g can replace it.
 pub record TakesExt (hs : List Header) (i : ℕ) (g : Header) (at : ℕ) : Type 0 where
   pub front : List Header
   pub replaced : Header

@@ -23,7 +23,7 @@ abbrev pub has_arp : List Header → Bool
 has_arp [] = false
 has_arp (h ∷ hs) = is_arp (kind_of h) || has_arp hs
 
--- The last of these headers is an ARP packet, which ends at the offset end, and g can replace it.
+-- The last of these headers is an ARP packet, which ends at the offset `end`, and g can replace it.
 pub record TakesArp (hs : List Header) (g : ArpValue) (end : ℕ) : Type 0 where
   pub front : List Header
   pub replaced : ArpValue

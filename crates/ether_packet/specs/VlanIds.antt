@@ -13,7 +13,7 @@ pub record IsOutermost (hs : List Header) (i : ℕ) (tag : VlanValue) : Type 0 w
   pub found : IsExtAt hs i front (headers.Vlan tag) later
   pub outermost : vlan_ids_of front ≡ []
 
--- Sets the 12 bits of the identifier in a VLAN tag at the offset at: the lower half of the first byte and the second
+-- Sets the 12 bits of the identifier in a VLAN tag at the offset `at`: the lower half of the first byte and the second
 -- byte (IEEE 802.1Q, 9.6). No other bit of the list changes.
 pub record SetsVid (old : List ℕ) (at vid : ℕ) (new : List ℕ) : Type 0 where
   pub len : length new ≡ length old

@@ -114,7 +114,7 @@ pub record IsAt (interfaces : List CaptureInterfaceValue) (n : ℕ) (i : Capture
 -- ---- units
 
 -- What may follow at a place of a file: at its beginning either format; after this header a record; in a section of
--- this byte order that has described these interfaces a block. A section may describe at most most interfaces.
+-- this byte order that has described these interfaces a block. A section may describe up to `most` interfaces.
 pub data CaptureExpectation : Type 0 where
   Beginning : (most : ℕ) → CaptureExpectation
   Records : FileHeaderValue → CaptureExpectation

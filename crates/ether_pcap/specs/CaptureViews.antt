@@ -47,7 +47,7 @@ capture_interface_view i = record {
 abbrev pub interfaces_view : List CaptureInterface → List CaptureInterfaceValue
 interfaces_view interfaces = map capture_interface_view interfaces
 
--- what a reader expects that has read this, keeps these interfaces, and has room for most of them
+-- what a reader expects that has read this, keeps these interfaces, and has room for `most` of them
 abbrev pub expectation_of : (most : ℕ) → Progress → List CaptureInterface → CaptureExpectation
 expectation_of most progress.Nothing interfaces = Beginning most
 expectation_of most (progress.Classic header) interfaces = Records (file_header_view header)

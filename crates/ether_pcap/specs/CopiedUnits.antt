@@ -44,7 +44,7 @@ expected_in (Changed raise) (Blocks most order interfaces) = Blocks most order (
 
 -- ---- units without a packet
 
--- the bytes with new ones from the offset at on, which replace as many
+-- the bytes, in which new ones replace as many from the offset `at` on
 abbrev pub with_bytes : (at : ℕ) → (new bytes : List ℕ) → List ℕ
 with_bytes at new bytes = slice_range bytes 0 at ++ new ++ drop (at + length new) bytes
 

@@ -48,7 +48,7 @@ pub data AreEdited (mode : ModeValue) (Edits : PacketValue → Option EditedValu
 abbrev pub EditsNone : (Edits : PacketValue → Option EditedValue → Type 0) → Type 0
 EditsNone Edits = (p : PacketValue) (o : Option EditedValue) → Edits p o → o ≡ None
 
--- no edit makes a packet more than raise bytes longer
+-- no edit makes a packet more than `raise` bytes longer
 abbrev pub EditsWithin : (raise : ℕ) → (Edits : PacketValue → Option EditedValue → Type 0) → Type 0
 EditsWithin raise Edits = (p : PacketValue) (e : EditedValue) → Edits p (Some e) → length e.packet ≤ length p.packet + raise
 

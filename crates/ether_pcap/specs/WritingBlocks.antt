@@ -89,8 +89,8 @@ pub record FitsPacket (p : EnhancedPacketValue) : Type 0 where
   pub captured_len : length p.packet ≤ max_captured_len
   pub total_len : IsTotalLen (packet_block_len p)
 
--- What follows a section header in a section that has described the interfaces before: further interfaces, at most
--- most in all; packets of interfaces that are described before them; and further sections. The packets are those of
+-- What follows a section header in a section that has described the interfaces `before`: further interfaces, up to
+-- `most` in all; packets of interfaces that are described before them; and further sections. The packets are those of
 -- the blocks.
 pub data WritesBlocks (most : ℕ) : Order → (before : List CaptureInterfaceValue) → (bytes : List ℕ) → List PacketValue → Type 0 where
   end : (order : Order) (before : List CaptureInterfaceValue) → WritesBlocks most order before [] []

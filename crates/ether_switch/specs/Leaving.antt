@@ -18,7 +18,7 @@ use Rattle.ether_switch.specs.Arrivals.{Front}
 use Rattle.ether_switch.specs.BridgeKinds.{tpid_of}
 use Rattle.ether_switch.specs.VlanSets.{has}
 
--- whether a frame that came in by the port from leaves by the port to, by a decision
+-- whether a frame that came in by the port `from` leaves by the port `to`, by this decision
 abbrev pub includes : Forwarding → (from to : ℕ) → Bool
 includes (Port n) from to = nat_eq to n
 includes Discard from to = false
