@@ -16,7 +16,7 @@ pub(crate) const MAX_WORDS: usize = 192;
 
 /// A filter of packets: an expression in words of pcap-filter(7).
 ///
-/// An expression is one primitive, or several joined by `not` (or `!`), `and` (`&&`), `or` (`||`) and parentheses.
+/// An expression is one primitive, or several with `not` (or `!`), `and` (`&&`), `or` (`||`) and parentheses.
 /// `not` applies to what directly follows it: one primitive, one group in parentheses, or another `not`. `and` and
 /// `or` can be mixed only with parentheses, because readers disagree on what they mean without.
 ///
