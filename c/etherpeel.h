@@ -12,15 +12,15 @@
  *   Targets  `units`, `fields`, `packets`, `matches`, `target`, `fill` and `text` point to as many
  *            elements as `room` says; what etherpeel_build and etherpeel_select read to `count`.
  *            NULL is allowed if that is 0. A pointer to one struct or number must not be NULL. The
- *            memory must be aligned for its type. What is only written to need not be initialized,
- *            but for `packets` and an etherpeel_frame.
+ *            memory must be aligned for its type. Memory that is only written to need not be
+ *            initialized, except for `packets` and an etherpeel_frame.
  *   Overlap  What a call may write to must not overlap the frame, nor anything else that the call
  *            may write to.
  *   Keeping  No call keeps a pointer after it returns.
  *   Units    Lengths count elements: bytes of frames, targets and texts, structs of `units`.
- *            Offsets count bytes from the start of the frame, but for those of fields, in bits.
- *   Order    Numbers are in the byte order of the machine (host byte order), those that are passed
- *            and those of structs; addresses are bytes in the order of the frame.
+ *            Offsets count bytes from the start of the frame; those of fields count bits.
+ *   Order    Numbers that are passed, and those of structs, are in the byte order of the machine
+ *            (host byte order); addresses are bytes in the order of the frame.
  *   Result   ETHERPEEL_DONE, or why the call did nothing; etherpeel_capture, etherpeel_select,
  *            etherpeel_linux_sll2, etherpeel_build and those that replace headers say what they
  *            write even then. After ETHERPEEL_UNKNOWN_START nothing was written at all; after
@@ -28,15 +28,14 @@
  *            ETHERPEEL_NO_TEXT only the length 0.
  *   Memory   No call allocates, blocks, or stores anything between calls, so each is thread-safe.
  *            etherpeel_completion and etherpeel_fault_text take some 2.5 KB of stack,
- *            etherpeel_fields 5 KB, etherpeel_replace_arp 14 KB, etherpeel_build 18 KB, those of
- *            filters 40 KB, those of capture files 300 KB, those of a switch 3 KB, and the others less
- *            than 1 KB.
- *   Time     Linear in the number of headers, at most len / 4 in a frame;
- *            etherpeel_write_back also copies the frame, etherpeel_build the payload. Of capture
- *            files linear in that of their units.
- *   Limits   Most calls have a form `.._limited`, which reads no more than `limit` VLAN tags and
- *            SecTags. After these, the ether type of a tag announces nothing: the walk ends there,
- *            with no fault.
+ *            etherpeel_fields 5 KB, etherpeel_replace_arp 14 KB, etherpeel_build 18 KB, the calls
+ *            for filters 40 KB, those for capture files 300 KB, those for a switch 3 KB, and all
+ *            others less than 1 KB.
+ *   Time     Linear in the number of headers, at most len / 4 in a frame, or of units in a capture
+ *            file. etherpeel_write_back also copies the frame, etherpeel_build the payload.
+ *   Limits   Most calls have a form `.._limited`, which reads at most `limit` VLAN tags and
+ *            SecTags. The ether type after the last of these announces nothing: the walk ends there
+ *            without a fault.
  */
 #ifndef ETHERPEEL_H
 #define ETHERPEEL_H
@@ -63,31 +62,33 @@ extern "C" {
 /* What a call returns. */
 enum etherpeel_status {
     ETHERPEEL_DONE = 0,
-    /* `start` is none of enum etherpeel_start. */
+    /* `start` is not a number of enum etherpeel_start. */
     ETHERPEEL_UNKNOWN_START = 1,
     /* The target is too short. */
     ETHERPEEL_NO_ROOM = 2,
-    /* A text can't be made; only etherpeel_fault_text could return it. */
+    /* A text can't be made; only the calls for texts, etherpeel_fault_text and others, could return
+     * it. */
     ETHERPEEL_NO_TEXT = 3,
 
     /* Why a VLAN tag is not taken off, put in or changed: */
 
-    /* `tpid` is none of 0x8100, 0x88A8 and 0x9100. */
+    /* `tpid` is not 0x8100, 0x88A8 or 0x9100. */
     ETHERPEEL_BAD_TPID = 4,
-    /* The frame does not begin with the header of a link. */
+    /* The frame does not begin with a link's header that can be read. */
     ETHERPEEL_NO_LINK = 5,
-    /* The header of cooked capture is of another link than Ethernet. */
+    /* The header of cooked capture has another hardware type than Ethernet. */
     ETHERPEEL_OTHER_LINK = 6,
     /* There is no VLAN tag or SecTag at the index. */
     ETHERPEEL_NO_TAG = 7,
-    /* The ether type of the link announces no VLAN tag, or there is a SecTag at the index. */
+    /* The ether type of the link's header does not announce a VLAN tag, or there is a SecTag at the
+     * index. */
     ETHERPEEL_NO_VLAN = 8,
-    /* A VLAN tag is announced after the header of the link, but it is cut short. */
+    /* The link's header announces a VLAN tag, but it is cut short. */
     ETHERPEEL_CUT_VLAN = 9,
-    /* The frame begins with the VLAN tag, so that no header before it announces it. */
+    /* The frame begins with the VLAN tag, so no header announces it. */
     ETHERPEEL_UNANNOUNCED = 10,
-    /* A number that is passed does not fit its field, or an address is not within the bytes that it
-     * is read from. */
+    /* A number that is passed does not fit its field, or an address is not inside the bytes from
+     * which it is read. */
     ETHERPEEL_BAD_FIELD = 11,
 
     /* Why the packets of a capture file end before the file does: */
@@ -97,21 +98,21 @@ enum etherpeel_status {
     /* A header, record or block can't be read. */
     ETHERPEEL_BAD_CAPTURE = 13,
 
-    /* The text of a filter is no expression. */
+    /* The text of a filter is not an expression. */
     ETHERPEEL_BAD_FILTER = 14,
 
-    /* The packet type of a header of Linux cooked capture v2 is above 7. One that is cut short is
-     * ETHERPEEL_SHORT. */
+    /* The packet type of a header of Linux cooked capture v2 is above 7. A header that is cut short
+     * is ETHERPEEL_SHORT. */
     ETHERPEEL_BAD_PACKET_TYPE = 15,
 
     /* Why a header is not replaced, besides ETHERPEEL_NO_LINK, ETHERPEEL_NO_TAG and
      * ETHERPEEL_BAD_FIELD: */
 
-    /* The frame has no ARP packet, or it is cut short. */
+    /* The frame has no ARP packet, or its ARP packet is cut short. */
     ETHERPEEL_NO_ARP = 16,
-    /* The header differs from the frame's; enum etherpeel_difference says in what. */
+    /* The header differs from the one in the frame; enum etherpeel_difference says how. */
     ETHERPEEL_DIFFERS = 17,
-    /* The call takes no unit of this kind. */
+    /* The call does not take a unit of this kind. */
     ETHERPEEL_BAD_KIND = 18,
 
     /* Why a packet is not built, besides ETHERPEEL_OTHER_LINK and ETHERPEEL_NO_ROOM: */
@@ -126,7 +127,7 @@ enum etherpeel_status {
 };
 
 /* What a frame begins with: the parameter `start` of each call. The parameter `ether_type` is read
- * for ETHERPEEL_START_ETHER_TYPE alone. */
+ * only for ETHERPEEL_START_ETHER_TYPE. */
 enum etherpeel_start {
     /* An Ethernet II header, of a frame without a frame check sequence. */
     ETHERPEEL_START_ETHERNET2 = 1,
@@ -145,8 +146,8 @@ enum etherpeel_unit_kind {
     ETHERPEEL_UNIT_LINUX_SLL = 2,
     /* The tag control information and the ether type after it. */
     ETHERPEEL_UNIT_VLAN = 3,
-    /* A SecTag without its own ether type, with the one after it if the payload is neither
-     * encrypted nor changed. */
+    /* A SecTag without the ether type that announces it, but with the one after it if the payload
+     * is neither encrypted nor changed. */
     ETHERPEEL_UNIT_MACSEC = 4,
     ETHERPEEL_UNIT_ARP = 5
 };
@@ -164,7 +165,7 @@ enum etherpeel_rest_kind {
     ETHERPEEL_REST_GRE = 3,
     /* A link whose protocol numbers have no meaning (IEEE 802.11 with radiotap, frame relay). */
     ETHERPEEL_REST_IGNORED = 4,
-    /* A payload that MACsec has encrypted or changed, so that its protocol can't be told. */
+    /* A payload that MACsec has encrypted or changed, so its protocol is unknown. */
     ETHERPEEL_REST_SEALED = 5,
     /* What follows an ARP packet: the padding of a short frame. */
     ETHERPEEL_REST_AFTER_ARP = 6
@@ -179,12 +180,12 @@ enum etherpeel_fault_kind {
     ETHERPEEL_FAULT_LENGTH = 1,
     /* The packet type of a cooked capture, in `packet_type`, is above 7. */
     ETHERPEEL_FAULT_PACKET_TYPE = 2,
-    /* The meaning of protocol numbers is not known for the hardware type of a cooked capture, in
+    /* It is not known how to read protocol numbers for the hardware type of a cooked capture, in
      * `hardware_type`. */
     ETHERPEEL_FAULT_HARDWARE_TYPE = 3,
     /* The version bit of a SecTag is 1. */
     ETHERPEEL_FAULT_MACSEC_VERSION = 4,
-    /* The short length of a SecTag with an unmodified payload is 1, which has no room for the ether
+    /* The short length of a SecTag with an unmodified payload is 1, too small to include the ether
      * type. */
     ETHERPEEL_FAULT_MACSEC_SHORT_LEN = 5
 };
@@ -195,7 +196,7 @@ enum etherpeel_layer {
     ETHERPEEL_LAYER_LINUX_SLL_HEADER = 2,
     ETHERPEEL_LAYER_VLAN_HEADER = 3,
     ETHERPEEL_LAYER_MACSEC_HEADER = 4,
-    /* A SecTag, and the payload whose length its short length names. */
+    /* A SecTag, and the payload whose length its short length gives. */
     ETHERPEEL_LAYER_MACSEC_PACKET = 5,
     ETHERPEEL_LAYER_ARP = 6
 };
@@ -210,11 +211,11 @@ enum etherpeel_len_source {
     ETHERPEEL_LEN_ARP_ADDRESSES = 3
 };
 
-/* What a header says otherwise than the one that it is to replace: if there are several
- * differences, the first in this order. */
+/* How a header differs, in what it says about what follows it, from the one that it is to replace.
+ * Of several differences it is the first in this order. */
 enum etherpeel_difference {
-    /* One is a VLAN tag and the other a SecTag, or one is an Ethernet II header and the other one
-     * of cooked capture. */
+    /* One header is a VLAN tag and the other a SecTag, or one is of Ethernet II and the other of
+     * cooked capture. */
     ETHERPEEL_DIFFERENCE_KIND = 1,
     /* The ether type of an Ethernet II header or VLAN tag. */
     ETHERPEEL_DIFFERENCE_ETHER_TYPE = 2,
@@ -235,7 +236,7 @@ enum etherpeel_difference {
     ETHERPEEL_DIFFERENCE_PROTOCOL_SIZE = 9
 };
 
-/* Why a text is no expression of a filter: mostly by what is expected in place of a word. */
+/* Why a text is not a filter's expression: mostly by what is expected in place of a word. */
 enum etherpeel_filter_error_kind {
     /* A primitive, `not` or `(` is expected. */
     ETHERPEEL_FILTER_OPERAND = 1,
@@ -247,17 +248,18 @@ enum etherpeel_filter_error_kind {
     ETHERPEEL_FILTER_ETHER_WORD = 4,
     /* An address is expected: `xx:xx:xx:xx:xx:xx` or `xxxxxxxxxxxx`. */
     ETHERPEEL_FILTER_ADDRESS = 5,
-    /* A number that is not greater than `greatest` is expected. */
+    /* A number up to `greatest` is expected. */
     ETHERPEEL_FILTER_NUMBER = 6,
     /* `and` and `or` are mixed without parentheses. */
     ETHERPEEL_FILTER_MIXED = 7,
-    /* There is no `(` for a `)`. */
+    /* A `)` has no `(`. */
     ETHERPEEL_FILTER_UNOPENED = 8,
-    /* The text ends before the `)` of a `(`. */
+    /* The text ends before a `(` is closed. */
     ETHERPEEL_FILTER_UNCLOSED = 9,
     /* There are more than 192 words. */
     ETHERPEEL_FILTER_TOO_LONG = 10,
-    /* After `vlan`: a number that is not greater than `greatest`, `and`, `or`, `)` or the end of the text is expected. */
+    /* After `vlan`: a number up to `greatest`, `and`, `or`, `)` or the end of the text is
+     * expected. */
     ETHERPEEL_FILTER_VLAN_ID_OR_OPERATOR = 11
 };
 
@@ -267,7 +269,7 @@ enum etherpeel_decision {
     ETHERPEEL_FAILS = 0,
     /* The filter selects the packet. */
     ETHERPEEL_MATCHES = 1,
-    /* The packet was cut, and the bytes that were captured do not decide it. */
+    /* The packet was cut, and its captured bytes do not decide whether the filter selects it. */
     ETHERPEEL_UNDECIDED = 2
 };
 
@@ -341,41 +343,41 @@ enum etherpeel_bridge {
     ETHERPEEL_BRIDGE_PROVIDER = 2
 };
 
-/* Which frames a port takes (IEEE 802.1Q, 6.9). */
+/* Which frames a port accepts (IEEE 802.1Q, 6.9). */
 enum etherpeel_frame_types {
     ETHERPEEL_FRAMES_ALL = 0,
-    /* Those with a tag that names a VLAN. */
+    /* Frames with a tag that names a VLAN. */
     ETHERPEEL_FRAMES_VLAN_TAGGED = 1,
-    /* Those without a tag, and those with a tag whose identifier is 0. */
+    /* Frames without a tag, and frames with a tag whose identifier is 0. */
     ETHERPEEL_FRAMES_UNTAGGED = 2
 };
 
-/* Why a bridge discards a frame: the first that applies. */
+/* Why a bridge discards a frame. Of several reasons it is the first in this order. */
 enum etherpeel_discarded {
     ETHERPEEL_DISCARDED_NOT = 0,
     /* It has fewer than 14 bytes. */
     ETHERPEEL_DISCARDED_NO_HEADER = 1,
-    /* Its tag is cut short. */
+    /* It announces a tag of the bridge's kind, which is cut short. */
     ETHERPEEL_DISCARDED_CUT_TAG = 2,
     /* Its tag has the identifier 4095, which is reserved. */
     ETHERPEEL_DISCARDED_RESERVED_IDENTIFIER = 3,
-    /* Its source is the address of a group, or all zeros. */
+    /* Its source is a group address, or all zeros. */
     ETHERPEEL_DISCARDED_SOURCE = 4,
-    /* The port does not take frames with such a tag, or without one. */
+    /* The port does not accept frames with such a tag, or frames without a tag. */
     ETHERPEEL_DISCARDED_FRAME_TYPE = 5,
-    /* The port is not a member of its VLAN, and has ingress filtering. */
+    /* The port filters ingress, and is not a member of the frame's VLAN. */
     ETHERPEEL_DISCARDED_NOT_A_MEMBER = 6,
-    /* Its destination is a reserved address, as 01-80-C2-00-00-00. */
+    /* Its destination is a reserved address, such as 01-80-C2-00-00-01. */
     ETHERPEEL_DISCARDED_RESERVED_ADDRESS = 7
 };
 
 /* Where a bridge sends a frame. */
 enum etherpeel_forwarding {
-    /* Nowhere: its destination is on the port that it came from. */
+    /* Nowhere: its destination is at the port by which it came in. */
     ETHERPEEL_FORWARDING_NONE = 0,
     /* To one port. */
     ETHERPEEL_FORWARDING_PORT = 1,
-    /* To all ports but the one that it came from. */
+    /* To all ports except the one by which it came in. */
     ETHERPEEL_FORWARDING_FLOOD = 2
 };
 
@@ -395,12 +397,12 @@ enum etherpeel_form {
  * bytes in the order of the frame. Flags are 0 or 1.
  */
 
-/* A unit that is refused, or none. */
+/* A refused unit, or none. */
 typedef struct etherpeel_fault {
     size_t offset;          /* where the unit starts */
     size_t required_len;    /* the length that the unit requires, from its start */
     size_t len;             /* the length that is available to it */
-    size_t missing;         /* the fewest further bytes that it needs, 0 if none would help */
+    size_t missing;         /* the minimum number of further bytes; 0 if more would not help */
     uint32_t kind;          /* enum etherpeel_fault_kind */
     uint32_t layer;         /* enum etherpeel_layer */
     uint32_t len_source;    /* enum etherpeel_len_source */
@@ -412,18 +414,18 @@ typedef struct etherpeel_fault {
 /* The result of a whole walk. */
 typedef struct etherpeel_found {
     size_t units;           /* the number of units */
-    size_t rest_start;      /* where the bytes that are left start, or the unit that is refused */
-    size_t rest_end;        /* where they end, or the bytes that this unit has */
-    etherpeel_fault fault;  /* the unit that is refused, if one is */
+    size_t rest_start;      /* where the remaining bytes start, or those of the refused unit */
+    size_t rest_end;        /* where they end */
+    etherpeel_fault fault;  /* the refused unit, if there is one */
     uint32_t rest_kind;     /* enum etherpeel_rest_kind */
     uint16_t rest_protocol; /* the ether type or protocol number, 0 if there is none */
 } etherpeel_found;
 
 /* The result of feeding a walk. */
 typedef struct etherpeel_fed {
-    size_t refusals;       /* how often the walk asked for more bytes and was given them */
-    size_t taken;          /* how many bytes it was given in all */
-    etherpeel_fault fault; /* the fault of the walk of these bytes, if it has one */
+    size_t refusals;       /* how often the walk asked for bytes and was given them */
+    size_t taken;          /* the number of bytes that it was given in all */
+    etherpeel_fault fault; /* the fault of the walk of these bytes, if there is one */
 } etherpeel_fed;
 
 /* An Ethernet II header (IEEE 802.3, 3.2.3 to 3.2.6). */
@@ -479,11 +481,11 @@ typedef struct etherpeel_arp {
     uint8_t protocol_size; /* the length of each protocol address */
 } etherpeel_arp;
 
-/* A unit: a header, and where its payload is. Of the five headers the one of the unit's kind is
- * filled, the others are all 0. */
+/* A unit: a header, and the place of its payload. Of the five header structs only that of the
+ * unit's kind is filled; the others are all 0. */
 typedef struct etherpeel_unit {
     size_t offset;     /* where the header starts */
-    size_t header_len; /* its length; of an ARP packet, that of the whole packet */
+    size_t header_len; /* its length; for an ARP packet, that of the whole packet */
     size_t payload_start;
     size_t payload_end; /* before a frame check sequence, or where a SecTag says */
     uint32_t kind;      /* enum etherpeel_unit_kind */
@@ -497,55 +499,55 @@ typedef struct etherpeel_unit {
 
 /* A field of a header. The first bit of a byte is its most significant one. */
 typedef struct etherpeel_field {
-    size_t bit_offset; /* where it begins, in bits from the start of the frame */
-    size_t bit_len;    /* how many bits it has; 0 of an ARP address that has length 0 */
-    uint64_t value;    /* the number that they are; 0 if there are more than 64 */
+    size_t bit_offset; /* its offset in bits from the start of the frame */
+    size_t bit_len;    /* the number of its bits; 0 for an ARP address of length 0 */
+    uint64_t value;    /* the number in them; 0 if there are more than 64 */
     uint32_t unit;     /* the index of its unit */
     uint32_t name;     /* enum etherpeel_field_name */
 } etherpeel_field;
 
-/* All headers of a packet, and what is asked of it. */
+/* All headers of a packet, its VLAN identifiers and its least snap length. */
 typedef struct etherpeel_headers {
-    etherpeel_unit units[5]; /* the headers, the outermost first: at most a link, three tags, ARP */
-    etherpeel_found found;   /* how many there are, what is left after them, and the fault */
+    etherpeel_unit units[5]; /* the headers, outermost first: at most a link, three tags, ARP */
+    etherpeel_found found;   /* their number, the bytes after them, and the fault */
     size_t min_snap_len;     /* the least length to which the frame can be cut without losing one */
-    uint16_t vlan_ids[3];    /* the identifiers of the VLAN tags, the outermost first, then 0 */
-    uint16_t vlan_count;     /* how many VLAN tags there are */
+    uint16_t vlan_ids[3];    /* the identifiers of the VLAN tags, outermost first, then 0 */
+    uint16_t vlan_count;     /* the number of VLAN tags */
 } etherpeel_headers;
 
 /* A packet of a capture file. */
 typedef struct etherpeel_captured {
-    const uint8_t *packet; /* the bytes that were captured, in the file */
+    const uint8_t *packet; /* the captured bytes, inside the file */
     size_t packet_len;
     uint64_t seconds;      /* the time of the capture since 1970, UTC; 0 if it has none */
     uint32_t nanoseconds;  /* after the seconds, rounded down */
-    uint32_t original_len; /* how many bytes the packet had before it was cut */
+    uint32_t original_len; /* the length of the packet before it was cut */
     uint16_t link_type;    /* what it begins with: etherpeel_start_of_link_type */
-    uint8_t has_time;      /* 1 if it has a time: one of a simple packet block has none */
-    uint8_t has_fcs_len;   /* 1 if the file says the length of the frame check sequence */
-    uint8_t fcs_len;       /* that length in bytes, of the packet before it was cut; else 0 */
+    uint8_t has_time;      /* 1 if it has a time; a packet of a simple packet block does not */
+    uint8_t has_fcs_len;   /* 1 if the file gives the length of the frame check sequence */
+    uint8_t fcs_len;       /* that length in bytes, before the packet was cut; else 0 */
 } etherpeel_captured;
 
-/* What is walked of a packet of a capture: its bytes, and what to pass with them to the calls for
- * frames. */
+/* The part of a captured packet that is walked: its bytes, and what to pass with them to the calls
+ * for frames. */
 typedef struct etherpeel_frame {
     const uint8_t *bytes; /* in the packet */
     size_t len;
-    size_t offset;       /* where it begins, in bytes from the start of the packet */
+    size_t offset;       /* its offset in bytes from the start of the packet */
     uint32_t start;      /* enum etherpeel_start */
-    uint16_t ether_type; /* that announces it, of ETHERPEEL_START_ETHER_TYPE, else 0 */
+    uint16_t ether_type; /* announces it, if start is ETHERPEEL_START_ETHER_TYPE; else 0 */
 } etherpeel_frame;
 
 /* Where the packets of a capture file end. */
 typedef struct etherpeel_capture_end {
-    size_t offset; /* the length of the file, or where the unit starts that can't be read */
-    size_t needed; /* how many bytes this unit needs at least, of ETHERPEEL_SHORT, else 0 */
+    size_t offset; /* the length of the file, or the offset of the unit that can't be read */
+    size_t needed; /* the minimum length of this unit if ETHERPEEL_SHORT is returned, else 0 */
 } etherpeel_capture_end;
 
 /* A header of Linux cooked capture v2, and what to pass with its payload to calls for frames. */
 typedef struct etherpeel_linux_sll2_header {
     size_t payload_start;     /* 20 */
-    uint32_t interface_index; /* of the interface that the packet was seen on */
+    uint32_t interface_index; /* of the interface on which the packet was seen */
     uint32_t start;           /* ETHERPEEL_START_ETHER_TYPE; 0 if the payload has no ether type */
     uint16_t protocol;
     uint16_t ether_type;    /* of the payload, 0 if it has none */
@@ -555,11 +557,11 @@ typedef struct etherpeel_linux_sll2_header {
     uint8_t address[8];     /* the sender's address, truncated or padded */
 } etherpeel_linux_sll2_header;
 
-/* Why a text is no expression of a filter. */
+/* Why a text is not a filter's expression. */
 typedef struct etherpeel_filter_error {
-    size_t offset; /* where the first word that fits nothing begins, or the length of the text */
+    size_t offset; /* where the first word that does not fit begins, or the length of the text */
     uint32_t kind; /* enum etherpeel_filter_error_kind */
-    uint32_t greatest; /* the greatest number that fits, 0 if none does */
+    uint32_t greatest; /* the greatest number that is expected, 0 if no number is */
 } etherpeel_filter_error;
 
 /* A filter that was read. etherpeel_filter_parse writes it and the other calls read it; it holds no
@@ -570,48 +572,48 @@ typedef struct etherpeel_filter {
 
 /* Why a header is not replaced. */
 typedef struct etherpeel_replace_error {
-    size_t tags;         /* how many VLAN tags and SecTags there are, of ETHERPEEL_NO_TAG, else 0 */
-    uint32_t difference; /* enum etherpeel_difference, of ETHERPEEL_DIFFERS, else 0 */
+    size_t tags;         /* the number of VLAN tags and SecTags, after ETHERPEEL_NO_TAG; else 0 */
+    uint32_t difference; /* enum etherpeel_difference, after ETHERPEEL_DIFFERS; else 0 */
 } etherpeel_replace_error;
 
 /* How a port of a bridge is set up. The VLAN `vid` is in a set if set[vid / 64] >> vid % 64 & 1. */
 typedef struct etherpeel_port {
     uint64_t members[64];      /* the VLANs whose frames leave by the port */
-    uint64_t untagged[64];     /* those whose frames leave without a tag */
+    uint64_t untagged[64];     /* the VLANs whose frames leave without a tag */
     uint16_t pvid;             /* the VLAN of a frame without a VLAN identifier, 1 to 4094 */
     uint8_t frame_types;       /* enum etherpeel_frame_types */
-    uint8_t ingress_filtering; /* 0 if it takes frames of VLANs that it is not a member of */
-    uint8_t default_priority;  /* the priority of a frame that comes without a tag, 0 to 7 */
+    uint8_t ingress_filtering; /* 0 if it accepts frames of VLANs that it is not a member of */
+    uint8_t default_priority;  /* the priority of a frame that comes in without a tag, 0 to 7 */
 } etherpeel_port;
 
-/* What a bridge makes of a frame. If it is discarded, all other numbers are 0. */
+/* A frame that a bridge received, and where it goes. If it is discarded, all other fields are 0. */
 typedef struct etherpeel_received {
     uint32_t discarded;    /* enum etherpeel_discarded */
     uint32_t kind;         /* enum etherpeel_bridge */
     uint32_t forwarding;   /* enum etherpeel_forwarding */
-    uint16_t port;         /* of ETHERPEEL_FORWARDING_PORT, else 0 */
-    uint16_t from;         /* the port that it came from */
+    uint16_t port;         /* if forwarding is ETHERPEEL_FORWARDING_PORT, else 0 */
+    uint16_t from;         /* the port by which it came in */
     uint16_t vlan;         /* the identifier of its VLAN, 1 to 4094 */
     uint8_t priority;      /* of its tag, else the port's default */
     uint8_t drop_eligible; /* 1 if it may be dropped first under congestion, else 0 */
 } etherpeel_received;
 
-/* A frame of a station, by when and by which port it came. */
+/* A frame of a station: when it came in, and by which port. */
 typedef struct etherpeel_sighting {
     uint64_t station; /* VLAN identifier << 48 | address; 0 if the place is free */
     uint64_t time;
     uint16_t port;
 } etherpeel_sighting;
 
-/* The newest sightings of up to four stations, the newest first. All 0 it knows none. */
+/* The last sightings of up to four stations, the newest first. If it is all 0, it knows none. */
 typedef struct etherpeel_bucket {
     etherpeel_sighting sightings[4];
 } etherpeel_bucket;
 
 /* ---- The library ----
  *
- * A program that takes the shared library, or that declares the structs in another language, finds
- * out whether the library that it runs with has the same.
+ * With these a program that uses the shared library, or that declares the structs in another
+ * language, can check that it fits the library with which it runs.
  */
 
 /* The structs, for etherpeel_sizeof. */
@@ -687,7 +689,7 @@ static inline int etherpeel_fits(void) {
 }
 
 /* etherpeel_start_of_link_type - the number of enum etherpeel_start for packets of a link type, 0
- * if the walk does not begin with these
+ * if no walk starts with such packets
  *
  * The link type is what pcap_datalink of libpcap returns, or what a capture file says: 1
  * (DLT_EN10MB) for ETHERPEEL_START_ETHERNET2, 113 (DLT_LINUX_SLL) for ETHERPEEL_START_LINUX_SLL.
@@ -699,10 +701,10 @@ uint32_t etherpeel_start_of_link_type(uint32_t link_type);
 
 /* etherpeel_summary - the result of the walk through a frame
  *
- * Fills *found with the number of units, the window that is left and its announced kind, and the
+ * Fills *found with the number of units, the window after them and what it is announced as, and the
  * fault if a unit is refused.
- * Returns ETHERPEEL_DONE or ETHERPEEL_UNKNOWN_START. A frame that is refused is ETHERPEEL_DONE,
- * with found->fault.kind other than ETHERPEEL_FAULT_NONE. The form with a limit above len / 4
+ * Returns ETHERPEEL_DONE or ETHERPEEL_UNKNOWN_START. A refused frame is ETHERPEEL_DONE, and
+ * found->fault.kind is then not ETHERPEEL_FAULT_NONE. The form with a limit above len / 4
  * fills *found as the form without one does.
  * Overlap: *found must not overlap the frame. Every number is in host byte order. Thread-safe;
  * takes no memory.
@@ -715,9 +717,9 @@ uint32_t etherpeel_summary_limited(uint32_t start, uint16_t ether_type, const ui
 /* etherpeel_walk - the units of a frame
  *
  * Fills units[0], units[1] .. with the units of the frame from the outermost on, as many as there
- * is room for, and *count with how many there are in all, which may exceed `room`. Elements from
- * *count on stay as they were. If a unit is refused, the ones before it are there:
- * etherpeel_summary says why the walk ended. The units of a frame are at most len / 4.
+ * is room for, and *count with the number of all of them, which may exceed `room`. Elements from
+ * *count on are unchanged. If a unit is refused, the array has the units before it, and
+ * etherpeel_summary says why the walk ended. A frame has at most len / 4 units.
  * Returns ETHERPEEL_DONE or ETHERPEEL_UNKNOWN_START.
  * Overlap: frame, units and *count must not overlap. Every number is in host byte order, the
  * addresses of a unit in that of the frame. Thread-safe; takes no memory.
@@ -731,11 +733,10 @@ uint32_t etherpeel_walk_limited(uint32_t start, uint16_t ether_type, const uint8
 /* etherpeel_fields - the fields of the headers of a frame
  *
  * Fills fields[0], fields[1] .. with the fields of the units of the frame from the outermost on, as
- * many as there is room for, and *count with how many there are in all, which may exceed `room`.
- * The fields of a unit come in their order in the frame; a frame check sequence comes right after
- * the fields of the Ethernet II header, with its unit. Elements from *count on stay as they were.
- * If a unit is refused, the fields of those before it are there. The fields of a frame are at most
- * 2 * len.
+ * many as there is room for, and *count with the number of all of them, which may exceed `room`.
+ * The fields of a unit are in the order of the frame; a frame check sequence follows the fields of
+ * the Ethernet II header, and belongs to its unit. Elements from *count on are unchanged. If a unit
+ * is refused, the array has the fields of the units before it. A frame has at most 2 * len fields.
  * Returns ETHERPEEL_DONE or ETHERPEEL_UNKNOWN_START.
  * Overlap: frame, fields and *count must not overlap. Every number is in host byte order.
  * Thread-safe; takes no memory.
@@ -743,29 +744,29 @@ uint32_t etherpeel_walk_limited(uint32_t start, uint16_t ether_type, const uint8
 uint32_t etherpeel_fields(uint32_t start, uint16_t ether_type, const uint8_t *bytes, size_t len,
                           etherpeel_field *fields, size_t room, size_t *count);
 
-/* etherpeel_packet - all headers of a frame, and what is asked of a packet
+/* etherpeel_packet - all headers of a frame, its VLAN identifiers and its least snap length
  *
- * Fills headers->units and headers->found with the units and the result of the walk that reads no
- * more than three VLAN tags and SecTags; elements from headers->found.units on stay as they were.
- * Of these headers it says the identifiers of the VLAN tags, and the least snap length that keeps
- * them all, as a frame without a check sequence.
- * Returns ETHERPEEL_DONE or ETHERPEEL_UNKNOWN_START. A frame that is refused is ETHERPEEL_DONE, as
- * of etherpeel_summary, with the headers before the fault.
+ * Fills headers->units and headers->found with the units and the result of the walk that reads at
+ * most three VLAN tags and SecTags; elements from headers->found.units on are unchanged. For these
+ * headers it also sets the identifiers of the VLAN tags, and the least snap length that keeps them
+ * all; a cut frame is read as one without a frame check sequence.
+ * Returns ETHERPEEL_DONE or ETHERPEEL_UNKNOWN_START. A refused frame is ETHERPEEL_DONE, as in
+ * etherpeel_summary, with the headers before the fault.
  * Overlap: *headers must not overlap the frame. Every number is in host byte order, the addresses
  * of a unit in that of the frame. Thread-safe; takes no memory.
  */
 uint32_t etherpeel_packet(uint32_t start, uint16_t ether_type, const uint8_t *bytes, size_t len,
                           etherpeel_headers *headers);
 
-/* etherpeel_write_back - writes the headers of a frame, and what is left after them
+/* etherpeel_write_back - writes the headers of a frame, and the bytes after them
  *
- * Writes each header as its bytes, and after them the bytes of the window that is left, to the
- * front of `target`: the bytes of the frame up to there, but with the two reserved bits of each
- * SecTag 0. The bytes of `target` after these stay as they were. A frame check sequence is not
- * written. *written_len is where that window ends in the frame, which is the number of bytes
- * written.
+ * Writes the bytes of each header, and then the bytes of the remaining window, to the front of
+ * `target`: the bytes of the frame up to the end of that window, except that the two reserved bits
+ * of each SecTag are 0. The bytes of `target` after these are unchanged. A frame check sequence is
+ * not written. *written_len is the offset at which that window ends in the frame, which is the
+ * number of bytes written.
  * Returns ETHERPEEL_DONE, ETHERPEEL_UNKNOWN_START, or ETHERPEEL_NO_ROOM if `room` is smaller than
- * *written_len; then `target` stays as it was.
+ * *written_len; then `target` is unchanged.
  * Overlap: frame, target and *written_len must not overlap: it does not write in place. Every
  * number is in host byte order. Thread-safe; takes no memory.
  */
@@ -775,12 +776,13 @@ uint32_t etherpeel_write_back_limited(uint32_t start, uint16_t ether_type, const
                                       size_t len, size_t limit, uint8_t *target, size_t room,
                                       size_t *written_len);
 
-/* etherpeel_feed - what a reader takes that asks for exactly the bytes that the walk needs next
+/* etherpeel_feed - what a reader takes if it asks each time for exactly the bytes that the walk
+ * needs
  *
- * The walk begins with no bytes. While it stops at a unit that needs more bytes, in a window that
- * is open, and the frame has them, it is given as many as the unit needs at least. Of a frame
- * without a check sequence that is accepted it takes all headers, and each payload whose length a
- * SecTag names, and no byte more; of one with a check sequence nothing.
+ * The walk begins with no bytes. While it stops, in an open window, at a unit that needs more
+ * bytes, and the frame has them, it is given the minimum number that the unit needs. If the frame
+ * is accepted and has no check sequence, the walk takes exactly all headers and each payload whose
+ * length a SecTag gives. Of a frame with a check sequence it takes nothing.
  * Returns ETHERPEEL_DONE or ETHERPEEL_UNKNOWN_START.
  * Overlap: *fed must not overlap the frame. Every number is in host byte order. Thread-safe; takes
  * no memory.
@@ -793,13 +795,13 @@ uint32_t etherpeel_feed_limited(uint32_t start, uint16_t ether_type, const uint8
 /* etherpeel_completion - the fewest bytes that, after a frame cut short, make it accepted
  *
  * They complete the unit in which the frame ends: an Ethernet II header, a VLAN tag, an ARP packet,
- * or a SecTag with the payload whose length it names. Each is 0, but 1 if a 0 would end an ether
- * type that announces a VLAN tag. *fill_len is their number, at most 1028; it is 0 if no bytes
- * complete the frame: it is accepted, or is refused for its contents or in a closed window, or ends
- * in a header of cooked capture, in fewer than six bytes of a SecTag, or in the payload of a whole
- * SecTag.
+ * or a SecTag with the payload whose length it gives. Each byte is 0, or 1 where a 0 would complete
+ * an ether type that announces a VLAN tag. *fill_len is their number, at most 1028; it is 0 if no
+ * bytes complete the frame: it is accepted, or is refused for its contents or in a closed window,
+ * or ends in a header of cooked capture, in fewer than six bytes of a SecTag, or in the payload of
+ * a whole SecTag.
  * Returns ETHERPEEL_DONE, ETHERPEEL_UNKNOWN_START, or ETHERPEEL_NO_ROOM if `room` is smaller than
- * *fill_len; then `fill` stays as it was.
+ * *fill_len; then `fill` is unchanged.
  * Overlap: frame, fill and *fill_len must not overlap; `fill` may be the memory right after the
  * frame. Every number is in host byte order. Thread-safe; takes no memory.
  */
@@ -829,8 +831,8 @@ uint32_t etherpeel_missing_limited(uint32_t start, uint16_t ether_type, const ui
  * with no 0 byte at its end. *text_len is its length, fewer than 512 bytes; it is 0 if the frame is
  * accepted.
  * Returns ETHERPEEL_DONE, ETHERPEEL_UNKNOWN_START, or ETHERPEEL_NO_ROOM if `room` is smaller than
- * *text_len; then `text` stays as it was. ETHERPEEL_NO_TEXT is not ruled out by proof, though every
- * refusal in the tests gives a text; after it *text_len is 0, and `text` stays as it was.
+ * *text_len; then `text` is unchanged. ETHERPEEL_NO_TEXT is not ruled out by proof, though every
+ * refusal in the tests gives a text; after it *text_len is 0, and `text` is unchanged.
  * Overlap: frame, text and *text_len must not overlap. Every number is in host byte order.
  * Thread-safe; takes no memory.
  */
@@ -842,16 +844,16 @@ uint32_t etherpeel_fault_text_limited(uint32_t start, uint16_t ether_type, const
 
 /* ---- VLAN tags changed in place ----
  *
- * A frame check sequence and an integrity check value stay as they were, and don't fit the new
- * bytes. Whatever is not named stays as it was, also if a later header is refused. If a call does
- * not return ETHERPEEL_DONE, it has written nothing.
+ * A frame check sequence and an integrity check value are unchanged, and don't fit the new bytes.
+ * Whatever is not named is unchanged, even if a later header is refused. If a call does not return
+ * ETHERPEEL_DONE, it has written nothing.
  */
 
-/* etherpeel_pop_vlan - takes off the VLAN tag after the header of a link, in place
+/* etherpeel_pop_vlan - takes off the VLAN tag after the link's header, in place
  *
  * The frame is then `frame + 4` with `len - 4` bytes: the 12 bytes of the addresses, or the 14
- * bytes of a cooked capture before its protocol type, are moved by four, and the ether type of the
- * tag becomes that of the link. *tag is the tag that was taken off.
+ * bytes of a cooked capture before its protocol type, are moved by four bytes, and the ether type
+ * of the tag becomes that of the link's header. *tag is the tag that was taken off.
  * Returns ETHERPEEL_DONE, ETHERPEEL_UNKNOWN_START, ETHERPEEL_NO_LINK, ETHERPEEL_OTHER_LINK,
  * ETHERPEEL_NO_VLAN or ETHERPEEL_CUT_VLAN.
  * In place in `frame`, which *tag must not overlap. Every number is in host byte order.
@@ -860,12 +862,13 @@ uint32_t etherpeel_fault_text_limited(uint32_t start, uint16_t ether_type, const
 uint32_t etherpeel_pop_vlan(uint32_t start, uint16_t ether_type, uint8_t *frame, size_t len,
                             etherpeel_vlan *tag);
 
-/* etherpeel_push_vlan - puts a VLAN tag after the header of a link, in place
+/* etherpeel_push_vlan - puts a VLAN tag after the link's header, in place
  *
  * The frame is `buffer + 4` with `len - 4` bytes before, and the whole buffer afterwards: the bytes
- * of the link before its type are moved by four. `tpid` is the ether type that announces the tag:
- * 0x8100, 0x88A8 or 0x9100. The tag gets the ether type of the link: tag->ether_type is ignored. So
- * etherpeel_pop_vlan takes off what was put in, and its tag may be put in again.
+ * of the link's header before its type are moved by four bytes. `tpid` is the ether type that
+ * announces the tag: 0x8100, 0x88A8 or 0x9100. The tag gets the ether type of the link's header:
+ * tag->ether_type is ignored. So etherpeel_pop_vlan takes off the tag that was put in, and the tag
+ * that it returns can be put in again.
  * Returns ETHERPEEL_DONE, or the first of these that applies: ETHERPEEL_UNKNOWN_START;
  * ETHERPEEL_BAD_FIELD if tag->vid is above 4095, tag->pcp above 7 or tag->dei above 1;
  * ETHERPEEL_BAD_TPID; ETHERPEEL_NO_ROOM if `len` is below 4; ETHERPEEL_NO_LINK;
@@ -889,8 +892,8 @@ uint32_t etherpeel_set_vlan_id(uint32_t start, uint16_t ether_type, uint8_t *fra
 
 /* etherpeel_set_vlan_tag - sets the tag control information of a VLAN tag, in place
  *
- * The same with tag->pcp, tag->dei and tag->vid. The ether type after the tag stays:
- * tag->ether_type is ignored.
+ * Does as etherpeel_set_vlan_id, but sets tag->pcp, tag->dei and tag->vid. The ether type after the
+ * tag is unchanged: tag->ether_type is ignored.
  * Returns ETHERPEEL_DONE, or the first of these that applies: ETHERPEEL_UNKNOWN_START;
  * ETHERPEEL_BAD_FIELD if tag->vid is above 4095, tag->pcp above 7 or tag->dei above 1;
  * ETHERPEEL_NO_TAG; ETHERPEEL_NO_VLAN.
@@ -914,18 +917,17 @@ uint32_t etherpeel_set_tpid(uint32_t start, uint16_t ether_type, uint8_t *frame,
 
 /* ---- Headers replaced in place ----
  *
- * `header` is a unit as etherpeel_walk gives it, or one that the caller fills in. Only its kind and
+ * `header` is a unit that etherpeel_walk wrote, or one that the caller fills in. Only its kind and
  * the struct of that kind are read, without has_fcs, without `sci` if sci_present is 0, and without
  * `ether_type` of a SecTag if `encrypted` or `changed` is 1. The header must have the kind and the
  * length of the one in the frame, and say the same about what follows it.
  * No other byte of the frame changes: a frame check sequence and an integrity check value don't fit
- * the new bytes. The headers are then those from before with this one replaced, also if a later one
- * is refused. If a call does not return ETHERPEEL_DONE, the frame is as it was. *error is set if it
- * returns ETHERPEEL_NO_LINK, ETHERPEEL_NO_TAG, ETHERPEEL_NO_ARP or ETHERPEEL_DIFFERS, and else
- * stays as it was.
+ * the new bytes. All other headers are as before, even if a later one is refused. If a call does
+ * not return ETHERPEEL_DONE, the frame is unchanged. *error is set if it returns ETHERPEEL_NO_LINK,
+ * ETHERPEEL_NO_TAG, ETHERPEEL_NO_ARP or ETHERPEEL_DIFFERS, and is else unchanged.
  */
 
-/* etherpeel_replace_link - replaces the header of a link that a frame begins with, in place
+/* etherpeel_replace_link - replaces the link's header at the front of a frame, in place
  *
  * `header` is of ETHERPEEL_UNIT_ETHERNET2 or ETHERPEEL_UNIT_LINUX_SLL. It must have the ether type
  * of the one in the frame, or its hardware type and protocol number.
@@ -956,13 +958,13 @@ uint32_t etherpeel_replace_link_ext(uint32_t start, uint16_t ether_type, uint8_t
 
 /* etherpeel_replace_arp - replaces the ARP packet of a frame, in place
  *
- * The ARP packet is the one after no more than three VLAN tags and SecTags. `header` is of
+ * The ARP packet is the one after at most three VLAN tags and SecTags. `header` is of
  * ETHERPEEL_UNIT_ARP. Its addresses are read from the `bytes_len` bytes at `bytes`, from
  * header->arp.sender_hardware on, and so on: those of another frame that the unit is of, or an
  * array that the caller fills in. NULL is allowed if `bytes_len` is 0. The addresses must have the
  * lengths of those in the frame.
  * Returns ETHERPEEL_DONE, or the first of these that applies: ETHERPEEL_UNKNOWN_START;
- * ETHERPEEL_BAD_KIND; ETHERPEEL_BAD_FIELD if an address is not within the bytes; ETHERPEEL_NO_ARP;
+ * ETHERPEEL_BAD_KIND; ETHERPEEL_BAD_FIELD if an address is not inside the bytes; ETHERPEEL_NO_ARP;
  * ETHERPEEL_DIFFERS.
  * In place in `frame`, which neither *header, the bytes nor *error may overlap, nor *error these.
  * Every number is in host byte order, the addresses in that of the frame. Thread-safe; takes no
@@ -978,22 +980,22 @@ uint32_t etherpeel_replace_arp(uint32_t start, uint16_t ether_type, uint8_t *fra
  *
  * Writes the headers of units[0] .. units[count - 1] and after them the payload to the front of
  * `target`. The first unit is of ETHERPEEL_UNIT_ETHERNET2, or of ETHERPEEL_UNIT_LINUX_SLL with the
- * hardware type 1. Up to eight of ETHERPEEL_UNIT_VLAN and ETHERPEEL_UNIT_MACSEC follow, the
- * outermost first. Units are read as by the calls that replace headers. Only the last tag, before a
- * payload, may be a SecTag whose payload is encrypted or changed.
+ * hardware type 1. Up to eight of ETHERPEEL_UNIT_VLAN and ETHERPEEL_UNIT_MACSEC follow, outermost
+ * first. Units are read as by the calls that replace headers. Only the last tag, before a payload,
+ * may be a SecTag whose payload is encrypted or changed.
  * The payload is the `payload_len` bytes at `payload`, which `ether_type` announces. If the last
  * unit is of ETHERPEEL_UNIT_ARP, the packet ends with it: its addresses are read from these bytes
  * as by etherpeel_replace_arp, and `ether_type` is ignored. NULL is allowed if `payload_len` is 0.
  * The ether type of each header is set by what follows it. Before a VLAN tag, an ether type that
- * announces one stays: 0x8100, 0x88A8 or 0x9100. Any other becomes 0x88A8 if another VLAN tag
- * follows that tag, else 0x8100. The short length of each SecTag is set to the number of bytes
- * after it with its ether type, or 0 if that is above 63: so 48 to 63 are set too, although
- * IEEE 802.1AE, 9.7, wants 0 for them.
+ * announces one is kept: 0x8100, 0x88A8 or 0x9100. Any other becomes 0x88A8 if another VLAN tag
+ * directly follows that tag, else 0x8100. The short length of each SecTag is set to the number of
+ * bytes after it, with the two of its ether type if it has one, and to 0 if there are more than 63.
+ * IEEE 802.1AE, 9.7, wants 0 for lengths of 48 to 63, too.
  * There is no frame check sequence.
- * *written_len is the length of the packet. The bytes of `target` after it stay as they were.
- * Returns ETHERPEEL_DONE, or the first of these that applies, and then `target` stays as it was. By
- * the first unit that is wrong, whose index is then *written_len: ETHERPEEL_BAD_KIND, also if there
- * is no unit; ETHERPEEL_BAD_FIELD; ETHERPEEL_TOO_MANY_TAGS for the ninth tag. By the packet:
+ * *written_len is the length of the packet. The bytes of `target` after it are unchanged.
+ * Returns ETHERPEEL_DONE, or the first of these that applies; then `target` is unchanged. For the
+ * first unit that is wrong, whose index is then *written_len: ETHERPEEL_BAD_KIND, also if there is
+ * no unit; ETHERPEEL_BAD_FIELD; ETHERPEEL_TOO_MANY_TAGS for the ninth tag. For the packet:
  * ETHERPEEL_OTHER_LINK, and *written_len is 0; ETHERPEEL_SEALED, and *written_len is the index of
  * the SecTag; ETHERPEEL_NO_ROOM if `room` is smaller than the length of the packet, which is
  * *written_len.
@@ -1014,11 +1016,11 @@ uint32_t etherpeel_build(const etherpeel_unit *units, size_t count, uint16_t eth
 /* etherpeel_capture - the packets of a capture file
  *
  * Fills packets[0], packets[1] .. with the packets of the file in order, as many as there is room
- * for, and *count with how many there are in all, which may exceed `room`. Elements from *count on
- * stay as they were. *end says where they end. So a first call with `room` 0 says how many there
- * are. The packets point into the file.
- * Returns ETHERPEEL_DONE if they end with the file. If not, the packets before are there: it
- * returns ETHERPEEL_SHORT, also of an empty file, or ETHERPEEL_BAD_CAPTURE.
+ * for, and *count with the number of all of them, which may exceed `room`. Elements from *count on
+ * are unchanged. *end says where they end. So a first call with `room` 0 returns their number. The
+ * packets point into the file.
+ * Returns ETHERPEEL_DONE if they end with the file. If not, it returns ETHERPEEL_SHORT, also for an
+ * empty file, or ETHERPEEL_BAD_CAPTURE, and the array has the packets before the fault.
  * The array `packets` must be initialized, as by calloc: an element may be all 0.
  * Overlap: file, packets, *count and *end must not overlap. Every number is in host byte order,
  * whatever its order in the file. Thread-safe; takes no memory, and some 300 KB of stack.
@@ -1031,26 +1033,26 @@ uint32_t etherpeel_capture(const uint8_t *file, size_t len, etherpeel_captured *
  * Writes the text, such as "At byte 24: A packet ..", to the front of `text`, in ASCII with no 0
  * byte at its end. *text_len is its length, fewer than 512 bytes; it is 0 if they end with the
  * file.
- * Returns ETHERPEEL_DONE, or ETHERPEEL_NO_ROOM if `room` is smaller than *text_len; then `text`
- * stays as it was. ETHERPEEL_NO_TEXT is not ruled out by proof; after it *text_len is 0, and `text`
- * stays as it was.
+ * Returns ETHERPEEL_DONE, or ETHERPEEL_NO_ROOM if `room` is smaller than *text_len; then `text` is
+ * unchanged. ETHERPEEL_NO_TEXT is not ruled out by proof; after it *text_len is 0, and `text` is
+ * unchanged.
  * Overlap: file, text and *text_len must not overlap. Every number is in host byte order.
  * Thread-safe; takes no memory, and some 300 KB of stack.
  */
 uint32_t etherpeel_capture_fault_text(const uint8_t *file, size_t len, char *text, size_t room,
                                       size_t *text_len);
 
-/* etherpeel_captured_frame - what is walked of a packet of a capture
+/* etherpeel_captured_frame - the part of a captured packet that is walked
  *
- * Sets *frame by the link type of a packet that etherpeel_capture gave. Of Ethernet that is the
- * packet: with its frame check sequence if the file says that it has one of four bytes and it was
- * not cut, else without those bytes. Of Linux cooked capture v1 it is the packet without a frame
- * check sequence; but the payload, after a header of 16 bytes, if the walk would refuse the header
- * only for its hardware type, as 772 of the loopback device. The protocol is then the ether type.
- * Of v2 it is the payload, after a header of 20 bytes, if the header can be read and an ether type
- * announces the payload.
+ * Sets *frame by the link type of a packet that etherpeel_capture wrote. For Ethernet it is the
+ * packet, without its frame check sequence; that remains only if the file gives it four bytes and
+ * the packet was not cut. For Linux cooked capture v1 it is the packet without a frame check
+ * sequence; but it is the payload, after a header of 16 bytes, if the walk would refuse the header
+ * only for its hardware type, such as 772 of the loopback device. The protocol is then the ether
+ * type. For v2 it is the payload, after a header of 20 bytes, if the header can be read and an
+ * ether type announces the payload.
  * Returns ETHERPEEL_DONE; or ETHERPEEL_UNKNOWN_START if nothing of the packet is walked, and then
- * *frame stays as it was. It must be initialized, and may be all 0.
+ * *frame is unchanged. It must be initialized, and may be all 0.
  * Overlap: *frame must not overlap *packet or its bytes, which it points into. Every number is in
  * host byte order. Thread-safe; takes no memory.
  */
@@ -1059,14 +1061,14 @@ uint32_t etherpeel_captured_frame(const etherpeel_captured *packet, etherpeel_fr
 /* ---- Linux cooked capture v2 ----
  *
  * `bytes` points to the `len` bytes of a packet of DLT_LINUX_SLL2, which begins with a header of 20
- * bytes. What an ether type announces after it is walked as any frame:
+ * bytes. If an ether type announces what follows it, that is walked like any frame:
  *
  *   etherpeel_walk(header.start, header.ether_type, bytes + 20, len - 20, ..)
  */
 
 /* etherpeel_linux_sll2 - the header of a packet of Linux cooked capture v2
  *
- * Fills *header. The payload has an ether type but on a link whose protocol numbers are others
+ * Fills *header. The payload has an ether type unless the protocol numbers of the link are others
  * (netlink, GRE) or have no meaning (IEEE 802.11 with radiotap, frame relay).
  * Returns ETHERPEEL_DONE; or ETHERPEEL_SHORT if there are fewer than 20 bytes, and then *header is
  * all 0; or ETHERPEEL_BAD_PACKET_TYPE if the packet type is above 7, and then *header has this
@@ -1080,8 +1082,7 @@ uint32_t etherpeel_linux_sll2(const uint8_t *bytes, size_t len,
 /* etherpeel_linux_sll2_fields - the fields of the header of a packet of Linux cooked capture v2
  *
  * Fills fields[0], fields[1] .. with the fields in order, as many as there is room for, and *count
- * with how many there are, which is 7. Each has the unit 0. Elements from *count on stay as they
- * were.
+ * with the number of all of them, 7. Each has the unit 0. Elements from *count on are unchanged.
  * Returns ETHERPEEL_DONE; or ETHERPEEL_SHORT or ETHERPEEL_BAD_PACKET_TYPE as etherpeel_linux_sll2
  * does, and then nothing is written.
  * Overlap: packet, fields and *count must not overlap. Every number is in host byte order.
@@ -1110,11 +1111,11 @@ uint32_t etherpeel_linux_sll2_fields(const uint8_t *bytes, size_t len, etherpeel
 
 /* etherpeel_select - the packets that a filter selects
  *
- * Sets matches[i] to 1 if the expression holds of packets[i], else to 0, for each of the `count`
- * packets that etherpeel_capture gave; NULL is allowed if `count` is 0. The expression is asked of
- * what etherpeel_captured_frame gives. A packet for which it gives nothing is never selected, not
- * even by `not`. Elements of `matches` from `count` on stay as they were.
- * Returns ETHERPEEL_DONE; or ETHERPEEL_BAD_FILTER if the text is no expression, and then sets
+ * Sets matches[i] to 1 if the expression holds for packets[i], else to 0, for each of the `count`
+ * packets that etherpeel_capture wrote; NULL is allowed if `count` is 0. The expression is about
+ * the frame that etherpeel_captured_frame sets. A packet of which nothing is walked is never
+ * selected, not even by `not`. Elements of `matches` from `count` on are unchanged.
+ * Returns ETHERPEEL_DONE; or ETHERPEEL_BAD_FILTER if the text is not an expression, and then sets
  * *error; or ETHERPEEL_NO_ROOM if `room` is smaller than `count`. Nothing else is written then.
  * Overlap: neither `matches` nor *error may overlap the packets, their bytes, the text, or one
  * another. Every number is in host byte order. Thread-safe; takes no memory, and some 40 KB of
@@ -1124,11 +1125,11 @@ uint32_t etherpeel_select(const char *expression, size_t len, const etherpeel_ca
                           size_t count, uint8_t *matches, size_t room,
                           etherpeel_filter_error *error);
 
-/* etherpeel_filter_parse - a filter that is read once and asked about many packets
+/* etherpeel_filter_parse - a filter that is read once and applied to many packets
  *
  * Reads the expression into *filter. The memory is the caller's, and no call releases it.
- * Returns ETHERPEEL_DONE; or ETHERPEEL_BAD_FILTER if the text is no expression, and then sets
- * *error and leaves *filter as it was.
+ * Returns ETHERPEEL_DONE; or ETHERPEEL_BAD_FILTER if the text is not an expression, and then sets
+ * *error and leaves *filter unchanged.
  * Overlap: expression, *filter and *error must not overlap. Every number is in host byte order.
  * Thread-safe; takes no memory, and some 40 KB of stack.
  */
@@ -1137,22 +1138,22 @@ uint32_t etherpeel_filter_parse(const char *expression, size_t len, etherpeel_fi
 
 /* etherpeel_filter_matches - 1 if a filter selects a packet, else 0
  *
- * The packet is one that etherpeel_capture gave, or one that the caller has filled in; its time is
- * not read. The expression is asked of what etherpeel_captured_frame gives. A packet for which it
- * gives nothing is never selected, not even by `not`. Of a filter that etherpeel_filter_parse did
- * not write, the result says nothing.
+ * The packet is one that etherpeel_capture wrote, or one that the caller has filled in; its time is
+ * not read. The expression is about the frame that etherpeel_captured_frame sets. A packet of which
+ * nothing is walked is never selected, not even by `not`. For a filter that etherpeel_filter_parse
+ * did not write, nothing is claimed of the result.
  * Every number is in host byte order. Thread-safe, also with one filter in several threads; takes
  * no memory.
  */
 uint32_t etherpeel_filter_matches(const etherpeel_filter *filter, const etherpeel_captured *packet);
 
-/* etherpeel_filter_decide - whether a filter selects a packet, as far as its captured bytes say
+/* etherpeel_filter_decide - whether a filter selects a packet, as far as its captured bytes tell
  *
  * Returns a number of enum etherpeel_decision. ETHERPEEL_FAILS and ETHERPEEL_MATCHES hold whatever
  * bytes of the frame were cut off, up to `original_len`; those of a frame check sequence count as
  * bytes of the frame. A packet that was not cut is never ETHERPEEL_UNDECIDED, nor one of a link
- * type that the walk does not know. Of a filter that etherpeel_filter_parse did not write, the
- * result says nothing.
+ * type that the walk does not know. For a filter that etherpeel_filter_parse did not write, nothing
+ * is claimed of the result.
  * Every number is in host byte order. Thread-safe, also with one filter in several threads; takes
  * no memory.
  */
@@ -1161,8 +1162,7 @@ uint32_t etherpeel_filter_decide(const etherpeel_filter *filter, const etherpeel
 /* etherpeel_filter_select - the packets that a filter selects
  *
  * Sets matches[i] to what etherpeel_filter_matches returns for packets[i], for each of the `count`
- * packets; NULL is allowed if `count` is 0. Elements of `matches` from `count` on stay as they
- * were.
+ * packets; NULL is allowed if `count` is 0. Elements of `matches` from `count` on are unchanged.
  * Returns ETHERPEEL_DONE, or ETHERPEEL_NO_ROOM if `room` is smaller than `count`; then nothing is
  * written.
  * Overlap: `matches` must overlap neither the filter nor the packets and their bytes. Every number
@@ -1171,14 +1171,14 @@ uint32_t etherpeel_filter_decide(const etherpeel_filter *filter, const etherpeel
 uint32_t etherpeel_filter_select(const etherpeel_filter *filter, const etherpeel_captured *packets,
                                  size_t count, uint8_t *matches, size_t room);
 
-/* etherpeel_filter_error_text - why a text is no expression of a filter, in English
+/* etherpeel_filter_error_text - why a text is not a filter's expression, in English
  *
  * Writes the text, such as "At byte 5: expected a number up to 4095.", to the front of `text`, in
  * ASCII with no 0 byte at its end. *text_len is its length, fewer than 512 bytes; it is 0 if the
  * text is an expression.
- * Returns ETHERPEEL_DONE, or ETHERPEEL_NO_ROOM if `room` is smaller than *text_len; then `text`
- * stays as it was. ETHERPEEL_NO_TEXT is not ruled out by proof; after it *text_len is 0, and `text`
- * stays as it was.
+ * Returns ETHERPEEL_DONE, or ETHERPEEL_NO_ROOM if `room` is smaller than *text_len; then `text` is
+ * unchanged. ETHERPEEL_NO_TEXT is not ruled out by proof; after it *text_len is 0, and `text` is
+ * unchanged.
  * Overlap: expression, text and *text_len must not overlap. Every number is in host byte order.
  * Thread-safe; takes no memory, and some 40 KB of stack.
  */
@@ -1188,27 +1188,28 @@ uint32_t etherpeel_filter_error_text(const char *expression, size_t len, char *t
 /* ---- A switch ----
  *
  * The forwarding of a bridge with VLANs (IEEE 802.1Q). The caller has the ports, by numbers, and
- * the table of stations: an array of etherpeel_bucket, all 0 at first, which nothing else writes
- * to. A station is an address in a VLAN; each bucket holds the four of its stations that were seen
- * last. No frame crosses VLANs, and only its tag changes. There are no static entries; spanning
- * trees are left to the caller, who passes no frames of a port that is blocked.
+ * the table of stations: an array of etherpeel_bucket, initially all 0, to which nothing else
+ * writes. A station is an address in a VLAN; each bucket holds the four of its stations that were
+ * seen most recently. No frame crosses VLANs, and only its tag changes. There are no static
+ * entries. Spanning trees are left to the caller, who must not pass frames of a blocked port.
  */
 
-/* etherpeel_switch_receive - learns where the source of a frame is, and says where the frame goes
+/* etherpeel_switch_receive - learns the port of a frame's source, and decides where the frame goes
  *
  * The frame is the `len` bytes at `bytes`: from its Ethernet II header on, without a frame check
- * sequence. It came in by the port with the number `from`, set up as *port says, at the time `now`,
- * by a clock that does not go back. `kind` is one of enum etherpeel_bridge. A station counts as
- * being where it was seen last for `ageing_time` (IEEE 802.1Q recommends 300 seconds), in the unit
- * of `now`. `buckets` points to the `bucket_count` buckets of the table; NULL is allowed if that is
- * 0, and nothing is learned then.
- * Sets *received. The source is learned unless the frame is discarded, but also if that is for a
- * reserved destination. The frame goes to the port at which its destination was seen last in its
- * VLAN; if that is not known, and if its destination is a group, to all ports but its own.
+ * sequence. It came in by the port with the number `from` and the configuration *port, at the time
+ * `now`, by a clock that does not go back. `kind` is one of enum etherpeel_bridge. The bridge
+ * relies on a station's last sighting for `ageing_time`, in the unit of `now` (IEEE 802.1Q
+ * recommends 300 seconds). `buckets` points to the `bucket_count` buckets of the table; NULL is
+ * allowed if that is 0, and nothing is learned then.
+ * Sets *received. The source is learned unless the frame is discarded for another reason than a
+ * reserved destination. A frame to a station goes to the port at which the station was seen last in
+ * the frame's VLAN; if that is the port by which the frame came in, it goes nowhere. Any other
+ * frame goes to all ports except that one.
  * Returns ETHERPEEL_DONE, also for a frame that is discarded; or ETHERPEEL_BAD_FIELD if `kind` or a
  * number of *port does not fit, and then nothing is written.
  * Overlap: neither the table nor *received may overlap *port, the frame or one another. Every
- * number is in host byte order. Thread-safe, but for the table; takes no memory.
+ * number is in host byte order. Thread-safe, except for the table; takes no memory.
  */
 uint32_t etherpeel_switch_receive(uint32_t kind, uint64_t ageing_time, etherpeel_bucket *buckets,
                                   size_t bucket_count, uint64_t now, uint16_t from,
@@ -1221,7 +1222,7 @@ uint32_t etherpeel_switch_receive(uint32_t kind, uint64_t ageing_time, etherpeel
  * one of enum etherpeel_form. A frame leaves by the ports to which it goes and that are members of
  * its VLAN: without a tag if the VLAN is in the port's untagged set, else with the tag of its VLAN.
  * Returns ETHERPEEL_DONE; or ETHERPEEL_BAD_FIELD if the frame was discarded, or a number of
- * *received or *port does not fit, and then *form stays as it was.
+ * *received or *port does not fit, and then *form is unchanged.
  * Overlap: *form must not overlap *received or *port. Every number is in host byte order.
  * Thread-safe; takes no memory.
  */
@@ -1230,14 +1231,15 @@ uint32_t etherpeel_switch_form(const etherpeel_received *received, uint16_t to,
 
 /* etherpeel_switch_send - makes a frame ready to leave by a port, in place
  *
- * The frame is buffer[4] .. buffer[len - 1], as it came in; the first four bytes are free. It
+ * The frame is buffer[4] .. buffer[len - 1], as it came in. The first four bytes are free. It
  * leaves as buffer[*begin] .. buffer[len - 1]: *begin is 8 if its tag was taken off, 0 if one was
  * put in, else 4. A tag of the bridge's kind keeps its priority, and gets the identifier of the
  * VLAN.
- * For many ports, make the frame ready once for those of each form, each from a copy of the frame.
+ * If the frame leaves by many ports, make it ready once for all ports of each form, each time from
+ * a copy of the frame.
  * Returns ETHERPEEL_DONE, or the first of these that applies, and then nothing is written:
  * ETHERPEEL_BAD_FIELD as etherpeel_switch_form; ETHERPEEL_STAYS if its form is
- * ETHERPEEL_FORM_NONE, or the frame is too short for its header and a tag.
+ * ETHERPEEL_FORM_NONE, or the frame is too short for its header or its tag.
  * Overlap: neither the buffer nor *begin may overlap *received, *port or one another. Every number
  * is in host byte order. Thread-safe; takes no memory.
  */

@@ -40,7 +40,7 @@ ARTEFACTS = {
     "Filters in memory of the caller": {
         "ether_filter/src/filter.rt": ["instructions"],
         "ether_filter/src/instruction.rt": ["node"],
-        "ether_filter/src/program.rt": ["matches", "decide"],
+        "ether_filter/src/filter_program.rt": ["matches", "decide"],
     },
     "Packets": {
         "ether_packet/src/packet_units.rt": ["ghost"],
@@ -98,7 +98,7 @@ ARTEFACTS = {
         "ether_switch/src/received.rt": ["send", "goes_to", "tagged", "untagged"],
         "ether_switch/src/stations.rt": ["new"],
         "ether_switch/src/vlan_set.rt": ["new", "all", "contains", "insert", "remove"],
-        "ether_switch/src/kind.rt": ["tpid"],
+        "ether_switch/src/bridge_kind.rt": ["tpid"],
         "ether_switch/src/laws.rt": ["free_tables_know_nothing", "last_sightings_are_held", "frames_follow_stations", "vlans_are_isolated",
                                      "only_tags_change"],
     },
@@ -158,7 +158,7 @@ ORDER = {
         ether_filter: Primitives Expressions Deciding Words Numerals Tokens Grammar Texts Refusals
     """,
     "Filters in memory of the caller": """
-        ether_filter: Postfix Jumps Programs
+        ether_filter: Postfix Jumps FilterProgram
     """,
     "Packets": """
         ether_base: Bytes Formats/Ethernet2 Formats/Vlan Formats/Macsec Formats/LinuxSll Formats/LinuxSllProtocolType Formats/Arp
@@ -200,7 +200,7 @@ ORDER = {
         ether_capture: Copies Files KeyCounts RowFields Statistics Journal Program
     """,
     "Bridges": """
-        ether_switch: Kinds VlanSets Arrivals Learning Relaying History Leaving Laws
+        ether_switch: BridgeKinds VlanSets Arrivals Learning Relaying History Leaving Laws
     """,
     "C": """
         ether_c: Numbers Starts Found Units Walk

@@ -9,7 +9,7 @@
 
 A frame is any object with contiguous memory, as `bytes`, `bytearray`, `memoryview`, `mmap` or an array. It is read where it
 is, without a copy; only `pop_vlan`, `push_vlan`, `set_..` and `replace_..` write to it. `start` says what it begins with; with
-`Start.ETHER_TYPE`, `ether_type` says what announces it. With a `limit` no more VLAN tags and SecTags than it says are read.
+`Start.ETHER_TYPE`, `ether_type` announces it. With a `limit`, at most that many VLAN tags and SecTags are read.
 Offsets count bytes from the start of the frame. docs/C.md of the repository says what is proved of each call.
 """
 from __future__ import annotations
@@ -42,7 +42,7 @@ __version__ = "3.0.0"
 
 
 def _call(name, start, ether_type, at, length, limit, *rest):
-    """A call on a frame that is lent, with a limit or without."""
+    """Makes a call for a frame that is lent, with a limit or without."""
     start, ether_type = begun(start, ether_type)
     if limit is None:
         return _library.CALLS[name](start, ether_type, at, length, *rest)
@@ -50,7 +50,7 @@ def _call(name, start, ether_type, at, length, limit, *rest):
 
 
 def _fault(fault):
-    """A fault of C, None if there is none."""
+    """The fault in a struct of C, None if it has none."""
     if not fault.kind:
         return None
     kind = FaultKind(fault.kind)
@@ -94,7 +94,7 @@ _HEADERS = [_ethernet2, _linux_sll, lambda unit, _: _vlan(unit.vlan), _macsec, _
 
 
 def _unit(unit, at):
-    """A unit of C, of a frame at an address."""
+    """The unit in a struct of C, of a frame at an address."""
     return Unit(unit.offset, unit.header_len, unit.payload_start, unit.payload_end, bool(unit.closed),
                 _HEADERS[unit.kind - 1](unit, at))
 
@@ -140,14 +140,14 @@ def walk(frame: Buffer, start: Start = Start.ETHERNET2, *, ether_type: Optional[
 
 def summary(frame: Buffer, start: Start = Start.ETHERNET2, *, ether_type: Optional[int] = None,
             limit: Optional[int] = None) -> Summary:
-    """The result of the walk through a frame. A unit that is refused is its `fault`, and no exception."""
+    """The result of the walk through a frame. A refused unit is its `fault`, and raises no exception."""
     with lent(frame) as (at, length):
         return _summary(_found(at, length, start, ether_type, limit))
 
 
 def packet(frame: Buffer, start: Start = Start.ETHERNET2, *, ether_type: Optional[int] = None) -> Packet:
-    """All headers of a frame in one call, with no more than three VLAN tags and SecTags. A unit that is refused is the
-    `fault` of the `summary`, and no exception."""
+    """All headers of a frame in one call, with at most three VLAN tags and SecTags. A refused unit is the `fault` of the
+    `summary`, and raises no exception."""
     headers = _library.Headers()
     with lent(frame) as (at, length):
         required(_call("packet", start, ether_type, at, length, None, C.byref(headers)))
@@ -156,8 +156,8 @@ def packet(frame: Buffer, start: Start = Start.ETHERNET2, *, ether_type: Optiona
 
 
 def fields(frame: Buffer, start: Start = Start.ETHERNET2, *, ether_type: Optional[int] = None) -> List[Field]:
-    """The fields of the headers of a frame, from the outermost on, each in its order in the frame; a frame check sequence comes
-    right after the fields of the Ethernet II header. If a unit is refused, the fields of those before it are there."""
+    """The fields of a frame's headers, in the order of the frame, except that a frame check sequence follows the fields of the
+    Ethernet II header. If a unit is refused, these are the fields of the units before it."""
     with lent(frame) as (at, length):
         words = (*begun(start, ether_type), at, length)
         return [field(it) for it in filled(_library.Field, 32, lib.etherpeel_fields, *words)]
@@ -172,7 +172,7 @@ def fault_text(frame: Buffer, start: Start = Start.ETHERNET2, *, ether_type: Opt
 
 def feed(frame: Buffer, start: Start = Start.ETHERNET2, *, ether_type: Optional[int] = None,
          limit: Optional[int] = None) -> Fed:
-    """What a reader takes of a frame that asks for exactly the bytes that the walk needs next."""
+    """What a reader takes of a frame if it asks each time for exactly the bytes that the walk needs next."""
     fed = _library.Fed()
     with lent(frame) as (at, length):
         required(_call("feed", start, ether_type, at, length, limit, C.byref(fed)))
@@ -181,7 +181,7 @@ def feed(frame: Buffer, start: Start = Start.ETHERNET2, *, ether_type: Optional[
 
 def missing(frame: Buffer, start: Start = Start.ETHERNET2, *, ether_type: Optional[int] = None,
             limit: Optional[int] = None) -> int:
-    """The fewest further bytes that the refused unit needs, 0 if more bytes would not help."""
+    """The minimum number of further bytes that the refused unit needs, 0 if more bytes would not help."""
     count = C.c_size_t()
     with lent(frame) as (at, length):
         required(_call("missing", start, ether_type, at, length, limit, C.byref(count)))
@@ -190,7 +190,7 @@ def missing(frame: Buffer, start: Start = Start.ETHERNET2, *, ether_type: Option
 
 def completion(frame: Buffer, start: Start = Start.ETHERNET2, *, ether_type: Optional[int] = None,
                limit: Optional[int] = None) -> bytes:
-    """The fewest bytes that, after a frame cut short, make it accepted; none if no bytes do."""
+    """The fewest bytes that, appended to a frame cut short, make it accepted; empty if no bytes do."""
     fill, count = C.create_string_buffer(1028), C.c_size_t()
     with lent(frame) as (at, length):
         required(_call("completion", start, ether_type, at, length, limit, fill, len(fill), C.byref(count)))
@@ -199,8 +199,8 @@ def completion(frame: Buffer, start: Start = Start.ETHERNET2, *, ether_type: Opt
 
 def write_back(frame: Buffer, start: Start = Start.ETHERNET2, *, ether_type: Optional[int] = None,
                limit: Optional[int] = None) -> bytes:
-    """The headers of a frame as their bytes, and what is left after them: the front of the frame up to `rest_end`, but with
-    the two reserved bits of each SecTag 0."""
+    """The bytes of a frame's headers, and the bytes after them: the front of the frame up to `rest_end`, except that the two
+    reserved bits of each SecTag are 0."""
     with lent(frame) as (at, length):
         target, count = C.create_string_buffer(length), C.c_size_t()
         required(_call("write_back", start, ether_type, at, length, limit, target, length, C.byref(count)))
@@ -209,10 +209,10 @@ def write_back(frame: Buffer, start: Start = Start.ETHERNET2, *, ether_type: Opt
 
 def write_back_into(target: WritableBuffer, frame: Buffer, start: Start = Start.ETHERNET2, *,
                     ether_type: Optional[int] = None, limit: Optional[int] = None) -> int:
-    """Writes to the front of a target what `write_back` returns, and returns how many bytes that is.
+    """Writes to the front of a target what `write_back` returns, and returns the number of these bytes.
 
-    Raises `Error` if the target is too short, and `BufferError` if it can't be written to. The target must not share memory
-    with the frame: that raises `Error` too. In each case it stays as it was.
+    Raises `Error` if the target is too short or shares memory with the frame, and `BufferError` if it can't be written to. In
+    each case it is unchanged.
     """
     count = C.c_size_t()
     with lent(frame) as (at, length), lent(target, WRITE) as (to, room):
@@ -241,11 +241,10 @@ def _told(tag):
 
 
 def pop_vlan(frame: WritableBuffer, start: Start = Start.ETHERNET2) -> Vlan:
-    """Takes off the VLAN tag after the header of a link, in place, and returns it: the frame is then without its first four
-    bytes, `memoryview(frame)[4:]`.
+    """Takes off the VLAN tag after the link's header, in place, and returns it. The frame is then `memoryview(frame)[4:]`.
 
-    Raises `TagError` if there is none, and `BufferError` if the frame can't be written to. A frame check sequence stays as it
-    was, and doesn't fit the new bytes.
+    Raises `TagError` if there is no such tag, and `BufferError` if the frame can't be written to. A frame check sequence is
+    unchanged, and doesn't fit the new bytes.
     """
     tag = _library.Vlan()
     with lent(frame, WRITE) as (at, length):
@@ -254,11 +253,11 @@ def pop_vlan(frame: WritableBuffer, start: Start = Start.ETHERNET2) -> Vlan:
 
 
 def push_vlan(buffer: WritableBuffer, tag: Vlan, tpid: int = 0x8100, start: Start = Start.ETHERNET2) -> None:
-    """Puts a VLAN tag after the header of a link, in place: the frame is the buffer without its first four bytes, and then
-    the whole buffer. The ether type of the tag is ignored: it becomes that of the link, whose own one becomes `tpid`.
+    """Puts a VLAN tag after the link's header, in place. The frame is `memoryview(buffer)[4:]` before the call, and the whole
+    buffer after it. The tag gets the ether type of the link's header, which becomes `tpid`; `tag.ether_type` is ignored.
 
-    Raises `TagError` if it is not put in, and `BufferError` if the buffer can't be written to. A frame check sequence stays as
-    it was, and doesn't fit the new bytes.
+    Raises `TagError` if the tag is not put in, and `BufferError` if the buffer can't be written to. A frame check sequence is
+    unchanged, and doesn't fit the new bytes.
     """
     told = _told(tag)
     with lent(buffer, WRITE) as (at, length):
@@ -270,8 +269,8 @@ def set_vlan_id(frame: WritableBuffer, index: int, vid: int, start: Start = Star
     """Sets the identifier of a VLAN tag, in place. The index counts the VLAN tags and SecTags of the frame, the outermost
     from 0.
 
-    Raises `TagError` if there is none at the index, or the identifier is above 4095, and `BufferError` if the frame can't be
-    written to.
+    Raises `TagError` if there is no VLAN tag at the index, or the identifier is above 4095, and `BufferError` if the frame
+    can't be written to.
     """
     if not 0 <= vid < 65536:
         raise TagError(Status.BAD_FIELD)
@@ -282,8 +281,8 @@ def set_vlan_id(frame: WritableBuffer, index: int, vid: int, start: Start = Star
 
 def set_vlan_tag(frame: WritableBuffer, index: int, tag: Vlan, start: Start = Start.ETHERNET2, *,
                  ether_type: Optional[int] = None) -> None:
-    """Sets priority code point, drop eligible indicator and identifier of a VLAN tag, in place, as `set_vlan_id` the last
-    one. The ether type after the tag stays."""
+    """Sets the priority code point, the drop eligible indicator and the identifier of a VLAN tag, in place. Otherwise as
+    `set_vlan_id`. The ether type after the tag is unchanged."""
     told, words = _told(tag), begun(start, ether_type)
     with lent(frame, WRITE) as (at, length):
         _changed(lib.etherpeel_set_vlan_tag(*words, at, length, number("index", index, 64), C.byref(told)))
@@ -291,8 +290,8 @@ def set_vlan_tag(frame: WritableBuffer, index: int, tag: Vlan, start: Start = St
 
 def set_tpid(frame: WritableBuffer, index: int, tpid: int, start: Start = Start.ETHERNET2, *,
              ether_type: Optional[int] = None) -> None:
-    """Sets the ether type that announces a VLAN tag to 0x8100, 0x88A8 or 0x9100, in place: that of the header before the
-    tag at the index. Raises as `set_vlan_id`, and also if the frame begins with the tag."""
+    """Sets the ether type that announces a VLAN tag, in place, to 0x8100, 0x88A8 or 0x9100. It is in the header before the
+    tag. Raises `TagError` also for any other ether type, and if the frame begins with the tag; otherwise as `set_vlan_id`."""
     words = begun(start, ether_type)
     with lent(frame, WRITE) as (at, length):
         _changed(lib.etherpeel_set_tpid(*words, at, length, number("index", index, 64), number("tpid", tpid, 16)))

@@ -15,7 +15,7 @@ from ._types import Buffer, Field, FieldName, FilterError, FilterErrorKind, Linu
 
 
 def start_of_link_type(link_type: int) -> Optional[Start]:
-    """What packets of a link type of libpcap begin with, None if the walk does not begin with that."""
+    """How the walk of packets of a link type of libpcap starts; None if no walk starts with such packets."""
     start = lib.etherpeel_start_of_link_type(number("link_type", link_type, 32))
     return Start(start) if start else None
 
@@ -24,20 +24,20 @@ class Captured(NamedTuple):
     """A packet of a capture file. It is pickled with a copy of its bytes."""
 
     packet: memoryview
-    """The bytes that were captured, where they are in the file."""
+    """The captured bytes, where they are in the file."""
     time_ns: Optional[int]
     """The time of the capture in nanoseconds since 1970, UTC, if it has one."""
     link_type: int
     original_len: int
-    """How many bytes the packet had before it was cut."""
+    """The length of the packet in bytes before it was cut."""
     fcs_len: Optional[int]
-    """The length in bytes of the frame check sequence, of the packet before it was cut, if the file says it."""
+    """The length in bytes of the frame check sequence, before the packet was cut, if the file gives it."""
 
     @property
     def start(self) -> Optional[Start]:
-        """What the packet begins with, None if the walk does not begin with that, as with a header of Linux cooked capture v2:
-        `captured_frame` knows this one too. An Ethernet frame that was not cut has a frame check sequence if the file gives it
-        4 bytes."""
+        """How the walk of the packet starts; None if no walk starts with such a packet, as for Linux cooked capture v2, whose
+        payload `captured_frame` returns. An Ethernet frame that was not cut has a frame check sequence if the file gives it 4
+        bytes."""
         start = start_of_link_type(self.link_type)
         if start == Start.ETHERNET2 and self.fcs_len == 4 and len(self.packet) == self.original_len:
             return Start.ETHERNET2_FCS
@@ -51,7 +51,7 @@ class Captured(NamedTuple):
 
 
 def _unpickled(kind, content, *others):
-    """A tuple that begins with a view, which has been pickled as bytes."""
+    """A tuple that begins with a view, from a pickle that has the bytes of the view."""
     return kind(memoryview(content), *others)
 
 
@@ -61,9 +61,9 @@ class CaptureError(Error):
     def __init__(self, text: str, offset: int, needed: int):
         super().__init__(text)
         self.offset = offset
-        """Where the header, record or block starts that can't be read."""
+        """The offset of the header, record or block that can't be read."""
         self.needed = needed
-        """How many bytes it needs at least, if the file ends within it; else 0."""
+        """The minimum number of bytes that it needs, if the file ends within it; else 0."""
 
 
 class Readable(Protocol):
@@ -120,8 +120,8 @@ def _content(file):
 
 
 class _Packets:
-    """The packets of a capture, and then the error if they end before the file. Their structs stay as C wrote them, so a filter
-    can be asked of many at once; the view keeps the bytes where they are."""
+    """The packets of a capture, and then the error if they end before the file. Their structs are kept as C wrote them, so one
+    call can apply a filter to many; the view keeps the bytes where they are."""
 
     __slots__ = ("view", "at", "structs", "memory", "end", "next")
 
@@ -143,7 +143,7 @@ class _Packets:
                                original_len, fcs_len if has_fcs_len else None))
 
     def _stop(self):
-        """Ends the packets: with the error, once, if there is one."""
+        """Raises the error, once, if there is one, and then `StopIteration`."""
         end, self.end = self.end, None
         if end:
             with lent(self.view) as (at, length):
@@ -152,7 +152,7 @@ class _Packets:
         raise StopIteration
 
     def selected(self, read):
-        """Those of the packets that are left which a filter selects."""
+        """The remaining packets that a filter selects."""
         while self.next < len(self.structs):
             first = self.next
             count = min(_AT_ONCE, len(self.structs) - first)
@@ -177,16 +177,16 @@ _AT_ONCE = 4096  # packets that a filter is asked of in one call
 
 
 class Frame(NamedTuple):
-    """What is walked of a packet of a capture, as in `walk(frame.bytes, frame.start, ether_type=frame.ether_type)`. It is pickled
-    with a copy of its bytes."""
+    """The part of a captured packet that is walked, as in `walk(frame.bytes, frame.start, ether_type=frame.ether_type)`. It is
+    pickled with a copy of its bytes."""
 
     bytes: memoryview
     """The bytes that are walked, where they are in the packet."""
     offset: int
-    """Where they begin, in bytes from the start of the packet."""
+    """Their offset in bytes from the start of the packet."""
     start: Start
     ether_type: Optional[int]
-    """What announces the frame, of `Start.ETHER_TYPE`, else None."""
+    """The ether type that announces the frame, with `Start.ETHER_TYPE`; else None."""
 
     def __copy__(self) -> Frame:
         return self
@@ -196,12 +196,12 @@ class Frame(NamedTuple):
 
 
 def captured_frame(packet: Captured) -> Optional[Frame]:
-    """What is walked of a packet of a capture, by its link type; None if nothing is.
+    """The part of a captured packet that is walked, by its link type; None if nothing is walked.
 
-    Of Ethernet that is the packet: with its frame check sequence if the file says that it has one of four bytes and it was
-    not cut, else without those bytes. Of Linux cooked capture v1 it is the packet without a frame check sequence; but the
-    payload, after a header of 16 bytes, if the walk would refuse the header only for its hardware type, as 772 of the loopback
-    device. Of v2 it is the payload, after a header of 20 bytes, if the header can be read and an ether type announces it.
+    For Ethernet it is the packet, without its frame check sequence; that remains only if the file gives it four bytes and the
+    packet was not cut. For Linux cooked capture v1 it is the packet without a frame check sequence; but it is the payload, after
+    a header of 16 bytes, if the walk would refuse the header only for its hardware type, such as 772 of the loopback device. For
+    v2 it is the payload, after a header of 20 bytes, if the header can be read and an ether type announces the payload.
     """
     frame = _library.Frame()
     with lent(packet.packet) as (at, length):
@@ -213,7 +213,7 @@ def captured_frame(packet: Captured) -> Optional[Frame]:
 
 
 def _told(packet, at, length):
-    """A packet of a capture as a struct of C, without its time. Its bytes are lent."""
+    """A captured packet as a struct of C, without its time. Its bytes are lent."""
     return _library.Captured(at, length, original_len=number("original_len", packet.original_len, 32),
                              link_type=number("link_type", packet.link_type, 16), has_fcs_len=packet.fcs_len is not None,
                              fcs_len=number("fcs_len", packet.fcs_len or 0, 8))
@@ -242,9 +242,10 @@ def select(expression: str, packets: Iterable[Captured]) -> Iterator[Captured]:
         cut                     fewer bytes were captured than were on the wire
         less N, greater N       at most, or at least, N bytes were on the wire
 
-    It is asked of what `captured_frame` gives. A packet for which that is None is never selected, not even by `not`.
+    The expression is about the frame that `captured_frame` returns. A packet for which that is None is never selected, not even
+    by `not`.
 
-    Raises `FilterError`, at once, if the text is no expression.
+    Raises `FilterError`, before any packet is read, if the text is not an expression.
     """
     read = _read(expression)
     if isinstance(packets, _Packets):
@@ -264,7 +265,7 @@ def _read(expression):
 
 
 def _selected(read, packets):
-    """The packets that a filter selects, of any. One struct, whose bytes are written at once, and one loan serve for all."""
+    """The packets of any iterable that a filter selects. All share one struct, whose bytes are written at once, and one loan."""
     told, loan, matches = _library.Captured(), _library.Lent(), lib.etherpeel_filter_matches
     target, read, passed, lends = memoryview(told).cast("B"), C.byref(read), C.byref(told), C.byref(loan)
     for packet in packets:
@@ -289,10 +290,10 @@ _pack = PackingStruct("=QQ12xIH1xBB").pack_into  # a packet without its time
 
 
 def linux_sll2(packet: Buffer) -> LinuxSll2:
-    """The header of a packet of Linux cooked capture v2 (LINKTYPE_LINUX_SLL2). What an ether type announces after it is walked
-    as any frame: `walk(packet[20:], header.start, ether_type=header.ether_type)`.
+    """The header of a packet of Linux cooked capture v2 (LINKTYPE_LINUX_SLL2). If its payload has an ether type, it is walked like
+    any frame: `walk(packet[20:], header.start, ether_type=header.ether_type)`.
 
-    The payload has an ether type but on a link whose protocol numbers are others (netlink, GRE) or have no meaning (IEEE 802.11
+    The payload has an ether type unless the protocol numbers of the link are others (netlink, GRE) or have no meaning (IEEE 802.11
     with radiotap, frame relay). Raises `LinuxSll2Error` if there are fewer than 20 bytes, or the packet type is above 7.
     """
     header = _library.LinuxSll2Header()
@@ -316,5 +317,5 @@ def linux_sll2_fields(packet: Buffer) -> List[Field]:
 
 
 def field(it):
-    """A field of C."""
+    """The field in a struct of C."""
     return Field(FieldName(it.name), it.unit, it.bit_offset, it.bit_len, it.value if it.bit_len <= 64 else None)

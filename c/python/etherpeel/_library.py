@@ -108,7 +108,7 @@ def declare(lib, name, words, result=u32):
 
 
 def load(path):
-    """The library at a path, with the types of its calls. An `ImportError` if it is not of this version."""
+    """The library at a path, with the types of its calls. Raises an `ImportError` if it is not of this version."""
     lib = C.CDLL(path)
     declare(lib, "version", [])
     declare(lib, "sizeof", [u32], size)
@@ -157,7 +157,7 @@ CALLS = calls(lib)
 
 
 def number(name, value, bits):
-    """A number that is passed, if it has no more bits."""
+    """The value, if it fits in this number of bits; else raises a `ValueError`."""
     if not 0 <= value < 2**bits:
         raise ValueError(f"{name} is 0 to {2**bits - 1}, not {value}")
     return value
@@ -169,14 +169,14 @@ def required(status):
 
 
 def text(call, *words):
-    """The text that a call writes after these words."""
+    """The text that a call with these words writes."""
     target, count = C.create_string_buffer(512), C.c_size_t()
     required(call(*words, target, len(target), C.byref(count)))
     return target.raw[:count.value].decode("ascii")
 
 
 def filled(kind, room, call, *words):
-    """The structs that a call writes after these words. It is called again if they are more than there is room for."""
+    """The structs that a call with these words writes. It is called again if there is not enough room."""
     while True:
         structs, count = (kind * room)(), C.c_size_t()
         required(call(*words, structs, room, C.byref(count)))
@@ -189,8 +189,8 @@ CODES = {u8: "B", u16: "H", u32: "I", u64: "Q", size: "Q", C.c_void_p: "Q", u8 *
 
 
 def reader(kind, names=None):
-    """What reads these fields of a struct, or all, from a place of the memory on. `struct` reads all of them faster than `ctypes`
-    reads one."""
+    """A function that reads these fields of a struct, or all, from an offset in memory on. `struct` reads all of them faster than
+    `ctypes` reads one."""
     codes, end = "=", 0
     for name, what in kind._fields_:
         if names is None or name in names:
@@ -212,7 +212,7 @@ READ, WRITE = 0, 1  # PyBUF_SIMPLE, PyBUF_WRITABLE
 
 class lent:
     """The address and the length of an object's memory, while a call has it: no copy is made, and meanwhile the object
-    can't be resized. What is to be written must be writable: Python raises a `BufferError` if it is not."""
+    can't be resized. For `WRITE` the memory must be writable: Python raises a `BufferError` if it is not."""
 
     __slots__ = ("memory", "thing", "flags")
 

@@ -14,8 +14,8 @@ KINDS = {Ethernet2: (1, "ethernet2"), LinuxSll: (2, "linux_sll"), Vlan: (3, "vla
 
 
 def passed(header: Header):
-    """A unit of C with a header, and the bytes in which the addresses of an ARP packet are. A `ValueError` if a value does
-    not fit its field."""
+    """A header as a unit of C, and the bytes that have the addresses of an ARP packet. Raises a `ValueError` if a value does not
+    fit its field."""
     values, addresses = header._asdict(), b""
     if isinstance(header, Macsec):
         values.update(sci=header.sci or 0, sci_present=header.sci is not None, ether_type=header.ether_type or 0)
@@ -31,7 +31,7 @@ def passed(header: Header):
 
 
 def _places(packet):
-    """The sizes of the addresses of an ARP packet, and where each begins."""
+    """The sizes of the addresses of an ARP packet, and the offset of each."""
     hardware, protocol = len(packet.sender_hardware), len(packet.sender_protocol)
     if len(packet.target_hardware) != hardware or len(packet.target_protocol) != protocol:
         raise ValueError("the addresses of sender and target differ in length")
@@ -40,7 +40,7 @@ def _places(packet):
 
 
 def _fitting(name, kind, value):
-    """A value of a field."""
+    """A value in the type of its field."""
     if issubclass(kind, C.Array):
         if len(value) != C.sizeof(kind):
             raise ValueError(f"{name} has {C.sizeof(kind)} bytes, not {len(value)}")
@@ -56,11 +56,11 @@ def _replaced(status, error):
 
 
 def replace_link(frame: WritableBuffer, header: Union[Ethernet2, LinuxSll], start: Start = Start.ETHERNET2) -> None:
-    """Replaces the header of a link that a frame begins with, in place. The new one must be of the same kind, and have the same
+    """Replaces the link's header at the front of a frame, in place. The new header must be of the same kind, and have the same
     ether type, or the same hardware type and protocol number.
 
     Raises `ReplaceError` if it is not replaced, and `BufferError` if the frame can't be written to. No other byte of the frame
-    changes: a frame check sequence stays as it was, and doesn't fit the new bytes.
+    changes: a frame check sequence is unchanged, and doesn't fit the new bytes.
     """
     (unit, _), error = passed(header), _library.ReplaceError()
     with lent(frame, WRITE) as (at, length):
@@ -69,9 +69,9 @@ def replace_link(frame: WritableBuffer, header: Union[Ethernet2, LinuxSll], star
 
 def replace_link_ext(frame: WritableBuffer, index: int, header: Union[Vlan, Macsec], start: Start = Start.ETHERNET2, *,
                      ether_type: Optional[int] = None) -> None:
-    """Replaces a VLAN tag or SecTag, in place. The index counts all of them, the outermost from 0. The new VLAN tag must
-    have the same ether type; the new SecTag must be encrypted and changed as the old one, have an SCI if that has one, and
-    the same short length and ether type.
+    """Replaces a VLAN tag or SecTag, in place. The index counts VLAN tags and SecTags, the outermost from 0. A new VLAN tag must
+    have the ether type of the old one. A new SecTag must be encrypted or changed as the old one is, have an SCI exactly if that
+    has one, and have its short length and ether type.
 
     Raises as `replace_link`.
     """
@@ -82,7 +82,7 @@ def replace_link_ext(frame: WritableBuffer, index: int, header: Union[Vlan, Macs
 
 
 def replace_arp(frame: WritableBuffer, packet: Arp, start: Start = Start.ETHERNET2, *, ether_type: Optional[int] = None) -> None:
-    """Replaces the ARP packet of a frame, after no more than three VLAN tags and SecTags, in place. The addresses of the new one
+    """Replaces the ARP packet of a frame, after at most three VLAN tags and SecTags, in place. The addresses of the new packet
     must have the same lengths. Raises as `replace_link`."""
     (unit, addresses), error, words = passed(packet), _library.ReplaceError(), begun(start, ether_type)
     with lent(frame, WRITE) as (at, length):
@@ -96,11 +96,11 @@ def build(headers: Sequence[Header], payload: Buffer = b"", ether_type: Optional
         etherpeel.build([etherpeel.Ethernet2(destination, source), etherpeel.Vlan(291)], payload, 0x0800)
 
     The first header is of Ethernet II, or of cooked capture with the hardware type 1. Up to eight VLAN tags and SecTags follow,
-    the outermost first, and maybe an ARP packet, which takes the place of the payload. Only the last tag, before a payload, may
-    be a SecTag whose payload is encrypted or changed. The ether type of each header is set by what follows it. Before a VLAN tag,
-    an ether type that announces one stays: 0x8100, 0x88A8 or 0x9100. Any other becomes 0x88A8 if another VLAN tag follows that
-    tag, else 0x8100. The short length of each SecTag is set to the number of bytes after it with its ether type, or 0 if that is
-    above 63. There is no frame check sequence.
+    outermost first, and then an ARP packet in place of the payload if there is one. Only the last tag, before a payload, may be a
+    SecTag whose payload is encrypted or changed. The ether type of each header is set by what follows it. Before a VLAN tag, an
+    ether type that announces one is kept: 0x8100, 0x88A8 or 0x9100. Any other becomes 0x88A8 if another VLAN tag directly follows
+    that tag, else 0x8100. The short length of each SecTag is set to the number of bytes after it, with the two of its ether type
+    if it has one, and to 0 if there are more than 63. There is no frame check sequence.
 
     Raises `BuildError` if there is no such packet.
     """

@@ -39,7 +39,7 @@ class RestKind(IntEnum):
     IGNORED = 4
     """A link whose protocol numbers have no meaning."""
     SEALED = 5
-    """A payload that MACsec has encrypted or changed."""
+    """A payload that MACsec has encrypted or changed, so its protocol is unknown."""
     AFTER_ARP = 6
     """What follows an ARP packet: the padding of a short frame."""
 
@@ -52,11 +52,11 @@ class FaultKind(IntEnum):
     PACKET_TYPE = 2
     """The packet type of a cooked capture is above 7."""
     HARDWARE_TYPE = 3
-    """The meaning of protocol numbers is not known for the hardware type of a cooked capture."""
+    """It is not known how to read protocol numbers for the hardware type of a cooked capture."""
     MACSEC_VERSION = 4
     """The version bit of a SecTag is 1."""
     MACSEC_SHORT_LEN = 5
-    """The short length of a SecTag with an unmodified payload is 1, which has no room for the ether type."""
+    """The short length of a SecTag with an unmodified payload is 1, too small to include the ether type."""
 
 
 class Layer(IntEnum):
@@ -79,11 +79,11 @@ class LenSource(IntEnum):
 
 
 class Difference(IntEnum):
-    """What a header says otherwise than the one that it is to replace: if there are several differences, the first in this
-    order."""
+    """How a header differs, in what it says about what follows it, from the one that it is to replace. Of several differences it
+    is the first in this order."""
 
     KIND = 1
-    """One is a VLAN tag and the other a SecTag, or one is an Ethernet II header and the other one of cooked capture."""
+    """One header is a VLAN tag and the other a SecTag, or one is of Ethernet II and the other of cooked capture."""
     ETHER_TYPE = 2
     """The ether type of an Ethernet II header or VLAN tag."""
     HARDWARE_TYPE = 3
@@ -103,7 +103,7 @@ class Difference(IntEnum):
 
 
 class FilterErrorKind(IntEnum):
-    """Why a text is no expression of a filter: mostly by what is expected in place of a word."""
+    """Why a text is not a filter's expression: mostly by what is expected in place of a word."""
 
     OPERAND = 1
     """A primitive, `not` or `(` is expected."""
@@ -116,17 +116,17 @@ class FilterErrorKind(IntEnum):
     ADDRESS = 5
     """An address is expected, in the form `xx:xx:xx:xx:xx:xx` or `xxxxxxxxxxxx`."""
     NUMBER = 6
-    """A number that is not greater than `greatest` is expected."""
+    """A number up to `greatest` is expected."""
     MIXED = 7
     """`and` and `or` are mixed without parentheses."""
     UNOPENED = 8
-    """There is no `(` for a `)`."""
+    """A `)` has no `(`."""
     UNCLOSED = 9
-    """The text ends before the `)` of a `(`."""
+    """The text ends before a `(` is closed."""
     TOO_LONG = 10
     """There are more than 192 words."""
     VLAN_ID_OR_OPERATOR = 11
-    """After `vlan`: a number that is not greater than `greatest`, `and`, `or`, `)` or the end of the text is expected."""
+    """After `vlan`: a number up to `greatest`, `and`, `or`, `)` or the end of the text is expected."""
 
 
 class FieldName(IntEnum):
@@ -179,10 +179,10 @@ class FieldName(IntEnum):
 
 
 class Fault(NamedTuple):
-    """A unit that is refused. Fields that do not belong to its kind are None, or 0 if they are lengths."""
+    """A refused unit. Fields that do not belong to its kind are None, or 0 if they are lengths."""
 
     offset: int
-    """Where the unit starts."""
+    """The offset of the unit."""
     kind: FaultKind
     closed: bool
     """Whether bytes appended to the frame would lie outside the unit."""
@@ -191,7 +191,7 @@ class Fault(NamedTuple):
     len: int
     """The length that is available to it."""
     missing: int
-    """The fewest further bytes that it needs, 0 if none would help."""
+    """The minimum number of further bytes that it needs, 0 if more bytes would not help."""
     layer: Optional[Layer]
     len_source: Optional[LenSource]
     packet_type: Optional[int]
@@ -204,25 +204,25 @@ class Summary(NamedTuple):
     units: int
     """The number of units."""
     rest_start: int
-    """Where the bytes that are left start, or the unit that is refused."""
+    """Where the remaining bytes start, or those of the refused unit."""
     rest_end: int
-    """Where they end, or the bytes that this unit has."""
+    """Where they end."""
     rest_kind: RestKind
     rest_protocol: int
     """The ether type or protocol number, 0 if there is none."""
     fault: Optional[Fault]
-    """The unit that is refused, if one is."""
+    """The refused unit, if there is one."""
 
 
 class Fed(NamedTuple):
     """The result of feeding a walk."""
 
     refusals: int
-    """How often the walk asked for more bytes and was given them."""
+    """How often the walk asked for bytes and was given them."""
     taken: int
-    """How many bytes it was given in all."""
+    """The number of bytes that it was given in all."""
     fault: Optional[Fault]
-    """The fault of the walk of these bytes, if it has one."""
+    """The fault of the walk of these bytes, if there is one."""
 
 
 class Ethernet2(NamedTuple):
@@ -296,13 +296,13 @@ H = TypeVar("H", Ethernet2, LinuxSll, Vlan, Macsec, Arp)
 
 
 class LinuxSll2(NamedTuple):
-    """A header of Linux cooked capture v2, and what the walk of its payload starts with."""
+    """A header of Linux cooked capture v2, and how the walk of its payload starts."""
 
     payload_start: int
     """Where the payload starts: 20."""
     protocol: int
     interface_index: int
-    """Of the interface that the packet was seen on."""
+    """Of the interface on which the packet was seen."""
     hardware_type: int
     """The ARPHRD_ number of the interface."""
     packet_type: int
@@ -324,20 +324,20 @@ class Field(NamedTuple):
     unit: int
     """The index of its unit."""
     bit_offset: int
-    """Where it begins, in bits from the start of the frame."""
+    """Its offset in bits from the start of the frame."""
     bit_len: int
-    """How many bits it has; 0 of an ARP address that has length 0."""
+    """The number of its bits; 0 for an ARP address of length 0."""
     value: Optional[int]
-    """The number that they are, None if there are more than 64."""
+    """The number in them, None if there are more than 64."""
 
 
 class Unit(NamedTuple):
-    """A header, and where its payload is."""
+    """A header, and the place of its payload."""
 
     offset: int
-    """Where the header starts."""
+    """The offset of the header."""
     header_len: int
-    """Its length; of an ARP packet, that of the whole packet."""
+    """Its length; for an ARP packet, that of the whole packet."""
     payload_start: int
     payload_end: int
     """Before a frame check sequence, or where a SecTag says."""
@@ -347,24 +347,24 @@ class Unit(NamedTuple):
 
 
 class Packet(NamedTuple):
-    """All headers of a frame with no more than three VLAN tags and SecTags, and what is asked of them."""
+    """All headers of a frame with at most three VLAN tags and SecTags, its VLAN identifiers and its least snap length."""
 
     units: List[Unit]
-    """The headers, the outermost first, up to the fault if there is one."""
+    """The headers, outermost first, up to the fault if there is one."""
     summary: Summary
-    """What is left after them, and the fault if one is refused."""
+    """What is left after them, and the fault if a header is refused."""
     vlan_ids: Tuple[int, ...]
-    """The identifiers of the VLAN tags, the outermost first."""
+    """The identifiers of the VLAN tags, outermost first."""
     min_snap_len: int
-    """The least length to which the frame can be cut so that all headers stay, as a frame without a check sequence."""
+    """The least length to which the frame can be cut without losing a header; it is then read without a check sequence."""
 
     def first(self, kind: Type[H]) -> Optional[H]:
-        """The first header of a kind, as `packet.first(Arp)`; None if there is none."""
+        """The first header of a type, as in `packet.first(Arp)`; None if there is none."""
         return next((unit.header for unit in self.units if isinstance(unit.header, kind)), None)
 
 
 class TagError(Error):
-    """A VLAN tag is not taken off, put in or changed. The frame is then as it was."""
+    """A VLAN tag is not taken off, put in or changed. The frame is then unchanged."""
 
     def __init__(self, status: Status):
         super().__init__(_TAG_ERRORS[status])
@@ -386,7 +386,7 @@ _TAG_ERRORS = {
 
 
 class ReplaceError(Error):
-    """A header is not replaced: the text says why. The frame is then as it was."""
+    """A header is not replaced: the text says why. The frame is then unchanged."""
 
     def __init__(self, status: Status, tags: Optional[int] = None, difference: Optional[Difference] = None):
         told = difference and difference.name.replace("_", " ").lower()
@@ -394,9 +394,9 @@ class ReplaceError(Error):
         self.status = status
         """The number of the reason."""
         self.tags = tags
-        """How many VLAN tags and SecTags the frame has, of `Status.NO_TAG`."""
+        """The number of VLAN tags and SecTags in the frame, with `Status.NO_TAG`; else None."""
         self.difference = difference
-        """What the header says otherwise, of `Status.DIFFERS`."""
+        """How the header differs, with `Status.DIFFERS`; else None."""
 
 
 _REPLACE_ERRORS = {
@@ -417,7 +417,7 @@ class BuildError(Error):
         self.status = status
         """The number of the reason."""
         self.index = index
-        """The index of the header that is the reason; None of `Status.OTHER_LINK`."""
+        """The index of the header that is the reason; None with `Status.OTHER_LINK`."""
 
 
 _BUILD_ERRORS = {
@@ -441,15 +441,15 @@ class Refused(Error):
 
 
 class FilterError(Error):
-    """A text is no expression of a filter: the text says why."""
+    """A text is not a filter's expression: the error's text says why."""
 
     def __init__(self, text: str, offset: int, kind: FilterErrorKind, greatest: Optional[int]):
         super().__init__(text)
         self.offset = offset
-        """Where the first word that fits nothing begins, or the length of the text, in bytes."""
+        """The offset in bytes of the first word that does not fit, or the length of the text if words are missing at its end."""
         self.kind = kind
         self.greatest = greatest
-        """The greatest number that fits, of `FilterErrorKind.NUMBER` and `VLAN_ID_OR_OPERATOR`, else None."""
+        """The greatest number that is expected, with `FilterErrorKind.NUMBER` and `VLAN_ID_OR_OPERATOR`; else None."""
 
 
 class LinuxSll2Error(Error):

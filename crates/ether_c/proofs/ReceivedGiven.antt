@@ -3,8 +3,8 @@ use Rattle.std.proofs.Common.{◌≡◌, ◌≤◌, ℕ, Bool, true, false, not,
 use Rattle.std.specs.Prelude.{Ok}
 use Rattle.std.proofs.lemmas.Bool.{le-leb}
 use Rattle.etherparse.specs.Bytes.{bit}
-use Rattle.ether_switch.specs.declared.kind.BridgeKind.{BridgeKind}
-use Rattle.ether_switch.specs.declared.kind.BridgeKind.TheVariants.{Customer, Provider}
+use Rattle.ether_switch.specs.declared.bridge_kind.BridgeKind.{BridgeKind}
+use Rattle.ether_switch.specs.declared.bridge_kind.BridgeKind.TheVariants.{Customer, Provider}
 use Rattle.ether_switch.specs.declared.received.Forwarding.{Forwarding}
 use Rattle.ether_switch.specs.declared.received.Forwarding.TheVariants.{Port, Discard, Flood}
 use Rattle.ether_switch.specs.declared.received.Received.{Received}

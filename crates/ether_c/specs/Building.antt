@@ -22,19 +22,19 @@ use Rattle.ether_c.specs.Passed.{PassesLink, PassesNoLink, PassesExt, PassesNoEx
 abbrev pub too_many_tags : ℕ
 too_many_tags = 19
 
--- each of these units is the tag at the same index
+-- each of these units has the tag at the same index
 abbrev pub AreExts : List EtherUnit → List LinkExtHeader → Type 0
 AreExts [] [] = Unit {0}
 AreExts (u ∷ us) (x ∷ xs) = PassesExt u (ext_header_view x) × AreExts us xs
 AreExts _ _ = ⊥
 
--- the units after the tags are one ARP packet or none
+-- the units after the tags: one ARP packet, or none
 abbrev pub ArePassedArp : List EtherUnit → (bytes : List ℕ) → Option ArpValue → Type 0
 ArePassedArp [] bytes None = Unit {0}
 ArePassedArp (u ∷ []) bytes (Some a) = PassesArp u bytes a
 ArePassedArp _ bytes arp = ⊥
 
--- the link, no more than eight tags, and what follows them
+-- the link's header, at most eight tags, and what follows them
 pub record PassesParts (us : List EtherUnit) (bytes : List ℕ) (link : LinkHeader) (exts : List LinkExtHeader)
     (arp : Option ArpValue) : Type 0 where
   pub first : EtherUnit
@@ -46,7 +46,7 @@ pub record PassesParts (us : List EtherUnit) (bytes : List ℕ) (link : LinkHead
   pub few : length tags ≤ 8
   pub are_arp : ArePassedArp last bytes arp
 
--- an ARP packet if there is one, and else the bytes as a payload
+-- an ARP packet if there is one, else the bytes as a payload
 abbrev pub HasContent : Option ArpValue → (ether_type : ℕ) (bytes : List ℕ) → PacketContent → Type 0
 HasContent None t bytes (contents.Payload ether_type payload) = (ether_type.0 ≡ t) × (payload.now ≡ bytes)
 HasContent (Some a) t bytes (contents.Arp packet) = packet.now ≡ a
@@ -59,13 +59,13 @@ pub record PassesPacket (us : List EtherUnit) (ether_type : ℕ) (bytes : List �
 
 -- ---- units that are none of a packet: what a call returns, and the index of the first that is wrong
 
--- last is the unit at the end, if that is of the kind of an ARP packet
+-- the last unit, if its kind is that of an ARP packet
 abbrev pub AreSplit : (tags last : List EtherUnit) → Type 0
 AreSplit tags [] = (front : List EtherUnit) (u : EtherUnit) → tags ≡ front ++ u ∷ [] → u.kind ≡ 5 → ⊥
 AreSplit tags (u ∷ []) = u.kind ≡ 5
 AreSplit tags _ = ⊥
 
--- the units after the link
+-- the units after the link's header
 pub data RefusesTags (us : List EtherUnit) : (status index : ℕ) → Type 0 where
   bad_tag : (front : List EtherUnit) (exts : List LinkExtHeader) (u : EtherUnit) (later : List EtherUnit) (status : ℕ)
       → us ≡ front ++ u ∷ later → AreExts front exts → length front ≤ 8 → PassesNoExt u status
@@ -93,7 +93,8 @@ build_error_status (errors.HardwareType hardware) = 6
 build_error_status (errors.Sealed i) = 20
 build_error_status (errors.Space e) = no_room
 
--- the length of the packet, or that which the target has to have, or the index of the unit: the link is at 0
+-- the length of the packet, or the length that the target needs, or the index of the unit, where the link's header has
+-- the index 0
 abbrev pub build_error_len : BuildError → ℕ
 build_error_len (errors.HardwareType hardware) = 0
 build_error_len (errors.Sealed i) = i + 1
@@ -107,7 +108,7 @@ abbrev pub built_len : Result ℕ BuildError → ℕ
 built_len (Ok end) = end
 built_len (Err e) = build_error_len e
 
--- a packet is written to the front of the target, or nothing is
+-- a packet is written to the front of the target, or nothing is written
 pub record GivesPacketBuilt (p : PacketBuilder) (old new : List ℕ) (len status : ℕ) : Type 0 where
   pub built : Result ℕ BuildError
   pub ok : IfOk built (λ end. IsWritten p old end new)
@@ -117,7 +118,7 @@ pub record GivesPacketBuilt (p : PacketBuilder) (old new : List ℕ) (len status
   pub len_is : len ≡ built_len built
   pub status_is : status ≡ built_status built
 
--- the units are those of a packet, or nothing is written
+-- the units make a packet, or nothing is written
 pub data GivesBuild (us : List EtherUnit) (ether_type : ℕ) (bytes old new : List ℕ) (len status : ℕ) : Type 0 where
   is_packet : (p : PacketBuilder) → PassesPacket us ether_type bytes p → GivesPacketBuilt p old new len status
       → GivesBuild us ether_type bytes old new len status

@@ -1,5 +1,4 @@
--- What the calls from C do, for the start that their numbers name: each says what the call of
--- ether_peel says.
+-- What the calls from C do, for the start that their numbers name: each does what the call of ether_peel does.
 use Rattle.std.specs.Prelude.{◌≡◌, ℕ, ◌<◌, ◌≤◌, List, [], ◌++◌, length, drop, Option, Some, None, unwrap_or, Result, Ok, Err, IfOk, IfErr, MatchOption, ◌⊎◌}
 use Rattle.arrayvec.specs.ArrayVec.{ArrayVec}
 use Rattle.etherparse.specs.Types.SliceWriteSpaceError.{SliceWriteSpaceError}
@@ -34,12 +33,12 @@ abbrev pub written_status : Result ℕ SliceWriteSpaceError → ℕ
 written_status (Ok end) = done
 written_status (Err error) = no_room
 
--- where the last window ends, which is also the length that a target has to have
+-- the offset at which the last window ends, which is also the length that the target needs
 abbrev pub written_len : Result ℕ SliceWriteSpaceError → ℕ
 written_len (Ok end) = end
 written_len (Err error) = error.required_len
 
--- the target holds what writing back leaves in it, or is too short and stays as it is
+-- the target holds what writing back writes; or it is too short, and unchanged
 pub record GivesWriteBack (start : Expectation) (list old new : List ℕ)
     (status len : ℕ) : Type 0 where
   pub written : Result ℕ SliceWriteSpaceError
@@ -61,14 +60,14 @@ pub record GivesFeed (start : Expectation) (list : List ℕ)
 
 -- ---- missing bytes
 
--- The number of bytes missing from a unit with this fault, 0 if more bytes would not help: a number
--- that is missing is never 0.
+-- The number of bytes missing from a unit with this fault, 0 if more bytes would not help. A missing number is never
+-- 0.
 pub record MissesOf (f : PeelFault) (n : ℕ) : Type 0 where
   pub missing : Option ℕ
   pub misses : MatchOption missing ((m : ℕ) → Misses f m → ⊥) (Misses f)
   pub is : n ≡ unwrap_or missing 0
 
--- at the end of a walk with this fault, or with none
+-- .. at the end of a walk with this fault, or with none
 abbrev pub MissesAtEnd : Option PeelFault → ℕ → Type 0
 MissesAtEnd None n = n ≡ 0
 MissesAtEnd (Some f) n = MissesOf f n
@@ -81,14 +80,14 @@ pub record GivesMissing (start : Expectation) (list : List ℕ) (status missing 
 
 -- ---- bytes
 
--- Bytes are written to the front of a target, or it has no room for them and stays as it is. The
--- length is their number.
+-- Bytes are written to the front of a target; or it has no room for them, and is unchanged. The length is their
+-- number.
 pub record PutsBytes (bytes old new : List ℕ) (status len : ℕ) : Type 0 where
   pub len_is : len ≡ length bytes
   pub put : length bytes ≤ length old → (status ≡ done) × (new ≡ bytes ++ drop (length bytes) old)
   pub kept : length old < length bytes → (status ≡ no_room) × (new ≡ old)
 
--- the bytes of a completion, none if there is none
+-- the bytes of a completion; no bytes if there is none
 abbrev pub fill_bytes : Option (ArrayVec ℕ) → List ℕ
 fill_bytes None = []
 fill_bytes (Some fill) = fill.items
@@ -103,8 +102,8 @@ pub record GivesCompletion (start : Expectation) (list old new : List ℕ)
 
 -- ---- texts
 
--- The text of a fault is written to the target. No contract says that a text can be made, so the
--- call may also give up; then it writes nothing.
+-- The text of a fault is written to the target. Because no contract says that a text can be made, the call may also
+-- give up; then it writes nothing.
 abbrev pub PutsText : PeelFault → (old new : List ℕ) → (status len : ℕ) → Type 0
 PutsText f old new status len =
     PutsBytes (peel_fault_text f) old new status len

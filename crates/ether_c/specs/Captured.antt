@@ -38,8 +38,8 @@ HoldPackets _ _ = ⊥
 
 -- ---- a file
 
--- The packets of a file are counted. The array holds them from its front on, as many as it has room
--- for, and after them what it held before. The fault is why the file can't be read on, and where.
+-- The packets of a file are counted. The array holds them from its front on, as many as it has room for, and then what
+-- it held before. The fault says why and where they end before the file.
 pub record HasCaptured (file : List ℕ) (old new : List EtherCaptured) (count : ℕ)
     (fault : Option CaptureFault) : Type 0 where
   pub packets : List PacketValue
@@ -52,8 +52,8 @@ pub record HasCaptured (file : List ℕ) (old new : List EtherCaptured) (count :
   pub counted : count ≡ length packets
   pub held : new ≡ take (length old) given ++ drop count old
 
--- what the call returns at the end of the file, and if the file can't be read on: it ends within what
--- would come next, or another fault
+-- what the call returns if the packets end before the file: the file ends within the next unit, or there is another
+-- fault
 abbrev pub short : ℕ
 short = 12
 
@@ -64,7 +64,7 @@ abbrev pub capture_status : Option ℕ → ℕ
 capture_status (Some required) = short
 capture_status None = bad_capture
 
--- the end of the file, or the place of what can't be read and how many bytes it needs
+-- the end of the file; or the offset of the unit that can't be read, and the number of bytes that it needs
 abbrev pub HoldsEnd : (file : List ℕ) → Option CaptureFault → EtherCaptureEnd → (status : ℕ) → Type 0
 HoldsEnd file None end status = (end.offset ≡ length file) × (end.needed ≡ 0) × (status ≡ done)
 HoldsEnd file (Some f) end status =
@@ -79,7 +79,7 @@ pub record GivesCapture (file : List ℕ) (old new : List EtherCaptured) (count 
 
 -- ---- texts
 
--- The text of a fault is written to the target, or no text can be made, which no contract rules out.
+-- The text of a fault is written to the target; or no text can be made, which no contract rules out.
 abbrev pub PutsCaptureText : CaptureFault → (old new : List ℕ) → (status len : ℕ) → Type 0
 PutsCaptureText f old new status len =
     PutsBytes (capture_fault_text f) old new status len

@@ -1,4 +1,4 @@
--- What is walked of a captured packet as a struct of C.
+-- The part of a captured packet that is walked, as a struct of C.
 use Rattle.std.specs.Prelude.{◌≡◌, ℕ, List, Some}
 use Rattle.ether_peel.specs.Grammar.Expectation.{Next}
 use Rattle.ether_peel.specs.Walker.Start.{next_of}
@@ -8,19 +8,19 @@ use Rattle.ether_content.specs.Content.{ContentValue, LinuxSll, LinuxSll2, IsWal
 use Rattle.ether_c.specs.declared.ether_frame.EtherFrame.{EtherFrame}
 use Rattle.ether_c.specs.Numbers.{start_numbered, done, unknown_start}
 
--- the ether type that a frame begins with, 0 if it begins with a header of a link
+-- the ether type that announces a frame, 0 if it begins with a link's header
 abbrev pub first_ether_type : Start → ℕ
 first_ether_type (starts.EtherType t) = t.0
 first_ether_type _ = 0
 
--- where a frame begins in its packet: the payload of cooked capture v1 that is no frame after a header of sixteen bytes, and that of v2
--- after one of twenty
+-- The offset of a frame in its packet: in cooked capture v1 that is not read as a frame the payload follows a header
+-- of sixteen bytes, and in v2 one of twenty.
 abbrev pub frame_offset : ContentValue → ℕ
 frame_offset (LinuxSll s payload) = 16
 frame_offset (LinuxSll2 bytes) = 20
 frame_offset _ = 0
 
--- the one frame that is walked, with the numbers of its start
+-- the frame that is walked, with the numbers of its start
 pub record HoldsFrame (content : ContentValue) (f : EtherFrame) : Type 0 where
   pub begins : Start
   pub walked : IsWalked content (next_of begins) f.bytes.now

@@ -1,4 +1,4 @@
--- Packets of Linux cooked capture v2, by calls from C.
+-- Packets of Linux cooked capture v2, for calls from C.
 use Rattle.std.specs.Prelude.{◌≡◌, ℕ, List, map, replicate, Option, Some, None, unwrap_or}
 use Rattle.ether_base.specs.Bytes.{spelled}
 use Rattle.ether_base.specs.Formats.LinuxSllProtocolType.{told_ether_type}
@@ -13,12 +13,12 @@ use Rattle.ether_c.specs.Captured.{short}
 abbrev pub bad_packet_type : ℕ
 bad_packet_type = 15
 
--- what the payload begins with: what its ether type announces, if it has one
+-- the start of the payload's walk: by its ether type, if it has one
 abbrev pub start_number : (ether_type : Option ℕ) → ℕ
 start_number None = 0
 start_number (Some n) = 4
 
--- a header of twenty bytes; the payload begins after them
+-- a header of twenty bytes, after which the payload begins
 abbrev pub c_linux_sll2 : LinuxSll2Value → EtherLinuxSll2
 c_linux_sll2 s = let ether_type = told_ether_type (protocol_on s.hardware_type s.protocol) in record {
   payload_start = 20;
@@ -32,7 +32,7 @@ c_linux_sll2 s = let ether_type = told_ether_type (protocol_on s.hardware_type s
   address = spelled 8 s.address;
 }
 
--- all 0, but for the packet type that is not supported
+-- all 0, except for the unsupported packet type
 abbrev pub no_linux_sll2 : (packet_type : ℕ) → EtherLinuxSll2
 no_linux_sll2 packet_type = record {
   payload_start = 0;
@@ -54,15 +54,15 @@ abbrev pub linux_sll2_status : LinuxSll2Refusal → ℕ
 linux_sll2_status (Short required len) = short
 linux_sll2_status (PacketType n) = bad_packet_type
 
--- the bytes begin with a header, or they are refused
+-- the bytes begin with a header, or the header is refused
 pub data GivesLinuxSll2 (bytes : List ℕ) : (given : EtherLinuxSll2) → (status : ℕ) → Type 0 where
   read : (s : LinuxSll2Value) → AcceptsLinuxSll2 bytes → BeginsLinuxSll2 bytes s
       → GivesLinuxSll2 bytes (c_linux_sll2 s) done
   refused : (r : LinuxSll2Refusal) → RefusesLinuxSll2 bytes r
       → GivesLinuxSll2 bytes (c_linux_sll2_refusal r) (linux_sll2_status r)
 
--- the array holds the fields of the header from its front on, as many as it has room for; nothing is written of a
--- header that is refused
+-- The array holds the fields of the header from its front on, as many as it has room for. For a refused header nothing
+-- is written.
 pub record GivesLinuxSll2Fields (bytes : List ℕ) (old new : List EtherField) (count_old count : ℕ)
     (status : ℕ) : Type 0 where
   pub accepted : AcceptsLinuxSll2 bytes

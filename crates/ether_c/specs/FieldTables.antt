@@ -1,4 +1,4 @@
--- The fields of each header, as the standards draw them.
+-- The fields of each header, as the standards show them.
 use Rattle.std.specs.Prelude.{ℕ, ◌+◌, ◌*◌, ◌/◌, ◌%◌, ◌-◌, ◌^◌, List, [], ◌∷◌, ◌++◌, length, map, Option, Some, None}
 use Rattle.etherparse.specs.Bytes.{number}
 use Rattle.etherparse.specs.Macsec.{PayloadType, Unmodified, sci_present_of}
@@ -9,11 +9,11 @@ use Rattle.ether_c.specs.declared.field_place.FieldPlace.{FieldPlace}
 
 -- ---- one field
 
--- its name as a number (enum etherpeel_field_name), its first bit, and its number of bits
+-- the number of its name (enum etherpeel_field_name), its first bit, and its number of bits
 abbrev pub field : (name first len : ℕ) → FieldPlace
 field name first len = record { name = name; first = first; len = len }
 
--- the number that bits of a list are; the first bit of a byte is its most significant one
+-- the number in these bits of a list; the first bit of a byte is its most significant one
 abbrev pub bits_number : List ℕ → (first len : ℕ) → ℕ
 bits_number list first len = number list / 2 ^ (8 * length list - (first + len)) % 2 ^ len
 
@@ -45,7 +45,7 @@ sec_tag_fields =
     field 13 0 1 ∷ field 14 1 1 ∷ field 15 2 1 ∷ field 16 3 1 ∷ field 17 4 1 ∷ field 18 5 1 ∷ field 19 6 2
     ∷ field 20 8 2 ∷ field 21 10 6 ∷ field 22 16 32 ∷ []
 
--- .. the SCI (9.9), which is there if SC is 1
+-- .. the SCI (9.9), which is present if SC is 1
 abbrev pub sci_fields : (sci : Option ℕ) → List FieldPlace
 sci_fields None = []
 sci_fields (Some sci) = field 23 48 64 ∷ []
@@ -55,8 +55,8 @@ abbrev pub payload_type_fields : PayloadType → (first : ℕ) → List FieldPla
 payload_type_fields (Unmodified ether_type) first = field 24 first 16 ∷ []
 payload_type_fields _ first = []
 
--- an ARP packet (RFC 826, "Packet format"): ar$hrd, ar$pro, ar$hln, ar$pln, ar$op, ar$sha, ar$spa, ar$tha, ar$tpa,
--- with the bits of an address of each kind
+-- an ARP packet (RFC 826, "Packet format"): ar$hrd, ar$pro, ar$hln, ar$pln, ar$op, ar$sha, ar$spa, ar$tha, ar$tpa, for
+-- these numbers of bits in a hardware address and a protocol address
 abbrev pub arp_fields : (hardware protocol : ℕ) → List FieldPlace
 arp_fields hardware protocol =
     field 25 0 16 ∷ field 26 16 16 ∷ field 27 32 8 ∷ field 28 40 8 ∷ field 29 48 16
@@ -79,14 +79,14 @@ trailer_fields _ = []
 
 -- ---- the fields of a frame
 
--- a field of what begins at a byte
+-- a field of something that starts at this byte
 abbrev pub moved : (start : ℕ) → FieldPlace → FieldPlace
 moved start f = field f.name (8 * start + f.first) f.len
 
--- of a header that begins at a byte, and of what comes after its payload, which ends at a byte
+-- the fields of a header that starts at one byte, and of what follows its payload, which ends at another
 abbrev pub placed_fields : (start finish : ℕ) → Header → List FieldPlace
 placed_fields start finish h = map (moved start) (header_fields h) ++ map (moved finish) (trailer_fields h)
 
--- of the header at the start of a window
+-- the fields of the header at the start of a window
 abbrev pub unit_fields : Window → Header → List FieldPlace
 unit_fields w h = placed_fields w.start (payload w h).finish h

@@ -9,12 +9,12 @@ use Rattle.ether_c.specs.declared.field_place.FieldPlace.{FieldPlace}
 use Rattle.ether_c.specs.FieldTables.{bits_number, unit_fields}
 use Rattle.ether_c.specs.Numbers.{done}
 
--- the number that up to 64 bits are; 0 for more of them
+-- the number in up to 64 bits; 0 for more bits
 abbrev pub field_value : List ℕ → (first len : ℕ) → ℕ
 field_value list first len = if nat_lt 64 len then 0 else bits_number list first len
 
--- A field of a list, of the unit with an index. Places and indexes that their numbers have no room for wrap around: a
--- list that long has 2 ^ 61 bytes, or 2 ^ 32 units.
+-- A field of a list, in the unit with this index. Offsets and indexes that do not fit their fields wrap around: such a
+-- list has 2 ^ 61 bytes, or 2 ^ 32 units.
 abbrev pub c_field : List ℕ → (unit : ℕ) → FieldPlace → EtherField
 c_field list unit f = record {
   bit_offset = f.first % 2 ^ 64;
@@ -24,18 +24,19 @@ c_field list unit f = record {
   name = f.name;
 }
 
--- those of the headers of a stack, each in the payload of the one before it; the first is the unit with this index
+-- the fields of the headers of a stack, each in the payload of the header before it; the first header is the unit with
+-- this index
 abbrev pub c_fields : List ℕ → (unit : ℕ) → Window → List Header → List EtherField
 c_fields list unit w [] = []
 c_fields list unit w (h ∷ hs) = map (c_field list unit) (unit_fields w h)
     ++ c_fields list (unit + 1) (payload w h) hs
 
--- these are the first elements of an array, as far as it has room for them, and after so many what it held before
+-- as many of these elements as there is room for are at the front of the array, and then what it held before
 abbrev pub Fronts : (given old new : List EtherField) → (count : ℕ) → Type 0
 Fronts given old new count = (new ≡ take (length old) given ++ drop count old) × (count ≡ length given)
 
--- The list has a walk and no second one, whose fields are counted. The array holds them from its front on, as many as
--- it has room for.
+-- The list has exactly one walk, whose fields are counted. The array holds them from its front on, as many as it has
+-- room for.
 pub record HasFields (start : Expectation) (list : List ℕ) (old new : List EtherField) (count : ℕ) : Type 0 where
   pub headers : List Header
   pub ending : Ending

@@ -1,7 +1,7 @@
--- What the calls do that read the text of a filter.
+-- What the calls about filters do.
 use Rattle.std.specs.Prelude.{◌≡◌, ◌⊎◌, ℕ, ◌<◌, ◌≤◌, List, ◌++◌, length, take, drop, Result, IfOk, IfErr}
 use Rattle.ether_filter.specs.Expressions.{Expression}
-use Rattle.ether_filter.specs.Programs.{IsProgramOf}
+use Rattle.ether_filter.specs.FilterProgram.{IsProgramOf}
 use Rattle.ether_filter.specs.Texts.{IsExpressionOf}
 use Rattle.ether_filter.specs.Refusals.{RefusesText}
 use Rattle.ether_filter.specs.ErrorTexts.{filter_error_text}
@@ -34,7 +34,7 @@ filter_error_number kinds.Unclosed = 9
 filter_error_number kinds.TooLong = 10
 filter_error_number kinds.ExpectedVlanIdOrOperator = 11
 
--- the greatest number that is expected, 0 if none is
+-- the greatest number that is expected, 0 if no number is
 abbrev pub greatest_expected : FilterErrorKind → ℕ
 greatest_expected (kinds.ExpectedNumber most) = most
 greatest_expected kinds.ExpectedVlanIdOrOperator = 4095
@@ -49,14 +49,14 @@ c_filter_error e = record {
 
 -- ---- selection
 
--- The array has a mark for each packet, from its front on, and after them what it held before; or it is too short and
--- stays as it is.
+-- The array has a mark for each packet, from its front on, and then what it held before; or it is too short, and
+-- unchanged.
 pub record PutsMarks (x : Expression) (packets : List EtherCaptured) (old new : List ℕ) (status : ℕ) : Type 0 where
   pub put : length packets ≤ length old
       → (marks : List ℕ) × AreMarks x packets marks × (new ≡ marks ++ drop (length packets) old) × (status ≡ done)
   pub kept : length old < length packets → (new ≡ old) × (status ≡ no_room)
 
--- the text means an expression, which selects packets; or it means none, and no mark is written
+-- the text means an expression, which selects packets; or it does not, and no mark is written
 pub record GivesSelection (text : List ℕ) (packets : List EtherCaptured) (old new : List ℕ)
     (error_old error_new : EtherFilterError) (status : ℕ) : Type 0 where
   pub parsed : Result Expression FilterError
@@ -66,11 +66,11 @@ pub record GivesSelection (text : List ℕ) (packets : List EtherCaptured) (old 
 
 -- ---- filters in memory of the caller
 
--- the instructions that there are are those of an expression
+-- the instructions of the filter are those of an expression
 abbrev pub IsFilterOf : EtherFilter → Expression → Type 0
 IsFilterOf filter x = IsProgramOf (take filter.len filter.instructions) x
 
--- the text means an expression, and the filter becomes one of it; or it means none, and the filter stays
+-- the text means an expression, and the filter becomes that of it; or it does not, and the filter is unchanged
 pub record GivesFilter (text : List ℕ) (old new : EtherFilter) (error_old error_new : EtherFilterError)
     (status : ℕ) : Type 0 where
   pub parsed : Result Expression FilterError
@@ -80,13 +80,13 @@ pub record GivesFilter (text : List ℕ) (old new : EtherFilter) (error_old erro
 
 -- ---- texts
 
--- The text of a refusal is written to the target, or no text can be made, which no contract rules out.
+-- The text of an error is written to the target; or no text can be made, which no contract rules out.
 abbrev pub PutsFilterText : FilterError → (old new : List ℕ) → (status len : ℕ) → Type 0
 PutsFilterText e old new status len =
     PutsBytes (filter_error_text e) old new status len
     ⊎ ((status ≡ no_text) × (len ≡ 0) × (new ≡ old))
 
--- no text if the filter's means an expression
+-- no text if the filter's text means an expression
 pub record GivesFilterText (text old new : List ℕ) (status len : ℕ) : Type 0 where
   pub parsed : Result Expression FilterError
   pub ok : IfOk parsed (λ x. IsExpressionOf text x × (status ≡ done) × (len ≡ 0) × (new ≡ old))

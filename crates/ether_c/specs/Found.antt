@@ -29,7 +29,7 @@ no_fault = record {
   closed = 0;
 }
 
--- A length that is required: in an open window with the number of bytes that are missing.
+-- A length fault. In an open window it has the number of missing bytes.
 abbrev pub c_length : (offset : ℕ) → (closed : Bool) → LenError → EtherFault
 c_length offset closed e = record {
   offset = offset;
@@ -44,8 +44,8 @@ c_length offset closed e = record {
   closed = bit closed;
 }
 
--- By its error: a length; a packet type or a hardware type of a cooked capture that is not
--- supported; the version of a SecTag; its short length. What belongs to another error is 0.
+-- By its error: a length; an unsupported packet type or hardware type of a cooked capture; the version of a SecTag;
+-- its short length. The fields of other errors are 0.
 abbrev pub c_error : (offset : ℕ) → (closed : Bool) → PeelError → EtherFault
 c_error offset closed (errors.Len e) = c_length offset closed e
 c_error offset closed (errors.LinuxSll (linux_sll.UnsupportedPacketTypeField n)) =

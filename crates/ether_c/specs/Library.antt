@@ -1,11 +1,11 @@
 -- What a program asks of the library: its version, the sizes of its structs, starts for link types.
 use Rattle.std.specs.Prelude.{ℕ, ◌+◌, ◌*◌, nat_eq, if◌then◌else◌}
 
--- the number of a version by its three numbers
+-- a version as one number, by its three numbers
 abbrev pub version_number : (major minor patch : ℕ) → ℕ
 version_number major minor patch = major * 65536 + minor * 256 + patch
 
--- the sizes of the structs of c/etherpeel.h, in the order of enum etherpeel_struct; 0 is none of them
+-- the sizes of the structs of c/etherpeel.h, in the order of enum etherpeel_struct; 0 if no struct has the number
 abbrev pub struct_size : ℕ → ℕ
 struct_size number =
     if nat_eq number 1 then 56
@@ -32,6 +32,6 @@ struct_size number =
     else (if nat_eq number 22 then 96 else 0)))))))))))))))))))))
 
 -- The starts for the link types LINKTYPE_ETHERNET and LINKTYPE_LINUX_SLL (www.tcpdump.org/linktypes.html), by their
--- numbers; 0 is none. libpcap has the same numbers for its DLT_EN10MB and DLT_LINUX_SLL.
+-- numbers; 0 for any other. libpcap's DLT_EN10MB and DLT_LINUX_SLL have the same numbers.
 abbrev pub link_type_start : ℕ → ℕ
 link_type_start number = if nat_eq number 1 then 1 else (if nat_eq number 113 then 3 else 0)

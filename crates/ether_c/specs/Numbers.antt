@@ -28,7 +28,7 @@ no_text = 3
 
 -- ---- what a frame begins with
 
--- the start with a number, if there is one; only the fourth has the ether type
+-- the start with this number, if there is one; only the fourth uses the ether type
 abbrev pub start_numbered : (number ether_type : ℕ) → Option Start
 start_numbered number ether_type =
     if nat_eq number 1 then Some starts.Ethernet2
@@ -63,7 +63,7 @@ rest_protocol_of rests.AfterArp = 0
 
 -- ---- faults
 
--- the layers that a walk names; 0 is none of them
+-- the layers that a walk can name; 0 for any other
 abbrev pub layer_number : Layer → ℕ
 layer_number layers.Ethernet2Header = 1
 layer_number layers.LinuxSllHeader = 2
@@ -73,7 +73,7 @@ layer_number layers.MacsecPacket = 5
 layer_number layers.Arp = 6
 layer_number _ = 0
 
--- the sources of a length that a walk names; 0 is none of them
+-- the sources of a length that a walk can name; 0 for any other
 abbrev pub len_source_number : LenSource → ℕ
 len_source_number sources.Slice = 1
 len_source_number sources.MacsecShortLength = 2

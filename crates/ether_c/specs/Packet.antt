@@ -12,7 +12,7 @@ use Rattle.ether_c.specs.declared.ether_unit.EtherUnit.{EtherUnit}
 use Rattle.ether_c.specs.Calls.{GivesSummary}
 use Rattle.ether_c.specs.Walk.{GivesUnits}
 
--- the first three of a list of numbers, with 0 in the place of those that are not there
+-- the first three of a list of numbers, padded with 0
 abbrev pub c_ids : List ℕ → List ℕ
 c_ids ids =
     unwrap_or (slice_get ids 0) 0 ∷ unwrap_or (slice_get ids 1) 0 ∷ unwrap_or (slice_get ids 2) 0 ∷ []
@@ -21,23 +21,24 @@ c_ids ids =
 abbrev pub unit_id : EtherUnit → Option ℕ
 unit_id u = if nat_eq u.kind 3 then Some u.vlan.vid else None
 
--- those of all of them, in order
+-- the identifiers of all VLAN tags, in order
 abbrev pub unit_ids : List EtherUnit → List ℕ
 unit_ids us = filter_map unit_id us
 
--- where a unit ends: with its payload, if it is a SecTag whose short length counts more than an ether type
+-- the offset at which a unit ends: with its payload, if it is a SecTag whose short length counts more than an ether
+-- type
 abbrev pub unit_reach : EtherUnit → ℕ
 unit_reach u =
     if nat_lt (ether_type_len u.macsec.encrypted u.macsec.changed) u.macsec.short_len then u.payload_end
     else u.payload_start
 
--- the greatest end of a unit, 0 without units
+-- the greatest of these offsets, 0 if there are no units
 abbrev pub units_reach : List EtherUnit → ℕ
 units_reach [] = 0
 units_reach (u ∷ us) = max (unit_reach u) (units_reach us)
 
--- The packet of a list: its headers as units, with what the array held before after them; what is
--- left of it; the identifiers of its VLAN tags; and the least cut that keeps its headers.
+-- The packet of a list: its headers as units, and then what the array held before; the window after them; the
+-- identifiers of its VLAN tags; and the shortest cut that keeps its headers.
 pub record GivesPacket (start : Start) (list : List ℕ) (old : List EtherUnit)
     (new : EtherHeaders) (status : ℕ) : Type 0 where
   pub packet : PacketSlice

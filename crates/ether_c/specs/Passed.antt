@@ -15,7 +15,7 @@ use Rattle.ether_c.specs.declared.ether_unit.EtherArp.{EtherArp}
 use Rattle.ether_c.specs.declared.ether_unit.EtherUnit.{EtherUnit}
 use Rattle.ether_c.specs.Tags.{vlan_value, bad_field}
 
--- what a call returns for a unit of a kind that it does not take
+-- what a call returns for a unit whose kind it does not take
 abbrev pub bad_kind : ℕ
 bad_kind = 18
 
@@ -28,7 +28,7 @@ ethernet2_passed e = links.Ethernet2 (record {
   ether_type = record { 0 = e.ether_type };
 })
 
--- the hardware type decides what the protocol number means
+-- the protocol number is read according to the hardware type
 abbrev pub linux_sll_passed : EtherLinuxSll → LinkHeader
 linux_sll_passed s = links.LinuxSll (record {
   packet_type = s.packet_type;
@@ -42,14 +42,14 @@ pub data PassesLink (u : EtherUnit) : LinkHeader → Type 0 where
   ethernet2 : u.kind ≡ 1 → PassesLink u (ethernet2_passed u.ethernet2)
   linux_sll : u.kind ≡ 2 → u.linux_sll.packet_type ≤ 7 → PassesLink u (linux_sll_passed u.linux_sll)
 
--- the unit is none, and a call returns this
+-- the unit is not a link's header, and a call returns this
 pub data PassesNoLink (u : EtherUnit) : (status : ℕ) → Type 0 where
   no_link_kind : u.kind ≢ 1 → u.kind ≢ 2 → PassesNoLink u bad_kind
   bad_packet_type : u.kind ≡ 2 → 7 < u.linux_sll.packet_type → PassesNoLink u bad_field
 
 -- ---- a VLAN tag or SecTag
 
--- E and C say whether there is an ether type, SC whether there is an SCI
+-- E and C decide whether there is an ether type, SC whether there is an SCI
 abbrev pub macsec_value : EtherMacsec → SecTagValue
 macsec_value t = record {
   payload_type = payload_type_for t.encrypted t.changed t.ether_type;
@@ -75,7 +75,7 @@ pub data PassesExt (u : EtherUnit) : Header → Type 0 where
   vlan : u.kind ≡ 3 → FitsVlan (vlan_value u.vlan) → PassesExt u (headers.Vlan (vlan_value u.vlan))
   macsec : u.kind ≡ 4 → FitsMacsec u.macsec → PassesExt u (headers.Macsec (macsec_value u.macsec))
 
--- the unit is none, and a call returns this
+-- the unit is not a VLAN tag or SecTag, and a call returns this
 pub data PassesNoExt (u : EtherUnit) : (status : ℕ) → Type 0 where
   no_ext_kind : u.kind ≢ 3 → u.kind ≢ 4 → PassesNoExt u bad_kind
   bad_vlan : u.kind ≡ 3 → (FitsVlan (vlan_value u.vlan) → ⊥) → PassesNoExt u bad_field
@@ -83,7 +83,7 @@ pub data PassesNoExt (u : EtherUnit) : (status : ℕ) → Type 0 where
 
 -- ---- an ARP packet, whose addresses are passed as separate bytes
 
--- each address is within the bytes
+-- each address is inside the bytes
 pub record HasAddresses (a : EtherArp) (bytes : List ℕ) : Type 0 where
   pub sender_hardware : a.sender_hardware + a.hardware_size ≤ length bytes
   pub sender_protocol : a.sender_protocol + a.protocol_size ≤ length bytes
@@ -104,7 +104,7 @@ arp_passed a bytes = record {
 pub data PassesArp (u : EtherUnit) (bytes : List ℕ) : ArpValue → Type 0 where
   arp : u.kind ≡ 5 → HasAddresses u.arp bytes → PassesArp u bytes (arp_passed u.arp bytes)
 
--- the unit is none, and a call returns this
+-- the unit is not an ARP packet, and a call returns this
 pub data PassesNoArp (u : EtherUnit) (bytes : List ℕ) : (status : ℕ) → Type 0 where
   no_arp_kind : u.kind ≢ 5 → PassesNoArp u bytes bad_kind
   bad_addresses : u.kind ≡ 5 → (HasAddresses u.arp bytes → ⊥) → PassesNoArp u bytes bad_field

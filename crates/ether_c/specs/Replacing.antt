@@ -19,7 +19,7 @@ use Rattle.ether_c.specs.Passed.{PassesLink, PassesNoLink, PassesExt, PassesNoEx
 
 -- ---- refusals
 
--- what a header says otherwise, in the order of enum etherpeel_difference; 0 is none of them
+-- the differences between headers, in the order of enum etherpeel_difference; 0 if there is none
 abbrev pub difference_number : Difference → ℕ
 difference_number differences.Kind = 1
 difference_number differences.EtherType = 2
@@ -57,13 +57,13 @@ pub record GivesReplaced (Replaces : (new : List ℕ) → Type 0) (Refuses : Rep
 
 -- ---- calls
 
--- The unit is a header, and the call does this with it; or it is none, and the call says why and writes nothing.
+-- The unit is a header, and the call does this with it; or it is not, and the call says why and writes nothing.
 pub data OfPassed {H : Type 0} (Is : H → Type 0) (IsNone : (status : ℕ) → Type 0) (Does : H → Type 0) (Kept : Type 0)
     (status : ℕ) : Type 0 where
   passed : (h : H) → Is h → Does h → OfPassed Is IsNone Does Kept status
   none : IsNone status → Kept → OfPassed Is IsNone Does Kept status
 
--- whatever the limit on tags
+-- for any limit on tags
 abbrev pub GivesReplaceLink : Start → EtherUnit → (old new : List ℕ)
     → (error_old error_new : EtherReplaceError) → (status : ℕ) → Type 0
 GivesReplaceLink start u old new error_old error_new status =

@@ -7,7 +7,7 @@ use Rattle.ether_c.specs.declared.ether_captured.EtherCaptured.{EtherCaptured}
 
 -- ---- the packet that is passed
 
--- what a mark of 0 says is not there
+-- a mark of 0 says that the value is absent
 abbrev pub marked : {T : Type 0} → (mark : ℕ) → T → Option T
 marked mark value = if nat_eq mark 0 then None else Some value
 
@@ -27,16 +27,16 @@ packet_value c = record {
 
 -- ---- which packets are selected
 
--- 1 for a packet that is selected, 0 for another
+-- 1 for a selected packet, 0 for any other
 abbrev pub IsMark : Expression → EtherCaptured → (mark : ℕ) → Type 0
 IsMark x c mark = (Selects x (packet_value c) × (mark ≡ 1)) ⊎ ((Selects x (packet_value c) → ⊥) × (mark ≡ 0))
 
--- 2 for one whose captured bytes don't decide that
+-- 2 for a packet whose captured bytes do not decide that
 abbrev pub IsDecision : Expression → EtherCaptured → (number : ℕ) → Type 0
 IsDecision x c number =
     (IsUndecided x (packet_value c) × (number ≡ 2)) ⊎ ((IsUndecided x (packet_value c) → ⊥) × IsMark x c number)
 
--- for each packet
+-- .. for each packet
 abbrev pub AreMarks : Expression → List EtherCaptured → (marks : List ℕ) → Type 0
 AreMarks x [] [] = Unit {0}
 AreMarks x (c ∷ cs) (m ∷ ms) = IsMark x c m × AreMarks x cs ms

@@ -7,10 +7,10 @@ use Rattle.ether_c.specs.Numbers.{start_numbered, unknown_start}
 abbrev pub IsUnknown : (number ether_type : ℕ) → Type 0
 IsUnknown number ether_type = start_numbered number ether_type ≡ None
 
--- the status says so, and what the call might have written to is kept
+-- the status says so, and whatever the call might write to is unchanged
 abbrev pub IsUnknownStart : (status : ℕ) → Type 0 → Type 0
 IsUnknownStart status Kept = (status ≡ unknown_start) × Kept
 
--- what holds of the start with these numbers, if there is one
+-- what holds for the start with these numbers, if there is one
 abbrev pub OfStart : (number ether_type : ℕ) → (Start → Type 0) → Type 0
 OfStart number ether_type Holds = IfSome (start_numbered number ether_type) Holds

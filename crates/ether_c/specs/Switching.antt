@@ -1,4 +1,4 @@
--- A bridge with VLANs, by calls from C.
+-- A bridge with VLANs, for calls from C.
 use Rattle.std.specs.Prelude.{◌≡◌, ℕ, List, [], ◌∷◌, length, map, drop, Option, Some, None, option_map, IfSome, IfNone, is_some, Result, Ok, Err, IfOk, IsErr, is_ok, Bool, false, not, ◌&&◌, nat_eq, nat_le, if◌then◌else◌}
 use Rattle.etherparse.specs.Bytes.{bit}
 use Rattle.etherparse.specs.Header.{Header}
@@ -7,8 +7,8 @@ use Rattle.ether_peel.specs.Walker.Start.{start_of}
 use Rattle.ether_peel.specs.declared.start.Start.TheVariants as starts
 use Rattle.ether_switch.specs.declared.arrival.Discarded.{Discarded}
 use Rattle.ether_switch.specs.declared.arrival.Discarded.TheVariants as reasons
-use Rattle.ether_switch.specs.declared.kind.BridgeKind.{BridgeKind}
-use Rattle.ether_switch.specs.declared.kind.BridgeKind.TheVariants.{Customer, Provider}
+use Rattle.ether_switch.specs.declared.bridge_kind.BridgeKind.{BridgeKind}
+use Rattle.ether_switch.specs.declared.bridge_kind.BridgeKind.TheVariants.{Customer, Provider}
 use Rattle.ether_switch.specs.declared.port.AcceptableFrames.{AcceptableFrames}
 use Rattle.ether_switch.specs.declared.port.AcceptableFrames.TheVariants.{All, OnlyVlanTagged, OnlyUntaggedAndPriorityTagged}
 use Rattle.ether_switch.specs.declared.port.PortConfig.{PortConfig}
@@ -50,13 +50,13 @@ reason_number reasons.FrameType = 5
 reason_number reasons.NotAMember = 6
 reason_number reasons.ReservedAddress = 7
 
--- where a frame goes: nowhere, by one port, by all but its own
+-- where a frame goes: nowhere, by one port, by all ports except the one by which it came in
 abbrev pub forwarding_number : Forwarding → ℕ
 forwarding_number Discard = 0
 forwarding_number (Port n) = 1
 forwarding_number Flood = 2
 
--- the port, if it is one
+-- the port, if the frame goes by one
 abbrev pub forwarding_port : Forwarding → ℕ
 forwarding_port Discard = 0
 forwarding_port (Port n) = n
@@ -70,7 +70,7 @@ forwarding_numbered number port =
 
 -- ---- ports
 
--- whether a number is the identifier of a VLAN (IEEE 802.1Q, table 9-2), and one a priority
+-- whether a number is the identifier of a VLAN (IEEE 802.1Q, table 9-2), or a priority
 abbrev pub are_vlan_and_priority : (vid priority : ℕ) → Bool
 are_vlan_and_priority vid priority = nat_le 1 vid && nat_le vid 4094 && nat_le priority 7
 
@@ -84,7 +84,7 @@ config_with p types = record {
   default_priority = p.default_priority;
 }
 
--- how a port is set up, if its numbers fit their fields
+-- the configuration of a port, if its numbers fit their fields
 abbrev pub config_of : EtherPort → Option PortConfig
 config_of p =
     if are_vlan_and_priority p.pvid p.default_priority
@@ -92,7 +92,7 @@ config_of p =
 
 -- ---- frames that were received
 
--- all numbers of a frame that is discarded are 0, but for the reason
+-- all numbers of a discarded frame are 0, except for the reason
 abbrev pub c_answer : Result Received Discarded → EtherReceived
 c_answer (Err reason) = record {
   discarded = reason_number reason;
@@ -129,7 +129,7 @@ abbrev pub received_by : EtherReceived → Option BridgeKind → Option Forwardi
 received_by c (Some kind) (Some decision) = Some (received_with c kind decision)
 received_by c _ _ = None
 
--- the frame that is passed, if it is not discarded and its numbers fit their fields
+-- the frame that was passed, if it is not discarded and its numbers fit their fields
 abbrev pub received_of : EtherReceived → Option Received
 received_of c =
     if nat_eq c.discarded 0 && are_vlan_and_priority c.vlan c.priority
@@ -137,7 +137,7 @@ received_of c =
 
 -- ---- calls
 
--- A frame came in by a port: the answer after any frames before, and what the table then holds.
+-- A frame came in by a port: what is returned for it after any earlier frames, and what the table then holds.
 pub record GivesReceived (kind : BridgeKind) (config : PortConfig) (ageing_time now from : ℕ) (hs : List Header)
     (old new : List StationBucket) (received : EtherReceived) (status : ℕ) : Type 0 where
   pub found : Result Received Discarded
@@ -159,7 +159,7 @@ form_number r to port = if goes_to r to port then (if has port.untagged r.vlan t
 abbrev pub stays : ℕ
 stays = 21
 
--- The frame is made ready to leave by a port, or it does not leave by it.
+-- The frame is made ready to leave by a port; or it does not leave by that port.
 pub record GivesSent (r : Received) (to : ℕ) (config : PortConfig) (old new : List ℕ) (at_old at_new status : ℕ) : Type 0 where
   pub sent : Option ℕ
   pub leaves : IfSome sent (λ at. (hs : List Header) (e : Ending)

@@ -33,11 +33,11 @@ tag_error_status errors.Unannounced = 10
 
 -- ---- tags
 
--- the tag that is passed, whose numbers may not fit their fields
+-- the tag that was passed, whose numbers might not fit their fields
 abbrev pub vlan_value : EtherVlan → VlanValue
 vlan_value t = record { pcp = t.pcp; dei = t.dei; vid = t.vid; ether_type = t.ether_type }
 
--- a tag is taken off and returned; or nothing is written, for a reason
+-- a tag is taken off and returned; or nothing is written, for this reason
 pub record GivesPop (start : Expectation) (old new : List ℕ) (tag_old tag_new : EtherVlan)
     (status : ℕ) : Type 0 where
   pub popped : Result SingleVlanHeader TagError
@@ -50,7 +50,7 @@ pub record GivesPop (start : Expectation) (old new : List ℕ) (tag_old tag_new 
   pub status_done : IfOk popped (λ _. status ≡ done)
   pub status_error : IfErr popped (λ error. status ≡ tag_error_status error)
 
--- a tag is put in, or nothing is written, for a reason
+-- a tag is put in; or nothing is written, for this reason
 pub record GivesPush (start : Expectation) (tag : VlanValue) (tpid : ℕ) (old new : List ℕ)
     (status : ℕ) : Type 0 where
   pub pushed : Result (Unit {0}) TagError
@@ -62,14 +62,14 @@ pub record GivesPush (start : Expectation) (tag : VlanValue) (tpid : ℕ) (old n
   pub status_done : IfOk pushed (λ _. status ≡ done)
   pub status_error : IfErr pushed (λ error. status ≡ tag_error_status error)
 
--- fields of a tag in place of those of another: the identifier, or the whole tag control information
+-- a tag with another identifier, or with other tag control information
 abbrev pub with_vid : (vid : ℕ) → VlanValue → VlanValue
 with_vid vid tag = record tag { vid = vid }
 
 abbrev pub with_control : (control tag : VlanValue) → VlanValue
 with_control control tag = record tag { pcp = control.pcp; dei = control.dei; vid = control.vid }
 
--- a tag is changed, or nothing is written, for a reason
+-- a tag is changed; or nothing is written, for this reason
 pub record GivesSet (start : Expectation) (index : ℕ) (change : VlanValue → VlanValue)
     (old new : List ℕ) (status : ℕ) : Type 0 where
   pub put : Result (Unit {0}) TagError
@@ -81,7 +81,7 @@ pub record GivesSet (start : Expectation) (index : ℕ) (change : VlanValue → 
   pub status_done : IfOk put (λ _. status ≡ done)
   pub status_error : IfErr put (λ error. status ≡ tag_error_status error)
 
--- what announces a tag is changed, or nothing is written, for a reason
+-- the ether type that announces a tag is changed; or nothing is written, for this reason
 pub record GivesSetTpid (start : Expectation) (index tpid : ℕ) (old new : List ℕ)
     (status : ℕ) : Type 0 where
   pub put : Result (Unit {0}) TagError

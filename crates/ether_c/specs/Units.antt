@@ -91,7 +91,7 @@ c_macsec _ = record {
   short_len = 0;
 }
 
--- with the places of the four addresses in the frame
+-- .. with the offsets of the four addresses in the frame
 abbrev pub c_arp : (start : ℕ) → Header → EtherArp
 c_arp start (headers.Arp a) = record {
   sender_hardware = start + 8;
@@ -118,7 +118,7 @@ c_arp start _ = record {
 
 -- ---- units
 
--- a frame check sequence makes no kind of its own
+-- a frame check sequence does not make a kind of its own
 abbrev pub header_number : Header → ℕ
 header_number (headers.Ethernet2 e) = 1
 header_number (headers.Ethernet2Fcs e) = 1

@@ -1,5 +1,4 @@
--- The header that a view of a unit means, and its struct of C with its places: for the contracts of
--- private functions.
+-- The header that the view of a unit means, and its struct of C with offsets: for the contracts of private functions.
 use Rattle.std.specs.Prelude.{ℕ, ◌-◌, Bool, if◌then◌else◌}
 use Rattle.etherparse.specs.Bytes.{bit}
 use Rattle.etherparse.specs.Ethernet2.{Frame, ethernet2_of}
@@ -15,7 +14,7 @@ ethernet2_header f =
     if f.has_fcs then headers.Ethernet2Fcs (ethernet2_of f.bytes)
     else headers.Ethernet2 (ethernet2_of f.bytes)
 
--- a header that starts at a place, with the places of its payload and the mark of that
+-- a header at this offset, with the offsets of its payload and whether that is closed
 abbrev pub c_placed : Header → (offset start finish : ℕ) → (closed : Bool) → EtherUnit
 c_placed h offset start finish closed = record {
   offset = offset;

@@ -1,4 +1,4 @@
--- The units of a walk in the array that a caller in C passes.
+-- The units of a walk in an array of a caller in C.
 use Rattle.std.specs.Prelude.{◌≡◌, ℕ, List, ◌++◌, length, take, drop}
 use Rattle.etherparse.specs.Header.{Header}
 use Rattle.ether_peel.specs.Grammar.Expectation.{Expectation}
@@ -7,8 +7,8 @@ use Rattle.ether_c.specs.declared.ether_unit.EtherUnit.{EtherUnit}
 use Rattle.ether_c.specs.Numbers.{done}
 use Rattle.ether_c.specs.Units.{c_units}
 
--- The list has a walk and no second one, whose units are counted. The array holds them from its
--- front on, as many as it has room for, and after them what it held before.
+-- The list has exactly one walk, whose units are counted. The array holds them from its front on, as many as it has
+-- room for, and then what it held before.
 pub record GivesUnits (start : Expectation) (list : List ℕ)
     (old new : List EtherUnit) (count : ℕ) : Type 0 where
   pub headers : List Header

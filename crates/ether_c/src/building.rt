@@ -1,4 +1,4 @@
-//! Packets that are built.
+//! Builds packets for callers in C.
 ghost use Rattle.std.specs.Prelude.{◌≡◌, ◌≤◌, [], ◌∷◌, length, take, drop, IfOk, IfErr, OnOk};
 ghost use Rattle.ether_c.specs.Building.{GivesBuild, PassesParts, PassesNoPacket, AreExts, AreSplit, RefusesTags, ArePassedArp, HasContent, GivesPacketBuilt};
 ghost use Rattle.ether_c.specs.Passed.{PassesNoArp};
@@ -12,23 +12,23 @@ use etherparse::{ArpPacket, EtherType, LinkExtHeader, LinkHeader, SingleVlanHead
 /// The most VLAN tags and SecTags of a packet.
 const MAX_TAGS: usize = 8;
 
-/// The kind of a unit that is an ARP packet.
+/// The number of the kind of unit that is an ARP packet.
 const ARP_KIND: u32 = 5;
 
-/// Why units are those of no packet: what the call returns, and the index of the unit.
+/// Why units do not make a packet: the status of the call, and the index of the unit that is wrong.
 type Refusal = (u32, usize);
 
-/// The parts of a packet, but for its tags.
+/// The parts of a packet, except for its tags.
 #[derive(Drop)]
 struct PacketParts {
     link: LinkHeader,
-    /// How many tags there are.
+    /// The number of tags.
     tags: usize,
     arp: Option<ArpPacket>,
 }
 
-/// Writes a packet of the headers of units and a payload to the front of a target. If the last unit is
-/// an ARP packet, its addresses are in the payload.
+/// Writes a packet to the front of a target: the headers of the units, and the payload. If the last unit is an ARP
+/// packet, its addresses are read from the payload instead.
 #[unsafe(no_mangle)]
 pub extern "C" fn etherpeel_build(
     units: &[EtherUnit],
@@ -55,7 +55,7 @@ pub extern "C" fn etherpeel_build(
     status
 }
 
-/// The parts of a packet that units are, with the tags in an array.
+/// The parts of the packet that the units make; its tags are written to an array.
 fn parts(
     units: &[EtherUnit],
     bytes: &[u8],
@@ -86,7 +86,7 @@ fn parts(
     }
 }
 
-/// How many units there are before an ARP packet at the end.
+/// The number of units before an ARP packet at the end.
 fn tag_count(units: &[EtherUnit]) -> usize
     ensures bound { result ≤ length units.now }
     ensures split { AreSplit (take result units.now) (drop result units.now) }
@@ -97,7 +97,7 @@ fn tag_count(units: &[EtherUnit]) -> usize
     }
 }
 
-/// Writes the tags that units are to an array.
+/// Writes the tags in the units to an array.
 fn put_tags(units: &[EtherUnit], tags: &mut [LinkExtHeader; MAX_TAGS]) -> Result<(), Refusal>
     ensures put { OnOk result (AreExts units.now (take (length units.now) tags.new)) }
     ensures few { OnOk result (length units.now ≤ 8) }
@@ -116,7 +116,7 @@ fn put_tags(units: &[EtherUnit], tags: &mut [LinkExtHeader; MAX_TAGS]) -> Result
     Ok(())
 }
 
-/// The ARP packet that a unit is, if there is one.
+/// The ARP packet in the unit, if there is a unit.
 fn passed_arp(units: &[EtherUnit], bytes: &[u8]) -> Result<Option<ArpPacket>, u32>
     requires { length units.now ≤ 1 }
     ensures arp { IfOk result (ArePassedArp units.now bytes.now) }
@@ -132,7 +132,7 @@ fn passed_arp(units: &[EtherUnit], bytes: &[u8]) -> Result<Option<ArpPacket>, u3
     }
 }
 
-/// An ARP_KIND packet if there is one, and else a payload.
+/// An ARP packet if there is one, else a payload.
 fn content<'a>(arp: &'a Option<ArpPacket>, ether_type: u16, payload: &'a [u8]) -> PacketContent<'a>
     ensures { HasContent arp.now ether_type payload.now result }
 {
@@ -142,8 +142,8 @@ fn content<'a>(arp: &'a Option<ArpPacket>, ether_type: u16, payload: &'a [u8]) -
     }
 }
 
-/// Writes a packet. Returns the status of the call, and the length of the packet; without room the length that it needs,
-/// after a sealed SecTag the index of that plus 1, else 0.
+/// Writes a packet. Returns the status of the call, and a number: the length of the packet; without room the length
+/// that it needs; after a sealed SecTag the index of that SecTag plus 1; else 0.
 fn write(packet: &PacketBuilder<'_, '_>, target: &mut [u8]) -> (u32, usize)
     requires { length packet.now.link_exts.now ≤ 8 }
     ensures { GivesPacketBuilt packet.now target.old target.new result.1 result.0 }

@@ -1,4 +1,4 @@
-//! The text of the fault in which a capture file ends.
+//! The text of the fault that ends a capture file.
 ghost use Rattle.std.specs.Prelude.{◌≡◌, IfSome};
 ghost use Rattle.ether_pcap.specs.CaptureTexts.{capture_fault_text};
 ghost use Rattle.ether_c.specs.Captured.{GivesCaptureText, PutsCaptureText};
@@ -13,8 +13,8 @@ use std::fmt::Write;
 /// The text of every fault is shorter than this.
 const LONGEST: usize = 512;
 
-/// The text of the fault in which a capture file ends, with no 0 byte at its end; it is empty if there
-/// is no fault.
+/// Writes the text of the fault that ends a capture file, without a 0 byte at its end. It is empty if there is no
+/// fault.
 #[unsafe(no_mangle)]
 pub extern "C" fn etherpeel_capture_fault_text(file: &[u8], text: &mut [u8], len: &mut usize) -> u32
     ensures { GivesCaptureText file.now text.old text.new result len.new }

@@ -1,4 +1,4 @@
-//! What is walked of a captured packet.
+//! The part of a captured packet that is walked.
 ghost use Rattle.ether_content.specs.Content.{content_of};
 ghost use Rattle.ether_c.specs.CapturedFrame.{GivesFrame};
 ghost use Rattle.ether_c.specs.Selection.{packet_value};
@@ -7,10 +7,9 @@ use crate::statuses::{DONE, UNKNOWN_START};
 use crate::{EtherCaptured, EtherFrame};
 use ether_content::Content;
 
-/// The frame that is walked of a packet of a capture, by its link type.
+/// The frame that is walked of a captured packet, by its link type.
 ///
-/// Of Linux cooked capture v2 that is the payload, if the header can be read and an ether type
-/// announces it.
+/// For Linux cooked capture v2 it is the payload, if the header can be read and an ether type announces the payload.
 #[unsafe(no_mangle)]
 pub extern "C" fn etherpeel_captured_frame<'a>(
     packet: &EtherCaptured<'a>,

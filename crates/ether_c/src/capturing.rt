@@ -1,4 +1,4 @@
-//! The packets of a capture file in an array.
+//! Writes the packets of a capture file to an array.
 ghost use Rattle.std.specs.Prelude.{◌≡◌, slice_set};
 ghost use Rattle.ether_c.specs.Captured.{HasCaptured, GivesCapture};
 
@@ -6,23 +6,23 @@ use crate::EtherCaptured;
 use crate::statuses::{BAD_CAPTURE, DONE, SHORT};
 use ether_pcap::{CaptureFault, CapturePackets};
 
-/// Where a capture file ends: `etherpeel_capture_end` in C.
+/// Where the packets of a capture file end: `etherpeel_capture_end` in C.
 ///
 /// Each bit pattern is a value, so that C may pass memory that it has not written to.
 #[repr(C)]
 #[derive(Clone, Copy)]
 pub struct EtherCaptureEnd {
-    /// The length of the file, or where what can't be read starts.
+    /// The length of the file, or the offset of the unit that can't be read.
     pub offset: usize,
-    /// How many bytes this needs at least, if the file ends within it; else 0.
+    /// The minimum number of bytes that this unit needs, if the file ends within it; else 0.
     pub needed: usize,
 }
 
 // as c/etherpeel.h lays it out
 const _: () = prove!(size_of::<EtherCaptureEnd>() == 16);
 
-/// The packets of a capture file, as many as the array has room for, how many there are in all, and
-/// where and why they end.
+/// Writes as many packets of a capture file as the array has room for, the number of all its packets, and where they
+/// end. The status says why.
 #[unsafe(no_mangle)]
 pub extern "C" fn etherpeel_capture<'a>(
     file: &'a [u8],
@@ -53,8 +53,8 @@ pub extern "C" fn etherpeel_capture<'a>(
     }
 }
 
-/// The packets of a capture file, as many as the array has room for, how many there are in all, and
-/// the fault in which they end.
+/// Writes as many packets of a capture file as the array has room for. Returns the number of all its packets, and the
+/// fault that ends them, if there is one.
 pub(crate) fn captured<'a>(
     file: &'a [u8],
     packets: &mut [EtherCaptured<'a>],
@@ -75,7 +75,7 @@ pub(crate) fn captured<'a>(
     }
 }
 
-/// Writes a packet to its place, if the array has it.
+/// Writes a packet to the index `at`, if the array has that index.
 fn put<'a>(packets: &mut [EtherCaptured<'a>], at: usize, packet: EtherCaptured<'a>)
     ensures { packets.new ≡ slice_set packets.old at packet.entry }
 {

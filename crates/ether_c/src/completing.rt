@@ -1,4 +1,4 @@
-//! The bytes that complete the unit in which a frame ends.
+//! Completes the unit in which a frame ends.
 ghost use Rattle.std.specs.Prelude.{◌≡◌};
 ghost use Rattle.ether_peel.specs.Walker.Start.{start_of as start_meant, limited_start};
 ghost use Rattle.ether_c.specs.Starts.{IsUnknown, IsUnknownStart, OfStart};
@@ -10,7 +10,7 @@ use crate::statuses::{DONE, UNKNOWN_START};
 use arrayvec::ArrayVec;
 use ether_peel::{completion, completion_limited};
 
-/// The fewest bytes that, after a frame cut short, make it accepted.
+/// Writes the fewest bytes that, appended to a frame cut short, make it accepted.
 #[unsafe(no_mangle)]
 pub extern "C" fn etherpeel_completion(
     start: u32,
@@ -33,7 +33,7 @@ pub extern "C" fn etherpeel_completion(
     status
 }
 
-/// The same for the walk that reads no more than `limit` VLAN tags and MACsec SecTags.
+/// Does as [`etherpeel_completion`] for the walk that reads at most `limit` VLAN tags and MACsec SecTags.
 #[unsafe(no_mangle)]
 pub extern "C" fn etherpeel_completion_limited(
     start: u32,
@@ -57,7 +57,7 @@ pub extern "C" fn etherpeel_completion_limited(
     status
 }
 
-/// Writes the bytes of a completion, if there is one, to the front of a target.
+/// Writes the bytes of a completion to the front of a target, if there is a completion.
 fn put_fill(found: &Option<ArrayVec<u8, 1028>>, target: &mut [u8]) -> (u32, usize)
     ensures { PutsBytes (fill_bytes found.now) target.old target.new result.0 result.1 }
 {

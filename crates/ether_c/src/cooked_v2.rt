@@ -8,7 +8,7 @@ use crate::statuses::{BAD_PACKET_TYPE, DONE, SHORT};
 use crate::{EtherField, EtherLinuxSll2, field_place};
 use ether_sll2::{LinuxSll2Error, LinuxSll2Slice};
 
-/// The header of a packet of Linux cooked capture v2, and what the walk of its payload starts with.
+/// Reads the header of a packet of Linux cooked capture v2, and how the walk of its payload starts.
 #[unsafe(no_mangle)]
 pub extern "C" fn etherpeel_linux_sll2(bytes: &[u8], header: &mut EtherLinuxSll2) -> u32
     ensures { GivesLinuxSll2 bytes.now header.new result }
@@ -25,8 +25,8 @@ pub extern "C" fn etherpeel_linux_sll2(bytes: &[u8], header: &mut EtherLinuxSll2
     }
 }
 
-/// The fields of the header of a packet of Linux cooked capture v2, as many as the array has room for,
-/// and how many there are.
+/// Writes as many fields of the header of a packet of Linux cooked capture v2 as the array has room for, and the
+/// number of all its fields.
 #[unsafe(no_mangle)]
 pub extern "C" fn etherpeel_linux_sll2_fields(
     bytes: &[u8],
@@ -44,7 +44,7 @@ pub extern "C" fn etherpeel_linux_sll2_fields(
     }
 }
 
-/// The status for bytes that are refused.
+/// The status for a header that is refused.
 fn refusal_status(error: &LinuxSll2Error) -> u32
     ensures { result ≡ linux_sll2_status (refusal_view error.now) }
 {

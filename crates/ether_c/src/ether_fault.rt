@@ -1,4 +1,4 @@
-//! A unit that is refused, as a struct of C.
+//! A refused unit, as a struct of C.
 ghost use Rattle.std.specs.Prelude.{◌≡◌, ◌-◌, if◌then◌else◌};
 ghost use Rattle.ether_c.specs.Found.{c_fault, c_end};
 
@@ -10,30 +10,29 @@ use etherparse::err::linux_sll::HeaderError::{
 };
 use etherparse::err::macsec::HeaderError::{InvalidUnmodifiedShortLen, UnexpectedVersion};
 
-/// A unit that is refused, or none: `etherpeel_fault` in C.
+/// A refused unit, or none: `etherpeel_fault` in C.
 ///
 /// Each bit pattern is a value, so that C may pass memory that it has not written to.
 #[repr(C)]
 #[derive(Clone, Copy)]
 pub struct EtherFault {
-    /// Where the unit starts, in bytes from the start of the frame.
+    /// The offset of the unit in bytes from the start of the frame.
     pub offset: usize,
-    /// The length that the unit requires, of a length fault.
+    /// The length that the unit requires, in a length fault; else 0.
     pub required_len: usize,
-    /// The length that is available to it, of a length fault.
+    /// The length that is available to it, in a length fault; else 0.
     pub len: usize,
     /// The minimum number of further bytes that it needs, 0 if more bytes would not help.
     pub missing: usize,
-    /// 0 none, 1 a length, 2 a packet type, 3 a hardware type, 4 a SecTag's version, 5 its short
-    /// length.
+    /// 0 none, 1 a length, 2 a packet type, 3 a hardware type, 4 the version of a SecTag, 5 its short length.
     pub kind: u32,
-    /// The layer of a length fault.
+    /// The layer of a length fault; else 0.
     pub layer: u32,
-    /// What gave the length that is available or required, of a length fault.
+    /// What gave the available or the required length, in a length fault; else 0.
     pub len_source: u32,
-    /// The packet type of a cooked capture that is not supported.
+    /// The unsupported packet type of a cooked capture; else 0.
     pub packet_type: u16,
-    /// The hardware type of a cooked capture that is not supported.
+    /// The unsupported hardware type of a cooked capture; else 0.
     pub hardware_type: u16,
     /// 1 if bytes appended to the frame would lie outside the unit, else 0.
     pub closed: u8,
@@ -57,7 +56,7 @@ impl EtherFault {
         closed: 0,
     };
 
-    /// How a walk ended: with this fault or with none.
+    /// The fault in which a walk ended, or none.
     #[inline(always)]
     pub(crate) fn of_end(fault: &Option<PeelFault>) -> EtherFault
         ensures { result ≡ c_end fault.now }
@@ -104,8 +103,7 @@ impl EtherFault {
     }
 }
 
-/// The minimum number of further bytes that a unit needs that is refused for its length, 0 if more
-/// bytes would not help.
+/// The minimum number of further bytes that a unit with this length error needs, 0 if more bytes would not help.
 #[inline(always)]
 fn missing(is_closed: bool, error: &LenError) -> usize
     ensures { result ≡ (if is_closed then 0 else error.now.required_len - error.now.len) }

@@ -12,11 +12,11 @@ use crate::field_value::field_value;
 #[repr(C)]
 #[derive(Clone, Copy)]
 pub struct EtherField {
-    /// Where the field begins, in bits from the start of the frame.
+    /// The offset of the field in bits from the start of the frame.
     pub bit_offset: usize,
-    /// How many bits it has.
+    /// The number of its bits.
     pub bit_len: usize,
-    /// The number that its bits are, the first one the most significant; 0 if it has more than 64.
+    /// Its value as a number, the first bit the most significant one; 0 if it has more than 64 bits.
     pub value: u64,
     /// The index of its unit.
     pub unit: u32,
@@ -28,7 +28,7 @@ pub struct EtherField {
 const _: () = prove!(size_of::<EtherField>() == 32);
 
 impl EtherField {
-    /// The field at a place of what begins at a byte, of the unit with an index.
+    /// The field at a place in the unit with this index, which starts at the offset `start`.
     pub(crate) fn of(bytes: &[u8], unit: usize, start: usize, place: FieldPlace) -> EtherField
         requires { 8 * start + (place.first + place.len) ≤ 8 * length bytes.now }
         ensures { result ≡ c_field bytes.now unit (moved start place) }

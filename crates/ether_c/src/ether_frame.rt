@@ -1,4 +1,4 @@
-//! What is walked of a captured packet, as a struct of C.
+//! The part of a captured packet that is walked, as a struct of C.
 ghost use Rattle.std.specs.Prelude.{◌≡◌, ℕ, List, Some, None, IfSome};
 ghost use Rattle.ether_peel.specs.Grammar.Expectation.{Next};
 ghost use Rattle.ether_content.specs.Content.{IsWalked};
@@ -10,17 +10,17 @@ use ether_content::{Content, CookedHeader};
 use ether_peel::Start;
 use ether_sll2::LinuxSll2Header;
 
-/// What is walked of a captured packet: `etherpeel_frame` in C.
+/// The part of a captured packet that is walked: `etherpeel_frame` in C.
 #[repr(C)]
 #[derive(Clone, Copy)]
 pub struct EtherFrame<'a> {
-    /// The bytes of the frame, in the packet.
+    /// The bytes of the frame, inside the packet.
     pub bytes: &'a [u8],
-    /// Where the frame begins, in bytes from the start of the packet.
+    /// The offset of the frame in bytes from the start of the packet.
     pub offset: usize,
-    /// What it begins with, by number.
+    /// The number of the start of its walk.
     pub start: u32,
-    /// The ether type that announces it, if it begins with what one announces; else 0.
+    /// The ether type that announces the frame, if its walk starts with an ether type; else 0.
     pub ether_type: u16,
 }
 
@@ -45,7 +45,7 @@ impl<'a> EtherFrame<'a> {
     }
 }
 
-/// Where a frame begins in its packet.
+/// The offset of a frame in its packet.
 fn offset_of(content: Content<'_>) -> usize
     ensures { result ≡ frame_offset (content_view content.entry) }
 {
@@ -56,7 +56,7 @@ fn offset_of(content: Content<'_>) -> usize
     }
 }
 
-/// The number of what a frame begins with, and its ether type.
+/// The number of a start, and its ether type.
 fn numbers_of(start: Start) -> (u32, u16)
     ensures start { start_numbered result.0 result.1 ≡ Some start }
     ensures ether_type { result.1 ≡ first_ether_type start }

@@ -8,15 +8,15 @@ use crate::{EtherFound, EtherUnit};
 #[repr(C)]
 #[derive(Clone, Copy)]
 pub struct EtherHeaders {
-    /// The headers, the outermost first.
+    /// The headers, outermost first.
     pub units: [EtherUnit; 5],
-    /// How many there are, what is left after them, and the fault if one is refused.
+    /// The number of headers, the window after them, and the fault if a header is refused.
     pub found: EtherFound,
-    /// The least length to which the frame can be cut so that all headers stay.
+    /// The least length to which the frame can be cut without losing a header.
     pub min_snap_len: usize,
-    /// The identifiers of the VLAN tags, the outermost first, and 0 after them.
+    /// The identifiers of the VLAN tags, outermost first, followed by zeros.
     pub vlan_ids: [u16; 3],
-    /// How many VLAN tags there are.
+    /// The number of VLAN tags.
     pub vlan_count: u16,
 }
 

@@ -14,11 +14,11 @@ use ether_sll2::{LinuxSll2Error, LinuxSll2Header, LinuxSll2Slice};
 #[repr(C)]
 #[derive(Clone, Copy)]
 pub struct EtherLinuxSll2 {
-    /// Where the payload starts, in bytes from the start of the header.
+    /// The offset of the payload in bytes from the start of the header: 20.
     pub payload_start: usize,
-    /// The index of the interface that the packet was seen on.
+    /// The index of the interface on which the packet was seen.
     pub interface_index: u32,
-    /// What the payload begins with: 4 what its ether type announces, 0 if it has none.
+    /// The number of the start for the payload's walk: 4 if the payload has an ether type, else 0.
     pub start: u32,
     /// The protocol number of the payload, read according to the hardware type.
     pub protocol: u16,
@@ -68,7 +68,7 @@ impl EtherLinuxSll2 {
         }
     }
 
-    /// Why there is no header: the packet type that is not supported, or nothing if bytes are missing.
+    /// The struct for a refused header: all 0, except for a packet type that is not supported.
     pub(crate) fn of_refusal(error: &LinuxSll2Error) -> EtherLinuxSll2
         ensures { result ≡ c_linux_sll2_refusal (refusal_view error.now) }
     {
@@ -82,7 +82,7 @@ impl EtherLinuxSll2 {
     }
 }
 
-/// What the payload begins with, by number, and its ether type.
+/// The number of the start for the payload's walk, and the payload's ether type.
 fn start_of(packet: &LinuxSll2Slice<'_>) -> (u32, u16)
     ensures number { result.0 ≡ start_number (told_ether_type (protocol_of_header packet.now)) }
     ensures ether_type { result.1 ≡ unwrap_or (told_ether_type (protocol_of_header packet.now)) 0 }

@@ -1,25 +1,25 @@
-//! How a port of a bridge is set up, as a struct of C.
+//! The configuration of a bridge's port, as a struct of C.
 ghost use Rattle.std.specs.Prelude.{◌≡◌};
 ghost use Rattle.ether_c.specs.Switching.{config_of, frame_types_numbered};
 
 use ether_switch::{AcceptableFrames, PortConfig, Vlan, VlanSet};
 use etherparse::VlanPcp;
 
-/// How a port of a bridge is set up: `etherpeel_port` in C.
+/// The configuration of a bridge's port: `etherpeel_port` in C.
 #[repr(C)]
 #[derive(Clone, Copy)]
 pub struct EtherPort {
     /// The VLANs whose frames leave by the port.
     pub members: VlanSet,
-    /// Those whose frames leave without a tag.
+    /// The VLANs whose frames leave without a tag.
     pub untagged: VlanSet,
-    /// The VLAN of a frame that comes without a tag, or with one that has a priority alone: 1 to 4094.
+    /// The VLAN of a frame that comes in without a tag, or with a tag that has only a priority: 1 to 4094.
     pub pvid: u16,
-    /// Which frames it takes: 0 all, 1 those with a tag that names a VLAN, 2 the others.
+    /// Which frames it accepts: 0 all, 1 those with a tag that names a VLAN, 2 the others.
     pub frame_types: u8,
-    /// Whether it discards frames of a VLAN that it is not a member of: 0 if not.
+    /// Whether it discards frames of VLANs that it is not a member of: 0 if not.
     pub ingress_filtering: u8,
-    /// The priority of a frame that comes without a tag: 0 to 7.
+    /// The priority of a frame that comes in without a tag: 0 to 7.
     pub default_priority: u8,
 }
 
@@ -27,7 +27,7 @@ pub struct EtherPort {
 const _: () = prove!(size_of::<EtherPort>() == 1032);
 
 impl EtherPort {
-    /// How the port is set up, if its numbers fit their fields.
+    /// The configuration of the port, if its numbers fit their fields.
     pub(crate) fn to_config(&self) -> Option<PortConfig>
         ensures { result ≡ config_of self.now }
     {
@@ -49,7 +49,7 @@ impl EtherPort {
     }
 }
 
-/// The frames that a port takes, by their number.
+/// The frames that a port accepts, by their number.
 fn frame_types(number: u8) -> Option<AcceptableFrames>
     ensures { result ≡ frame_types_numbered number }
 {

@@ -5,21 +5,21 @@ ghost use Rattle.ether_c.specs.Switching.{kind_numbered, kind_number, reason_num
 use ether_switch::{BridgeKind, Discarded, Forwarding, Received, Vlan};
 use etherparse::VlanPcp;
 
-/// What a bridge makes of a frame: `etherpeel_received` in C.
+/// A frame that a bridge has received, and where it goes: `etherpeel_received` in C.
 ///
 /// Each bit pattern is a value, so that C may pass memory that it has not written to.
 #[repr(C)]
 #[derive(Clone, Copy)]
 pub struct EtherReceived {
-    /// Why it is discarded, by number; 0 if it is not.
+    /// The number of the reason why it is discarded; 0 if it is not.
     pub discarded: u32,
-    /// The kind of the bridge, by number.
+    /// The number of the kind of the bridge.
     pub kind: u32,
-    /// Where it goes: 0 nowhere, 1 by one port, 2 by all but its own.
+    /// Where it goes: 0 nowhere, 1 by one port, 2 by all ports except the one by which it came in.
     pub forwarding: u32,
-    /// The port, if it is one; else 0.
+    /// The port by which it goes, if it goes by one; else 0.
     pub port: u16,
-    /// The port that it came from.
+    /// The port by which it came in.
     pub from: u16,
     /// The identifier of its VLAN.
     pub vlan: u16,
@@ -33,7 +33,7 @@ pub struct EtherReceived {
 const _: () = prove!(size_of::<EtherReceived>() == 20);
 
 impl EtherReceived {
-    /// What a bridge makes of a frame.
+    /// What a bridge returns for a frame, as a struct of C.
     pub(crate) fn of(answer: &Result<Received, Discarded>) -> EtherReceived
         ensures given { result ≡ c_answer answer.now }
         ensures read_back { IfOk answer.now (λ r. received_of result ≡ Some r) }
@@ -62,7 +62,7 @@ impl EtherReceived {
         }
     }
 
-    /// The frame that is passed, if it is not discarded and its numbers fit their fields.
+    /// The frame that was passed, if it is not discarded and its numbers fit their fields.
     pub(crate) fn to_received(&self) -> Option<Received>
         ensures { result ≡ received_of self.now }
     {
@@ -88,7 +88,7 @@ impl EtherReceived {
     }
 }
 
-/// The kind of a bridge, by its number.
+/// The kind of bridge with this number.
 pub(crate) fn bridge_kind(number: u32) -> Option<BridgeKind>
     ensures { result ≡ kind_numbered number }
 {
@@ -99,7 +99,7 @@ pub(crate) fn bridge_kind(number: u32) -> Option<BridgeKind>
     }
 }
 
-/// The number of a kind of a bridge.
+/// The number of a kind of bridge.
 fn number_of(kind: BridgeKind) -> u32
     ensures { result ≡ kind_number kind }
 {
@@ -145,7 +145,7 @@ fn port_of(decision: Forwarding) -> u16
     }
 }
 
-/// Where a frame goes, by its number and that of a port.
+/// Where a frame goes, by the number of that and the number of a port.
 fn forwarding(number: u32, port: u16) -> Option<Forwarding>
     ensures { result ≡ forwarding_numbered number port }
 {

@@ -11,9 +11,9 @@ use ether_packet::{Difference, ReplaceError};
 #[repr(C)]
 #[derive(Clone, Copy)]
 pub struct EtherReplaceError {
-    /// How many VLAN tags and SecTags the frame has, if there is none at the index; else 0.
+    /// The number of VLAN tags and SecTags in the frame, if there is none at the index; else 0.
     pub tags: usize,
-    /// What the header says otherwise than the one in the frame, by number; 0 if it says the same.
+    /// The number of the first difference between the header and the one in the frame; 0 if there is none.
     pub difference: u32,
 }
 
@@ -21,7 +21,7 @@ pub struct EtherReplaceError {
 const _: () = prove!(size_of::<EtherReplaceError>() == 16);
 
 impl EtherReplaceError {
-    /// Why a header is not replaced.
+    /// The error as a struct of C.
     pub(crate) fn of(error: &ReplaceError) -> EtherReplaceError
         ensures { result ≡ c_replace_error error.now }
     {
@@ -34,7 +34,7 @@ impl EtherReplaceError {
     }
 }
 
-/// The number of the reason why a header is not replaced.
+/// The status for an error.
 pub(crate) fn status(error: &ReplaceError) -> u32
     ensures { result ≡ replace_error_status error.now }
 {
@@ -46,7 +46,7 @@ pub(crate) fn status(error: &ReplaceError) -> u32
     }
 }
 
-/// The number of what a header says otherwise.
+/// The number of a difference between headers.
 fn difference_number(difference: Difference) -> u32
     ensures { result ≡ difference_number difference }
 {

@@ -91,13 +91,13 @@ pub struct EtherMacsec {
 #[repr(C)]
 #[derive(Clone, Copy)]
 pub struct EtherArp {
-    /// Where the sender's hardware address starts, in bytes from the start of the frame.
+    /// The offset of the sender's hardware address, in bytes from the start of the frame.
     pub sender_hardware: usize,
-    /// Where the sender's protocol address starts.
+    /// The offset of the sender's protocol address.
     pub sender_protocol: usize,
-    /// Where the target's hardware address starts.
+    /// The offset of the target's hardware address.
     pub target_hardware: usize,
-    /// Where the target's protocol address starts.
+    /// The offset of the target's protocol address.
     pub target_protocol: usize,
     /// The hardware type.
     pub hardware_type: u16,
@@ -105,26 +105,26 @@ pub struct EtherArp {
     pub protocol_type: u16,
     /// The operation.
     pub operation: u16,
-    /// The length of each hardware address.
+    /// The length of each hardware address in bytes.
     pub hardware_size: u8,
-    /// The length of each protocol address.
+    /// The length of each protocol address in bytes.
     pub protocol_size: u8,
 }
 
-/// A header and where its payload is: `etherpeel_unit` in C. Of the five headers, only that of the
-/// unit's kind is filled; the others are 0.
+/// A header and the place of its payload: `etherpeel_unit` in C. Of the five header structs, only that of the unit's
+/// kind is filled; the others are 0.
 ///
 /// Each bit pattern is a value, so that C may pass memory that it has not written to.
 #[repr(C)]
 #[derive(Clone, Copy)]
 pub struct EtherUnit {
-    /// Where the header starts, in bytes from the start of the frame.
+    /// The offset of the header in bytes from the start of the frame.
     pub offset: usize,
-    /// The length of the header.
+    /// The length of the header in bytes; for an ARP packet, that of the whole packet.
     pub header_len: usize,
-    /// Where the payload starts.
+    /// The offset at which the payload starts.
     pub payload_start: usize,
-    /// Where the payload ends.
+    /// The offset at which the payload ends.
     pub payload_end: usize,
     /// 1 Ethernet II, 2 Linux cooked capture, 3 a VLAN tag, 4 a MACsec SecTag, 5 an ARP packet.
     pub kind: u32,
@@ -155,7 +155,7 @@ const _: () = prove!(size_of::<EtherArp>() == 40);
 
 const _: () = prove!(size_of::<EtherUnit>() == 144);
 
-/// Where a unit is in a frame.
+/// The place of a unit in a frame.
 #[derive(Clone, Copy)]
 pub(crate) struct UnitPlace {
     pub(crate) offset: usize,
@@ -179,7 +179,7 @@ impl EtherUnit {
         arp: EtherArp::NONE,
     };
 
-    /// Sets it to a unit at a place. A unit that is made first and then copied takes up to 1.9 times the instructions.
+    /// Sets the struct to a unit at a place. Making a new unit and copying it takes up to 1.9 times the instructions.
     #[inline(always)]
     pub(crate) fn set(&mut self, unit: &PeelUnit<'_>, place: UnitPlace)
         requires { place.offset + header_len (unit_header unit.now) ≡ place.payload_start }
@@ -295,7 +295,7 @@ impl EtherVlan {
         }
     }
 
-    /// The tag with these fields, `None` if a number does not fit its field.
+    /// The tag with these fields; `None` if a number does not fit its field.
     pub(crate) fn to_header(&self) -> Option<SingleVlanHeader>
         ensures { MatchOption result (FitsVlan (vlan_value self.now) → ⊥)
             (λ tag. (vlan_view tag ≡ vlan_value self.now) × FitsVlan (vlan_value self.now)) }

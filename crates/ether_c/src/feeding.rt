@@ -1,4 +1,4 @@
-//! A walk that receives a frame piece by piece.
+//! Feeds a walk with a frame piece by piece.
 ghost use Rattle.std.specs.Prelude.{◌≡◌};
 ghost use Rattle.ether_peel.specs.Walker.Start.{start_of as start_meant, limited_start};
 ghost use Rattle.ether_c.specs.Starts.{IsUnknown, IsUnknownStart, OfStart};
@@ -9,7 +9,7 @@ use crate::numbers::start_of;
 use crate::statuses::{DONE, UNKNOWN_START};
 use ether_peel::{feed, feed_limited};
 
-/// What a reader takes of a frame if it asks for exactly the bytes that the walk needs next.
+/// What a reader takes of a frame if it asks each time for exactly the bytes that the walk needs next.
 #[unsafe(no_mangle)]
 pub extern "C" fn etherpeel_feed(
     start: u32,
@@ -28,7 +28,7 @@ pub extern "C" fn etherpeel_feed(
     DONE
 }
 
-/// Feeds the walk that reads no more than `limit` VLAN tags and MACsec SecTags.
+/// Does as [`etherpeel_feed`] for the walk that reads at most `limit` VLAN tags and MACsec SecTags.
 #[unsafe(no_mangle)]
 pub extern "C" fn etherpeel_feed_limited(
     start: u32,

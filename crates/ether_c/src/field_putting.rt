@@ -1,12 +1,12 @@
-//! Fields written to an array.
+//! Writes fields to an array.
 ghost use Rattle.std.specs.Prelude.{◌≡◌, ◌+◌, ◌<◌, ◌^◌, length, slice_set};
 ghost use Rattle.ether_c.specs.FieldViews.{put_all, AreIn, c_table};
 
 use crate::EtherField;
 use crate::field_place::FieldPlace;
 
-/// Writes the fields of a table, of what begins at a byte, to their places from one on, and
-/// returns the place after them.
+/// Writes the fields of a table, in what starts at a byte of the frame, to an array from an index on, and returns the
+/// index after them.
 pub(crate) fn put_table(
     bytes: &[u8],
     unit: usize,
@@ -28,7 +28,7 @@ pub(crate) fn put_table(
     next
 }
 
-/// Writes a field to its place, if the array has it.
+/// Writes a field to the index `at`, if the array has that index.
 #[inline(always)]
 fn put(fields: &mut [EtherField], at: usize, field: EtherField)
     ensures { fields.new ≡ slice_set fields.old at field }

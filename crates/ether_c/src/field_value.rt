@@ -3,7 +3,7 @@ ghost use Rattle.std.specs.Prelude.{◌≡◌, ◌+◌, ◌*◌, ◌<◌, ◌≤
 ghost use Rattle.etherparse.specs.Bytes.{number};
 ghost use Rattle.ether_c.specs.Fields.{field_value};
 
-/// The number that bits are: `len` of them from a bit of a byte on; 0 if there are more than 64.
+/// The number in `len` bits, which begin at the bit `bit` of the byte `at`; 0 if there are more than 64 bits.
 pub(crate) fn field_value(bytes: &[u8], at: usize, bit: usize, len: usize) -> u64
     requires bit { bit < 8 }
     requires within { 8 * at + bit + len ≤ 8 * length bytes.now }
@@ -18,7 +18,7 @@ pub(crate) fn field_value(bytes: &[u8], at: usize, bit: usize, len: usize) -> u6
     ((number >> after) % (1 << len)) as u64
 }
 
-/// The number that up to nine bytes spell.
+/// The number in up to nine bytes.
 fn number_of(bytes: &[u8]) -> u128
     requires { length bytes.now ≤ 9 }
     ensures { result ≡ number bytes.now }

@@ -1,4 +1,4 @@
-//! The fields of the headers of a frame in an array.
+//! Writes the fields of a frame's headers to an array.
 ghost use Rattle.std.specs.Prelude.{◌≡◌, ◌+◌, ◌*◌, ◌<◌, ◌≤◌, ◌^◌, length, slice_set};
 ghost use Rattle.etherparse.specs.Header.{header_len, trailer_len};
 ghost use Rattle.ether_peel.specs.Walker.Start.{start_of as start_meant};
@@ -14,8 +14,8 @@ use crate::statuses::{DONE, UNKNOWN_START};
 use crate::{EtherField, field_place};
 use ether_peel::{Peel, PeelUnit, Start};
 
-/// The fields of the headers of a frame, as many as the array has room for, and how many there are in
-/// all. An address of length 0 is a field of 0 bits.
+/// Writes as many fields of a frame's headers as the array has room for, and the number of all its fields. An address
+/// of length 0 is a field of 0 bits.
 #[unsafe(no_mangle)]
 pub extern "C" fn etherpeel_fields(
     start: u32,
@@ -36,7 +36,7 @@ pub extern "C" fn etherpeel_fields(
     DONE
 }
 
-/// Which unit it is, where it starts and where its payload ends.
+/// The index of a unit, the offset at which it starts, and that at which its payload ends.
 #[derive(Clone, Copy)]
 struct NumberedUnit {
     index: usize,
@@ -44,7 +44,7 @@ struct NumberedUnit {
     payload_end: usize,
 }
 
-/// The fields of the units of a walk, and how many there are in all.
+/// Writes the fields of the units of a walk, and returns the number of all of them.
 fn fields_walked(start: Start, bytes: &[u8], fields: &mut [EtherField]) -> usize
     ensures { HasFields (start_meant start) bytes.now fields.old fields.new result }
 {
@@ -69,7 +69,7 @@ fn fields_walked(start: Start, bytes: &[u8], fields: &mut [EtherField]) -> usize
     }
 }
 
-/// Writes the fields of a unit from a place of the array on, and returns the place after them.
+/// Writes the fields of a unit to an array from an index on, and returns the index after them.
 fn put_unit(
     bytes: &[u8],
     unit: &PeelUnit<'_>,

@@ -6,13 +6,14 @@ use ether_filter::{Filter, Instruction};
 
 /// A filter in memory of the caller: `etherpeel_filter` in C.
 ///
-/// Each bit pattern is a value, so that C may pass memory that it has not written to; of one that no text gave, the calls say nothing.
+/// Each bit pattern is a value, so C may pass memory that it has not written to. If no text was read into it, nothing
+/// is claimed of what the calls return.
 #[repr(C)]
 #[derive(Clone, Copy)]
 pub struct EtherFilter {
-    /// The instructions. What comes after the first `len` means nothing.
+    /// The instructions. Those after the first `len` have no meaning.
     instructions: [Instruction; Filter::MAX_WORDS],
-    /// How many instructions there are.
+    /// The number of instructions.
     len: usize,
 }
 
@@ -20,7 +21,7 @@ pub struct EtherFilter {
 const _: () = prove!(size_of::<EtherFilter>() == 3080);
 
 impl EtherFilter {
-    /// Takes the instructions of a filter.
+    /// Copies the instructions of a filter.
     pub(crate) fn put(&mut self, filter: &Filter)
         ensures { IsFilterOf self.new filter.now }
     {
@@ -29,7 +30,7 @@ impl EtherFilter {
         self.len = instructions.len();
     }
 
-    /// The instructions that there are.
+    /// The instructions of the filter.
     #[inline]
     pub(crate) fn program(&self) -> &[Instruction]
         ensures { result.now ≡ take self.now.len self.now.instructions }

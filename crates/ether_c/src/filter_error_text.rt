@@ -1,4 +1,4 @@
-//! The text of why a text is no expression of a filter.
+//! The text of the error in an expression of a filter.
 ghost use Rattle.std.specs.Prelude.{◌≡◌, IfSome};
 ghost use Rattle.ether_filter.specs.ErrorTexts.{filter_error_text};
 ghost use Rattle.ether_c.specs.Filters.{GivesFilterText, PutsFilterText};
@@ -9,10 +9,11 @@ use arrayvec::ArrayString;
 use ether_filter::{Filter, FilterError};
 use std::fmt::Write;
 
-/// The text of every refusal is shorter than this.
+/// The text of every error is shorter than this.
 const LONGEST: usize = 512;
 
-/// The text of why an expression is none, with no 0 byte at its end; it is empty if it is one.
+/// Writes why a text is not an expression, without a 0 byte at its end. What is written is empty if the text is an
+/// expression.
 #[unsafe(no_mangle)]
 pub extern "C" fn etherpeel_filter_error_text(
     expression: &[u8],
@@ -29,7 +30,7 @@ pub extern "C" fn etherpeel_filter_error_text(
     status
 }
 
-/// Writes the text of a refusal to the front of a target.
+/// Writes the text of an error to the front of a target.
 fn put_text(error: &FilterError, target: &mut [u8]) -> (u32, usize)
     ensures { PutsFilterText error.now target.old target.new result.0 result.1 }
 {
@@ -39,7 +40,7 @@ fn put_text(error: &FilterError, target: &mut [u8]) -> (u32, usize)
     }
 }
 
-/// The text of a refusal. `None` is not ruled out, since no contract says that `write!` succeeds.
+/// The text of an error. `None` is not ruled out, since no contract says that `write!` succeeds.
 fn text_of(error: &FilterError) -> Option<ArrayString<LONGEST>>
     ensures { IfSome result (λ text. text.bytes ≡ filter_error_text error.now) }
 {

@@ -1,4 +1,4 @@
-//! What a program can ask of the library that it runs with, so that the two fit.
+//! What a program can ask of its library, to find out whether the two fit.
 ghost use Rattle.std.specs.Prelude.{◌≡◌};
 ghost use Rattle.ether_c.specs.Library.{version_number, struct_size};
 
@@ -9,7 +9,8 @@ use crate::{
 };
 use ether_switch::{Sighting, StationBucket};
 
-/// The version of the library: 0x10000 times the first number, 0x100 times the second, and the third.
+/// The version of the library: 0x10000 times the major number, plus 0x100 times the minor number, plus the patch
+/// number.
 #[unsafe(no_mangle)]
 pub extern "C" fn etherpeel_version() -> u32
     ensures { result ≡ version_number 3 0 0 }
@@ -17,7 +18,7 @@ pub extern "C" fn etherpeel_version() -> u32
     0x03_00_00
 }
 
-/// The size in bytes of the struct with a number, 0 if none has it.
+/// The size in bytes of the struct with this number, 0 if no struct has it.
 #[unsafe(no_mangle)]
 pub extern "C" fn etherpeel_sizeof(number: u32) -> usize
     ensures { result ≡ struct_size number }

@@ -27,7 +27,7 @@ pub extern "C" fn etherpeel_missing(
     DONE
 }
 
-/// The same for the walk that reads no more than `limit` VLAN tags and MACsec SecTags.
+/// Does as [`etherpeel_missing`] for the walk that reads at most `limit` VLAN tags and MACsec SecTags.
 #[unsafe(no_mangle)]
 pub extern "C" fn etherpeel_missing_limited(
     start: u32,
@@ -47,7 +47,7 @@ pub extern "C" fn etherpeel_missing_limited(
     DONE
 }
 
-/// The number of bytes that are missing at the end of a walk with this fault, or with none.
+/// The number of bytes that are missing at the end of a walk with this fault; 0 if there is no fault.
 fn missing_at_end(fault: &Option<PeelFault>) -> usize
     ensures { MissesAtEnd fault.now result }
 {

@@ -6,7 +6,7 @@ use ether_peel::{RestKind, Start};
 use etherparse::err::Layer;
 use etherparse::{EtherType, LenSource, LinuxSllProtocolType};
 
-/// The start with a number, if there is one. Only the fourth has the ether type.
+/// The start with this number; `None` if there is none. Only number 4 uses the ether type.
 #[inline(always)]
 pub(crate) fn start_of(number: u32, ether_type: u16) -> Option<Start>
     ensures { result ≡ start_numbered number ether_type }
@@ -20,7 +20,7 @@ pub(crate) fn start_of(number: u32, ether_type: u16) -> Option<Start>
     }
 }
 
-/// The number of what is left of a frame.
+/// The number of what the remaining window is announced as.
 #[inline(always)]
 pub(crate) fn rest_kind(kind: RestKind) -> u32
     ensures { result ≡ rest_kind_number kind }
@@ -38,7 +38,7 @@ pub(crate) fn rest_kind(kind: RestKind) -> u32
     }
 }
 
-/// The ether type or protocol number of what is left of a frame, 0 if it has none.
+/// The ether type or protocol number of the remaining window, 0 if it has none.
 #[inline(always)]
 pub(crate) fn rest_protocol(kind: RestKind) -> u16
     ensures { result ≡ rest_protocol_of kind }
@@ -50,7 +50,7 @@ pub(crate) fn rest_protocol(kind: RestKind) -> u16
     }
 }
 
-/// The number of a layer that a walk names, 0 for any other.
+/// The number of a layer that a walk can name, 0 for any other.
 #[inline(always)]
 pub(crate) fn layer(layer: Layer) -> u32
     ensures { result ≡ layer_number layer }
@@ -66,7 +66,7 @@ pub(crate) fn layer(layer: Layer) -> u32
     }
 }
 
-/// The number of a source of a length that a walk names, 0 for any other.
+/// The number of a source of a length that a walk can name, 0 for any other.
 #[inline(always)]
 pub(crate) fn len_source(source: LenSource) -> u32
     ensures { result ≡ len_source_number source }

@@ -1,21 +1,21 @@
-//! What is asked of a packet, by its units.
+//! What is known of a packet by its units.
 ghost use Rattle.std.specs.Prelude.{◌≡◌, ◌≤◌, length};
 ghost use Rattle.ether_c.specs.Packet.{c_ids, unit_ids, unit_reach, units_reach};
 
 use crate::EtherUnit;
 
-/// What is asked of a packet besides its units.
+/// What is known of a packet by its units.
 #[derive(Clone, Copy)]
 pub(crate) struct PacketFacts {
-    /// The identifiers of the VLAN tags, the outermost first, and 0 after them.
+    /// The identifiers of the VLAN tags, outermost first, followed by zeros.
     pub(crate) vlan_ids: [u16; 3],
-    /// How many VLAN tags there are.
+    /// The number of VLAN tags.
     pub(crate) vlan_count: u16,
-    /// Where the last byte of a unit ends.
+    /// The greatest offset at which a unit ends.
     pub(crate) min_snap_len: usize,
 }
 
-/// What is asked of a packet with these units. At most three are VLAN tags.
+/// What is known of a packet with these units. At most three of them are VLAN tags.
 #[inline(always)]
 pub(crate) fn packet_facts(units: &[EtherUnit]) -> PacketFacts
     requires { length (unit_ids units.now) ≤ 3 }
@@ -40,7 +40,7 @@ pub(crate) fn packet_facts(units: &[EtherUnit]) -> PacketFacts
     }
 }
 
-/// Where a unit ends, with the payload whose length a SecTag names.
+/// The offset at which a unit ends, with its payload if a SecTag gives the payload's length.
 #[inline(always)]
 fn reach(unit: &EtherUnit) -> usize
     ensures { result ≡ unit_reach unit.now }

@@ -1,4 +1,4 @@
-//! Headers that are passed from C as units.
+//! Reads headers that are passed from C as units.
 ghost use Rattle.std.specs.Prelude.{◌≡◌, ◌+◌, ◌<◌, ◌≤◌, length, MatchOption, IfOk, IfErr};
 ghost use Rattle.etherparse.specs.LinkExt.{ext_header_view};
 ghost use Rattle.etherparse.specs.LinuxSllProtocolType.{protocol_of};
@@ -15,7 +15,7 @@ use etherparse::{
 };
 
 impl EtherUnit {
-    /// The header of a link that the unit is, or the status for one that is none.
+    /// The link's header in the unit, or the status if it is not one.
     #[tactic(auto, using(crate::specs::Passed::ethernet2, crate::specs::Passed::linux_sll, crate::specs::Passed::no_link_kind, crate::specs::Passed::bad_packet_type))]
     pub(crate) fn to_link(&self) -> Result<LinkHeader, u32>
         ensures link { IfOk result (PassesLink self.now) }
@@ -31,7 +31,7 @@ impl EtherUnit {
         }
     }
 
-    /// The VLAN tag or SecTag that the unit is, or the status for one that is none.
+    /// The VLAN tag or SecTag in the unit, or the status if it is not one.
     #[tactic(auto, using(crate::specs::Passed::no_ext_kind, crate::specs::Passed::bad_vlan, crate::specs::Passed::bad_macsec))]
     pub(crate) fn to_link_ext(&self) -> Result<LinkExtHeader, u32>
         ensures ext { IfOk result (λ ext. PassesExt self.now (ext_header_view ext)) }
@@ -50,7 +50,7 @@ impl EtherUnit {
         }
     }
 
-    /// The ARP packet that the unit is, with addresses in these bytes, or the status for one that is none.
+    /// The ARP packet in the unit, with its addresses in these bytes, or the status if it is not one.
     #[tactic(auto, using(crate::specs::Passed::arp, crate::specs::Passed::no_arp_kind, crate::specs::Passed::bad_addresses))]
     pub(crate) fn to_arp(&self, bytes: &[u8]) -> Result<ArpPacket, u32>
         ensures arp { IfOk result (PassesArp self.now bytes.now) }
@@ -80,7 +80,7 @@ impl EtherEthernet2 {
 }
 
 impl EtherLinuxSll {
-    /// The header with these fields, `None` if its packet type is above 7.
+    /// The header with these fields; `None` if its packet type is above 7.
     fn to_link(&self) -> Option<LinkHeader>
         ensures { MatchOption result (7 < self.now.packet_type)
             (λ link. (link ≡ linux_sll_passed self.now) × (self.now.packet_type ≤ 7)) }
@@ -98,7 +98,7 @@ impl EtherLinuxSll {
     }
 }
 
-/// What a protocol number means on a link. A walk takes no hardware type for which it has no meaning.
+/// A protocol number, read according to the hardware type. A walk accepts no hardware type that gives it no meaning.
 fn protocol_type(hardware_type: u16, protocol: u16) -> LinuxSllProtocolType
     ensures { result ≡ protocol_of hardware_type protocol }
 {
@@ -109,7 +109,7 @@ fn protocol_type(hardware_type: u16, protocol: u16) -> LinuxSllProtocolType
 }
 
 impl EtherMacsec {
-    /// The tag with these fields, `None` if a number does not fit its field.
+    /// The tag with these fields; `None` if a number does not fit its field.
     fn to_header(&self) -> Option<MacsecHeader>
         ensures { MatchOption result (FitsMacsec self.now → ⊥)
             (λ tag. (sec_tag_view tag ≡ macsec_value self.now) × FitsMacsec self.now) }
@@ -142,7 +142,7 @@ impl EtherMacsec {
     }
 }
 
-/// The type of the payload by the bits E and C.
+/// The type of the payload, by the bits E and C.
 fn payload_type(encrypted: u8, changed: u8, ether_type: u16) -> MacsecPType
     ensures { payload_type_view result ≡ payload_type_for encrypted changed ether_type }
 {
@@ -155,7 +155,7 @@ fn payload_type(encrypted: u8, changed: u8, ether_type: u16) -> MacsecPType
 }
 
 impl EtherArp {
-    /// The packet with these fields and the addresses in these bytes, `None` if one is not within them.
+    /// The packet with these fields, and the addresses in these bytes; `None` if an address is not within the bytes.
     fn to_packet(&self, bytes: &[u8]) -> Option<ArpPacket>
         ensures { MatchOption result (HasAddresses self.now bytes.now → ⊥)
             (λ packet. (packet ≡ arp_passed self.now bytes.now) × HasAddresses self.now bytes.now) }
@@ -179,13 +179,13 @@ impl EtherArp {
         );
         match packet {
             Ok(packet) => Some(packet),
-            // The addresses have two lengths, each that of a byte.
+            // Not reached: the two addresses of each kind have one length, which fits in a byte.
             Err(_) => None,
         }
     }
 }
 
-/// So many bytes from a place on, `None` if they are not all there.
+/// The `len` bytes from the offset `at` on; `None` if they are not all there.
 fn address(bytes: &[u8], at: usize, len: usize) -> Option<&[u8]>
     ensures { MatchOption result (length bytes.now < at + len)
         (λ address. (at + len ≤ length bytes.now) × (address.now ≡ bytes_at bytes.now at len)) }

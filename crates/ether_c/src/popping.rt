@@ -1,4 +1,4 @@
-//! VLAN tags that are taken off in place.
+//! Takes VLAN tags off in place.
 ghost use Rattle.std.specs.Prelude.{◌≡◌};
 ghost use Rattle.ether_peel.specs.Walker.Start.{start_of as start_meant};
 ghost use Rattle.ether_c.specs.Starts.{IsUnknown, IsUnknownStart, OfStart};
@@ -9,8 +9,7 @@ use crate::numbers::start_of;
 use crate::statuses::{DONE, UNKNOWN_START, tag_error};
 use ether_packet::pop_vlan;
 
-/// Takes off the VLAN tag after the header of a link, in place: the frame is then without its first
-/// four bytes.
+/// Takes off the VLAN tag after the link's header, in place. The frame then begins at its fifth byte.
 #[unsafe(no_mangle)]
 pub extern "C" fn etherpeel_pop_vlan(
     start: u32,

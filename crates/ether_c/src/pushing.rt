@@ -1,4 +1,4 @@
-//! VLAN tags that are put in in place.
+//! Puts VLAN tags in, in place.
 ghost use Rattle.std.specs.Prelude.{◌≡◌};
 ghost use Rattle.etherparse.specs.Vlan.{FitsVlan};
 ghost use Rattle.ether_peel.specs.Walker.Start.{start_of as start_meant};
@@ -11,8 +11,8 @@ use crate::statuses::{BAD_FIELD, DONE, UNKNOWN_START, tag_error};
 use ether_packet::push_vlan;
 use etherparse::EtherType;
 
-/// Puts a VLAN tag after the header of a link, in place: the frame is the buffer without its first
-/// four bytes, and then the whole buffer.
+/// Puts a VLAN tag after the link's header, in place. Before the call the frame begins at the fifth byte of the
+/// buffer, and after it at the first.
 #[unsafe(no_mangle)]
 pub extern "C" fn etherpeel_push_vlan(
     start: u32,

@@ -1,10 +1,10 @@
-//! Bytes written to the front of a target.
+//! Writes bytes to the front of a target.
 ghost use Rattle.ether_c.specs.Calls.{PutsBytes};
 
 use crate::statuses::{DONE, NO_ROOM};
 
-/// Writes bytes to the front of a target if it has room for all of them. Returns the status of the
-/// call, and their number.
+/// Writes bytes to the front of a target, if it has room for all of them. Returns the status of the call, and the
+/// number of bytes.
 pub(crate) fn put_bytes(bytes: &[u8], target: &mut [u8]) -> (u32, usize)
     ensures { PutsBytes bytes.now target.old target.new result.0 result.1 }
 {

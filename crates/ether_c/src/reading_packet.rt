@@ -1,4 +1,4 @@
-//! All headers of a packet in one call.
+//! Reads all headers of a packet in one call.
 ghost use Rattle.std.specs.Prelude.{◌≡◌};
 ghost use Rattle.ether_c.specs.Starts.{IsUnknown, IsUnknownStart, OfStart};
 ghost use Rattle.ether_c.specs.Packet.{GivesPacket};
@@ -10,8 +10,8 @@ use crate::statuses::{DONE, UNKNOWN_START};
 use crate::walking::walked;
 use ether_packet::PacketSlice;
 
-/// The headers of a packet with no more than three VLAN tags and SecTags, what is left after them,
-/// and what is asked of a packet.
+/// Reads the headers of a packet, with at most three VLAN tags and SecTags, the window after them, the VLAN
+/// identifiers and the least snap length.
 #[unsafe(no_mangle)]
 pub extern "C" fn etherpeel_packet(
     start: u32,

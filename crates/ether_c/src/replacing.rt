@@ -1,4 +1,4 @@
-//! Headers that are replaced in place.
+//! Replaces headers in place.
 ghost use Rattle.std.specs.Prelude.{◌≡◌, IfOk, IfErr};
 ghost use Rattle.ether_peel.specs.Walker.Start.{start_of};
 ghost use Rattle.ether_packet.specs.Packet.{packet_start};
@@ -11,8 +11,8 @@ use crate::statuses::{DONE, UNKNOWN_START};
 use crate::{EtherReplaceError, EtherUnit, ether_replace_error};
 use ether_packet::{ReplaceError, replace_arp, replace_link, replace_link_ext};
 
-/// Replaces the header of a link that a frame begins with, in place, by another one of the same kind
-/// that says the same about what follows it.
+/// Replaces the link's header at the front of a frame, in place, by one of the same kind that says the same about what
+/// follows it.
 #[unsafe(no_mangle)]
 pub extern "C" fn etherpeel_replace_link(
     start: u32,
@@ -35,8 +35,8 @@ pub extern "C" fn etherpeel_replace_link(
     }
 }
 
-/// Replaces the VLAN tag or SecTag at an index, in place, by another one of the same length that says
-/// the same about what follows it.
+/// Replaces the VLAN tag or SecTag at an index, in place, by one of the same length that says the same about what
+/// follows it.
 #[unsafe(no_mangle)]
 pub extern "C" fn etherpeel_replace_link_ext(
     start: u32,
@@ -61,8 +61,8 @@ pub extern "C" fn etherpeel_replace_link_ext(
     }
 }
 
-/// Replaces the ARP packet of a frame, in place, by another one with addresses of the same lengths,
-/// which are read from `bytes`.
+/// Replaces the ARP packet of a frame, in place, by one whose addresses have the same lengths, and are read from
+/// `bytes`.
 #[unsafe(no_mangle)]
 pub extern "C" fn etherpeel_replace_arp(
     start: u32,
@@ -87,7 +87,7 @@ pub extern "C" fn etherpeel_replace_arp(
     }
 }
 
-/// The status of a call, which writes why a header is not replaced.
+/// Returns the status of a call, and writes its error if there is one.
 fn answer(replaced: Result<(), ReplaceError>, error: &mut EtherReplaceError) -> u32
     ensures kept { IfOk replaced (λ _. error.new ≡ error.old) }
     ensures done { IfOk replaced (λ _. result ≡ done) }

@@ -1,6 +1,6 @@
-//! The packets that a filter selects.
+//! Selects packets by a filter.
 ghost use Rattle.ether_filter.specs.Expressions.{Expression};
-ghost use Rattle.ether_filter.specs.Programs.{IsProgramOf};
+ghost use Rattle.ether_filter.specs.FilterProgram.{IsProgramOf};
 ghost use Rattle.ether_c.specs.Selection.{IsMark};
 ghost use Rattle.ether_c.specs.Filters.{GivesSelection, PutsMarks};
 
@@ -9,10 +9,10 @@ use crate::{EtherCaptured, EtherFilterError};
 use ether_content::program::selects;
 use ether_filter::{Filter, Instruction};
 
-/// Writes for each packet 1 if a filter's expression holds of it, else 0.
+/// Writes for each packet 1 if a filter's expression holds for it, else 0.
 ///
-/// A packet of Linux cooked capture v2 is asked by its payload. One whose link type the walk does not
-/// know is never selected.
+/// For a packet of Linux cooked capture v2 the expression is about its payload. A packet whose link type the walk does
+/// not know is never selected.
 #[unsafe(no_mangle)]
 pub extern "C" fn etherpeel_select(
     expression: &[u8],
@@ -31,7 +31,7 @@ pub extern "C" fn etherpeel_select(
     }
 }
 
-/// Writes the mark of each packet to the front of an array if it has room for all of them.
+/// Writes the mark of each packet to the front of an array, if it has room for all of them.
 pub(crate) fn put_marks(
     instructions: &[Instruction],
     packets: &[EtherCaptured<'_>],

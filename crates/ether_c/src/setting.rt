@@ -1,4 +1,4 @@
-//! VLAN tags that are changed in place.
+//! Changes VLAN tags in place.
 ghost use Rattle.std.specs.Prelude.{◌≡◌, ◌<◌, ◌≤◌};
 ghost use Rattle.etherparse.specs.Vlan.{FitsVlan};
 ghost use Rattle.ether_peel.specs.Walker.Start.{start_of};
@@ -11,7 +11,7 @@ use crate::statuses::{BAD_FIELD, DONE, UNKNOWN_START, tag_error};
 use ether_packet::{set_tpid, set_vlan_id, set_vlan_tag};
 use etherparse::{EtherType, VlanId};
 
-/// Sets the identifier of the VLAN tag at an index of the VLAN tags and SecTags, in place.
+/// Sets the identifier of the VLAN tag at an index among the VLAN tags and SecTags, in place.
 #[unsafe(no_mangle)]
 pub extern "C" fn etherpeel_set_vlan_id(
     start: u32,
@@ -39,8 +39,8 @@ pub extern "C" fn etherpeel_set_vlan_id(
     }
 }
 
-/// Sets the priority code point, the drop eligible indicator and the identifier of the VLAN tag at an
-/// index of the VLAN tags and SecTags, in place.
+/// Sets the priority code point, the drop eligible indicator and the identifier of the VLAN tag at an index among the
+/// VLAN tags and SecTags, in place.
 #[unsafe(no_mangle)]
 pub extern "C" fn etherpeel_set_vlan_tag(
     start: u32,
@@ -76,7 +76,7 @@ pub extern "C" fn etherpeel_set_vlan_tag(
     }
 }
 
-/// Sets the ether type that announces the VLAN tag at an index of the VLAN tags and SecTags, in place.
+/// Sets the ether type that announces the VLAN tag at an index among the VLAN tags and SecTags, in place.
 #[unsafe(no_mangle)]
 pub extern "C" fn etherpeel_set_tpid(
     start: u32,

@@ -29,7 +29,7 @@ pub extern "C" fn etherpeel_summary(
     DONE
 }
 
-/// The result of the walk that reads no more than `limit` VLAN tags and MACsec SecTags.
+/// Does as [`etherpeel_summary`] for the walk that reads at most `limit` VLAN tags and MACsec SecTags.
 #[unsafe(no_mangle)]
 pub extern "C" fn etherpeel_summary_limited(
     start: u32,

@@ -1,4 +1,4 @@
-//! A bridge with VLANs.
+//! A bridge with VLANs, for callers in C.
 ghost use Rattle.std.specs.Prelude.{◌≡◌, List, IfSome, None, ◌⊎◌};
 ghost use Rattle.etherparse.specs.Header.{Header};
 ghost use Rattle.ether_peel.specs.Grammar.Stack.{Ending, Walk};
@@ -13,7 +13,7 @@ use crate::statuses::{BAD_FIELD, DONE, STAYS};
 use crate::{EtherPort, EtherReceived};
 use ether_switch::{Bridge, PortConfig, Received, StationBucket};
 
-/// Learns the source of a frame that came in by a port, and says what the bridge makes of the frame.
+/// Learns the source of a frame that came in by a port, and writes where the frame goes, or why it is discarded.
 #[unsafe(no_mangle)]
 pub extern "C" fn etherpeel_switch_receive(
     kind: u32,
@@ -47,7 +47,7 @@ pub extern "C" fn etherpeel_switch_receive(
     DONE
 }
 
-/// Whether a frame leaves by a port, and with the tag of its VLAN or without one.
+/// Writes whether a frame leaves by a port, and whether with the tag of its VLAN.
 #[unsafe(no_mangle)]
 pub extern "C" fn etherpeel_switch_form(
     received: &EtherReceived,
@@ -70,7 +70,7 @@ pub extern "C" fn etherpeel_switch_form(
     DONE
 }
 
-/// The number of how a frame leaves by a port.
+/// The number of the form in which a frame leaves by a port.
 fn form_of(received: &Received, to: u16, port: &PortConfig) -> u32
     ensures { result ≡ form_number received.now to port.now }
 {
@@ -84,7 +84,8 @@ fn form_of(received: &Received, to: u16, port: &PortConfig) -> u32
     }
 }
 
-/// Makes a frame ready to leave by a port, after four bytes of a buffer that are free, and says where it begins then.
+/// Makes a frame after four free bytes of a buffer ready to leave by a port, and writes the index at which it then
+/// begins.
 #[unsafe(no_mangle)]
 pub extern "C" fn etherpeel_switch_send(
     received: &EtherReceived,

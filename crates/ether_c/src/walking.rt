@@ -1,4 +1,4 @@
-//! The units of a frame in an array.
+//! Writes the units of a frame to an array.
 ghost use Rattle.std.specs.Prelude.{◌≡◌, ◌+◌, slice_set};
 ghost use Rattle.etherparse.specs.Header.{header_len};
 ghost use Rattle.ether_peel.specs.Walker.Start.{start_of as start_meant, limited_start, start_with};
@@ -15,7 +15,7 @@ use crate::numbers::start_of;
 use crate::statuses::{DONE, UNKNOWN_START};
 use ether_peel::{Peel, PeelFault, PeelUnit, Start, Summary};
 
-/// The units of a frame, as many as the array has room for, and how many there are in all.
+/// Writes as many units of a frame as the array has room for, and the number of all its units.
 #[unsafe(no_mangle)]
 pub extern "C" fn etherpeel_walk(
     start: u32,
@@ -36,8 +36,7 @@ pub extern "C" fn etherpeel_walk(
     DONE
 }
 
-/// The units of the walk that reads no more than `limit` VLAN tags and MACsec SecTags, as many as
-/// the array has room for, and how many there are in all.
+/// Does as [`etherpeel_walk`] for the walk that reads at most `limit` VLAN tags and MACsec SecTags.
 #[unsafe(no_mangle)]
 pub extern "C" fn etherpeel_walk_limited(
     start: u32,
@@ -59,8 +58,8 @@ pub extern "C" fn etherpeel_walk_limited(
     DONE
 }
 
-/// The units of a walk with a limit on extensions or without, as many as the array has room for, and
-/// the result of the walk.
+/// Writes as many units of a walk, with a limit on tags or without, as the array has room for. Returns the result of
+/// the walk.
 #[inline(always)]
 pub(crate) fn walked(
     start: Start,
@@ -92,7 +91,7 @@ pub(crate) fn walked(
     }
 }
 
-/// A walk that has read nothing yet, with a limit on extensions or without.
+/// A walk that has read nothing yet, with a limit on tags or without.
 #[inline(always)]
 fn begun_walk<'a>(start: Start, bytes: &'a [u8], limit: Option<usize>) -> Peel<'a>
     ensures state { result ≡ begun (start_with start limit) bytes.now }
@@ -104,7 +103,7 @@ fn begun_walk<'a>(start: Start, bytes: &'a [u8], limit: Option<usize>) -> Peel<'
     }
 }
 
-/// Writes a unit to its place, if the array has it.
+/// Writes a unit to the index `at`, if the array has that index.
 #[inline(always)]
 fn put(units: &mut [EtherUnit], at: usize, unit: &PeelUnit<'_>, place: UnitPlace)
     requires { place.offset + header_len (unit_header unit.now) ≡ place.payload_start }

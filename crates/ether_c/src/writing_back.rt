@@ -1,4 +1,4 @@
-//! Headers written back before the rest.
+//! Writes headers back, and what follows them.
 ghost use Rattle.std.specs.Prelude.{◌≡◌};
 ghost use Rattle.ether_peel.specs.Walker.Start.{start_of as start_meant, limited_start};
 ghost use Rattle.ether_c.specs.Starts.{IsUnknown, IsUnknownStart, OfStart};
@@ -9,7 +9,7 @@ use crate::statuses::{DONE, NO_ROOM, UNKNOWN_START};
 use ether_peel::{write_back, write_back_limited};
 use etherparse::err::SliceWriteSpaceError;
 
-/// Writes the headers of a frame, and what is left after them, to the front of a target.
+/// Writes the headers of a frame, and the window after them, to the front of a target.
 #[unsafe(no_mangle)]
 pub extern "C" fn etherpeel_write_back(
     start: u32,
@@ -31,8 +31,7 @@ pub extern "C" fn etherpeel_write_back(
     status
 }
 
-/// Writes the headers of the walk that reads no more than `limit` VLAN tags and MACsec SecTags, and
-/// what is left after them.
+/// Does as [`etherpeel_write_back`] for the walk that reads at most `limit` VLAN tags and MACsec SecTags.
 #[unsafe(no_mangle)]
 pub extern "C" fn etherpeel_write_back_limited(
     start: u32,
@@ -56,8 +55,7 @@ pub extern "C" fn etherpeel_write_back_limited(
     status
 }
 
-/// The status of the call, and its length: the number of bytes that were written, or that the
-/// target needs.
+/// Returns the status of the call, and a length: the number of bytes that were written, or that the target needs.
 fn answer(written: Result<usize, SliceWriteSpaceError>) -> (u32, usize)
     ensures status { result.0 ≡ written_status written }
     ensures len { result.1 ≡ written_len written }

@@ -1,4 +1,4 @@
--- What is walked of a packet, as a value.
+-- The part of a packet that is walked, as a value.
 use Rattle.ether_base.specs.Bytes.{number}
 use Rattle.ether_base.specs.Formats.LinuxSll.{LinuxSllValue}
 use Rattle.ether_peel.specs.Walker.Start.{next_of}

@@ -14,8 +14,8 @@ use Rattle.ether_pcap.specs.Editing.{EditedValue, edited_packet}
 use Rattle.ether_content.specs.Content.{Frame, content_of, fcs_len}
 use Rattle.ether_content.specs.Headers.{HeadersTake}
 
--- a packet is cut where its headers end; the VLAN tag after the header of its link is taken off; one is put in there, which is
--- announced by this TPID and has this identifier; or the outermost VLAN tag with the old identifier gets the new one
+-- The packet is cut to its headers; or the VLAN tag after its link's header is taken off; or a VLAN tag with this TPID
+-- and identifier is put in there; or the outermost VLAN tag with the old identifier gets the new one.
 pub data EditValue : Type 0 where
   CutToHeaders : EditValue
   PopVlan : EditValue
@@ -25,17 +25,17 @@ pub data EditValue : Type 0 where
 abbrev pub frame_start : Next → Expectation
 frame_start next = record { next = next; limit = None }
 
--- A packet is a frame of Ethernet or of cooked capture v1, with this walk.
+-- The packet is a frame of Ethernet or of cooked capture v1, with this walk.
 pub record IsFrame (p : PacketValue) (next : Next) (frame : List ℕ) (hs : List Header) (e : Ending) : Type 0 where
   pub content : content_of p ≡ Frame next frame
   pub walk : Walk (frame_start next) frame hs e
 
--- another frame in place of that of a packet; what was captured after it, of a frame check sequence, stays
+-- another frame in place of the packet's; captured bytes after it, of a frame check sequence, are unchanged
 abbrev pub with_frame : PacketValue → (frame new : List ℕ) → (original_len : ℕ) → EditedValue
 with_frame p frame new original_len = record { original_len = original_len; packet = new ++ drop (length frame) p.packet }
 
--- The VLAN tag after the header of a frame's link is taken off, and the packet has four bytes less. It is still a frame, with the walk that
--- `IsPopped` says.
+-- The VLAN tag after the link's header is taken off, and the packet is four bytes shorter. It is still a frame, with
+-- the walk that `IsPopped` says.
 pub record Pops (p : PacketValue) (edited : EditedValue) : Type 0 where
   pub next : Next
   pub frame : List ℕ
@@ -48,16 +48,16 @@ pub record Pops (p : PacketValue) (edited : EditedValue) : Type 0 where
   pub is : edited ≡ with_frame p frame (drop 4 new) (p.original_len - 4)
   pub content : content_of (edited_packet edited p) ≡ Frame next (drop 4 new)
 
--- the tag that is put in, of priority 0; it gets the ether type of the link
+-- the tag that is put in, of priority 0; it gets the ether type of the link's header
 abbrev pub tag_with : (id : ℕ) → VlanValue
 tag_with id = record { pcp = 0; dei = 0; vid = id; ether_type = 0 }
 
--- a frame after four bytes that are free
+-- a frame after four free bytes
 abbrev pub after_free : List ℕ → List ℕ
 after_free frame = 0 ∷ 0 ∷ 0 ∷ 0 ∷ frame
 
--- A VLAN tag is put in after the header of a frame's link, and the packet has four bytes more. It is still a frame, with the walk that
--- `IsPushed` says.
+-- A VLAN tag is put in after the link's header, and the packet is four bytes longer. It is still a frame, with the
+-- walk that `IsPushed` says.
 pub record Pushes (tpid id : ℕ) (p : PacketValue) (edited : EditedValue) : Type 0 where
   pub next : Next
   pub frame : List ℕ
@@ -69,7 +69,7 @@ pub record Pushes (tpid id : ℕ) (p : PacketValue) (edited : EditedValue) : Typ
   pub is : edited ≡ with_frame p frame new (p.original_len + 4)
   pub content : content_of (edited_packet edited p) ≡ Frame next new
 
--- The outermost VLAN tag of a frame with one identifier gets another one, and the packet is as long as before. It is still a
+-- The outermost VLAN tag with one identifier gets another one, and the packet is as long as before. It is still a
 -- frame, with the walk that `SetsTag` says.
 pub record Sets (old new : ℕ) (p : PacketValue) (edited : EditedValue) : Type 0 where
   pub next : Next
@@ -84,13 +84,13 @@ pub record Sets (old new : ℕ) (p : PacketValue) (edited : EditedValue) : Type 
   pub is : edited ≡ with_frame p frame changed p.original_len
   pub content : content_of (edited_packet edited p) ≡ Frame next changed
 
--- A packet stays as it is: it is no frame, or its frame is refused.
+-- A packet is unchanged: it is not a frame, or its frame is refused.
 pub data Stays (Refuses : (frame : List ℕ) → List Header → Type 0) (p : PacketValue) : Type 0 where
   no_frame : ((next : Next) (frame : List ℕ) → content_of p ≢ Frame next frame) → Stays Refuses p
   refused : (next : Next) (frame : List ℕ) (hs : List Header) (e : Ending) → IsFrame p next frame hs e → Refuses frame hs
       → Stays Refuses p
 
--- what an edit makes of a packet, if it does not stay
+-- what an edit makes of a packet; None if the packet is unchanged
 pub data Edits : EditValue → PacketValue → Option EditedValue → Type 0 where
   cuts : (p : PacketValue) (n : ℕ) → HeadersTake (content_of p) n → n < length p.packet
       → Edits CutToHeaders p (Some (record { original_len = p.original_len; packet = take n p.packet }))
@@ -104,27 +104,27 @@ pub data Edits : EditValue → PacketValue → Option EditedValue → Type 0 whe
   sets : (p : PacketValue) (old new : ℕ) (e : EditedValue) → Sets old new p e → Edits (SetVlan old new) p (Some e)
   not_set : (p : PacketValue) (old new : ℕ) → Stays (λ frame hs. LacksVlan hs old) p → Edits (SetVlan old new) p None
 
--- how many bytes a packet has more at most
+-- the most bytes that an edit adds to a packet
 abbrev pub growth : EditValue → ℕ
 growth (PushVlan tpid id) = 4
 growth edit = 0
 
--- identifiers that a tag gets have 12 bits
+-- the identifiers that tags get have 12 bits
 abbrev pub FitsEdit : EditValue → Type 0
 FitsEdit (PushVlan tpid id) = id < 4096
 FitsEdit (SetVlan old new) = new < 4096
 FitsEdit edit = ⊤
 
--- Each packet is edited to some value, or stays.
+-- Each packet is edited to some value, or is unchanged.
 abbrev pub EditsAreSome : Type 0
 EditsAreSome =
     (edit : EditValue) (p : PacketValue) → FitsEdit edit → IsBytes p.packet → (o : Option EditedValue) × Edits edit p o
 
--- A packet that is edited has no more bytes than its growth allows.
+-- An edit makes a packet longer by at most its growth.
 abbrev pub EditsGrow : Type 0
 EditsGrow = (edit : EditValue) (p : PacketValue) (e : EditedValue) → Edits edit p (Some e) → length e.packet ≤ length p.packet + growth edit
 
--- A packet is edited to one value.
+-- An edit makes at most one thing of a packet.
 abbrev pub EditsAreOne : Type 0
 EditsAreOne = (edit : EditValue) (p : PacketValue) (o q : Option EditedValue) → Edits edit p o → Edits edit p q → o ≡ q
 
@@ -136,12 +136,12 @@ unedited p = record { original_len = p.original_len; packet = p.packet }
 abbrev pub Undoes : EditValue → PacketValue → EditedValue → Type 0
 Undoes edit p e = Edits edit (edited_packet e p) (Some (unedited p)) × (edited_packet (unedited p) (edited_packet e p) ≡ p)
 
--- Taking off the VLAN tag that was put into a packet restores the packet.
+-- Taking off the VLAN tag that was just put into a packet restores the packet.
 abbrev pub PoppedAfterPushed : Type 0
 PoppedAfterPushed =
     (tpid id : ℕ) (p : PacketValue) (e : EditedValue) → IsBytes p.packet → Edits (PushVlan tpid id) p (Some e) → Undoes PopVlan p e
 
--- at most the original length was captured, or the file gives no frame check sequence
+-- no more bytes were captured than the original length, or the file gives no frame check sequence
 abbrev pub IsWithinOriginal : PacketValue → Type 0
 IsWithinOriginal p = (length p.packet ≤ p.original_len) ⊎ (fcs_len p ≡ 0)
 
@@ -151,13 +151,13 @@ CutOnce =
     (p : PacketValue) (e : EditedValue) → IsBytes p.packet → IsWithinOriginal p → Edits CutToHeaders p (Some e)
     → Edits CutToHeaders (edited_packet e p) None
 
--- No VLAN tag of a packet before the outermost one with an identifier has this other one.
+-- No VLAN tag before the outermost one with the first identifier has the second identifier.
 abbrev pub LacksBefore : (id other : ℕ) → PacketValue → Type 0
 LacksBefore id other p =
     (next : Next) (frame : List ℕ) (hs : List Header) (e : Ending) (i : ℕ) → IsFrame p next frame hs e
     → (found : FindsVlan hs id i) → LacksVlan found.front other
 
--- Setting the old identifier of a VLAN tag again restores the packet, if no tag before it has the new identifier.
+-- Changing the identifier of a VLAN tag back restores the packet, if no tag before it has the new identifier.
 abbrev pub SetBack : Type 0
 SetBack =
     (old new : ℕ) (p : PacketValue) (e : EditedValue) → IsBytes p.packet → LacksBefore old new p → Edits (SetVlan old new) p (Some e)

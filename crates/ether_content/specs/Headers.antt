@@ -1,4 +1,4 @@
--- How many bytes of a captured packet its headers take.
+-- The number of bytes that the headers of a captured packet take.
 use Rattle.std.specs.Prelude.{◌≡◌, ℕ, ◌+◌, List, None}
 use Rattle.ether_base.specs.Bytes.{IsBytes}
 use Rattle.etherparse.specs.Header.{Header}
@@ -11,15 +11,15 @@ use Rattle.ether_sll2.specs.LinuxSll2.{AcceptsLinuxSll2, protocol_of_header}
 use Rattle.ether_pcap.specs.Capture.{PacketValue}
 use Rattle.ether_content.specs.Content.{ContentValue, Frame, LinuxSll, LinuxSll2, Unknown, IsWalked, content_of}
 
--- the headers of a frame reach so far, with the payloads whose lengths they name
+-- the headers of a frame take n bytes, with the payloads whose lengths they give
 pub record Reaches (next : Next) (frame : List ℕ) (n : ℕ) : Type 0 where
   pub headers : List Header
   pub ending : Ending
   pub walk : Walk (record { next = next; limit = None }) frame headers ending
   pub is_reach : n ≡ reach 0 headers
 
--- .. those of a packet: of cooked capture v1 that is no frame its header and those of its payload; of v2 its header, if it is accepted, and
--- those of the payload that an ether type announces
+-- .. and those of a packet. In cooked capture v1 that is not read as a frame these are its header and the headers of
+-- its payload; in v2 its header, if that is accepted, and the headers of the payload that an ether type announces.
 pub data HeadersTake : ContentValue → ℕ → Type 0 where
   frame : (next : Next) (bytes : List ℕ) (n : ℕ) → Reaches next bytes n → HeadersTake (Frame next bytes) n
   cooked : (s : LinuxSllValue) (payload : List ℕ) (n : ℕ) → Reaches (EtherType s.protocol) payload n → HeadersTake (LinuxSll s payload) (16 + n)
@@ -29,7 +29,7 @@ pub data HeadersTake : ContentValue → ℕ → Type 0 where
   no_header : (bytes : List ℕ) → ¬ (AcceptsLinuxSll2 bytes) → HeadersTake (LinuxSll2 bytes) 0
   unknown : HeadersTake Unknown 0
 
--- the headers of any packet take a number of bytes, and only one
+-- the headers of any packet take exactly one number of bytes
 pub record HeadersTakeOne : Type 0 where
   pub some : (p : PacketValue) → IsBytes p.packet → (n : ℕ) × HeadersTake (content_of p) n
   pub one : (p : PacketValue) (n m : ℕ) → HeadersTake (content_of p) n → HeadersTake (content_of p) m → n ≡ m

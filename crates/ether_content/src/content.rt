@@ -1,4 +1,4 @@
-//! What is walked of a captured packet.
+//! The part of a captured packet that is walked.
 ghost use Rattle.std.specs.Prelude.{◌≡◌, ℕ, List, IfSome, None};
 ghost use Rattle.ether_base.specs.Formats.LinuxSllProtocolType.{told_ether_type};
 ghost use Rattle.ether_sll2.specs.LinuxSll2.{AcceptsLinuxSll2, protocol_of_header};
@@ -17,7 +17,7 @@ use ether_sll2::LinuxSll2Slice;
 /// The length in bytes of the frame check sequence of Ethernet.
 const FCS_LEN: usize = 4;
 
-/// What is walked of a packet.
+/// The part of a packet that is walked, by its link type.
 ///
 /// ```
 /// let packet = CapturedPacket {
@@ -34,22 +34,22 @@ const FCS_LEN: usize = 4;
 /// ```
 #[derive(Clone, Copy, Debug)]
 pub enum Content<'a> {
-    /// A frame, with what it begins with. It has a frame check sequence only if that says so.
+    /// A frame, and how its walk starts. The frame has a frame check sequence only if the start says so.
     Frame(Start, &'a [u8]),
-    /// A packet of Linux cooked capture v1 whose hardware type, other than that of Ethernet, gives protocol numbers no meaning of their own:
-    /// its header, and its payload, which is walked by the protocol as an ether type.
+    /// A packet of Linux cooked capture v1 whose hardware type is not that of Ethernet, and gives protocol numbers no
+    /// meaning of its own: the header, and the payload, which is walked with the protocol as its ether type.
     LinuxSll(CookedHeader, &'a [u8]),
     /// A packet of Linux cooked capture v2.
     LinuxSll2(&'a [u8]),
-    /// Nothing: the walk knows no such link type.
+    /// Nothing: the walk does not know the link type.
     Unknown,
 }
 
 impl<'a> Content<'a> {
-    /// What is walked of a packet, by its link type.
+    /// The part of a packet that is walked, by its link type.
     ///
-    /// A frame check sequence whose length the capture gives is left out. Only one of four bytes, of an Ethernet frame that was not
-    /// cut, stays.
+    /// A frame check sequence whose length the capture gives is left out, with one exception: one of four bytes
+    /// remains part of an Ethernet frame that was not cut.
     #[inline(always)]
     pub fn of(packet: &CapturedPacket<'a>) -> Content<'a>
         ensures { content_view result ≡ content_of (captured_packet_view packet.now) }
@@ -77,8 +77,9 @@ impl<'a> Content<'a> {
         matches!(self, Content::Unknown)
     }
 
-    /// The frame, with what it begins with. Of a packet of cooked capture v1 that is no frame it is the payload, and of v2 too, if the
-    /// header can be read and an ether type announces it.
+    /// The frame, and how its walk starts. For a packet of cooked capture v1 that is not read as a frame, it is the
+    /// payload. For one of v2 it is the payload, too, if the header can be read and an ether type announces the
+    /// payload; else `None`.
     pub fn frame(self) -> Option<(Start, &'a [u8])>
         ensures some { IfSome result (λ frame. IsWalked (content_view self.entry) (next_of frame.0) frame.1.now) }
         ensures none { result ≡ None → (next : Next) (bytes : List ℕ) → IsWalked (content_view self.entry) next bytes → ⊥ }
@@ -94,7 +95,7 @@ impl<'a> Content<'a> {
     }
 }
 
-/// What is walked of a packet of cooked capture v1.
+/// The part of a packet of cooked capture v1 that is walked.
 fn cooked_content(bytes: &[u8]) -> Content<'_>
     ensures { content_view result ≡ cooked_content bytes.now }
 {
@@ -104,7 +105,7 @@ fn cooked_content(bytes: &[u8]) -> Content<'_>
     }
 }
 
-/// What the payload of a packet of cooked capture v2 begins with, and the payload.
+/// The payload of a packet of cooked capture v2, and how its walk starts.
 pub(crate) fn payload_of(bytes: &[u8]) -> Option<(Start, &[u8])>
     ensures some { IfSome result (λ frame. IsWalked (contents.LinuxSll2 bytes.now) (next_of frame.0) frame.1.now) }
     ensures none { result ≡ None → AcceptsLinuxSll2 bytes.now → told_ether_type (protocol_of_header bytes.now) ≡ None }
@@ -118,7 +119,7 @@ pub(crate) fn payload_of(bytes: &[u8]) -> Option<(Start, &[u8])>
     }
 }
 
-/// Returns `true` if bytes of the packet were not captured.
+/// Returns `true` if some bytes of the packet were not captured.
 #[inline(always)]
 pub fn is_cut(packet: &CapturedPacket<'_>) -> bool
     ensures { result ≡ is_cut (captured_packet_view packet.now) }
@@ -126,21 +127,22 @@ pub fn is_cut(packet: &CapturedPacket<'_>) -> bool
     packet.packet.len() < packet.original_len as usize
 }
 
-/// The length of the frame check sequence at the end of the packet before it was cut.
+/// The length of the frame check sequence at the end of the packet before it was cut; 0 if the capture does not give
+/// it.
 fn fcs_len(packet: &CapturedPacket<'_>) -> usize
     ensures { result ≡ fcs_len (captured_packet_view packet.now) }
 {
     usize::from(packet.fcs_len.unwrap_or(0))
 }
 
-/// Whether the whole frame check sequence of Ethernet is there.
+/// Whether an Ethernet frame was captured with its whole frame check sequence.
 fn has_fcs(packet: &CapturedPacket<'_>) -> bool
     ensures { result ≡ has_fcs (captured_packet_view packet.now) }
 {
     !is_cut(packet) && fcs_len(packet) == FCS_LEN
 }
 
-/// The captured bytes without those of the frame check sequence, whose length the capture gives.
+/// The captured bytes without those of the frame check sequence, if the capture gives its length.
 ///
 /// ```
 /// let packet = CapturedPacket {

@@ -1,5 +1,5 @@
-//! The header of Linux cooked capture v1 (LINKTYPE_LINUX_SLL) on a link other than Ethernet whose hardware type gives protocol numbers no
-//! meaning of their own.
+//! The header of Linux cooked capture v1 (LINKTYPE_LINUX_SLL) with a hardware type that is not that of Ethernet, and
+//! gives protocol numbers no meaning of its own.
 ghost use Rattle.std.specs.Prelude.{◌≡◌, ◌+◌, ◌≤◌, length, slice_range, true, false, None, IfSome};
 ghost use Rattle.ether_base.specs.Bytes.{number};
 ghost use Rattle.ether_base.specs.Formats.LinuxSll.{is_supported, linux_sll_of};
@@ -9,8 +9,9 @@ ghost use Rattle.ether_content.specs.ContentViews.{cooked_view};
 use ether_sll::linux_sll_fields as fields;
 use etherparse::{ArpHardwareId, EtherType, LinuxSllPacketType, LinuxSllProtocolType};
 
-/// The header of a packet of Linux cooked capture v1 (LINKTYPE_LINUX_SLL) whose hardware type, other than that of Ethernet, gives protocol
-/// numbers no meaning of their own, as 772 of the loopback device. The walk refuses such a header; its protocol is taken for an ether type.
+/// The header of a packet of Linux cooked capture v1 (LINKTYPE_LINUX_SLL) with a hardware type that is not that of
+/// Ethernet, and gives protocol numbers no meaning of its own, such as 772 of the loopback device. The walk refuses
+/// such a header; here its protocol is read as an ether type.
 ///
 /// ```
 /// let packet = CapturedPacket {
@@ -38,11 +39,11 @@ pub struct CookedHeader {
     pub packet_type: u16,
     /// The ARPHRD_ type of the device.
     pub hardware_type: ArpHardwareId,
-    /// The length of the sender's address in bytes, which may be more than there is room for.
+    /// The length of the sender's address in bytes. May exceed 8, though the field holds only 8 bytes.
     pub address_len: u16,
-    /// The 8 bytes of the sender's address, used or not.
+    /// The sender's address, truncated to 8 bytes or padded.
     pub address: [u8; 8],
-    /// The protocol, which is taken for an ether type. Below 0x0600 it is none.
+    /// The protocol, read as an ether type. A number below 0x0600 is not one.
     pub protocol: EtherType,
 }
 
@@ -51,7 +52,8 @@ impl CookedHeader {
     pub const LEN: usize = 16;
 }
 
-/// The header at the front of a packet of cooked capture v1. Returns `None` if the packet is a frame.
+/// Reads the header at the front of a packet of cooked capture v1. Returns `None` if the packet is read as a frame
+/// instead.
 pub(crate) fn cooked_header(bytes: &[u8]) -> Option<CookedHeader>
     ensures some { IfSome result (λ h. (has_other_hardware bytes.now ≡ true) × (cooked_view h ≡ linux_sll_of bytes.now)) }
     ensures none { result ≡ None → has_other_hardware bytes.now ≡ false }
@@ -76,7 +78,7 @@ pub(crate) fn cooked_header(bytes: &[u8]) -> Option<CookedHeader>
     })
 }
 
-/// Whether a hardware type is that of Ethernet, or gives protocol numbers a meaning of their own.
+/// Whether a hardware type is that of Ethernet, or gives protocol numbers a meaning of its own.
 fn is_supported(hardware_type: ArpHardwareId) -> bool
     ensures { result ≡ is_supported hardware_type.0 }
 {

@@ -1,4 +1,4 @@
-//! How many bytes of a captured packet its headers take.
+//! The number of bytes that the headers of a captured packet take.
 ghost use Rattle.std.specs.Prelude.{◌≤◌, length};
 ghost use Rattle.ether_pcap.specs.CaptureViews.{captured_packet_view};
 ghost use Rattle.ether_content.specs.Content.{content_of};
@@ -13,10 +13,10 @@ use ether_pcap::CapturedPacket;
 use ether_peel::Start;
 use ether_sll2::{LinuxSll2Header, LinuxSll2Slice};
 
-/// How many bytes of a packet its link-layer headers take, with the payloads whose lengths they name: cut to so many bytes, it keeps all
-/// headers.
+/// The number of bytes that the link-layer headers of a packet take, with the payloads whose lengths they give. A
+/// packet that is cut to that many bytes keeps all headers.
 ///
-/// A header that is refused does not count, and a packet whose link type the walk does not know has none.
+/// A header that is refused is not counted, and a packet whose link type the walk does not know has no headers.
 ///
 /// ```
 /// let packet = CapturedPacket {
@@ -47,7 +47,7 @@ pub fn headers_len(packet: &CapturedPacket<'_>) -> usize
     }
 }
 
-/// How far the headers of a frame reach.
+/// The number of bytes that the headers of a frame take.
 fn frame_len(start: Start, frame: &[u8]) -> usize
     ensures reaches { Reaches (next_of start) frame.now result }
     ensures within { result ≤ length frame.now }
@@ -55,7 +55,7 @@ fn frame_len(start: Start, frame: &[u8]) -> usize
     min_snap_len(start, frame)
 }
 
-/// How many bytes of a packet of cooked capture v2 its headers take.
+/// The number of bytes that the headers of a packet of cooked capture v2 take.
 fn linux_sll2_len(bytes: &[u8]) -> usize
     ensures { HeadersTake (contents.LinuxSll2 bytes.now) result }
 {

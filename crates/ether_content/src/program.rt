@@ -1,20 +1,20 @@
-//! Filters in memory of the caller: which packets of a capture they select.
+//! Applies filters that are kept in memory of the caller to captured packets.
 ghost use Rattle.std.specs.Prelude.{◌≡◌, ◌↔◌, length, IsTrue};
 ghost use Rattle.ether_filter.specs.Expressions.{Expression};
-ghost use Rattle.ether_filter.specs.Programs.{IsProgramOf};
+ghost use Rattle.ether_filter.specs.FilterProgram.{IsProgramOf};
 ghost use Rattle.ether_pcap.specs.CaptureViews.{captured_packet_view};
 ghost use Rattle.ether_peel.specs.Walker.Start.{next_of};
 ghost use Rattle.ether_content.specs.Selecting.{HoldsOf, IsUndecided, NeedsBytes, Selects, asked_of};
 
 use crate::content::{Content, is_cut, whole_len};
-use ether_filter::{Decision, Instruction, Packet, program};
+use ether_filter::{Decision, Instruction, Packet, filter_program};
 use ether_pcap::CapturedPacket;
 use ether_peel::Start;
 use ether_sll2::LinuxSll2Header;
 
-/// Returns `true` if the filter that gave the instructions selects a packet, as [`selects`](crate::selects) says.
+/// Returns `true` if the filter of these instructions selects a packet, as [`selects`](crate::selects) says.
 ///
-/// If no filter gave them, the result says nothing.
+/// If the instructions are not those of a filter, nothing is claimed of the result.
 pub fn selects(instructions: &[Instruction], packet: &CapturedPacket<'_>) -> bool
     ensures { (x : Expression) → IsProgramOf instructions.now x → IsTrue result ↔ Selects x (captured_packet_view packet.now) }
 {
@@ -34,7 +34,7 @@ fn holds(
     ensures { (x : Expression) → IsProgramOf instructions.now x → IsTrue result
         ↔ HoldsOf x (next_of start) frame.now (length packet.now.packet.now) packet.now.original_len }
 {
-    program::matches(
+    filter_program::matches(
         instructions,
         &Packet {
             start,
@@ -45,10 +45,10 @@ fn holds(
     )
 }
 
-/// Returns `true` if the captured bytes of a packet don't decide whether the filter that gave the instructions selects it, as
-/// [`is_undecided`](crate::is_undecided) says.
+/// Returns `true` if the captured bytes of a packet do not decide whether the filter of these instructions selects it,
+/// as [`is_undecided`](crate::is_undecided) says.
 ///
-/// If no filter gave them, the result says nothing.
+/// If the instructions are not those of a filter, nothing is claimed of the result.
 #[inline(always)]
 pub fn is_undecided(instructions: &[Instruction], packet: &CapturedPacket<'_>) -> bool
     ensures { (x : Expression) → IsProgramOf instructions.now x → IsTrue result ↔ IsUndecided x (captured_packet_view packet.now) }
@@ -56,7 +56,7 @@ pub fn is_undecided(instructions: &[Instruction], packet: &CapturedPacket<'_>) -
     is_cut(packet) && leaves_open(instructions, packet)
 }
 
-/// Whether the captured bytes of a packet don't decide whether a filter selects it.
+/// Does as `is_undecided`, for a packet that was cut.
 #[inline(never)]
 fn leaves_open(instructions: &[Instruction], packet: &CapturedPacket<'_>) -> bool
     ensures { (x : Expression) → IsProgramOf instructions.now x → IsTrue result ↔ IsUndecided x (captured_packet_view packet.now) }
@@ -73,7 +73,7 @@ fn leaves_open(instructions: &[Instruction], packet: &CapturedPacket<'_>) -> boo
     }
 }
 
-/// Whether more bytes of a packet's walk are needed to decide whether a filter's expression holds of it.
+/// Whether a filter needs more bytes of a frame to decide.
 fn needs_bytes(
     instructions: &[Instruction],
     start: Start,
@@ -83,7 +83,7 @@ fn needs_bytes(
     ensures { (x : Expression) → IsProgramOf instructions.now x
         → IsTrue result ↔ NeedsBytes x (asked_of start frame.entry packet.now) }
 {
-    let decision = program::decide(
+    let decision = filter_program::decide(
         instructions,
         &Packet {
             start,

@@ -1,11 +1,12 @@
-//! What the tests are written with.
+//! What the tests compare values and bytes with.
 use arrayvec::ArrayString;
 use std::fmt::{Debug, Display, Write};
 
-/// The row, the value that differs, what was found and what is wanted. What has no room is cut off.
+/// The row, the value that differs, the value that was found and the wanted one. A longer text is cut off.
 type Difference = ArrayString<4096>;
 
-/// How two values differ, if they do. Its contract says nothing, so no proof of a test follows the comparison.
+/// How two values differ; `None` if they are equal. The contract says nothing, so the proof of a test does not follow
+/// the comparison.
 pub(crate) fn difference<N: Display, T: PartialEq + Debug>(
     name: &N,
     value: &str,
@@ -33,7 +34,7 @@ pub(crate) fn first<const N: usize>(differences: [Option<Difference>; N]) -> Opt
     None
 }
 
-/// Fails at the caller's line if a value of the row `$name` is not what is wanted.
+/// Fails at the caller's line if a value of the row `$name` is not the wanted one.
 macro_rules! equal {
     ($rt:expr, $name:expr; $($found:expr => $wanted:expr),+ $(,)?) => {
         if let Some(text) = crate::checks::first([
@@ -46,7 +47,7 @@ macro_rules! equal {
 
 pub(crate) use equal;
 
-/// Puts bytes in the place of others, if they have room.
+/// Replaces the bytes from the index `place` on, if there is room for all of them.
 pub(crate) fn put(target: &mut [u8], place: usize, bytes: &[u8]) {
     if let Some(to) = target.get_mut(place..place.saturating_add(bytes.len())) {
         to.copy_from_slice(bytes);

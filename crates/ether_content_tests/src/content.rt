@@ -1,2 +1,2 @@
-//! What callers learn of the derived traits of the types of `ether_content`.
+//! What callers know of the derived traits of `ether_content`'s types.
 mod derived_traits;

@@ -1,3 +1,3 @@
-//! Tests of `ether_packet`, and what callers learn of the derived traits of its types.
+//! Tests of `ether_packet`, and what callers know of the derived traits of its types.
 mod derived_traits;
 mod tests;

@@ -20,7 +20,7 @@ use Rattle.ether_filter.specs.Primitives.{is_tag, vlan_ids, Walked, walked, Matc
 use Rattle.ether_filter.specs.Jumps.{jump_at, is_of_tags, asks_tags, Passes, last, more, Reaches, Misses, tags_of, tags_seen, is_tag_test, is_other_id}
 use Rattle.ether_filter.specs.Expressions.{Expression}
 use Rattle.ether_filter.specs.Postfix.{postfix}
-use Rattle.ether_filter.specs.Programs.{IsProgramOf, primitive_numbered}
+use Rattle.ether_filter.specs.FilterProgram.{IsProgramOf, primitive_numbered}
 use Rattle.ether_filter.specs.Seen.{IsSeen}
 use Rattle.ether_filter.proofs.JumpsLemmas.{reaches_next}
 use Rattle.ether_filter.proofs.Truth.{matching, matching_is}

@@ -13,7 +13,7 @@ use Rattle.ether_filter.specs.declared.instruction.Instruction.{Instruction}
 use Rattle.ether_filter.specs.Expressions.{Expression, Test}
 use Rattle.ether_filter.specs.Postfix.{postfix, expression_of, expression_of-postfix}
 use Rattle.ether_filter.specs.Jumps.{no_jump, jump_at}
-use Rattle.ether_filter.specs.Programs.{primitive_numbered, operator_numbered, test_or, node_numbered, IsInstruction, IsProgramOf, with_node, nodes_of}
+use Rattle.ether_filter.specs.FilterProgram.{primitive_numbered, operator_numbered, test_or, node_numbered, IsInstruction, IsProgramOf, with_node, nodes_of}
 
 -- ---- an instruction
 

@@ -20,7 +20,7 @@ use Rattle.ether_filter.specs.Expressions.{Expression, Test, Not, Join}
 
 -- ---- the bytes that are missing
 
--- their number
+-- the number of missing bytes
 abbrev pub lost : Packet → ℕ
 lost packet = packet.original_len - packet.captured_len
 
@@ -29,31 +29,32 @@ pub record IsCompletion (packet : Packet) (more : List ℕ) : Type 0 where
   pub bytes : IsBytes more
   pub few : length more ≤ lost packet
 
--- it is so of the packet with any such bytes after its frame; its two lengths stay as they are
+-- it holds of the packet with any such bytes after its frame; the packet's two lengths are unchanged
 abbrev pub AtCompletions : Packet → (Walked → Type 0) → Type 0
 AtCompletions packet Is =
     (more : List ℕ) (hs : List Header) (e : Ending)
     → IsCompletion packet more → Walk (start_of packet.start) (packet.frame.now ++ more) hs e → Is (walked packet hs e)
 
--- The packet, whose walk so far has this ending, is open at a length of its frame: with that many bytes it may have more headers.
+-- A packet whose walk has this ending is open at n bytes: if its frame had that many, the packet might have further
+-- headers.
 pub data IsOpenAt (packet : Packet) (e : Ending) (n : ℕ) : Type 0 where
-  -- the walk ends in an open refusal, which names the length, and the packet had so many bytes
+  -- the walk ends in an open refusal that names n, and the packet had at least n bytes on the wire
   refused : (o : OpenRefusal e) → packet.captured_len < packet.original_len → named_len e o ≡ n → n ≤ length packet.frame.now + lost packet
       → IsOpenAt packet e n
-  -- it has a frame check sequence, whose place is known only of the whole frame
+  -- the packet has a frame check sequence, whose place is known only in the whole frame
   fcs : has_fcs (start_of packet.start) ≡ true → packet.captured_len < packet.original_len → n ≡ length packet.frame.now + lost packet
       → IsOpenAt packet e n
 
 -- ---- a primitive
 
--- it speaks of the two lengths
+-- the primitive asks about the two lengths
 abbrev pub is_of_lengths : Primitive → Bool
 is_of_lengths primitives.Cut = true
 is_of_lengths (primitives.Less n) = true
 is_of_lengths (primitives.Greater n) = true
 is_of_lengths _ = false
 
--- it speaks of the addresses of an Ethernet II header
+-- the primitive asks about the addresses of an Ethernet II header
 abbrev pub is_of_link : Primitive → Bool
 is_of_link (primitives.Source address) = true
 is_of_link (primitives.Destination address) = true
@@ -66,22 +67,23 @@ abbrev pub is_refused : Primitive → Bool
 is_refused primitives.Refused = true
 is_refused _ = false
 
--- A unit of this layer, or one after it, may tell of it. An ARP packet is the last unit, and announces no ether type; an Ethernet II
--- header is the first one.
+-- The primitive can depend on a unit of this layer, or on one after it. An ARP packet is the last unit, and does not
+-- announce an ether type; an Ethernet II header is the first unit.
 abbrev pub can_tell : Layer → Primitive → Bool
 can_tell layers.Arp primitive = is_refused primitive
 can_tell layers.Ethernet2Header primitive = true
 can_tell layer primitive = not (is_of_link primitive)
 
--- the headers so far tell of it, whatever headers follow
+-- the headers so far decide the primitive, whatever headers follow
 abbrev pub IsTold : Primitive → Walked → Type 0
 IsTold (primitives.OuterVlan id) p = IsTrue (list_any is_tag p.headers)
 IsTold (primitives.InnerVlan id) p = ⊥
 IsTold primitives.Refused p = ⊥
 IsTold primitive p = Matches primitive p
 
--- Of a packet, with these headers and this ending so far, it is known whether the primitive matches: it speaks of the lengths; no more
--- headers can come; the headers so far tell of it; or no unit that can still come tells of it.
+-- With these headers and this ending so far, it is known whether the primitive matches the packet: it asks about the
+-- lengths; or no further headers can follow; or the headers so far decide it; or it does not depend on any unit that
+-- can still follow.
 pub data IsKnown (packet : Packet) (hs : List Header) (e : Ending) (primitive : Primitive) : Type 0 where
   lengths : is_of_lengths primitive ≡ true → IsKnown packet hs e primitive
   whole : ((n : ℕ) → IsOpenAt packet e n → ⊥) → IsKnown packet hs e primitive
@@ -90,7 +92,7 @@ pub data IsKnown (packet : Packet) (hs : List Header) (e : Ending) (primitive : 
 
 -- ---- an expression (Kleene's strong logic of three values)
 
--- it is known to hold (true) or to fail (false)
+-- the expression is known to hold (true) or to fail (false)
 abbrev pub Knows : Packet → List Header → Ending → Bool → Expression → Type 0
 Knows packet hs e true (Test primitive) = IsKnown packet hs e primitive × Matches primitive (walked packet hs e)
 Knows packet hs e false (Test primitive) = IsKnown packet hs e primitive × ¬ (Matches primitive (walked packet hs e))
@@ -101,7 +103,7 @@ Knows packet hs e false (Join operators.And x y) = Knows packet hs e false x ⊎
 Knows packet hs e true (Join operators.Or x y) = Knows packet hs e true x ⊎ Knows packet hs e true y
 Knows packet hs e false (Join operators.Or x y) = Knows packet hs e false x × Knows packet hs e false y
 
--- neither
+-- it is known neither to hold nor to fail
 pub record IsUnknown (packet : Packet) (hs : List Header) (e : Ending) (x : Expression) : Type 0 where
   pub not_true : Knows packet hs e true x → ⊥
   pub not_false : Knows packet hs e false x → ⊥
@@ -114,21 +116,21 @@ Says packet hs e x (decisions.Needs n) = IsOpenAt packet e n × IsUnknown packet
 
 -- ---- until the length is there
 
--- A frame with headers hs and ending e has headers ks and ending f with more bytes: the same headers, and a refusal at the same place
--- that names n.
+-- A frame with the headers hs and the ending e waits for n bytes: with some more bytes it has the headers ks and the
+-- ending f, which are the same headers and a refusal at the same place that names n.
 pub record Waits (hs : List Header) (e : Ending) (n : ℕ) (ks : List Header) (f : Ending) : Type 0 where
   pub alike : EndsAlike hs e ks f
   pub refusal : OpenRefusal f
   pub names : named_len f refusal ≡ n
 
--- it is so of each frame of fewer than n bytes that the packet's frame is a front of, without a frame check sequence
+-- this holds of each frame of fewer than n bytes that begins with the packet's frame and has no frame check sequence
 abbrev pub WaitsUntil : Packet → ℕ → Type 0
 WaitsUntil packet n =
     (hs ks : List Header) (e f : Ending) (more : List ℕ)
     → has_fcs (start_of packet.start) ≡ false → length (packet.frame.now ++ more) < n
     → Walk (start_of packet.start) packet.frame.now hs e → Walk (start_of packet.start) (packet.frame.now ++ more) ks f → Waits hs e n ks f
 
--- the packet with more bytes captured
+-- the packet with further bytes captured
 pub record IsLonger (packet longer : Packet) : Type 0 where
   pub more : List ℕ
   pub start : longer.start ≡ packet.start
@@ -136,7 +138,7 @@ pub record IsLonger (packet longer : Packet) : Type 0 where
   pub captured : longer.captured_len ≡ packet.captured_len + length more
   pub original : longer.original_len ≡ packet.original_len
 
--- with fewer than n bytes of its frame captured it needs n, too
+-- while fewer than n bytes of its frame are captured, the decision is still that it needs n
 abbrev pub StaysUnknown : Packet → ℕ → Expression → Type 0
 StaysUnknown packet n x =
     (longer : Packet) (hs : List Header) (e : Ending)

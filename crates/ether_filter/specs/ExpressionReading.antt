@@ -1,4 +1,4 @@
--- An expression that is read word after word: what is known of it after some of them.
+-- Reading an expression word by word: the state after some of its words.
 use Rattle.std.specs.Prelude.{ℕ, ◌+◌, List, [], ◌∷◌, ◌++◌, length, reverse, Result, Ok, Err, nat_eq, Bool, true, false, if◌then◌else◌}
 use Rattle.ether_filter.specs.declared.node.Operator.{Operator}
 use Rattle.ether_filter.specs.declared.node.Operator.TheVariants.{And, Or}
@@ -24,7 +24,7 @@ use Rattle.ether_filter.specs.Words.{Word, words_from}
 use Rattle.ether_filter.specs.Tokens.{token_of}
 use Rattle.ether_filter.specs.Steps.{first_step, next_step, kind_of}
 
--- the nodes of what is whole, what is open, the innermost first, and what may come next
+-- the nodes of complete parts, the incomplete parts, the innermost first, and what may follow
 pub record ExpressionState : Type 0 where
   pub nodes : List Node
   pub pending : List Pending
@@ -39,7 +39,7 @@ begun = record { nodes = []; pending = []; awaited = awaits.Operand }
 abbrev pub Outcome : Type 0
 Outcome = Result ExpressionState FilterErrorKind
 
--- after an operand, which ends its negations
+-- after an operand, which completes the negations before it
 abbrev pub closed : List Node → List Pending → ExpressionState
 closed ns (pendings.Not ∷ p) = closed (ns ++ nodes.Not ∷ []) p
 closed ns p = record { nodes = ns; pending = p; awaited = awaits.Operator }
@@ -47,7 +47,7 @@ closed ns p = record { nodes = ns; pending = p; awaited = awaits.Operator }
 abbrev pub completed : ExpressionState → Primitive → ExpressionState
 completed s primitive = closed (s.nodes ++ nodes.Test primitive ∷ []) s.pending
 
--- the operands that an operator joins are whole
+-- the operator before an operand is complete
 abbrev pub settled : List Node → List Pending → Awaited → ExpressionState
 settled ns (pendings.Join operator ∷ p) awaited = record { nodes = ns ++ nodes.Join operator ∷ []; pending = p; awaited = awaited }
 settled ns p awaited = record { nodes = ns; pending = p; awaited = awaited }
@@ -57,14 +57,14 @@ differ And Or = true
 differ Or And = true
 differ _ _ = false
 
--- an operator after an operand
+-- after an operator that follows an operand
 abbrev pub joined_by : Operator → List Node → List Pending → Outcome
 joined_by operator ns (pendings.Join last ∷ p) =
     if differ last operator then Err kinds.MixedOperators
     else Ok (record { nodes = ns ++ nodes.Join last ∷ []; pending = pendings.Join operator ∷ p; awaited = awaits.Operand })
 joined_by operator ns p = Ok (record { nodes = ns; pending = pendings.Join operator ∷ p; awaited = awaits.Operand })
 
--- a closing parenthesis after an operand
+-- after a closing parenthesis that follows an operand
 abbrev pub closed_group : List Node → List Pending → Outcome
 closed_group ns (pendings.Open ∷ p) = Ok (closed ns p)
 closed_group ns _ = Err kinds.Unopened
@@ -96,7 +96,7 @@ taken_where awaits.Operator s token = operator_taken s token
 taken_where awaits.VlanId s token = id_taken s token
 taken_where awaited s token = stepped s (next_step awaited token)
 
--- after one word more
+-- after the next word
 abbrev pub taken : ExpressionState → Token → Outcome
 taken s token = taken_where s.awaited s token
 
@@ -127,7 +127,7 @@ abbrev pub going_on : Outcome → (at : ℕ) → (ExpressionState → Result (Li
 going_on (Ok s) at rest = rest s
 going_on (Err kind) at rest = Err (record { offset = at; kind = kind })
 
--- from a state on, after so many words, of a text that ends at a place
+-- reads on from a state, after `count` words of a text that ends at the offset `end`
 abbrev pub read_from : ExpressionState → (count : ℕ) → List Word → (end : ℕ) → Result (List Node) FilterError
 read_from s count [] end = placed end (ended s)
 read_from s count (w ∷ ws) end =
@@ -144,6 +144,6 @@ is_begun awaits.Operand = 0
 is_begun awaits.Operator = 0
 is_begun _ = 1
 
--- the nodes, and those that are owed at most
+-- the number of nodes so far, and of those that are still to follow for what was read
 abbrev pub size_of : ExpressionState → ℕ
 size_of s = length s.nodes + length s.pending + is_begun s.awaited

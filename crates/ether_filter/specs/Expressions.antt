@@ -1,4 +1,4 @@
--- Expressions, and which packets they hold of.
+-- Expressions, and of which packets they hold.
 use Rattle.ether_filter.specs.declared.primitive.Primitive.{Primitive}
 use Rattle.ether_filter.specs.declared.node.Operator.{Operator}
 use Rattle.ether_filter.specs.declared.node.Operator.TheVariants as operators

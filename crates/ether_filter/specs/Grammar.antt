@@ -28,17 +28,18 @@ pub data NamesPrimitive : List Token → Primitive → Type 0 where
   less : (n : ℕ) → n < 4294967296 → NamesPrimitive (tokens.Less ∷ tokens.Number (Some n) ∷ []) (primitives.Less n)
   greater : (n : ℕ) → n < 4294967296 → NamesPrimitive (tokens.Greater ∷ tokens.Number (Some n) ∷ []) (primitives.Greater n)
 
--- one operand, or two or more of them that one operator joins
+-- one operand, or two or more operands that one operator joins
 pub data Shape : Type 0 where
   Operand : Shape
   Chain : Operator → Shape
 
--- what an operator may follow: an operand, or operands that it joins itself
+-- what an operator may follow: an operand, or operands that the same operator joins
 pub data Leads (operator : Operator) : Shape → Type 0 where
   operand : Leads operator Operand
   chain : Leads operator (Chain operator)
 
--- words that mean an expression: `not` takes one operand, operands are joined from the left, and two operators need parentheses
+-- the words that mean an expression: `not` takes one operand, operators associate to the left, and mixing two
+-- operators needs parentheses
 pub data Means : Shape → List Token → Expression → Type 0 where
   primitive : (ts : List Token) (p : Primitive) → NamesPrimitive ts p → Means Operand ts (Test p)
   negation : (ts : List Token) (x : Expression) → Means Operand ts x → Means Operand (tokens.Not ∷ ts) (Not x)

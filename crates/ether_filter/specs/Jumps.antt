@@ -1,4 +1,4 @@
--- Where the evaluation of an expression goes on after each of its primitives, which are asked from the left to the right.
+-- Where the evaluation of an expression goes on after each of its primitives, which are tested from left to right.
 use Rattle.std.specs.Prelude.{◌≡◌, ℕ, ◌+◌, ◌<◌, ◌≤◌, List, [], ◌∷◌, length, get_or, nat_eq, Bool, true, false, not, Option, Some, None, is_some, if◌then◌else◌}
 use Rattle.ether_filter.specs.declared.jumps.Jump.{Jump}
 use Rattle.ether_filter.specs.declared.primitive.Primitive.{Primitive}
@@ -17,14 +17,14 @@ abbrev pub chosen : Bool → Jump → ℕ
 chosen true j = j.if_true
 chosen false j = j.if_false
 
--- after the whole expression
+-- the jump of the whole expression
 abbrev pub first_jump : Jump
 first_jump = record { if_true = 255; if_false = 254 }
 
 abbrev pub negated : Jump → Jump
 negated j = record { if_true = j.if_false; if_false = j.if_true }
 
--- after a left operand, by where the right one begins
+-- the jump of a left operand, by the index at which the right operand begins
 abbrev pub before : Operator → ℕ → Jump → Jump
 before operators.And right j = record { if_true = right; if_false = j.if_false }
 before operators.Or right j = record { if_true = j.if_true; if_false = right }
@@ -35,7 +35,8 @@ no_jump = record { if_true = 0; if_false = 0 }
 abbrev pub jump_at : List Jump → ℕ → Jump
 jump_at js at = get_or js at no_jump
 
--- the jumps after the primitives of an expression whose nodes begin at an index, if this is the jump after it
+-- the jumps of the primitives of an expression whose nodes begin at an index, if this is the jump of the whole
+-- expression
 abbrev pub AreJumps : List Jump → ℕ → Expression → Jump → Type 0
 AreJumps js at (Test p) j = jump_at js at ≡ j
 AreJumps js at (Not x) j = AreJumps js at x (negated j)
@@ -43,7 +44,7 @@ AreJumps js at (Join operator x y) j =
     let right = at + length (postfix x) in
     AreJumps js at x (before operator right j) × AreJumps js right y j
 
--- those are filled in, and what follows stays
+-- these jumps are filled in, and those after them are unchanged
 pub record AreFilled (old new : List Jump) (begin end : ℕ) (x : Expression) (j : Jump) (result : ℕ) : Type 0 where
   pub at : result ≡ begin
   pub jumps : AreJumps new begin x j
@@ -62,7 +63,8 @@ abbrev pub asks_tags : Node → Bool
 asks_tags (nodes.Test p) = is_of_tags p
 asks_tags _ = false
 
--- from one of them on, if none of them matches
+-- where the evaluation goes on from a primitive that asks for VLAN tags, if neither it nor those directly after it
+-- match
 pub data Passes (ns : List Node) (js : List Jump) : ℕ → ℕ → Type 0 where
   last : (at : ℕ) → Passes ns js at (jump_at js at).if_false
   more : (at past : ℕ) → (jump_at js at).if_false < length ns
@@ -74,7 +76,7 @@ ArePassed ns js past = (i : ℕ) → i < length ns → Passes ns js i (get_or pa
 
 -- ---- from one primitive to another
 
--- from one index of the nodes the jumps lead forward to another, or to an end, if the primitives match so
+-- the jumps lead from one index of the nodes forward to another, or to an end, if t says which primitives match
 pub data Reaches (ns : List Node) (js : List Jump) (t : Primitive → Bool) : ℕ → ℕ → Type 0 where
   here : (at : ℕ) → Reaches ns js t at at
   step : (at end : ℕ) (p : Primitive) → at < length ns → ((d : Node) → get_or ns at d ≡ nodes.Test p)
@@ -83,7 +85,7 @@ pub data Reaches (ns : List Node) (js : List Jump) (t : Primitive → Bool) : �
 
 -- ---- past what no VLAN tag matches
 
--- the tags that are seen, by the identifier of the first and those of all
+-- what is known of a packet's VLAN tags, by all identifiers that were seen
 abbrev pub tags_of : List ℕ → Tags
 tags_of (id ∷ []) = tags.One id
 tags_of _ = tags.Any
@@ -92,19 +94,19 @@ abbrev pub tags_seen : Option Seen → Tags
 tags_seen None = tags.Any
 tags_seen (Some seen) = if is_some seen.told.outer then tags_of seen.ids.items else tags.Untagged
 
--- primitives that ask for other tags don't match
+-- primitives that ask for other VLAN tags than these do not match
 abbrev pub Misses : Tags → (Primitive → Bool) → Type 0
 Misses tags.Untagged t = (p : Primitive) → is_of_tags p ≡ true → t p ≡ false
 Misses (tags.One id) t = (n : ℕ) → (n ≡ id → ⊥) → t (primitives.VlanId n) ≡ false
 Misses tags.Any t = Unit {0}
 
--- an expression's evaluation leads from one index to another, if there are these tags
+-- with these VLAN tags the evaluation of an expression leads from one index to another
 abbrev pub LeadsOn : Expression → List Jump → Tags → (from to : ℕ) → Type 0
 LeadsOn x js tags from to =
     (t : Primitive → Bool) (end : ℕ) → Misses tags t → length (postfix x) ≤ end
     → Reaches (postfix x) js t from end → Reaches (postfix x) js t to end
 
--- whether a primitive asks for VLAN tags, or for another identifier
+-- whether a primitive asks for VLAN tags, or for another identifier than this
 abbrev pub is_tag_test : Option Primitive → Bool
 is_tag_test (Some p) = is_of_tags p
 is_tag_test None = false

@@ -4,7 +4,7 @@ pub mod Postfix
 pub mod Following
 pub mod Seen
 pub mod Jumps
-pub mod Programs
+pub mod FilterProgram
 pub mod Deciding
 pub mod Evaluation
 pub mod Words

@@ -4,15 +4,16 @@ use Rattle.std.specs.List.{list_all}
 use Rattle.std.specs.Char.{digit_value}
 use Rattle.std.specs.Str.Parse.{digits_value}
 
--- the number that digits write, one or more and nothing else
+-- the number that digits write; none if there are no digits, or other characters
 abbrev pub digits_in : (radix : ℕ) → List ℕ → Option ℕ
 digits_in radix ds = if nat_lt 0 (length ds) && list_all (λ c. nat_lt (digit_value c) radix) ds then Some (digits_value radix ds) else None
 
--- a number of no more than 32 bits
+-- a number that fits in 32 bits
 abbrev pub within_32_bits : ℕ → Option ℕ
 within_32_bits n = if nat_lt n (2 ^ 32) then Some n else None
 
--- "0x" (48, 120) and hexadecimal digits, or decimal digits without a leading zero, since pcap-filter(7) reads those as octal
+-- "0x" (48, 120) and hexadecimal digits, or decimal digits without a leading zero, which pcap-filter(7) would read as
+-- octal
 abbrev pub whole_number_in : List ℕ → Option ℕ
 whole_number_in word =
     if nat_lt 1 (length word) && nat_eq (slice_index word 0) 48
@@ -38,7 +39,7 @@ pairs_in word =
 abbrev pub address_in : List ℕ → Option ℕ
 address_in word = if nat_eq (length word) 12 then digits_in 16 word else pairs_in word
 
--- what is read of digits whose number may be great
+-- the number that digits write, at most 2^48
 pub record IsCapped (radix : ℕ) (ds : List ℕ) (value : ℕ) : Type 0 where
   pub number : ℕ
   pub is : digits_in radix ds ≡ Some number

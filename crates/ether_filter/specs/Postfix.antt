@@ -1,4 +1,4 @@
--- The representation of an expression: its nodes, each after its operands.
+-- How an expression is stored: as its nodes, each after its operands.
 use Rattle.std.specs.Prelude.{◌≡◌, List, [], ◌∷◌, ◌++◌, refl}
 use Rattle.std.proofs.Common.{ap, ◌∙◌, sym}
 use Rattle.std.proofs.lemmas.List.{append_assoc, append-nil}
@@ -19,7 +19,7 @@ IsPostfix ns = (x : Expression) × (ns ≡ postfix x)
 
 -- ---- back to the expression
 
--- the expressions that are read, the last one first, after one node more
+-- the stack of expressions, the last one first, after a further node
 abbrev pub pushed : List Expression → Node → List Expression
 pushed xs (nodes.Test primitive) = Test primitive ∷ xs
 pushed (x ∷ xs) nodes.Not = Not x ∷ xs
@@ -27,12 +27,12 @@ pushed [] nodes.Not = []
 pushed (y ∷ x ∷ xs) (nodes.Join operator) = Join operator x y ∷ xs
 pushed _ (nodes.Join operator) = []
 
--- .. after more nodes
+-- .. after further nodes
 abbrev pub trees : List Expression → List Node → List Expression
 trees xs [] = xs
 trees xs (n ∷ ns) = trees (pushed xs n) ns
 
--- the first one; there is always one
+-- the expression on top of the stack, which is not empty here
 abbrev pub first : List Expression → Expression
 first [] = Test primitives.Vlan
 first (x ∷ xs) = x
@@ -40,7 +40,7 @@ first (x ∷ xs) = x
 abbrev pub expression_of : List Node → Expression
 expression_of ns = first (trees [] ns)
 
--- what is read of a list that goes on with an expression
+-- reading a list of nodes that begins with those of an expression
 pub trees-postfix : (x : Expression) (xs : List Expression) (ns : List Node) → trees xs (postfix x ++ ns) ≡ trees (x ∷ xs) ns
 trees-postfix (Test p) xs ns = refl
 trees-postfix (Not x) xs ns = ap (trees xs) (append_assoc (postfix x) (nodes.Not ∷ []) ns) ∙ trees-postfix x xs (nodes.Not ∷ ns)
@@ -48,10 +48,10 @@ trees-postfix (Join operator x y) xs ns =
     ap (trees xs) (append_assoc (postfix x ++ postfix y) (nodes.Join operator ∷ []) ns ∙ append_assoc (postfix x) (postfix y) (nodes.Join operator ∷ ns))
     ∙ trees-postfix x xs (postfix y ++ nodes.Join operator ∷ ns) ∙ trees-postfix y (x ∷ xs) (nodes.Join operator ∷ ns)
 
--- a list of nodes is that of one expression
+-- the nodes of an expression are read back as it
 pub expression_of-postfix : (x : Expression) → expression_of (postfix x) ≡ x
 expression_of-postfix x = ap first (ap (trees []) (sym (append-nil (postfix x))) ∙ trees-postfix x [] [])
 
--- so an expression is stored as its nodes
+-- so an expression can be stored as its nodes
 abbrev pub expression_code : Coded Expression
 expression_code = code_by (List Node) (coded_list node.the_row.coded) postfix expression_of expression_of-postfix

@@ -1,4 +1,5 @@
--- What a primitive says of a packet, by the headers of its one walk, which reads every tag, how this ends, and two lengths.
+-- What a primitive says of a packet: by the headers of its one walk, which reads every tag, by the ending of that
+-- walk, and by two lengths.
 use Rattle.std.specs.Prelude.{◌≡◌, ℕ, ◌-◌, ◌/◌, ◌%◌, ◌^◌, ◌<◌, ◌≤◌, List, [], ◌∷◌, ◌++◌, Option, Some, None, IsSome, IsTrue, Bool, true, false, nat_eq, ◌||◌}
 use Rattle.std.specs.List.{list_any}
 use Rattle.etherparse.specs.Header.{Header}
@@ -21,19 +22,19 @@ abbrev pub is_sec_tag : Header → Bool
 is_sec_tag (headers.Macsec t) = true
 is_sec_tag _ = false
 
--- an Ethernet II header with a source
+-- an Ethernet II header with this source
 abbrev pub is_from : ℕ → Header → Bool
 is_from address (headers.Ethernet2 e) = nat_eq address e.source
 is_from address (headers.Ethernet2Fcs e) = nat_eq address e.source
 is_from address _ = false
 
--- .. with a destination
+-- .. with this destination
 abbrev pub is_to : ℕ → Header → Bool
 is_to address (headers.Ethernet2 e) = nat_eq address e.destination
 is_to address (headers.Ethernet2Fcs e) = nat_eq address e.destination
 is_to address _ = false
 
--- .. with a group address as its destination: the lowest bit of its first byte is 1 (IEEE 802.3, 3.2.3)
+-- .. whose destination is a group address: the lowest bit of its first byte is 1 (IEEE 802.3, 3.2.3)
 abbrev pub is_group : ℕ → Bool
 is_group address = nat_eq (address / 2 ^ 40 % 2) 1
 
@@ -44,13 +45,13 @@ is_to_group _ = false
 
 -- ---- of all headers
 
--- the identifiers of the VLAN tags, the outermost first
+-- the identifiers of the VLAN tags, outermost first
 abbrev pub vlan_ids : List Header → List ℕ
 vlan_ids [] = []
 vlan_ids (headers.Vlan v ∷ hs) = v.vid ∷ vlan_ids hs
 vlan_ids (h ∷ hs) = vlan_ids hs
 
--- the ether type that is announced, if one is
+-- the ether type that announces the next unit, if one does
 abbrev pub ether_type_of : Next → Option ℕ
 ether_type_of (EtherType t) = Some t
 ether_type_of _ = None

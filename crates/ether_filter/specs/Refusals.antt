@@ -1,4 +1,4 @@
--- The table of refusals: texts that mean no expression, and the error.
+-- The table of refusals: the texts that do not mean an expression, and the error of each.
 use Rattle.std.specs.Prelude.{◌≡◌, ◌⊎◌, ℕ, ◌+◌, ◌<◌, ◌≤◌, List, [], ◌∷◌, ◌++◌, length, Option, Some, None}
 use Rattle.ether_filter.specs.declared.node.Operator.{Operator}
 use Rattle.ether_filter.specs.declared.token.Token.{Token}
@@ -12,29 +12,30 @@ use Rattle.ether_filter.specs.Expressions.{Expression}
 use Rattle.ether_filter.specs.Grammar.{IsExpression}
 use Rattle.ether_filter.specs.Texts.{words_of, tokens_of, IsExpressionOf, most_words}
 
--- words that an expression begins with
+-- an expression can begin with these words
 pub record Begins (ts : List Token) : Type 0 where
   pub rest : List Token
   pub x : Expression
   pub is : IsExpression (ts ++ rest) x
 
--- a word fits after these
+-- an expression can begin with these words and the next one
 abbrev pub Fits : List Token → Token → Type 0
 Fits ts t = Begins (ts ++ t ∷ [])
 
--- an operator fits
+-- an operator can follow these words
 pub record IsAfterOperand (ts : List Token) : Type 0 where
   pub operator : Operator
   pub fits : Fits ts (tokens.Join operator)
 
--- no operator, closing parenthesis or number
+-- the word is not an operator, a closing parenthesis or a number
 abbrev pub IsOther : Token → Type 0
 IsOther (tokens.Join operator) = ⊥
 IsOther tokens.Close = ⊥
 IsOther (tokens.Number n) = ⊥
 IsOther _ = Unit {0}
 
--- what an error says of words and the one after them, or the end, which doesn't fit: mostly by what does fit there
+-- The error for words and the next word, or the end, that does not fit after them. It depends mostly on what would fit
+-- there.
 pub data Lacks (ts : List Token) : Option Token → FilterErrorKind → Type 0 where
   operand : (next : Option Token) → Fits ts tokens.Not → Lacks ts next kinds.ExpectedOperand
   vlan : (next : Option Token) → Fits ts tokens.Vlan → (Fits ts tokens.Not → ⊥) → Lacks ts next kinds.ExpectedVlan
@@ -50,24 +51,24 @@ pub data Lacks (ts : List Token) : Option Token → FilterErrorKind → Type 0 w
   unopened : IsAfterOperand ts → Lacks ts (Some tokens.Close) kinds.Unopened
   unclosed : IsAfterOperand ts → Lacks ts None kinds.Unclosed
 
--- the rows, for the words of a text that ends at a place
+-- the rows, for the words of a text of length `end`
 pub data RefusesExpression (ws : List Word) (end : ℕ) : FilterError → Type 0 where
-  -- the first word that fits nothing
+  -- the first word that does not fit
   word : (front rest : List Word) (w : Word) (kind : FilterErrorKind) → ws ≡ front ++ w ∷ rest → length front < most_words
       → Begins (tokens_of front) → (Fits (tokens_of front) (token_of w.bytes) → ⊥) → Lacks (tokens_of front) (Some (token_of w.bytes)) kind
       → RefusesExpression ws end (record { offset = w.at; kind = kind })
-  -- the end, if more words would have to come
+  -- the end, where words are missing
   ending : (kind : FilterErrorKind) → length ws ≤ most_words
       → Begins (tokens_of ws) → ((x : Expression) → IsExpression (tokens_of ws) x → ⊥) → Lacks (tokens_of ws) None kind
       → RefusesExpression ws end (record { offset = end; kind = kind })
-  -- the first word of too many, if all before it fit
+  -- the first word above the maximum number, if all words before it fit
   long : (front rest : List Word) (w : Word) → ws ≡ front ++ w ∷ rest → length front ≡ most_words → Begins (tokens_of front)
       → RefusesExpression ws end (record { offset = w.at; kind = kinds.TooLong })
 
 abbrev pub RefusesText : List ℕ → FilterError → Type 0
 RefusesText text error = RefusesExpression (words_of text) (length text) error
 
--- the law: a text has one expression or one refusal, and no second one
+-- the law: a text has exactly one expression or exactly one refusal, and not both
 pub record TextsMeanOne : Type 0 where
   pub some : (text : List ℕ) → ((x : Expression) × IsExpressionOf text x) ⊎ ((a : FilterError) × RefusesText text a)
   pub expression : (text : List ℕ) (x y : Expression) → IsExpressionOf text x → IsExpressionOf text y → x ≡ y

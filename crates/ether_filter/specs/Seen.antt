@@ -1,4 +1,4 @@
--- What one walk shows of all primitives, as far as there is room for it.
+-- What one walk shows for all primitives together, as far as there is room for it.
 use Rattle.std.specs.Prelude.{◌≡◌, ℕ, List, ◌++◌, Option, Some, None, Bool, true, false, nat_eq, nat_lt, nat_le, is_some, ◌&&◌, length}
 use Rattle.std.specs.List.{list_any}
 use Rattle.etherparse.specs.Header.{Header}
@@ -25,7 +25,7 @@ abbrev pub outer_after : Option ℕ → Fields → Option ℕ
 outer_after None (Tag id) = Some id
 outer_after outer _ = outer
 
--- .. and of the last one, after the identifier of one more
+-- .. and of the last one, after a further VLAN tag with this identifier
 abbrev pub inner_at : Option ℕ → ℕ → Option ℕ
 inner_at None id = None
 inner_at (Some first) id = Some id
@@ -51,12 +51,12 @@ abbrev pub tag_id : Fields → Option ℕ
 tag_id (Tag id) = Some id
 tag_id _ = None
 
--- no link is seen twice
+-- these are not the fields of a second link
 abbrev pub fits : Option Addresses → Fields → Bool
 fits (Some link) (Link destination source) = false
 fits link _ = true
 
--- eight identifiers and eight ether types are kept
+-- at most eight identifiers and eight ether types are kept
 abbrev pub has_room : ℕ → Option ℕ → Bool
 has_room count None = true
 has_room count (Some number) = nat_lt count 8
@@ -91,20 +91,20 @@ seen (primitives.EtherType n) t ids types = list_any (λ number. nat_eq number n
 seen primitives.Refused t ids types = t.is_refused
 seen primitive t ids types = seen_in_link primitive t.link
 
--- .. of a packet of these lengths
+-- .. for a packet of these lengths
 abbrev pub matches_seen : Primitive → (captured original : ℕ) → Seen → Bool
 matches_seen primitives.Cut captured original s = nat_lt captured original
 matches_seen (primitives.Less n) captured original s = nat_le original n
 matches_seen (primitives.Greater n) captured original s = nat_le n original
 matches_seen p captured original s = seen p s.told s.ids.items s.types.items
 
--- if there was room, each primitive is seen that is found at the end of the walk
+-- if there was room, what was seen matches each primitive exactly if the end of the walk finds it
 abbrev pub IsSeen : Next → List Header → Ending → Option Seen → Type 0
 IsSeen start hs e None = Unit {0}
 IsSeen start hs e (Some s) =
     (p : Primitive) → seen p s.told s.ids.items s.types.items ≡ found_at_end p (found_first p (ether_type_of start)) false hs e
 
--- a node that speaks of headers
+-- the primitive asks about headers
 abbrev pub asks_headers : Primitive → Bool
 asks_headers primitives.Cut = false
 asks_headers (primitives.Less n) = false

@@ -1,4 +1,4 @@
--- A primitive that is read word after word.
+-- Reading a primitive word by word.
 use Rattle.std.specs.Prelude.{ℕ, Some, nat_lt, if◌then◌else◌}
 use Rattle.ether_filter.specs.declared.primitive.Primitive.{Primitive}
 use Rattle.ether_filter.specs.declared.primitive.Primitive.TheVariants as primitives

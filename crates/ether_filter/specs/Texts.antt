@@ -6,7 +6,7 @@ use Rattle.ether_filter.specs.Tokens.{token_of}
 use Rattle.ether_filter.specs.Expressions.{Expression}
 use Rattle.ether_filter.specs.Grammar.{IsExpression}
 
--- an expression has at most so many words
+-- the maximum number of words of an expression
 abbrev pub most_words : ℕ
 most_words = 192
 
@@ -16,7 +16,7 @@ words_of text = words_from text 0
 abbrev pub tokens_of : List Word → List Token
 tokens_of ws = map (λ w. token_of w.bytes) ws
 
--- the words of a text are few enough, and mean an expression
+-- the words of a text are at most that many, and mean this expression
 pub record IsExpressionOf (text : List ℕ) (x : Expression) : Type 0 where
   pub few : length (words_of text) ≤ most_words
   pub means : IsExpression (tokens_of (words_of text)) x

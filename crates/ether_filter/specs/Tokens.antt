@@ -17,7 +17,7 @@ keywords =
     (codes "broadcast", tokens.Broadcast) ∷ (codes "multicast", tokens.Multicast) ∷
     (codes "refused", tokens.Refused) ∷ (codes "cut", tokens.Cut) ∷ (codes "less", tokens.Less) ∷ (codes "greater", tokens.Greater) ∷ []
 
--- what a word means among these, if it's one of them
+-- what a word means, if it is among these
 abbrev pub meaning_among : List (List ℕ × Token) → List ℕ → Option Token
 meaning_among [] word = None
 meaning_among (entry ∷ entries) word = if pointwise nat_eq entry.0 word then Some entry.1 else meaning_among entries word

@@ -15,7 +15,7 @@ abbrev pub is_blank : Class → Bool
 is_blank Blank = true
 is_blank _ = false
 
--- two characters, one after the other, are of one word: a sign is always a word of its own
+-- two neighboring characters are in one word; a sign is always a word of its own
 abbrev pub are_joined : Class → Class → Bool
 are_joined Letter Letter = true
 are_joined Connective Connective = true
@@ -25,28 +25,28 @@ pub record Word : Type 0 where
   pub at : ℕ
   pub bytes : List ℕ
 
--- a character goes on in what follows it
+-- a character is in one word with the one after it
 abbrev pub goes_on : ℕ → List ℕ → Bool
 goes_on c [] = false
 goes_on c (d ∷ cs) = are_joined (class_of c) (class_of d)
 
--- the first of these words, with a character at a place before it
+-- these words, the first of which now begins with this character at the offset `at`
 abbrev pub grown : ℕ → ℕ → List Word → List Word
 grown c at [] = []
 grown c at (w ∷ ws) = record { at = at; bytes = c ∷ w.bytes } ∷ ws
 
--- the words of a text that begins at a place
+-- the words of a text that begins at the offset `at`
 abbrev pub words_at : ℕ → List ℕ → List Word
 words_at at [] = []
 words_at at (c ∷ cs) =
     if is_blank (class_of c) then words_at (at + 1) cs
     else (if goes_on c cs then grown c at (words_at (at + 1) cs) else (record { at = at; bytes = c ∷ [] } ∷ words_at (at + 1) cs))
 
--- those from a place of a text on
+-- the words of a text from an offset on
 abbrev pub words_from : List ℕ → ℕ → List Word
 words_from text from = words_at from (drop from text)
 
--- the first word from a place on has these ends
+-- the first word from the offset `from` on begins and ends at these offsets
 pub record IsNextWord (text : List ℕ) (from : ℕ) (word : Span) : Type 0 where
   pub after : from ≤ word.start
   pub nonempty : word.start < word.end

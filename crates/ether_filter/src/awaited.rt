@@ -1,4 +1,4 @@
-//! What may come next in an expression.
+//! What may follow at a place of an expression.
 ghost use Rattle.std.specs.Prelude.{◌≡◌};
 ghost use Rattle.ether_filter.specs.Steps.{kind_of as kind_awaited, most_of as most_awaited, numbered as numbered_of, addressed as addressed_of, first_step as first_step_of, next_step as next_step_of};
 
@@ -6,7 +6,7 @@ use crate::filter_error::FilterErrorKind;
 use crate::primitive::Primitive;
 use crate::token::Token;
 
-/// A primitive that ends in a number.
+/// A primitive whose last word is a number.
 #[derive(Clone, Copy)]
 pub(crate) enum Numbered {
     VlanId,
@@ -17,7 +17,7 @@ pub(crate) enum Numbered {
     Greater,
 }
 
-/// A primitive that ends in an address.
+/// A primitive whose last word is an address.
 #[derive(Clone, Copy)]
 pub(crate) enum Addressed {
     Source,
@@ -25,12 +25,12 @@ pub(crate) enum Addressed {
     Host,
 }
 
-/// What may come next in an expression.
+/// What may follow at a place of an expression.
 #[derive(Clone, Copy)]
 pub(crate) enum Awaited {
     Operand,
     Operator,
-    /// The identifier after `vlan`, or what may come after an operand.
+    /// The identifier after `vlan`, or what may follow an operand.
     VlanId,
     /// `vlan`, before a number.
     Vlan(Numbered),
@@ -39,18 +39,18 @@ pub(crate) enum Awaited {
     Address(Addressed),
 }
 
-/// What a word makes of a primitive that is begun.
+/// What a word does to a primitive that is partly read.
 #[derive(Clone, Copy)]
 pub(crate) enum Step {
-    /// The whole primitive.
+    /// It completes the primitive.
     Done(Primitive),
-    /// Its next part.
+    /// The primitive goes on, and awaits this.
     More(Awaited),
-    /// Nothing.
+    /// It does not fit.
     Fails,
 }
 
-/// What a word makes of a primitive that it begins.
+/// What a word does as the first word of a primitive.
 pub(crate) fn first_step(token: Token) -> Step
     ensures { result ≡ first_step_of token }
 {
@@ -91,7 +91,7 @@ pub(crate) fn next_step(awaited: Awaited, token: Token) -> Step
     }
 }
 
-/// A primitive with its number.
+/// Completes a primitive by its number.
 fn with_number(numbered: Numbered, number: u32) -> Step
     ensures { result ≡ numbered_of numbered number }
 {
@@ -108,7 +108,7 @@ fn with_number(numbered: Numbered, number: u32) -> Step
     }
 }
 
-/// The greatest number of a primitive.
+/// The greatest number that a primitive takes.
 fn most_of(numbered: Numbered) -> u32
     ensures { result ≡ most_awaited numbered }
 {
@@ -119,7 +119,7 @@ fn most_of(numbered: Numbered) -> u32
     }
 }
 
-/// A primitive with its address.
+/// Completes a primitive by its address.
 fn with_address(addressed: Addressed, address: u64) -> Primitive
     ensures { result ≡ addressed_of addressed address }
 {
@@ -130,7 +130,7 @@ fn with_address(addressed: Addressed, address: u64) -> Primitive
     }
 }
 
-/// What is missing where this is awaited.
+/// The error for a word that does not fit where this is awaited.
 pub(crate) fn kind_of(awaited: Awaited) -> FilterErrorKind
     ensures { result ≡ kind_awaited awaited }
 {

@@ -18,16 +18,16 @@ use crate::seen::Seen;
 use ether_peel::{PeelError, Start, summary};
 use etherparse::err::Layer;
 
-/// The length of its frame with which a packet may have more headers.
+/// A length of the frame with which a packet might have further headers.
 #[derive(Clone, Copy)]
 pub(crate) struct Opening {
     pub needed: usize,
-    /// The layer of the unit that is refused until then. `None` if the frame ends in a frame check sequence, whose place is
-    /// known only of the whole frame.
+    /// The layer of the unit that is refused for want of bytes. `None` if the frame ends in a frame check sequence,
+    /// whose place is known only in the whole frame.
     pub layer: Option<Layer>,
 }
 
-/// The length with which a packet may have more headers, if it may.
+/// The length with which a packet might have further headers; `None` if its headers are known.
 pub(crate) fn find_opening(packet: &Packet<'_>) -> Option<Opening>
     ensures { (hs : List Header) (e : Ending) → Walk (start_of packet.now.start) packet.now.frame.now hs e
         → IsOpening packet.now e result }
@@ -52,7 +52,8 @@ pub(crate) fn find_opening(packet: &Packet<'_>) -> Option<Opening>
     })
 }
 
-/// How many bytes the unit needs at which a frame ends too early, and the unit's layer. `None` if more bytes would not help.
+/// The number of bytes that are missing at the end of a frame, and the layer of the unit that needs them. `None` if
+/// more bytes would not help.
 fn refused_unit(start: Start, frame: &[u8]) -> Option<(usize, Layer)>
     ensures { (hs : List Header) (e : Ending) → Walk (start_of start) frame.now hs e
         → IsRefusedUnit frame.now e result }
@@ -99,7 +100,7 @@ pub(crate) fn known(
     Some(is_match)
 }
 
-/// Whether it is known if a primitive matches an open packet, by whether it matches so far.
+/// Whether it is known if a primitive matches an open packet. `is_match` says whether it matches the headers so far.
 fn is_known(
     primitive: Primitive,
     packet: &Packet<'_>,
@@ -121,7 +122,7 @@ fn is_known(
     }
 }
 
-/// Whether a primitive speaks of the two lengths of a packet.
+/// Whether a primitive asks about the two lengths of a packet.
 fn is_of_lengths(primitive: Primitive) -> bool
     ensures { result ≡ is_of_lengths_of primitive }
 {
@@ -131,7 +132,7 @@ fn is_of_lengths(primitive: Primitive) -> bool
     )
 }
 
-/// Whether a unit of a layer, or one after it, may tell of a primitive.
+/// Whether a primitive can depend on a unit of this layer, or on one after it.
 fn can_tell(layer: Layer, primitive: Primitive) -> bool
     ensures { result ≡ can_tell_of layer primitive }
 {
@@ -142,7 +143,7 @@ fn can_tell(layer: Layer, primitive: Primitive) -> bool
     }
 }
 
-/// Whether a primitive speaks of the addresses of an Ethernet II header.
+/// Whether a primitive asks about the addresses of an Ethernet II header.
 fn is_of_link(primitive: Primitive) -> bool
     ensures { result ≡ is_of_link_of primitive }
 {
@@ -156,7 +157,8 @@ fn is_of_link(primitive: Primitive) -> bool
     )
 }
 
-/// Whether the headers so far tell of a primitive, by whether it matches so far.
+/// Whether the headers so far decide a primitive, whatever headers follow. `is_match` says whether it matches these
+/// headers.
 fn is_told(primitive: Primitive, packet: &Packet<'_>, seen: &Option<Seen>, is_match: bool) -> bool
     ensures { (hs : List Header) (e : Ending) → Walk (start_of packet.now.start) packet.now.frame.now hs e
         → IsSeen (next_of packet.now.start) hs e seen.now
@@ -170,7 +172,7 @@ fn is_told(primitive: Primitive, packet: &Packet<'_>, seen: &Option<Seen>, is_ma
     }
 }
 
-/// The value of two operands that are joined, `None` if it is unknown.
+/// The value of two joined operands, in Kleene's logic; `None` is unknown.
 pub(crate) fn joined_value(
     operator: Operator,
     left: Option<bool>,

@@ -1,4 +1,4 @@
-//! The fields of a header that primitives speak of.
+//! The fields of a header that primitives ask about.
 ghost use Rattle.std.specs.Prelude.{◌≡◌, ◌/◌, ◌%◌, ◌^◌};
 ghost use Rattle.etherparse.specs.Bytes.{number};
 ghost use Rattle.ether_peel.specs.Grammar.Expectation.{Expectation};
@@ -15,7 +15,7 @@ use etherparse::EtherType;
 /// The broadcast address.
 const BROADCAST: u64 = 0xFFFF_FFFF_FFFF;
 
-/// The fields of a header that primitives speak of.
+/// The fields of a header that primitives ask about.
 #[derive(Clone, Copy)]
 pub(crate) enum Fields {
     /// The two addresses of an Ethernet II header.
@@ -26,7 +26,7 @@ pub(crate) enum Fields {
     Other,
 }
 
-/// The fields of the header of a unit.
+/// The fields of a unit's header.
 pub(crate) fn read_fields(unit: &PeelUnit<'_>) -> Fields
     ensures { result ≡ fields_of (unit_header unit.now) }
 {
@@ -41,7 +41,7 @@ pub(crate) fn read_fields(unit: &PeelUnit<'_>) -> Fields
     }
 }
 
-/// An address as one number.
+/// An address as one number, its first byte the most significant one.
 fn address(bytes: [u8; 6]) -> u64
     ensures { result ≡ number bytes }
 {
@@ -49,7 +49,7 @@ fn address(bytes: [u8; 6]) -> u64
     u64_of([0, 0, a, b, c, d, e, f])
 }
 
-/// The ether type that is announced, if one is.
+/// The ether type that announces the rest, if one does.
 pub(crate) fn announced_type(kind: RestKind) -> Option<u16>
     ensures { (x : Expectation) → kind ≡ kind_shown x → result ≡ ether_type_of x.next }
 {
@@ -59,7 +59,7 @@ pub(crate) fn announced_type(kind: RestKind) -> Option<u16>
     }
 }
 
-/// Whether the addresses of a link show a primitive.
+/// Whether a link with these addresses makes a primitive match.
 pub(crate) fn is_shown_by_link(primitive: Primitive, destination: u64, source: u64) -> bool
     ensures { result ≡ shown_by_link primitive destination source }
 {
@@ -73,7 +73,7 @@ pub(crate) fn is_shown_by_link(primitive: Primitive, destination: u64, source: u
     }
 }
 
-/// Whether an address is that of a group.
+/// Whether an address is a group address.
 fn is_group(address: u64) -> bool
     ensures { result ≡ is_group_of address }
 {

@@ -1,6 +1,6 @@
-//! The instructions of a filter, as numbers alone.
+//! The instructions of a filter, which consist of numbers only.
 ghost use Rattle.std.specs.Prelude.{◌≡◌, Some};
-ghost use Rattle.ether_filter.specs.Programs.{IsInstruction, primitive_numbered, operator_numbered, node_numbered};
+ghost use Rattle.ether_filter.specs.FilterProgram.{IsInstruction, primitive_numbered, operator_numbered, node_numbered};
 ghost use Rattle.ether_filter.specs.Jumps.{is_other_id, is_tag_test};
 
 use crate::jumps::{Jump, is_of_tags};
@@ -9,18 +9,19 @@ use crate::primitive::Primitive;
 
 /// An instruction of a filter: a node of its expression, and where the evaluation goes on after it.
 ///
-/// It is numbers alone, so that a filter can lie in memory of any kind: [`Filter::instructions`](crate::Filter::instructions) gives
-/// them, and the module [`program`](crate::program) runs them on packets. Each bit pattern is a value. What the numbers mean may
-/// change with the version.
+/// It consists of numbers only, so a filter can be kept in any memory.
+/// [`Filter::instructions`](crate::Filter::instructions) returns the instructions of a filter, and the module
+/// [`filter_program`](crate::filter_program) runs them on packets. Each bit pattern is a value. What the numbers mean
+/// may change with the version.
 #[repr(C)]
 #[derive(Clone, Copy, Debug, Default)]
 pub struct Instruction {
-    /// The number or the address that a primitive names.
+    /// The number or the address in a primitive.
     operand: u64,
-    /// Which node it is.
+    /// The number of the node's kind.
     kind: u32,
     pub(crate) jump: Jump,
-    /// Where the evaluation goes on if there are no VLAN tags.
+    /// The index at which the evaluation goes on if the packet has no VLAN tags.
     pub(crate) past_tags: u8,
 }
 
@@ -43,7 +44,7 @@ impl Instruction {
         }
     }
 
-    /// The primitive that it asks, if it asks one.
+    /// The primitive that the instruction tests; `None` for an operator.
     #[inline(always)]
     pub(crate) fn primitive(&self) -> Option<Primitive>
         ensures { result ≡ primitive_numbered self.now.kind self.now.operand }
@@ -69,7 +70,7 @@ impl Instruction {
         })
     }
 
-    /// Whether it asks for VLAN tags.
+    /// Whether it tests for VLAN tags.
     #[inline(always)]
     pub(crate) fn asks_tags(&self) -> bool
         ensures { result ≡ is_tag_test (primitive_numbered self.now.kind self.now.operand) }
@@ -80,7 +81,7 @@ impl Instruction {
         }
     }
 
-    /// Whether it asks for another identifier of VLAN tags than this.
+    /// Whether it tests for a VLAN tag with another identifier than this.
     #[inline(always)]
     pub(crate) fn asks_other_id(&self, id: u16) -> bool
         ensures { result ≡ is_other_id id (primitive_numbered self.now.kind self.now.operand) }
@@ -91,7 +92,7 @@ impl Instruction {
         }
     }
 
-    /// The node of the expression. Each instruction that a filter gives has one.
+    /// The node of the expression. Each instruction that a filter returns has one.
     pub fn node(&self) -> Option<Node>
         ensures { result ≡ node_numbered self.now.kind self.now.operand }
     {
@@ -102,7 +103,7 @@ impl Instruction {
     }
 }
 
-/// The numbers of a primitive.
+/// The number of a primitive's kind, and its operand.
 fn numbers_of(primitive: Primitive) -> (u32, u64)
     ensures { primitive_numbered result.0 result.1 ≡ Some primitive }
 {
@@ -125,7 +126,7 @@ fn numbers_of(primitive: Primitive) -> (u32, u64)
     }
 }
 
-/// The operator with a number.
+/// The operator whose kind has this number.
 fn operator(kind: u32) -> Option<Node>
     ensures { result ≡ operator_numbered kind }
 {

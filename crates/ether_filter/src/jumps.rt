@@ -1,4 +1,4 @@
-//! Where the evaluation of an expression goes on after each of its primitives.
+//! Where the evaluation of an expression goes on after each primitive.
 ghost use Rattle.std.specs.Prelude.{◌≡◌, ◌<◌, ◌≤◌, ◌++◌, ℕ, List, length, take, get_or};
 ghost use Rattle.ether_filter.specs.Expressions.{Expression};
 ghost use Rattle.ether_filter.specs.Postfix.{postfix};
@@ -8,13 +8,13 @@ use crate::filter::MAX_WORDS;
 use crate::node::{Node, Operator};
 use crate::primitive::Primitive;
 
-/// Where it goes on if the expression holds.
+/// The end of an evaluation: the expression holds.
 pub(crate) const HOLDS: u8 = 255;
 
-/// Where it goes on if it doesn't.
+/// The end of an evaluation: the expression does not hold.
 const FAILS: u8 = 254;
 
-/// Where the evaluation goes on after a primitive: at which node, or an end.
+/// Where the evaluation goes on after a primitive: the index of a node, or an end.
 #[repr(C)]
 #[derive(Clone, Copy, Debug, Default)]
 pub struct Jump {
@@ -23,7 +23,7 @@ pub struct Jump {
 }
 
 impl Jump {
-    /// Where it goes on, by whether the primitive matches.
+    /// Where it goes on if the primitive matches, or if it does not.
     #[inline]
     pub(crate) fn after(self, matches: bool) -> usize
         ensures { result ≡ chosen matches self }
@@ -46,8 +46,8 @@ pub(crate) fn jumps_of(nodes: &[Node]) -> [Jump; MAX_WORDS]
     jumps
 }
 
-/// Where the evaluation goes on after each primitive that asks for VLAN tags, if there are none: past those that follow it and ask
-/// for VLAN tags too.
+/// Where the evaluation of a packet without VLAN tags goes on after each primitive that asks for VLAN tags: past all
+/// those that directly follow it.
 pub(crate) fn past_tags(nodes: &[Node], jumps: &[Jump; MAX_WORDS]) -> [u8; MAX_WORDS]
     requires { length nodes.now ≤ MAX_WORDS }
     ensures { ArePassed nodes.now jumps.now result }
@@ -61,7 +61,7 @@ pub(crate) fn past_tags(nodes: &[Node], jumps: &[Jump; MAX_WORDS]) -> [u8; MAX_W
     past
 }
 
-/// .. after one of them, by where it goes on if it does not match.
+/// .. after the primitive at the index `at`, if it does not match and goes on at `next`.
 fn past_next(nodes: &[Node], past: &[u8; MAX_WORDS], at: usize, next: u8) -> u8
     requires { length nodes.now ≤ MAX_WORDS }
     ensures { (js : List Jump) → (jump_at js at).if_false ≡ next
@@ -95,7 +95,8 @@ pub(crate) fn is_of_tags(primitive: &Primitive) -> bool
     )
 }
 
-/// Fills in the jumps of the expression whose nodes end at an index, and returns the index at which they begin.
+/// Fills in the jumps of the expression whose nodes end before the index `end`, and returns the index at which they
+/// begin.
 fn fill(jumps: &mut [Jump; MAX_WORDS], nodes: &[Node], end: usize, jump: Jump) -> usize
     requires nodes { end ≤ length nodes.now }
     requires room { length nodes.now ≤ MAX_WORDS }
@@ -120,7 +121,7 @@ fn fill(jumps: &mut [Jump; MAX_WORDS], nodes: &[Node], end: usize, jump: Jump) -
     }
 }
 
-/// The jump after an expression that is negated.
+/// The jump of the operand of a `not` that has this jump.
 fn negated(jump: Jump) -> Jump
     ensures { result ≡ negated_of jump }
 {
@@ -130,7 +131,7 @@ fn negated(jump: Jump) -> Jump
     }
 }
 
-/// The jump after a left operand, by where the right one begins and the jump after both.
+/// The jump of a left operand, if the right one begins at `right` and both together have this jump.
 fn before(operator: Operator, right: u8, jump: Jump) -> Jump
     ensures { result ≡ before_of operator right jump }
 {

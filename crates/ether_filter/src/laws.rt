@@ -1,7 +1,7 @@
 //! The law of the grammar, as the contract of a function that does nothing.
 ghost use Rattle.ether_filter.specs.Refusals.{TextsMeanOne};
 
-/// A text means one expression, or has one refusal, and not both.
+/// A text means exactly one expression, or is refused for exactly one reason, and never both.
 pub fn texts_mean_one()
     ensures { TextsMeanOne }
 {}

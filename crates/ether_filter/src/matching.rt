@@ -13,7 +13,7 @@ use crate::primitive::Primitive;
 use crate::seen::{Seen, is_seen};
 use ether_peel::{Peel, Start};
 
-/// Whether a primitive matches a packet, by what was seen in it.
+/// Whether a primitive matches a packet. If there is no `seen`, it takes a walk of its own.
 #[inline]
 pub(crate) fn matches_primitive(
     primitive: &Primitive,
@@ -30,7 +30,7 @@ pub(crate) fn matches_primitive(
     }
 }
 
-/// Whether a primitive matches a packet, by a walk of its own.
+/// Whether a primitive matches a packet, by a walk for it alone.
 #[inline(never)]
 pub(crate) fn matches_walked(primitive: &Primitive, packet: &Packet<'_>) -> bool
     ensures { (hs : List Header) (e : Ending) → Walk (start_of packet.now.start) packet.now.frame.now hs e
@@ -44,7 +44,7 @@ pub(crate) fn matches_walked(primitive: &Primitive, packet: &Packet<'_>) -> bool
     }
 }
 
-/// Whether a primitive is found in a walk.
+/// Whether a walk finds what a primitive asks for.
 fn is_found(primitive: Primitive, start: Start, frame: &[u8]) -> bool
     ensures { (hs : List Header) (e : Ending) → Walk (start_of start) frame.now hs e
         → result ≡ found_at_end primitive (found_first_of primitive (ether_type_of (next_of start))) false hs e }
@@ -71,7 +71,7 @@ fn is_found(primitive: Primitive, start: Start, frame: &[u8]) -> bool
     }
 }
 
-/// Whether a primitive is found before the first header, by the ether type that is announced.
+/// Whether it is found before the first header, by the ether type that is announced.
 fn found_first(primitive: Primitive, announced: Option<u16>) -> bool
     ensures { result ≡ found_first_of primitive announced }
 {
@@ -81,7 +81,7 @@ fn found_first(primitive: Primitive, announced: Option<u16>) -> bool
     }
 }
 
-/// Whether a primitive is found after one more header, by whether it was found before, and whether a VLAN tag was.
+/// Whether it is found after a further header, by whether it was found before, and whether a VLAN tag was.
 fn found_after(
     primitive: Primitive,
     found: bool,
@@ -100,7 +100,7 @@ fn found_after(
     }
 }
 
-/// Whether a primitive is found if the walk is refused, by whether it was found before.
+/// Whether it is found if the walk is refused, by whether it was found before.
 fn found_at_fault(primitive: Primitive, found: bool) -> bool
     ensures { result ≡ found_at_fault_of primitive found }
 {
@@ -117,7 +117,7 @@ fn is_tagged(fields: Fields) -> bool
     matches!(fields, Fields::Tag(_))
 }
 
-/// Whether one header shows a primitive.
+/// Whether one header makes a primitive match.
 fn is_shown(primitive: Primitive, fields: Fields, announced: Option<u16>) -> bool
     ensures { result ≡ shown_of primitive fields announced }
 {
@@ -135,7 +135,7 @@ fn is_shown(primitive: Primitive, fields: Fields, announced: Option<u16>) -> boo
     }
 }
 
-/// Whether the identifier of a VLAN tag shows a primitive.
+/// Whether the identifier of a VLAN tag makes a primitive match.
 fn is_shown_by_tag(primitive: Primitive, id: u16) -> bool
     ensures { result ≡ shown_by_tag primitive id }
 {

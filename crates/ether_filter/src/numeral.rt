@@ -3,11 +3,11 @@ ghost use Rattle.std.specs.Prelude.{◌≡◌, ◌+◌, ◌*◌, ◌^◌, ◌<�
 ghost use Rattle.std.specs.List.{list_all};
 ghost use Rattle.ether_filter.specs.Numerals.{digits_in, IsCapped, number_in, colon_places, address_in};
 
-/// A number from which on numbers are not told apart while digits are read.
+/// Numbers from this one on are read as this one. It is greater than each address and each 32-bit number.
 const CAP: u64 = 1 << 48;
 
-/// The number that a word writes, in hexadecimal digits after `0x`, or in decimal digits without a leading zero. `None` if it writes
-/// none, and `Some(None)` if the number has more than 32 bits.
+/// The number in a word: hexadecimal digits after `0x`, or decimal digits without a leading zero. `None` if the word
+/// is not a number, and `Some(None)` if the number does not fit in 32 bits.
 ///
 /// ```
 /// assert_eq!(rt; number_of(b"0x88A8"), Some(Some(34984)));
@@ -31,7 +31,7 @@ pub fn number_of(word: &[u8]) -> Option<Option<u32>>
     }
 }
 
-/// The address that a word writes, in six pairs of hexadecimal digits with colons between them or without, as one number.
+/// The address in a word, as one number: six pairs of hexadecimal digits, with colons between the pairs or without.
 pub(crate) fn address_of(word: &[u8]) -> Option<u64>
     ensures { result ≡ address_in word.now }
 {
@@ -51,7 +51,7 @@ pub(crate) fn address_of(word: &[u8]) -> Option<u64>
     digits_of(&digits, 16)
 }
 
-/// Whether colons are where an address has them.
+/// Whether the colons of an address are in their places.
 fn has_colons(word: &[u8]) -> bool
     requires { length word.now ≡ 17 }
     ensures { result ≡ list_all (λ i. nat_eq (slice_index word.now i) 58) colon_places }
@@ -59,7 +59,7 @@ fn has_colons(word: &[u8]) -> bool
     word[2] == b':' && word[5] == b':' && word[8] == b':' && word[11] == b':' && word[14] == b':'
 }
 
-/// The number that digits write, or the cap if that is less. `None` if there is no digit, or something else.
+/// The number that digits write, at most the cap. `None` if there are no digits, or other characters.
 fn digits_of(digits: &[u8], radix: u32) -> Option<u64>
     requires least { 2 ≤ radix }
     requires most { radix ≤ 16 }
@@ -76,7 +76,7 @@ fn digits_of(digits: &[u8], radix: u32) -> Option<u64>
     Some(number)
 }
 
-/// The number with one more digit, or the cap if that is less.
+/// The number with a further digit, at most the cap.
 fn appended(number: u64, radix: u32, digit: u32) -> u64
     requires number { number ≤ 2 ^ 48 }
     requires radix { radix ≤ 16 }

@@ -1,4 +1,4 @@
-//! An expression that is read word after word.
+//! Reads an expression word by word.
 ghost use Rattle.std.specs.Prelude.{◌≡◌, ◌+◌, ◌<◌, ◌≤◌, ◌∷◌, [], Ok, Err, MatchResult, length, reverse};
 ghost use Rattle.arrayvec.specs.ArrayVec.{array_vec_len};
 ghost use Rattle.ether_filter.specs.ExpressionReading.{state_of, begun, closed, completed, settled, joined_by, closed_group, operator_taken, stepped, operand_taken, id_taken, taken, whole, ended, size_of, differ as differ_of};
@@ -11,14 +11,14 @@ use crate::primitive::Primitive;
 use crate::token::Token;
 use arrayvec::ArrayVec;
 
-/// What is open in an expression that is read.
+/// A part of an expression that is not complete yet.
 #[derive(Clone, Copy)]
 pub(crate) enum Pending {
-    /// A parenthesis.
+    /// A parenthesis that is not closed.
     Open,
-    /// A negation, before its operand.
+    /// A negation without its operand.
     Not,
-    /// An operator, after its left operand.
+    /// An operator without its right operand.
     Join(Operator),
 }
 
@@ -28,18 +28,18 @@ impl Default for Pending {
     }
 }
 
-/// An expression that is read.
+/// An expression that is read up to some word.
 #[derive(Drop)]
 pub(crate) struct Reading {
-    /// The nodes of what is whole.
+    /// The nodes of its complete parts.
     nodes: ArrayVec<Node, MAX_WORDS>,
-    /// What is open, the innermost last.
+    /// The incomplete parts, the innermost last.
     pending: ArrayVec<Pending, MAX_WORDS>,
     awaited: Awaited,
 }
 
 impl Reading {
-    /// Nothing is read yet.
+    /// An expression of which nothing is read yet.
     pub fn new() -> Reading
         ensures { state_of result ≡ begun }
     {
@@ -50,7 +50,7 @@ impl Reading {
         }
     }
 
-    /// Takes one word more.
+    /// Consumes the next word.
     pub fn take(&mut self, token: Token) -> Result<(), FilterErrorKind>
         requires { size_of (state_of self.old) < MAX_WORDS }
         ensures { MatchResult result (λ _. taken (state_of self.old) token ≡ Ok (state_of self.new))
@@ -83,7 +83,7 @@ impl Reading {
         }
     }
 
-    /// Takes what a word makes of a primitive.
+    /// Does what a word does to a primitive.
     fn step(&mut self, step: Step) -> Result<(), FilterErrorKind>
         requires { array_vec_len self.old.nodes + array_vec_len self.old.pending < MAX_WORDS }
         ensures { MatchResult result (λ _. stepped (state_of self.old) step ≡ Ok (state_of self.new))
@@ -97,7 +97,7 @@ impl Reading {
         Ok(())
     }
 
-    /// Takes a primitive, which is an operand.
+    /// Adds a primitive, which is an operand.
     fn complete(&mut self, primitive: Primitive)
         requires { array_vec_len self.old.nodes + array_vec_len self.old.pending < MAX_WORDS }
         ensures state { state_of self.new ≡ completed (state_of self.old) primitive }
@@ -108,7 +108,7 @@ impl Reading {
         self.close();
     }
 
-    /// Ends the negations of an operand.
+    /// Completes the negations of the operand that was read last.
     fn close(&mut self)
         requires { array_vec_len self.old.nodes + array_vec_len self.old.pending ≤ MAX_WORDS }
         ensures state { state_of self.new ≡ closed self.old.nodes.items (reverse self.old.pending.items) }
@@ -125,7 +125,7 @@ impl Reading {
         self.awaited = Awaited::Operator;
     }
 
-    /// Takes a word after an operand.
+    /// Consumes a word after an operand.
     fn take_operator(&mut self, token: Token) -> Result<(), FilterErrorKind>
         requires { array_vec_len self.old.nodes + array_vec_len self.old.pending < MAX_WORDS }
         ensures { MatchResult result (λ _. operator_taken (state_of self.old) token ≡ Ok (state_of self.new))
@@ -138,7 +138,7 @@ impl Reading {
         }
     }
 
-    /// Takes an operator.
+    /// Consumes an operator.
     fn join(&mut self, operator: Operator) -> Result<(), FilterErrorKind>
         requires { array_vec_len self.old.nodes + array_vec_len self.old.pending < MAX_WORDS }
         ensures { MatchResult result
@@ -160,7 +160,7 @@ impl Reading {
         Ok(())
     }
 
-    /// Takes a closing parenthesis.
+    /// Consumes a closing parenthesis.
     fn close_group(&mut self) -> Result<(), FilterErrorKind>
         requires { array_vec_len self.old.nodes + array_vec_len self.old.pending ≤ MAX_WORDS }
         ensures { MatchResult result (λ _. operator_taken (state_of self.old) Token.Close ≡ Ok (state_of self.new))
@@ -176,7 +176,7 @@ impl Reading {
         }
     }
 
-    /// Ends the operands that an operator joins.
+    /// Completes the operator before an operand.
     fn settle(&mut self)
         requires { array_vec_len self.old.nodes + array_vec_len self.old.pending ≤ MAX_WORDS }
         ensures state { state_of self.new
@@ -191,7 +191,7 @@ impl Reading {
         }
     }
 
-    /// The nodes of the expression, if all of it is read.
+    /// The nodes of the expression, if it is complete.
     pub fn finish(mut self) -> Result<ArrayVec<Node, MAX_WORDS>, FilterErrorKind>
         requires { size_of (state_of self) ≤ MAX_WORDS }
         ensures { MatchResult result (λ ns. ended (state_of self) ≡ Ok ns.items)
@@ -211,7 +211,7 @@ impl Reading {
     }
 }
 
-/// Whether these are two operators.
+/// Whether two operators differ.
 fn differ(first: Operator, second: Operator) -> bool
     ensures { result ≡ differ_of first second }
 {

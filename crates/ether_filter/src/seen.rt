@@ -1,4 +1,4 @@
-//! What one walk through a packet shows of all primitives.
+//! `Seen`: what one walk through a packet shows, for all primitives together.
 ghost use Rattle.std.specs.Prelude.{◌≡◌, ◌++◌, ℕ, List, IsTrue, nat_eq, [], length};
 ghost use Rattle.std.specs.List.{list_any};
 ghost use Rattle.etherparse.specs.Header.{Header};
@@ -13,7 +13,7 @@ use crate::primitive::Primitive;
 use arrayvec::ArrayVec;
 use ether_peel::{Peel, Start};
 
-/// The most identifiers, and the most ether types, that there is room for.
+/// The most VLAN identifiers, and the most ether types, that are kept.
 const ROOM: usize = 8;
 
 /// The two addresses of a link.
@@ -23,7 +23,7 @@ pub(crate) struct Addresses {
     source: u64,
 }
 
-/// What some headers show, but for what they are many of.
+/// What headers show, except for the identifiers and ether types, which can be many.
 #[derive(Clone, Copy)]
 pub(crate) struct Told {
     link: Option<Addresses>,
@@ -35,7 +35,7 @@ pub(crate) struct Told {
     is_refused: bool,
 }
 
-/// What some headers show.
+/// What headers show.
 #[derive(Drop)]
 pub(crate) struct Seen {
     told: Told,
@@ -45,7 +45,7 @@ pub(crate) struct Seen {
     types: ArrayVec<u16, ROOM>,
 }
 
-/// What the headers of a packet show. `None` if it is more than there is room for.
+/// Walks through a packet, and returns what its headers show. `None` if there is no room for that.
 pub(crate) fn look(start: Start, frame: &[u8]) -> Option<Seen>
     ensures { (hs : List Header) (e : Ending) → Walk (start_of start) frame.now hs e → IsSeen (next_of start) hs e result }
 {
@@ -67,7 +67,7 @@ pub(crate) fn look(start: Start, frame: &[u8]) -> Option<Seen>
     }
 }
 
-/// What is known before the first header, by the ether type that is announced.
+/// What is known before the first header: the ether type that is announced, if one is.
 fn begin(announced: Option<u16>) -> Seen
     ensures told { result.told ≡ begun }
     ensures ids { result.ids.items ≡ [] }
@@ -90,7 +90,7 @@ fn begin(announced: Option<u16>) -> Seen
     }
 }
 
-/// Takes one header more. Returns `false` if there is no room for what it shows.
+/// Adds what a further header shows. Returns `false` if there is no room for it.
 fn take(seen: &mut Seen, fields: Fields, announced: Option<u16>) -> bool
     ensures room { result ≡ takes seen.old fields announced }
     ensures taken { IsTrue result → IsTaken seen.old fields announced seen.new }
@@ -102,14 +102,14 @@ fn take(seen: &mut Seen, fields: Fields, announced: Option<u16>) -> bool
     keep(&mut seen.ids, tag_id(fields)) && keep(&mut seen.types, announced)
 }
 
-/// Whether no link is seen twice.
+/// Whether these are not the fields of a second link.
 fn fits(link: Option<Addresses>, fields: Fields) -> bool
     ensures { result ≡ fits_of link fields }
 {
     !matches!((link, fields), (Some(_), Fields::Link { .. }))
 }
 
-/// What is told after one header more.
+/// What is known after a further header with these fields.
 fn told_after(told: Told, fields: Fields) -> Told
     ensures { result ≡ told_after_of told fields }
 {
@@ -153,7 +153,7 @@ fn tag_id(fields: Fields) -> Option<u16>
     }
 }
 
-/// Keeps a number, if there is one. Returns `false` if there is no room for it.
+/// Appends a number, if there is one. Returns `false` if there is no room for it.
 fn keep(numbers: &mut ArrayVec<u16, ROOM>, number: Option<u16>) -> bool
     ensures room { result ≡ has_room (length numbers.old.items) number }
     ensures kept { IsTrue result → numbers.new.items ≡ numbers.old.items ++ listed number }
@@ -167,7 +167,7 @@ fn keep(numbers: &mut ArrayVec<u16, ROOM>, number: Option<u16>) -> bool
     true
 }
 
-/// Whether a primitive matches a packet of two lengths in which this was seen.
+/// Whether a primitive matches a packet of these lengths in which this was seen.
 #[inline]
 pub(crate) fn is_seen(
     primitive: &Primitive,
@@ -211,18 +211,18 @@ fn has(numbers: &[u16], number: u16) -> bool
     false
 }
 
-/// The VLAN tags that are seen.
+/// What is known of the VLAN tags of a packet.
 #[derive(Clone, Copy)]
 pub(crate) enum Tags {
     /// There is none.
     Untagged,
     /// There is one, with this identifier.
     One(u16),
-    /// There are several, or it is not seen how many there are.
+    /// There are several, or it is not known how many.
     Any,
 }
 
-/// The VLAN tags that are seen of a packet.
+/// What is known of the VLAN tags of a packet, by what was seen in it.
 pub(crate) fn tags_seen(seen: &Option<Seen>) -> Tags
     ensures { result ≡ tags_seen_of seen.now }
 {

@@ -2,27 +2,27 @@
 ghost use Rattle.std.specs.Prelude.{◌≡◌, ◌+◌, ◌<◌, ◌≤◌, ◌∷◌, [], false, length, slice_index, slice_range, IfNone, IfSome};
 ghost use Rattle.ether_filter.specs.Words.{class_of as class_of_byte, is_blank, are_joined as are_joined_of, words_from, IsNextWord};
 
-/// What a character of a text is.
+/// The class of a character.
 #[derive(Clone, Copy)]
 pub(crate) enum Class {
-    /// Between words.
+    /// It separates words.
     Blank,
-    /// A word of its own.
+    /// It is a word of its own.
     Sign,
-    /// In a word of such characters.
+    /// It is part of a word of `&` or `|`.
     Connective,
-    /// In a word of such characters.
+    /// It is part of a word of other characters.
     Letter,
 }
 
-/// Where a word of a text begins and ends.
+/// The offsets in a text at which a word begins and ends.
 #[derive(Clone, Copy)]
 pub(crate) struct Word {
     pub start: usize,
     pub end: usize,
 }
 
-/// The first word of a text from a place on.
+/// The first word of a text from the offset `from` on.
 pub(crate) fn next_word(text: &[u8], from: usize) -> Option<Word>
     requires { from ≤ length text.now }
     ensures none { IfNone result (words_from text.now from ≡ []) }
@@ -36,7 +36,7 @@ pub(crate) fn next_word(text: &[u8], from: usize) -> Option<Word>
     Some(Word { start, end })
 }
 
-/// Where the blanks from a place on end.
+/// The offset at which the blanks from `from` on end.
 fn word_start(text: &[u8], from: usize) -> usize
     requires { from ≤ length text.now }
     ensures from { from ≤ result }
@@ -54,7 +54,7 @@ fn word_start(text: &[u8], from: usize) -> usize
     start
 }
 
-/// Where the word that begins at a place ends.
+/// The offset at which the word ends that begins at `start`.
 fn word_end(text: &[u8], start: usize) -> usize
     requires inside { start < length text.now }
     requires word { is_blank (class_of_byte (slice_index text.now start)) ≡ false }
@@ -69,7 +69,7 @@ fn word_end(text: &[u8], start: usize) -> usize
     end
 }
 
-/// What a character is.
+/// The class of a character.
 fn class_of(byte: u8) -> Class
     ensures { result ≡ class_of_byte byte }
 {
@@ -81,7 +81,7 @@ fn class_of(byte: u8) -> Class
     }
 }
 
-/// Whether two characters, one after the other, are of one word.
+/// Whether two neighboring characters are in one word.
 fn are_joined(first: Class, second: Class) -> bool
     ensures { result ≡ are_joined_of first second }
 {

@@ -30,10 +30,10 @@ pub(crate) enum Token {
     Cut,
     Less,
     Greater,
-    /// A number, if it has no more than 32 bits.
+    /// A number; `None` if it does not fit in 32 bits.
     Number(Option<u32>),
     Address(u64),
-    /// No word of an expression.
+    /// A word that no expression has.
     Unknown,
 }
 
@@ -167,7 +167,7 @@ pub(crate) fn token_of(word: &[u8]) -> Token
     }
 }
 
-/// What a word means, if it's one of these.
+/// What a word means, if it is one of these.
 fn meaning_in(keywords: &[Keyword], word: &[u8]) -> Option<Token>
     ensures { result ≡ meaning_among (map (λ k. (k.spelling.now, k.token)) keywords.now) word.now }
 {

@@ -25,7 +25,7 @@ abbrev pub link_header : LinkHeader → Header
 link_header (links.LinuxSll h) = headers.LinuxSll (linux_sll_view h)
 link_header (links.Ethernet2 h) = headers.Ethernet2 (ethernet2_view h)
 
--- what a frame with this header begins with
+-- the expectation with which a frame of this header is read
 abbrev pub link_start : LinkHeader → Expectation
 link_start (links.LinuxSll h) = record { next = Start kinds.LinuxSll; limit = None }
 link_start (links.Ethernet2 h) = record { next = Start kinds.Ethernet2; limit = None }
@@ -62,7 +62,7 @@ built_headers p = built (link_header p.link ∷ inner_headers p) (content_type p
 abbrev pub packet_len : PacketBuilder → ℕ
 packet_len p = place (length (content_payload p.content)) (link_header p.link ∷ inner_headers p)
 
--- A target that holds the headers and then the payload, and after them what it held before. The walk of the packet finds these
+-- The target holds the headers, then the payload, and then what it held before. The walk of the packet finds these
 -- headers, and then what it finds in the payload.
 pub record IsWritten (p : PacketBuilder) (old : List ℕ) (end : ℕ) (new : List ℕ) : Type 0 where
   pub ends : end ≡ packet_len p
@@ -72,12 +72,12 @@ pub record IsWritten (p : PacketBuilder) (old : List ℕ) (end : ℕ) (new : Lis
 
 -- ---- refusals
 
--- a header of cooked capture is one of Ethernet (ARPHRD_ETHER)
+-- a header of cooked capture has the hardware type of Ethernet (ARPHRD_ETHER)
 abbrev pub IsEthernet : LinkHeader → Type 0
 IsEthernet (links.LinuxSll h) = h.arp_hrd_type.0 ≡ 1
 IsEthernet (links.Ethernet2 h) = Unit {0}
 
--- the packet type of a cooked capture is one that is supported
+-- the packet type of a cooked capture is a supported one
 abbrev pub HasPacketType : LinkHeader → Type 0
 HasPacketType (links.LinuxSll h) = h.packet_type ≤ 7
 HasPacketType (links.Ethernet2 h) = Unit {0}
@@ -86,7 +86,7 @@ abbrev pub AllReadable : List Header → Type 0
 AllReadable [] = Unit {0}
 AllReadable (h ∷ hs) = (is_readable h ≡ true) × AllReadable hs
 
--- after i headers that can be read comes the first that can't, though a header follows it
+-- the first i headers have readable payloads; the next one does not, though a header follows it
 pub record IsSealedAt (hs : List Header) (i : ℕ) : Type 0 where
   pub front : List Header
   pub sealed : Header
@@ -97,7 +97,7 @@ pub record IsSealedAt (hs : List Header) (i : ℕ) : Type 0 where
   pub readable : AllReadable front
   pub unreadable : is_readable sealed ≡ false
 
--- a header of cooked capture of another link than Ethernet is refused with its hardware type
+-- a header of cooked capture whose hardware type is not Ethernet is refused, and the error names that type
 abbrev pub IsOtherLink : LinkHeader → BuildError → Type 0
 IsOtherLink (links.LinuxSll h) e = (e ≡ errors.HardwareType h.arp_hrd_type) × (IsEthernet (links.LinuxSll h) → ⊥)
 IsOtherLink (links.Ethernet2 h) e = ⊥
@@ -107,11 +107,11 @@ pub data RefusesPacket (p : PacketBuilder) (target : List ℕ) : BuildError → 
   sealed : (i : ℕ) → IsEthernet p.link → IsSealedAt (inner_headers p) i → RefusesPacket p target (errors.Sealed i)
   space : (e : SliceWriteSpaceError) → IsEthernet p.link → IsChain (inner_headers p) → IsRefusedSpace (packet_len p) layers.EtherPayload target e → RefusesPacket p target (errors.Space e)
 
--- no row holds
+-- no reason for refusal holds
 abbrev pub AcceptsPacket : (p : PacketBuilder) (target : List ℕ) → Type 0
 AcceptsPacket p target = (e : BuildError) → RefusesPacket p target e → ⊥
 
--- the target is too short, and nothing else is refused
+-- the target is too short, and that is the only reason for refusal
 abbrev pub RefusesSpace : (p : PacketBuilder) (target : List ℕ) → BuildError → Type 0
 RefusesSpace p target (errors.Space e) = IsRefusedSpace (packet_len p) layers.EtherPayload target e
 RefusesSpace p target e = ⊥

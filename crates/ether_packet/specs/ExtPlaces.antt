@@ -7,6 +7,6 @@ listed (Some x) None third = x ∷ []
 listed (Some x) (Some y) None = x ∷ y ∷ []
 listed (Some x) (Some y) (Some z) = x ∷ y ∷ z ∷ []
 
--- none is missing before another one
+-- a later place is used only if all places before it are
 abbrev pub IsGapless : {X : Type 0} → (first second third : Option X) → Type 0
 IsGapless first second third = (first ≡ None → second ≡ None) × (second ≡ None → third ≡ None)

@@ -1,4 +1,4 @@
--- The whole frame of parts: their headers as they are, then the rest, then the trailer.
+-- The whole frame of parts: their headers unchanged, then the rest, then the trailer.
 use Rattle.std.specs.Prelude.{◌≡◌, ℕ, ◌+◌, ◌-◌, ◌^◌, ◌≤◌, List, [], ◌∷◌, ◌++◌, length, take, drop, min, flat_map}
 use Rattle.etherparse.specs.Bytes.{IsBytes}
 use Rattle.etherparse.specs.Types.Layer.TheVariants as layers
@@ -21,15 +21,15 @@ use Rattle.ether_packet.specs.ReplacingLink.{in_place_of}
 abbrev pub parts_headers : PacketParts → List Header
 parts_headers p = link_header p.link ∷ parts_inner p
 
--- how many bytes the frame has
+-- the number of bytes of the frame
 abbrev pub frame_size : PacketParts → ℕ
 frame_size p = place (length p.rest.now + length p.trailer.now) (parts_headers p)
 
--- the same as a `usize`, whose greatest number stands for each above it
+-- the same number, but at most the greatest `usize`
 abbrev pub counted_size : PacketParts → ℕ
 counted_size p = min (frame_size p) (2 ^ 64 - 1)
 
--- A target that holds the whole frame, and after it what it held before.
+-- The target holds the whole frame, and then what it held before.
 pub record IsFrameWritten (p : PacketParts) (old : List ℕ) (end : ℕ) (new : List ℕ) : Type 0 where
   pub ends : end ≡ frame_size p
   pub room : end ≤ length old
@@ -37,13 +37,14 @@ pub record IsFrameWritten (p : PacketParts) (old : List ℕ) (end : ℕ) (new : 
   pub packet_type : HasPacketType p.link
   pub bytes : new ≡ flat_map header_bytes (parts_headers p) ++ p.rest.now ++ p.trailer.now ++ drop end old
 
--- a target that is too short
+-- the target is too short
 abbrev pub RefusesFrame : (p : PacketParts) (target : List ℕ) → SliceWriteSpaceError → Type 0
 RefusesFrame p target error = IsRefusedSpace (counted_size p) layers.EtherPayload target error
 
 -- ---- parts of a packet
 
--- If these are the parts of a packet, the target begins with the frame that was read, but for the two reserved bits of each SecTag.
+-- If these are the parts of a packet, the target begins with the frame that was read, except for the two reserved bits
+-- of each SecTag.
 abbrev pub IsWholeFrame : PacketParts → (end : ℕ) (new : List ℕ) → Type 0
 IsWholeFrame p end new =
     (start : Expectation) (list : List ℕ) (packet : PacketSlice)
@@ -57,26 +58,27 @@ FramesGoBack =
 
 -- ---- changed parts
 
--- two lists of headers say the same about what follows, one by one
+-- each header of one list says the same about what follows it as its counterpart in the other
 abbrev pub AllAgree : List Header → List Header → Type 0
 AllAgree [] [] = Unit {0}
 AllAgree (g ∷ gs) (h ∷ hs) = Agree g h × AllAgree gs hs
 AllAgree _ _ = ⊥
 
--- The headers of parts as a walk finds them in the place of others: that of the link is one of a frame with a check sequence if the
--- first of those is.
+-- The headers of parts as a walk reads them in place of others. The link's header has a frame check sequence if that
+-- of the others has one.
 abbrev pub headers_for : PacketParts → List Header → List Header
 headers_for p [] = parts_headers p
 headers_for p (h ∷ hs) = in_place_of p.link h ∷ parts_inner p
 
--- A target begins with a list as long as an old one and with its bytes after the headers; the walk has these headers and this ending.
+-- The target begins with a list as long as the old one, whose bytes after the headers are those of the old one. Its
+-- walk has these headers and this ending.
 pub record IsRead (start : Expectation) (old : List ℕ) (hs : List Header) (e : Ending) (end : ℕ) (new : List ℕ) : Type 0 where
   pub len : end ≡ length old
   pub walk : Walk start (take end new) hs e
   pub kept : drop (place 0 hs) (take end new) ≡ drop (place 0 hs) old
 
--- If the headers agree one by one with those of a packet, and the rest and the trailer are the packet's, then the frame is read with
--- these headers, and the walk ends as that of the packet.
+-- If each header agrees with its counterpart in a packet, and rest and trailer are the packet's, then the frame is
+-- read with the new headers, and its walk ends as the packet's does.
 abbrev pub IsChangedFrame : PacketParts → (end : ℕ) (new : List ℕ) → Type 0
 IsChangedFrame p end new =
     (start : Expectation) (list : List ℕ) (packet : PacketSlice) (e : Ending)

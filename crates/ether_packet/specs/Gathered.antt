@@ -1,4 +1,4 @@
--- A packet that has gathered the headers of a walk so far.
+-- A packet that holds all headers that a walk has returned so far.
 use Rattle.std.specs.Prelude.{◌≡◌, ℕ, ◌+◌, ◌≤◌, List, [], ◌∷◌, ◌++◌, length, map, Option, Some, None, unwrap_or, Result, Err, Bool, true, false, ◌⊎◌}
 use Rattle.etherparse.specs.Bytes.{IsBytes}
 use Rattle.etherparse.specs.Kind.{Kind}
@@ -20,15 +20,15 @@ abbrev pub window_after : Window → List Header → Window
 window_after w [] = w
 window_after w (h ∷ hs) = window_after (payload w h) hs
 
--- what is known of the headers that were read before a unit, where x is expected and so many extensions may still be
--- read
+-- What is known of the headers before a unit that is to be read: there `x` is expected, and up to `free` further
+-- extensions may be read.
 pub record Ready (r : Read) (x : Expectation) (free : ℕ) : Type 0 where
   pub limit : x.limit ≡ Some free
   pub first : (kind : Kind) → x.next ≡ Start kind → r.units ≡ []
   pub arp : (arp_view r.units ≡ None) ⊎ (x.next ≡ AfterArp)
 
 pub record Gathered (start : Expectation) (list : List ℕ) (s : State) (r : Read) : Type 0 where
-  -- the walk of the list, with the headers before the walker and those that it faces
+  -- the walk of the list: the headers that were read, and those that the walker faces
   pub done : List Header
   pub left : List Header
   pub ending : Ending
@@ -37,23 +37,23 @@ pub record Gathered (start : Expectation) (list : List ℕ) (s : State) (r : Rea
   pub faces : Faces list window s left ending
   pub going : s.over ≡ false
   pub comes_after : window ≡ window_after (whole start list) done
-  -- the packet has the former
+  -- the packet holds those that were read
   pub values : map header_of r.units ≡ done
   pub frame : r.frame ≡ list
   pub units : AreUnitsAt list (whole start list) done r.units
-  -- and there is room for more
+  -- and has room for further extensions
   pub free : ℕ
   pub room : length (exts_of r.units) + free ≡ 3
   pub ready : Ready r s.expected free
 
--- what a walker gives that has no unit more
+-- what a walker without further units returns: its fault if there is one
 abbrev pub item_of : Option PeelFault → Option (Result PeelUnit PeelFault)
 item_of None = None
 item_of (Some f) = Some (Err f)
 
 -- ---- a walk that is under way, and its end
 
--- at most so many headers come: one that only a frame begins with, extensions as the limit lets, and an ARP packet
+-- at most this many headers follow: the link's, the extensions that the limit allows, and an ARP packet
 abbrev pub next_left : Next → ℕ
 next_left (Start kind) = 2
 next_left AfterArp = 0
@@ -70,19 +70,19 @@ pub record UnderWay (start : Expectation) (list : List ℕ) (w : PacketWalk) : T
 abbrev pub IsUnderWay : PacketWalk → Type 0
 IsUnderWay w = (start : Expectation) × (list : List ℕ) × UnderWay start list w
 
--- nothing came any more, or a fault
+-- the walker returned None or a fault
 pub record HasEnded (start : Expectation) (list : List ℕ) (w : PacketWalk) : Type 0 where
   pub before : State
   pub gathered : Gathered start list before w.read
   pub gives : Gives before (item_of w.fault) w.peel
 
--- so many headers were read, or the walk has ended
+-- at least n headers were read, or the walk has ended
 abbrev pub GoesBy : ℕ → (old new : PacketWalk) → Bool → Type 0
 GoesBy n old new true =
     (start : Expectation) (list : List ℕ) → UnderWay start list old
     → UnderWay start list new × (headers_left new.peel.expected + n ≤ headers_left old.peel.expected)
 GoesBy n old new false = (start : Expectation) (list : List ℕ) → UnderWay start list old → HasEnded start list new
 
--- all were read
+-- the walk has ended
 abbrev pub EndsAnyhow : (old new : PacketWalk) → Type 0
 EndsAnyhow old new = (start : Expectation) (list : List ℕ) → UnderWay start list old → HasEnded start list new

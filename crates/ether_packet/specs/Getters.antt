@@ -1,4 +1,4 @@
--- What is asked of a packet: its tags, the payload that they name, and the shortest cut that keeps its headers.
+-- What a packet's getters return: its tags, the payload after them, and the shortest cut that keeps its headers.
 use Rattle.std.specs.Prelude.{◌≡◌, ℕ, ◌-◌, ◌<◌, ◌≤◌, List, [], ◌∷◌, length, take, slice_get, Option, Some, None, MatchOption, Bool, false, IsTrue, ◌↔◌}
 use Rattle.std.specs.List.{filter_map}
 use Rattle.etherparse.specs.Types.EtherPayloadSlice.{EtherPayloadSlice}
@@ -34,19 +34,19 @@ vlan_ids_of hs = filter_map vid_of hs
 abbrev pub vlans_of : List PacketUnit → List (List ℕ)
 vlans_of us = filter_map vlan_of_unit us
 
--- the first of them, or the first two
+-- the first VLAN tag, or the first two if there are several
 abbrev pub first_tags : List (List ℕ) → Option VlanSlice
 first_tags [] = None
 first_tags (tag ∷ []) = Some (tags.SingleVlan tag)
 first_tags (outer ∷ inner ∷ later) = Some (tags.DoubleVlan (record { outer = outer; inner = inner }))
 
--- those of the SecTags
+-- the bytes of the SecTags with their payloads, in order
 abbrev pub sec_tags_of : List PacketUnit → List (List ℕ)
 sec_tags_of us = filter_map macsec_of_unit us
 
 -- ---- payloads
 
--- the payload of a link with its ether type, if its protocol has one
+-- the payload of a link's header with its ether type, if its protocol is an ether type
 abbrev pub HoldsLinkPayload : LinkSlice → Option EtherPayloadSlice → Type 0
 HoldsLinkPayload link result =
     MatchOption result (told_ether_type (link_protocol link) ≡ None)
@@ -57,7 +57,7 @@ HoldsLinkPayload link result =
 abbrev pub last_ext : List PacketUnit → Option PacketUnit
 last_ext us = slice_get (exts_of us) (length (exts_of us) - 1)
 
--- the payload of the last extension, or of the link if there is none
+-- the payload of the last extension, or of the link's header if there is no extension
 abbrev pub HoldsPayload : Option LinkSlice → Option PacketUnit → Option EtherPayloadSlice → Type 0
 HoldsPayload link (Some u) result = (tag : LinkExtSlice) × ViewsTag u.kind u.bytes tag × HoldsExtPayload tag result
 HoldsPayload (Some link) None result = HoldsLinkPayload link result
@@ -65,7 +65,8 @@ HoldsPayload None None result = result ≡ None
 
 -- ---- cuts
 
--- a cut of a list, with headers hs, keeps them if it has n bytes, and loses one if it has fewer
+-- a cut of a list with the headers hs keeps them all if it has at least n bytes, and loses at least one if it has
+-- fewer
 pub record IsLeastSnap (start : Expectation) (list : List ℕ) (hs : List Header) (n : ℕ) : Type 0 where
   pub inside : n ≤ length list
   pub keeps : (m : ℕ) (ks : List Header) (f : Ending) → n ≤ m → m ≤ length list
@@ -73,7 +74,7 @@ pub record IsLeastSnap (start : Expectation) (list : List ℕ) (hs : List Header
   pub loses : (m : ℕ) (ks : List Header) (f : Ending) → m < n
       → Walk start (take m list) ks f → length ks < length hs
 
--- so it is for each list that has the packet, without a frame check sequence
+-- this holds for each list that has the packet, if it has no frame check sequence
 abbrev pub SnapsAt : PacketSlice → ℕ → Type 0
 SnapsAt p n =
     (start : Expectation) (list : List ℕ)
@@ -82,7 +83,7 @@ SnapsAt p n =
 
 -- ---- faults
 
--- the walk of each list that has the packet ends accepted exactly if this is true
+-- this is true exactly if the walk of each list that has the packet ends accepted
 abbrev pub TellsAccepted : PacketSlice → Bool → Type 0
 TellsAccepted p complete =
     (start : Expectation) (list : List ℕ) (is : IsPacket start list p)

@@ -1,4 +1,4 @@
--- Laws of changes in place: to put a tag in and to take it off undo each other.
+-- Laws of changes in place: putting in a tag and taking it off undo each other.
 use Rattle.std.specs.Prelude.{◌≡◌, ℕ, List, drop}
 use Rattle.etherparse.specs.Bytes.{IsBytes}
 use Rattle.etherparse.specs.Vlan.{VlanValue}
@@ -10,7 +10,8 @@ use Rattle.ether_packet.specs.TypedLink.{type_of_link}
 use Rattle.ether_packet.specs.Popping.{IsPopped}
 use Rattle.ether_packet.specs.Pushing.{IsPushed}
 
--- A tag that is put into a buffer and then taken off is returned, and leaves the frame after the first four bytes as it was.
+-- Taking off a tag that was just put into a buffer returns that tag, and leaves the bytes after the buffer's first
+-- four, the frame, as before both.
 abbrev pub PoppedAfterPushed : Type 0
 PoppedAfterPushed =
     (start : Start) (old between new : List ℕ) (hs ks : List Header) (e f : Ending) (tag popped : VlanValue) (tpid : ℕ)
@@ -20,7 +21,8 @@ PoppedAfterPushed =
     → IsPopped (start_of start) between ks f popped new
     → (drop 4 new ≡ drop 4 old) × (popped ≡ record tag { ether_type = type_of_link pushed.link })
 
--- A tag that is taken off and then put in again, announced by the same ether type, leaves the frame as it was.
+-- Putting in a tag that was just taken off, with the ether type that announced it, leaves the frame as it was before
+-- both.
 abbrev pub PushedAfterPopped : Type 0
 PushedAfterPopped =
     (start : Start) (old between new : List ℕ) (hs ks : List Header) (e f : Ending) (tag : VlanValue)

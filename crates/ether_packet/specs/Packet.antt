@@ -1,4 +1,4 @@
--- The packet of a list of bytes: the headers of its walk as values, each with its window, and what is left.
+-- The packet of a list of bytes: the headers of its walk as values, each with its window, and the rest.
 use Rattle.std.specs.Prelude.{◌≡◌, ℕ, List, [], ◌∷◌, map}
 use Rattle.etherparse.specs.Header.{Header, kind_of}
 use Rattle.ether_peel.specs.Grammar.Window.{Window, within, payload}
@@ -11,11 +11,11 @@ use Rattle.ether_packet.specs.declared.packet_slice.PacketSlice.{PacketSlice}
 use Rattle.ether_packet.specs.PacketUnit.{PacketUnit}
 use Rattle.ether_packet.specs.Views.{header_of}
 
--- a packet has at most three extensions
+-- the most extensions of a packet
 abbrev pub link_exts_cap : ℕ
 link_exts_cap = 3
 
--- and is read by the walk with that limit
+-- the expectation that a packet is read with: that of its start, with this limit
 abbrev pub packet_start : Start → Expectation
 packet_start start = limited_start start link_exts_cap
 
@@ -29,7 +29,7 @@ pub record IsUnitAt (list : List ℕ) (w : Window) (h : Header) (u : PacketUnit)
   pub offset : u.offset ≡ w.start
   pub bytes : u.bytes ≡ within list w
 
--- headers in a window, each in the payload of the one before it
+-- headers in a window, each in the payload of the header before it
 abbrev pub AreUnitsAt : List ℕ → Window → List Header → List PacketUnit → Type 0
 AreUnitsAt list w [] [] = Unit {0}
 AreUnitsAt list w (h ∷ hs) (u ∷ us) = IsUnitAt list w h u × AreUnitsAt list (payload w h) hs us
@@ -43,10 +43,10 @@ pub record IsPacket (start : Expectation) (list : List ℕ) (p : PacketSlice) : 
   -- which is the only one
   pub one : (hs : List Header) (e : Ending)
       → Walk start list hs e → (hs ≡ packet_headers p) × (e ≡ ending)
-  -- each has its place and the bytes of its window
+  -- each has its offset and the bytes of its window
   pub frame : p.read.frame ≡ list
   pub units : AreUnitsAt list (whole start list) (packet_headers p) p.read.units
-  -- what is left is the last window, with what is expected there, and the fault if there is one
+  -- the rest is the last window, with what is expected there, and the fault if there is one
   pub rest : p.rest.now ≡ within list (last_window ending)
   pub offset : p.rest_offset ≡ (last_window ending).start
   pub kind : p.rest_kind ≡ kind_shown (last_expected ending)

@@ -24,7 +24,7 @@ use Rattle.ether_packet.specs.Packet.{packet_headers, IsPacket}
 use Rattle.ether_packet.specs.ReplacingLink.{IsLinkOf}
 use Rattle.ether_packet.specs.Unchanged.{IsWrittenUnchanged}
 
--- an ARP packet as a header, if there is one
+-- the ARP packet as a header, if there is one
 abbrev pub arp_headers : Option ArpValue → List Header
 arp_headers None = []
 arp_headers (Some packet) = headers.Arp packet ∷ []
@@ -32,22 +32,22 @@ arp_headers (Some packet) = headers.Arp packet ∷ []
 abbrev pub parts_exts : PacketParts → List LinkExtHeader
 parts_exts p = take p.tag_count p.tags
 
--- the headers after that of the link
+-- the headers after the link's
 abbrev pub parts_inner : PacketParts → List Header
 parts_inner p = map ext_header_view (parts_exts p) ++ arp_headers p.arp
 
--- these are the headers: that of the link, the extensions, and the ARP packet if there is one
+-- these are the headers: the link's, the extensions, and the ARP packet if there is one
 pub record HaveHeaders (p : PacketParts) (hs : List Header) : Type 0 where
   pub link : Header
   pub parts : hs ≡ link ∷ parts_inner p
   pub is_link : IsLinkOf p.link link
 
--- the ether type that announces what is left, or 0
+-- the ether type that announces the rest, or 0
 abbrev pub type_shown : RestKind → ℕ
 type_shown (rests.EtherType t) = t.0
 type_shown _ = 0
 
--- what is in the frame after the end of the rest
+-- the bytes of the frame after the rest
 abbrev pub trailer_of : PacketSlice → List ℕ
 trailer_of packet = drop (packet.rest_offset + length packet.rest.now) packet.read.frame
 
@@ -58,11 +58,11 @@ pub record ArePartsOf (p : PacketParts) (packet : PacketSlice) : Type 0 where
   pub rest : p.rest.now ≡ packet.rest.now
   pub trailer : p.trailer.now ≡ trailer_of packet
 
--- there is no extension at an index, and the error names how many there are
+-- there is no extension at the index, and the error names the number of extensions
 abbrev pub IsNoExt : PacketParts → (index : ℕ) → ReplaceError → Type 0
 IsNoExt p index error = (length (parts_exts p) ≤ index) × (error ≡ errors.NoLinkExt (length (parts_exts p)))
 
--- an ARP packet if there is one, and else the bytes as a payload
+-- the ARP packet if there is one, else the bytes as a payload
 abbrev pub HasContent : Option ArpValue → (ether_type : EtherType) (bytes : List ℕ) → PacketContent → Type 0
 HasContent None t bytes (contents.Payload ether_type payload) = (ether_type ≡ t) × (payload.now ≡ bytes)
 HasContent (Some a) t bytes (contents.Arp packet) = packet.now ≡ a
@@ -73,8 +73,8 @@ pub record IsBuilderOf (p : PacketParts) (b : PacketBuilder) : Type 0 where
   pub exts : b.link_exts.now ≡ parts_exts p
   pub content : HasContent p.arp p.ether_type p.rest.now b.content
 
--- Parts that are written unchanged are the front of the frame that they were read from, but for the two reserved bits of each SecTag: the
--- headers, and what is left of the last window after them, unless that follows an ARP packet.
+-- Writing parts unchanged gives the front of the frame that they were read from, except for the two reserved bits of
+-- each SecTag: the headers, and the rest of the last window, unless it follows an ARP packet.
 abbrev pub PartsGoBack : Type 0
 PartsGoBack =
     (start : Expectation) (list : List ℕ) (packet : PacketSlice) (parts : PacketParts) (b : PacketBuilder) (end : ℕ) (old new : List ℕ)

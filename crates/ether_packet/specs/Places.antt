@@ -23,7 +23,7 @@ use Rattle.ether_packet.specs.Views.{header_of, exts_of, arp_view}
 abbrev pub unit_at : Kind → FrameWindow → PacketUnit
 unit_at kind p = record { kind = kind; offset = p.start; bytes = p.bytes.now }
 
--- the link's header is that of the whole frame
+-- the link's header, whose window is the whole frame
 abbrev pub link_unit : List ℕ → Kind → PacketUnit
 link_unit frame kind = record { kind = kind; offset = 0; bytes = frame }
 
@@ -47,13 +47,13 @@ arp_units (Some p) = unit_at kinds.Arp p ∷ []
 abbrev pub units_at : List ℕ → LinkKind → List ExtPlace → Option FrameWindow → List PacketUnit
 units_at frame link exts arp = link_units frame link ++ map ext_unit exts ++ arp_units arp
 
--- as values
+-- the headers as values
 abbrev pub headers_at : List ℕ → LinkKind → List ExtPlace → Option FrameWindow → List Header
 headers_at frame link exts arp = map header_of (units_at frame link exts arp)
 
 -- ---- which can be read again
 
--- no row of the table of refusals holds
+-- no row of the table of refusals holds for the window, so the header can be read again
 abbrev pub Reads : List ℕ → Kind → Type 0
 Reads bytes kind = Accepts sources.Slice bytes kind
 
@@ -74,7 +74,7 @@ pub record AreReadable (frame : List ℕ) (first : LinkKind) (tags : List ExtPla
   pub exts : All IsReadableExt tags
   pub arp : IfSome last (IsReadable kinds.Arp)
 
--- the link's header with a frame check sequence or without
+-- the kind of an Ethernet II header with a frame check sequence, or without
 abbrev pub frame_link : Bool → LinkKind
 frame_link true = links.Ethernet2Fcs
 frame_link false = links.Ethernet2
@@ -85,12 +85,12 @@ frame_link false = links.Ethernet2
 abbrev pub kind_read : PeelUnit → Kind
 kind_read u = kind_of (unit_header u)
 
--- there are at most two extensions before another one, and no ARP packet
+-- fewer than three extensions, and no ARP packet
 abbrev pub HasPlaceForExt : Read → Type 0
 HasPlaceForExt r = (length (exts_of r.units) < 3) × (arp_view r.units ≡ None)
 
--- There is a place for it: nothing comes before the link's header, at most two extensions before another one, and nothing after an
--- ARP packet.
+-- The header can be appended: a link's header only to no others; an extension to at most two extensions; and nothing
+-- to an ARP packet.
 abbrev pub HasPlace : Read → PeelUnit → FrameWindow → Type 0
 HasPlace r (shown.Ethernet2 frame) p = (r.units ≡ []) × (p.start ≡ 0) × (p.bytes.now ≡ r.frame)
 HasPlace r (shown.LinuxSll bytes) p = (r.units ≡ []) × (p.start ≡ 0) × (p.bytes.now ≡ r.frame)
@@ -98,6 +98,6 @@ HasPlace r (shown.Vlan bytes) p = HasPlaceForExt r
 HasPlace r (shown.Macsec packet) p = HasPlaceForExt r
 HasPlace r (shown.Arp bytes) p = arp_view r.units ≡ None
 
--- with it
+-- the headers with this one appended
 abbrev pub read_with : Read → Kind → FrameWindow → Read
 read_with r kind p = record r { units = r.units ++ unit_at kind p ∷ [] }

@@ -1,4 +1,4 @@
--- A VLAN tag that is taken off in place.
+-- Taking a VLAN tag off in place.
 use Rattle.std.specs.Prelude.{◌≡◌, ℕ, ◌+◌, ◌-◌, List, [], ◌∷◌, take, drop, true, false}
 use Rattle.etherparse.specs.Bytes.{overwritten}
 use Rattle.etherparse.specs.Vlan.{VlanValue, is_vlan_ether_type}
@@ -11,9 +11,9 @@ use Rattle.ether_packet.specs.declared.tag_error.TagError.{TagError}
 use Rattle.ether_packet.specs.declared.tag_error.TagError.TheVariants as errors
 use Rattle.ether_packet.specs.TypedLink.{type_of_link, with_type, BeginsTyped, RefusesTyped}
 
--- A frame begins with the header of a link and a VLAN tag. Only the bytes of the link before its type are moved, by four to the
--- back, and the frame begins four bytes later. Its walk has the link with the type of the tag, and all later headers and the ending
--- as before, four bytes further to the front.
+-- A frame begins with a link's header and a VLAN tag. Only the bytes of the link before its type are moved, by four
+-- bytes toward the end, and the frame then begins four bytes later. Its walk has the link with the type of the tag;
+-- all later headers and the ending are as before, at offsets lower by four.
 pub record IsPopped (start : Expectation) (old : List ℕ) (hs : List Header) (e : Ending) (tag : VlanValue) (new : List ℕ)
     : Type 0 where
   pub link : Header
@@ -22,8 +22,8 @@ pub record IsPopped (start : Expectation) (old : List ℕ) (hs : List Header) (e
   pub bytes : new ≡ overwritten old 4 (take (header_len link - 2) old)
   pub walk : Walk start (drop 4 new) (with_type link tag.ether_type ∷ later) (moved_ending (header_len link + 4) (header_len link) e)
 
--- No tag is taken off: the frame does not begin with the header of a link and an ether type, that announces no VLAN tag, or the
--- walk ends before the tag, which is cut short.
+-- No tag is taken off: the frame does not begin with a link's header and an ether type; or that does not announce a
+-- VLAN tag; or the walk ends before the tag, which is cut short.
 pub data RefusesPop (hs : List Header) : TagError → Type 0 where
   link : (error : TagError) → RefusesTyped hs error → RefusesPop hs error
   no_vlan : (link : Header) (later : List Header)
@@ -32,7 +32,7 @@ pub data RefusesPop (hs : List Header) : TagError → Type 0 where
 
 -- ---- how it is found
 
--- headers begin with that of a link of 14 or 16 bytes, and a VLAN tag
+-- the headers begin with a link's, of 14 or 16 bytes, and a VLAN tag
 pub record IsTagged (hs : List Header) (at : ℕ) : Type 0 where
   pub link : Header
   pub tag : VlanValue

@@ -1,4 +1,4 @@
--- A VLAN tag that is put in in place.
+-- Putting a VLAN tag in, in place.
 use Rattle.std.specs.Prelude.{◌≡◌, ℕ, ◌+◌, ◌<◌, ◌≤◌, List, ◌∷◌, ◌++◌, length, slice_range, true, false}
 use Rattle.etherparse.specs.Bytes.{spelled, overwritten}
 use Rattle.etherparse.specs.Vlan.{VlanValue, is_vlan_ether_type, vlan_bytes}
@@ -11,14 +11,15 @@ use Rattle.ether_packet.specs.declared.tag_error.TagError.{TagError}
 use Rattle.ether_packet.specs.declared.tag_error.TagError.TheVariants as errors
 use Rattle.ether_packet.specs.TypedLink.{type_of_link, with_type, BeginsTyped, RefusesTyped}
 
--- the four bytes that are put in: what announces the tag, and its tag control information (IEEE 802.1Q, 9.4)
+-- the four bytes that are put in: the ether type that announces the tag, and its tag control information (IEEE 802.1Q,
+-- 9.4)
 abbrev pub pushed_bytes : ℕ → VlanValue → List ℕ
 pushed_bytes tpid tag = spelled 2 tpid ++ slice_range (vlan_bytes tag) 0 2
 
--- A frame begins with the header of a link, after four bytes of a buffer that are free. Only the bytes of the link before its type
--- are moved, by four to the front, and four bytes are put in after them. The walk of the whole buffer has the link with the type
--- that announces the tag, the tag with the type of the link, and all later headers and the ending as before, four bytes further to
--- the back.
+-- A frame begins with a link's header, after four free bytes of a buffer. Only the bytes of the link before its type
+-- are moved, by four bytes toward the front, and four bytes are put in after them. The walk of the whole buffer has
+-- the link with the type that announces the tag, and the tag with the type of the link; all later headers and the
+-- ending are as before, at offsets higher by four.
 pub record IsPushed (start : Expectation) (old : List ℕ) (hs : List Header) (e : Ending) (tag : VlanValue) (tpid : ℕ) (new : List ℕ)
     : Type 0 where
   pub link : Header
@@ -29,8 +30,8 @@ pub record IsPushed (start : Expectation) (old : List ℕ) (hs : List Header) (e
   pub walk : Walk start new (with_type link tpid ∷ headers.Vlan (record tag { ether_type = type_of_link link }) ∷ later)
       (moved_ending (header_len link) (header_len link + 4) e)
 
--- No tag is put in: the ether type announces none, the buffer has no four bytes before the frame, or that does not begin with the
--- header of a link and an ether type.
+-- No tag is put in: the ether type does not announce one; or the buffer does not have four bytes before the frame; or
+-- the frame does not begin with a link's header and an ether type.
 pub data RefusesPush (buffer : List ℕ) (hs : List Header) (tpid : ℕ) : TagError → Type 0 where
   other_tpid : is_vlan_ether_type tpid ≡ false → RefusesPush buffer hs tpid (errors.Tpid (record { 0 = tpid }))
   no_room : is_vlan_ether_type tpid ≡ true → length buffer < 4 → RefusesPush buffer hs tpid errors.NoRoom
@@ -38,7 +39,7 @@ pub data RefusesPush (buffer : List ℕ) (hs : List Header) (tpid : ℕ) : TagEr
 
 -- ---- how it is found
 
--- headers begin with that of a link of 14 or 16 bytes
+-- the headers begin with a link's, of 14 or 16 bytes
 pub record IsLinked (hs : List Header) (len : ℕ) : Type 0 where
   pub link : Header
   pub later : List Header

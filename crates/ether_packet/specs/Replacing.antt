@@ -1,4 +1,4 @@
--- A header of a frame that is replaced in place.
+-- Replacing a header of a frame in place.
 use Rattle.std.specs.Prelude.{◌≡◌, ◌≢◌, ℕ, ◌+◌, ◌≤◌, List, [], ◌∷◌, ◌++◌, length, true, if◌then◌else◌}
 use Rattle.etherparse.specs.Bytes.{overwritten}
 use Rattle.etherparse.specs.LinkExt.{ext_header_view}
@@ -14,8 +14,8 @@ use Rattle.ether_packet.specs.declared.difference.Difference.TheVariants as diff
 use Rattle.ether_packet.specs.declared.replace_error.ReplaceError.{ReplaceError}
 use Rattle.ether_packet.specs.declared.replace_error.ReplaceError.TheVariants as errors
 
--- Two headers are of one kind and length, and say the same about what follows them: they announce the same, and name the same
--- length of a payload or none.
+-- Two headers have the same kind and length, and say the same about what follows them: they announce the same, and
+-- give the same payload length or none.
 abbrev pub Agree : Header → Header → Type 0
 Agree (headers.Ethernet2 g) (headers.Ethernet2 h) = g.ether_type ≡ h.ether_type
 Agree (headers.Ethernet2Fcs g) (headers.Ethernet2Fcs h) = g.ether_type ≡ h.ether_type
@@ -27,7 +27,7 @@ Agree (headers.Arp g) (headers.Arp h) =
     (length g.sender_hardware ≡ length h.sender_hardware) × (length g.sender_protocol ≡ length h.sender_protocol)
 Agree g h = ⊥
 
--- The first difference between two headers, in the order of kind and fields: g is another one in this, and the same before it.
+-- The first difference between two headers, in the order of kind and fields: before it they agree.
 abbrev pub Differs : Header → Header → Difference → Type 0
 Differs g h differences.Kind = kind_of g ≢ kind_of h
 Differs (headers.Vlan g) (headers.Vlan h) differences.EtherType = g.ether_type ≢ h.ether_type
@@ -40,26 +40,26 @@ Differs (headers.Arp g) (headers.Arp h) differences.ProtocolAddrLen =
     (length g.sender_hardware ≡ length h.sender_hardware) × (length g.sender_protocol ≢ length h.sender_protocol)
 Differs g h d = ⊥
 
--- how many of these headers are extensions
+-- the number of extensions among these headers
 abbrev pub ext_count : List Header → ℕ
 ext_count [] = 0
 ext_count (h ∷ hs) = (if is_extension (kind_of h) then 1 else 0) + ext_count hs
 
--- h is the extension at an index of the headers hs, after those of front and before the later ones
+-- h is the extension at an index of the headers hs; the headers of front precede it, and the later ones follow it
 pub record IsExtAt (hs : List Header) (i : ℕ) (front : List Header) (h : Header) (later : List Header)
     : Type 0 where
   pub parts : hs ≡ front ++ h ∷ later
   pub extension : is_extension (kind_of h) ≡ true
   pub before : ext_count front ≡ i
 
--- the extension at an index is this one, and begins at this place
+-- the extension at the index is this one, at this offset
 pub record IsPlacedExt (hs : List Header) (i : ℕ) (f : PlacedExt) : Type 0 where
   pub front : List Header
   pub later : List Header
   pub found : IsExtAt hs i front (ext_header_view f.header) later
   pub begins : f.at ≡ place 0 front
 
--- The extension at an index begins at a place, and g can replace it.
+-- The extension at the index begins at the offset `at`, and g can replace it.
 pub record TakesExt (hs : List Header) (i : ℕ) (g : Header) (at : ℕ) : Type 0 where
   pub front : List Header
   pub replaced : Header
@@ -68,8 +68,8 @@ pub record TakesExt (hs : List Header) (i : ℕ) (g : Header) (at : ℕ) : Type 
   pub same : Agree g replaced
   pub begins : at ≡ place 0 front
 
--- A list with headers hs and this ending becomes another one, in which g replaces the extension at an index. Only the bytes of
--- that extension are others, and the walk has all other headers and the ending as before.
+-- In a list with the headers hs and this ending g replaces the extension at an index. Only the bytes of that extension
+-- change, and the walk has all other headers and the ending as before.
 pub record ReplacesExt (start : Expectation) (old : List ℕ) (hs : List Header) (e : Ending) (i : ℕ) (g : Header) (new : List ℕ)
     : Type 0 where
   pub front : List Header
@@ -82,7 +82,7 @@ pub record ReplacesExt (start : Expectation) (old : List ℕ) (hs : List Header)
   pub len : length new ≡ length old
   pub walk : Walk start new (front ++ g ∷ later) e
 
--- g does not replace the extension at an index: there is none, or it says something else, and this is the first difference
+-- g does not replace the extension at an index: there is none, or they differ, and this is the first difference
 pub data RefusesExt (hs : List Header) (i : ℕ) (g : Header) : ReplaceError → Type 0 where
   none : ext_count hs ≤ i → RefusesExt hs i g (errors.NoLinkExt (ext_count hs))
   other : (front : List Header) (h : Header) (later : List Header) (d : Difference)

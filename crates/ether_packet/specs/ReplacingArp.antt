@@ -1,4 +1,4 @@
--- The ARP packet of a frame that is replaced in place.
+-- Replacing the ARP packet of a frame in place.
 use Rattle.std.specs.Prelude.{◌≡◌, ℕ, List, [], ◌∷◌, ◌++◌, length, Bool, true, false, ◌||◌}
 use Rattle.etherparse.specs.Bytes.{overwritten}
 use Rattle.etherparse.specs.Arp.{ArpValue, arp_bytes}
@@ -23,7 +23,7 @@ abbrev pub has_arp : List Header → Bool
 has_arp [] = false
 has_arp (h ∷ hs) = is_arp (kind_of h) || has_arp hs
 
--- The last one of these headers is an ARP packet, which ends at a place, and g can replace it.
+-- The last of these headers is an ARP packet, which ends at the offset `end`, and g can replace it.
 pub record TakesArp (hs : List Header) (g : ArpValue) (end : ℕ) : Type 0 where
   pub front : List Header
   pub replaced : ArpValue
@@ -31,8 +31,8 @@ pub record TakesArp (hs : List Header) (g : ArpValue) (end : ℕ) : Type 0 where
   pub same : Agree (headers.Arp g) (headers.Arp replaced)
   pub ends : end ≡ place 0 hs
 
--- A list with headers hs and this ending becomes another one, in which g replaces the ARP packet, which is the last header. Only
--- the bytes of that packet are others, and the walk has all other headers and the ending as before.
+-- In a list with the headers hs and this ending g replaces the ARP packet, which is the last header. Only the bytes of
+-- that packet change, and the walk has all other headers and the ending as before.
 pub record ReplacesArp (start : Expectation) (old : List ℕ) (hs : List Header) (e : Ending) (g : ArpValue) (new : List ℕ) : Type 0 where
   pub front : List Header
   pub replaced : ArpValue
@@ -43,7 +43,8 @@ pub record ReplacesArp (start : Expectation) (old : List ℕ) (hs : List Header)
   pub len : length new ≡ length old
   pub walk : Walk start new (front ++ headers.Arp g ∷ []) e
 
--- g does not replace an ARP packet: there is none, or its addresses have other lengths, and these are the first that differ
+-- g does not replace an ARP packet: there is none, or the lengths of the addresses differ, and this is the first such
+-- difference
 pub data RefusesArp (hs : List Header) (g : ArpValue) : ReplaceError → Type 0 where
   no_arp : has_arp hs ≡ false → RefusesArp hs g errors.NoArp
   other_arp : (front : List Header) (a : ArpValue) (d : Difference)

@@ -1,4 +1,4 @@
--- The header of a link that is replaced in place.
+-- Replacing a link's header in place.
 use Rattle.std.specs.Prelude.{◌≡◌, ◌≢◌, ℕ, List, [], ◌∷◌, length, Bool, true, false, ⊤}
 use Rattle.etherparse.specs.Types.LinkHeader.{LinkHeader}
 use Rattle.etherparse.specs.Types.LinkHeader.TheVariants as links
@@ -26,16 +26,16 @@ is_link kinds.Ethernet2Fcs = true
 is_link kinds.LinuxSll = true
 is_link _ = false
 
--- the first one of these headers is that of a link
+-- the first of these headers is a link's
 abbrev pub has_link : List Header → Bool
 has_link [] = false
 has_link (h ∷ hs) = is_link (kind_of h)
 
--- the protocol type is the one that the hardware type of a cooked capture makes of its protocol number
+-- the protocol type of a cooked capture: its protocol number, read according to the hardware type
 abbrev pub protocol_in : LinuxSllValue → LinuxSllProtocolType
 protocol_in s = protocol_of s.hardware_type s.protocol
 
--- a link's header is of the same kind as the header of a walk, and says the same about what follows it
+-- a link's header has the same kind as the header of a walk, and says the same about what follows it
 abbrev pub LinkAgrees : LinkHeader → Header → Type 0
 LinkAgrees (links.Ethernet2 g) (headers.Ethernet2 h) = g.ether_type.0 ≡ h.ether_type
 LinkAgrees (links.Ethernet2 g) (headers.Ethernet2Fcs h) = g.ether_type.0 ≡ h.ether_type
@@ -54,20 +54,20 @@ LinkDiffers (links.LinuxSll g) (headers.LinuxSll h) differences.ProtocolType =
     (g.arp_hrd_type.0 ≡ h.hardware_type) × (g.protocol_type ≢ protocol_in h)
 LinkDiffers g h d = ⊥
 
--- a link's header in the place of another one, as a walk finds it: of a frame with a check sequence if that one is
+-- a link's header as a walk reads it in place of another one: with a frame check sequence if that one has one
 abbrev pub in_place_of : LinkHeader → Header → Header
 in_place_of (links.Ethernet2 g) (headers.Ethernet2Fcs h) = headers.Ethernet2Fcs (ethernet2_view g)
 in_place_of g h = link_header g
 
--- the first one of these headers can be replaced by a link's header
+-- g can replace the first of these headers
 pub record TakesLink (hs : List Header) (g : LinkHeader) : Type 0 where
   pub replaced : Header
   pub later : List Header
   pub parts : hs ≡ replaced ∷ later
   pub same : LinkAgrees g replaced
 
--- A list with headers hs and this ending becomes another one, in which g replaces the first header. Only the bytes of that header
--- are others, and the walk has all other headers and the ending as before.
+-- In a list with the headers hs and this ending g replaces the first header. Only the bytes of that header change, and
+-- the walk has all other headers and the ending as before.
 pub record ReplacesLink (start : Expectation) (old : List ℕ) (hs : List Header) (e : Ending) (g : LinkHeader) (new : List ℕ) : Type 0 where
   pub takes : TakesLink hs g
   pub fits : FitsHeader (link_header g)
@@ -75,7 +75,7 @@ pub record ReplacesLink (start : Expectation) (old : List ℕ) (hs : List Header
   pub len : length new ≡ length old
   pub walk : Walk start new (in_place_of g takes.replaced ∷ takes.later) e
 
--- g does not replace the first header: there is none of a link, or this is the first difference between them
+-- g does not replace the first header: it is not a link's, or this is the first difference between them
 pub data RefusesLink (hs : List Header) (g : LinkHeader) : ReplaceError → Type 0 where
   no_link : has_link hs ≡ false → RefusesLink hs g errors.NoLink
   other_link : (h : Header) (later : List Header) (d : Difference)
@@ -90,20 +90,20 @@ IsLinkOf (links.Ethernet2 g) (headers.Ethernet2Fcs h) = ethernet2_view g ≡ h
 IsLinkOf (links.LinuxSll g) (headers.LinuxSll h) = (linux_sll_view g ≡ h) × (g.protocol_type ≡ protocol_in h)
 IsLinkOf g h = ⊥
 
--- it is the first one
+-- the first of these headers is this link's header
 pub record BeginsWithLink (hs : List Header) (g : LinkHeader) : Type 0 where
   pub header : Header
   pub later : List Header
   pub parts : hs ≡ header ∷ later
   pub is : IsLinkOf g header
 
--- two headers of links are of one kind, and say the same about what follows them
+-- two links' headers have the same kind, and say the same about what follows them
 abbrev pub LinksAgree : LinkHeader → LinkHeader → Type 0
 LinksAgree (links.Ethernet2 g) (links.Ethernet2 h) = g.ether_type ≡ h.ether_type
 LinksAgree (links.LinuxSll g) (links.LinuxSll h) = (g.arp_hrd_type ≡ h.arp_hrd_type) × (g.protocol_type ≡ h.protocol_type)
 LinksAgree g h = ⊥
 
--- the first difference between two headers of links
+-- the first difference between two links' headers
 abbrev pub LinksDiffer : LinkHeader → LinkHeader → Difference → Type 0
 LinksDiffer (links.Ethernet2 g) (links.LinuxSll h) differences.Kind = ⊤
 LinksDiffer (links.LinuxSll g) (links.Ethernet2 h) differences.Kind = ⊤

@@ -1,4 +1,4 @@
--- The header of a link whose type is the ether type of what follows.
+-- A link's header whose payload has an ether type.
 use Rattle.std.specs.Prelude.{◌≡◌, ℕ, ◌+◌, ◌≤◌, List, ◌∷◌, length, true, false, Option, Some, None}
 use Rattle.etherparse.specs.LinuxSll.{LinuxSllValue, linux_sll_of}
 use Rattle.etherparse.specs.Types.ArpHardwareId.{ArpHardwareId}
@@ -23,7 +23,7 @@ type_of_link (headers.Ethernet2Fcs e) = e.ether_type
 type_of_link (headers.LinuxSll s) = s.protocol
 type_of_link _ = 0
 
--- a header with another number in its last two bytes, which announces what follows it
+-- the header with another number in its last two bytes, which announces what follows it
 abbrev pub with_type : Header → ℕ → Header
 with_type (headers.Ethernet2 e) t = headers.Ethernet2 (record e { ether_type = t })
 with_type (headers.Ethernet2Fcs e) t = headers.Ethernet2Fcs (record e { ether_type = t })
@@ -32,13 +32,13 @@ with_type (headers.Vlan v) t = headers.Vlan (record v { ether_type = t })
 with_type (headers.Macsec m) t = headers.Macsec (record m { payload_type = retyped m.payload_type t })
 with_type (headers.Arp a) t = headers.Arp a
 
--- Headers begin with that of a link, whose type is an ether type.
+-- The headers begin with a link's, whose payload has an ether type.
 pub record BeginsTyped (hs : List Header) (link : Header) (later : List Header) : Type 0 where
   pub parts : hs ≡ link ∷ later
   pub is_link : is_link (kind_of link) ≡ true
   pub typed : next_after link ≡ EtherType (type_of_link link)
 
--- They don't: there is no header of a link, or it is that of a cooked capture of another hardware type than 1, Ethernet.
+-- They do not: there is no link's header, or it is of a cooked capture whose hardware type is not 1, Ethernet.
 pub data RefusesTyped (hs : List Header) : TagError → Type 0 where
   no_link : has_link hs ≡ false → RefusesTyped hs errors.NoLink
   hardware_type : (s : LinuxSllValue) (later : List Header)
@@ -46,12 +46,12 @@ pub data RefusesTyped (hs : List Header) : TagError → Type 0 where
 
 -- ---- how it is read
 
--- the length of the header of a link, from a start that has one
+-- the length of the link's header, for a start that has one
 abbrev pub link_len : Start → ℕ
 link_len starts.LinuxSll = 16
 link_len _ = 14
 
--- the length of its payload in a list, and the type
+-- the link's header, the length of its payload in a list, and its ether type
 pub record IsTypedLink (start : Start) (list : List ℕ) (hs : List Header) (l : TypedLink) : Type 0 where
   pub link : Header
   pub later : List Header
@@ -60,11 +60,11 @@ pub record IsTypedLink (start : Start) (list : List ℕ) (hs : List Header) (l :
   pub payload : link_len start + l.payload_len + trailer_len link ≡ length list
   pub ether_type : l.ether_type.0 ≡ type_of_link link
 
--- a list begins with a header of cooked capture of Ethernet, whose packet type is supported
+-- a list begins with a cooked capture header of Ethernet, whose packet type is supported
 abbrev pub IsEthernetCapture : List ℕ → Type 0
 IsEthernetCapture list = (16 ≤ length list) × ((linux_sll_of list).packet_type ≤ 7) × ((linux_sll_of list).hardware_type ≡ 1)
 
--- why it begins with no such header: with that of another link, or its header is refused
+-- why it does not: the header has another hardware type, or is refused
 abbrev pub IsOtherCapture : List ℕ → Option ArpHardwareId → Type 0
 IsOtherCapture list (Some hardware) = Accepts sources.Slice list kinds.LinuxSll × (hardware.0 ≡ (linux_sll_of list).hardware_type)
 IsOtherCapture list None = (r : Refusal) × Refuses sources.Slice list kinds.LinuxSll r

@@ -1,4 +1,4 @@
--- The headers of a packet by the bytes that mean them, and the views of them.
+-- The headers of a packet by the bytes that mean them, and views of these headers.
 use Rattle.std.specs.Prelude.{◌≡◌, ℕ, List, [], ◌∷◌, Option, Some, None, slice_range, slice_get, true, false}
 use Rattle.std.specs.List.{filter, filter_map}
 use Rattle.etherparse.specs.Types.LinkSlice.{LinkSlice}
@@ -22,7 +22,7 @@ use Rattle.ether_packet.specs.PacketUnit.{PacketUnit}
 
 -- ---- headers
 
--- the header of a kind that a list of bytes begins with
+-- the header of this kind at the front of a list of bytes
 abbrev pub header_in : Kind → List ℕ → Header
 header_in kinds.Ethernet2 bytes = headers.Ethernet2 (ethernet2_of bytes)
 header_in kinds.Ethernet2Fcs bytes = headers.Ethernet2Fcs (ethernet2_of bytes)
@@ -36,7 +36,7 @@ header_of u = header_in u.kind u.bytes
 
 -- ---- views of them
 
--- a view of the link's header, which a frame begins with
+-- a view of the link's header, the first of a frame
 abbrev pub link_in : Kind → List ℕ → Option LinkSlice
 link_in kinds.Ethernet2 bytes = Some (links.Ethernet2 (record { bytes = bytes; has_fcs = false }))
 link_in kinds.Ethernet2Fcs bytes = Some (links.Ethernet2 (record { bytes = bytes; has_fcs = true }))
@@ -59,7 +59,7 @@ vlan_in _ bytes = None
 abbrev pub vlan_of_unit : PacketUnit → Option (List ℕ)
 vlan_of_unit u = vlan_in u.kind u.bytes
 
--- those of a SecTag
+-- the bytes of a SecTag with its payload
 abbrev pub macsec_in : Kind → List ℕ → Option (List ℕ)
 macsec_in kinds.Macsec bytes = Some bytes
 macsec_in _ bytes = None
@@ -83,38 +83,38 @@ abbrev pub ViewsTag : Kind → List ℕ → LinkExtSlice → Type 0
 ViewsTag kind bytes (exts.Vlan slice) = (kind ≡ kinds.Vlan) × (slice ≡ bytes)
 ViewsTag kind bytes (exts.Macsec packet) = (kind ≡ kinds.Macsec) × ViewsSecTag bytes packet
 
--- .. where it starts, and the header that it means
+-- .. with its offset, and the header that it means
 pub record ViewsExt (u : PacketUnit) (ext : PacketExt) : Type 0 where
   pub offset : ext.offset ≡ u.offset
   pub tag : ViewsTag u.kind u.bytes ext.slice
   pub header : ext_slice_header ext.slice ≡ header_of u
 
--- of an extension if there is one
+-- .. if there is an extension
 abbrev pub ViewsExtIf : Option PacketUnit → Option PacketExt → Type 0
 ViewsExtIf None result = result ≡ None
 ViewsExtIf (Some u) None = ⊥
 ViewsExtIf (Some u) (Some ext) = ViewsExt u ext
 
--- of all of them
+-- .. of each extension
 abbrev pub ViewsExts : List PacketUnit → List PacketExt → Type 0
 ViewsExts [] [] = Unit {0}
 ViewsExts (u ∷ us) (ext ∷ exts) = ViewsExt u ext × ViewsExts us exts
 ViewsExts _ _ = ⊥
 
--- a view of an ARP packet, without what follows it
+-- the bytes of an ARP packet, without what follows it
 abbrev pub arp_in : Kind → List ℕ → Option (List ℕ)
 arp_in kinds.Arp bytes = Some (slice_range bytes 0 (arp_len (arp_front_in bytes)))
 arp_in _ bytes = None
 
--- of the first one
+-- .. of the first ARP packet
 abbrev pub arp_view : List PacketUnit → Option (List ℕ)
 arp_view us = slice_get (filter_map (λ (u : PacketUnit). arp_in u.kind u.bytes) us) 0
 
--- where a unit starts, if it is an ARP packet
+-- the offset of a unit, if it is an ARP packet
 abbrev pub arp_start : Kind → ℕ → Option ℕ
 arp_start kinds.Arp at = Some at
 arp_start _ at = None
 
--- .. the first one
+-- .. of the first ARP packet
 abbrev pub arp_offset : List PacketUnit → Option ℕ
 arp_offset us = slice_get (filter_map (λ (u : PacketUnit). arp_start u.kind u.offset) us) 0

@@ -1,4 +1,4 @@
--- The identifier of a VLAN tag that is set in place.
+-- Setting the identifier of a VLAN tag in place.
 use Rattle.std.specs.Prelude.{◌≡◌, ◌≢◌, ℕ, ◌+◌, ◌*◌, ◌/◌, ◌%◌, List, [], length, slice_index}
 use Rattle.etherparse.specs.Vlan.{VlanValue}
 use Rattle.etherparse.specs.Header.{Header}
@@ -6,14 +6,14 @@ use Rattle.etherparse.specs.Header as headers
 use Rattle.ether_packet.specs.Getters.{vlan_ids_of}
 use Rattle.ether_packet.specs.Replacing.{IsExtAt}
 
--- the extension at an index of these headers is this VLAN tag, and no VLAN tag is before it
+-- the extension at the index is this VLAN tag, and no VLAN tag precedes it
 pub record IsOutermost (hs : List Header) (i : ℕ) (tag : VlanValue) : Type 0 where
   pub front : List Header
   pub later : List Header
   pub found : IsExtAt hs i front (headers.Vlan tag) later
   pub outermost : vlan_ids_of front ≡ []
 
--- Of a VLAN tag that begins at a place, the 12 bits of the identifier are set: the lower half of the first byte and the second
+-- Sets the 12 bits of the identifier in a VLAN tag at the offset `at`: the lower half of the first byte and the second
 -- byte (IEEE 802.1Q, 9.6). No other bit of the list changes.
 pub record SetsVid (old : List ℕ) (at vid : ℕ) (new : List ℕ) : Type 0 where
   pub len : length new ≡ length old

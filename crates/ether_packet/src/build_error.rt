@@ -7,7 +7,7 @@ use etherparse::err::SliceWriteSpaceError;
 use std::error::Error;
 use std::fmt;
 
-/// Why a packet is not written. The target is then as it was.
+/// Why a packet is not written. The target is then unchanged.
 ///
 /// ```
 /// assert_eq!(rt;
@@ -17,9 +17,11 @@ use std::fmt;
 /// ```
 #[derive(Clone, Copy, PartialEq, Eq, Debug)]
 pub enum BuildError {
-    /// The header of cooked capture has this hardware type, which is not that of Ethernet, so no ether type can follow.
+    /// The link is a cooked capture with this hardware type. It is not that of Ethernet, so the protocol type can't
+    /// announce what follows.
     HardwareType(ArpHardwareId),
-    /// A header follows the SecTag at this index of the extensions, whose payload is encrypted or changed.
+    /// A header follows the SecTag at this index of `link_exts`, but the payload of that SecTag is encrypted or
+    /// changed.
     Sealed(usize),
     /// The target is too short for the packet.
     Space(SliceWriteSpaceError),

@@ -1,11 +1,11 @@
-//! What two headers say otherwise about what follows them.
+//! How two headers differ in what they say about what follows them.
 ghost use Rattle.std.specs.Prelude.{Some};
 ghost use Rattle.ether_packet.specs.Texts.{difference_text};
 
 use std::fmt;
 
-/// What a header says otherwise than the one that it is to replace. If there are several differences, it is the first in
-/// this order.
+/// How a header differs, in what it says about what follows it, from the one that it is to replace. Of several
+/// differences it is the first in this order.
 ///
 /// ```
 /// assert_eq!(rt;
@@ -15,16 +15,16 @@ use std::fmt;
 /// ```
 #[derive(Clone, Copy, PartialEq, Eq, Debug)]
 pub enum Difference {
-    /// The kind of the header: one is a VLAN tag and the other a SecTag, or one is of Ethernet II and the other of cooked
+    /// The kind: one header is a VLAN tag and the other a SecTag, or one is of Ethernet II and the other of cooked
     /// capture.
     Kind,
     /// The ether type of an Ethernet II header or VLAN tag.
     EtherType,
-    /// The hardware type of a cooked capture.
+    /// The hardware type of a cooked capture header.
     HardwareType,
-    /// The protocol type of a cooked capture.
+    /// The protocol type of a cooked capture header.
     ProtocolType,
-    /// The type of the payload of a SecTag: its ether type, or whether it is encrypted or changed.
+    /// The payload type of a SecTag: its ether type, or whether the payload is encrypted or changed.
     PayloadType,
     /// The short length of a SecTag.
     ShortLen,

@@ -1,17 +1,17 @@
-//! Where the VLAN tags and SecTags of a packet lie in its frame.
+//! Where the VLAN tags and SecTags of a packet are in its frame.
 ghost use Rattle.std.specs.Prelude.{◌≡◌, ◌<◌, ◌≤◌, [], ◌∷◌, ◌++◌, length, slice_get};
 
 use std::fmt;
 use std::marker::Model;
 
-/// A window of a frame: where it starts, and its bytes.
+/// A window of a frame: its offset, and its bytes.
 #[derive(Clone, Copy)]
 pub(crate) struct FrameWindow<'a> {
     pub start: usize,
     pub bytes: &'a [u8],
 }
 
-/// Shows the number of the bytes, which are shown with the frame.
+/// Shows how many bytes there are, and not the bytes: the frame has them.
 impl fmt::Debug for FrameWindow<'_> {
     fn fmt<W: fmt::Write>(&self, f: &mut fmt::Formatter<W>) -> fmt::Result {
         f.debug_struct("FrameWindow")
@@ -21,7 +21,7 @@ impl fmt::Debug for FrameWindow<'_> {
     }
 }
 
-/// Which link extension a tag is.
+/// Whether a tag is a VLAN tag or a SecTag.
 #[derive(Clone, Copy, Debug)]
 pub(crate) enum ExtKind {
     Vlan,
@@ -35,7 +35,8 @@ pub(crate) struct ExtPlace<'a> {
     pub place: FrameWindow<'a>,
 }
 
-/// Up to three tags in order. Three fields take fewer instructions than a list, whose unused places are filled.
+/// Up to three tags in order. Three fields take fewer instructions than an `ArrayVec`, whose unused places have to be
+/// filled.
 #[derive(Debug, Drop)]
 pub(crate) struct ExtPlaces<'a> {
     first: Option<ExtPlace<'a>>,
@@ -68,7 +69,7 @@ impl<'a> ExtPlaces<'a> {
         }
     }
 
-    /// Adds a tag after the others.
+    /// Appends a tag.
     #[inline(always)]
     pub fn push(&mut self, tag: ExtPlace<'a>)
         requires { length self.old < 3 }
@@ -94,7 +95,7 @@ impl<'a> ExtPlaces<'a> {
         }
     }
 
-    /// How many tags there are.
+    /// The number of tags.
     #[inline(always)]
     pub fn len(&self) -> usize
         ensures value { result ≡ length self.now }

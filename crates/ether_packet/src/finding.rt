@@ -1,4 +1,4 @@
-//! A VLAN tag or SecTag of a frame, by its index.
+//! Finds a VLAN tag or SecTag of a frame by its index.
 ghost use Rattle.std.specs.Prelude.{◌≡◌, ◌+◌, ◌≤◌, List, [], ◌∷◌, length, IfOk, IfErr, MatchOption};
 ghost use Rattle.etherparse.specs.LinkExt.{ext_header_view};
 ghost use Rattle.etherparse.specs.Header.{Header, header_len};
@@ -10,14 +10,15 @@ ghost use Rattle.ether_packet.specs.Replacing.{ext_count, IsPlacedExt};
 use ether_peel::{Peel, PeelUnit, Start};
 use etherparse::LinkExtHeader;
 
-/// A VLAN tag or SecTag of a frame, and where it starts.
+/// A VLAN tag or SecTag of a frame, and its offset.
 #[derive(Clone, Copy)]
 pub(crate) struct PlacedExt {
     pub(crate) at: usize,
     pub(crate) header: LinkExtHeader,
 }
 
-/// The VLAN tag or SecTag at an index, counted from the outermost one. If there is none, how many the frame has.
+/// The VLAN tag or SecTag at an index, counted from the outermost one. The error is the number of VLAN tags and
+/// SecTags, if there is none at the index.
 pub(crate) fn ext_at(start: Start, frame: &[u8], index: usize) -> Result<PlacedExt, usize>
     ensures ok { IfOk result (λ found. (hs : List Header) (e : Ending)
         → Walk (start_of start) frame.now hs e → IsPlacedExt hs index found) }
@@ -44,7 +45,7 @@ pub(crate) fn ext_at(start: Start, frame: &[u8], index: usize) -> Result<PlacedE
     }
 }
 
-/// The VLAN tag or SecTag that a unit is, if it is one.
+/// The VLAN tag or SecTag in a unit, if it has one.
 #[inline(always)]
 fn ext_of(unit: &PeelUnit<'_>) -> Option<LinkExtHeader>
     ensures { MatchOption result (ext_count (unit_header unit.now ∷ []) ≡ 0)

@@ -1,4 +1,4 @@
-//! How a frame begins: the header of its link, and the VLAN tag directly after it.
+//! The first headers of a frame: that of the link, and the VLAN tag directly after it.
 ghost use Rattle.std.specs.Prelude.{◌≡◌, List, option_map, option_and_then};
 ghost use Rattle.etherparse.specs.Ethernet2.{ethernet2_view};
 ghost use Rattle.etherparse.specs.Header.{Header};
@@ -13,19 +13,19 @@ use crate::typed_link::chunk_at;
 use ether_peel::Start;
 use etherparse::{Ethernet2Header, Ethernet2Slice, LinuxSllHeader, SingleVlanHeader};
 
-/// How an Ethernet II frame begins.
+/// The first headers of an Ethernet II frame.
 #[derive(Clone, Copy, Debug)]
 pub struct EthernetFront {
     /// The header of Ethernet II.
     pub link: Ethernet2Header,
-    /// The VLAN tag directly after it.
+    /// The VLAN tag directly after it, if there is one.
     pub vlan: Option<SingleVlanHeader>,
 }
 
-/// The header of an Ethernet II frame without a frame check sequence, and the VLAN tag directly after it.
+/// Reads the header of an Ethernet II frame without a frame check sequence, and the VLAN tag directly after it.
 ///
-/// What a switch or a load balancer looks at. What follows isn't read. `None` if the frame has fewer than 14 bytes. A
-/// tag that is cut short is none.
+/// This is what a switch or a load balancer needs; the bytes after these headers are not read. `None` if the frame has
+/// fewer than 14 bytes. A VLAN tag that is cut short is not returned.
 ///
 /// # Examples
 ///
@@ -60,9 +60,10 @@ pub fn ethernet_front(frame: &[u8]) -> Option<EthernetFront>
     }
 }
 
-/// The VLAN tag directly after the header of a link, which [`pop_vlan`](crate::pop_vlan) takes off.
+/// The VLAN tag directly after the header of the link, which is the tag that [`pop_vlan`](crate::pop_vlan) would take
+/// off.
 ///
-/// `None` if that refuses the frame.
+/// `None` where `pop_vlan` refuses the frame.
 ///
 /// # Examples
 ///
@@ -85,7 +86,7 @@ pub fn outer_vlan(start: Start, frame: &[u8]) -> Option<SingleVlanHeader>
     }
 }
 
-/// The length of the header of a link, from a start that has one.
+/// The length in bytes of the link's header, for a start that has one.
 fn link_len(start: Start) -> usize
     ensures { result ≡ link_len_of start }
 {

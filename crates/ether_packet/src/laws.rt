@@ -3,28 +3,32 @@ ghost use Rattle.ether_packet.specs.Laws.{PoppedAfterPushed, PushedAfterPopped};
 ghost use Rattle.ether_packet.specs.Frames.{ChangedFramesAreRead, FramesGoBack};
 ghost use Rattle.ether_packet.specs.Parts.{PartsGoBack};
 
-/// The parts of a packet that are written unchanged give the front of its frame, but for the two reserved bits of each SecTag.
+/// Writing the parts of a packet unchanged gives the front of its frame, except for the two reserved bits of each
+/// SecTag.
 pub fn parts_go_back()
     ensures { PartsGoBack }
 {}
 
-/// The frame that is written of the parts of a packet is the one that was read, but for the two reserved bits of each SecTag.
+/// Writing the frame of a packet's parts gives the frame that was read, except for the two reserved bits of each
+/// SecTag.
 pub fn frames_go_back()
     ensures { FramesGoBack }
 {}
 
-/// Where headers of a packet are replaced by others that say the same about what follows them, the frame that is written has
-/// these, ends as before, and keeps every byte after the headers.
+/// If headers of a packet are replaced by others that say the same about what follows them, the frame that is written
+/// is read with the new headers, the walk ends as before, and all bytes after the headers are unchanged.
 pub fn changed_frames_are_read()
     ensures { ChangedFramesAreRead }
 {}
 
-/// A VLAN tag that is put in and then taken off is returned, and leaves the frame as it was.
+/// Taking off a VLAN tag that was just put in returns that tag with the ether type that it was given, and leaves the
+/// frame as it was before both.
 pub fn popped_after_pushed()
     ensures { PoppedAfterPushed }
 {}
 
-/// A VLAN tag that is taken off and then put in again, announced by the same ether type, leaves the frame as it was.
+/// Putting in a VLAN tag that was just taken off, with the ether type that announced it, leaves the frame as it was
+/// before both.
 pub fn pushed_after_popped()
     ensures { PushedAfterPopped }
 {}

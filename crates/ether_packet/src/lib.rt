@@ -1,5 +1,5 @@
-//! Packets read at random: the link-layer headers of a frame as views in one value, and not one after the other as
-//! `ether_peel` returns them. No call allocates memory.
+//! The link-layer headers of a frame in one value, with random access; `ether_peel` returns them one after the other.
+//! The crate also builds packets, and changes headers and VLAN tags in place. No call allocates memory.
 #![tactic(auto)]
 
 mod build_error;

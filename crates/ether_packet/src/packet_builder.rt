@@ -19,20 +19,20 @@ use etherparse::{
 /// What follows the headers of a packet.
 #[derive(Debug, Drop)]
 pub enum PacketContent<'a> {
-    /// The payload that an ether type announces.
+    /// A payload, and the ether type that announces it.
     Payload(EtherType, &'a [u8]),
     /// An ARP packet.
     Arp(&'a ArpPacket),
 }
 
-/// The parts of a packet, outermost first.
+/// The parts of a packet that is to be written, outermost first.
 ///
-/// When it is written, the ether type of each header is set by what follows it. Before a VLAN tag, an ether type that
-/// announces one stays: 0x8100, 0x88A8 or 0x9100. Any other becomes 0x88A8 if the tag is followed by another one, and
-/// 0x8100 if it isn't (IEEE 802.1Q, table 9-1: service tag, customer tag).
+/// [`write`](Self::write) sets the ether type of each header by what follows it. Before a VLAN tag, an ether type that
+/// announces one is kept: 0x8100, 0x88A8 or 0x9100. Any other becomes 0x88A8 if another VLAN tag directly follows that
+/// tag, and otherwise 0x8100 (IEEE 802.1Q, table 9-1: service tag, customer tag).
 ///
-/// The short length of each SecTag is set to the number of bytes that follow it, with its ether type, up to 63, and to 0
-/// if they are more. So lengths of 48 to 63 are named, although IEEE 802.1AE, 9.7, wants 0 for them: see
+/// The short length of each SecTag is set to the number of bytes after it, with the two of its ether type if it has
+/// one, and to 0 if there are more than 63. IEEE 802.1AE, 9.7, wants 0 for lengths of 48 to 63, too: see
 /// [`MacsecHeader::set_payload_len`].
 ///
 /// ```
@@ -58,12 +58,12 @@ pub enum PacketContent<'a> {
 /// ```
 #[derive(Debug, Drop)]
 pub struct PacketBuilder<'a, 'b> {
-    /// The header that the packet begins with; of cooked capture one of Ethernet.
+    /// The header of the link. If it is of cooked capture, its hardware type must be Ethernet.
     pub link: LinkHeader,
-    /// The VLAN tags and SecTags, the outermost first. Only the last one, before a payload, may be a SecTag whose
-    /// payload is encrypted or changed.
+    /// The VLAN tags and SecTags, outermost first. A SecTag whose payload is encrypted or changed must be the last
+    /// one, before a payload.
     pub link_exts: &'a [LinkExtHeader],
-    /// What follows them.
+    /// What follows the link's header and the tags.
     pub content: PacketContent<'b>,
 }
 
@@ -79,18 +79,18 @@ impl<'a, 'b> PacketBuilder<'a, 'b> {
         len
     }
 
-    /// Writes the packet to the front of a target, and returns its length. The bytes after it stay as they were.
+    /// Writes the packet to the front of a target, and returns its length. The bytes after it are unchanged.
     ///
     /// # Errors
     ///
-    /// The first of these that holds; the target then stays as it was:
+    /// The first of these that holds. The target is then unchanged.
     ///
-    /// - [`BuildError::HardwareType`]: the link's header is one of cooked capture of another link than Ethernet, with its
-    ///   hardware type.
-    /// - [`BuildError::Sealed`]: another header follows a SecTag whose payload is encrypted or changed. It names the index
-    ///   of the first such SecTag in `link_exts`.
-    /// - [`BuildError::Space`]: the target is shorter than [`size`](Self::size). An Ethernet II header, VLAN tags and what
-    ///   follows them are refused for nothing else.
+    /// - [`BuildError::HardwareType`]: the link's header is one of cooked capture whose hardware type, which the error
+    ///   names, is not Ethernet.
+    /// - [`BuildError::Sealed`]: another header follows a SecTag whose payload is encrypted or changed. The error
+    ///   names the index of the first such SecTag in `link_exts`.
+    /// - [`BuildError::Space`]: the target is shorter than [`size`](Self::size). With an Ethernet II header and no
+    ///   SecTag this is the only error.
     pub fn write(&self, target: &mut [u8]) -> Result<usize, BuildError>
         ensures ok { IfOk result (λ end. IsWritten self.now target.old end target.new) }
         ensures refused { IfErr result (RefusesPacket self.now target.old) }
@@ -119,8 +119,8 @@ impl<'a, 'b> PacketBuilder<'a, 'b> {
         Ok(required_len)
     }
 
-    /// The length of the packet, if each header that another one follows has a payload that can be read; otherwise the
-    /// index of the first that hasn't.
+    /// The length of the packet, if each header that another header follows has a readable payload; else the index of
+    /// the first one that does not.
     #[inline(always)]
     fn readable_len(&self) -> Result<usize, usize>
         ensures len { IfOk result (λ len. len ≡ packet_len self.now) }
@@ -138,7 +138,7 @@ impl<'a, 'b> PacketBuilder<'a, 'b> {
         Ok(len)
     }
 
-    /// Whether another header follows the extension at an index.
+    /// Whether another header follows the tag at an index.
     fn is_followed(&self, i: usize) -> bool
         requires { i < length self.now.link_exts.now }
         ensures { IsTrue result ↔ (i + 1 < length self.now.link_exts.now
@@ -147,8 +147,8 @@ impl<'a, 'b> PacketBuilder<'a, 'b> {
         i + 1 < self.link_exts.len() || matches!(self.content, PacketContent::Arp(_))
     }
 
-    /// Writes a packet of a known length, the last part first: what follows each header is then known when it is
-    /// written.
+    /// Writes the packet, whose length is known, from the last part to the first, because a header's fields depend on
+    /// what follows it.
     #[inline(always)]
     fn write_whole(&self, target: &mut [u8], len: usize)
         requires ethernet { IsEthernet self.now.link }
@@ -166,19 +166,20 @@ impl<'a, 'b> PacketBuilder<'a, 'b> {
     }
 }
 
-/// The front of what is written of a packet so far.
+/// The front of the part of a packet that is written so far.
 #[derive(Clone, Copy)]
 struct Front {
-    /// Where it starts.
+    /// The offset at which it starts.
     at: usize,
-    /// What announces it after a header that announces no VLAN tag yet.
+    /// The ether type that announces it, unless the header before it keeps its own.
     ether_type: EtherType,
-    /// What announces a VLAN tag before it, after such a header: 0x88A8 if it begins with a VLAN tag.
+    /// The ether type that would announce a VLAN tag put before it: 0x88A8 if it begins with a VLAN tag, else 0x8100.
     vlan_type: EtherType,
 }
 
 impl Front {
-    /// What announces it after a header with this ether type, which stays if both are of a VLAN tag.
+    /// The ether type of a header before it, which had `own`. That is kept if it announces a VLAN tag, and one
+    /// follows.
     #[inline(always)]
     fn type_after(self, own: EtherType) -> EtherType
         ensures { (hs : List Header) (t : ℕ) → self.ether_type.0 ≡ type_of 0 hs t
@@ -193,7 +194,7 @@ impl Front {
     }
 }
 
-/// The hardware type of a link whose header no ether type can follow.
+/// The hardware type of a cooked capture of another link than Ethernet.
 #[inline(always)]
 fn other_link(link: &LinkHeader) -> Option<ArpHardwareId>
     ensures none { result ≡ None → IsEthernet link.now }
@@ -217,7 +218,7 @@ fn is_readable_ext(ext: &LinkExtHeader) -> bool
     }
 }
 
-/// Writes a tag before the front of a packet of a known length.
+/// Writes a tag before the part that is written so far. `len` is the length of the packet.
 #[inline(always)]
 fn write_ext_before(target: &mut [u8], len: usize, ext: &LinkExtHeader, front: Front) -> Front
     requires start { header_len (ext_header_view ext.now) ≤ front.at }
@@ -260,8 +261,8 @@ fn write_ext_before(target: &mut [u8], len: usize, ext: &LinkExtHeader, front: F
     }
 }
 
-/// Writes a SecTag before the front of a packet, which has a number of bytes, and returns where it starts. Inlined, it
-/// would take the registers of the loop over the tags.
+/// Writes a SecTag before `front`, which begins the last `following` bytes of the packet, and returns the offset of
+/// the SecTag. Inlined, it would take the registers of the loop over the tags.
 #[inline(never)]
 fn write_sec_tag(target: &mut [u8], tag: &MacsecHeader, front: Front, following: usize) -> usize
     requires start { header_len (headers.Macsec (sec_tag_view tag.now)) ≤ front.at }
@@ -287,7 +288,7 @@ fn write_sec_tag(target: &mut [u8], tag: &MacsecHeader, front: Front, following:
     }
 }
 
-/// The same with a SecTag whose payload can't be read. Inlined, it would take the registers of the others.
+/// Writes a SecTag whose payload can't be read. Inlined, it would take the registers of the other SecTags.
 #[inline(never)]
 fn write_sealed_sec_tag(
     target: &mut [u8],
@@ -305,7 +306,7 @@ fn write_sealed_sec_tag(
     write_sized_sec_tag::<14, 6>(target, end, *tag, following)
 }
 
-/// The same with a SecTag that has its ether type, and whose length is mostly one of two.
+/// Writes a SecTag that ends at `end`, whose bytes usually number `LONG` or `SHORT`, and returns its offset.
 #[inline(always)]
 fn write_sized_sec_tag<const LONG: usize, const SHORT: usize>(
     target: &mut [u8],
@@ -361,7 +362,7 @@ fn write_link(target: &mut [u8], link: &LinkHeader, front: Front)
     }
 }
 
-/// Writes the header of a link as it is.
+/// Writes the header of a link unchanged.
 pub(crate) fn write_link_header(target: &mut [u8], link: &LinkHeader)
     requires { header_len (link_header link.now) ≤ length target.old }
     ensures bytes { target.new
@@ -375,7 +376,7 @@ pub(crate) fn write_link_header(target: &mut [u8], link: &LinkHeader)
     }
 }
 
-/// Writes a tag from a place on.
+/// Writes a tag from the offset `at` on.
 pub(crate) fn write_ext(target: &mut [u8], at: usize, ext: &LinkExtHeader)
     requires { at + header_len (ext_header_view ext.now) ≤ length target.old }
     ensures bytes { target.new
@@ -388,7 +389,7 @@ pub(crate) fn write_ext(target: &mut [u8], at: usize, ext: &LinkExtHeader)
     }
 }
 
-/// The length of an ARP packet or a payload.
+/// The length in bytes of an ARP packet or a payload.
 fn content_len(content: &PacketContent<'_>) -> usize
     ensures value { result ≡ content_len_of content.now }
     ensures bound { result < 2 ^ 63 }
@@ -399,7 +400,7 @@ fn content_len(content: &PacketContent<'_>) -> usize
     }
 }
 
-/// Writes an ARP packet or a payload to the end of a packet of a known length.
+/// Writes an ARP packet or a payload to the end of a packet of length `len`.
 #[inline(always)]
 fn write_content(target: &mut [u8], len: usize, content: &PacketContent<'_>) -> Front
     requires start { content_len_of content.now ≤ len }
@@ -430,7 +431,7 @@ fn write_content(target: &mut [u8], len: usize, content: &PacketContent<'_>) -> 
     }
 }
 
-/// Writes an ARP packet so that it ends at a place, and returns where it starts.
+/// Writes an ARP packet that ends at the offset `end`, and returns the offset at which it starts.
 pub(crate) fn write_arp(target: &mut [u8], end: usize, packet: &ArpPacket) -> usize
     requires start { header_len (headers.Arp packet.now) ≤ end }
     requires end { end ≤ length target.old }
@@ -443,7 +444,7 @@ pub(crate) fn write_arp(target: &mut [u8], end: usize, packet: &ArpPacket) -> us
     at
 }
 
-/// Replaces the bytes of a target from a place on.
+/// Writes bytes from the offset `at` on.
 pub(crate) fn write_at(target: &mut [u8], at: usize, bytes: &[u8])
     requires { at + length bytes.now ≤ length target.old }
     ensures { target.new ≡ overwritten target.old at bytes.now }
@@ -451,7 +452,7 @@ pub(crate) fn write_at(target: &mut [u8], at: usize, bytes: &[u8])
     target[at..at + bytes.len()].copy_from_slice(bytes);
 }
 
-/// The same with the bytes of a SecTag, which are written in one piece if they have one of two lengths.
+/// Does as `write_at`, in one piece if the number of bytes is `LONG` or `SHORT`.
 #[inline(always)]
 fn write_sized<const LONG: usize, const SHORT: usize>(target: &mut [u8], at: usize, bytes: &[u8])
     requires { at + length bytes.now ≤ length target.old }
@@ -466,7 +467,7 @@ fn write_sized<const LONG: usize, const SHORT: usize>(target: &mut [u8], at: usi
     }
 }
 
-/// The same with a number of bytes that is known.
+/// Does as `write_at` with exactly `N` bytes.
 #[inline(always)]
 fn write_chunk<const N: usize>(target: &mut [u8], at: usize, bytes: &[u8])
     requires len { length bytes.now ≡ N }
@@ -478,7 +479,7 @@ fn write_chunk<const N: usize>(target: &mut [u8], at: usize, bytes: &[u8])
     }
 }
 
-/// The same with a whole array, which is written in one piece.
+/// Does as `write_at` with an array, in one piece.
 #[inline(always)]
 pub(crate) fn put_at<const N: usize>(target: &mut [u8], at: usize, bytes: [u8; N])
     requires { at + N ≤ length target.old }

@@ -2,14 +2,15 @@
 use crate::{PacketBuilder, PacketContent, PacketSlice, ReplaceError};
 use etherparse::{ArpPacket, EtherType, LinkExtHeader, LinkHeader};
 
-/// The headers of a packet that was read, as values that can be changed and written, and what follows them.
+/// The headers of a packet that was read, as values that can be changed and written, and the bytes after them.
 ///
-/// [`PacketSlice::to_parts`] makes them. [`write_frame`](Self::write_frame) writes the whole frame again: the headers, the rest
-/// and the trailer. Unchanged parts give the frame that was read, but for the two reserved bits of each SecTag.
+/// [`PacketSlice::to_parts`] returns them. [`write_frame`](Self::write_frame) writes the whole frame again: the
+/// headers, the rest and the trailer. If the parts are unchanged, that is the frame that was read, except for the two
+/// reserved bits of each SecTag.
 ///
-/// [`builder`](Self::builder) is for packets with other tags or another payload. Written by [`PacketBuilder::write`], each
-/// header announces what follows it; by [`PacketBuilder::write_unchanged`], the headers stay as they are. Neither writes the
-/// trailer, nor what follows an ARP packet.
+/// [`builder`](Self::builder) is for packets with other tags or another payload. [`PacketBuilder::write`] makes each
+/// header announce what follows it; [`PacketBuilder::write_unchanged`] writes the headers as they are. Neither writes
+/// the trailer, nor what follows an ARP packet.
 ///
 /// ```
 /// let frame = [
@@ -34,18 +35,18 @@ use etherparse::{ArpPacket, EtherType, LinkExtHeader, LinkHeader};
 pub struct PacketParts<'a> {
     /// The header that the packet begins with.
     pub link: LinkHeader,
-    // The first `tag_count` of these; the others are unused.
+    // The first `tag_count` of these are the tags.
     pub(crate) tags: [LinkExtHeader; PacketSlice::LINK_EXTS_CAP],
     pub(crate) tag_count: usize,
     /// The ARP packet, if there is one.
     pub arp: Option<ArpPacket>,
-    /// The ether type that announces the rest; 0 if none does, as after a SecTag whose payload is encrypted.
+    /// The ether type that announces the rest. It is 0 if none does, as after a SecTag whose payload is encrypted.
     pub ether_type: EtherType,
-    /// The bytes of the last window after the headers, without a frame check sequence. What follows an ARP packet in its
-    /// window, such as padding, is here, too.
+    /// The bytes after the headers in the last window, without a frame check sequence. They include what follows an
+    /// ARP packet in its window, such as padding.
     pub rest: &'a [u8],
-    /// The bytes of the frame after the rest: what follows the payload of a SecTag with a short length, such as its
-    /// integrity check value, and a frame check sequence.
+    /// The bytes of the frame after the rest: the bytes after the payload of a SecTag with a short length, such as its
+    /// integrity check value, and the frame check sequence.
     pub trailer: &'a [u8],
 }
 
@@ -53,7 +54,7 @@ impl<'a> PacketParts<'a> {
     ghost use Rattle.std.specs.Prelude.{◌≡◌, ◌<◌, length, slice_set, IfErr, OnOk};
     ghost use Rattle.ether_packet.specs.Parts.{HasContent, IsBuilderOf, IsNoExt, parts_exts};
 
-    /// The VLAN tags and SecTags, the outermost first.
+    /// The VLAN tags and SecTags, outermost first.
     pub fn link_exts(&self) -> &[LinkExtHeader]
         ensures { result.now ≡ parts_exts self.now }
     {
@@ -61,11 +62,12 @@ impl<'a> PacketParts<'a> {
         &tags[..self.tag_count.min(tags.len())]
     }
 
-    /// Sets the VLAN tag or SecTag at an index, counted from the outermost one. Their number stays.
+    /// Sets the VLAN tag or SecTag at an index, counted from the outermost one. The number of tags is unchanged.
     ///
     /// # Errors
     ///
-    /// [`ReplaceError::NoLinkExt`]: there is no tag at the index. It names how many there are; nothing is changed.
+    /// [`ReplaceError::NoLinkExt`]: there is no tag at the index. The error names the number of tags, and the parts
+    /// are unchanged.
     ///
     /// ```
     /// let frame = [
@@ -96,7 +98,7 @@ impl<'a> PacketParts<'a> {
         Ok(())
     }
 
-    /// A builder of the packet: of its ARP packet, or of the rest as a payload.
+    /// A builder of the packet, whose content is the ARP packet if there is one, else the rest as a payload.
     pub fn builder(&self) -> PacketBuilder<'_, '_>
         ensures { IsBuilderOf self.now result }
     {
@@ -107,7 +109,7 @@ impl<'a> PacketParts<'a> {
         }
     }
 
-    /// An ARP packet if there is one, and else a payload.
+    /// The ARP packet if there is one, else the rest as a payload.
     fn content(&self) -> PacketContent<'_>
         ensures { HasContent self.now.arp self.now.ether_type self.now.rest.now result }
     {

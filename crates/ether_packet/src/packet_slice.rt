@@ -1,4 +1,4 @@
-//! The headers of a packet, read in one call.
+//! The headers of a packet, read by one call.
 ghost use Rattle.std.specs.Prelude.{◌≡◌, ◌↔◌, ◌+◌, ◌≤◌, [], length, None, false, IsTrue, MatchOption, slice_get};
 ghost use Rattle.etherparse.specs.Vlan.{vlan_view};
 ghost use Rattle.ether_peel.specs.Grammar.Cuts.{reach};
@@ -21,14 +21,14 @@ use etherparse::{
     SingleVlanHeader, VlanId, VlanSlice,
 };
 
-/// How many VLAN tags and SecTags a packet holds at most.
+/// The most VLAN tags and SecTags that a packet holds.
 const LINK_EXTS_CAP: usize = 3;
 
-/// The link-layer headers of a frame, what is left after them, and the fault if one of them is refused.
+/// The link-layer headers of a frame, the bytes left after them, and the fault if a header is refused.
 ///
-/// A packet keeps where its headers are. Each getter returns a view that borrows the frame, without walking through the
-/// frame again. After a fault the headers before it stay. At most [`LINK_EXTS_CAP`](Self::LINK_EXTS_CAP) VLAN tags and SecTags are
-/// read; tags beyond them are the rest.
+/// A packet keeps where its headers are, so a getter returns a view of the frame without another walk. After a fault
+/// the packet still has the headers before it. At most [`LINK_EXTS_CAP`](Self::LINK_EXTS_CAP) VLAN tags and SecTags
+/// are read; further tags are part of the rest.
 ///
 /// ```
 /// let frame = [
@@ -49,25 +49,25 @@ const LINK_EXTS_CAP: usize = 3;
 #[derive(Debug, Drop)]
 pub struct PacketSlice<'a> {
     read: PacketUnits<'a>,
-    /// The bytes of the window left to read: after a fault, of the window in which it came.
+    /// The bytes left to read in the last window: after a fault, in the window of the refused header.
     pub rest: &'a [u8],
-    /// Where the rest starts, in bytes from the start of the frame.
+    /// The offset of the rest in bytes from the start of the frame.
     pub rest_offset: usize,
-    /// What the rest is announced as: after a fault, what was expected there.
+    /// What the rest is announced as; after a fault, what was expected there.
     pub rest_kind: RestKind,
     /// Why the next header is refused, if it is.
     pub fault: Option<PeelFault>,
 }
 
 impl<'a> PacketSlice<'a> {
-    /// How many VLAN tags and SecTags a packet holds at most.
+    /// The most VLAN tags and SecTags that a packet holds: 3.
     pub const LINK_EXTS_CAP: usize = LINK_EXTS_CAP;
 
-    /// The headers of a frame, which are those of the walk of [`Peel::with_limit`] with
+    /// Reads the headers of a frame: those that [`Peel::with_limit`] returns with
     /// [`LINK_EXTS_CAP`](Self::LINK_EXTS_CAP) as its limit.
     ///
-    /// A frame that is refused is no error here: the headers before the fault are there, and `fault` says why the next
-    /// one is refused.
+    /// A refused header is not an error of this call: the packet has the headers before it, and `fault` says why it is
+    /// refused.
     #[inline(always)]
     pub fn from_slice(start: Start, bytes: &'a [u8]) -> PacketSlice<'a>
         ensures packet { IsPacket (packet_start start) bytes.now result }
@@ -82,7 +82,7 @@ impl<'a> PacketSlice<'a> {
         PacketSlice::ended(walk)
     }
 
-    /// The headers that were read, and what the walk leaves.
+    /// The packet of a walk that has ended.
     #[inline(always)]
     fn ended(walk: PacketWalk<'a>) -> PacketSlice<'a>
         ensures read { result.read ≡ walk.entry.read }
@@ -100,9 +100,9 @@ impl<'a> PacketSlice<'a> {
         }
     }
 
-    /// The header that the frame begins with, of Ethernet II or Linux cooked capture v1, and its payload.
+    /// The first header of the frame, of Ethernet II or Linux cooked capture v1, with its payload.
     ///
-    /// `None` if the header is refused, or if the frame begins with what an ether type announces.
+    /// `None` if that header is refused, or if the frame begins after a link's header ([`Start::EtherType`]).
     #[inline(always)]
     pub fn link(&self) -> Option<LinkSlice<'a>>
         ensures { result ≡ link_of self.now.read.units }
@@ -119,7 +119,7 @@ impl<'a> PacketSlice<'a> {
         self.read.ext_count()
     }
 
-    /// The VLAN tag or SecTag at an index, counted from the outermost one; `None` if there are not so many.
+    /// The VLAN tag or SecTag at an index, counted from the outermost one; `None` if there is no tag at the index.
     #[inline(always)]
     pub fn link_ext(&self, index: usize) -> Option<PacketExt<'a>>
         ensures { ViewsExtIf (slice_get (exts_of self.now.read.units) index) result }
@@ -127,7 +127,7 @@ impl<'a> PacketSlice<'a> {
         self.read.ext(index)
     }
 
-    /// The VLAN tags and SecTags, the outermost first.
+    /// The VLAN tags and SecTags, outermost first.
     ///
     /// ```
     /// let tags = [
@@ -151,7 +151,7 @@ impl<'a> PacketSlice<'a> {
         exts
     }
 
-    /// The ARP packet, without what follows it.
+    /// The ARP packet, without the bytes that follow it.
     #[inline(always)]
     pub fn arp(&self) -> Option<ArpPacketSlice<'a>>
         ensures { result ≡ arp_view self.now.read.units }
@@ -159,7 +159,7 @@ impl<'a> PacketSlice<'a> {
         self.read.arp()
     }
 
-    /// Where the ARP packet starts, in bytes from the start of the frame.
+    /// The offset of the ARP packet in bytes from the start of the frame.
     #[inline(always)]
     pub fn arp_offset(&self) -> Option<usize>
         ensures { result ≡ arp_offset self.now.read.units }
@@ -167,9 +167,10 @@ impl<'a> PacketSlice<'a> {
         self.read.arp_offset()
     }
 
-    /// The first VLAN tag with its payload, or the first two if there are several; `None` without a VLAN tag.
+    /// The first VLAN tag with its payload, or the first two VLAN tags if there are several; `None` without a VLAN
+    /// tag.
     ///
-    /// SecTags are passed over.
+    /// SecTags are skipped.
     pub fn vlan(&self) -> Option<VlanSlice<'a>>
         ensures { result ≡ first_tags (vlans_of self.now.read.units) }
     {
@@ -191,7 +192,7 @@ impl<'a> PacketSlice<'a> {
         }
     }
 
-    /// The VLAN identifiers of the VLAN tags, the outermost first.
+    /// The VLAN identifiers of the VLAN tags, outermost first.
     pub fn vlan_ids(&self) -> ArrayVec<VlanId, LINK_EXTS_CAP>
         ensures { result.items ≡ vlan_ids_of (packet_headers self.now) }
     {
@@ -204,8 +205,8 @@ impl<'a> PacketSlice<'a> {
         ids
     }
 
-    /// The first VLAN tag, with its index among the tags, which is the one that [`replace_link_ext`](crate::replace_link_ext)
-    /// takes; `None` without a VLAN tag.
+    /// The outermost VLAN tag, and its index among VLAN tags and SecTags, which
+    /// [`replace_link_ext`](crate::replace_link_ext) takes; `None` without a VLAN tag.
     ///
     /// ```
     /// let tags = [
@@ -245,10 +246,10 @@ impl<'a> PacketSlice<'a> {
         None
     }
 
-    /// The payload of the last VLAN tag or SecTag, or of the link's header without a tag, and its ether type.
+    /// The payload of the last VLAN tag or SecTag, or of the link's header if there is no tag, with its ether type.
     ///
-    /// `None` if it has no ether type, as after a SecTag whose payload is encrypted or changed, or if there is no header
-    /// before it. An ARP packet is part of the payload.
+    /// `None` if the payload has no ether type, as after a SecTag whose payload is encrypted or changed, or if no
+    /// header precedes it. An ARP packet is part of the payload.
     pub fn ether_payload(&self) -> Option<EtherPayloadSlice<'a>>
         ensures { HoldsPayload (link_of self.now.read.units) (last_ext self.now.read.units) result }
     {
@@ -261,10 +262,10 @@ impl<'a> PacketSlice<'a> {
         }
     }
 
-    /// The headers as values that can be changed and written, with what follows them.
+    /// The headers as values that can be changed and written, and the bytes after them.
     ///
-    /// `None` if the header of the link is refused, or if the frame begins with what an ether type announces. After a fault the
-    /// parts are the headers before it and the bytes of the window in which it came.
+    /// `None` if the header of the link is refused, or if the frame begins after it ([`Start::EtherType`]). After a
+    /// fault the parts are the headers before it, and the bytes of the refused header's window.
     pub fn to_parts(&self) -> Option<PacketParts<'a>>
         ensures { MatchOption result (has_link (packet_headers self.now) ≡ false)
             (λ parts. ArePartsOf parts self.now) }
@@ -277,7 +278,7 @@ impl<'a> PacketSlice<'a> {
         self.read.to_parts(ether_type, self.rest, trailer)
     }
 
-    /// Whether no header is refused. What follows the headers may still be cut short.
+    /// Whether no header is refused. The payload may still be cut short.
     pub fn is_complete(&self) -> bool
         ensures value { IsTrue result ↔ (self.now.fault ≡ None) }
         ensures accepted { TellsAccepted self.now result }
@@ -285,11 +286,11 @@ impl<'a> PacketSlice<'a> {
         self.fault.is_none()
     }
 
-    /// The least snap length that keeps all headers: a frame that is cut to it still has them, and one that is cut
-    /// shorter lacks one.
+    /// The least snap length that keeps all headers: a frame cut to at least this many bytes still has them, and a
+    /// frame cut shorter lacks at least one.
     ///
-    /// The payload whose length a SecTag names counts, since the tag is refused without it. A frame check sequence does
-    /// not count: a frame that is cut has lost it, and is read as one without.
+    /// If a SecTag gives the length of its payload, that payload counts, because the tag is refused without it. A
+    /// frame check sequence does not count: a cut frame has lost it, and is read as a frame without one.
     ///
     /// ```
     /// let frame = [

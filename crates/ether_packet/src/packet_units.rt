@@ -1,4 +1,4 @@
-//! The headers of a packet, kept as windows of the frame: a view is made when it is asked for.
+//! The headers of a packet, kept as windows of the frame. A getter makes the view from its window.
 ghost use Rattle.std.specs.Prelude.{◌≡◌, ◌+◌, ◌≤◌, ◌<◌, ℕ, List, [], ◌∷◌, map, unwrap_or, IfSome, MatchOption, Some, true, false, length, drop, slice_get, slice_range, None as NoPlace};
 ghost use Rattle.std.specs.List.{All};
 ghost use Rattle.std.specs.Option.{option_and_then};
@@ -25,7 +25,7 @@ use etherparse::{
 };
 use std::marker::Model;
 
-/// The header of a link that a frame begins with, if it has one.
+/// The kind of the link's header at the front of a frame, if there is one.
 #[derive(Clone, Copy, Debug)]
 enum LinkKind {
     Missing,
@@ -34,7 +34,7 @@ enum LinkKind {
     LinuxSll,
 }
 
-/// The headers that were read of a frame, each with the window in which it was read.
+/// The headers that were read from a frame, each with its window.
 #[derive(Debug, Drop)]
 pub(crate) struct PacketUnits<'a> {
     frame: &'a [u8],
@@ -68,7 +68,7 @@ impl<'a> PacketUnits<'a> {
         }
     }
 
-    /// Adds a header that was read in a window.
+    /// Appends a header that was read in a window.
     #[inline(always)]
     pub fn add(&mut self, unit: &PeelUnit<'a>, place: FrameWindow<'a>)
         requires fits { HasPlace self.old unit.now place }
@@ -84,7 +84,7 @@ impl<'a> PacketUnits<'a> {
         }
     }
 
-    /// Adds a VLAN tag or SecTag.
+    /// Appends a VLAN tag or SecTag.
     #[inline(always)]
     fn add_ext(&mut self, kind: ExtKind, place: FrameWindow<'a>)
         requires fits { HasPlaceForExt self.old }
@@ -107,7 +107,7 @@ impl<'a> PacketUnits<'a> {
         }
     }
 
-    /// How many VLAN tags and SecTags there are.
+    /// The number of VLAN tags and SecTags.
     #[inline(always)]
     pub fn ext_count(&self) -> usize
         ensures value { result ≡ length (exts_of self.now.units) }
@@ -116,7 +116,8 @@ impl<'a> PacketUnits<'a> {
         self.exts.len()
     }
 
-    /// The VLAN tag or SecTag at an index. A branch for each index takes fewer instructions than one that selects the place.
+    /// The VLAN tag or SecTag at an index. One branch for each index takes fewer instructions than selecting the place
+    /// first.
     #[inline(always)]
     pub fn ext(&self, index: usize) -> Option<PacketExt<'a>>
         ensures { ViewsExtIf (slice_get (exts_of self.now.units) index) result }
@@ -129,7 +130,7 @@ impl<'a> PacketUnits<'a> {
         }
     }
 
-    /// The same.
+    /// Does as `ext`, by selecting the place first.
     #[inline(always)]
     fn ext_at(&self, index: usize) -> Option<PacketExt<'a>>
         ensures { ViewsExtIf (slice_get (exts_of self.now.units) index) result }
@@ -184,7 +185,7 @@ impl<'a> PacketUnits<'a> {
         }
     }
 
-    /// Where the ARP packet starts.
+    /// The offset of the ARP packet.
     #[inline(always)]
     pub fn arp_offset(&self) -> Option<usize>
         ensures { result ≡ arp_offset self.now.units }
@@ -195,7 +196,7 @@ impl<'a> PacketUnits<'a> {
         }
     }
 
-    /// The bytes of the frame after so many bytes from a place on.
+    /// The bytes of the frame after the `len` bytes from the offset `at` on.
     pub fn frame_after(&self, at: usize, len: usize) -> &'a [u8]
         ensures { result.now ≡ drop (at + len) self.now.frame }
     {
@@ -204,7 +205,8 @@ impl<'a> PacketUnits<'a> {
         &frame[end..]
     }
 
-    /// The headers as values, before a rest that an ether type announces and what follows it; `None` without a link's header.
+    /// The headers as values, with the rest after them, its ether type and the trailer; `None` if there is no link's
+    /// header.
     pub fn to_parts(
         &self,
         ether_type: EtherType,
@@ -227,7 +229,7 @@ impl<'a> PacketUnits<'a> {
         })
     }
 
-    /// The VLAN tag or SecTag at an index as a value, or any if there are not so many.
+    /// The VLAN tag or SecTag at an index as a value; any value if there is no tag at the index.
     fn ext_header(&self, index: usize) -> LinkExtHeader
         ensures { (u : PacketUnit) → slice_get (exts_of self.now.units) index ≡ Some u
             → ext_header_view result ≡ header_of u }
@@ -238,7 +240,7 @@ impl<'a> PacketUnits<'a> {
         }
     }
 
-    /// How far the headers reach, with the payloads whose length a SecTag names.
+    /// The offset at which the headers end, including payloads whose length a SecTag gives.
     pub fn min_snap_len(&self) -> usize
         ensures { result ≡ reach 0 (map header_of self.now.units) }
     {
@@ -278,7 +280,8 @@ fn arp_packet(arp: Option<FrameWindow<'_>>) -> Option<ArpPacket>
     }
 }
 
-/// Where the headers of a link and of tags end, and how far they reach.
+/// The offset at which the link's header and the tags end, and how far they reach with the payloads whose length a
+/// SecTag gives.
 fn tags_reach(link: LinkKind, exts: &ExtPlaces<'_>) -> (usize, usize)
     requires { All IsReadableExt exts.now }
     ensures place { (frame : List ℕ)
@@ -299,7 +302,7 @@ fn tags_reach(link: LinkKind, exts: &ExtPlaces<'_>) -> (usize, usize)
     (at, end)
 }
 
-/// The length of the link's header, 0 if there is none.
+/// The length in bytes of the link's header, 0 if there is none.
 fn link_len(link: LinkKind) -> usize
     ensures place { (frame : List ℕ)
         → result ≡ place_after 0 (map header_of (link_units frame link)) }
@@ -313,7 +316,7 @@ fn link_len(link: LinkKind) -> usize
     }
 }
 
-/// The length of a tag.
+/// The length in bytes of a tag.
 fn ext_len(ext: &LinkExtSlice<'_>) -> usize
     ensures value { result ≡ header_len (ext_slice_header ext.now) }
     ensures bound { result ≤ 16 }
@@ -324,7 +327,7 @@ fn ext_len(ext: &LinkExtSlice<'_>) -> usize
     }
 }
 
-/// The length of the payload that a SecTag names, 0 if none is named.
+/// The length in bytes of the payload that a SecTag gives, 0 if it gives none.
 fn named_len(ext: &LinkExtSlice<'_>) -> usize
     ensures value { result ≡ unwrap_or (payload_len (ext_slice_header ext.now)) 0 }
     ensures bound { result < 64 }
@@ -335,7 +338,7 @@ fn named_len(ext: &LinkExtSlice<'_>) -> usize
     }
 }
 
-/// Whether a frame has a frame check sequence.
+/// The kind of an Ethernet II frame: with or without a frame check sequence.
 #[inline(always)]
 fn frame_place(slice: &Ethernet2Slice<'_>) -> LinkKind
     ensures { result ≡ frame_link slice.now.has_fcs }

@@ -1,4 +1,4 @@
-//! The walk of a packet, header by header.
+//! Gathers the headers of a packet from a walk.
 ghost use Rattle.std.specs.Prelude.{◌≤◌};
 ghost use Rattle.ether_packet.specs.Gathered.{headers_left, IsUnderWay, GoesBy, EndsAnyhow};
 
@@ -6,7 +6,7 @@ use crate::ext_places::FrameWindow;
 use crate::packet_units::PacketUnits;
 use ether_peel::{Peel, PeelFault};
 
-/// A walk with the headers that it has read, and the fault if it has ended in one.
+/// A walk, the headers that it has returned, and the fault if it has ended in one.
 #[derive(Drop)]
 pub(crate) struct PacketWalk<'a> {
     pub peel: Peel<'a>,
@@ -15,9 +15,9 @@ pub(crate) struct PacketWalk<'a> {
 }
 
 impl<'a> PacketWalk<'a> {
-    /// Reads all headers. There are at most five. A loop, where a header can be of any kind and at any place,
-    /// takes a third more instructions; functions that read two headers each are too long to be inlined, and take twice
-    /// those of a loop.
+    /// Reads all headers, at most five. A loop that reads a header of any kind at any place takes a third more
+    /// instructions. Functions that read two headers each are too long to be inlined, and take twice as many as the
+    /// loop.
     #[inline(always)]
     pub fn read_all(&mut self)
         requires going { IsUnderWay self.old }
@@ -34,7 +34,7 @@ impl<'a> PacketWalk<'a> {
         }
     }
 
-    /// Reads the next header, and says whether there was one.
+    /// Reads the next header. Returns `false` if there is none.
     #[inline(always)]
     fn read_next(&mut self) -> bool
         requires { IsUnderWay self.old }

@@ -6,7 +6,7 @@ use crate::Difference;
 use std::error::Error;
 use std::fmt;
 
-/// Why a header is not replaced. The frame is then as it was.
+/// Why a header is not replaced. The frame is then unchanged.
 ///
 /// ```
 /// assert_eq!(rt;
@@ -16,14 +16,14 @@ use std::fmt;
 /// ```
 #[derive(Clone, Copy, PartialEq, Eq, Debug)]
 pub enum ReplaceError {
-    /// The frame does not begin with the header of a link.
+    /// The frame does not begin with a link's header that can be read.
     NoLink,
-    /// There is no VLAN tag or SecTag at the index. The frame has this many.
+    /// There is no VLAN tag or SecTag at the index. The error names the number of VLAN tags and SecTags.
     NoLinkExt(usize),
     /// The frame has no ARP packet.
     NoArp,
-    /// The header differs from the one in the frame in this: it is of another kind, says something else about what follows
-    /// it, or has addresses of other lengths.
+    /// The new header differs from the one in the frame in its kind, in what it says about what follows it, or in the
+    /// length of its addresses.
     SaysOther(Difference),
 }
 

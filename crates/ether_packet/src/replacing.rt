@@ -1,4 +1,4 @@
-//! Headers of a frame that are replaced in place.
+//! Replaces headers of a frame in place.
 ghost use Rattle.std.specs.Prelude.{ℕ, ◌≡◌, ◌+◌, ◌≤◌, List, length, Option, None, IfSome, IfOk, IfErr, OnOk, OnErr, false};
 ghost use Rattle.etherparse.specs.LinkExt.{ext_header_view};
 ghost use Rattle.etherparse.specs.Header.{Header, header_len};
@@ -14,21 +14,21 @@ use crate::{Difference, ReplaceError};
 use ether_peel::Start;
 use etherparse::{Ethernet2Slice, LinkExtHeader, LinkHeader, LinuxSllSlice};
 
-/// Replaces a VLAN tag or SecTag of a frame in place by another one of the same length, which says the same about what
+/// Replaces a VLAN tag or SecTag of a frame, in place, by one that has the same length and says the same about what
 /// follows it.
 ///
-/// The index counts VLAN tags and SecTags, the outermost first. There may be any number of them. No other byte changes, so
-/// the headers of the frame are those from before with this one replaced, also if a later header is refused. A frame
-/// check sequence and an integrity check value stay as they were, and don't fit the new bytes.
+/// The index counts VLAN tags and SecTags, outermost first. There may be any number of them. No other byte changes:
+/// the walk has the new tag at this index, and all other headers are unchanged, even if a later header is refused. A
+/// frame check sequence and an integrity check value are also unchanged, and don't fit the new bytes.
 ///
 /// # Errors
 ///
-/// The frame then stays as it was:
+/// The frame is then unchanged:
 ///
-/// - [`ReplaceError::NoLinkExt`]: there is no tag at the index. It names how many there are.
-/// - [`ReplaceError::SaysOther`]: one tag is a VLAN tag and the other a SecTag, or the ether types of two VLAN tags
-///   differ, or the types of payload of two SecTags, their short lengths, or whether they have an SCI. It names the
-///   difference.
+/// - [`ReplaceError::NoLinkExt`]: there is no tag at the index. The error names the number of tags.
+/// - [`ReplaceError::SaysOther`]: one tag is a VLAN tag and the other a SecTag; two VLAN tags differ in their ether
+///   types; or two SecTags differ in their payload types, in their short lengths, or in whether they have an SCI. The
+///   error names the difference.
 ///
 /// # Examples
 ///
@@ -64,7 +64,7 @@ pub fn replace_link_ext(
     Ok(())
 }
 
-/// Where the tag at an index starts, if the other one can replace it.
+/// The offset of the tag at an index, if the other tag can replace it.
 fn find_ext(
     start: Start,
     frame: &[u8],
@@ -89,7 +89,7 @@ fn find_ext(
     }
 }
 
-/// The first difference between two tags in kind, length and what they say about what follows them.
+/// The first difference between two tags, in kind, in length, or in what they say about what follows them.
 fn ext_difference(new: &LinkExtHeader, old: &LinkExtHeader) -> Option<Difference>
     ensures none { result ≡ None → Agree (ext_header_view new.now) (ext_header_view old.now) }
     ensures some { IfSome result (Differs (ext_header_view new.now) (ext_header_view old.now)) }
@@ -113,20 +113,21 @@ fn ext_difference(new: &LinkExtHeader, old: &LinkExtHeader) -> Option<Difference
     }
 }
 
-/// Replaces the header of a link that a frame begins with, in place by another one of the same kind, which says the same
-/// about what follows it.
+/// Replaces the link's header at the front of a frame, in place, by one of the same kind that says the same about what
+/// follows it.
 ///
-/// No other byte changes, so the headers of the frame are those from before with this one replaced, also if a later
-/// header is refused. A frame check sequence stays as it was, and doesn't fit the new bytes.
+/// No other byte changes: the walk has the new header first, and all other headers are unchanged, even if a later
+/// header is refused. A frame check sequence is also unchanged, and doesn't fit the new bytes.
 ///
 /// # Errors
 ///
-/// The frame then stays as it was:
+/// The frame is then unchanged:
 ///
-/// - [`ReplaceError::NoLink`]: the frame begins with what an ether type announces, or its first header is refused.
-/// - [`ReplaceError::SaysOther`]: one header is of Ethernet II and the other of cooked capture, or the ether types of two
-///   Ethernet II headers differ, or the hardware types or the protocol types of two cooked captures. It names the
-///   difference.
+/// - [`ReplaceError::NoLink`]: the frame begins after a link's header ([`Start::EtherType`]), or its first header is
+///   refused.
+/// - [`ReplaceError::SaysOther`]: one header is of Ethernet II and the other of cooked capture; two Ethernet II
+///   headers differ in their ether types; or two cooked capture headers differ in their hardware types or protocol
+///   types. The error names the difference.
 ///
 /// # Examples
 ///
@@ -159,7 +160,7 @@ pub fn replace_link(start: Start, frame: &mut [u8], header: &LinkHeader) -> Resu
     Ok(())
 }
 
-/// Requires that a frame begins with the header of a link that another one can replace.
+/// Requires that a frame begins with a link's header that the other header can replace.
 fn require_link(start: Start, frame: &[u8], header: &LinkHeader) -> Result<(), ReplaceError>
     ensures ok { IfOk result (λ _. (limit : Option ℕ) (hs : List Header) (e : Ending)
         → Walk (start_with start limit) frame.now hs e → TakesLink hs header.now) }
@@ -176,7 +177,7 @@ fn require_link(start: Start, frame: &[u8], header: &LinkHeader) -> Result<(), R
     }
 }
 
-/// The header of a link that a frame begins with.
+/// The link's header at the front of a frame.
 fn link_of(start: Start, frame: &[u8]) -> Option<LinkHeader>
     ensures found { IfSome result (λ link. (limit : Option ℕ) (hs : List Header) (e : Ending)
         → Walk (start_with start limit) frame.now hs e → BeginsWithLink hs link) }
@@ -201,7 +202,7 @@ fn link_of(start: Start, frame: &[u8]) -> Option<LinkHeader>
     }
 }
 
-/// The first difference between two headers of links in kind and what they say about what follows them.
+/// The first difference between two links' headers, in kind, or in what they say about what follows them.
 fn link_difference(new: &LinkHeader, old: &LinkHeader) -> Option<Difference>
     ensures none { result ≡ None → LinksAgree new.now old.now }
     ensures some { IfSome result (LinksDiffer new.now old.now) }

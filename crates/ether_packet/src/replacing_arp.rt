@@ -1,4 +1,4 @@
-//! An ARP packet of a frame that is replaced in place.
+//! Replaces the ARP packet of a frame in place.
 ghost use Rattle.std.specs.Prelude.{◌≡◌, ◌≤◌, List, length, IfOk, IfErr, OnErr, IfSome, None};
 ghost use Rattle.etherparse.specs.Arp.{arp_of};
 ghost use Rattle.etherparse.specs.Header.{Header, header_len};
@@ -13,25 +13,25 @@ use crate::{Difference, PacketSlice, ReplaceError};
 use ether_peel::Start;
 use etherparse::{ArpPacket, ArpPacketSlice};
 
-/// Replaces the ARP packet of a frame in place by another one, whose hardware addresses and protocol addresses have the
-/// same lengths.
+/// Replaces the ARP packet of a frame, in place, by another one whose hardware addresses and protocol addresses have
+/// the same lengths.
 ///
-/// The ARP packet is the one that [`PacketSlice::arp`] returns. No other byte changes, so the headers of the frame are
-/// those from before with this one replaced. A frame check sequence and an integrity check value stay as they were, and
-/// don't fit the new bytes.
+/// The ARP packet is the one that [`PacketSlice::arp`] returns. No other byte changes: the walk has the new ARP
+/// packet, and all other headers are unchanged. A frame check sequence and an integrity check value are also
+/// unchanged, and don't fit the new bytes.
 ///
 /// # Errors
 ///
-/// The frame then stays as it was:
+/// The frame is then unchanged:
 ///
-/// - [`ReplaceError::NoArp`]: the frame has no ARP packet, or it is cut short.
-/// - [`ReplaceError::SaysOther`]: the hardware addresses of the two packets differ in length, or the protocol addresses
-///   do. It names the difference.
+/// - [`ReplaceError::NoArp`]: the frame has no ARP packet, or its ARP packet is cut short.
+/// - [`ReplaceError::SaysOther`]: the two packets differ in the length of their hardware addresses, or in that of
+///   their protocol addresses. The error names the difference.
 ///
 /// # Examples
 ///
-/// The request for the hardware address of 10.0.0.2 becomes the reply to it. The addresses of the Ethernet II header are
-/// left to [`replace_link`](crate::replace_link).
+/// The request for the hardware address of 10.0.0.2 becomes the reply to it. The addresses of the Ethernet II header
+/// are left to [`replace_link`](crate::replace_link).
 ///
 /// ```
 /// let mut frame = [
@@ -66,7 +66,7 @@ pub fn replace_arp(start: Start, frame: &mut [u8], packet: &ArpPacket) -> Result
     Ok(())
 }
 
-/// Where the ARP packet of a frame ends, if the other one can replace it.
+/// The offset at which the ARP packet of a frame ends, if the other packet can replace it.
 fn find_arp(start: Start, frame: &[u8], packet: &ArpPacket) -> Result<usize, ReplaceError>
     ensures ok { IfOk result (λ end. (hs : List Header) (e : Ending)
         → Walk (packet_start start) frame.now hs e → TakesArp hs packet.now end) }
@@ -80,13 +80,13 @@ fn find_arp(start: Start, frame: &[u8], packet: &ArpPacket) -> Result<usize, Rep
         return Err(ReplaceError::NoArp);
     };
     match arp_difference(packet, &old) {
-        // Nothing follows an ARP packet, so the rest starts where it ends.
+        // Nothing is read after an ARP packet, so the rest starts where it ends.
         None => Ok(read.rest_offset),
         Some(difference) => Err(ReplaceError::SaysOther(difference)),
     }
 }
 
-/// The first difference between two ARP packets in the lengths of their addresses.
+/// The first of the two address lengths in which ARP packets differ.
 fn arp_difference(new: &ArpPacket, old: &ArpPacketSlice<'_>) -> Option<Difference>
     ensures none { result ≡ None → Agree (headers.Arp new.now) (headers.Arp (arp_of old.now)) }
     ensures some { IfSome result (Differs (headers.Arp new.now) (headers.Arp (arp_of old.now))) }

@@ -1,4 +1,4 @@
-//! How many bytes of a frame its headers take.
+//! The number of bytes that the headers of a frame take.
 ghost use Rattle.std.specs.Prelude.{◌≡◌, ◌+◌, ◌≤◌, List, length, is_some, false, if◌then◌else◌};
 ghost use Rattle.etherparse.specs.Header.{Header, payload_len};
 ghost use Rattle.ether_peel.specs.Grammar.Cuts.{reach};
@@ -10,8 +10,9 @@ ghost use Rattle.ether_packet.specs.Getters.{IsLeastSnap};
 
 use ether_peel::{Peel, PeelUnit, Start};
 
-/// How many bytes of a frame its headers take, with the payloads whose lengths they name: the least snap length that keeps all of
-/// them. There may be any number of headers; [`PacketSlice::min_snap_len`](crate::PacketSlice::min_snap_len) counts those of a packet.
+/// The number of bytes that the headers of a frame take, with the payloads whose lengths they give: the least snap
+/// length that keeps all of them. There may be any number of headers;
+/// [`PacketSlice::min_snap_len`](crate::PacketSlice::min_snap_len) counts only those that a packet holds.
 ///
 /// A frame check sequence is not counted, nor is a header that is refused.
 ///
@@ -33,7 +34,7 @@ pub fn min_snap_len(start: Start, frame: &[u8]) -> usize
     reached(start, frame)
 }
 
-/// Where the headers of a frame end, with the payloads whose lengths they name.
+/// The offset at which the headers of a frame end, with the payloads whose lengths they give.
 #[inline(always)]
 fn reached(start: Start, frame: &[u8]) -> usize
     ensures value { (hs : List Header) (e : Ending) → Walk (start_of start) frame.now hs e
@@ -51,7 +52,8 @@ fn reached(start: Start, frame: &[u8]) -> usize
     }
 }
 
-/// Where the unit ends that a walk has just returned, with its payload if it names that one's length.
+/// The offset at which the unit ends that a walk has just returned, with its payload if the unit gives the payload's
+/// length.
 #[inline(always)]
 fn unit_end(unit: &PeelUnit<'_>, peel: &Peel<'_>) -> usize
     ensures { result ≡ peel.now.offset

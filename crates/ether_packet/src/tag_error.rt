@@ -6,7 +6,7 @@ use etherparse::{ArpHardwareId, EtherType};
 use std::error::Error;
 use std::fmt;
 
-/// Why a VLAN tag is not taken off, put in or changed. The frame is then as it was.
+/// Why a VLAN tag is not taken off, put in or changed. The frame is then unchanged.
 ///
 /// ```
 /// assert_eq!(rt;
@@ -16,21 +16,23 @@ use std::fmt;
 /// ```
 #[derive(Clone, Copy, PartialEq, Eq, Debug)]
 pub enum TagError {
-    /// This ether type announces no VLAN tag: it is none of 0x8100, 0x88A8 and 0x9100.
+    /// This ether type does not announce a VLAN tag: it is not 0x8100, 0x88A8 or 0x9100.
     Tpid(EtherType),
-    /// The buffer has fewer than the four bytes that a tag takes.
+    /// The buffer has fewer than the four bytes of a tag.
     NoRoom,
-    /// The frame does not begin with the header of a link.
+    /// The frame does not begin with a link's header that can be read.
     NoLink,
-    /// The header of cooked capture is of another link than Ethernet, so its protocol type is not an ether type.
+    /// The header of cooked capture has this hardware type. It is not that of Ethernet, so the protocol type is not an
+    /// ether type.
     HardwareType(ArpHardwareId),
-    /// There is no VLAN tag or SecTag at the index. The frame has this many.
+    /// There is no VLAN tag or SecTag at the index. The error names the number of VLAN tags and SecTags.
     NoLinkExt(usize),
-    /// There is no VLAN tag: the ether type of the link announces something else, or there is a SecTag at the index.
+    /// There is no VLAN tag: the ether type of the link's header announces something else, or there is a SecTag at the
+    /// index.
     NoVlan,
-    /// A VLAN tag is announced after the header of the link, but it is cut short.
+    /// The link's header announces a VLAN tag, but it is cut short.
     CutVlan,
-    /// No header is before the VLAN tag: the frame begins with it.
+    /// No header precedes the VLAN tag: the frame begins with it.
     Unannounced,
 }
 

@@ -1,4 +1,4 @@
-//! The header of a link that a frame begins with, and the ether type of what follows it.
+//! The link's header at the front of a frame, and the ether type of what follows it.
 ghost use Rattle.std.specs.Prelude.{◌≡◌, ◌↔◌, ◌+◌, ◌≤◌, List, length, slice_range, IfOk, IfErr, IsTrue};
 ghost use Rattle.etherparse.specs.Header.{Header};
 ghost use Rattle.ether_peel.specs.Grammar.Stack.{Ending, Walk};
@@ -14,16 +14,16 @@ use etherparse::{
     LinuxSllSlice,
 };
 
-/// The header of a link.
+/// A link's header whose payload has an ether type.
 #[derive(Clone, Copy)]
 pub(crate) struct TypedLink {
-    /// The length of the payload, without a frame check sequence.
+    /// The length of the payload in bytes, without a frame check sequence.
     pub payload_len: usize,
     /// The ether type of the payload.
     pub ether_type: EtherType,
 }
 
-/// The header of a link that a frame begins with.
+/// Reads the link's header at the front of a frame.
 #[inline(always)]
 pub(crate) fn typed_link(start: Start, frame: &[u8]) -> Result<TypedLink, TagError>
     ensures ok { IfOk result (λ link. (hs : List Header) (e : Ending)
@@ -59,7 +59,7 @@ pub(crate) fn typed_link(start: Start, frame: &[u8]) -> Result<TypedLink, TagErr
     }
 }
 
-/// Whether a frame begins with the header of a cooked capture whose protocol type is an ether type.
+/// Whether a frame begins with a cooked capture header whose protocol type is an ether type.
 #[inline(always)]
 fn is_ethernet_capture(frame: &[u8]) -> bool
     ensures { IsTrue result ↔ IsEthernetCapture frame.now }
@@ -69,7 +69,7 @@ fn is_ethernet_capture(frame: &[u8]) -> bool
         && arp_hardware_type(frame) == ArpHardwareId::ETHERNET
 }
 
-/// The hardware type of any other cooked capture, if its header is not refused.
+/// The hardware type of any other cooked capture header, if it is not refused.
 #[inline(always)]
 fn other_hardware(frame: &[u8]) -> Option<ArpHardwareId>
     ensures { IsOtherCapture frame.now result }
@@ -80,7 +80,7 @@ fn other_hardware(frame: &[u8]) -> Option<ArpHardwareId>
     }
 }
 
-/// An array of the bytes of a slice from a place on.
+/// The `N` bytes of a slice from the offset `at` on.
 #[inline(always)]
 pub(crate) fn chunk_at<const N: usize>(bytes: &[u8], at: usize) -> [u8; N]
     requires { at + N ≤ length bytes.now }

@@ -1,4 +1,4 @@
-//! Packets that are written with their headers as they are.
+//! Writes packets with their headers as they are.
 ghost use Rattle.std.specs.Prelude.{◌≡◌, ◌+◌, ◌≤◌, length, IfOk, IfErr, OnErr};
 ghost use Rattle.etherparse.specs.Bytes.{overwritten};
 ghost use Rattle.ether_packet.specs.Building.{AllFit};
@@ -10,19 +10,20 @@ use crate::{PacketBuilder, PacketContent};
 use etherparse::err::{Layer, SliceWriteSpaceError};
 
 impl<'a, 'b> PacketBuilder<'a, 'b> {
-    /// Writes the packet with its headers as they are to the front of a target, and returns its length. The bytes after it
-    /// stay as they were.
+    /// Writes the packet with its headers as they are to the front of a target, and returns its length. The bytes
+    /// after it are unchanged.
     ///
-    /// Where [`write`](Self::write) sets ether types and short lengths by what follows, this sets nothing. So the parts of a
-    /// packet that was read give the front of its frame again, also of a cooked capture of any link. A builder has nothing
-    /// that follows its content, so this is not written: the integrity check value after the payload of a SecTag with a
-    /// short length, the padding after an ARP packet, and a frame check sequence.
-    /// [`PacketParts::write_frame`](crate::PacketParts::write_frame) keeps all of these. What the headers announce, and
-    /// whether a walk finds it, is up to the caller.
+    /// [`write`](Self::write) sets ether types and short lengths by what follows them; this call sets nothing. So the
+    /// parts of a packet that was read give the front of its frame again, even if that is a cooked capture of another
+    /// link than Ethernet. The caller has to make sure that the headers announce what follows them.
+    ///
+    /// A builder has nothing after its content. So these are not written: the integrity check value after the payload
+    /// of a SecTag with a short length, the padding after an ARP packet, and a frame check sequence.
+    /// [`PacketParts::write_frame`](crate::PacketParts::write_frame) keeps them all.
     ///
     /// # Errors
     ///
-    /// The target is shorter than [`size`](Self::size). It then stays as it was.
+    /// The target is shorter than [`size`](Self::size). It is then unchanged.
     ///
     /// ```
     /// let tag = MacsecHeader {
@@ -65,7 +66,7 @@ impl<'a, 'b> PacketBuilder<'a, 'b> {
         Ok(required_len)
     }
 
-    /// Writes the headers one after the other, and what follows them.
+    /// Writes the headers one after the other, and then the content.
     pub(crate) fn write_parts(&self, target: &mut [u8])
         requires { packet_len self.now ≤ length target.old }
         ensures written { IsWrittenUnchanged self.now target.old (packet_len self.now) target.new }
@@ -81,7 +82,7 @@ impl<'a, 'b> PacketBuilder<'a, 'b> {
     }
 }
 
-/// Writes an ARP packet or a payload from a place on.
+/// Writes an ARP packet or a payload from the offset `at` on.
 fn write_content_at(target: &mut [u8], at: usize, content: &PacketContent<'_>)
     requires { at + content_len content.now ≤ length target.old }
     ensures bytes { target.new ≡ overwritten target.old at (content_bytes content.now) }

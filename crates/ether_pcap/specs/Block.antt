@@ -2,11 +2,11 @@
 use Rattle.std.specs.Prelude.{◌≡◌, ◌≢◌, ℕ, ◌+◌, ◌-◌, ◌%◌, ◌<◌, ◌≤◌, List, length, slice_range}
 use Rattle.ether_pcap.specs.Numbers.{Order, field}
 
--- the greatest length of a block that is read, the limit that libpcap starts with
+-- the greatest length of a block that is read: libpcap's initial limit
 abbrev pub max_block_len : ℕ
 max_block_len = 16777216
 
--- the length of a whole block: type, length, and length again take 12 bytes, and the body is filled up to a multiple of 4
+-- the length of a whole block: the type and two lengths take 12 bytes, and the body is padded to a multiple of 4
 pub record IsTotalLen (n : ℕ) : Type 0 where
   pub least : 12 ≤ n
   pub aligned : n % 4 ≡ 0
@@ -25,7 +25,7 @@ pub record BeginsBlock (order : Order) (bytes : List ℕ) (b : BlockValue) : Typ
   pub body : slice_range bytes 8 (8 + length b.body) ≡ b.body
   pub trailer : field order bytes (8 + length b.body) (12 + length b.body) ≡ 12 + length b.body
 
--- too few bytes; a total length that no block has; another total length at the block's end
+-- too few bytes; a total length that a block can't have; a total length at the end that differs from that at the front
 pub data BlockRefusal : Type 0 where
   Short : (required len : ℕ) → BlockRefusal
   TotalLen : ℕ → BlockRefusal

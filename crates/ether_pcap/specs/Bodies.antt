@@ -4,7 +4,7 @@ use Rattle.ether_pcap.specs.Numbers.{Order, field}
 use Rattle.ether_pcap.specs.Options.{padded}
 use Rattle.ether_pcap.specs.Record.{max_captured_len}
 
--- too few bytes in a body; more captured bytes than there may be
+-- too few bytes in a body; a captured length above the maximum
 pub data BodyRefusal : Type 0 where
   Short : (required len : ℕ) → BodyRefusal
   TooLong : ℕ → BodyRefusal
@@ -25,8 +25,9 @@ pub record IsInterface (order : Order) (body : List ℕ) (v : InterfaceValue) : 
 pub data RefusesInterface (body : List ℕ) : BodyRefusal → Type 0 where
   interface : length body < 8 → RefusesInterface body (Short 8 (length body))
 
--- ---- enhanced packet (4.3) and the obsolete packet block (appendix A): interface 4 bytes, or 2 bytes and as many for a number of dropped
--- packets; time 8 bytes with the upper 4 first, captured and original length 4 bytes each, packet, padding, options
+-- ---- enhanced packet (4.3) and the obsolete packet block (appendix A): interface 4 bytes, or 2 bytes and a count of
+-- dropped packets in 2 bytes; time 8 bytes with the upper 4 first; captured and original length 4 bytes each; packet,
+-- padding, options
 
 pub record EnhancedPacketValue : Type 0 where
   pub interface : ℕ
@@ -35,7 +36,7 @@ pub record EnhancedPacketValue : Type 0 where
   pub packet : List ℕ
   pub options : List ℕ
 
--- .. whose interface has so many bytes
+-- .. whose interface has number_len bytes
 pub record IsEnhancedPacket (number_len : ℕ) (order : Order) (body : List ℕ) (v : EnhancedPacketValue) : Type 0 where
   pub interface : field order body 0 number_len ≡ v.interface
   pub time : field order body 4 8 * 2 ^ 32 + field order body 8 12 ≡ v.time
@@ -52,9 +53,10 @@ pub data RefusesEnhancedPacket (order : Order) (body : List ℕ) : BodyRefusal �
   enhanced_packet : 20 ≤ length body → field order body 12 16 ≤ max_captured_len → length body < 20 + field order body 12 16
       → RefusesEnhancedPacket order body (Short (20 + field order body 12 16) (length body))
 
--- ---- simple packet (4.4): original length 4 bytes, packet; its interface is the section's first, whose snap length cuts it
+-- ---- simple packet (4.4): original length 4 bytes, packet; its interface is the section's first, whose snap length
+-- cuts it
 
--- how many bytes of a packet are captured with a snap length, where 0 is none
+-- the number of captured bytes of a packet with this original length, where a snap length of 0 is no limit
 abbrev pub captured_by : (snap_len original_len : ℕ) → ℕ
 captured_by snap_len original_len = if nat_eq snap_len 0 then original_len else min snap_len original_len
 

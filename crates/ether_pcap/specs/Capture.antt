@@ -1,5 +1,5 @@
--- A capture file of either format, from its beginning to its end: the file header and the records of a classic file, or the blocks
--- of a pcapng file (draft-ietf-opsawg-pcap, section 3; draft-ietf-opsawg-pcapng, section 3).
+-- A whole capture file of either format: the file header and the records of a classic file, or the blocks of a pcapng
+-- file (draft-ietf-opsawg-pcap, section 3; draft-ietf-opsawg-pcapng, section 3).
 use Rattle.std.specs.Prelude.{◌≡◌, ◌⊎◌, ℕ, ⊤, ◌+◌, ◌-◌, ◌*◌, ◌/◌, ◌%◌, ◌^◌, ◌<◌, ◌≤◌, List, [], ◌∷◌, ◌++◌, length, drop, Option, Some, None, unwrap_or, nat_lt, nat_eq, if◌then◌else◌}
 use Rattle.std.specs.Option.{option_map}
 use Rattle.ether_pcap.specs.Numbers.{Order}
@@ -16,7 +16,7 @@ use Rattle.ether_pcap.specs.Bodies.{BodyRefusal, InterfaceValue, IsInterface, Re
 
 -- ---- packets
 
--- a time since the beginning of 1970, UTC, in seconds and nanoseconds below a second
+-- a time since the beginning of 1970, UTC: seconds, and nanoseconds below one second
 pub record TimeValue : Type 0 where
   pub seconds : ℕ
   pub nanoseconds : ℕ
@@ -24,8 +24,9 @@ pub record TimeValue : Type 0 where
 abbrev pub time_of : (nanoseconds : ℕ) → TimeValue
 time_of n = record { seconds = n / 10 ^ 9; nanoseconds = n % 10 ^ 9 }
 
--- a captured packet: its time and the number of its interface if the file gives them, its length before it was cut, the link type, the
--- snap length and the length of the frame check sequence that the file gives for it, and its captured bytes
+-- A captured packet: its time and the number of its interface, if the file gives them; its length before it was cut;
+-- the link type, snap length and length of the frame check sequence that the file gives for it; and its captured
+-- bytes.
 pub record PacketValue : Type 0 where
   pub time : Option TimeValue
   pub interface : Option ℕ
@@ -46,15 +47,15 @@ packet_of_record h r = record {
   packet = r.packet;
 }
 
--- .. with as many captured bytes as the snap length allows (draft-ietf-opsawg-pcap, section 4; draft-ietf-opsawg-pcapng, section 4.2), where 0
--- is no limit
+-- .. with no more captured bytes than the snap length (draft-ietf-opsawg-pcap, section 4; draft-ietf-opsawg-pcapng,
+-- section 4.2), where 0 is no limit
 abbrev pub IsWithinSnap : PacketValue → Type 0
 IsWithinSnap p = (p.snap_len ≡ 0) ⊎ (length p.packet ≤ p.snap_len)
 
 -- ---- interfaces of a section
 
--- what a section says of an interface: link type, snap length, length of the frame check sequence, the number that gives the unit of
--- time, and the offset of times in seconds, as the number that its 64 bits are
+-- What a section says of an interface: link type, snap length, length of the frame check sequence, the value of
+-- if_tsresol, and that of if_tsoffset, seconds in two's complement, as the number that its 64 bits are.
 pub record CaptureInterfaceValue : Type 0 where
   pub link_type : ℕ
   pub snap_len : ℕ
@@ -62,7 +63,8 @@ pub record CaptureInterfaceValue : Type 0 where
   pub resolution : Option ℕ
   pub offset : ℕ
 
--- a length of the frame check sequence in bytes: the description counts its bits, and most writers its bytes
+-- The length of the frame check sequence in bytes. By the description of the format the option counts bits, but most
+-- writers write bytes: 16 and 32 are read as bits, other numbers as bytes.
 abbrev pub fcs_bytes : ℕ → ℕ
 fcs_bytes n = if nat_eq n 32 then 4 else (if nat_eq n 16 then 2 else n)
 
@@ -84,26 +86,25 @@ pub record Describes (order : Order) (body : List ℕ) (v : CaptureInterfaceValu
   pub has_options : HasOptions order interface.options options
   pub value : described_by order interface options ≡ v
 
--- how many units of time a second has: if the number is below 128, ten to its power; else two to the power of its seven lower bits;
--- a million if there is none
+-- ticks per second: 10^n if the number n is below 128, else 2^(n - 128); a million if there is no number
 abbrev pub units_of : Option ℕ → ℕ
 units_of None = 10 ^ 6
 units_of (Some n) = if nat_lt n 128 then 10 ^ n else 2 ^ (n - 128)
 
--- seconds and an offset, a number of 64 bits whose upper half are the negative ones; none if they are before 1970, or too many for 64
--- bits
+-- The sum of seconds and an offset of 64 bits in two's complement. None if it is before 1970 or does not fit in 64
+-- bits.
 abbrev pub shifted : (offset seconds : ℕ) → Option ℕ
 shifted offset seconds =
     if nat_lt offset (2 ^ 63) then (if nat_lt (seconds + offset) (2 ^ 64) then Some (seconds + offset) else None)
     else (if nat_lt (seconds + offset) (2 ^ 64) then None else Some (seconds + offset - 2 ^ 64))
 
--- the time that a number of units is on an interface, rounded down to a nanosecond
+-- the time of a number of ticks on an interface, rounded down to a nanosecond
 abbrev pub time_on : CaptureInterfaceValue → ℕ → Option TimeValue
 time_on i n =
     let t = time_of (n * 10 ^ 9 / units_of i.resolution) in
     option_map (λ seconds. record { seconds = seconds; nanoseconds = t.nanoseconds }) (shifted i.offset t.seconds)
 
--- the interface of a number, counted from 0
+-- the interface with this number, counted from 0
 pub record IsAt (interfaces : List CaptureInterfaceValue) (n : ℕ) (i : CaptureInterfaceValue) : Type 0 where
   pub before : List CaptureInterfaceValue
   pub after : List CaptureInterfaceValue
@@ -112,24 +113,24 @@ pub record IsAt (interfaces : List CaptureInterfaceValue) (n : ℕ) (i : Capture
 
 -- ---- units
 
--- what is expected at a place of a file: its beginning; a record after this header; a block of a section of this byte order that
--- has described these interfaces. A section may describe so many at most.
+-- What may follow at a place of a file: at its beginning either format; after this header a record; in a section of
+-- this byte order that has described these interfaces a block. A section may describe up to `most` interfaces.
 pub data CaptureExpectation : Type 0 where
   Beginning : (most : ℕ) → CaptureExpectation
   Records : FileHeaderValue → CaptureExpectation
   Blocks : (most : ℕ) → Order → List CaptureInterfaceValue → CaptureExpectation
 
--- the length of the frame check sequence in the flags of a packet (4.3.1): bits 5 to 8, where 0 is none that is known
+-- the length of the frame check sequence in the flags of a packet (4.3.1): bits 5 to 8, where 0 is unknown
 abbrev pub fcs_in_flags : Option ℕ → Option ℕ
 fcs_in_flags None = None
 fcs_in_flags (Some flags) = let n = flags / 2 ^ 5 % 2 ^ 4 in if nat_eq n 0 then None else Some n
 
--- .. which goes before that of the interface
+-- .. which has precedence over that of the interface
 abbrev pub fcs_of : (of_packet of_interface : Option ℕ) → Option ℕ
 fcs_of None n = n
 fcs_of (Some n) m = Some n
 
--- what is said of a packet by its block, its interface and the option epb_flags or pack_flags (2)
+-- what a packet's block, its interface and its option epb_flags or pack_flags (2) say of it
 abbrev pub packet_on : Order → CaptureInterfaceValue → EnhancedPacketValue → List OptionValue → PacketValue
 packet_on order i p options = record {
   time = time_on i p.time;
@@ -141,11 +142,12 @@ packet_on order i p options = record {
   packet = p.packet;
 }
 
--- what is said of a packet by its simple block, which has no time, and the first interface (4.4)
+-- what a simple packet's block, which has no time, and the first interface say of it (4.4)
 abbrev pub simple_packet_on : CaptureInterfaceValue → SimplePacketValue → PacketValue
 simple_packet_on i p = record { time = None; interface = Some 0; original_len = p.original_len; link_type = i.link_type; snap_len = i.snap_len; fcs_len = i.fcs_len; packet = p.packet }
 
--- what is read of a block, by its type; a packet, whose interface has so many bytes, is an enhanced packet or an obsolete packet block
+-- How the body of a block is read, by its type. EnhancedPacket has the number of bytes of its interface: 4, or 2 in
+-- the obsolete packet block.
 pub data BlockKind : Type 0 where
   InterfaceDescription : BlockKind
   SimplePacket : BlockKind
@@ -157,7 +159,8 @@ kind_of_block n =
     if nat_eq n 1 then InterfaceDescription
     else (if nat_eq n 2 then EnhancedPacket 2 else (if nat_eq n 3 then SimplePacket else (if nat_eq n 6 then EnhancedPacket 4 else Other)))
 
--- the body of a block in a section that has described these interfaces: the packet, if it is one, and the interfaces after it
+-- the body of a block in a section that has described the interfaces before: the packet if there is one, and the
+-- interfaces after the block
 abbrev pub IsBody : BlockKind → (most : ℕ) → Order → (before : List CaptureInterfaceValue) → (body : List ℕ) → Option PacketValue → (after : List CaptureInterfaceValue) → Type 0
 IsBody InterfaceDescription most order before body packet after =
     (i : CaptureInterfaceValue) × Describes order body i × (length before < most) × (packet ≡ None) × (after ≡ before ++ i ∷ [])
@@ -170,8 +173,8 @@ IsBody (EnhancedPacket number_len) most order before body packet after =
     × (packet ≡ Some (packet_on order i p options)) × (after ≡ before)
 IsBody Other most order before body packet after = (packet ≡ None) × (after ≡ before)
 
--- why a unit is refused: a row of its format; a packet of an interface that the section has not described, by its number; one more
--- interface than there may be
+-- Why a unit is refused: a row of its format; a packet whose interface, named by its number, is not described before
+-- it; an interface more than the maximum.
 pub data CaptureRefusal : Type 0 where
   File : FileRefusal → CaptureRefusal
   Record : RecordRefusal → CaptureRefusal
@@ -193,7 +196,7 @@ pub data RefusesBody (most : ℕ) (order : Order) (before : List CaptureInterfac
   enhanced_alone : (n : ℕ) (p : EnhancedPacketValue) → IsEnhancedPacket n order body p → HasNoInterface before p.interface
       → RefusesBody most order before body (EnhancedPacket n) (NoInterface p.interface)
 
--- Bytes begin with a unit of so many bytes, which is this packet if it is one, and after which this is expected.
+-- Bytes begin with a unit of len bytes: it has this packet, or none, and the second expectation holds after it.
 pub data Begins (bytes : List ℕ) : CaptureExpectation → (len : ℕ) → Option PacketValue → CaptureExpectation → Type 0 where
   file_header : (most : ℕ) (h : FileHeaderValue) → ¬ (HasSectionType bytes) → IsFileHeader bytes h → Begins bytes (Beginning most) 24 None (Records h)
   file_record : (h : FileHeaderValue) (r : RecordValue) → BeginsRecord h.order bytes r → Begins bytes (Records h) (record_len r) (Some (packet_of_record h r)) (Records h)
@@ -203,7 +206,7 @@ pub data Begins (bytes : List ℕ) : CaptureExpectation → (len : ℕ) → Opti
   block : (most : ℕ) (order : Order) (interfaces after : List CaptureInterfaceValue) (packet : Option PacketValue) (b : BlockValue) → ¬ (HasSectionType bytes) → BeginsBlock order bytes b
       → IsBody (kind_of_block b.block_type) most order interfaces b.body packet after → Begins bytes (Blocks most order interfaces) (12 + length b.body) packet (Blocks most order after)
 
--- Bytes do not begin with the unit that is expected.
+-- Bytes do not begin with a unit that is expected.
 pub data RefusesCapture (bytes : List ℕ) : CaptureExpectation → CaptureRefusal → Type 0 where
   file_header_refused : (most : ℕ) (r : FileRefusal) → ¬ (HasSectionType bytes) → RefusesFile bytes r → RefusesCapture bytes (Beginning most) (File r)
   file_record_refused : (h : FileHeaderValue) (r : RecordRefusal) → RefusesRecord h.order bytes r → RefusesCapture bytes (Records h) (Record r)
@@ -213,7 +216,7 @@ pub data RefusesCapture (bytes : List ℕ) : CaptureExpectation → CaptureRefus
   body_refused : (most : ℕ) (order : Order) (interfaces : List CaptureInterfaceValue) (b : BlockValue) (r : CaptureRefusal) → ¬ (HasSectionType bytes) → BeginsBlock order bytes b
       → RefusesBody most order interfaces b.body (kind_of_block b.block_type) r → RefusesCapture bytes (Blocks most order interfaces) r
 
--- how many bytes a unit needs that was refused because the bytes end within it
+-- the number of bytes that a unit needs, if it was refused because the bytes end within it
 abbrev pub required_len : CaptureRefusal → Option ℕ
 required_len (File (file.Short required len)) = Some required
 required_len (Record (record_rows.Short required len)) = Some required
@@ -233,7 +236,7 @@ HasBegun _ = ⊤
 abbrev pub IsEnd : CaptureExpectation → List ℕ → Type 0
 IsEnd x bytes = HasBegun x × (bytes ≡ [])
 
--- The packets of the bytes from a place on, where this is expected; what is left after them is nothing, or refused.
+-- The packets of the bytes from a place where this is expected. The rest after them is empty, or refused.
 pub data HasPackets : CaptureExpectation → List ℕ → List PacketValue → (rest : List ℕ) → Option CaptureRefusal → Type 0 where
   ended : (x : CaptureExpectation) (bytes : List ℕ) → IsEnd x bytes → HasPackets x bytes [] [] None
   refused : (x : CaptureExpectation) (bytes : List ℕ) (r : CaptureRefusal) → ¬ (IsEnd x bytes) → RefusesCapture bytes x r → HasPackets x bytes [] bytes (Some r)

@@ -1,4 +1,5 @@
--- A reader of the packets of a file: what it shows at each moment, and what it gives, by the packets that are left to read.
+-- The state of an iterator over the packets of a file, and what a call of next returns, by the packets that are left
+-- to read.
 use Rattle.std.specs.Prelude.{◌≡◌, ℕ, ◌+◌, List, [], ◌∷◌, length, drop, Bool, true, false, Option, Some, None, Result, Ok, Err, if◌then◌else◌}
 use Rattle.std.specs.Iterator.{Count, at_most}
 use Rattle.ether_pcap.specs.Capture.{PacketValue, CaptureExpectation, Beginning, CaptureRefusal, Begins, IsEnd, HasPackets}
@@ -21,14 +22,16 @@ max_interfaces = 4096
 abbrev pub start : List ℕ → CaptureState
 start bytes = record { expected = Beginning max_interfaces; rest = bytes; offset = 0; over = false }
 
--- The first packet of the bytes is the unit that ends after so many bytes, no unit before it is a packet, and after it this is expected.
+-- The first packet of the bytes is in the unit that ends after len bytes. No unit before it has a packet, and the last
+-- expectation holds after it.
 pub data FirstPacket : CaptureExpectation → (bytes : List ℕ) → PacketValue → (len : ℕ) → CaptureExpectation → Type 0 where
   here : (x y : CaptureExpectation) (bytes : List ℕ) (p : PacketValue) (len : ℕ) → Begins bytes x len (Some p) y → FirstPacket x bytes p len y
   later : (x y z : CaptureExpectation) (bytes : List ℕ) (p : PacketValue) (len more : ℕ) → Begins bytes x len None y
       → FirstPacket y (drop len bytes) p more z → FirstPacket x bytes p (len + more) z
 
--- What comes next if these packets, these bytes after them and this refusal are left: nothing, at the end of the file; the refusal
--- with its place, after which nothing comes; the first packet, right after which reading goes on, and the others are left.
+-- What next returns if these packets, the bytes left after them and this refusal are still to be read: None at the end
+-- of the file; the refusal with its offset, after which the iterator is over; the first packet, and then the others
+-- are left.
 abbrev pub GivesNextPacket : List PacketValue → (left : List ℕ) → Option CaptureRefusal → CaptureState → Option (Result CapturedPacket CaptureFault) → CaptureState → Type 0
 GivesNextPacket [] left None s result t = (result ≡ None) × IsEnd t.expected t.rest × (t.over ≡ false)
 GivesNextPacket [] left (Some refusal) s result t =
@@ -44,6 +47,6 @@ pub record CaptureGives (s : CaptureState) (result : Option (Result CapturedPack
       → HasPackets s.expected s.rest packets left fault → GivesNextPacket packets left fault s result t
   pub place : s.over ≡ false → t.offset + length t.rest ≡ s.offset + length s.rest
 
--- of k bytes at most k packets and a refusal are still to come, and nothing after the refusal
+-- k bytes yield at most k packets and one refusal, and nothing after the refusal
 abbrev pub items_left : CaptureState → Count
 items_left s = at_most (if s.over then 0 else length s.rest + 1)

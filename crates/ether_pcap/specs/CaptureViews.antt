@@ -1,4 +1,4 @@
--- What is read of a capture file of either format, and why it is refused, as values of the formats.
+-- What is read of a capture file of either format, and why a unit is refused, as values of the formats.
 use Rattle.std.specs.Prelude.{ℕ, List, map}
 use Rattle.std.specs.Option.{option_map}
 use Rattle.ether_pcap.specs.Capture.{TimeValue, PacketValue, CaptureInterfaceValue, CaptureExpectation, Beginning, Records, Blocks, CaptureRefusal, File, Record, Section, Block, Body, NoInterface, TooManyInterfaces}
@@ -47,7 +47,7 @@ capture_interface_view i = record {
 abbrev pub interfaces_view : List CaptureInterface → List CaptureInterfaceValue
 interfaces_view interfaces = map capture_interface_view interfaces
 
--- what a reader expects that has read this and keeps these interfaces, so many of a section at most
+-- what a reader expects that has read this, keeps these interfaces, and has room for `most` of them
 abbrev pub expectation_of : (most : ℕ) → Progress → List CaptureInterface → CaptureExpectation
 expectation_of most progress.Nothing interfaces = Beginning most
 expectation_of most (progress.Classic header) interfaces = Records (file_header_view header)

@@ -1,5 +1,5 @@
--- What a copy of a capture file has of each unit: its bytes; or, where the copy is another capture, what is true of that one
--- (draft-ietf-opsawg-pcap, section 4; draft-ietf-opsawg-pcapng, section 4).
+-- What a copy of a capture file has for each unit: its bytes; or, if the copy is another capture, bytes that are true
+-- of that capture (draft-ietf-opsawg-pcap, section 4; draft-ietf-opsawg-pcapng, section 4).
 use Rattle.std.specs.Prelude.{ℕ, ◌+◌, ◌-◌, ◌^◌, min, List, [], ◌∷◌, ◌++◌, length, map, drop, Option, Some, None, Bool, true, nat_eq, slice_range, if◌then◌else◌}
 use Rattle.ether_base.specs.Bytes.{number}
 use Rattle.ether_pcap.specs.Numbers.{Order, field}
@@ -14,7 +14,7 @@ use Rattle.ether_pcap.specs.declared.capture.copy_mode.CopyMode.TheVariants as m
 use Rattle.ether_pcap.specs.declared.capture.copied_unit.CopiedUnit.{CopiedUnit}
 use Rattle.ether_pcap.specs.declared.capture.copied_unit.CopiedUnit.TheVariants as units
 
--- byte for byte; or as another capture, whose packets may have this many bytes more
+-- byte for byte; or as another capture, in which an edit adds at most this many bytes to a packet
 pub data ModeValue : Type 0 where
   Exact : ModeValue
   Changed : (raise : ℕ) → ModeValue
@@ -25,7 +25,7 @@ copy_mode_view (modes.Changed raise) = Changed raise
 
 -- ---- snap lengths
 
--- a snap length above which no packet is that had this one: 0 is no limit, and the number has four bytes
+-- the raised snap length: at most the greatest number of four bytes; 0, no limit, is unchanged
 abbrev pub raised_len : (raise snap_len : ℕ) → ℕ
 raised_len raise n = if nat_eq n 0 then 0 else min (n + raise) (2 ^ 32 - 1)
 
@@ -35,7 +35,7 @@ raised_header raise h = record h { snap_len = raised_len raise h.snap_len }
 abbrev pub raised_interface : ℕ → CaptureInterfaceValue → CaptureInterfaceValue
 raised_interface raise i = record i { snap_len = raised_len raise i.snap_len }
 
--- what is expected in the copy, where this is expected in the capture
+-- what is expected in the copy where this is expected in the capture
 abbrev pub expected_in : ModeValue → CaptureExpectation → CaptureExpectation
 expected_in Exact x = x
 expected_in (Changed raise) (Beginning most) = Beginning most
@@ -44,21 +44,23 @@ expected_in (Changed raise) (Blocks most order interfaces) = Blocks most order (
 
 -- ---- units without a packet
 
--- these bytes in place of as many others
+-- the bytes, in which new ones replace as many from the offset `at` on
 abbrev pub with_bytes : (at : ℕ) → (new bytes : List ℕ) → List ℕ
 with_bytes at new bytes = slice_range bytes 0 at ++ new ++ drop (at + length new) bytes
 
--- a section length of -1: none is given (4.1)
+-- a section length of -1: it is not given (4.1)
 abbrev pub no_section_len : List ℕ
 no_section_len = 255 ∷ 255 ∷ 255 ∷ 255 ∷ 255 ∷ 255 ∷ 255 ∷ 255 ∷ []
 
--- An interface description (4.2) has the raised snap length. A custom block of the type that is not to be copied to another capture is left out.
+-- The snap length of an interface description (4.2) is raised. A custom block that is not meant to be copied to
+-- another capture is left out.
 abbrev pub changed_block : ℕ → Order → (block : List ℕ) → List ℕ
 changed_block raise order block =
     if nat_eq (field order block 0 4) 1 then with_bytes 12 (bytes_of order 4 (raised_len raise (field order block 12 16))) block
     else (if nat_eq (field order block 0 4) 0x40000BAD then [] else block)
 
--- A unit after which this is expected. The file header, too, has the raised snap length; a section header gives no section length.
+-- A unit after which this is expected. The snap length of a file header is raised, too, and a section header gives no
+-- section length.
 abbrev pub changed_unit : ℕ → (after : CaptureExpectation) → (unit : List ℕ) → List ℕ
 changed_unit raise (Beginning most) unit = unit
 changed_unit raise (Records h) unit = with_bytes 16 (bytes_of h.order 4 (raised_len raise h.snap_len)) unit
@@ -76,7 +78,8 @@ abbrev pub packet_in : ModeValue → PacketValue → PacketValue
 packet_in Exact p = p
 packet_in (Changed raise) p = record p { snap_len = raised_len raise p.snap_len }
 
--- A simple packet has as many captured bytes as the snap length allows (4.4), so one that was cut can't be copied where that is raised.
+-- The snap length gives the number of captured bytes of a simple packet (4.4). So one that was cut can't be copied
+-- where the snap length is raised.
 abbrev pub is_kept : ℕ → BlockKind → PacketValue → Bool
 is_kept raise SimplePacket p = nat_eq (captured_by (raised_len raise p.snap_len) p.original_len) (length p.packet)
 is_kept raise _ p = true
@@ -87,7 +90,7 @@ packet_unit (Changed raise) (Blocks most order interfaces) p unit =
     if is_kept raise (kind_of_block (field order unit 0 4)) p then Some unit else None
 packet_unit _ x p unit = Some unit
 
--- .. and of one that is edited if there is an edit
+-- .. and of one that is edited, if there is an edit
 abbrev pub unit_after : ModeValue → CaptureExpectation → PacketValue → Option EditedValue → List ℕ → Option (List ℕ)
 unit_after mode x p None unit = packet_unit mode x p unit
 unit_after mode x p (Some e) unit = edited_unit x (length p.packet) e unit

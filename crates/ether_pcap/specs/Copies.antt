@@ -1,18 +1,19 @@
--- A copy of a capture file of either format without some of its packets, in which those that are kept may be edited. Each packet that isn't
--- edited is copied byte for byte, and so is each unit that is no packet, unless the copy is another capture.
+-- A copy of a capture file of either format without some of its packets, in which the others may be edited. A packet
+-- that is not edited is copied byte for byte, and so is each unit without a packet, unless the copy is another
+-- capture.
 use Rattle.std.specs.Prelude.{◌≡◌, ◌≢◌, ◌⊎◌, ℕ, ◌+◌, ◌<◌, ◌≤◌, List, [], ◌∷◌, ◌++◌, length, take, drop, Bool, true, false, ◌&&◌, IsTrue, Option, Some, None, All, ⊤}
 use Rattle.ether_base.specs.Bytes.{IsBytes}
 use Rattle.ether_pcap.specs.Capture.{PacketValue, IsWithinSnap, CaptureExpectation, Beginning, CaptureRefusal, Begins, RefusesCapture, HasBegun, IsEnd, HasPackets}
 use Rattle.ether_pcap.specs.Editing.{EditedValue}
 use Rattle.ether_pcap.specs.CopiedUnits.{ModeValue, Exact, Changed, expected_in, other_unit, unit_after, packet_after}
 
--- why a copy ends before the file: what is left is refused, or begins with a packet that is to be edited and can't be
+-- why a copy ends before the file does: the rest is refused, or begins with a packet that is to be edited but can't be
 pub data CopyFault : Type 0 where
   Refused : CaptureRefusal → CopyFault
   NotEdited : PacketValue → CopyFault
 
--- From a place of a file on, where this is expected, these bytes are copied, with these packets, each to what it is edited to; what is left
--- after the last unit is nothing, or why the copy ends there.
+-- From a place of a file where this is expected, these bytes are copied. They have the kept packets, each as it is
+-- edited. The rest after the last copied unit is empty, or there is a fault that says why the copy ends there.
 pub data Copies (mode : ModeValue) (Keeps : PacketValue → Type 0) (Edits : PacketValue → Option EditedValue → Type 0)
     : CaptureExpectation → (bytes copy : List ℕ) → (kept edited : List PacketValue) → (rest : List ℕ) → Option CopyFault → Type 0 where
   ended : (x : CaptureExpectation) (bytes : List ℕ) → IsEnd x bytes → Copies mode Keeps Edits x bytes [] [] [] [] None
@@ -31,13 +32,13 @@ pub data Copies (mode : ModeValue) (Keeps : PacketValue → Type 0) (Edits : Pac
       → Begins bytes x len (Some p) y → ¬ (Keeps p) → Copies mode Keeps Edits y (drop len bytes) copy kept edited rest fault
       → Copies mode Keeps Edits x bytes copy kept edited rest fault
 
--- those of the packets that are kept, in order
+-- the packets that are kept, in order
 pub data Selected (Keeps : PacketValue → Type 0) : (packets kept : List PacketValue) → Type 0 where
   none : Selected Keeps [] []
   one_kept : (p : PacketValue) (packets kept : List PacketValue) → Keeps p → Selected Keeps packets kept → Selected Keeps (p ∷ packets) (p ∷ kept)
   one_left : (p : PacketValue) (packets kept : List PacketValue) → ¬ (Keeps p) → Selected Keeps packets kept → Selected Keeps (p ∷ packets) kept
 
--- these are what the packets are edited to
+-- what each of the kept packets is edited to
 pub data AreEdited (mode : ModeValue) (Edits : PacketValue → Option EditedValue → Type 0) : (kept edited : List PacketValue) → Type 0 where
   none_edited : AreEdited mode Edits [] []
   one_edited : (p : PacketValue) (o : Option EditedValue) (kept edited : List PacketValue) → Edits p o → AreEdited mode Edits kept edited
@@ -47,22 +48,23 @@ pub data AreEdited (mode : ModeValue) (Edits : PacketValue → Option EditedValu
 abbrev pub EditsNone : (Edits : PacketValue → Option EditedValue → Type 0) → Type 0
 EditsNone Edits = (p : PacketValue) (o : Option EditedValue) → Edits p o → o ≡ None
 
--- no edit gives a packet more than so many bytes besides those that it has
+-- no edit makes a packet more than `raise` bytes longer
 abbrev pub EditsWithin : (raise : ℕ) → (Edits : PacketValue → Option EditedValue → Type 0) → Type 0
 EditsWithin raise Edits = (p : PacketValue) (e : EditedValue) → Edits p (Some e) → length e.packet ≤ length p.packet + raise
 
--- each packet is edited to something, or stays, and to one thing alone
+-- each packet has exactly one edit, or is unchanged
 pub record EditsOnce (Edits : PacketValue → Option EditedValue → Type 0) : Type 0 where
   pub some : (p : PacketValue) → IsBytes p.packet → (o : Option EditedValue) × Edits p o
   pub one : (p : PacketValue) (o q : Option EditedValue) → Edits p o → Edits p q → o ≡ q
 
 -- ---- the laws
 
--- What a copy that is read from there on has: these packets, and nothing else. At the beginning of a file that is so unless nothing was copied.
+-- The copy has these packets and nothing else, read from this expectation on. At the beginning of a file this holds
+-- unless nothing was copied.
 abbrev pub IsRead : ModeValue → CaptureExpectation → (copy : List ℕ) → (edited : List PacketValue) → Type 0
 IsRead mode x copy edited = HasBegun x ⊎ (copy ≢ []) → HasPackets (expected_in mode x) copy edited [] None
 
--- all packets from a place on, up to what is left; if it begins with one that can't be edited, further ones follow that
+-- all packets from a place up to the rest; if the rest begins with a packet that can't be edited, others may follow it
 abbrev pub HasPacketsTo : CaptureExpectation → (bytes : List ℕ) → List PacketValue → (rest : List ℕ) → Option CopyFault → Type 0
 HasPacketsTo x bytes packets rest None = HasPackets x bytes packets rest None
 HasPacketsTo x bytes packets rest (Some (Refused r)) = HasPackets x bytes packets rest (Some r)
@@ -75,8 +77,8 @@ pub record HasSource (Keeps : PacketValue → Type 0) (x : CaptureExpectation) (
   pub has : HasPacketsTo x bytes packets rest fault
   pub selected : Selected Keeps packets kept
 
--- What is left begins with a packet that is kept, and can't be copied: it has no time, as a simple packet; or it would be longer, or its original
--- length have more than four bytes.
+-- The rest begins with a packet that is kept but can't be written: it has no time, as a simple packet; or its edit
+-- makes it longer; or its edited original length does not fit in four bytes.
 pub record IsNotEdited (mode : ModeValue) (Keeps : PacketValue → Type 0) (Edits : PacketValue → Option EditedValue → Type 0) (rest : List ℕ) (p : PacketValue) : Type 0 where
   pub expected : CaptureExpectation
   pub len : ℕ
@@ -87,13 +89,14 @@ pub record IsNotEdited (mode : ModeValue) (Keeps : PacketValue → Type 0) (Edit
   pub not_written : unit_after mode expected p edited (take len rest) ≡ None
   pub why : (p.time ≡ None) ⊎ ((e : EditedValue) × (edited ≡ Some e) × ((length p.packet < length e.packet) ⊎ (4294967295 < e.original_len)))
 
--- a copy by tests of packets, and of what they are edited to
+-- a copy by a test of packets and a test of edits
 abbrev pub CopiesBy : ModeValue → (test : PacketValue → Bool) → (edits : PacketValue → Option EditedValue → Bool) → CaptureExpectation → (bytes copy : List ℕ) → (kept edited : List PacketValue) → (rest : List ℕ) → Option CopyFault → Type 0
 CopiesBy mode test edits = Copies mode (λ p. IsTrue (test p)) (λ p o. IsTrue (edits p o))
 
--- A copy is a file whose packets are those of the file that are kept, in order, each as it is edited. If nothing of a file is copied, it is
--- refused at its beginning. In a copy that is another capture snap lengths are still bounds, if they are raised by as many bytes as an edit gives a
--- packet. Where no packet is edited, an exact copy with all packets is the file itself, up to what is left.
+-- A copy is a file whose packets are the kept packets of the file, in order, each as it is edited. If nothing of a
+-- file is copied, the file is refused at its beginning. In a copy that is another capture snap lengths are still
+-- bounds, if they are raised by as many bytes as an edit adds to a packet. If no packet is edited, an exact copy with
+-- all packets is the file itself, up to the rest.
 pub record CopiesAreRead : Type 0 where
   pub read : (mode : ModeValue) (test : PacketValue → Bool) (edits : PacketValue → Option EditedValue → Bool) (x : CaptureExpectation) (bytes copy : List ℕ) (kept edited : List PacketValue) (rest : List ℕ) (fault : Option CopyFault)
       → CopiesBy mode test edits x bytes copy kept edited rest fault → IsRead mode x copy edited
@@ -112,7 +115,7 @@ pub record CopiesAreRead : Type 0 where
   pub all : (edits : PacketValue → Option EditedValue → Bool) (x : CaptureExpectation) (bytes copy : List ℕ) (kept edited : List PacketValue) (rest : List ℕ) (fault : Option CopyFault)
       → EditsNone (λ p o. IsTrue (edits p o)) → Copies Exact (λ p. ⊤) (λ p o. IsTrue (edits p o)) x bytes copy kept edited rest fault → copy ++ rest ≡ bytes
 
--- the copy of bytes
+-- a copy of bytes
 pub record Copy (mode : ModeValue) (test : PacketValue → Bool) (edits : PacketValue → Option EditedValue → Bool) (x : CaptureExpectation) (bytes : List ℕ) : Type 0 where
   pub copy : List ℕ
   pub kept : List PacketValue
@@ -121,7 +124,7 @@ pub record Copy (mode : ModeValue) (test : PacketValue → Bool) (edits : Packet
   pub fault : Option CopyFault
   pub copies : CopiesBy mode test edits x bytes copy kept edited rest fault
 
--- any bytes have a copy, and only one
+-- any bytes have exactly one copy
 pub record CopiesAreOne : Type 0 where
   pub some : (mode : ModeValue) (test : PacketValue → Bool) (edits : PacketValue → Option EditedValue → Bool) (x : CaptureExpectation) (bytes : List ℕ) → IsBytes bytes → EditsOnce (λ p o. IsTrue (edits p o))
       → Copy mode test edits x bytes
@@ -135,15 +138,16 @@ abbrev pub edits_none : PacketValue → Option EditedValue → Bool
 edits_none p None = true
 edits_none p (Some e) = false
 
--- If packets of a file are selected to another capture, and packets of that again, the second capture is that of the packets of the file that both
--- tests select. The first has a packet at least, or the front of a file: an empty list is none.
+-- If packets of a file are selected into a second capture, and packets of that into a third, the third is the copy of
+-- those packets of the file that both tests select. The second capture must not be an empty list, which is not a
+-- capture file.
 pub record CopiesCompose : Type 0 where
   pub selected : (most : ℕ) (first second : PacketValue → Bool) (bytes between copy : List ℕ) (kept edited chosen last : List PacketValue) (rest left : List ℕ) (fault other : Option CopyFault)
       → IsBytes bytes → IsBytes between → between ≢ []
       → CopiesBy (Changed 0) first edits_none (Beginning most) bytes between kept edited rest fault
       → CopiesBy (Changed 0) second edits_none (Beginning most) between copy chosen last left other
       → CopiesBy (Changed 0) (λ p. first p && second p) edits_none (Beginning most) bytes copy chosen last rest fault × (left ≡ []) × (other ≡ None)
-  -- by one test twice it is the first copy
+  -- selecting twice by the same test gives the first copy again
   pub again : (most : ℕ) (test : PacketValue → Bool) (bytes between copy : List ℕ) (kept edited chosen last : List PacketValue) (rest left : List ℕ) (fault other : Option CopyFault)
       → IsBytes bytes → IsBytes between → between ≢ []
       → CopiesBy (Changed 0) test edits_none (Beginning most) bytes between kept edited rest fault

@@ -1,5 +1,6 @@
--- The unit of a packet that is edited, to other captured bytes and another original length: a record (draft-ietf-opsawg-pcap, section 5), or a
--- block with an enhanced packet or an obsolete packet block (draft-ietf-opsawg-pcapng, sections 3.1 and 4.3, appendix A).
+-- The unit of a packet whose captured bytes and original length are edited: a record (draft-ietf-opsawg-pcap, section
+-- 5), or a block with an enhanced packet or an obsolete packet block (draft-ietf-opsawg-pcapng, sections 3.1 and 4.3,
+-- appendix A).
 use Rattle.std.specs.Prelude.{◌≡◌, ℕ, ◌+◌, ◌-◌, List, ◌++◌, length, drop, Option, Some, None, IfSome, Bool, true, nat_lt, slice_range, if◌then◌else◌}
 use Rattle.std.specs.Option.{option_map}
 use Rattle.ether_pcap.specs.Numbers.{Order, field}
@@ -16,16 +17,17 @@ pub record EditedValue : Type 0 where
   pub original_len : ℕ
   pub packet : List ℕ
 
--- the bytes before the captured length; captured length, original length, 4 bytes each; the captured bytes
+-- the bytes before the captured length; captured length and original length, 4 bytes each; the captured bytes
 abbrev pub edited_front : Order → (place : ℕ) → EditedValue → List ℕ → List ℕ
 edited_front order place e bytes =
     slice_range bytes 0 place ++ bytes_of order 4 (length e.packet) ++ bytes_of order 4 e.original_len ++ e.packet
 
--- a record: seconds and fraction come before the captured length
+-- a record: seconds and fraction precede the captured length
 abbrev pub edited_record : Order → EditedValue → List ℕ → List ℕ
 edited_record order e record_bytes = edited_front order 8 e record_bytes
 
--- the body of a packet with m captured bytes: interface and time come before the captured length; padding and the options follow the packet
+-- The body of a packet with m captured bytes: interface and time precede the captured length; padding and the options
+-- follow the packet.
 abbrev pub edited_body : Order → (m : ℕ) → EditedValue → List ℕ → List ℕ
 edited_body order m e body =
     edited_front order 12 e body ++ zeros (padded (length e.packet) - length e.packet) ++ drop (20 + padded m) body
@@ -35,27 +37,28 @@ abbrev pub block_bytes : Order → (block_type body : List ℕ) → List ℕ
 block_bytes order block_type body =
     let total_len = bytes_of order 4 (12 + length body) in block_type ++ total_len ++ body ++ total_len
 
--- .. unless it is longer than a reader accepts
+-- .. or None if it is longer than a reader accepts
 abbrev pub edited_block : BlockKind → Order → (m : ℕ) → EditedValue → List ℕ → Option (List ℕ)
 edited_block (EnhancedPacket number_len) order m e block =
     let body = edited_body order m e (slice_range block 8 (length block - 4)) in
     if nat_lt max_block_len (12 + length body) then None else Some (block_bytes order (slice_range block 0 4) body)
 edited_block _ order m e block = None
 
--- The unit of a packet with m captured bytes. A simple packet has no captured length of its own (4.4), and can't be edited.
+-- The unit of a packet that had m captured bytes, after an edit. A simple packet has no captured length of its own
+-- (4.4), and can't be edited.
 abbrev pub unit_with : CaptureExpectation → (m : ℕ) → EditedValue → List ℕ → Option (List ℕ)
 unit_with (Beginning most) m e unit = None
 unit_with (Records h) m e unit = Some (edited_record h.order e unit)
 unit_with (Blocks most order interfaces) m e unit = edited_block (kind_of_block (field order unit 0 4)) order m e unit
 
--- more captured bytes than a reader accepts, or an original length of more than 4 bytes
+-- more captured bytes than a reader accepts, or an original length that does not fit in 4 bytes
 abbrev pub is_too_long : EditedValue → Bool
 is_too_long e = if nat_lt max_captured_len (length e.packet) then true else nat_lt 4294967295 e.original_len
 
 abbrev pub edited_unit : CaptureExpectation → (m : ℕ) → EditedValue → List ℕ → Option (List ℕ)
 edited_unit x m e unit = if is_too_long e then None else unit_with x m e unit
 
--- the packet that it has then: all else stays
+-- the packet after the edit: all else is unchanged
 abbrev pub edited_packet : EditedValue → PacketValue → PacketValue
 edited_packet e p = record p { original_len = e.original_len; packet = e.packet }
 
@@ -72,12 +75,12 @@ abbrev pub padding_of : EditedUnit → ℕ
 padding_of (units.Record header packet) = 0
 padding_of (units.Block header packet padding_len options trailer) = padding_len
 
--- if the bytes are the unit of a packet, the result is that of the edited packet
+-- if the bytes are the unit of a packet, the result is the unit of the edited packet
 abbrev pub EditsUnit : CaptureExpectation → (unit : List ℕ) → EditedValue → Option EditedUnit → Type 0
 EditsUnit x unit e result =
     (p : PacketValue) → Begins unit x (length unit) (Some p) x → option_map unit_bytes result ≡ edited_unit x (length p.packet) e unit
 
--- .. and it has the edited packet, whatever follows
+-- .. which is read as the edited packet, whatever follows it
 abbrev pub HasEditedPacket : CaptureExpectation → (unit : List ℕ) → EditedValue → Option EditedUnit → Type 0
 HasEditedPacket x unit e result =
     (p : PacketValue) → Begins unit x (length unit) (Some p) x

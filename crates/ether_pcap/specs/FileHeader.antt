@@ -3,7 +3,7 @@ use Rattle.std.specs.Prelude.{◌≡◌, ℕ, ◌*◌, ◌/◌, ◌%◌, ◌^◌
 use Rattle.ether_base.specs.Bytes.{number}
 use Rattle.ether_pcap.specs.Numbers.{Order, field}
 
--- what the second number of a time counts
+-- the unit of the second number of a time
 pub data Resolution : Type 0 where
   Microseconds : Resolution
   Nanoseconds : Resolution
@@ -13,8 +13,8 @@ abbrev pub magic_of : Resolution → ℕ
 magic_of Microseconds = 0xA1B2C3D4
 magic_of Nanoseconds = 0xA1B23C4D
 
--- The length in bytes of the frame check sequence at the end of each packet, from the last number of the header. Its bit 26 (P; the
--- least significant bit is bit 0) says that the length is there, and its bits 28 to 31 count pairs of bytes.
+-- The length in bytes of the frame check sequence at the end of each packet, from the last number of the header. Bit
+-- 26 (P; the least significant bit is bit 0) says that the length is given, and bits 28 to 31 count pairs of bytes.
 abbrev pub fcs_len_of : ℕ → Option ℕ
 fcs_len_of word = if nat_eq (word / 2 ^ 26 % 2) 1 then Some (2 * (word / 2 ^ 28)) else None
 
@@ -29,8 +29,8 @@ pub record FileHeaderValue : Type 0 where
 abbrev pub HasMagic : List ℕ → Order → Resolution → Type 0
 HasMagic bytes order resolution = field order bytes 0 4 ≡ magic_of resolution
 
--- magic number 4 bytes, version 2.4 in 2 bytes each, 8 bytes that are not read, snap length 4 bytes; then 4 bytes whose lower
--- half is the link type
+-- magic number 4 bytes, version 2.4 in 2 bytes each, 8 bytes that are not read, snap length 4 bytes, and 4 bytes whose
+-- lower half is the link type
 pub record IsFileHeader (bytes : List ℕ) (h : FileHeaderValue) : Type 0 where
   pub len : 24 ≤ length bytes
   pub magic : HasMagic bytes h.order h.resolution
@@ -40,8 +40,7 @@ pub record IsFileHeader (bytes : List ℕ) (h : FileHeaderValue) : Type 0 where
   pub link_type : field h.order bytes 20 24 % 2 ^ 16 ≡ h.link_type
   pub fcs_len : fcs_len_of (field h.order bytes 20 24) ≡ h.fcs_len
 
--- too few bytes, with the number that is required and that of those that are there; another magic number, as the most significant
--- byte first gives it; another version
+-- too few bytes: the required and the available number; another magic number, as a big-endian number; another version
 pub data FileRefusal : Type 0 where
   Short : (required len : ℕ) → FileRefusal
   Magic : ℕ → FileRefusal

@@ -2,7 +2,7 @@
 use Rattle.std.specs.Prelude.{◌≡◌, ◌≢◌, ℕ, ◌+◌, ◌*◌, ◌/◌, ◌≤◌, List, [], ◌∷◌, length, drop, nat_eq, slice_range, Option, Some, None, if◌then◌else◌}
 use Rattle.ether_pcap.specs.Numbers.{Order, field}
 
--- a number of bytes, filled up to a multiple of 4
+-- a number of bytes, rounded up to a multiple of 4
 abbrev pub padded : ℕ → ℕ
 padded n = (n + 3) / 4 * 4
 
@@ -18,17 +18,17 @@ pub record BeginsOption (order : Order) (bytes : List ℕ) (o : OptionValue) : T
   pub value : slice_range bytes 4 (4 + length o.value) ≡ o.value
   pub whole : 4 + length o.value ≤ length bytes
 
--- the options of bytes, one after the other, up to bytes that begin with none
+-- the options of bytes, one after the other, up to bytes that do not begin with an option
 abbrev pub HasOptions : Order → List ℕ → List OptionValue → Type 0
 HasOptions order bytes [] = (o : OptionValue) → BeginsOption order bytes o → ⊥
 HasOptions order bytes (o ∷ options) = BeginsOption order bytes o × HasOptions order (drop (4 + padded (length o.value)) bytes) options
 
--- the value of the first option with a code
+-- the value of the first option with this code
 abbrev pub value_of : ℕ → List OptionValue → Option (List ℕ)
 value_of code [] = None
 value_of code (o ∷ options) = if nat_eq o.code code then Some o.value else value_of code options
 
--- a value of so many bytes as a number
+-- a value of this many bytes as a number
 abbrev pub number_of : Order → ℕ → Option (List ℕ) → Option ℕ
 number_of order n None = None
 number_of order n (Some value) = if nat_eq (length value) n then Some (field order value 0 n) else None

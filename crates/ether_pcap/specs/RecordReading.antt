@@ -1,4 +1,5 @@
--- A reader of the records of a file: what it shows at each moment, and what it gives, by the records that are left to read.
+-- The state of an iterator over the records of a file, and what a call of next returns, by the records that are left
+-- to read.
 use Rattle.std.specs.Prelude.{◌≡◌, ℕ, ◌+◌, ◌/◌, List, [], ◌∷◌, length, drop, Bool, true, false, Option, Some, None, Result, Ok, Err, if◌then◌else◌}
 use Rattle.std.specs.Iterator.{Count, at_most}
 use Rattle.ether_pcap.specs.Record.{RecordValue, RecordRefusal, HasRecords, record_len}
@@ -14,8 +15,9 @@ pub record RecordState : Type 0 where
   pub offset : ℕ
   pub over : Bool
 
--- What comes next if these records and this refusal are left: nothing, and nothing changes; the refusal with the place of the
--- record, after which nothing comes; the first record, after which the bytes that follow it are left.
+-- What next returns if these records and this refusal are still to be read: None, and nothing changes; the refusal
+-- with the offset of its record, after which the iterator is over; the first record, and then the bytes after it are
+-- left.
 abbrev pub GivesNextRecord : List RecordValue → Option RecordRefusal → RecordState → Option (Result PcapRecord RecordFault) → RecordState → Type 0
 GivesNextRecord [] None s result t = (result ≡ None) × (t ≡ s)
 GivesNextRecord [] (Some refusal) s result t =
@@ -29,6 +31,6 @@ pub record RecordGives (s : RecordState) (result : Option (Result PcapRecord Rec
   pub next : s.over ≡ false → (records : List RecordValue) (rest : List ℕ) (fault : Option RecordRefusal)
       → HasRecords (order_of s.header.byte_order) s.rest records rest fault → GivesNextRecord records fault s result t
 
--- of k bytes at most k / 16 records and a refusal are still to come, and nothing after the refusal
+-- k bytes yield at most k / 16 records and one refusal, and nothing after the refusal
 abbrev pub items_left : RecordState → Count
 items_left s = at_most (if s.over then 0 else length s.rest / 16 + 1)

@@ -1,11 +1,11 @@
--- The section header block of a pcapng file (draft-ietf-opsawg-pcapng, section 4.1), which says the order of the bytes of the
--- numbers up to the next one.
+-- The section header block of a pcapng file (draft-ietf-opsawg-pcapng, section 4.1), which gives the byte order of all
+-- numbers up to the next section header.
 use Rattle.std.specs.Prelude.{◌≡◌, ◌≢◌, ◌⊎◌, ℕ, ◌<◌, ◌≤◌, List, length, slice_range}
 use Rattle.ether_base.specs.Bytes.{number}
 use Rattle.ether_pcap.specs.Numbers.{Order, field}
 use Rattle.ether_pcap.specs.Block.{BlockValue, BlockRefusal, BeginsBlock, RefusesBlock}
 
--- the type, which is the same in both orders
+-- the type, which is the same number in both byte orders
 abbrev pub section_type : ℕ
 section_type = 0x0A0D0D0A
 
@@ -13,7 +13,7 @@ section_type = 0x0A0D0D0A
 abbrev pub HasOrder : List ℕ → Order → Type 0
 HasOrder bytes order = field order bytes 8 12 ≡ 0x1A2B3C4D
 
--- the versions that are read: 1.0, and 1.2, which some programs wrote and which is no other format
+-- the versions that are read: 1.0, and 1.2, which some programs wrote for the same format
 abbrev pub IsVersion : (major minor : ℕ) → Type 0
 IsVersion major minor = (major ≡ 1) × ((minor ≡ 0) ⊎ (minor ≡ 2))
 
@@ -29,7 +29,7 @@ pub record IsSection (bytes : List ℕ) (order : Order) (b : BlockValue) : Type 
   pub len : 16 ≤ length b.body
   pub version : IsVersion (field order bytes 12 14) (field order bytes 14 16)
 
--- too few bytes for a type and a byte-order magic; another block; another magic, as the most significant byte first gives it; a
+-- too few bytes for a type, a length and a byte-order magic; another type, and another magic, as big-endian numbers; a
 -- refused block; a body that is too short; another version
 pub data SectionRefusal : Type 0 where
   Short : (required len : ℕ) → SectionRefusal

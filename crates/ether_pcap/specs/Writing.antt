@@ -1,4 +1,5 @@
--- What a classic capture file is written as: all that is read of it, and 0 for the rest (draft-ietf-opsawg-pcap, sections 4 and 5).
+-- What is written for a classic capture file: all that is read of it, and 0 for the rest (draft-ietf-opsawg-pcap,
+-- sections 4 and 5).
 use Rattle.std.specs.Prelude.{◌≡◌, ℕ, zero, suc, ◌+◌, ◌*◌, ◌/◌, ◌%◌, ◌^◌, ◌<◌, ◌≤◌, List, [], ◌∷◌, ◌++◌, length, reverse, slice_range, map, Option, Some, None, ⊤}
 use Rattle.ether_base.specs.Bytes.{IsBytes, spelled}
 use Rattle.ether_pcap.specs.Numbers.{Order, BigEndian, LittleEndian, field}
@@ -6,7 +7,7 @@ use Rattle.ether_pcap.specs.FileHeader.{FileHeaderValue, HasMagic}
 use Rattle.ether_pcap.specs.Record.{RecordValue, max_captured_len}
 use Rattle.ether_pcap.specs.Capture.{packet_of_record, Beginning, HasPackets}
 
--- the k bytes of a number that has room in them
+-- the k bytes of a number that fits in them
 abbrev pub bytes_of : Order → (k n : ℕ) → List ℕ
 bytes_of BigEndian k n = spelled k n
 bytes_of LittleEndian k n = reverse (spelled k n)
@@ -15,12 +16,14 @@ abbrev pub zeros : ℕ → List ℕ
 zeros zero = []
 zeros (suc n) = 0 ∷ zeros n
 
--- a length of a frame check sequence that the header can give: none, or pairs of bytes, whose number has four bits
+-- what the header can give as the length of the frame check sequence: none, or a number of pairs of bytes that fits in
+-- four bits
 abbrev pub HasFcsLen : Option ℕ → Type 0
 HasFcsLen None = ⊤
 HasFcsLen (Some len) = (len % 2 ≡ 0) × (len ≤ 30)
 
--- the last number of the header: the link type; and, if there is a length, bit 26 (P) and the number of its pairs from bit 28 on
+-- the last number of the header: the link type; and, if there is a length, bit 26 (P) and the number of byte pairs
+-- from bit 28 on
 abbrev pub link_word_of : ℕ → Option ℕ → ℕ
 link_word_of link_type None = link_type
 link_word_of link_type (Some len) = len / 2 % 16 * 2 ^ 28 + 2 ^ 26 + link_type
@@ -41,13 +44,13 @@ pub record WritesRecordHeader (order : Order) (bytes : List ℕ) (r : RecordValu
   pub captured_len : field order bytes 8 12 ≡ length r.packet % 2 ^ 32
   pub original_len : field order bytes 12 16 ≡ r.original_len
 
--- records, each as the bytes of its header and its packet, one after the other
+-- records one after the other, each as the bytes of its header and its packet
 pub data WritesRecords (order : Order) : List ℕ → List RecordValue → Type 0 where
   none : WritesRecords order [] []
   more : (header bytes : List ℕ) (r : RecordValue) (records : List RecordValue) → length header ≡ 16 → WritesRecordHeader order header r
       → length r.packet ≤ max_captured_len → WritesRecords order bytes records → WritesRecords order (header ++ r.packet ++ bytes) (r ∷ records)
 
--- A file that is written as a header and records has exactly their packets, and nothing else.
+-- A file that is written as a header and records has exactly the packets of these records, and nothing is left over.
 abbrev pub WrittenFilesAreRead : Type 0
 WrittenFilesAreRead =
     (most : ℕ) (header bytes : List ℕ) (h : FileHeaderValue) (records : List RecordValue) → IsBytes header → length header ≡ 24 → h.link_type < 2 ^ 16

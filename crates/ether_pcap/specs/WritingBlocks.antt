@@ -1,5 +1,5 @@
--- What blocks of a pcapng file are written as: all that is read of them, and 0 for what is reserved (draft-ietf-opsawg-pcapng, sections 3.1,
--- 3.5 and 4.1 to 4.3).
+-- What is written for the blocks of a pcapng file: all that is read of them, and 0 for reserved fields
+-- (draft-ietf-opsawg-pcapng, sections 3.1, 3.5 and 4.1 to 4.3).
 use Rattle.std.specs.Prelude.{ℕ, ◌+◌, ◌-◌, ◌/◌, ◌%◌, ◌^◌, ◌<◌, ◌≤◌, List, [], ◌∷◌, ◌++◌, length, None}
 use Rattle.ether_pcap.specs.Numbers.{Order}
 use Rattle.ether_pcap.specs.Block.{IsTotalLen, BeginsBlock}
@@ -11,7 +11,7 @@ use Rattle.ether_pcap.specs.Writing.{bytes_of, zeros}
 use Rattle.ether_pcap.specs.Editing.{block_bytes}
 use Rattle.ether_pcap.specs.Capture.{CaptureInterfaceValue, PacketValue, described_by, packet_on, IsAt, Beginning, HasPackets}
 
--- byte-order magic, version 1.0, and the number that stands for a section length that is not given (4.1)
+-- byte-order magic, version 1.0, and the section length -1, which means that none is given (4.1)
 abbrev pub section_body : Order → List ℕ
 section_body order =
     bytes_of order 4 0x1A2B3C4D ++ (bytes_of order 2 1 ++ bytes_of order 2 0) ++ bytes_of order 4 0xFFFFFFFF ++ bytes_of order 4 0xFFFFFFFF
@@ -23,7 +23,7 @@ interface_head order i = (bytes_of order 2 i.link_type ++ bytes_of order 2 0) ++
 abbrev pub interface_body : Order → InterfaceValue → List ℕ
 interface_body order i = interface_head order i ++ i.options
 
--- the option if_tsresol (9), whose one byte says nanoseconds, padded; the end of the options (3.5)
+-- the option if_tsresol (9) with the value for nanoseconds, one byte, padded; the end of options (3.5)
 abbrev pub nanosecond_bytes : Order → List ℕ
 nanosecond_bytes order =
     (bytes_of order 2 9 ++ bytes_of order 2 1) ++ (9 ∷ 0 ∷ 0 ∷ 0 ∷ []) ++ (bytes_of order 2 0 ++ bytes_of order 2 0)
@@ -47,8 +47,8 @@ interface_block_len i = 20 + length i.options
 abbrev pub packet_block_len : EnhancedPacketValue → ℕ
 packet_block_len p = 32 + padded (length p.packet) + length p.options
 
--- What is written of an interface description or an enhanced packet before its options or its packet is read back as it, followed by these and
--- by the block's length.
+-- A header that is written for an interface description or an enhanced packet is read back as it, if its options or
+-- its packet follow, and then the block's length.
 abbrev pub InterfaceIsRead : Order → (header : List ℕ) → InterfaceValue → Type 0
 InterfaceIsRead order header i =
     IsTotalLen (interface_block_len i) → (rest : List ℕ)
@@ -76,7 +76,7 @@ packet_bytes order p =
     let len = bytes_of order 4 (packet_block_len p) in
     bytes_of order 4 6 ++ len ++ packet_head order p ++ p.packet ++ packet_padding p ++ p.options ++ len
 
--- the numbers of an interface or a packet have room in their bytes, and the block is none that a reader refuses
+-- the numbers of an interface or a packet fit in their bytes, and a reader accepts the length of the block
 pub record FitsInterface (i : InterfaceValue) : Type 0 where
   pub link_type : i.link_type < 2 ^ 16
   pub snap_len : i.snap_len < 2 ^ 32
@@ -89,8 +89,9 @@ pub record FitsPacket (p : EnhancedPacketValue) : Type 0 where
   pub captured_len : length p.packet ≤ max_captured_len
   pub total_len : IsTotalLen (packet_block_len p)
 
--- What follows a section header, where the section has described these interfaces: further ones, so many at most in all, packets of those described before them,
--- and further sections. The packets are those that the blocks say.
+-- What follows a section header in a section that has described the interfaces `before`: further interfaces, up to
+-- `most` in all; packets of interfaces that are described before them; and further sections. The packets are those of
+-- the blocks.
 pub data WritesBlocks (most : ℕ) : Order → (before : List CaptureInterfaceValue) → (bytes : List ℕ) → List PacketValue → Type 0 where
   end : (order : Order) (before : List CaptureInterfaceValue) → WritesBlocks most order before [] []
   section : (order next : Order) (before : List CaptureInterfaceValue) (bytes : List ℕ) (packets : List PacketValue)
@@ -102,7 +103,7 @@ pub data WritesBlocks (most : ℕ) : Order → (before : List CaptureInterfaceVa
       (i : CaptureInterfaceValue) → FitsPacket p → HasOptions order p.options options → IsAt before p.interface i
       → WritesBlocks most order before bytes packets → WritesBlocks most order before (packet_bytes order p ++ bytes) (packet_on order i p options ∷ packets)
 
--- A file that is written as a section header and blocks has exactly their packets, and nothing else.
+-- A file that is written as a section header and blocks has exactly their packets, and nothing is left over.
 abbrev pub WrittenSectionsAreRead : Type 0
 WrittenSectionsAreRead =
     (most : ℕ) (order : Order) (bytes : List ℕ) (packets : List PacketValue) → WritesBlocks most order [] bytes packets

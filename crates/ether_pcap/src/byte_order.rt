@@ -22,7 +22,7 @@ pub enum ByteOrder {
 }
 
 impl ByteOrder {
-    /// The number of two bytes in this order.
+    /// The number that two bytes are in this order.
     pub fn u16_of(self, bytes: [u8; 2]) -> u16
         ensures { result ≡ number_in (order_of self) bytes }
     {
@@ -32,7 +32,7 @@ impl ByteOrder {
         }
     }
 
-    /// The number of four bytes in this order.
+    /// The number that four bytes are in this order.
     pub fn u32_of(self, bytes: [u8; 4]) -> u32
         ensures { result ≡ number_in (order_of self) bytes }
     {
@@ -42,7 +42,7 @@ impl ByteOrder {
         }
     }
 
-    /// The number of eight bytes in this order.
+    /// The number that eight bytes are in this order.
     pub fn u64_of(self, bytes: [u8; 8]) -> u64
         ensures { result ≡ number_in (order_of self) bytes }
     {
@@ -72,7 +72,7 @@ impl ByteOrder {
         }
     }
 
-    /// The number in the two bytes at a place.
+    /// The number in the two bytes from the offset `at` on.
     pub(crate) fn u16_at(self, bytes: &[u8], at: usize) -> u16
         requires { at + 2 ≤ length bytes.now }
         ensures { result ≡ field (order_of self) bytes.now at (at + 2) }
@@ -80,7 +80,7 @@ impl ByteOrder {
         self.u16_of([bytes[at], bytes[at + 1]])
     }
 
-    /// The number in the four bytes at a place.
+    /// The number in the four bytes from the offset `at` on.
     pub(crate) fn u32_at(self, bytes: &[u8], at: usize) -> u32
         requires { at + 4 ≤ length bytes.now }
         ensures { result ≡ field (order_of self) bytes.now at (at + 4) }

@@ -1,6 +1,6 @@
 //! What each packet of a capture begins with.
 
-/// What each packet of a capture begins with (`LINKTYPE_` of the tcpdump group). Any number is one.
+/// What each packet of a capture begins with: a `LINKTYPE_` number of the tcpdump group. Any number is allowed.
 #[derive(Clone, Copy, PartialEq, Eq, Debug)]
 pub struct LinkType(pub u16);
 

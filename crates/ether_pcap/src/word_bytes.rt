@@ -15,7 +15,7 @@ pub(crate) fn word(order: ByteOrder, number: u32) -> [u8; 4]
     order.bytes_of_u32(number)
 }
 
-/// A number of bytes, filled up to a multiple of 4.
+/// Rounds a number of bytes up to a multiple of 4.
 pub(crate) fn padded_len(len: usize) -> usize
     requires { len < 2 ^ 63 }
     ensures { result ≡ padded len }
@@ -23,7 +23,7 @@ pub(crate) fn padded_len(len: usize) -> usize
     len.div_ceil(4) * 4
 }
 
-/// The bytes of a length, modulo 2^32.
+/// The four bytes of a length, modulo 2^32.
 pub(crate) fn len_word(order: ByteOrder, len: usize) -> [u8; 4]
     ensures { result ≡ bytes_of (order_of order) 4 len }
 {
@@ -48,7 +48,7 @@ pub(crate) fn half_words(order: ByteOrder, first: u16, second: u16) -> [u8; 4]
     [a, b, c, d]
 }
 
-/// Four words.
+/// Joins four words.
 pub(crate) fn four_words(a: [u8; 4], b: [u8; 4], c: [u8; 4], d: [u8; 4]) -> [u8; 16]
     ensures { result ≡ a ++ b ++ c ++ d }
 {
@@ -61,7 +61,7 @@ pub(crate) fn four_words(a: [u8; 4], b: [u8; 4], c: [u8; 4], d: [u8; 4]) -> [u8;
     ]
 }
 
-/// Three words.
+/// Joins three words.
 pub(crate) fn three_words(a: [u8; 4], b: [u8; 4], c: [u8; 4]) -> [u8; 12]
     ensures { result ≡ a ++ b ++ c }
 {
@@ -71,7 +71,7 @@ pub(crate) fn three_words(a: [u8; 4], b: [u8; 4], c: [u8; 4]) -> [u8; 12]
     [a0, a1, a2, a3, b0, b1, b2, b3, c0, c1, c2, c3]
 }
 
-/// Three words after four.
+/// Appends three words to four.
 pub(crate) fn seven_words(front: [u8; 16], e: [u8; 4], f: [u8; 4], g: [u8; 4]) -> [u8; 28]
     ensures { result ≡ front ++ e ++ f ++ g }
 {

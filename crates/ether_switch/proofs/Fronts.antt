@@ -13,10 +13,10 @@ use Rattle.ether_packet.specs.Pushing.{IsPushed}
 use Rattle.ether_packet.specs.Setting.{SetsTag}
 use Rattle.ether_switch.specs.declared.arrival.Discarded.{Discarded}
 use Rattle.ether_switch.specs.declared.arrival.Discarded.TheVariants.{CutTag}
-use Rattle.ether_switch.specs.declared.kind.BridgeKind.{BridgeKind}
+use Rattle.ether_switch.specs.declared.bridge_kind.BridgeKind.{BridgeKind}
 use Rattle.ether_switch.specs.declared.received.Received.{Received}
 use Rattle.ether_switch.specs.Arrivals.{Front, front_in, front_of}
-use Rattle.ether_switch.specs.Kinds.{tpid_of}
+use Rattle.ether_switch.specs.BridgeKinds.{tpid_of}
 use Rattle.ether_switch.specs.Leaving.{has_tag, own_tag, HasTag, HasNoTag, LeavesTagged, LeavesUntagged}
 
 -- ---- whether it begins as it should

@@ -30,11 +30,11 @@ use Rattle.ether_packet.proofs.VlanIds.{sets_outermost}
 use Rattle.ether_switch.specs.declared.arrival.Admitted.{Admitted}
 use Rattle.ether_switch.specs.declared.arrival.Discarded.{Discarded}
 use Rattle.ether_switch.specs.declared.arrival.Discarded.TheVariants.{ReservedAddress}
-use Rattle.ether_switch.specs.declared.kind.BridgeKind.{BridgeKind}
+use Rattle.ether_switch.specs.declared.bridge_kind.BridgeKind.{BridgeKind}
 use Rattle.ether_switch.specs.declared.received.Forwarding.{Forwarding}
 use Rattle.ether_switch.specs.declared.received.Received.{Received}
 use Rattle.ether_switch.specs.Arrivals.{Front, tagged_front, front_in, front_of}
-use Rattle.ether_switch.specs.Kinds.{tpid_of, is_reserved}
+use Rattle.ether_switch.specs.BridgeKinds.{tpid_of, is_reserved}
 use Rattle.ether_switch.specs.VlanSets.{has}
 use Rattle.ether_switch.specs.Leaving.{own_tag, includes, LeavesTagged, LeavesUntagged}
 use Rattle.ether_switch.specs.Laws.{SendsIn, VlansAreIsolated, tag_len, without_tag, OnlyTagsChange}

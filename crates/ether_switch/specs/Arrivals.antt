@@ -1,4 +1,4 @@
--- What a port of a bridge makes of a frame that comes in.
+-- How a port of a bridge accepts a frame that comes in, or why it does not.
 use Rattle.std.specs.Prelude.{ℕ, ◌/◌, ◌%◌, ◌^◌, List, [], ◌∷◌, Option, Some, None, option_map, Result, Ok, Err, Bool, true, false, not, ◌&&◌, nat_eq, if◌then◌else◌}
 use Rattle.etherparse.specs.Ethernet2.{Ethernet2Value, ethernet2_view}
 use Rattle.etherparse.specs.Header.{Header}
@@ -10,30 +10,30 @@ use Rattle.ether_switch.specs.declared.arrival.Discarded.{Discarded}
 use Rattle.ether_switch.specs.declared.arrival.Discarded.TheVariants.{NoHeader, CutTag, ReservedIdentifier, Source, FrameType, NotAMember}
 use Rattle.ether_switch.specs.declared.arrival.Tagging.{Tagging}
 use Rattle.ether_switch.specs.declared.arrival.Tagging.TheVariants.{Untagged, PriorityTagged, VlanTagged}
-use Rattle.ether_switch.specs.declared.kind.BridgeKind.{BridgeKind}
+use Rattle.ether_switch.specs.declared.bridge_kind.BridgeKind.{BridgeKind}
 use Rattle.ether_switch.specs.declared.port.AcceptableFrames.{AcceptableFrames}
 use Rattle.ether_switch.specs.declared.port.AcceptableFrames.TheVariants.{All, OnlyVlanTagged, OnlyUntaggedAndPriorityTagged}
 use Rattle.ether_switch.specs.declared.port.PortConfig.{PortConfig}
-use Rattle.ether_switch.specs.Kinds.{tpid_of}
+use Rattle.ether_switch.specs.BridgeKinds.{tpid_of}
 use Rattle.ether_switch.specs.VlanSets.{has}
 
--- how a frame begins: its header, and its tag if it has one of the bridge
+-- the header of a frame, and the tag after it if that is of the bridge's kind
 pub record Front : Type 0 where
   pub link : Ethernet2Value
   pub tag : Option VlanValue
 
--- with a header that announces a tag
+-- the front of a frame whose header announces a tag
 abbrev pub tagged_front : Ethernet2Value → Option VlanValue → Result Front Discarded
 tagged_front e None = Err CutTag
 tagged_front e (Some tag) = Ok (record { link = e; tag = Some tag })
 
--- by its header, and a tag directly after it
+-- .. by its header, and a tag directly after it
 abbrev pub front_in : BridgeKind → Option Ethernet2Value → Option VlanValue → Result Front Discarded
 front_in kind None tag = Err NoHeader
 front_in kind (Some e) tag =
     if nat_eq e.ether_type (tpid_of kind) then tagged_front e tag else Ok (record { link = e; tag = None })
 
--- how a frame with these headers begins
+-- the front of a frame with these headers
 abbrev pub front_of : BridgeKind → List Header → Result Front Discarded
 front_of kind hs = front_in kind (first_ethernet2 hs) (outer_tag hs)
 
@@ -45,7 +45,7 @@ tagging_by (Some tag) = if nat_eq tag.vid 0 then PriorityTagged else VlanTagged
 abbrev pub tagging_of : Front → Tagging
 tagging_of f = tagging_by f.tag
 
--- whether a port takes such frames (IEEE 802.1Q, 6.9)
+-- whether a port accepts such frames (IEEE 802.1Q, 6.9)
 abbrev pub admits : AcceptableFrames → Tagging → Bool
 admits All t = true
 admits OnlyVlanTagged VlanTagged = true
@@ -53,7 +53,7 @@ admits OnlyVlanTagged t = false
 admits OnlyUntaggedAndPriorityTagged VlanTagged = false
 admits OnlyUntaggedAndPriorityTagged t = true
 
--- the VLAN: that of the tag, or else that of the port (IEEE 802.1Q, 6.9); 4095 is none (IEEE 802.1Q, table 9-2)
+-- the VLAN of the tag, or else that of the port (IEEE 802.1Q, 6.9); 4095 is not a VLAN (IEEE 802.1Q, table 9-2)
 abbrev pub vlan_by : (pvid : ℕ) → Option VlanValue → Option ℕ
 vlan_by pvid None = Some pvid
 vlan_by pvid (Some tag) =
@@ -62,7 +62,7 @@ vlan_by pvid (Some tag) =
 abbrev pub vlan_of : (pvid : ℕ) → Front → Option ℕ
 vlan_of pvid f = vlan_by pvid f.tag
 
--- the priority: that of the tag, or else that of the port
+-- the priority in the tag, or else that of the port
 abbrev pub priority_by : (default_priority : ℕ) → Option VlanValue → ℕ
 priority_by p None = p
 priority_by p (Some tag) = tag.pcp
@@ -70,7 +70,7 @@ priority_by p (Some tag) = tag.pcp
 abbrev pub priority_of : (default_priority : ℕ) → Front → ℕ
 priority_of p f = priority_by p f.tag
 
--- whether the frame may be dropped first
+-- whether the tag says that the frame may be dropped first
 abbrev pub drop_eligible_by : Option VlanValue → Bool
 drop_eligible_by None = false
 drop_eligible_by (Some tag) = nat_eq tag.dei 1
@@ -78,11 +78,11 @@ drop_eligible_by (Some tag) = nat_eq tag.dei 1
 abbrev pub is_drop_eligible : Front → Bool
 is_drop_eligible f = drop_eligible_by f.tag
 
--- whether the address is that of a group: the lowest bit of its first byte (IEEE 802.3, 3.2.3)
+-- whether the address is a group address: the lowest bit of its first byte is 1 (IEEE 802.3, 3.2.3)
 abbrev pub is_group : (address : ℕ) → Bool
 is_group address = nat_eq (address / 2 ^ 40 % 2) 1
 
--- whether it is one of a single station
+-- whether the address is that of a single station
 abbrev pub is_station : (address : ℕ) → Bool
 is_station address = not (is_group address) && not (nat_eq address 0)
 
@@ -91,7 +91,7 @@ abbrev pub first_reason : List (Bool × Discarded) → Option Discarded
 first_reason [] = None
 first_reason (row ∷ rows) = if row.0 then Some row.1 else first_reason rows
 
--- why a port refuses a frame of a VLAN (IEEE 802.1Q, 6.9 and 8.6.2)
+-- why a port refuses a frame of a VLAN, if it does (IEEE 802.1Q, 6.9 and 8.6.2)
 abbrev pub refusal : PortConfig → Front → (vid : ℕ) → Option Discarded
 refusal port f vid = first_reason (
     (not (is_station f.link.source), Source) ∷
@@ -99,7 +99,7 @@ refusal port f vid = first_reason (
     (port.ingress_filtering && not (has port.members vid), NotAMember) ∷
     [])
 
--- a frame that a port takes
+-- a frame of a VLAN as a port accepts it
 abbrev pub admitted : PortConfig → Front → (vid : ℕ) → Admitted
 admitted port f vid = record {
   vlan = vid;
@@ -121,7 +121,7 @@ abbrev pub arrival_by : PortConfig → Result Front Discarded → Result Admitte
 arrival_by port (Err reason) = Err reason
 arrival_by port (Ok f) = arrival_in port f (vlan_of port.pvid f)
 
--- what a port makes of a frame with these headers
+-- how a port accepts a frame with these headers, or why it does not
 abbrev pub arrival : BridgeKind → PortConfig → List Header → Result Admitted Discarded
 arrival kind port hs = arrival_by port (front_of kind hs)
 

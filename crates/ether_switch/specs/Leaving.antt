@@ -1,4 +1,4 @@
--- How a frame leaves a bridge.
+-- In which form a frame leaves a bridge.
 use Rattle.std.specs.Prelude.{◌≡◌, ℕ, List, drop, Option, Some, None, Result, Ok, Err, Bool, true, false, ◌&&◌, nat_eq, if◌then◌else◌, is_some, MatchBool}
 use Rattle.etherparse.specs.Bytes.{bit}
 use Rattle.etherparse.specs.Header.{Header}
@@ -15,30 +15,31 @@ use Rattle.ether_switch.specs.declared.received.Forwarding.{Forwarding}
 use Rattle.ether_switch.specs.declared.received.Forwarding.TheVariants.{Port, Discard, Flood}
 use Rattle.ether_switch.specs.declared.received.Received.{Received}
 use Rattle.ether_switch.specs.Arrivals.{Front}
-use Rattle.ether_switch.specs.Kinds.{tpid_of}
+use Rattle.ether_switch.specs.BridgeKinds.{tpid_of}
 use Rattle.ether_switch.specs.VlanSets.{has}
 
--- whether a frame that came from a port is to go to another by a decision
+-- whether a frame that came in by the port `from` leaves by the port `to`, by this decision
 abbrev pub includes : Forwarding → (from to : ℕ) → Bool
 includes (Port n) from to = nat_eq to n
 includes Discard from to = false
 includes Flood from to = if nat_eq to from then false else true
 
--- whether it leaves by a port: one that the decision includes, and a member of its VLAN (IEEE 802.1Q, 8.6.4)
+-- whether a frame leaves by a port: the decision includes the port, and it is a member of the frame's VLAN (IEEE
+-- 802.1Q, 8.6.4)
 abbrev pub goes_to : Received → (to : ℕ) → PortConfig → Bool
 goes_to r to port = includes r.decision r.from to && has port.members r.vlan
 
--- the tag of its VLAN
+-- the tag of a frame's VLAN
 abbrev pub own_tag : Received → VlanValue
 own_tag r = record { pcp = r.priority; dei = bit r.drop_eligible; vid = r.vlan; ether_type = 0 }
 
--- The frame with the tag of its VLAN: its own tag with this identifier, or one that is put in.
+-- The frame with the tag of its VLAN: with its own tag, which gets this identifier, or with a tag that is put in.
 abbrev pub HasTag : Received → Option VlanValue → (frame : List ℕ) (hs : List Header) (e : Ending) (sent : List ℕ) → Type 0
 HasTag r (Some tag) frame hs e sent = SetsTag (start_of starts.Ethernet2) frame hs e 0 (λ t. record t { vid = r.vlan }) sent
 HasTag r None frame hs e sent =
     (buffer : List ℕ) × (drop 4 buffer ≡ frame) × IsPushed (start_of starts.Ethernet2) buffer hs e (own_tag r) (tpid_of r.kind) sent
 
--- the frame without the tag
+-- the frame without its tag
 abbrev pub HasNoTag : Option VlanValue → (frame : List ℕ) (hs : List Header) (e : Ending) (sent : List ℕ) → Type 0
 HasNoTag (Some tag) frame hs e sent =
     (popped : VlanValue) × (moved : List ℕ) × IsPopped (start_of starts.Ethernet2) frame hs e popped moved × (sent ≡ drop 4 moved)
@@ -52,14 +53,15 @@ abbrev pub LeavesUntagged : Result Front Discarded → (frame : List ℕ) (hs : 
 LeavesUntagged (Ok f) frame hs e sent = HasNoTag f.tag frame hs e sent
 LeavesUntagged (Err reason) frame hs e sent = ⊥
 
--- How it leaves by a port: without a tag if its VLAN is in the port's untagged set (IEEE 802.1Q, 6.9 and 8.8.2), and with one else.
+-- How it leaves by a port: without a tag if its VLAN is in the port's untagged set (IEEE 802.1Q, 6.9 and 8.8.2), else
+-- with a tag.
 abbrev pub Leaves : Received → PortConfig → Result Front Discarded → (frame : List ℕ) (hs : List Header) (e : Ending) (sent : List ℕ) → Type 0
 Leaves r port front frame hs e sent =
     MatchBool (has port.untagged r.vlan) (LeavesUntagged front frame hs e sent) (LeavesTagged r front frame hs e sent)
 
 -- ---- how it is found
 
--- whether a frame that begins like this has a tag
+-- whether a frame with this front has a tag
 abbrev pub has_tag : Result Front Discarded → Option Bool
 has_tag (Ok f) = Some (is_some f.tag)
 has_tag (Err reason) = None

@@ -1,5 +1,5 @@
 pub mod VlanSets
-pub mod Kinds
+pub mod BridgeKinds
 pub mod Arrivals
 pub mod Learning
 pub mod Relaying

@@ -5,37 +5,37 @@ use Rattle.ether_switch.specs.declared.arrival.Admitted.{Admitted}
 use Rattle.ether_switch.specs.declared.arrival.Discarded.{Discarded}
 use Rattle.ether_switch.specs.declared.arrival.Discarded.TheVariants.{ReservedAddress}
 use Rattle.ether_switch.specs.declared.bridge.StaticEntry.{StaticEntry}
-use Rattle.ether_switch.specs.declared.kind.BridgeKind.{BridgeKind}
+use Rattle.ether_switch.specs.declared.bridge_kind.BridgeKind.{BridgeKind}
 use Rattle.ether_switch.specs.declared.received.Forwarding.{Forwarding}
 use Rattle.ether_switch.specs.declared.received.Forwarding.TheVariants.{Port, Discard, Flood}
 use Rattle.ether_switch.specs.declared.received.Received.{Received}
 use Rattle.ether_switch.specs.declared.stations.Sighting.{Sighting}
-use Rattle.ether_switch.specs.Kinds.{is_reserved}
+use Rattle.ether_switch.specs.BridgeKinds.{is_reserved}
 use Rattle.ether_switch.specs.Arrivals.{is_group}
 
--- a station: VLAN identifier, address 48 bits
+-- a station as one number: VLAN identifier, and address of 48 bits
 abbrev pub station : (vid address : ℕ) → ℕ
 station vid address = vid * 2 ^ 48 + address
 
--- what is learned from a frame that a port takes: when and by which port its source was seen
+-- what is learned from a frame that a port accepts: when and by which port its source was seen
 abbrev pub sighting : (now from : ℕ) → Admitted → Sighting
 sighting now from a = record { station = station a.vlan a.source; port = from; time = now }
 
--- the port of the first entry for an address in a VLAN, if there is an entry (IEEE 802.1Q, 8.8.1)
+-- the port of the first entry for an address in a VLAN; None if there is no entry (IEEE 802.1Q, 8.8.1)
 abbrev pub static_port : List StaticEntry → (vid address : ℕ) → Option (Option ℕ)
 static_port entries vid address =
     option_map (λ e. e.port) (find (λ e. nat_eq e.vlan vid && nat_eq (number e.address) address) entries)
 
--- where a frame from a port goes that is for a port: never back
+-- where a frame from one port goes whose destination is at another: never back
 abbrev pub toward : (from port : ℕ) → Forwarding
 toward from port = if nat_eq port from then Discard else Port port
 
--- by the port at which its destination is known to be, or else to all ports
+-- .. by the port at which its destination is known to be, or else to all other ports
 abbrev pub toward_known : (from : ℕ) → Option ℕ → Forwarding
 toward_known from None = Flood
 toward_known from (Some port) = toward from port
 
--- by its entry, if there is one; frames to a group go to all ports else
+-- .. by its static entry, if there is one; else frames to a group go to all other ports
 abbrev pub decided : (from address : ℕ) → (known : Option ℕ) → Option (Option ℕ) → Forwarding
 decided from address known (Some (Some port)) = toward from port
 decided from address known (Some None) = Discard
@@ -44,7 +44,7 @@ decided from address known None = if is_group address then Flood else toward_kno
 abbrev pub decision : List StaticEntry → (from vid address : ℕ) → (known : Option ℕ) → Forwarding
 decision entries from vid address known = decided from address known (static_port entries vid address)
 
--- a frame with a decision, unless its destination is reserved (IEEE 802.1Q, 8.6.3)
+-- what is returned for a frame with this decision: an error if its destination is reserved (IEEE 802.1Q, 8.6.3)
 abbrev pub relayed : BridgeKind → (from : ℕ) → Admitted → Forwarding → Result Received Discarded
 relayed kind from a d =
     if is_reserved kind a.destination then Err ReservedAddress else Ok (record {

@@ -1,4 +1,4 @@
--- What errors are written as.
+-- The texts of errors.
 use Rattle.std.specs.Prelude.{ℕ, List, ◌++◌, codes, decimal}
 use Rattle.ether_switch.specs.declared.arrival.Discarded.{Discarded}
 use Rattle.ether_switch.specs.declared.arrival.Discarded.TheVariants as reasons

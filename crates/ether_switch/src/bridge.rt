@@ -1,4 +1,4 @@
-//! Bridges.
+//! Bridges, which learn from frames and decide where each goes.
 ghost use Rattle.std.specs.Prelude.{◌≡◌, ◌≢◌, ◌<◌, ◌^◌, List, ◌∷◌, length, map, IfOk, IsErr, false};
 ghost use Rattle.etherparse.specs.Header.{Header};
 ghost use Rattle.ether_peel.specs.Grammar.Stack.{Ending, Walk};
@@ -16,25 +16,26 @@ use crate::{
     BridgeKind, Discarded, Forwarding, PortConfig, Received, StationBucket, StationTable, Vlan,
 };
 
-/// Where the frames to an address in a VLAN go, whatever the bridge learns (IEEE 802.1Q, 8.8.1).
+/// Where frames to an address in a VLAN go, whatever the bridge has learned (IEEE 802.1Q, 8.8.1).
 #[derive(Clone, Copy, PartialEq, Eq, Debug)]
 pub struct StaticEntry {
     /// The VLAN.
     pub vlan: Vlan,
-    /// The address, of a station or a group.
+    /// The address of a station or a group.
     pub address: [u8; 6],
-    /// The port that they leave by; `None` if they leave by none.
+    /// The port by which they leave; `None` if they are discarded.
     pub port: Option<u16>,
 }
 
-/// A bridge, but for its ports, and for what it learns.
+/// A bridge. Its ports, and what it has learned, are arguments of its calls.
 #[derive(Clone, Copy, Debug)]
 pub struct Bridge<'a> {
-    /// Which tags it has.
+    /// Which tags it reads and writes.
     pub kind: BridgeKind,
-    /// For how many seconds a station counts as being where it was seen last (IEEE 802.1Q, 8.8.3).
+    /// The number of seconds for which the bridge relies on a station's last sighting (IEEE 802.1Q, 8.8.3).
     pub ageing_time: u64,
-    /// Where the frames to some addresses go. The first entry for an address counts, and each frame costs a look at all.
+    /// Where the frames to some addresses go. The first entry for an address and VLAN counts. Each frame is compared
+    /// with the entries in turn.
     pub static_entries: &'a [StaticEntry],
 }
 
@@ -42,15 +43,19 @@ impl Bridge<'_> {
     /// The ageing time that the standard recommends: 300 seconds (IEEE 802.1Q, 8.8.3).
     pub const AGEING_TIME: u64 = 300;
 
-    /// Learns the source of a frame that came in by a port, and then returns what was received.
+    /// Learns the source of a frame that came in by a port, and decides where the frame goes.
     ///
-    /// `now` is the time in seconds, by a clock that does not go back, and `from` the number of the port, which no other has.
-    /// The frame begins with an Ethernet II header and has no frame check sequence. What follows its tag is not read.
+    /// `now` is the time in seconds, by a clock that does not go back. `from` is the number of the port; no other port
+    /// has it. The frame begins with an Ethernet II header and has no frame check sequence. What follows its tag is
+    /// not read.
     ///
-    /// The VLAN is that of the tag. It is the port's own ([`PortConfig::pvid`]) if there is no tag, or one that has a priority
-    /// alone. A tag of another kind of bridge, as 0x88A8 for one of customers, is payload. The frame goes to the port at which
-    /// its destination was seen last in this VLAN, if that was not longer ago than the ageing time; else, and if its
-    /// destination is a group, to all ports but its own. A static entry has precedence.
+    /// The frame's VLAN is that of its tag. Without a tag, or with a tag that has only a priority (identifier 0), it
+    /// is the port's own VLAN ([`PortConfig::pvid`]). A tag of another kind of bridge is payload, for example 0x88A8
+    /// for a customer bridge.
+    ///
+    /// A frame to a station goes to the port at which the station was seen last in this VLAN, if that was at most the
+    /// ageing time ago; if that is the port by which the frame came in, it goes nowhere. Any other frame goes to all
+    /// ports but the one by which it came in. A static entry has precedence.
     ///
     /// The source is learned even if the destination is reserved (IEEE 802.1Q, 8.7), but not with any other error.
     ///
@@ -100,14 +105,14 @@ impl Bridge<'_> {
         self.receive_in(table.buckets.as_mut_slice(), now, from, port, frame)
     }
 
-    /// As [`Bridge::receive`], with a table that is a slice of the caller's.
+    /// Does as [`Bridge::receive`], with a table that is a slice of the caller's.
     ///
-    /// Buckets that are 0 throughout, as [`StationBucket::EMPTY`], know no station. Nothing is said of buckets that something else
-    /// wrote to.
+    /// Buckets of zeros, such as [`StationBucket::EMPTY`], know no station. Nothing is claimed of buckets that
+    /// something else than a bridge has written.
     ///
     /// # Errors
     ///
-    /// As [`Bridge::receive`].
+    /// Those of [`Bridge::receive`].
     ///
     /// # Examples
     ///
@@ -157,7 +162,7 @@ impl Bridge<'_> {
         relay(self.kind, from, &frame, self.decide(from, &frame, known))
     }
 
-    /// Where a frame goes, by the port at which its destination is known to be.
+    /// Where a frame goes. `known` is the port at which its destination is known to be.
     fn decide(&self, from: u16, frame: &Admitted, known: Option<u16>) -> Forwarding
         ensures value { result ≡ decision self.now.static_entries.now from frame.now.vlan
             frame.now.destination known }
@@ -179,7 +184,7 @@ impl Bridge<'_> {
     }
 }
 
-/// The port of the first entry for an address in a VLAN, if there is an entry.
+/// The port of the first entry for an address in a VLAN; `None` if there is no entry.
 fn static_port(entries: &[StaticEntry], vlan: Vlan, address: u64) -> Option<Option<u16>>
     ensures { result ≡ static_port_of entries.now vlan address }
 {
@@ -189,7 +194,7 @@ fn static_port(entries: &[StaticEntry], vlan: Vlan, address: u64) -> Option<Opti
         .map(|entry| entry.port)
 }
 
-/// Where a frame goes that is for a port.
+/// Where a frame from one port goes whose destination is at another: never back.
 fn toward(from: u16, port: u16) -> Forwarding
     ensures value { result ≡ toward_of from port }
     ensures never_back { includes result from from ≡ false }
@@ -201,7 +206,7 @@ fn toward(from: u16, port: u16) -> Forwarding
     }
 }
 
-/// The answer for a frame with a decision, which is not followed if its destination is reserved.
+/// What is returned for a frame with this decision: an error if its destination is reserved.
 fn relay(
     kind: BridgeKind,
     from: u16,
@@ -224,7 +229,7 @@ fn relay(
     })
 }
 
-/// An address in a VLAN, as one number.
+/// A station, an address in a VLAN, as one number.
 fn station(vlan: Vlan, address: u64) -> u64
     requires { address < 2 ^ 48 }
     ensures value { result ≡ station_of vlan address }

@@ -1,7 +1,7 @@
 //! The forwarding of a bridge with VLANs (IEEE 802.1Q, in the edition of 2018). No call allocates memory.
 //!
-//! A [`Bridge`] receives a frame by a port: it learns where the frame's source is, in a [`StationTable`], and decides where the
-//! frame goes. The frame then leaves by each of these ports, made ready in place: [`Received::send`].
+//! A [`Bridge`] receives a frame by a port: it learns the port of the frame's source in a [`StationTable`], and
+//! decides where the frame goes. [`Received::send`] makes the frame ready, in place, for each port by which it leaves.
 //!
 //! ```
 //! let vlan = Vlan::try_new(10)?;
@@ -28,14 +28,14 @@
 //! }
 //! ```
 //!
-//! Left out are spanning trees (the caller passes no frames of a port that is blocked), the registration of VLANs and groups
-//! (frames to a group go to all members of the VLAN), shared learning (each VLAN learns for itself), and tables that map
-//! priorities.
+//! These parts of the standard are left out: spanning trees (the caller must not pass frames of a blocked port), the
+//! registration of VLANs and groups (frames to a group go to all members of the VLAN), shared learning (each VLAN
+//! learns for itself), and tables that map priorities.
 #![tactic(auto)]
 
 mod arrival;
 mod bridge;
-mod kind;
+mod bridge_kind;
 pub mod laws;
 mod port;
 mod received;
@@ -46,7 +46,7 @@ mod vlan_set;
 
 pub use arrival::Discarded;
 pub use bridge::{Bridge, StaticEntry};
-pub use kind::BridgeKind;
+pub use bridge_kind::BridgeKind;
 pub use port::{AcceptableFrames, PortConfig};
 pub use received::{Forwarding, Received};
 pub use stations::{Sighting, StationBucket, StationTable};

@@ -1,40 +1,41 @@
-//! How the ports of a bridge are set up.
+//! The configuration of a bridge's ports.
 ghost use Rattle.std.specs.Prelude.{◌≡◌, ◌<◌, ◌≤◌, ℕ, true, false, nat_eq};
 ghost use Rattle.ether_switch.specs.VlanSets.{has};
 
 use crate::{Vlan, VlanSet};
 use etherparse::VlanPcp;
 
-/// Which frames a port takes (IEEE 802.1Q, 6.9).
+/// Which frames a port accepts (IEEE 802.1Q, 6.9).
 #[derive(Clone, Copy, PartialEq, Eq, Debug)]
 pub enum AcceptableFrames {
-    /// All.
+    /// All frames.
     All,
-    /// Those with a tag that names a VLAN.
+    /// Frames with a tag that names a VLAN.
     OnlyVlanTagged,
-    /// Those without a tag, and those with a tag whose identifier is 0.
+    /// Frames without a tag, and frames with a tag whose identifier is 0.
     OnlyUntaggedAndPriorityTagged,
 }
 
-/// How a port of a bridge is set up.
+/// The configuration of a bridge's port.
 #[derive(Clone, Copy, Debug)]
 pub struct PortConfig {
-    /// The VLAN of a frame that comes without a tag, or with one that has a priority alone (PVID).
+    /// The VLAN of a frame that comes in without a tag, or with a tag that has only a priority (PVID).
     pub pvid: Vlan,
     /// The VLANs whose frames leave by the port (IEEE 802.1Q, 8.8).
     pub members: VlanSet,
-    /// Those whose frames leave without a tag (IEEE 802.1Q, 8.8.2).
+    /// The VLANs whose frames leave without a tag (IEEE 802.1Q, 8.8.2).
     pub untagged: VlanSet,
-    /// Which frames it takes.
+    /// Which frames it accepts.
     pub frame_types: AcceptableFrames,
-    /// Whether it discards frames of a VLAN that it is not a member of (IEEE 802.1Q, 8.6.2).
+    /// Whether it discards incoming frames of VLANs that it is not a member of (IEEE 802.1Q, 8.6.2).
     pub ingress_filtering: bool,
-    /// The priority of a frame that comes without a tag (IEEE 802.1Q, 12.6).
+    /// The priority of a frame that comes in without a tag (IEEE 802.1Q, 12.6).
     pub default_priority: VlanPcp,
 }
 
 impl PortConfig {
-    /// A port for stations of one VLAN, whose frames have no tag, or one that has a priority alone.
+    /// A port for stations of one VLAN. It accepts frames without a tag, or with a tag that has only a priority, and
+    /// sends frames without a tag.
     ///
     /// ```
     /// let vlan = Vlan::try_new(10)?;
@@ -60,7 +61,7 @@ impl PortConfig {
         }
     }
 
-    /// A port to another bridge: a member of all VLANs, whose frames have the tag of their VLAN.
+    /// A port to another bridge: a member of all VLANs, whose frames leave with the tag of their VLAN.
     ///
     /// ```
     /// let vlan = Vlan::try_new(10)?;
@@ -95,7 +96,7 @@ fn only(vlan: Vlan) -> VlanSet
     set
 }
 
-/// The VLAN that ports have at first (IEEE 802.1Q, table 9-2).
+/// The initial VLAN of ports (IEEE 802.1Q, table 9-2).
 fn default_pvid() -> Vlan
     ensures { result ≡ 1 }
 {

@@ -1,4 +1,4 @@
-//! Frames that get a tag, another one, or lose it.
+//! Puts tags into frames, changes them, and takes them off.
 ghost use Rattle.std.specs.Prelude.{◌≡◌, ◌≤◌, List, length, drop, None, IfOk, OnErr};
 ghost use Rattle.etherparse.specs.Header.{Header};
 ghost use Rattle.etherparse.specs.Vlan.{vlan_view};
@@ -8,7 +8,7 @@ ghost use Rattle.ether_packet.specs.Front.{link_type, outer_tag};
 ghost use Rattle.ether_packet.specs.Setting.{SetsTag};
 ghost use Rattle.ether_packet.specs.Popping.{IsPopped};
 ghost use Rattle.ether_packet.specs.Pushing.{IsPushed};
-ghost use Rattle.ether_switch.specs.Kinds.{tpid_of};
+ghost use Rattle.ether_switch.specs.BridgeKinds.{tpid_of};
 ghost use Rattle.ether_switch.specs.Leaving.{own_tag};
 
 use crate::{Received, Vlan};
@@ -16,7 +16,8 @@ use ether_packet::{TagError, pop_vlan, push_vlan, set_vlan_id};
 use ether_peel::Start;
 use etherparse::{EtherType, SingleVlanHeader};
 
-/// Puts the tag of its VLAN into a frame without one, after four free bytes of a buffer. It begins at 0 then.
+/// Puts the tag of its VLAN into a frame without a tag, after four free bytes of a buffer. The frame then begins at
+/// index 0.
 pub(crate) fn tag(frame: &Received, buffer: &mut [u8]) -> Result<(), TagError>
     requires { 4 ≤ length buffer.old }
     ensures ok { IfOk result (λ _. (hs : List Header) (e : Ending)
@@ -50,7 +51,7 @@ pub(crate) fn rename(vlan: Vlan, buffer: &mut [u8]) -> Result<(), TagError>
     set_vlan_id(Start::Ethernet2, frame, 0, vlan.id())
 }
 
-/// Takes the tag off a frame, after four bytes of a buffer. It begins at 8 then.
+/// Takes the tag off a frame, after four bytes of a buffer. The frame then begins at index 8.
 pub(crate) fn untag(buffer: &mut [u8]) -> Result<SingleVlanHeader, TagError>
     requires { 4 ≤ length buffer.old }
     ensures ok { IfOk result (λ tag. (hs : List Header) (e : Ending)

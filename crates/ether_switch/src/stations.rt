@@ -5,31 +5,31 @@ ghost use Rattle.ether_switch.specs.Learning.{Knows, place_of, places, sightings
 use arrayvec::ArrayVec;
 use std::marker::Model;
 
-/// A frame of a station, by when and by which port it came.
+/// A frame of a station: when it came in, and by which port.
 ///
 /// Each bit pattern is a value.
 #[repr(C)]
 #[derive(Clone, Copy, Debug, Default)]
 pub struct Sighting {
-    /// The identifier of the VLAN, 1 to 4094, times 2^48, plus the address, a number of 48 bits. 0 is no station.
+    /// The VLAN identifier, 1 to 4094, times 2^48, plus the address, a number of 48 bits. 0 is not a station.
     pub station: u64,
-    /// The time, as the caller gave it.
+    /// The time in seconds, as the caller gave it.
     pub time: u64,
-    /// The port.
+    /// The number of the port.
     pub port: u16,
 }
 
-/// The newest sightings of up to four stations, the newest first; in a place that is free the station is 0.
+/// The last sightings of up to four stations, the newest first. In a free place the station is 0.
 ///
-/// Each bit pattern is a value, so a table may be any memory that is 0 at first.
+/// Each bit pattern is a value, so a table can be any memory that is initially 0.
 #[repr(C)]
 #[derive(Clone, Copy, Debug, Default)]
 pub struct StationBucket {
     /// The newest one.
     pub first: Sighting,
-    /// The one before.
+    /// The second newest.
     pub second: Sighting,
-    /// The third.
+    /// The third newest.
     pub third: Sighting,
     /// The oldest one.
     pub fourth: Sighting,
@@ -37,10 +37,12 @@ pub struct StationBucket {
 
 /// The stations that a bridge has learned (IEEE 802.1Q, 8.7 and 8.8.3).
 ///
-/// A station is an address in a VLAN, so the same address in two VLANs is two stations. They are held in `BUCKETS` buckets of four:
-/// in a full bucket the station that was seen last the longest ago leaves. A frame costs a look at two buckets, however many
-/// there are. With none, nothing is learned. Who sends from many addresses of one bucket makes the bridge forget the others in
-/// it: their frames then go to all members of their VLAN, and no further.
+/// A station is an address in a VLAN, so one address in two VLANs is two stations. The table has `BUCKETS` buckets
+/// with places for four stations each. If a bucket is full, a new station replaces the one that was seen least
+/// recently. Each frame costs a look at two buckets, however many there are. With no buckets, nothing is learned.
+///
+/// A sender that uses many addresses of one bucket makes the bridge forget the other stations in it. Frames to these
+/// stations then go to all members of their VLAN, and no further.
 ///
 /// ```
 /// let mut table = StationTable::<1024>::new();
@@ -61,7 +63,7 @@ impl<const BUCKETS: usize> Model for StationTable<BUCKETS> {
 }
 
 impl StationBucket {
-    /// A bucket of no station.
+    /// A bucket without stations.
     pub const EMPTY: StationBucket = StationBucket {
         first: Sighting::NONE,
         second: Sighting::NONE,
@@ -71,7 +73,7 @@ impl StationBucket {
 }
 
 impl Sighting {
-    /// No sighting.
+    /// A free place.
     const NONE: Sighting = Sighting {
         station: 0,
         time: 0,
@@ -103,7 +105,7 @@ impl<const BUCKETS: usize> Default for StationTable<BUCKETS> {
     }
 }
 
-/// Which of so many buckets holds a station.
+/// The index of the bucket, of this many, that holds a station.
 fn place(station: u64, buckets: usize) -> usize
     requires { 0 < buckets }
     ensures value { result ≡ place_of buckets station }
@@ -114,7 +116,7 @@ fn place(station: u64, buckets: usize) -> usize
     ((vlan + address) % buckets as u64) as usize
 }
 
-/// Learns from a sighting of a station.
+/// Learns a sighting.
 pub(crate) fn learn_in(buckets: &mut [StationBucket], sighting: Sighting)
     requires { sighting.station ≢ 0 }
     ensures { (history : List _) → Knows (length buckets.old) (map sightings_in buckets.old) history
@@ -127,7 +129,7 @@ pub(crate) fn learn_in(buckets: &mut [StationBucket], sighting: Sighting)
     buckets[at] = seen(&buckets[at], sighting);
 }
 
-/// A bucket with a sighting of a station first, in place of an older one.
+/// The bucket with this sighting as its newest, without older ones of the same station.
 fn seen(bucket: &StationBucket, sighting: Sighting) -> StationBucket
     requires { sighting.station ≢ 0 }
     ensures { sightings_in result ≡ with_newest sighting (sightings_in bucket.now) }
@@ -169,7 +171,7 @@ fn seen(bucket: &StationBucket, sighting: Sighting) -> StationBucket
     }
 }
 
-/// A sighting of another station; a free place if it is one of this station.
+/// The sighting, or a free place if it is one of this station.
 fn other(sighting: Sighting, station: u64) -> Sighting
     ensures { result ≡ unless_of station sighting }
 {
@@ -180,7 +182,7 @@ fn other(sighting: Sighting, station: u64) -> Sighting
     }
 }
 
-/// The port of a station, if it was seen not longer ago than the ageing time.
+/// The port at which a station was seen last, if that was at most the ageing time ago.
 pub(crate) fn port_in(
     buckets: &[StationBucket],
     station: u64,
@@ -220,7 +222,7 @@ fn sighting_of(bucket: &StationBucket, station: u64) -> Option<Sighting>
     None
 }
 
-/// The port of a sighting, if it is not older than the ageing time.
+/// The port of a sighting, if that was at most the ageing time ago.
 fn port_now(sighting: Sighting, now: u64, ageing_time: u64) -> Option<u16>
     ensures { result ≡ port_at ageing_time now sighting }
 {

@@ -1,4 +1,4 @@
-//! VLANs.
+//! VLANs, by their identifiers.
 ghost use Rattle.std.specs.Prelude.{◌≡◌, ◌≤◌, ◌↔◌, IsOk, IfOk, IfErr};
 
 use etherparse::VlanId;
@@ -8,7 +8,7 @@ use std::marker::Model;
 
 /// A VLAN, by its identifier: 1 to 4094.
 ///
-/// In a tag, 0 says that there is a priority and no VLAN, and 4095 is reserved (IEEE 802.1Q, table 9-2).
+/// In a tag, the identifier 0 means that the tag has only a priority, and 4095 is reserved (IEEE 802.1Q, table 9-2).
 ///
 /// ```
 /// let vlan = Vlan::try_new(4094)?;
@@ -19,7 +19,7 @@ use std::marker::Model;
 #[derive(Clone, Copy, PartialEq, Eq, PartialOrd, Ord, Hash, Debug)]
 pub struct Vlan(VlanId);
 
-/// This number is not the identifier of a VLAN: it is not from 1 to 4094.
+/// This number is not the identifier of a VLAN, which is from 1 to 4094.
 #[derive(Clone, Copy, PartialEq, Eq, Debug)]
 pub struct VlanError(pub u16);
 
@@ -36,11 +36,11 @@ impl Model for Vlan {
 }
 
 impl Vlan {
-    /// The VLAN with an identifier.
+    /// The VLAN with this identifier.
     ///
     /// # Errors
     ///
-    /// The number, if it is not the identifier of a VLAN.
+    /// [`VlanError`] with the number, if it is not from 1 to 4094.
     pub fn try_new(id: u16) -> Result<Vlan, VlanError>
         ensures variant { IsOk result ↔ ((1 ≤ id) × (id ≤ 4094)) }
         ensures ok { IfOk result (λ vlan. vlan ≡ id) }

@@ -3,7 +3,8 @@ ghost use Rattle.std.specs.Prelude.{◌≡◌, ◌≤◌, ◌<◌, ℕ, true, fa
 
 use crate::Vlan;
 
-/// A set of VLANs: that with the identifier `i` is in it if bit `i % 64` of the number `i / 64` is 1, the lowest bit being 0.
+/// A set of VLANs. The VLAN with the identifier `i` is in the set if bit `i % 64` of the word `i / 64` is 1, where bit
+/// 0 is the lowest.
 ///
 /// ```
 /// let (first, second) = (Vlan::try_new(1)?, Vlan::try_new(2)?);
@@ -20,14 +21,14 @@ pub struct VlanSet {
 impl VlanSet {
     ghost use Rattle.ether_switch.specs.VlanSets.{has};
 
-    /// No VLAN.
+    /// The empty set.
     pub fn new() -> VlanSet
         ensures { (v : ℕ) → v < 4096 → has result v ≡ false }
     {
         VlanSet { words: [0; 64] }
     }
 
-    /// All VLANs.
+    /// The set of all VLANs.
     pub fn all() -> VlanSet
         ensures { (v : ℕ) → 1 ≤ v → v ≤ 4094 → has result v ≡ true }
     {
@@ -48,7 +49,7 @@ impl VlanSet {
         (self.words[id as usize / 64] >> (id % 64)) & 1 == 1
     }
 
-    /// Puts a VLAN in.
+    /// Adds a VLAN to the set.
     pub fn insert(&mut self, vlan: Vlan)
         ensures { (v : ℕ) → v < 4096 → has self.new v ≡ (nat_eq v vlan || has self.old v) }
     {
@@ -56,7 +57,7 @@ impl VlanSet {
         self.words[id as usize / 64] |= 1 << (id % 64);
     }
 
-    /// Takes a VLAN out.
+    /// Removes a VLAN from the set.
     pub fn remove(&mut self, vlan: Vlan)
         ensures { (v : ℕ) → v < 4096 → has self.new v ≡ (not (nat_eq v vlan) && has self.old v) }
     {

@@ -8,7 +8,7 @@ use etherparse::VlanPcp;
 use std::process::Abort;
 use std::test::Fail;
 
-/// A bridge of customers.
+/// A customer bridge.
 fn bridge() -> Bridge<'static> {
     Bridge {
         kind: BridgeKind::Customer,
@@ -17,7 +17,7 @@ fn bridge() -> Bridge<'static> {
     }
 }
 
-/// Fails if a frame goes elsewhere.
+/// Fails if the frame goes elsewhere.
 fn check<R: Abort>(rt: &R, name: &str, found: Result<Received, Discarded>, wanted: Forwarding) {
     match found {
         Ok(received) => equal!(rt, name; received.decision => wanted),

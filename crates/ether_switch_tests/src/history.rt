@@ -1,10 +1,10 @@
-//! What a bridge makes of frames one after the other.
+//! Where a bridge sends frames that come in one after the other.
 use crate::checks::equal;
 use ether_switch::{Bridge, BridgeKind, Forwarding, PortConfig, StaticEntry, StationTable, Vlan};
 use std::process::Abort;
 use std::test::Fail;
 
-/// A frame of one station to another, by the last bytes of their addresses.
+/// A frame from one station to another, by the last bytes of their addresses.
 struct Row {
     name: &'static str,
     now: u64,

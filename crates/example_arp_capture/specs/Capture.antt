@@ -5,15 +5,15 @@ use Rattle.ether_pcap.specs.FileHeader.{FileHeaderValue, Nanoseconds}
 use Rattle.ether_pcap.specs.Capture.{PacketValue, time_of, Beginning, HasPackets}
 use Rattle.example_frames.specs.Request.{IsRequest}
 
--- times in nanoseconds, no packet cut below 256 KiB, Ethernet (1), no length of a check sequence
+-- times in nanoseconds, a snap length of 256 KiB, Ethernet (1), and no length of a check sequence
 abbrev pub header_of_capture : FileHeaderValue
 header_of_capture = record { order = LittleEndian; resolution = Nanoseconds; snap_len = 262144; link_type = 1; fcs_len = None }
 
--- on Ethernet (1), without a check sequence, not cut
+-- a packet of Ethernet, without a check sequence, and not cut
 abbrev pub packet_at : (seconds : ℕ) → List ℕ → PacketValue
 packet_at seconds frame = record { time = Some (time_of (seconds * 10 ^ 9)); interface = None; original_len = 46; link_type = 1; snap_len = 262144; fcs_len = None; packet = frame }
 
--- The file has exactly one packet, which is the request, and nothing else, for a reader of as many interfaces as you like.
+-- The file has exactly one packet, the request, and nothing else, whatever number of interfaces a reader has room for.
 pub record IsCaptureOfRequest (seconds vlan_id : ℕ) (mac ipv4 target bytes : List ℕ) : Type 0 where
   pub frame : List ℕ
   pub request : IsRequest vlan_id mac ipv4 target frame

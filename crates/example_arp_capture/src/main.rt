@@ -1,4 +1,5 @@
-//! Writes a capture with an ARP request to standard output, as an example of a program over `ether_packet` and `ether_pcap`.
+//! Writes a capture with an ARP request to standard output, as an example of a program over `ether_packet` and
+//! `ether_pcap`.
 #![tactic(auto)]
 
 ghost use Rattle.std.specs.Prelude.{◌++◌};
@@ -12,7 +13,7 @@ use example_frames::arp_generator::{REQUEST_LEN, write_arp_request};
 use std::io;
 use std::io::Write;
 
-/// A capture file with one packet, an ARP request in a VLAN: its parts in order.
+/// A capture file with one packet, an ARP request in a VLAN. Its parts are in the order of the file.
 #[derive(Clone, Copy)]
 pub struct RequestCapture {
     /// The header of the file.
@@ -23,7 +24,7 @@ pub struct RequestCapture {
     pub frame: [u8; 46],
 }
 
-/// A capture of an ARP request, at a time in seconds since the beginning of 1970, UTC.
+/// A capture of an ARP request at a time, in seconds since the beginning of 1970, UTC.
 pub fn request_capture(
     seconds: u32,
     vlan_id: VlanId,

@@ -15,11 +15,11 @@ pub const REQUEST_LEN: usize = 46;
 /// Writes an ARP request in a VLAN to the front of a target, and returns its length, [`REQUEST_LEN`].
 ///
 /// The request asks all stations of the VLAN which one has the address `target_ipv4`. The VLAN tag has priority 0. The
-/// bytes after the request stay as they were.
+/// bytes after the request are unchanged.
 ///
 /// # Errors
 ///
-/// If the target is shorter than [`REQUEST_LEN`], which then stays as it was.
+/// The target is shorter than [`REQUEST_LEN`]. It is then unchanged.
 ///
 /// # Examples
 ///

@@ -1,4 +1,5 @@
-//! A filter, a test of snap lengths and a generator, as examples of functions over `ether_packet`. No call allocates memory.
+//! A filter by VLAN, a test of snap lengths and a generator of ARP requests: examples of functions over
+//! `ether_packet`. No call allocates memory.
 #![tactic(auto)]
 
 pub mod arp_generator;

@@ -10,13 +10,13 @@ use ether_packet::PacketSlice;
 use ether_peel::{RestKind, Start};
 use etherparse::{EtherType, VlanId};
 
-/// Returns `true` if a frame belongs to one of some VLANs and holds IPv4 or ARP.
+/// Returns `true` if a frame is in one of some VLANs and has IPv4 or ARP.
 ///
-/// The frame begins with an Ethernet II header and has no frame check sequence. It belongs to the VLAN of its outermost
-/// VLAN tag; a frame without a VLAN tag belongs to none. SecTags are passed over, and so are further VLAN tags: what
-/// counts is the ether type after the last one. An ARP packet counts even if it is cut short.
+/// The frame begins with an Ethernet II header and has no frame check sequence. It is in the VLAN of its outermost
+/// VLAN tag; a frame without a VLAN tag is in none. SecTags and further VLAN tags are skipped: the ether type after
+/// the last one counts. An ARP packet counts even if it is cut short.
 ///
-/// No more than three VLAN tags and SecTags are read, as by [`PacketSlice::from_slice`].
+/// At most three VLAN tags and SecTags are read, as by [`PacketSlice::from_slice`].
 ///
 /// # Examples
 ///
@@ -49,7 +49,7 @@ fn is_in_vlans(packet: &PacketSlice<'_>, vlan_ids: &[VlanId]) -> bool
     }
 }
 
-/// Whether what is left is IPv4, an ARP packet that is cut short, or what follows an ARP packet.
+/// Whether the rest is IPv4, an ARP packet that is cut short, or what follows an ARP packet.
 fn is_ipv4_or_arp(kind: &RestKind) -> bool
     ensures { IsTrue result ↔ IsIpv4OrArp kind.now }
 {

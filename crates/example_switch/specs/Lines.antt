@@ -13,18 +13,19 @@ use Rattle.ether_switch.specs.Leaving.{goes_to, Leaves}
 abbrev pub line_of : (number : ℕ) (frame : List ℕ) → List ℕ
 line_of number frame = decimal number ++ (codes " " ++ (encode_lower frame ++ codes "\n"))
 
--- whether a frame with these headers leaves by a port: it goes there, and is not cut short
+-- whether a frame with these headers leaves by a port: it goes there, and neither its header nor its tag is cut short
 abbrev pub leaves_by : Received → (number : ℕ) → PortConfig → List Header → Bool
 leaves_by r number port hs = goes_to r number port && is_ok (front_of r.kind hs)
 
--- What is written for a port, of a frame that was received: its line with the frame as it leaves, if it does, and else nothing.
+-- What is written for a port and a frame that was received: a line with the bytes that leave, if the frame leaves by
+-- the port, else nothing.
 pub data HasLine (r : Received) (number : ℕ) (port : PortConfig) (frame : List ℕ) (hs : List Header) (e : Ending)
     : (text : List ℕ) → Type 0 where
   sent : (leaving : List ℕ) → leaves_by r number port hs ≡ true → Leaves r port (front_of r.kind hs) frame hs e leaving
       → HasLine r number port frame hs e (line_of number leaving)
   passed : leaves_by r number port hs ≡ false → HasLine r number port frame hs e []
 
--- .. and for these ports, numbered from `number` on, in their order
+-- .. for these ports in their order, numbered from `number` on
 pub data HasLines (r : Received) (frame : List ℕ) (hs : List Header) (e : Ending)
     : (number : ℕ) → List PortConfig → (text : List ℕ) → Type 0 where
   none : (number : ℕ) → HasLines r frame hs e number [] []
@@ -33,7 +34,7 @@ pub data HasLines (r : Received) (frame : List ℕ) (hs : List Header) (e : Endi
       → HasLines r frame hs e (number + 1) ports later
       → HasLines r frame hs e number (port ∷ ports) (text ++ later)
 
--- .. by the answer of a bridge: nothing of a frame that it discards
+-- .. by what a bridge returns: nothing for a discarded frame
 abbrev pub Answers : Result Received Discarded → (frame : List ℕ) (hs : List Header) (e : Ending) → List PortConfig
     → (text : List ℕ) → Type 0
 Answers (Ok r) frame hs e ports text = HasLines r frame hs e 1 ports text

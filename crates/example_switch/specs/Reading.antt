@@ -5,13 +5,13 @@ use Rattle.ether_content.specs.Content.{without_fcs}
 use Rattle.ether_switch.specs.declared.port.PortConfig.{PortConfig}
 use Rattle.example_switch.specs.declared.reading.Arrival.{Arrival}
 
--- the seconds of a time; 0 without one
+-- the seconds of a time; 0 if there is no time
 abbrev pub seconds_of : Option TimeValue → ℕ
 seconds_of None = 0
 seconds_of (Some t) = t.seconds
 
--- An Ethernet frame comes from the port that its interface is: ports are numbered from 1 on, and interfaces from 0 on. A classic file has
--- the first interface alone.
+-- An Ethernet frame comes in by the port of its interface. Ports are numbered from 1 on, and interfaces from 0 on. All
+-- packets of a classic file belong to the first interface.
 pub record IsReceived (ports : List PortConfig) (p : PacketValue) (a : Arrival) (bytes : List ℕ) : Type 0 where
   pub link : p.link_type ≡ 1
   pub time : a.time ≡ seconds_of p.time

@@ -1,4 +1,4 @@
-//! The lines for a frame.
+//! Writes the lines for a frame.
 ghost use Rattle.std.specs.Prelude.{◌≡◌, ◌+◌, ◌^◌, ◌<◌, List, ◌∷◌, drop, length, IfOk, string_bytes};
 ghost use Rattle.etherparse.specs.Header.{Header};
 ghost use Rattle.ether_peel.specs.Grammar.Stack.{Ending, Walk};
@@ -12,10 +12,10 @@ use crate::reading::Arrival;
 use ether_switch::{Bridge, PortConfig, Received, StationTable};
 use std::alloc::{AllocError, Global};
 
-/// How many buckets of stations the switch has.
+/// The number of buckets in the switch's table of stations.
 pub(crate) const BUCKETS: usize = 256;
 
-/// Passes a frame through a bridge, and returns the lines for the ports that it leaves by.
+/// Passes a frame through a bridge, and returns a line for each port by which it leaves.
 pub(crate) fn frame_lines(
     alloc: Global,
     bridge: &Bridge,
@@ -43,7 +43,7 @@ pub(crate) fn frame_lines(
     }
 }
 
-/// The lines for a frame that was received, for each port that it goes to.
+/// The lines for a frame that was received, one for each port by which it leaves.
 fn received_lines(
     alloc: Global,
     received: &Received,
@@ -63,7 +63,7 @@ fn received_lines(
     Ok(text)
 }
 
-/// The line for a frame and a port, if it goes there, and else nothing.
+/// The line for a frame and a port; empty if the frame does not leave by that port.
 fn line_to(
     alloc: Global,
     received: &Received,
@@ -80,7 +80,7 @@ fn line_to(
     send_line(alloc, received, to, port, buffer.as_mut_slice())
 }
 
-/// The same for the frame after four bytes of a buffer.
+/// Does as `line_to` with the frame after four free bytes of a buffer.
 fn send_line(
     alloc: Global,
     received: &Received,
@@ -98,7 +98,7 @@ fn send_line(
     }
 }
 
-/// The bytes of a buffer from a place on.
+/// The bytes of a buffer from the index `at` on.
 fn rest_from(buffer: &[u8], at: usize) -> &[u8]
     ensures { result.now ≡ drop at buffer.now }
 {

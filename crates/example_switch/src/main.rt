@@ -1,9 +1,9 @@
 //! A switch over a capture, as an example of a program over `ether_switch`.
 //!
-//! Each argument is a port, and the ports are numbered from 1 on: `trunk`, or the identifier of the VLAN of an access port.
-//! Standard input is a capture, pcap or pcapng: a frame of its first interface comes from port 1, and so on, and its time is that
-//! of the packet. For each port that a frame goes to a line is written: the number of the port, a space, and the frame as it
-//! leaves, in hexadecimal digits.
+//! Each argument is a port: `trunk`, or the identifier of the VLAN of an access port. Ports are numbered from 1 on.
+//! Standard input is a capture, pcap or pcapng. A frame of its first interface comes in by port 1, one of the second
+//! interface by port 2, and so on, at the time of the packet. For each port by which the frame leaves, a line is
+//! written: the number of the port, a space, and the bytes that leave, in hexadecimal digits.
 #![tactic(auto)]
 
 mod arguments;

@@ -1,8 +1,8 @@
 //! A rewriter of VLAN identifiers over a capture, as an example of a program over `ether_packet`.
 //!
-//! The arguments are two VLAN identifiers. Standard input is a capture, pcap or pcapng. Each of its frames is written as a line
-//! of hexadecimal digits, in which the outermost VLAN tag with the first identifier has the second one. A packet that the
-//! walk does not know is passed over.
+//! The arguments are two VLAN identifiers. Standard input is a capture, pcap or pcapng. Each of its frames is written
+//! as a line of hexadecimal digits, in which the outermost VLAN tag that had the first identifier has the second one.
+//! A packet of which nothing is walked is skipped.
 #![tactic(auto)]
 
 mod rewriting;

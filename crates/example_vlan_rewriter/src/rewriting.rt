@@ -1,4 +1,4 @@
-//! The identifiers that the arguments name, and the line for a frame.
+//! Reads the arguments, and rewrites a frame as a line.
 ghost use Rattle.std.specs.Prelude.{◌≡◌, IfOk, string_bytes};
 ghost use Rattle.example_vlan_rewriter.specs.Lines.{line_of, HasLine};
 
@@ -8,12 +8,12 @@ use etherparse::VlanId;
 use std::alloc::{AllocError, Global};
 use thiserror::Error;
 
-/// Why the program does not begin: the arguments are others.
+/// The arguments are not two VLAN identifiers.
 #[derive(Debug, Drop, Error)]
 #[error("the arguments are two VLAN identifiers")]
 pub(crate) struct ArgumentsError;
 
-/// The VLAN identifier that an argument names.
+/// The VLAN identifier in an argument.
 pub(crate) fn vlan_id_of(argument: Option<String>) -> Result<VlanId, ArgumentsError> {
     let Some(argument) = argument else {
         return Err(ArgumentsError);
@@ -24,7 +24,7 @@ pub(crate) fn vlan_id_of(argument: Option<String>) -> Result<VlanId, ArgumentsEr
     }
 }
 
-/// The line for a frame, in which the outermost VLAN tag with an identifier gets another one.
+/// The line for a frame, in which the outermost VLAN tag with the identifier `from` gets the identifier `to`.
 pub(crate) fn rewritten_line(
     alloc: Global,
     start: Start,

@@ -1,5 +1,5 @@
-//! What is walked of a captured packet, by its link type, how long its headers are, which packets a filter selects, and what an edit makes
-//! of a packet. No call allocates memory.
+//! What is done with a captured packet, by its link type: which part of it is walked, how long its headers are,
+//! whether a filter selects it, and how an edit changes it. No call allocates memory.
 
 mod content;
 mod cooked;

@@ -1,4 +1,5 @@
-//! Filters of packets: expressions in the words of pcap-filter(7), and whether a packet matches. No call allocates memory.
+//! Filters of packets: reads expressions in words of pcap-filter(7), and tests whether packets match them. No call
+//! allocates memory.
 
 mod awaited;
 mod deciding;
@@ -6,6 +7,7 @@ mod decision;
 mod fields;
 mod filter;
 mod filter_error;
+pub mod filter_program;
 mod instruction;
 mod jumps;
 mod matching;
@@ -13,7 +15,6 @@ mod node;
 mod numeral;
 mod packet;
 mod primitive;
-pub mod program;
 mod reading;
 mod seen;
 mod text_words;

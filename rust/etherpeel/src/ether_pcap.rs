@@ -1,4 +1,5 @@
-//! Capture files of the classic pcap format and of pcapng, read from lists of bytes, edited unit by unit, and written. No call allocates memory.
+//! Reads, edits and writes capture files of the classic pcap format and of pcapng, unit by unit. No call allocates
+//! memory.
 
 mod byte_order;
 pub mod capture;

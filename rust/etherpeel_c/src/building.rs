@@ -1,4 +1,4 @@
-//! Packets that are built.
+//! Builds packets for callers in C.
 
 use crate::EtherUnit;
 use crate::statuses::{BAD_KIND, DONE, NO_ROOM, OTHER_LINK, SEALED, TOO_MANY_TAGS};
@@ -8,22 +8,22 @@ use etherpeel::{ArpPacket, EtherType, LinkExtHeader, LinkHeader, SingleVlanHeade
 /// The most VLAN tags and SecTags of a packet.
 const MAX_TAGS: usize = 8;
 
-/// The kind of a unit that is an ARP packet.
+/// The number of the kind of unit that is an ARP packet.
 const ARP_KIND: u32 = 5;
 
-/// Why units are those of no packet: what the call returns, and the index of the unit.
+/// Why units do not make a packet: the status of the call, and the index of the unit that is wrong.
 type Refusal = (u32, usize);
 
-/// The parts of a packet, but for its tags.
+/// The parts of a packet, except for its tags.
 struct PacketParts {
     link: LinkHeader,
-    /// How many tags there are.
+    /// The number of tags.
     tags: usize,
     arp: Option<ArpPacket>,
 }
 
-/// Writes a packet of the headers of units and a payload to the front of a target. If the last unit is
-/// an ARP packet, its addresses are in the payload.
+/// Writes a packet to the front of a target: the headers of the units, and the payload. If the last unit is an ARP
+/// packet, its addresses are read from the payload instead.
 ///
 /// <details><summary>Contract</summary>
 ///
@@ -62,7 +62,7 @@ pub unsafe extern "C" fn etherpeel_build(
     status
 }
 
-/// The parts of a packet that units are, with the tags in an array.
+/// The parts of the packet that the units make; its tags are written to an array.
 fn parts(
     units: &[EtherUnit],
     bytes: &[u8],
@@ -89,7 +89,7 @@ fn parts(
     }
 }
 
-/// How many units there are before an ARP packet at the end.
+/// The number of units before an ARP packet at the end.
 fn tag_count(units: &[EtherUnit]) -> usize {
     match units.split_last() {
         Some((last, front)) if last.kind == ARP_KIND => front.len(),
@@ -97,7 +97,7 @@ fn tag_count(units: &[EtherUnit]) -> usize {
     }
 }
 
-/// Writes the tags that units are to an array.
+/// Writes the tags in the units to an array.
 fn put_tags(units: &[EtherUnit], tags: &mut [LinkExtHeader; MAX_TAGS]) -> Result<(), Refusal> {
     for (i, unit) in units.iter().enumerate() {
         let tag = match unit.to_link_ext() {
@@ -112,7 +112,7 @@ fn put_tags(units: &[EtherUnit], tags: &mut [LinkExtHeader; MAX_TAGS]) -> Result
     Ok(())
 }
 
-/// The ARP packet that a unit is, if there is one.
+/// The ARP packet in the unit, if there is a unit.
 fn passed_arp(units: &[EtherUnit], bytes: &[u8]) -> Result<Option<ArpPacket>, u32> {
     match units.first() {
         None => Ok(None),
@@ -123,7 +123,7 @@ fn passed_arp(units: &[EtherUnit], bytes: &[u8]) -> Result<Option<ArpPacket>, u3
     }
 }
 
-/// An ARP_KIND packet if there is one, and else a payload.
+/// An ARP packet if there is one, else a payload.
 fn content<'a>(arp: &'a Option<ArpPacket>, ether_type: u16, payload: &'a [u8]) -> PacketContent<'a> {
     match arp {
         Some(packet) => PacketContent::Arp(packet),
@@ -131,8 +131,8 @@ fn content<'a>(arp: &'a Option<ArpPacket>, ether_type: u16, payload: &'a [u8]) -
     }
 }
 
-/// Writes a packet. Returns the status of the call, and the length of the packet; without room the length that it needs,
-/// after a sealed SecTag the index of that plus 1, else 0.
+/// Writes a packet. Returns the status of the call, and a number: the length of the packet; without room the length
+/// that it needs; after a sealed SecTag the index of that SecTag plus 1; else 0.
 fn write(packet: &PacketBuilder<'_, '_>, target: &mut [u8]) -> (u32, usize) {
     match packet.write(target) {
         Ok(end) => (DONE, end),

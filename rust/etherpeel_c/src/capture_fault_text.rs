@@ -1,4 +1,4 @@
-//! The text of the fault in which a capture file ends.
+//! The text of the fault that ends a capture file.
 
 use crate::capturing::captured;
 use crate::putting::put_bytes;
@@ -10,8 +10,8 @@ use core::fmt::Write;
 /// The text of every fault is shorter than this.
 const LONGEST: usize = 512;
 
-/// The text of the fault in which a capture file ends, with no 0 byte at its end; it is empty if there
-/// is no fault.
+/// Writes the text of the fault that ends a capture file, without a 0 byte at its end. It is empty if there is no
+/// fault.
 ///
 /// <details><summary>Contract</summary>
 ///

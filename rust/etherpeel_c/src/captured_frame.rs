@@ -1,13 +1,12 @@
-//! What is walked of a captured packet.
+//! The part of a captured packet that is walked.
 
 use crate::statuses::{DONE, UNKNOWN_START};
 use crate::{EtherCaptured, EtherFrame};
 use etherpeel::ether_content::Content;
 
-/// The frame that is walked of a packet of a capture, by its link type.
+/// The frame that is walked of a captured packet, by its link type.
 ///
-/// Of Linux cooked capture v2 that is the payload, if the header can be read and an ether type
-/// announces it.
+/// For Linux cooked capture v2 it is the payload, if the header can be read and an ether type announces the payload.
 ///
 /// <details><summary>Contract</summary>
 ///

@@ -1,4 +1,4 @@
-//! The bytes that complete the unit in which a frame ends.
+//! Completes the unit in which a frame ends.
 
 use crate::numbers::start_of;
 use crate::putting::put_bytes;
@@ -6,7 +6,7 @@ use crate::statuses::{DONE, UNKNOWN_START};
 use arrayvec::ArrayVec;
 use etherpeel::ether_peel::{completion, completion_limited};
 
-/// The fewest bytes that, after a frame cut short, make it accepted.
+/// Writes the fewest bytes that, appended to a frame cut short, make it accepted.
 ///
 /// <details><summary>Contract</summary>
 ///
@@ -39,7 +39,7 @@ pub unsafe extern "C" fn etherpeel_completion(
     status
 }
 
-/// The same for the walk that reads no more than `limit` VLAN tags and MACsec SecTags.
+/// Does as [`etherpeel_completion`] for the walk that reads at most `limit` VLAN tags and MACsec SecTags.
 ///
 /// <details><summary>Contract</summary>
 ///
@@ -73,7 +73,7 @@ pub unsafe extern "C" fn etherpeel_completion_limited(
     status
 }
 
-/// Writes the bytes of a completion, if there is one, to the front of a target.
+/// Writes the bytes of a completion to the front of a target, if there is a completion.
 fn put_fill(found: &Option<ArrayVec<u8, 1028>>, target: &mut [u8]) -> (u32, usize) {
     match found {
         Some(fill) => put_bytes(fill.as_slice(), target),

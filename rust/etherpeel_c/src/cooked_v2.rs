@@ -5,7 +5,7 @@ use crate::statuses::{BAD_PACKET_TYPE, DONE, SHORT};
 use crate::{EtherField, EtherLinuxSll2, field_place};
 use etherpeel::ether_sll2::{LinuxSll2Error, LinuxSll2Slice};
 
-/// The header of a packet of Linux cooked capture v2, and what the walk of its payload starts with.
+/// Reads the header of a packet of Linux cooked capture v2, and how the walk of its payload starts.
 ///
 /// <details><summary>Contract</summary>
 ///
@@ -29,8 +29,8 @@ pub unsafe extern "C" fn etherpeel_linux_sll2(bytes: *const u8, bytes_len: usize
     }
 }
 
-/// The fields of the header of a packet of Linux cooked capture v2, as many as the array has room for,
-/// and how many there are.
+/// Writes as many fields of the header of a packet of Linux cooked capture v2 as the array has room for, and the
+/// number of all its fields.
 ///
 /// <details><summary>Contract</summary>
 ///
@@ -58,7 +58,7 @@ pub unsafe extern "C" fn etherpeel_linux_sll2_fields(
     }
 }
 
-/// The status for bytes that are refused.
+/// The status for a header that is refused.
 fn refusal_status(error: &LinuxSll2Error) -> u32 {
     match error {
         LinuxSll2Error::Len { .. } => SHORT,

@@ -6,21 +6,22 @@ use etherpeel::ether_pcap::{CapturedPacket, LinkType, Timestamp};
 #[repr(C)]
 #[derive(Clone, Copy)]
 pub struct EtherCaptured<'a> {
-    /// The bytes that were captured of the packet, in the file.
+    /// The captured bytes of the packet, inside the file.
     pub packet: &'a [u8],
-    /// The time of the capture in whole seconds since 1970, UTC.
+    /// The time of the capture in whole seconds since 1970, UTC; 0 if there is no time.
     pub seconds: u64,
     /// The nanoseconds after them.
     pub nanoseconds: u32,
-    /// How many bytes the packet had before it was cut.
+    /// The length of the packet in bytes before it was cut.
     pub original_len: u32,
-    /// What the packet begins with.
+    /// What the packet begins with: a `LINKTYPE_` number.
     pub link_type: u16,
     /// 1 if the packet has a time, else 0.
     pub has_time: u8,
-    /// 1 if the file says the length of the frame check sequence, else 0.
+    /// 1 if the file gives the length of the frame check sequence, else 0.
     pub has_fcs_len: u8,
-    /// The length of the frame check sequence at the end of the packet before it was cut.
+    /// The length in bytes of the frame check sequence at the end of the packet before it was cut; 0 if the file does
+    /// not give it.
     pub fcs_len: u8,
 }
 
@@ -50,7 +51,7 @@ impl<'a> EtherCaptured<'a> {
         }
     }
 
-    /// The packet that was passed. Each mark but 0 says that something is there.
+    /// The packet that was passed. Each mark other than 0 says that something is there.
     pub(crate) fn to_packet(&self) -> CapturedPacket<'a> {
         let time = if self.has_time == 0 {
             None

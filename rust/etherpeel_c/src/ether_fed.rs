@@ -9,11 +9,11 @@ use etherpeel::ether_peel::Feed;
 #[repr(C)]
 #[derive(Clone, Copy)]
 pub struct EtherFed {
-    /// How often the walk asked for more bytes and was given them.
+    /// The number of times that the walk asked for more bytes and was given them.
     pub refusals: usize,
-    /// How many bytes it was given in all.
+    /// The number of bytes that it was given in all.
     pub taken: usize,
-    /// The fault of the walk of these bytes, if it has one.
+    /// The fault of the walk of these bytes, if there is one.
     pub fault: EtherFault,
 }
 

@@ -1,20 +1,21 @@
-//! Why a text is no expression of a filter, as a struct of C.
+//! Why a text is not a filter's expression, as a struct of C.
 
 use etherpeel::ether_filter::{FilterError, FilterErrorKind};
 
-/// Why a text is no expression of a filter, and where: `etherpeel_filter_error` in C.
+/// Why a text is not a filter's expression, and where: `etherpeel_filter_error` in C.
 ///
 /// Each bit pattern is a value, so that C may pass memory that it has not written to.
 #[repr(C)]
 #[derive(Clone, Copy)]
 pub struct EtherFilterError {
-    /// Where the first word that fits nothing begins, in bytes; the length of the text if words are
-    /// missing at its end.
+    /// The offset in bytes of the first word that does not fit. It is the length of the text if words are missing at
+    /// the end.
     pub offset: usize,
-    /// 1 a primitive, 2 an operator, 3 `vlan`, 4 a word after `ether`, 5 an address, 6 a number is
-    /// expected; 7 mixed operators, 8 nothing is open, 9 something is not closed, 10 too many words.
+    /// Expected is 1 a primitive, 2 an operator, 3 `vlan`, 4 a word after `ether`, 5 an address, 6 a number, 11 an
+    /// identifier after `vlan` or an operator. 7 mixed operators, 8 a `)` without a `(`, 9 a `(` without a `)`, 10 too
+    /// many words.
     pub kind: u32,
-    /// The greatest number that is expected, of kind 6.
+    /// The greatest number that is expected, in the kinds 6 and 11; else 0.
     pub greatest: u32,
 }
 
@@ -22,7 +23,7 @@ pub struct EtherFilterError {
 const _: () = assert!(size_of::<EtherFilterError>() == 16);
 
 impl EtherFilterError {
-    /// Why a text is no expression.
+    /// The error as a struct of C.
     pub(crate) fn of(error: &FilterError) -> EtherFilterError {
         EtherFilterError {
             offset: error.offset,
@@ -32,7 +33,7 @@ impl EtherFilterError {
     }
 }
 
-/// The number of what is expected, or of why a word does not fit.
+/// The number of a kind of error.
 fn kind_number(kind: FilterErrorKind) -> u32 {
     match kind {
         FilterErrorKind::ExpectedOperand => 1,
@@ -49,7 +50,7 @@ fn kind_number(kind: FilterErrorKind) -> u32 {
     }
 }
 
-/// The greatest number that is expected, 0 if none is.
+/// The greatest number that is expected, 0 if no number is.
 fn greatest_expected(kind: FilterErrorKind) -> u32 {
     match kind {
         FilterErrorKind::ExpectedNumber(most) => most,

@@ -11,14 +11,14 @@ use etherpeel::ether_peel::Summary;
 pub struct EtherFound {
     /// The number of units.
     pub units: usize,
-    /// Where the window that is left starts, in bytes from the start of the frame.
+    /// The offset at which the remaining window starts, in bytes from the start of the frame.
     pub rest_start: usize,
-    /// Where it ends.
+    /// The offset at which it ends.
     pub rest_end: usize,
-    /// The unit that is refused, if one is.
+    /// The refused unit, if there is one.
     pub fault: EtherFault,
-    /// 0 the header that the frame begins with, 1 an ether type, 2 netlink, 3 GRE over IP, 4 a
-    /// number without a meaning, 5 sealed by MACsec, 6 what follows an ARP packet.
+    /// What the window is announced as: 0 the first header of the frame, 1 an ether type, 2 netlink, 3 GRE over IP, 4
+    /// a number without a meaning, 5 sealed by MACsec, 6 what follows an ARP packet.
     pub rest_kind: u32,
     /// The ether type or protocol number, 0 if there is none.
     pub rest_protocol: u16,

@@ -1,20 +1,20 @@
-//! What is walked of a captured packet, as a struct of C.
+//! The part of a captured packet that is walked, as a struct of C.
 
 use etherpeel::ether_content::{Content, CookedHeader};
 use etherpeel::ether_peel::Start;
 use etherpeel::ether_sll2::LinuxSll2Header;
 
-/// What is walked of a captured packet: `etherpeel_frame` in C.
+/// The part of a captured packet that is walked: `etherpeel_frame` in C.
 #[repr(C)]
 #[derive(Clone, Copy)]
 pub struct EtherFrame<'a> {
-    /// The bytes of the frame, in the packet.
+    /// The bytes of the frame, inside the packet.
     pub bytes: &'a [u8],
-    /// Where the frame begins, in bytes from the start of the packet.
+    /// The offset of the frame in bytes from the start of the packet.
     pub offset: usize,
-    /// What it begins with, by number.
+    /// The number of the start of its walk.
     pub start: u32,
-    /// The ether type that announces it, if it begins with what one announces; else 0.
+    /// The ether type that announces the frame, if its walk starts with an ether type; else 0.
     pub ether_type: u16,
 }
 
@@ -35,7 +35,7 @@ impl<'a> EtherFrame<'a> {
     }
 }
 
-/// Where a frame begins in its packet.
+/// The offset of a frame in its packet.
 fn offset_of(content: Content<'_>) -> usize {
     match content {
         Content::LinuxSll(..) => CookedHeader::LEN,
@@ -44,7 +44,7 @@ fn offset_of(content: Content<'_>) -> usize {
     }
 }
 
-/// The number of what a frame begins with, and its ether type.
+/// The number of a start, and its ether type.
 fn numbers_of(start: Start) -> (u32, u16) {
     match start {
         Start::Ethernet2 => (1, 0),

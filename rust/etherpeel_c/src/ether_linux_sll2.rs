@@ -9,11 +9,11 @@ use etherpeel::ether_sll2::{LinuxSll2Error, LinuxSll2Header, LinuxSll2Slice};
 #[repr(C)]
 #[derive(Clone, Copy)]
 pub struct EtherLinuxSll2 {
-    /// Where the payload starts, in bytes from the start of the header.
+    /// The offset of the payload in bytes from the start of the header: 20.
     pub payload_start: usize,
-    /// The index of the interface that the packet was seen on.
+    /// The index of the interface on which the packet was seen.
     pub interface_index: u32,
-    /// What the payload begins with: 4 what its ether type announces, 0 if it has none.
+    /// The number of the start for the payload's walk: 4 if the payload has an ether type, else 0.
     pub start: u32,
     /// The protocol number of the payload, read according to the hardware type.
     pub protocol: u16,
@@ -61,7 +61,7 @@ impl EtherLinuxSll2 {
         }
     }
 
-    /// Why there is no header: the packet type that is not supported, or nothing if bytes are missing.
+    /// The struct for a refused header: all 0, except for a packet type that is not supported.
     pub(crate) fn of_refusal(error: &LinuxSll2Error) -> EtherLinuxSll2 {
         match error {
             LinuxSll2Error::Len { .. } => EtherLinuxSll2::NONE,
@@ -73,7 +73,7 @@ impl EtherLinuxSll2 {
     }
 }
 
-/// What the payload begins with, by number, and its ether type.
+/// The number of the start for the payload's walk, and the payload's ether type.
 fn start_of(packet: &LinuxSll2Slice<'_>) -> (u32, u16) {
     match packet.start() {
         Some(Start::EtherType(ether_type)) => (4, ether_type.0),

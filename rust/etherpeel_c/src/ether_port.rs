@@ -1,23 +1,23 @@
-//! How a port of a bridge is set up, as a struct of C.
+//! The configuration of a bridge's port, as a struct of C.
 
 use etherpeel::ether_switch::{AcceptableFrames, PortConfig, Vlan, VlanSet};
 use etherpeel::VlanPcp;
 
-/// How a port of a bridge is set up: `etherpeel_port` in C.
+/// The configuration of a bridge's port: `etherpeel_port` in C.
 #[repr(C)]
 #[derive(Clone, Copy)]
 pub struct EtherPort {
     /// The VLANs whose frames leave by the port.
     pub members: VlanSet,
-    /// Those whose frames leave without a tag.
+    /// The VLANs whose frames leave without a tag.
     pub untagged: VlanSet,
-    /// The VLAN of a frame that comes without a tag, or with one that has a priority alone: 1 to 4094.
+    /// The VLAN of a frame that comes in without a tag, or with a tag that has only a priority: 1 to 4094.
     pub pvid: u16,
-    /// Which frames it takes: 0 all, 1 those with a tag that names a VLAN, 2 the others.
+    /// Which frames it accepts: 0 all, 1 those with a tag that names a VLAN, 2 the others.
     pub frame_types: u8,
-    /// Whether it discards frames of a VLAN that it is not a member of: 0 if not.
+    /// Whether it discards frames of VLANs that it is not a member of: 0 if not.
     pub ingress_filtering: u8,
-    /// The priority of a frame that comes without a tag: 0 to 7.
+    /// The priority of a frame that comes in without a tag: 0 to 7.
     pub default_priority: u8,
 }
 
@@ -25,7 +25,7 @@ pub struct EtherPort {
 const _: () = assert!(size_of::<EtherPort>() == 1032);
 
 impl EtherPort {
-    /// How the port is set up, if its numbers fit their fields.
+    /// The configuration of the port, if its numbers fit their fields.
     pub(crate) fn to_config(&self) -> Option<PortConfig> {
         let Ok(pvid) = Vlan::try_new(self.pvid) else {
             return None;
@@ -45,7 +45,7 @@ impl EtherPort {
     }
 }
 
-/// The frames that a port takes, by their number.
+/// The frames that a port accepts, by their number.
 fn frame_types(number: u8) -> Option<AcceptableFrames> {
     match number {
         0 => Some(AcceptableFrames::All),

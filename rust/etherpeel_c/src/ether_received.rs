@@ -3,21 +3,21 @@
 use etherpeel::ether_switch::{BridgeKind, Discarded, Forwarding, Received, Vlan};
 use etherpeel::VlanPcp;
 
-/// What a bridge makes of a frame: `etherpeel_received` in C.
+/// A frame that a bridge has received, and where it goes: `etherpeel_received` in C.
 ///
 /// Each bit pattern is a value, so that C may pass memory that it has not written to.
 #[repr(C)]
 #[derive(Clone, Copy)]
 pub struct EtherReceived {
-    /// Why it is discarded, by number; 0 if it is not.
+    /// The number of the reason why it is discarded; 0 if it is not.
     pub discarded: u32,
-    /// The kind of the bridge, by number.
+    /// The number of the kind of the bridge.
     pub kind: u32,
-    /// Where it goes: 0 nowhere, 1 by one port, 2 by all but its own.
+    /// Where it goes: 0 nowhere, 1 by one port, 2 by all ports except the one by which it came in.
     pub forwarding: u32,
-    /// The port, if it is one; else 0.
+    /// The port by which it goes, if it goes by one; else 0.
     pub port: u16,
-    /// The port that it came from.
+    /// The port by which it came in.
     pub from: u16,
     /// The identifier of its VLAN.
     pub vlan: u16,
@@ -31,7 +31,7 @@ pub struct EtherReceived {
 const _: () = assert!(size_of::<EtherReceived>() == 20);
 
 impl EtherReceived {
-    /// What a bridge makes of a frame.
+    /// What a bridge returns for a frame, as a struct of C.
     pub(crate) fn of(answer: &Result<Received, Discarded>) -> EtherReceived {
         match answer {
             Ok(received) => EtherReceived {
@@ -57,7 +57,7 @@ impl EtherReceived {
         }
     }
 
-    /// The frame that is passed, if it is not discarded and its numbers fit their fields.
+    /// The frame that was passed, if it is not discarded and its numbers fit their fields.
     pub(crate) fn to_received(&self) -> Option<Received> {
         if self.discarded != 0 {
             return None;
@@ -81,7 +81,7 @@ impl EtherReceived {
     }
 }
 
-/// The kind of a bridge, by its number.
+/// The kind of bridge with this number.
 pub(crate) fn bridge_kind(number: u32) -> Option<BridgeKind> {
     match number {
         1 => Some(BridgeKind::Customer),
@@ -90,7 +90,7 @@ pub(crate) fn bridge_kind(number: u32) -> Option<BridgeKind> {
     }
 }
 
-/// The number of a kind of a bridge.
+/// The number of a kind of bridge.
 fn number_of(kind: BridgeKind) -> u32 {
     match kind {
         BridgeKind::Customer => 1,
@@ -128,7 +128,7 @@ fn port_of(decision: Forwarding) -> u16 {
     }
 }
 
-/// Where a frame goes, by its number and that of a port.
+/// Where a frame goes, by the number of that and the number of a port.
 fn forwarding(number: u32, port: u16) -> Option<Forwarding> {
     match number {
         0 => Some(Forwarding::Discard),

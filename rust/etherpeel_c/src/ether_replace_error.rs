@@ -9,9 +9,9 @@ use etherpeel::ether_packet::{Difference, ReplaceError};
 #[repr(C)]
 #[derive(Clone, Copy)]
 pub struct EtherReplaceError {
-    /// How many VLAN tags and SecTags the frame has, if there is none at the index; else 0.
+    /// The number of VLAN tags and SecTags in the frame, if there is none at the index; else 0.
     pub tags: usize,
-    /// What the header says otherwise than the one in the frame, by number; 0 if it says the same.
+    /// The number of the first difference between the header and the one in the frame; 0 if there is none.
     pub difference: u32,
 }
 
@@ -19,7 +19,7 @@ pub struct EtherReplaceError {
 const _: () = assert!(size_of::<EtherReplaceError>() == 16);
 
 impl EtherReplaceError {
-    /// Why a header is not replaced.
+    /// The error as a struct of C.
     pub(crate) fn of(error: &ReplaceError) -> EtherReplaceError {
         let (tags, difference) = match error {
             ReplaceError::NoLink | ReplaceError::NoArp => (0, 0),
@@ -30,7 +30,7 @@ impl EtherReplaceError {
     }
 }
 
-/// The number of the reason why a header is not replaced.
+/// The status for an error.
 pub(crate) fn status(error: &ReplaceError) -> u32 {
     match error {
         ReplaceError::NoLink => NO_LINK,
@@ -40,7 +40,7 @@ pub(crate) fn status(error: &ReplaceError) -> u32 {
     }
 }
 
-/// The number of what a header says otherwise.
+/// The number of a difference between headers.
 fn difference_number(difference: Difference) -> u32 {
     match difference {
         Difference::Kind => 1,

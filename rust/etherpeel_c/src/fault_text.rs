@@ -1,4 +1,4 @@
-//! The text of a frame's fault.
+//! The text of the fault of a frame.
 
 use crate::numbers::start_of;
 use crate::putting::put_bytes;
@@ -10,8 +10,8 @@ use core::fmt::Write;
 /// The text of every fault is shorter than this.
 const LONGEST: usize = 512;
 
-/// The text of the fault in which the walk through a frame ends, with no 0 byte at its end; it is
-/// empty if there is no fault.
+/// Writes the text of the fault that ends the walk through a frame, without a 0 byte at its end. It is empty if there
+/// is no fault.
 ///
 /// <details><summary>Contract</summary>
 ///
@@ -44,7 +44,7 @@ pub unsafe extern "C" fn etherpeel_fault_text(
     status
 }
 
-/// The same for the walk that reads no more than `limit` VLAN tags and MACsec SecTags.
+/// Does as [`etherpeel_fault_text`] for the walk that reads at most `limit` VLAN tags and MACsec SecTags.
 ///
 /// <details><summary>Contract</summary>
 ///
@@ -78,7 +78,7 @@ pub unsafe extern "C" fn etherpeel_fault_text_limited(
     status
 }
 
-/// Writes the text of a fault, if there is one, to the front of a target.
+/// Writes the text of a fault to the front of a target, if there is a fault.
 fn put_end_text(fault: &Option<PeelFault>, target: &mut [u8]) -> (u32, usize) {
     match fault {
         Some(fault) => put_text(fault, target),

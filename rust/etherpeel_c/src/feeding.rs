@@ -1,11 +1,11 @@
-//! A walk that receives a frame piece by piece.
+//! Feeds a walk with a frame piece by piece.
 
 use crate::EtherFed;
 use crate::numbers::start_of;
 use crate::statuses::{DONE, UNKNOWN_START};
 use etherpeel::ether_peel::{feed, feed_limited};
 
-/// What a reader takes of a frame if it asks for exactly the bytes that the walk needs next.
+/// What a reader takes of a frame if it asks each time for exactly the bytes that the walk needs next.
 ///
 /// <details><summary>Contract</summary>
 ///
@@ -32,7 +32,7 @@ pub unsafe extern "C" fn etherpeel_feed(
     DONE
 }
 
-/// Feeds the walk that reads no more than `limit` VLAN tags and MACsec SecTags.
+/// Does as [`etherpeel_feed`] for the walk that reads at most `limit` VLAN tags and MACsec SecTags.
 ///
 /// <details><summary>Contract</summary>
 ///

@@ -1,16 +1,16 @@
-//! Where the fields of headers are.
+//! The places of the fields in each header.
 
 use arrayvec::ArrayVec;
 use etherpeel::{ArpPacketSlice, MacsecHeaderSlice, MacsecPType};
 
-/// A field of a header.
+/// The name and the place of a field in its header.
 #[derive(Clone, Copy, Default)]
 pub(crate) struct FieldPlace {
     /// Its name: a number of `enum etherpeel_field_name` in C.
     pub(crate) name: u32,
-    /// Where it begins, in bits from the start of the header.
+    /// The offset of its first bit from the start of the header.
     pub(crate) first: usize,
-    /// How many bits it has.
+    /// The number of its bits.
     pub(crate) len: usize,
 }
 
@@ -58,7 +58,7 @@ pub(crate) fn vlan() -> [FieldPlace; 4] {
     ]
 }
 
-/// The fields of a SecTag that each has.
+/// The fields that every SecTag has.
 fn sec_tag() -> [FieldPlace; 10] {
     [
         field(13, 0, 1),
@@ -107,7 +107,7 @@ pub(crate) fn arp(packet: &ArpPacketSlice<'_>) -> [FieldPlace; 9] {
     ]
 }
 
-/// A field by its name, its first bit and its number of bits.
+/// The field with this name, first bit and number of bits.
 #[inline(always)]
 fn field(name: u32, first: usize, len: usize) -> FieldPlace {
     FieldPlace { name, first, len }

@@ -1,6 +1,6 @@
 //! Bits of a frame as a number.
 
-/// The number that bits are: `len` of them from a bit of a byte on; 0 if there are more than 64.
+/// The number in `len` bits, which begin at the bit `bit` of the byte `at`; 0 if there are more than 64 bits.
 pub(crate) fn field_value(bytes: &[u8], at: usize, bit: usize, len: usize) -> u64 {
     if len > 64 {
         return 0;
@@ -11,7 +11,7 @@ pub(crate) fn field_value(bytes: &[u8], at: usize, bit: usize, len: usize) -> u6
     ((number >> after) % (1 << len)) as u64
 }
 
-/// The number that up to nine bytes spell.
+/// The number in up to nine bytes.
 fn number_of(bytes: &[u8]) -> u128 {
     let mut number = 0;
     for byte in bytes {

@@ -1,4 +1,4 @@
-//! The fields of the headers of a frame in an array.
+//! Writes the fields of a frame's headers to an array.
 
 use crate::field_putting::put_table;
 use crate::numbers::start_of;
@@ -6,8 +6,8 @@ use crate::statuses::{DONE, UNKNOWN_START};
 use crate::{EtherField, field_place};
 use etherpeel::ether_peel::{Peel, PeelUnit, Start};
 
-/// The fields of the headers of a frame, as many as the array has room for, and how many there are in
-/// all. An address of length 0 is a field of 0 bits.
+/// Writes as many fields of a frame's headers as the array has room for, and the number of all its fields. An address
+/// of length 0 is a field of 0 bits.
 ///
 /// <details><summary>Contract</summary>
 ///
@@ -38,7 +38,7 @@ pub unsafe extern "C" fn etherpeel_fields(
     DONE
 }
 
-/// Which unit it is, where it starts and where its payload ends.
+/// The index of a unit, the offset at which it starts, and that at which its payload ends.
 #[derive(Clone, Copy)]
 struct NumberedUnit {
     index: usize,
@@ -46,7 +46,7 @@ struct NumberedUnit {
     payload_end: usize,
 }
 
-/// The fields of the units of a walk, and how many there are in all.
+/// Writes the fields of the units of a walk, and returns the number of all of them.
 fn fields_walked(start: Start, bytes: &[u8], fields: &mut [EtherField]) -> usize {
     let mut peel = Peel::new(start, bytes);
     let mut count = 0;
@@ -69,7 +69,7 @@ fn fields_walked(start: Start, bytes: &[u8], fields: &mut [EtherField]) -> usize
     }
 }
 
-/// Writes the fields of a unit from a place of the array on, and returns the place after them.
+/// Writes the fields of a unit to an array from an index on, and returns the index after them.
 fn put_unit(
     bytes: &[u8],
     unit: &PeelUnit<'_>,

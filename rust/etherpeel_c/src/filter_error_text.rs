@@ -1,4 +1,4 @@
-//! The text of why a text is no expression of a filter.
+//! The text of the error in an expression of a filter.
 
 use crate::putting::put_bytes;
 use crate::statuses::{DONE, NO_TEXT};
@@ -6,10 +6,11 @@ use arrayvec::ArrayString;
 use etherpeel::ether_filter::{Filter, FilterError};
 use core::fmt::Write;
 
-/// The text of every refusal is shorter than this.
+/// The text of every error is shorter than this.
 const LONGEST: usize = 512;
 
-/// The text of why an expression is none, with no 0 byte at its end; it is empty if it is one.
+/// Writes why a text is not an expression, without a 0 byte at its end. What is written is empty if the text is an
+/// expression.
 ///
 /// <details><summary>Contract</summary>
 ///
@@ -36,7 +37,7 @@ pub unsafe extern "C" fn etherpeel_filter_error_text(
     status
 }
 
-/// Writes the text of a refusal to the front of a target.
+/// Writes the text of an error to the front of a target.
 fn put_text(error: &FilterError, target: &mut [u8]) -> (u32, usize) {
     match text_of(error) {
         Some(text) => put_bytes(text.as_str().as_bytes(), target),
@@ -44,7 +45,7 @@ fn put_text(error: &FilterError, target: &mut [u8]) -> (u32, usize) {
     }
 }
 
-/// The text of a refusal. `None` is not ruled out, since no contract says that `write!` succeeds.
+/// The text of an error. `None` is not ruled out, since no contract says that `write!` succeeds.
 fn text_of(error: &FilterError) -> Option<ArrayString<LONGEST>> {
     let mut text: ArrayString<LONGEST> = ArrayString::new();
     match write!(text, "{error}") {

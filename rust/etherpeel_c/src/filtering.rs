@@ -1,4 +1,4 @@
-//! Filters that are read once and asked about many packets.
+//! Filters that are read once and then applied to many packets.
 
 use crate::selecting::{mark, put_marks};
 use crate::statuses::{BAD_FILTER, DONE};
@@ -6,7 +6,8 @@ use crate::{EtherCaptured, EtherFilter, EtherFilterError};
 use etherpeel::ether_content::program::is_undecided;
 use etherpeel::ether_filter::Filter;
 
-/// What `etherpeel_filter_decide` returns of a packet whose captured bytes don't decide whether the filter selects it.
+/// What `etherpeel_filter_decide` returns if the captured bytes of a packet do not decide whether the filter selects
+/// it.
 const UNDECIDED: u32 = 2;
 
 /// Reads the text of a filter into memory of the caller.
@@ -52,7 +53,7 @@ pub extern "C" fn etherpeel_filter_matches(filter: &EtherFilter, packet: &EtherC
     u32::from(mark(filter.program(), packet))
 }
 
-/// 1 if a filter selects a packet, 0 if it doesn't, 2 if the captured bytes don't decide that.
+/// 1 if a filter selects a packet, 0 if it does not, 2 if the captured bytes do not decide that.
 ///
 /// <details><summary>Contract</summary>
 ///

@@ -1,12 +1,11 @@
-//! The walk through the link-layer headers of a frame, their fields, packets, capture files and filters,
-//! for callers in C. `c/etherpeel.h` declares and documents the calls, and `docs/C.md` says how a
-//! program is built with them.
+//! The walk through the link-layer headers of a frame, their fields, packets, capture files, filters and a switch, for
+//! callers in C. `c/etherpeel.h` declares and documents the calls, and `docs/C.md` says how to build a program with
+//! them.
 //!
-//! Each export calls the crates below, and its contract says what those calls say; the fields of
-//! headers are given here, by tables (`specs/FieldTables.antt`). Each struct that is passed has a file of
-//! its own, and `specs/` says each of its fields. Enumerations are passed as numbers
-//! (`specs/Numbers.antt`), and a start that has no number is refused. No call allocates memory or keeps
-//! a pointer.
+//! Each export calls the crates below, and its contract says what the contracts of those calls say. Only the fields of
+//! headers are defined here, by tables (`specs/FieldTables.antt`). Each struct that is passed has a file of its own,
+//! and `specs/` defines each of its fields. Enumerations are passed as numbers (`specs/Numbers.antt`), and a number
+//! that is not a start is refused. No call allocates memory or keeps a pointer.
 
 #![no_std]
 

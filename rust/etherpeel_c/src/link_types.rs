@@ -1,6 +1,6 @@
-//! What packets of a link type of libpcap begin with.
+//! How the walk of packets of a link type starts.
 
-/// The start for a link type, 0 if no start is for it.
+/// The number of the start for a link type, 0 if there is none.
 ///
 /// <details><summary>Contract</summary>
 ///

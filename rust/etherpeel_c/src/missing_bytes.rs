@@ -31,7 +31,7 @@ pub unsafe extern "C" fn etherpeel_missing(
     DONE
 }
 
-/// The same for the walk that reads no more than `limit` VLAN tags and MACsec SecTags.
+/// Does as [`etherpeel_missing`] for the walk that reads at most `limit` VLAN tags and MACsec SecTags.
 ///
 /// <details><summary>Contract</summary>
 ///
@@ -59,7 +59,7 @@ pub unsafe extern "C" fn etherpeel_missing_limited(
     DONE
 }
 
-/// The number of bytes that are missing at the end of a walk with this fault, or with none.
+/// The number of bytes that are missing at the end of a walk with this fault; 0 if there is no fault.
 fn missing_at_end(fault: &Option<PeelFault>) -> usize {
     match fault {
         Some(fault) => fault.missing().unwrap_or(0),

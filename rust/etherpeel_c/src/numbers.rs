@@ -4,7 +4,7 @@ use etherpeel::ether_peel::{RestKind, Start};
 use etherpeel::err::Layer;
 use etherpeel::{EtherType, LenSource, LinuxSllProtocolType};
 
-/// The start with a number, if there is one. Only the fourth has the ether type.
+/// The start with this number; `None` if there is none. Only number 4 uses the ether type.
 #[inline(always)]
 pub(crate) fn start_of(number: u32, ether_type: u16) -> Option<Start> {
     match number {
@@ -16,7 +16,7 @@ pub(crate) fn start_of(number: u32, ether_type: u16) -> Option<Start> {
     }
 }
 
-/// The number of what is left of a frame.
+/// The number of what the remaining window is announced as.
 #[inline(always)]
 pub(crate) fn rest_kind(kind: RestKind) -> u32 {
     match kind {
@@ -32,7 +32,7 @@ pub(crate) fn rest_kind(kind: RestKind) -> u32 {
     }
 }
 
-/// The ether type or protocol number of what is left of a frame, 0 if it has none.
+/// The ether type or protocol number of the remaining window, 0 if it has none.
 #[inline(always)]
 pub(crate) fn rest_protocol(kind: RestKind) -> u16 {
     match kind {
@@ -42,7 +42,7 @@ pub(crate) fn rest_protocol(kind: RestKind) -> u16 {
     }
 }
 
-/// The number of a layer that a walk names, 0 for any other.
+/// The number of a layer that a walk can name, 0 for any other.
 #[inline(always)]
 pub(crate) fn layer(layer: Layer) -> u32 {
     match layer {
@@ -56,7 +56,7 @@ pub(crate) fn layer(layer: Layer) -> u32 {
     }
 }
 
-/// The number of a source of a length that a walk names, 0 for any other.
+/// The number of a source of a length that a walk can name, 0 for any other.
 #[inline(always)]
 pub(crate) fn len_source(source: LenSource) -> u32 {
     match source {

@@ -1,4 +1,4 @@
-//! Headers that are passed from C as units.
+//! Reads headers that are passed from C as units.
 
 use crate::statuses::{BAD_FIELD, BAD_KIND};
 use crate::{EtherArp, EtherEthernet2, EtherLinuxSll, EtherMacsec, EtherUnit};
@@ -9,7 +9,7 @@ use etherpeel::{
 };
 
 impl EtherUnit {
-    /// The header of a link that the unit is, or the status for one that is none.
+    /// The link's header in the unit, or the status if it is not one.
     pub(crate) fn to_link(&self) -> Result<LinkHeader, u32> {
         match self.kind {
             1 => Ok(self.ethernet2.to_link()),
@@ -21,7 +21,7 @@ impl EtherUnit {
         }
     }
 
-    /// The VLAN tag or SecTag that the unit is, or the status for one that is none.
+    /// The VLAN tag or SecTag in the unit, or the status if it is not one.
     pub(crate) fn to_link_ext(&self) -> Result<LinkExtHeader, u32> {
         match self.kind {
             3 => match self.vlan.to_header() {
@@ -36,7 +36,7 @@ impl EtherUnit {
         }
     }
 
-    /// The ARP packet that the unit is, with addresses in these bytes, or the status for one that is none.
+    /// The ARP packet in the unit, with its addresses in these bytes, or the status if it is not one.
     pub(crate) fn to_arp(&self, bytes: &[u8]) -> Result<ArpPacket, u32> {
         match self.kind {
             5 => match self.arp.to_packet(bytes) {
@@ -60,7 +60,7 @@ impl EtherEthernet2 {
 }
 
 impl EtherLinuxSll {
-    /// The header with these fields, `None` if its packet type is above 7.
+    /// The header with these fields; `None` if its packet type is above 7.
     fn to_link(&self) -> Option<LinkHeader> {
         let Ok(packet_type) = LinuxSllPacketType::try_from(self.packet_type) else {
             return None;
@@ -75,7 +75,7 @@ impl EtherLinuxSll {
     }
 }
 
-/// What a protocol number means on a link. A walk takes no hardware type for which it has no meaning.
+/// A protocol number, read according to the hardware type. A walk accepts no hardware type that gives it no meaning.
 fn protocol_type(hardware_type: u16, protocol: u16) -> LinuxSllProtocolType {
     match LinuxSllProtocolType::try_from((ArpHardwareId(hardware_type), protocol)) {
         Ok(protocol_type) => protocol_type,
@@ -84,7 +84,7 @@ fn protocol_type(hardware_type: u16, protocol: u16) -> LinuxSllProtocolType {
 }
 
 impl EtherMacsec {
-    /// The tag with these fields, `None` if a number does not fit its field.
+    /// The tag with these fields; `None` if a number does not fit its field.
     fn to_header(&self) -> Option<MacsecHeader> {
         let (Ok(an), Ok(short_len)) = (
             MacsecAn::try_new(self.association_number),
@@ -114,7 +114,7 @@ impl EtherMacsec {
     }
 }
 
-/// The type of the payload by the bits E and C.
+/// The type of the payload, by the bits E and C.
 fn payload_type(encrypted: u8, changed: u8, ether_type: u16) -> MacsecPType {
     match (encrypted, changed) {
         (0, 0) => MacsecPType::Unmodified(EtherType(ether_type)),
@@ -125,7 +125,7 @@ fn payload_type(encrypted: u8, changed: u8, ether_type: u16) -> MacsecPType {
 }
 
 impl EtherArp {
-    /// The packet with these fields and the addresses in these bytes, `None` if one is not within them.
+    /// The packet with these fields, and the addresses in these bytes; `None` if an address is not within the bytes.
     fn to_packet(&self, bytes: &[u8]) -> Option<ArpPacket> {
         let (hardware, protocol) = (
             usize::from(self.hardware_size),
@@ -146,13 +146,13 @@ impl EtherArp {
         );
         match packet {
             Ok(packet) => Some(packet),
-            // The addresses have two lengths, each that of a byte.
+            // Not reached: the two addresses of each kind have one length, which fits in a byte.
             Err(_) => None,
         }
     }
 }
 
-/// So many bytes from a place on, `None` if they are not all there.
+/// The `len` bytes from the offset `at` on; `None` if they are not all there.
 fn address(bytes: &[u8], at: usize, len: usize) -> Option<&[u8]> {
     if at > bytes.len() || len > bytes.len() - at {
         return None;

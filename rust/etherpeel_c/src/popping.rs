@@ -1,12 +1,11 @@
-//! VLAN tags that are taken off in place.
+//! Takes VLAN tags off in place.
 
 use crate::EtherVlan;
 use crate::numbers::start_of;
 use crate::statuses::{DONE, UNKNOWN_START, tag_error};
 use etherpeel::ether_packet::pop_vlan;
 
-/// Takes off the VLAN tag after the header of a link, in place: the frame is then without its first
-/// four bytes.
+/// Takes off the VLAN tag after the link's header, in place. The frame then begins at its fifth byte.
 ///
 /// <details><summary>Contract</summary>
 ///

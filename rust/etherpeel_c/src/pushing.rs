@@ -1,4 +1,4 @@
-//! VLAN tags that are put in in place.
+//! Puts VLAN tags in, in place.
 
 use crate::EtherVlan;
 use crate::numbers::start_of;
@@ -6,8 +6,8 @@ use crate::statuses::{BAD_FIELD, DONE, UNKNOWN_START, tag_error};
 use etherpeel::ether_packet::push_vlan;
 use etherpeel::EtherType;
 
-/// Puts a VLAN tag after the header of a link, in place: the frame is the buffer without its first
-/// four bytes, and then the whole buffer.
+/// Puts a VLAN tag after the link's header, in place. Before the call the frame begins at the fifth byte of the
+/// buffer, and after it at the first.
 ///
 /// <details><summary>Contract</summary>
 ///

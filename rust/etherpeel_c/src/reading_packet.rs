@@ -1,4 +1,4 @@
-//! All headers of a packet in one call.
+//! Reads all headers of a packet in one call.
 
 use crate::EtherHeaders;
 use crate::numbers::start_of;
@@ -7,8 +7,8 @@ use crate::statuses::{DONE, UNKNOWN_START};
 use crate::walking::walked;
 use etherpeel::ether_packet::PacketSlice;
 
-/// The headers of a packet with no more than three VLAN tags and SecTags, what is left after them,
-/// and what is asked of a packet.
+/// Reads the headers of a packet, with at most three VLAN tags and SecTags, the window after them, the VLAN
+/// identifiers and the least snap length.
 ///
 /// <details><summary>Contract</summary>
 ///

@@ -1,12 +1,12 @@
-//! Headers that are replaced in place.
+//! Replaces headers in place.
 
 use crate::numbers::start_of;
 use crate::statuses::{DONE, UNKNOWN_START};
 use crate::{EtherReplaceError, EtherUnit, ether_replace_error};
 use etherpeel::ether_packet::{ReplaceError, replace_arp, replace_link, replace_link_ext};
 
-/// Replaces the header of a link that a frame begins with, in place, by another one of the same kind
-/// that says the same about what follows it.
+/// Replaces the link's header at the front of a frame, in place, by one of the same kind that says the same about what
+/// follows it.
 ///
 /// <details><summary>Contract</summary>
 ///
@@ -37,8 +37,8 @@ pub unsafe extern "C" fn etherpeel_replace_link(
     }
 }
 
-/// Replaces the VLAN tag or SecTag at an index, in place, by another one of the same length that says
-/// the same about what follows it.
+/// Replaces the VLAN tag or SecTag at an index, in place, by one of the same length that says the same about what
+/// follows it.
 ///
 /// <details><summary>Contract</summary>
 ///
@@ -71,8 +71,8 @@ pub unsafe extern "C" fn etherpeel_replace_link_ext(
     }
 }
 
-/// Replaces the ARP packet of a frame, in place, by another one with addresses of the same lengths,
-/// which are read from `bytes`.
+/// Replaces the ARP packet of a frame, in place, by one whose addresses have the same lengths, and are read from
+/// `bytes`.
 ///
 /// <details><summary>Contract</summary>
 ///
@@ -107,7 +107,7 @@ pub unsafe extern "C" fn etherpeel_replace_arp(
     }
 }
 
-/// The status of a call, which writes why a header is not replaced.
+/// Returns the status of a call, and writes its error if there is one.
 fn answer(replaced: Result<(), ReplaceError>, error: &mut EtherReplaceError) -> u32 {
     match replaced {
         Ok(()) => DONE,

@@ -1,14 +1,14 @@
-//! The packets that a filter selects.
+//! Selects packets by a filter.
 
 use crate::statuses::{BAD_FILTER, DONE, NO_ROOM};
 use crate::{EtherCaptured, EtherFilterError};
 use etherpeel::ether_content::program::selects;
 use etherpeel::ether_filter::{Filter, Instruction};
 
-/// Writes for each packet 1 if a filter's expression holds of it, else 0.
+/// Writes for each packet 1 if a filter's expression holds for it, else 0.
 ///
-/// A packet of Linux cooked capture v2 is asked by its payload. One whose link type the walk does not
-/// know is never selected.
+/// For a packet of Linux cooked capture v2 the expression is about its payload. A packet whose link type the walk does
+/// not know is never selected.
 ///
 /// <details><summary>Contract</summary>
 ///
@@ -39,7 +39,7 @@ pub unsafe extern "C" fn etherpeel_select(
     }
 }
 
-/// Writes the mark of each packet to the front of an array if it has room for all of them.
+/// Writes the mark of each packet to the front of an array, if it has room for all of them.
 pub(crate) fn put_marks(
     instructions: &[Instruction],
     packets: &[EtherCaptured<'_>],

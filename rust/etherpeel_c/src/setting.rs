@@ -1,4 +1,4 @@
-//! VLAN tags that are changed in place.
+//! Changes VLAN tags in place.
 
 use crate::EtherVlan;
 use crate::numbers::start_of;
@@ -6,7 +6,7 @@ use crate::statuses::{BAD_FIELD, DONE, UNKNOWN_START, tag_error};
 use etherpeel::ether_packet::{set_tpid, set_vlan_id, set_vlan_tag};
 use etherpeel::{EtherType, VlanId};
 
-/// Sets the identifier of the VLAN tag at an index of the VLAN tags and SecTags, in place.
+/// Sets the identifier of the VLAN tag at an index among the VLAN tags and SecTags, in place.
 ///
 /// <details><summary>Contract</summary>
 ///
@@ -42,8 +42,8 @@ pub unsafe extern "C" fn etherpeel_set_vlan_id(
     }
 }
 
-/// Sets the priority code point, the drop eligible indicator and the identifier of the VLAN tag at an
-/// index of the VLAN tags and SecTags, in place.
+/// Sets the priority code point, the drop eligible indicator and the identifier of the VLAN tag at an index among the
+/// VLAN tags and SecTags, in place.
 ///
 /// <details><summary>Contract</summary>
 ///
@@ -87,7 +87,7 @@ pub unsafe extern "C" fn etherpeel_set_vlan_tag(
     }
 }
 
-/// Sets the ether type that announces the VLAN tag at an index of the VLAN tags and SecTags, in place.
+/// Sets the ether type that announces the VLAN tag at an index among the VLAN tags and SecTags, in place.
 ///
 /// <details><summary>Contract</summary>
 ///

@@ -2,37 +2,37 @@
 
 use etherpeel::ether_packet::TagError;
 
-/// The call has done its work.
+/// The call did what it was asked for.
 pub(crate) const DONE: u32 = 0;
 
-/// No start has the number that was passed, and nothing was written.
+/// No start has the number that was passed. Nothing was written.
 pub(crate) const UNKNOWN_START: u32 = 1;
 
-/// The target is too short, and was not written to.
+/// The target is too short. It was not written to.
 pub(crate) const NO_ROOM: u32 = 2;
 
-/// A text can't be made, and nothing was written.
+/// The text can't be made. Nothing was written.
 pub(crate) const NO_TEXT: u32 = 3;
 
-/// The frame does not begin with the header of a link.
+/// The frame does not begin with a link's header that can be read.
 pub(crate) const NO_LINK: u32 = 5;
 
-/// The header of cooked capture is of another link than Ethernet.
+/// The header of cooked capture has another hardware type than Ethernet.
 pub(crate) const OTHER_LINK: u32 = 6;
 
 /// There is no VLAN tag or SecTag at the index.
 pub(crate) const NO_TAG: u32 = 7;
 
-/// A number does not fit its field, and nothing was written.
+/// A number does not fit its field. Nothing was written.
 pub(crate) const BAD_FIELD: u32 = 11;
 
 /// The bytes end within a unit of a capture file.
 pub(crate) const SHORT: u32 = 12;
 
-/// A capture file can't be read on.
+/// The rest of a capture file can't be read.
 pub(crate) const BAD_CAPTURE: u32 = 13;
 
-/// The text of a filter is no expression.
+/// The text of a filter is not an expression.
 pub(crate) const BAD_FILTER: u32 = 14;
 
 /// The packet type of a header of Linux cooked capture v2 is above 7.
@@ -41,10 +41,10 @@ pub(crate) const BAD_PACKET_TYPE: u32 = 15;
 /// The frame has no ARP packet.
 pub(crate) const NO_ARP: u32 = 16;
 
-/// The header says something else about what follows it than the one in the frame.
+/// The header differs from the one in the frame in what it says about what follows it.
 pub(crate) const DIFFERS: u32 = 17;
 
-/// The call takes no unit of this kind.
+/// The call does not take a unit of this kind.
 pub(crate) const BAD_KIND: u32 = 18;
 
 /// There are more VLAN tags and SecTags than a packet may have.
@@ -56,7 +56,7 @@ pub(crate) const SEALED: u32 = 20;
 /// The frame does not leave by the port.
 pub(crate) const STAYS: u32 = 21;
 
-/// The status that says why a VLAN tag is not taken off, put in or changed.
+/// The status for a VLAN tag that is not taken off, put in or changed.
 pub(crate) fn tag_error(error: &TagError) -> u32 {
     match error {
         TagError::NoRoom => NO_ROOM,

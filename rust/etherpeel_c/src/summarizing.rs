@@ -32,7 +32,7 @@ pub unsafe extern "C" fn etherpeel_summary(
     DONE
 }
 
-/// The result of the walk that reads no more than `limit` VLAN tags and MACsec SecTags.
+/// Does as [`etherpeel_summary`] for the walk that reads at most `limit` VLAN tags and MACsec SecTags.
 ///
 /// <details><summary>Contract</summary>
 ///

@@ -1,11 +1,11 @@
-//! A bridge with VLANs.
+//! A bridge with VLANs, for callers in C.
 
 use crate::ether_received::bridge_kind;
 use crate::statuses::{BAD_FIELD, DONE, STAYS};
 use crate::{EtherPort, EtherReceived};
 use etherpeel::ether_switch::{Bridge, PortConfig, Received, StationBucket};
 
-/// Learns the source of a frame that came in by a port, and says what the bridge makes of the frame.
+/// Learns the source of a frame that came in by a port, and writes where the frame goes, or why it is discarded.
 ///
 /// <details><summary>Contract</summary>
 ///
@@ -49,7 +49,7 @@ pub unsafe extern "C" fn etherpeel_switch_receive(
     DONE
 }
 
-/// Whether a frame leaves by a port, and with the tag of its VLAN or without one.
+/// Writes whether a frame leaves by a port, and whether with the tag of its VLAN.
 ///
 /// <details><summary>Contract</summary>
 ///
@@ -78,7 +78,7 @@ pub extern "C" fn etherpeel_switch_form(
     DONE
 }
 
-/// The number of how a frame leaves by a port.
+/// The number of the form in which a frame leaves by a port.
 fn form_of(received: &Received, to: u16, port: &PortConfig) -> u32 {
     if !received.goes_to(to, port) {
         return 0;
@@ -90,7 +90,8 @@ fn form_of(received: &Received, to: u16, port: &PortConfig) -> u32 {
     }
 }
 
-/// Makes a frame ready to leave by a port, after four bytes of a buffer that are free, and says where it begins then.
+/// Makes a frame after four free bytes of a buffer ready to leave by a port, and writes the index at which it then
+/// begins.
 ///
 /// <details><summary>Contract</summary>
 ///

@@ -1,4 +1,4 @@
-//! The units of a frame in an array.
+//! Writes the units of a frame to an array.
 
 use crate::EtherUnit;
 use crate::ether_unit::UnitPlace;
@@ -6,7 +6,7 @@ use crate::numbers::start_of;
 use crate::statuses::{DONE, UNKNOWN_START};
 use etherpeel::ether_peel::{Peel, PeelFault, PeelUnit, Start, Summary};
 
-/// The units of a frame, as many as the array has room for, and how many there are in all.
+/// Writes as many units of a frame as the array has room for, and the number of all its units.
 ///
 /// <details><summary>Contract</summary>
 ///
@@ -37,8 +37,7 @@ pub unsafe extern "C" fn etherpeel_walk(
     DONE
 }
 
-/// The units of the walk that reads no more than `limit` VLAN tags and MACsec SecTags, as many as
-/// the array has room for, and how many there are in all.
+/// Does as [`etherpeel_walk`] for the walk that reads at most `limit` VLAN tags and MACsec SecTags.
 ///
 /// <details><summary>Contract</summary>
 ///
@@ -70,8 +69,8 @@ pub unsafe extern "C" fn etherpeel_walk_limited(
     DONE
 }
 
-/// The units of a walk with a limit on extensions or without, as many as the array has room for, and
-/// the result of the walk.
+/// Writes as many units of a walk, with a limit on tags or without, as the array has room for. Returns the result of
+/// the walk.
 #[inline(always)]
 pub(crate) fn walked(
     start: Start,
@@ -100,7 +99,7 @@ pub(crate) fn walked(
     }
 }
 
-/// A walk that has read nothing yet, with a limit on extensions or without.
+/// A walk that has read nothing yet, with a limit on tags or without.
 #[inline(always)]
 fn begun_walk<'a>(start: Start, bytes: &'a [u8], limit: Option<usize>) -> Peel<'a> {
     match limit {
@@ -109,7 +108,7 @@ fn begun_walk<'a>(start: Start, bytes: &'a [u8], limit: Option<usize>) -> Peel<'
     }
 }
 
-/// Writes a unit to its place, if the array has it.
+/// Writes a unit to the index `at`, if the array has that index.
 #[inline(always)]
 fn put(units: &mut [EtherUnit], at: usize, unit: &PeelUnit<'_>, place: UnitPlace) {
     if at < units.len() {

@@ -1,11 +1,11 @@
-//! Headers written back before the rest.
+//! Writes headers back, and what follows them.
 
 use crate::numbers::start_of;
 use crate::statuses::{DONE, NO_ROOM, UNKNOWN_START};
 use etherpeel::ether_peel::{write_back, write_back_limited};
 use etherpeel::err::SliceWriteSpaceError;
 
-/// Writes the headers of a frame, and what is left after them, to the front of a target.
+/// Writes the headers of a frame, and the window after them, to the front of a target.
 ///
 /// <details><summary>Contract</summary>
 ///
@@ -37,8 +37,7 @@ pub unsafe extern "C" fn etherpeel_write_back(
     status
 }
 
-/// Writes the headers of the walk that reads no more than `limit` VLAN tags and MACsec SecTags, and
-/// what is left after them.
+/// Does as [`etherpeel_write_back`] for the walk that reads at most `limit` VLAN tags and MACsec SecTags.
 ///
 /// <details><summary>Contract</summary>
 ///
@@ -72,8 +71,7 @@ pub unsafe extern "C" fn etherpeel_write_back_limited(
     status
 }
 
-/// The status of the call, and its length: the number of bytes that were written, or that the
-/// target needs.
+/// Returns the status of the call, and a length: the number of bytes that were written, or that the target needs.
 fn answer(written: Result<usize, SliceWriteSpaceError>) -> (u32, usize) {
     match written {
         Ok(end) => (DONE, end),

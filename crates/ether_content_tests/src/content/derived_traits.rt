@@ -1,4 +1,4 @@
-//! What callers learn of the derived traits. These functions are proved and never run.
+//! What callers know of the derived traits. These functions are proved and never run.
 ghost use Rattle.std.specs.Prelude.{◌≡◌, ◌↔◌, IsTrue};
 
 use ether_content::{EditedPacket, NoRoom, PacketEdit};

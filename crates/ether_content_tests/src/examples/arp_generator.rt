@@ -1,11 +1,11 @@
-//! A request as it is on the wire, and a target that is too short.
+//! An ARP request as it is on the wire, and a target that is too short.
 use crate::checks::{equal, put};
 use etherparse::VlanId;
 use etherparse::err::{Layer, SliceWriteSpaceError};
 use example_frames::arp_generator::{REQUEST_LEN, write_arp_request};
 use std::test::Fail;
 
-/// An ARP request of the Linux kernel as it was captured, without the outer one of its two VLAN tags.
+/// An ARP request of the Linux kernel as it was captured, without the outer of its two VLAN tags.
 const REQUEST: [u8; REQUEST_LEN] = [
     0xFF, 0xFF, 0xFF, 0xFF, 0xFF, 0xFF, 0x02, 0x00, 0x5E, 0x10, 0x00, 0x01, 0x81, 0x00, 0x00, 0x64,
     0x08, 0x06, 0x00, 0x01, 0x08, 0x00, 0x06, 0x04, 0x00, 0x01, 0x02, 0x00, 0x5E, 0x10, 0x00, 0x01,
@@ -19,7 +19,7 @@ const TOO_SHORT: SliceWriteSpaceError = SliceWriteSpaceError {
     layer_start_offset: 0,
 };
 
-/// The room of a target, the answer, and the bytes that are written.
+/// The length of a target, the result, and the bytes that are written.
 static ROWS: [(&str, usize, Result<usize, SliceWriteSpaceError>, &[u8]); 2] = [
     ("48 bytes of room", 48, Ok(46), &REQUEST),
     ("45 bytes of room", 45, Err(TOO_SHORT), &[]),

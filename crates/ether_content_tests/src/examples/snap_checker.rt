@@ -12,7 +12,8 @@ const COOKED_ARP_REQUEST: [u8; 44] = [
     0x02, 0x01, 0x00, 0x00, 0x00, 0x00, 0x00, 0x00, 0xC0, 0x00, 0x02, 0x02,
 ];
 
-/// After the ether type of MACsec: a SecTag that names 4 bytes of payload, a VLAN tag in these, and 2 bytes after them.
+/// After the ether type of MACsec: a SecTag whose short length gives 4 bytes of payload, a VLAN tag in these, and 2
+/// bytes after them.
 const TAG_IN_SEC_TAG: [u8; 14] = [
     0x00, 0x06, 0x00, 0x00, 0x00, 0x01, 0x81, 0x00, 0xAA, 0xBB, 0xCC, 0xDD, 0xEE, 0xEE,
 ];

@@ -5,7 +5,7 @@ use etherparse::VlanId;
 use example_frames::vlan_filter::is_ipv4_or_arp_in_vlans;
 use std::test::Fail;
 
-/// Sent as composed by hand, and captured: an ARP request of the Linux kernel with a service tag and a customer tag.
+/// An ARP request of the Linux kernel with a service tag and a customer tag: composed by hand, sent, and captured.
 #[rattlefmt::skip]
 const TWICE: [u8; 50] = [
     0xFF, 0xFF, 0xFF, 0xFF, 0xFF, 0xFF, 0x02, 0x00, 0x5E, 0x10, 0x00, 0x01, 0x88, 0xA8, 0x00, 0x0A,
@@ -25,7 +25,8 @@ const UNTAGGED: [u8; 19] = [
     0x08, 0x00, 0x45,
 ];
 
-/// A frame, as many of its bytes as there are, an identifier next to 0, and whether the frame passes.
+/// A frame, the number of its bytes that are there, the identifier that passes besides 0, and whether the frame
+/// passes.
 #[rattlefmt::skip]
 static ROWS: [(&str, &[u8], usize, u16, bool); 8] = [
     ("one of two identifiers", &TAGGED, 19, 0x123, true),

@@ -1,4 +1,4 @@
-//! What callers learn of the derived traits and of a constant. These functions are proved and never run.
+//! What callers know of the derived traits and of a constant. These functions are proved and never run.
 ghost use Rattle.std.specs.Prelude.{◌≡◌, ◌↔◌, IsTrue};
 
 use ether_filter::{Decision, Filter, FilterError, FilterErrorKind, Packet};

@@ -1,5 +1,5 @@
-//! Packets of worked frames, read, built and changed. The rows are in statics: to prove a function takes longer with each row that it
-//! makes.
+//! Worked frames as packets that are read, built and changed. The rows are statics, because a function takes longer to
+//! prove with each row that it makes.
 mod building;
 mod frames;
 mod fronts;
@@ -14,14 +14,14 @@ use crate::checks::{equal, put};
 use etherparse::{LinkExtHeader, MacsecHeader, SingleVlanHeader};
 use std::test::Fail;
 
-/// The bytes, and zeros after them.
+/// The bytes, padded with zeros.
 fn filled(bytes: &[u8]) -> [u8; 96] {
     let mut buffer = [0; 96];
     put(&mut buffer, 0, bytes);
     buffer
 }
 
-/// The header of a VLAN tag, if there are four bytes, or of a SecTag.
+/// The header of a VLAN tag if there are four bytes, else that of a SecTag.
 fn ext(bytes: &[u8]) -> Result<LinkExtHeader, Fail> {
     match bytes {
         [a, b, c, d] => Ok(LinkExtHeader::Vlan(SingleVlanHeader::from_bytes([*a, *b, *c, *d]))),

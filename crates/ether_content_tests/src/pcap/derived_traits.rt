@@ -1,5 +1,5 @@
-//! What callers learn of the derived traits and of the constants, at each type of this crate. These functions are proved and
-//! never run.
+//! What callers know of the derived traits and of the constants, for each type of `ether_pcap`. These functions are
+//! proved and never run.
 ghost use Rattle.std.specs.Prelude.{◌≡◌, ◌↔◌, IsTrue, [], ◌∷◌};
 ghost use Rattle.std.specs.Option.{option_map};
 ghost use Rattle.ether_pcap.specs.Views.{record_view};

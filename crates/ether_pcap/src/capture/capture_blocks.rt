@@ -12,7 +12,7 @@ use crate::{
     PcapngBlock, SimplePacket,
 };
 
-/// The block at the front of bytes that begin with no section header.
+/// Reads the block at the front of bytes that do not begin with a section header.
 #[inline(always)]
 #[tactic(auto, using(crate::specs::Capture::block, crate::specs::Capture::block_refused, crate::specs::Capture::body_refused))]
 pub(crate) fn read_block<'a, T: InterfaceTable>(
@@ -42,7 +42,7 @@ pub(crate) fn read_block<'a, T: InterfaceTable>(
     })
 }
 
-/// The packet, if the block is one. Appends the interface, if it describes one.
+/// Returns the block's packet, if it has one. Appends the interface if the block describes one.
 fn read_body<'a, T: InterfaceTable>(
     byte_order: ByteOrder,
     interfaces: &mut T,
@@ -104,7 +104,7 @@ fn add_interface<T: InterfaceTable>(
     Ok(())
 }
 
-/// The packet in the body of a simple packet, which is one of the first interface.
+/// Reads the body of a simple packet, whose interface is the first of the section.
 #[tactic(auto, using(crate::specs::Capture::simple_alone, crate::specs::Capture::simple))]
 fn simple_packet<'a>(
     byte_order: ByteOrder,
@@ -134,7 +134,7 @@ fn simple_packet<'a>(
     })
 }
 
-/// The packet in the body of an enhanced packet, or of an obsolete packet block.
+/// Reads the body of an enhanced packet, or of an obsolete packet block.
 #[tactic(auto, using(crate::specs::Capture::enhanced, crate::specs::Capture::enhanced_alone))]
 fn enhanced_packet<'a>(
     byte_order: ByteOrder,
@@ -165,7 +165,7 @@ fn enhanced_packet<'a>(
     })
 }
 
-/// The first of two lengths that is known.
+/// The length that the packet's flags give, else that of its interface.
 fn first_of(of_packet: Option<u8>, of_interface: Option<u8>) -> Option<u8>
     ensures { result ≡ fcs_of of_packet of_interface }
 {
@@ -175,7 +175,7 @@ fn first_of(of_packet: Option<u8>, of_interface: Option<u8>) -> Option<u8>
     }
 }
 
-/// The interface of a number, counted from 0.
+/// The interface with this number, counted from 0.
 pub(crate) fn interface_at(interfaces: &[CaptureInterface], number: u32) -> Option<CaptureInterface>
     ensures { MatchOption result
         (HasNoInterface (interfaces_view interfaces.now) number)

@@ -33,16 +33,16 @@ pub enum CaptureError {
     Block(BlockError),
     /// The body of an interface description or of a packet can't be read.
     Body(BodyError),
-    /// A packet names this interface, counted from 0, which its section does not describe before it. A simple packet is one of
-    /// interface 0.
+    /// A packet names this interface, counted from 0, but no block before it in its section describes that interface.
+    /// A simple packet belongs to interface 0.
     NoInterface(u32),
-    /// A section describes more interfaces than the [`InterfaceTable`](crate::InterfaceTable) of the reader has room for.
+    /// A section describes more interfaces than the reader's [`InterfaceTable`](crate::InterfaceTable) has room for.
     TooManyInterfaces,
 }
 
 impl CaptureError {
-    /// How many bytes the unit needs at least, if it was refused because the bytes end within it. The error is final if this is
-    /// `None`: the unit is refused with more bytes too.
+    /// The minimum number of bytes that the unit needs, if it was refused because the bytes end within it. `None`
+    /// means that the error is final: the unit is refused however many bytes follow.
     pub fn required_len(&self) -> Option<usize>
         ensures { result ≡ required_len_of (capture_refusal_view self.now) }
     {

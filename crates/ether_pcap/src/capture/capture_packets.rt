@@ -9,13 +9,13 @@ use crate::{
 use arrayvec::ArrayVec;
 use std::marker::Model;
 
-/// The interfaces of a section, in 96 KiB.
+/// Room for the interfaces of a section: 96 KiB.
 type Interfaces = ArrayVec<CaptureInterface, MAX_INTERFACES>;
 
-/// How many interfaces a section may describe.
+/// The most interfaces that a section may describe.
 const MAX_INTERFACES: usize = 4_096;
 
-/// The packets of a capture file of either format that is in memory, one after the other, and then the fault if there is one.
+/// The packets of a capture file of either format in memory, one after the other, and then the fault if there is one.
 ///
 /// ```
 /// let file = [
@@ -51,10 +51,10 @@ impl<'a> Model for CapturePackets<'a> {
 }
 
 impl<'a> CapturePackets<'a> {
-    /// How many interfaces a section may describe, 4,096.
+    /// The most interfaces that a section may describe: 4,096.
     pub const MAX_INTERFACES: usize = MAX_INTERFACES;
 
-    /// The packets of a file, from the first one on.
+    /// An iterator over the packets of a file, from the first one on.
     pub fn from_slice(slice: &'a [u8]) -> CapturePackets<'a>
         ensures { result ≡ start slice.now }
     {
@@ -66,14 +66,14 @@ impl<'a> CapturePackets<'a> {
         }
     }
 
-    /// The bytes that are left to read: after a fault, from the start of what can't be read.
+    /// The bytes that are left to read. After a fault they begin with the unit that can't be read.
     pub fn rest(&self) -> &'a [u8]
         ensures { result.now ≡ self.now.rest }
     {
         self.rest
     }
 
-    /// The place of the bytes that are left to read, from the start of the file.
+    /// The offset of [`rest`](Self::rest), from the start of the file.
     pub fn offset(&self) -> usize
         ensures { result ≡ self.now.offset }
     {
@@ -90,7 +90,8 @@ impl<'a> Iterator for CapturePackets<'a> {
 
     ghost remaining = { items_left };
 
-    /// The next packet, the fault that ends the file, or `None` if nothing is left to read or the fault was returned.
+    /// Returns the next packet, or the fault that ends the file. Returns `None` at the end of the file, and after the
+    /// fault.
     fn next(&mut self) -> Option<Result<CapturedPacket<'a>, CaptureFault>> {
         if self.is_over {
             return None;

@@ -1,4 +1,4 @@
-//! Units of a copy that is another capture.
+//! Units of a copy that is another capture than the file.
 ghost use Rattle.std.specs.Prelude.{◌≡◌, ◌+◌, ◌≤◌, length};
 ghost use Rattle.ether_pcap.specs.Capture.{kind_of_block};
 ghost use Rattle.ether_pcap.specs.CaptureViews.{captured_packet_view};
@@ -11,7 +11,7 @@ use crate::pcapng::simple_packet::captured_len;
 use crate::word_bytes::word;
 use crate::{ByteOrder, CapturedPacket, CopiedUnit, FileHeader, PcapngBlock};
 
-/// The file header with a snap length that is raised.
+/// The file header with its snap length raised.
 pub(crate) fn changed_header<'a>(header: &FileHeader, raise: u32, unit: &'a [u8]) -> CopiedUnit<'a>
     ensures { 24 ≤ length unit.now → copied_bytes result
         ≡ with_bytes 16 (bytes_of (file_header_view header.now).order 4 (raised raise header.now.snap_len)) unit.now }
@@ -23,7 +23,7 @@ pub(crate) fn changed_header<'a>(header: &FileHeader, raise: u32, unit: &'a [u8]
     with_snap_len(header.byte_order, 16, snap_len, unit)
 }
 
-/// A section header that gives no length of its section.
+/// The section header without a section length.
 pub(crate) fn changed_section<'a>(unit: &'a [u8]) -> CopiedUnit<'a>
     ensures { 24 ≤ length unit.now → copied_bytes result ≡ with_bytes 16 no_section_len unit.now }
 {
@@ -36,7 +36,7 @@ pub(crate) fn changed_section<'a>(unit: &'a [u8]) -> CopiedUnit<'a>
     }
 }
 
-/// A block that is neither a section header nor a packet.
+/// What a copy has for a block that is neither a section header nor a packet.
 pub(crate) fn changed_block<'a>(order: ByteOrder, raise: u32, block: &'a [u8]) -> CopiedUnit<'a>
     ensures { 4 ≤ length block.now → (field (order_of order) block.now 0 4 ≡ 1 → 16 ≤ length block.now)
         → copied_bytes result ≡ block_in raise (order_of order) block.now }
@@ -51,7 +51,7 @@ pub(crate) fn changed_block<'a>(order: ByteOrder, raise: u32, block: &'a [u8]) -
     }
 }
 
-/// An interface description with a snap length that is raised.
+/// The interface description with its snap length raised.
 fn changed_interface<'a>(order: ByteOrder, raise: u32, block: &'a [u8]) -> CopiedUnit<'a>
     ensures { 16 ≤ length block.now → copied_bytes result
         ≡ with_bytes 12 (bytes_of (order_of order) 4 (raised raise (field (order_of order) block.now 12 16))) block.now }
@@ -63,7 +63,7 @@ fn changed_interface<'a>(order: ByteOrder, raise: u32, block: &'a [u8]) -> Copie
     with_snap_len(order, 12, snap_len, block)
 }
 
-/// Tests that the block of a packet is still that packet where snap lengths are raised.
+/// Tests that a packet's block still has that packet after snap lengths are raised.
 pub(crate) fn keeps_block(
     order: ByteOrder,
     raise: u32,
@@ -80,7 +80,7 @@ pub(crate) fn keeps_block(
     captured_len(snap_len, packet.original_len) as usize == packet.packet.len()
 }
 
-/// A unit with another snap length at a place.
+/// The unit with another snap length at the offset `at`.
 fn with_snap_len<'a>(order: ByteOrder, at: usize, snap_len: u32, unit: &'a [u8]) -> CopiedUnit<'a>
     requires { at + 4 ≤ length unit.now }
     ensures { copied_bytes result ≡ with_bytes at (bytes_of (order_of order) 4 snap_len) unit.now }
@@ -92,7 +92,7 @@ fn with_snap_len<'a>(order: ByteOrder, at: usize, snap_len: u32, unit: &'a [u8])
     }
 }
 
-/// A snap length that is raised, 0 for none.
+/// Raises a snap length, to 2^32 - 1 at most. A snap length of 0 (no limit) is unchanged.
 fn raised_len(raise: u32, snap_len: u32) -> u32
     ensures { result ≡ raised raise snap_len }
 {

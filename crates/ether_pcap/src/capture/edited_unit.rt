@@ -1,24 +1,24 @@
-//! The unit of a packet that is edited.
+//! The unit of a packet after an edit.
 
-/// What a record or a block with an edited packet consists of: these parts, one after the other.
+/// The unit of a packet after an edit: the bytes of these fields, in order.
 #[derive(Clone, Copy, PartialEq, Eq, Debug)]
 pub enum EditedUnit<'a> {
     /// A record of a classic file.
     Record {
-        /// Time, captured and original length.
+        /// Seconds, fraction, captured length and original length.
         header: [u8; 16],
         /// The captured bytes.
         packet: &'a [u8],
     },
-    /// A block of a pcapng file, with an enhanced packet or an obsolete one.
+    /// An enhanced packet block, or an obsolete packet block, of a pcapng file.
     Block {
-        /// Block type, total length, interface, time, captured and original length.
+        /// Block type, total length, interface, time, captured length and original length.
         header: [u8; 28],
         /// The captured bytes.
         packet: &'a [u8],
-        /// How many zeros follow the captured bytes, 3 at most.
+        /// The number of zeros after the captured bytes, at most 3.
         padding_len: usize,
-        /// The options, as they were.
+        /// The options, unchanged.
         options: &'a [u8],
         /// The total length again.
         trailer: [u8; 4],

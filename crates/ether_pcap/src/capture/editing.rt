@@ -1,4 +1,4 @@
-//! Units whose packet is edited.
+//! The units of edited packets.
 ghost use Rattle.std.specs.Prelude.{◌≡◌, ℕ, ◌+◌, ◌-◌, ◌≤◌, List, ◌++◌, length, slice_range, Some, IfSome};
 ghost use Rattle.std.specs.Option.{option_map};
 ghost use Rattle.ether_pcap.specs.Block.{IsTotalLen};
@@ -11,7 +11,7 @@ ghost use Rattle.ether_pcap.specs.Views.{order_of, file_header_view};
 use crate::word_bytes::{four_words, len_word, padded_len, seven_words, word};
 use crate::{ByteOrder, EditedUnit, FileHeader, PcapRecord, PcapngBlock};
 
-/// The record of a packet with other captured bytes and another original length.
+/// The record with other captured bytes and another original length.
 pub(crate) fn edited_record<'a>(
     header: &FileHeader,
     unit: &[u8],
@@ -39,7 +39,8 @@ pub(crate) fn edited_record<'a>(
     })
 }
 
-/// The block of a packet with other captured bytes and another original length, if it gives these lengths.
+/// The block with other captured bytes and another original length. `None` for a simple packet, and if the block would
+/// be too long.
 pub(crate) fn edited_block<'a>(
     order: ByteOrder,
     block: &'a [u8],
@@ -64,7 +65,7 @@ pub(crate) fn edited_block<'a>(
     }
 }
 
-/// The block of an enhanced packet, or an obsolete packet block, with other captured bytes and another original length.
+/// Does as `edited_block`, for an enhanced packet block or an obsolete packet block.
 fn edited_enhanced_packet<'a>(
     order: ByteOrder,
     block: &'a [u8],
@@ -101,7 +102,7 @@ fn edited_enhanced_packet<'a>(
     })
 }
 
-/// The bytes of a block before the captured bytes, with other lengths.
+/// The bytes of the block before the captured bytes, with other lengths.
 fn block_header(
     order: ByteOrder,
     block: &[u8],
@@ -127,7 +128,7 @@ fn block_header(
     )
 }
 
-/// The four bytes at a place.
+/// The four bytes from the offset `at` on.
 fn word_at(bytes: &[u8], at: usize) -> [u8; 4]
     requires { at + 4 ≤ length bytes.now }
     ensures { result ≡ slice_range bytes.now at (at + 4) }

@@ -5,28 +5,29 @@ ghost use Rattle.ether_pcap.specs.declared.capture.capture_interface.CaptureInte
 use crate::capture::capture_interface::CaptureInterface;
 use arrayvec::ArrayVec;
 
-/// Where a [`CaptureReader`](crate::CaptureReader) keeps the interfaces that a section has described.
+/// Where a [`CaptureReader`](crate::CaptureReader) keeps the interfaces of a section.
 ///
-/// An [`ArrayVec`] is a table for so many interfaces, and takes no memory. A program that has memory can keep them there.
+/// An `ArrayVec<CaptureInterface, N>` holds up to `N` interfaces and allocates no memory. A program that allocates can
+/// implement this trait for a table of its own.
 pub trait InterfaceTable: Drop {
     // The interfaces, in the order in which they were described.
     ghost items: { Self → List CaptureInterface };
 
-    // How many there is room for.
+    // How many interfaces there is room for.
     ghost most: { ℕ };
 
-    /// The interfaces, in the order in which they were described.
+    /// The interfaces, in the order in which they were added.
     fn interfaces(&self) -> &[CaptureInterface]
         ensures { result.now ≡ items self.now };
 
-    /// Appends an interface. Returns `false`, and appends nothing, if there is no room.
+    /// Appends an interface. If there is no room, appends nothing and returns `false`.
     fn add(&mut self, interface: CaptureInterface) -> bool
         ensures added { IsTrue result → items self.new ≡ items self.old ++ interface ∷ [] }
         ensures room { IsTrue result → length (items self.old) < most }
         ensures full { IsFalse result → most ≤ length (items self.old) }
         ensures same { IsFalse result → items self.new ≡ items self.old };
 
-    /// Takes all interfaces out.
+    /// Removes all interfaces.
     fn remove_all(&mut self)
         ensures { items self.new ≡ [] };
 }

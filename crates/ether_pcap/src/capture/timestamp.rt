@@ -3,7 +3,7 @@ ghost use Rattle.std.specs.Prelude.{◌≡◌};
 ghost use Rattle.ether_pcap.specs.Capture.{time_of};
 ghost use Rattle.ether_pcap.specs.CaptureViews.{timestamp_view};
 
-/// The time of a capture since the beginning of 1970, UTC.
+/// The time of a capture, counted from the beginning of 1970, UTC.
 ///
 /// ```
 /// let early = Timestamp {
@@ -16,7 +16,7 @@ ghost use Rattle.ether_pcap.specs.CaptureViews.{timestamp_view};
 pub struct Timestamp {
     /// The whole seconds.
     pub seconds: u64,
-    /// The nanoseconds after them, less than 1,000,000,000 in each time that is read.
+    /// The nanoseconds after them. Less than 1,000,000,000 in each time that a reader returns.
     pub nanoseconds: u32,
 }
 

@@ -23,14 +23,14 @@ pub enum FileHeaderError {
         /// The length of the slice.
         len: usize,
     },
-    /// The first four bytes are no magic number of the format in either byte order. This is their number if the first one
-    /// is the most significant. A file of the newer pcapng format has 0x0A0D0D0A here.
+    /// The first four bytes are not a magic number of the format in either byte order. This is the number that they
+    /// are in big-endian order. A pcapng file has 0x0A0D0D0A here.
     Magic(u32),
     /// The version of the format is not 2.4.
     Version {
-        /// The number before the point.
+        /// The number before the dot.
         major: u16,
-        /// The number after the point.
+        /// The number after the dot.
         minor: u16,
     },
 }

@@ -6,8 +6,8 @@ ghost use Rattle.ether_pcap.specs.Views.{order_of, resolution_of, record_view, r
 
 use crate::{ByteOrder, FileHeader, RecordError, TimestampResolution};
 
-/// A view of a record of a classic pcap file (draft-ietf-opsawg-pcap, section 5): a captured packet, with a header of 16 bytes
-/// before it.
+/// A view of a record of a classic pcap file (draft-ietf-opsawg-pcap, section 5): a captured packet, with a header of
+/// 16 bytes before it.
 ///
 /// ```text
 ///  0         4          8              12             16
@@ -39,11 +39,12 @@ use crate::{ByteOrder, FileHeader, RecordError, TimestampResolution};
 pub struct PcapRecord<'a> {
     /// The time of the capture in whole seconds since the beginning of 1970, UTC.
     pub seconds: u32,
-    /// What is to be added to the seconds, in the file's [`TimestampResolution`]. It should be less than a second.
+    /// The fraction of a second that is added, in units of the file's [`TimestampResolution`]. It should be less than
+    /// a second.
     pub fraction: u32,
-    /// How many bytes the packet had before it was cut. It should be no less than the length of `packet`.
+    /// The length of the packet in bytes before it was cut. It should not be less than that of `packet`.
     pub original_len: u32,
-    /// The bytes that were captured of the packet.
+    /// The captured bytes of the packet.
     pub packet: &'a [u8],
 }
 
@@ -51,12 +52,13 @@ impl<'a> PcapRecord<'a> {
     /// The length of a record's header in bytes.
     pub const HEADER_LEN: usize = 16;
 
-    /// The greatest number of captured bytes that is read, 262,144: libpcap's greatest snap length for Ethernet and cooked captures.
+    /// The maximum number of captured bytes that is read: libpcap's maximum snap length for Ethernet and cooked
+    /// captures.
     pub const MAX_CAPTURED_LEN: u32 = 262_144;
 
-    /// The record at the front of a slice. Bytes after it are not part of the view.
+    /// Reads the record at the front of a slice. Bytes after it are not part of the view.
     ///
-    /// Whether the packet is longer than the file's snap length or than its own original length is not tested.
+    /// The captured length is compared neither with the file's snap length nor with the original length.
     ///
     /// # Errors
     ///
@@ -64,8 +66,8 @@ impl<'a> PcapRecord<'a> {
     ///
     /// - `RecordError::Len`: the slice has fewer than 16 bytes. `required_len` is 16, `len` the slice's length.
     /// - `RecordError::CapturedLen`: the number of captured bytes, which the error names, is above 262,144.
-    /// - `RecordError::Len`: the slice ends within the packet. `required_len` is the length of the whole record, `len` that of
-    ///   the slice.
+    /// - `RecordError::Len`: the slice ends within the packet. `required_len` is the length of the whole record, `len`
+    ///   that of the slice.
     #[tactic(auto, using(crate::specs::Record::header, crate::specs::Record::too_long, crate::specs::Record::packet))]
     pub fn from_slice(file: &FileHeader, slice: &'a [u8]) -> Result<PcapRecord<'a>, RecordError>
         ensures record { IfOk result (λ r. BeginsRecord (order_of file.now.byte_order) slice.now (record_view r)) }
@@ -97,14 +99,15 @@ impl<'a> PcapRecord<'a> {
         })
     }
 
-    /// The length of the record in bytes, with its header: the next record begins there.
+    /// The length of the record in bytes, with its header. The next record begins after it.
     pub fn record_len(&self) -> usize
         ensures { result ≡ 16 + length self.now.packet.now }
     {
         PcapRecord::HEADER_LEN + self.packet.len()
     }
 
-    /// The time of the capture in nanoseconds since the beginning of 1970, UTC, from the resolution of the file.
+    /// The time of the capture in nanoseconds since the beginning of 1970, UTC, with `fraction` in units of this
+    /// resolution.
     pub fn nanoseconds(&self, resolution: TimestampResolution) -> u64
         ensures { result ≡ nanoseconds_of (resolution_of resolution) self.now.seconds self.now.fraction }
     {
@@ -116,10 +119,10 @@ impl<'a> PcapRecord<'a> {
         u64::from(self.seconds) * 1_000_000_000 + nanoseconds
     }
 
-    /// The bytes of the record's header in a file of this byte order. The bytes of `packet` follow them.
+    /// The bytes of the record's header in this byte order. In a file the bytes of `packet` follow them.
     ///
-    /// A packet of more than [`PcapRecord::MAX_CAPTURED_LEN`] bytes is not read back; the length of one of 4 GiB or more is written
-    /// modulo 2^32.
+    /// A record with more than [`PcapRecord::MAX_CAPTURED_LEN`] captured bytes can be written, but is not read back. A
+    /// captured length of 4 GiB or more is written modulo 2^32.
     ///
     /// ```
     /// let record = PcapRecord {
@@ -149,7 +152,7 @@ impl<'a> PcapRecord<'a> {
     }
 }
 
-/// Four numbers, one after the other.
+/// Joins four numbers.
 fn joined(
     seconds: [u8; 4],
     fraction: [u8; 4],

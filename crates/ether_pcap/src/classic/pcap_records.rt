@@ -1,4 +1,4 @@
-//! The records of a file, one after the other.
+//! The records of a classic capture file, one after the other.
 ghost use Rattle.std.specs.Prelude.{◌≡◌, IfOk, IfErr, drop, false};
 ghost use Rattle.ether_pcap.specs.FileHeader.{IsFileHeader, RefusesFile};
 ghost use Rattle.ether_pcap.specs.Views.{file_header_view, file_refusal_view};
@@ -6,7 +6,7 @@ ghost use Rattle.ether_pcap.specs.Views.{file_header_view, file_refusal_view};
 use crate::{FileHeader, FileHeaderError, PcapRecord, RecordFault};
 use std::marker::Model;
 
-/// The records of a classic pcap file that is in memory, one after the other, and then the fault if there is one.
+/// The records of a classic pcap file in memory, one after the other, and then the fault if there is one.
 ///
 /// ```
 /// let file = [
@@ -42,11 +42,11 @@ impl<'a> Model for PcapRecords<'a> {
 }
 
 impl<'a> PcapRecords<'a> {
-    /// The records of a file, from the first one on.
+    /// Reads the file header, and returns an iterator over the records of the file.
     ///
     /// # Errors
     ///
-    /// As [`FileHeader::from_slice`].
+    /// Those of [`FileHeader::from_slice`].
     pub fn from_slice(slice: &'a [u8]) -> Result<PcapRecords<'a>, FileHeaderError>
         ensures header { IfOk result (λ r. IsFileHeader slice.now (file_header_view r.header)) }
         ensures rest { IfOk result (λ r. r.rest ≡ drop 24 slice.now) }
@@ -70,14 +70,14 @@ impl<'a> PcapRecords<'a> {
         self.header
     }
 
-    /// The bytes that are left to read: after a fault, from the start of the record that can't be read.
+    /// The bytes that are left to read. After a fault they begin with the record that can't be read.
     pub fn rest(&self) -> &'a [u8]
         ensures { result.now ≡ self.now.rest }
     {
         self.rest
     }
 
-    /// The place of the bytes that are left to read, from the start of the file.
+    /// The offset of [`rest`](Self::rest), from the start of the file.
     pub fn offset(&self) -> usize
         ensures { result ≡ self.now.offset }
     {
@@ -94,7 +94,8 @@ impl<'a> Iterator for PcapRecords<'a> {
 
     ghost remaining = { items_left };
 
-    /// The next record, the fault that ends the file, or `None` if nothing is left to read or the fault was returned.
+    /// Returns the next record, or the fault that ends the file. Returns `None` at the end of the file, and after the
+    /// fault.
     fn next(&mut self) -> Option<Result<PcapRecord<'a>, RecordFault>> {
         if self.is_over || self.rest.is_empty() {
             return None;

@@ -21,12 +21,13 @@ use std::fmt;
 pub enum RecordError {
     /// The slice is too short.
     Len {
-        /// The length of the record in bytes; if the slice ends within the record's header, that of the header, 16.
+        /// The length of the record in bytes. If the slice ends within the record's header, this is the length of that
+        /// header, 16.
         required_len: usize,
         /// The length of the slice.
         len: usize,
     },
-    /// The record names this many captured bytes, more than
+    /// The record's header gives this captured length, which is above
     /// [`PcapRecord::MAX_CAPTURED_LEN`](crate::PcapRecord::MAX_CAPTURED_LEN).
     CapturedLen(u32),
 }

@@ -23,7 +23,7 @@ use std::fmt;
 /// ```
 #[derive(Clone, Copy, PartialEq, Eq, Debug)]
 pub struct RecordFault {
-    /// The place of the record, from the start of the file.
+    /// The offset of the record, from the start of the file.
     pub offset: usize,
     /// Why it can't be read.
     pub error: RecordError,

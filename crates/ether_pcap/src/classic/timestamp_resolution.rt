@@ -3,8 +3,7 @@ ghost use Rattle.std.specs.Prelude.{◌≡◌, ◌≢◌, MatchOption};
 ghost use Rattle.ether_pcap.specs.FileHeader.{Resolution, magic_of};
 ghost use Rattle.ether_pcap.specs.Views.{resolution_of};
 
-/// The resolution of a file's timestamps: what the second number of each counts. The magic number at the start of the
-/// file says it.
+/// The resolution of a file's timestamps: the unit of the second number of each. The file's magic number gives it.
 ///
 /// ```
 /// assert_eq!(rt; TimestampResolution::of_magic(0xA1B2_3C4D), Some(TimestampResolution::Nanoseconds));
@@ -18,7 +17,7 @@ pub enum TimestampResolution {
 }
 
 impl TimestampResolution {
-    /// The resolution of a file with this magic number. Returns `None` if it is no magic number of the format.
+    /// The resolution of a file with this magic number. `None` if the format does not have that magic number.
     pub fn of_magic(magic: u32) -> Option<TimestampResolution>
         ensures { MatchOption result ((r : Resolution) → magic ≢ magic_of r) (λ resolution. magic ≡ magic_of (resolution_of resolution)) }
     {

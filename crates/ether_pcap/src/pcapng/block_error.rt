@@ -17,18 +17,19 @@ use std::fmt;
 pub enum BlockError {
     /// The slice is too short.
     Len {
-        /// The length of the block in bytes; if the slice has fewer than the 12 bytes that every block has, 12.
+        /// The length of the block in bytes. If the slice has fewer than 12 bytes, the length of the smallest block,
+        /// this is 12.
         required_len: usize,
         /// The length of the slice.
         len: usize,
     },
-    /// The block's length is below 12 or above 16 MiB, or no multiple of 4.
+    /// The block's length is below 12, above 16 MiB, or not a multiple of 4.
     TotalLen(u32),
-    /// The block ends with another length than it begins with.
+    /// The length at the end of the block differs from that at its front.
     Trailer {
-        /// The length at its beginning.
+        /// The length at the front.
         total_len: u32,
-        /// The length at its end.
+        /// The length at the end.
         trailer: u32,
     },
 }

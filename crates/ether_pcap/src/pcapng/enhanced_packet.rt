@@ -13,11 +13,12 @@ use crate::pcapng::pcapng_option::{bytes_from, u32_option};
 use crate::word_bytes::{four_words, len_word, padded_len, seven_words, word};
 use crate::{BodyError, ByteOrder, PcapRecord, PcapngBlock};
 
-/// The code of the option with flags, `epb_flags` of an enhanced packet and `pack_flags` of the obsolete packet block.
+/// The code of the option that has a packet's flags: `epb_flags` of an enhanced packet, `pack_flags` of the obsolete
+/// packet block.
 const FLAGS: u16 = 2;
 
-/// A view of the body of an enhanced packet (draft-ietf-opsawg-pcapng, section 4.3): a packet that was captured on one of several
-/// interfaces.
+/// A view of the body of an enhanced packet (draft-ietf-opsawg-pcapng, section 4.3): a packet that was captured on one
+/// of several interfaces.
 ///
 /// ```text
 ///  0           4           8           12             16             20
@@ -41,11 +42,12 @@ const FLAGS: u16 = 2;
 pub struct EnhancedPacket<'a> {
     /// The interface, counted from 0 in the order of the section's interface descriptions.
     pub interface: u32,
-    /// The time of the capture since the beginning of 1970, UTC: in microseconds if no option of the interface says otherwise.
+    /// The time of the capture since the beginning of 1970, UTC: in microseconds unless an option of the interface
+    /// says otherwise.
     pub time: u64,
-    /// How many bytes the packet had before it was cut.
+    /// The length of the packet in bytes before it was cut.
     pub original_len: u32,
-    /// The bytes that were captured of the packet.
+    /// The captured bytes of the packet.
     pub packet: &'a [u8],
     /// The bytes of the options.
     pub options: &'a [u8],
@@ -60,7 +62,8 @@ impl<'a> EnhancedPacket<'a> {
     ///
     /// - `BodyError::Len`: the body has fewer than 20 bytes. `required_len` is 20, `len` the body's length.
     /// - `BodyError::CapturedLen`: the number of captured bytes, which the error names, is above 262,144.
-    /// - `BodyError::Len`: the body ends within the packet. `required_len` is 20 more than the number of captured bytes.
+    /// - `BodyError::Len`: the body ends within the packet. `required_len` is 20 more than the number of captured
+    ///   bytes.
     pub fn from_body(byte_order: ByteOrder, body: &'a [u8]) -> Result<EnhancedPacket<'a>, BodyError>
         ensures packet { IfOk result (λ p. IsEnhancedPacket 4 (order_of byte_order) body.now (enhanced_packet_view p)) }
         ensures refused { IfErr result (λ e. RefusesEnhancedPacket (order_of byte_order) body.now (body_refusal_view e)) }
@@ -68,8 +71,9 @@ impl<'a> EnhancedPacket<'a> {
         packet_of_body(byte_order, true, body)
     }
 
-    /// Reads the body of a block of type [`PcapngBlock::PACKET`](crate::PcapngBlock::PACKET), which is obsolete (appendix A): its
-    /// first four bytes are a number of two bytes for the interface, and the number of packets that were dropped before this one.
+    /// Reads the body of a block of type [`PcapngBlock::PACKET`](crate::PcapngBlock::PACKET), which is obsolete
+    /// (appendix A). Its first two bytes are the number of the interface, and the next two count the packets that were
+    /// dropped before this one; the count is not read.
     ///
     /// # Errors
     ///
@@ -84,7 +88,7 @@ impl<'a> EnhancedPacket<'a> {
         packet_of_body(byte_order, false, body)
     }
 
-    /// How many zeros follow the packet in its block.
+    /// The number of zeros after the packet in its block, at most 3.
     pub fn padding_len(&self) -> usize
         ensures { let n = length self.now.packet.now in result ≡ padded n - n }
     {
@@ -100,12 +104,13 @@ impl<'a> EnhancedPacket<'a> {
         ((32 + packet_len + options_len) % 0x1_0000_0000) as u32
     }
 
-    /// The front of an enhanced packet block: its type and length, interface, time, captured and original length. The bytes of `packet`
-    /// follow, [`padding_len`](Self::padding_len) zeros, those of `options`, whose number should be a multiple of 4, and then
-    /// [`trailer_to_bytes`](Self::trailer_to_bytes).
+    /// The front of an enhanced packet block: block type, total length, interface, time, captured and original length.
+    /// In a file these follow: the bytes of `packet`, [`padding_len`](Self::padding_len) zeros, the bytes of
+    /// `options`, whose number should be a multiple of 4, and [`trailer_to_bytes`](Self::trailer_to_bytes).
     ///
-    /// A packet of more than [`PcapRecord::MAX_CAPTURED_LEN`] bytes is not read back, nor a block of more than
-    /// [`PcapngBlock::MAX_LEN`](crate::PcapngBlock::MAX_LEN); a length of 4 GiB or more is written modulo 2^32.
+    /// A packet of more than [`PcapRecord::MAX_CAPTURED_LEN`] bytes, or a block of more than
+    /// [`PcapngBlock::MAX_LEN`](crate::PcapngBlock::MAX_LEN), can be written, but is not read back. A length of 4 GiB
+    /// or more is written modulo 2^32.
     ///
     /// ```
     /// let packet = EnhancedPacket {
@@ -141,14 +146,15 @@ impl<'a> EnhancedPacket<'a> {
         )
     }
 
-    /// The end of an enhanced packet block with this packet: its length.
+    /// The end of the enhanced packet block: its total length again.
     pub fn trailer_to_bytes(&self, byte_order: ByteOrder) -> [u8; 4]
         ensures { result ≡ bytes_of (order_of byte_order) 4 (packet_block_len (enhanced_packet_view self.now)) }
     {
         word(byte_order, self.block_len())
     }
 
-    /// The length in bytes of the frame check sequence at the end of the packet before it was cut, if the option with flags gives it.
+    /// The length in bytes of the frame check sequence at the end of the packet before it was cut, if the packet's
+    /// flags give it: 1 to 15 (bits 5 to 8 of the flags, section 4.3.1).
     pub fn fcs_len(&self, byte_order: ByteOrder) -> Option<u8>
         ensures { (all : List OptionValue) → HasOptions (order_of byte_order) self.now.options.now all
             → result ≡ fcs_in_flags (number_of (order_of byte_order) 4 (value_of 2 all)) }
@@ -161,7 +167,7 @@ impl<'a> EnhancedPacket<'a> {
     }
 }
 
-/// The packet in a body whose interface has four bytes if `is_enhanced`, and else two.
+/// Reads a body whose interface has four bytes if `is_enhanced`, else two.
 #[tactic(auto, using(crate::specs::Bodies::enhanced, crate::specs::Bodies::enhanced_too_long, crate::specs::Bodies::enhanced_packet))]
 pub(crate) fn packet_of_body<'a>(
     byte_order: ByteOrder,
@@ -200,7 +206,7 @@ pub(crate) fn packet_of_body<'a>(
     })
 }
 
-/// The number at the front of a body: four bytes if `is_enhanced`, and else two.
+/// The number at the front of a body: four bytes if `is_enhanced`, else two.
 fn interface_number(byte_order: ByteOrder, is_enhanced: bool, body: &[u8]) -> u32
     requires { 4 ≤ length body.now }
     ensures { result ≡ field (order_of byte_order) body.now 0 (if is_enhanced then 4 else 2) }

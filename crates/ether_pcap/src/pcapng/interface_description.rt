@@ -20,7 +20,8 @@ const FCS_LEN: u16 = 13;
 /// The code of the option with the offset of times, `if_tsoffset`.
 const TIME_OFFSET: u16 = 14;
 
-/// A view of the body of an interface description (draft-ietf-opsawg-pcapng, section 4.2): on what packets were captured.
+/// A view of the body of an interface description (draft-ietf-opsawg-pcapng, section 4.2): the interface on which
+/// packets were captured.
 ///
 /// ```text
 ///  0           2          4          8
@@ -47,14 +48,15 @@ pub struct InterfaceDescription<'a> {
     pub byte_order: ByteOrder,
     /// What each packet of the interface begins with.
     pub link_type: LinkType,
-    /// The length in bytes to which longer packets were cut when they were captured; 0 if they weren't.
+    /// The length in bytes to which longer packets were cut when they were captured; 0 if there is no limit.
     pub snap_len: u32,
     /// The bytes of the options.
     pub options: &'a [u8],
 }
 
 impl<'a> InterfaceDescription<'a> {
-    /// Reads the body of a block of type [`PcapngBlock::INTERFACE_DESCRIPTION`](crate::PcapngBlock::INTERFACE_DESCRIPTION).
+    /// Reads the body of a block of type
+    /// [`PcapngBlock::INTERFACE_DESCRIPTION`](crate::PcapngBlock::INTERFACE_DESCRIPTION).
     ///
     /// # Errors
     ///
@@ -82,10 +84,12 @@ impl<'a> InterfaceDescription<'a> {
         })
     }
 
-    /// The front of the block that describes the interface: its type and length, link type and snap length. The bytes of `options` follow,
-    /// whose number should be a multiple of 4, and then [`trailer_to_bytes`](Self::trailer_to_bytes).
+    /// The front of the block that describes the interface: block type, total length, link type and snap length. In a
+    /// file these follow: the bytes of `options`, whose number should be a multiple of 4, and
+    /// [`trailer_to_bytes`](Self::trailer_to_bytes).
     ///
-    /// A block of more than [`PcapngBlock::MAX_LEN`] bytes is not read back; the length of one of 4 GiB or more is written modulo 2^32.
+    /// A block of more than [`PcapngBlock::MAX_LEN`] bytes can be written, but is not read back. A total length of 4
+    /// GiB or more is written modulo 2^32.
     ///
     /// ```
     /// let options = InterfaceDescription::nanosecond_options(ByteOrder::BigEndian);
@@ -114,14 +118,14 @@ impl<'a> InterfaceDescription<'a> {
         )
     }
 
-    /// The end of the block that describes the interface: its length.
+    /// The end of the block that describes the interface: its total length again.
     pub fn trailer_to_bytes(&self) -> [u8; 4]
         ensures { result ≡ bytes_of (order_of self.now.byte_order) 4 (interface_block_len (interface_view self.now)) }
     {
         len_word(self.byte_order, 20 + self.options.len())
     }
 
-    /// The bytes of the option `if_tsresol` that gives nanoseconds, and of the end of options.
+    /// The bytes of two options: `if_tsresol` with the value 9, nanoseconds, and the end of options.
     pub fn nanosecond_options(byte_order: ByteOrder) -> [u8; 12]
         ensures value { result ≡ nanosecond_bytes (order_of byte_order) }
         ensures read_back { HasOptions (order_of byte_order) result (record { code = 9; value = 9 ∷ [] } ∷ []) }
@@ -133,7 +137,8 @@ impl<'a> InterfaceDescription<'a> {
         )
     }
 
-    /// The value of the first option with a code. Options are read up to the end of options or to one that is cut.
+    /// The value of the first option with this code. Options are read up to the end of options, or up to one that is
+    /// cut.
     pub fn option(&self, code: u16) -> Option<&'a [u8]>
         ensures { (all : List OptionValue) → HasOptions (order_of self.now.byte_order) self.now.options.now all
             → MatchOption result (value_of code all ≡ None) (λ value. value_of code all ≡ Some value.now) }
@@ -141,8 +146,8 @@ impl<'a> InterfaceDescription<'a> {
         option_value(self.byte_order, self.options, code)
     }
 
-    /// The number in the option `if_fcslen` of one byte: the length of the frame check sequence at the end of each packet, in bits by
-    /// the description. Wireshark reads and writes it in bytes.
+    /// The value of the option `if_fcslen`, if it has one byte: the length of the frame check sequence at the end of
+    /// each packet. By the description of the format it counts bits; Wireshark reads and writes bytes.
     pub fn fcs_len(&self) -> Option<u8>
         ensures { (all : List OptionValue) → HasOptions (order_of self.now.byte_order) self.now.options.now all
             → result ≡ byte_of (value_of 13 all) }
@@ -150,8 +155,8 @@ impl<'a> InterfaceDescription<'a> {
         byte_option(self.byte_order, self.options, FCS_LEN)
     }
 
-    /// The number in the option `if_tsresol` of one byte, which gives the unit of the times of packets. If it is below 128, a
-    /// second has as many units as ten to the power of this number; else as two to the power of its seven lower bits.
+    /// The value n of the option `if_tsresol`, if it has one byte: the unit of the packets' times. If n is below 128,
+    /// the unit is 10^-n seconds; else it is 2^-(n - 128) seconds.
     pub fn time_resolution(&self) -> Option<u8>
         ensures { (all : List OptionValue) → HasOptions (order_of self.now.byte_order) self.now.options.now all
             → result ≡ byte_of (value_of 9 all) }
@@ -159,8 +164,8 @@ impl<'a> InterfaceDescription<'a> {
         byte_option(self.byte_order, self.options, TIME_RESOLUTION)
     }
 
-    /// The number in the option `if_tsoffset` of eight bytes: the seconds that are added to the times of packets, whose 64 bits are a
-    /// signed number.
+    /// The value of the option `if_tsoffset`, if it has eight bytes: the seconds that are added to the packets' times,
+    /// in two's complement.
     pub fn time_offset(&self) -> Option<u64>
         ensures { (all : List OptionValue) → HasOptions (order_of self.now.byte_order) self.now.options.now all
             → result ≡ number_of (order_of self.now.byte_order) 8 (value_of 14 all) }
@@ -169,7 +174,7 @@ impl<'a> InterfaceDescription<'a> {
     }
 }
 
-/// The number in the first option with a code, if its value is one byte.
+/// The value of the first option with this code, if it has one byte.
 fn byte_option(byte_order: ByteOrder, options: &[u8], code: u16) -> Option<u8>
     ensures { (all : List OptionValue) → HasOptions (order_of byte_order) options.now all → result ≡ byte_of (value_of code all) }
 {

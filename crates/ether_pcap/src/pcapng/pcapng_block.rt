@@ -6,8 +6,8 @@ ghost use Rattle.ether_pcap.specs.PcapngViews.{block_view, block_refusal_view};
 
 use crate::{BlockError, ByteOrder};
 
-/// A view of a block of a pcapng file (draft-ietf-opsawg-pcapng, section 3.1). A file is a list of them; those of unknown types
-/// are to be skipped.
+/// A view of a block of a pcapng file (draft-ietf-opsawg-pcapng, section 3.1). A file is a list of blocks; a reader
+/// should skip those whose type it does not know.
 ///
 /// ```text
 ///  0      4          8                  n - 4      n
@@ -16,7 +16,7 @@ use crate::{BlockError, ByteOrder};
 ///  +------+----------+-- .. --+---------+----------+
 /// ```
 ///
-/// The padding, if there is any, is part of `body`: where it begins depends on the type of the block.
+/// Padding, if there is any, is part of `body`: where it begins depends on the type of the block.
 ///
 /// ```
 /// let bytes = [
@@ -29,14 +29,14 @@ use crate::{BlockError, ByteOrder};
 /// ```
 #[derive(Clone, Copy, PartialEq, Eq, Debug)]
 pub struct PcapngBlock<'a> {
-    /// What the body is.
+    /// The type, which says how to read the body.
     pub block_type: u32,
-    /// The bytes between the two lengths, a multiple of 4.
+    /// The bytes between the two lengths. Their number is a multiple of 4.
     pub body: &'a [u8],
 }
 
 impl<'a> PcapngBlock<'a> {
-    /// The type of a section header, with which each file begins.
+    /// The type of a section header, the first block of each file.
     pub const SECTION_HEADER: u32 = 0x0A0D_0D0A;
 
     /// The type of an interface description.
@@ -51,26 +51,29 @@ impl<'a> PcapngBlock<'a> {
     /// The type of an enhanced packet.
     pub const ENHANCED_PACKET: u32 = 6;
 
-    /// The type of a custom block that a program leaves out of a capture that it changes.
+    /// The type of a custom block that a program should leave out of a capture that it changes.
     pub const UNCOPIED_CUSTOM: u32 = 0x4000_0BAD;
 
     /// The length in bytes of a block with an empty body.
     pub const MIN_LEN: usize = 12;
 
-    /// The greatest length in bytes of a block that is read, 16 MiB, the limit that libpcap starts with. It has room for every packet
-    /// that is read.
+    /// The maximum length in bytes of a block that is read: 16 MiB, libpcap's initial limit. A block of this length
+    /// has room for every packet that is read.
     pub const MAX_LEN: u32 = 16_777_216;
 
-    /// The block at the front of a slice. The order of the bytes is that of the section.
+    /// Reads the block at the front of a slice. `byte_order` is that of the section.
     ///
     /// # Errors
     ///
     /// The first of these that holds:
     ///
     /// - `BlockError::Len`: the slice has fewer than 12 bytes. `required_len` is 12, `len` the slice's length.
-    /// - `BlockError::TotalLen`: the block's length, which the error names, is below 12 or above 16 MiB, or no multiple of 4.
-    /// - `BlockError::Len`: the slice is shorter than the block. `required_len` is the block's length, `len` the slice's.
-    /// - `BlockError::Trailer`: the block ends with another length than it begins with. The error names both.
+    /// - `BlockError::TotalLen`: the block's length, which the error names, is below 12, above 16 MiB, or not a
+    ///   multiple of 4.
+    /// - `BlockError::Len`: the slice is shorter than the block. `required_len` is the block's length, `len` the
+    ///   slice's.
+    /// - `BlockError::Trailer`: the length at the end of the block differs from that at its front. The error names
+    ///   both.
     #[tactic(auto, using(crate::specs::Block::front, crate::specs::Block::total_len, crate::specs::Block::body))]
     pub fn from_slice(byte_order: ByteOrder, slice: &'a [u8]) -> Result<PcapngBlock<'a>, BlockError>
         ensures block { IfOk result (λ b. BeginsBlock (order_of byte_order) slice.now (block_view b)) }
@@ -103,7 +106,7 @@ impl<'a> PcapngBlock<'a> {
         })
     }
 
-    /// The length of the block in bytes: the next block begins there.
+    /// The length of the block in bytes. The next block begins after it.
     pub fn block_len(&self) -> usize
         ensures { result ≡ 12 + length self.now.body.now }
     {

@@ -15,7 +15,8 @@ pub(crate) struct PcapngOption<'a> {
 }
 
 impl<'a> PcapngOption<'a> {
-    /// The option at the front of a slice. Returns `None` if the slice begins with the end of the options, or ends within an option.
+    /// Reads the option at the front of a slice. Returns `None` if the slice begins with the end of options, or ends
+    /// within an option.
     pub fn first(byte_order: ByteOrder, slice: &'a [u8]) -> Option<PcapngOption<'a>>
         ensures { MatchOption result
             ((o : OptionValue) → BeginsOption (order_of byte_order) slice.now o → ⊥)
@@ -46,7 +47,7 @@ impl<'a> PcapngOption<'a> {
     }
 }
 
-/// The bytes from a place on, none if there are fewer.
+/// The bytes from the offset `place` on; none if there are fewer bytes.
 pub(crate) fn bytes_from(bytes: &[u8], place: usize) -> &[u8]
     ensures { result.now ≡ drop place bytes.now }
 {
@@ -57,7 +58,7 @@ pub(crate) fn bytes_from(bytes: &[u8], place: usize) -> &[u8]
     }
 }
 
-/// The value of the first option with a code.
+/// The value of the first option with this code.
 pub(crate) fn option_value(byte_order: ByteOrder, options: &[u8], code: u16) -> Option<&[u8]>
     ensures { (all : List OptionValue) → HasOptions (order_of byte_order) options.now all
         → MatchOption result (value_of code all ≡ None) (λ value. value_of code all ≡ Some value.now) }
@@ -72,7 +73,7 @@ pub(crate) fn option_value(byte_order: ByteOrder, options: &[u8], code: u16) -> 
     None
 }
 
-/// The number in the first option with a code, if its value is four bytes.
+/// The number in the first option with this code, if its value has four bytes.
 pub(crate) fn u32_option(byte_order: ByteOrder, options: &[u8], code: u16) -> Option<u32>
     ensures { (all : List OptionValue) → HasOptions (order_of byte_order) options.now all
         → result ≡ number_of (order_of byte_order) 4 (value_of code all) }
@@ -83,7 +84,7 @@ pub(crate) fn u32_option(byte_order: ByteOrder, options: &[u8], code: u16) -> Op
     }
 }
 
-/// The number in the first option with a code, if its value is eight bytes.
+/// The number in the first option with this code, if its value has eight bytes.
 pub(crate) fn u64_option(byte_order: ByteOrder, options: &[u8], code: u16) -> Option<u64>
     ensures { (all : List OptionValue) → HasOptions (order_of byte_order) options.now all
         → result ≡ number_of (order_of byte_order) 8 (value_of code all) }

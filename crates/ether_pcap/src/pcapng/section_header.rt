@@ -11,8 +11,8 @@ ghost use Rattle.ether_pcap.specs.PcapngViews.{block_view, section_refusal_view}
 use crate::word_bytes::{four_words, half_words, seven_words, word};
 use crate::{ByteOrder, PcapngBlock, SectionError};
 
-/// A view of a section header (draft-ietf-opsawg-pcapng, section 4.1), the block with which a pcapng file begins: it says the order of the bytes of the numbers in its
-/// section, which reaches to the next section header. The length of the section is not read.
+/// A view of a section header (draft-ietf-opsawg-pcapng, section 4.1), the first block of a pcapng file. It gives the
+/// byte order of its section, which reaches to the next section header. The section length in it is not read.
 ///
 /// ```
 /// let bytes = [
@@ -32,16 +32,19 @@ pub struct SectionHeader<'a> {
 }
 
 impl<'a> SectionHeader<'a> {
-    /// The section header at the front of a slice.
+    /// Reads the section header at the front of a slice.
     ///
     /// # Errors
     ///
     /// The first of these that holds:
     ///
     /// - `SectionError::Len`: the slice has fewer than 12 bytes. `required_len` is 12, `len` the slice's length.
-    /// - `SectionError::BlockType`: the block has another type than 0x0A0D0D0A.
-    /// - `SectionError::Magic`: the first number of the body is not 0x1A2B3C4D in either byte order.
-    /// - `SectionError::Block`: the slice does not begin with a block in this byte order.
+    /// - `SectionError::BlockType`: the block has another type than 0x0A0D0D0A. The error names it as a big-endian
+    ///   number.
+    /// - `SectionError::Magic`: the first number of the body is not 0x1A2B3C4D in either byte order. The error names
+    ///   it as a big-endian number.
+    /// - `SectionError::Block`: the block can't be read in this byte order
+    ///   ([`PcapngBlock::from_slice`](crate::PcapngBlock::from_slice)).
     /// - `SectionError::Body`: the body has fewer than 16 bytes. `required_len` is 16, `len` the body's length.
     /// - `SectionError::Version`: the version, which the error names, is neither 1.0 nor 1.2.
     pub fn from_slice(slice: &'a [u8]) -> Result<SectionHeader<'a>, SectionError>
@@ -79,7 +82,8 @@ impl<'a> SectionHeader<'a> {
         Ok(SectionHeader { byte_order, block })
     }
 
-    /// The bytes of a section header of version 1.0 in this byte order, which gives no length of its section and has no options.
+    /// The 28 bytes of a section header of version 1.0 in this byte order, without a section length and without
+    /// options.
     ///
     /// ```
     /// let bytes = SectionHeader::to_bytes(ByteOrder::LittleEndian);
@@ -115,7 +119,7 @@ impl<'a> SectionHeader<'a> {
 /// The byte-order magic, the first number of the body.
 const MAGIC: u32 = 0x1A2B_3C4D;
 
-/// The byte order in which the first number of the body is the byte-order magic.
+/// The byte order in which the third word of the slice, the first of the body, is the byte-order magic.
 fn order(slice: &[u8]) -> Option<ByteOrder>
     requires { 12 ≤ length slice.now }
     ensures { MatchOption result ((o : Order) → HasOrder slice.now o → ⊥) (λ o. HasOrder slice.now (order_of o)) }
@@ -129,7 +133,7 @@ fn order(slice: &[u8]) -> Option<ByteOrder>
     None
 }
 
-/// Tests that a version is one that is read.
+/// Tests that a version is 1.0 or 1.2.
 fn is_version(major: u16, minor: u16) -> bool
     ensures { IsTrue result ↔ IsVersion major minor }
 {

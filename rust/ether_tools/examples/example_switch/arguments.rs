@@ -1,22 +1,22 @@
-//! The ports that the arguments name.
+//! Reads the arguments, which are ports.
 use etherpeel::ether_switch::{PortConfig, Vlan};
 use thiserror::Error;
 
-/// Why the program ends before its input does.
+/// Why the program ends before all packets are read.
 #[derive(Debug, Error)]
 pub(crate) enum SwitchError {
-    /// An argument is no port.
+    /// An argument is not a port.
     #[error("a port is `trunk` or the identifier of a VLAN, 1 to 4094")]
     Argument,
-    /// There are more than 65,535.
+    /// There are more than 65,535 ports.
     #[error("there are at most 65,535 ports")]
     Count,
-    /// A packet is not switched.
+    /// A packet is not an Ethernet frame, or its interface is not a port.
     #[error("a packet is an Ethernet frame of an interface that is a port")]
     Packet,
 }
 
-/// The port that an argument names.
+/// The port in an argument.
 pub(crate) fn port_of(argument: &str) -> Result<PortConfig, SwitchError> {
     if argument == "trunk" {
         return Ok(PortConfig::trunk());

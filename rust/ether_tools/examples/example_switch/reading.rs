@@ -1,10 +1,10 @@
-//! Packets that are read.
+//! Reads the packets of a capture as frames that come in.
 
 use etherpeel::ether_content::without_fcs;
 use etherpeel::ether_pcap::{CapturedPacket, LinkType, Timestamp};
 use etherpeel::ether_switch::PortConfig;
 
-/// When a frame came, in seconds, by which port, and how that is set up.
+/// When a frame came in, in seconds, and the number and the configuration of its port.
 #[derive(Clone, Copy, Debug)]
 pub(crate) struct Arrival {
     pub time: u64,
@@ -12,14 +12,15 @@ pub(crate) struct Arrival {
     pub port: PortConfig,
 }
 
-/// A frame that came.
+/// A frame that came in.
 #[derive(Clone, Copy, Debug)]
 pub(crate) struct Arrived<'a> {
     pub arrival: Arrival,
     pub frame: &'a [u8],
 }
 
-/// The frame of a packet, and the port that its interface is. `None` if it is not an Ethernet frame, or the interface is not a port.
+/// The frame of a packet, which comes in by the port of its interface. `None` if it is not an Ethernet frame, or if
+/// its interface is not a port.
 pub(crate) fn read_packet<'a>(
     ports: &[PortConfig],
     packet: &CapturedPacket<'a>,
@@ -40,7 +41,7 @@ pub(crate) fn read_packet<'a>(
     })
 }
 
-/// The seconds of a time; 0 without one.
+/// The seconds of a time; 0 if there is no time.
 fn seconds(time: Option<Timestamp>) -> u64 {
     match time {
         Some(time) => time.seconds,

@@ -1,4 +1,4 @@
-//! The identifiers that the arguments name, and the line for a frame.
+//! Reads the arguments, and rewrites a frame as a line.
 
 use etherpeel::ether_packet::replace_vlan_id;
 use etherpeel::ether_peel::Start;
@@ -6,12 +6,12 @@ use etherpeel::VlanId;
 use ether_tools::ether_capture::memory::{Global, NoMemory as AllocError};
 use thiserror::Error;
 
-/// Why the program does not begin: the arguments are others.
+/// The arguments are not two VLAN identifiers.
 #[derive(Debug, Error)]
 #[error("the arguments are two VLAN identifiers")]
 pub(crate) struct ArgumentsError;
 
-/// The VLAN identifier that an argument names.
+/// The VLAN identifier in an argument.
 pub(crate) fn vlan_id_of(argument: Option<String>) -> Result<VlanId, ArgumentsError> {
     let Some(argument) = argument else {
         return Err(ArgumentsError);
@@ -22,7 +22,7 @@ pub(crate) fn vlan_id_of(argument: Option<String>) -> Result<VlanId, ArgumentsEr
     }
 }
 
-/// The line for a frame, in which the outermost VLAN tag with an identifier gets another one.
+/// The line for a frame, in which the outermost VLAN tag with the identifier `from` gets the identifier `to`.
 pub(crate) fn rewritten_line(
     alloc: Global,
     start: Start,

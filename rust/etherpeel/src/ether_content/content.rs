@@ -1,4 +1,4 @@
-//! What is walked of a captured packet.
+//! The part of a captured packet that is walked.
 
 use crate::ether_content::cooked::{CookedHeader, cooked_header};
 use crate::ether_pcap::{CapturedPacket, LinkType};
@@ -8,7 +8,7 @@ use crate::ether_sll2::LinuxSll2Slice;
 /// The length in bytes of the frame check sequence of Ethernet.
 const FCS_LEN: usize = 4;
 
-/// What is walked of a packet.
+/// The part of a packet that is walked, by its link type.
 ///
 /// ```
 /// # use etherpeel::*;
@@ -32,22 +32,22 @@ const FCS_LEN: usize = 4;
 /// ```
 #[derive(Clone, Copy, Debug)]
 pub enum Content<'a> {
-    /// A frame, with what it begins with. It has a frame check sequence only if that says so.
+    /// A frame, and how its walk starts. The frame has a frame check sequence only if the start says so.
     Frame(Start, &'a [u8]),
-    /// A packet of Linux cooked capture v1 whose hardware type, other than that of Ethernet, gives protocol numbers no meaning of their own:
-    /// its header, and its payload, which is walked by the protocol as an ether type.
+    /// A packet of Linux cooked capture v1 whose hardware type is not that of Ethernet, and gives protocol numbers no
+    /// meaning of its own: the header, and the payload, which is walked with the protocol as its ether type.
     LinuxSll(CookedHeader, &'a [u8]),
     /// A packet of Linux cooked capture v2.
     LinuxSll2(&'a [u8]),
-    /// Nothing: the walk knows no such link type.
+    /// Nothing: the walk does not know the link type.
     Unknown,
 }
 
 impl<'a> Content<'a> {
-    /// What is walked of a packet, by its link type.
+    /// The part of a packet that is walked, by its link type.
     ///
-    /// A frame check sequence whose length the capture gives is left out. Only one of four bytes, of an Ethernet frame that was not
-    /// cut, stays.
+    /// A frame check sequence whose length the capture gives is left out, with one exception: one of four bytes
+    /// remains part of an Ethernet frame that was not cut.
     ///
     /// <details><summary>Contract</summary>
     ///
@@ -87,8 +87,9 @@ impl<'a> Content<'a> {
         matches!(self, Content::Unknown)
     }
 
-    /// The frame, with what it begins with. Of a packet of cooked capture v1 that is no frame it is the payload, and of v2 too, if the
-    /// header can be read and an ether type announces it.
+    /// The frame, and how its walk starts. For a packet of cooked capture v1 that is not read as a frame, it is the
+    /// payload. For one of v2 it is the payload, too, if the header can be read and an ether type announces the
+    /// payload; else `None`.
     ///
     /// <details><summary>Contract</summary>
     ///
@@ -111,7 +112,7 @@ impl<'a> Content<'a> {
     }
 }
 
-/// What is walked of a packet of cooked capture v1.
+/// The part of a packet of cooked capture v1 that is walked.
 #[inline]
 fn cooked_content(bytes: &[u8]) -> Content<'_> {
     match cooked_header(bytes) {
@@ -120,7 +121,7 @@ fn cooked_content(bytes: &[u8]) -> Content<'_> {
     }
 }
 
-/// What the payload of a packet of cooked capture v2 begins with, and the payload.
+/// The payload of a packet of cooked capture v2, and how its walk starts.
 #[inline]
 pub(crate) fn payload_of(bytes: &[u8]) -> Option<(Start, &[u8])> {
     let Ok(packet) = LinuxSll2Slice::from_slice(bytes) else {
@@ -132,7 +133,7 @@ pub(crate) fn payload_of(bytes: &[u8]) -> Option<(Start, &[u8])> {
     }
 }
 
-/// Returns `true` if bytes of the packet were not captured.
+/// Returns `true` if some bytes of the packet were not captured.
 ///
 /// <details><summary>Contract</summary>
 ///
@@ -146,19 +147,20 @@ pub fn is_cut(packet: &CapturedPacket<'_>) -> bool {
     packet.packet.len() < packet.original_len as usize
 }
 
-/// The length of the frame check sequence at the end of the packet before it was cut.
+/// The length of the frame check sequence at the end of the packet before it was cut; 0 if the capture does not give
+/// it.
 #[inline]
 fn fcs_len(packet: &CapturedPacket<'_>) -> usize {
     usize::from(packet.fcs_len.unwrap_or(0))
 }
 
-/// Whether the whole frame check sequence of Ethernet is there.
+/// Whether an Ethernet frame was captured with its whole frame check sequence.
 #[inline]
 fn has_fcs(packet: &CapturedPacket<'_>) -> bool {
     !is_cut(packet) && fcs_len(packet) == FCS_LEN
 }
 
-/// The captured bytes without those of the frame check sequence, whose length the capture gives.
+/// The captured bytes without those of the frame check sequence, if the capture gives its length.
 ///
 /// ```
 /// # use etherpeel::*;

@@ -1,4 +1,4 @@
-//! What a captured packet is edited to.
+//! Edits captured packets.
 
 use crate::ether_content::content::Content;
 use crate::ether_content::header_lengths::headers_len;
@@ -12,30 +12,31 @@ use core::fmt;
 /// An edit of captured packets.
 #[derive(Clone, Copy, PartialEq, Eq, Debug)]
 pub enum PacketEdit {
-    /// A packet is cut where its headers end, as [`headers_len`] says.
+    /// Cuts a packet to its headers, as many bytes as [`headers_len`] returns.
     CutToHeaders,
-    /// The VLAN tag after the header of a frame's link is taken off, as [`pop_vlan`](crate::ether_packet::pop_vlan) does it.
+    /// Takes off the VLAN tag directly after the link's header, as [`pop_vlan`](crate::ether_packet::pop_vlan) does.
     PopVlan,
-    /// A VLAN tag of priority 0 is put in there, as [`push_vlan`](crate::ether_packet::push_vlan) does it. The TPID announces it: 0x8100, 0x88A8 or
-    /// 0x9100. With another one packets stay as they are.
+    /// Puts in a VLAN tag of priority 0 directly after the link's header, as [`push_vlan`](crate::ether_packet::push_vlan)
+    /// does. The TPID must be 0x8100, 0x88A8 or 0x9100; with any other, packets are unchanged.
     PushVlan {
         /// The ether type that announces the tag.
         tpid: EtherType,
         /// The identifier of the tag.
         vlan_id: VlanId,
     },
-    /// The outermost VLAN tag of a frame with one identifier gets another one, as
-    /// [`replace_vlan_id`](crate::ether_packet::replace_vlan_id) does it.
+    /// Changes the identifier of the outermost VLAN tag that has the identifier `from`, as
+    /// [`replace_vlan_id`](crate::ether_packet::replace_vlan_id) does.
     SetVlan {
-        /// The identifier that the tag has.
+        /// The identifier that the tag has before.
         from: VlanId,
-        /// The identifier that it gets.
+        /// The identifier that it has after.
         to: VlanId,
     },
 }
 
 impl PacketEdit {
-    /// How many bytes a packet has more at most: by so many [`CopyMode::Changed`](crate::ether_pcap::CopyMode::Changed) raises snap lengths.
+    /// The most bytes that the edit adds to a packet. [`CopyMode::Changed`](crate::ether_pcap::CopyMode::Changed) raises snap
+    /// lengths by this number.
     ///
     /// <details><summary>Contract</summary>
     ///
@@ -53,18 +54,18 @@ impl PacketEdit {
     }
 }
 
-/// A packet that was edited.
+/// A packet after an edit.
 #[derive(Clone, Copy, PartialEq, Eq, Debug)]
 pub struct EditedPacket {
-    /// Where its captured bytes begin in the buffer.
+    /// The index in the buffer at which its captured bytes begin.
     pub start: usize,
-    /// Where they end.
+    /// The index in the buffer at which they end.
     pub end: usize,
-    /// How many bytes it has without being cut.
+    /// Its length in bytes if it had not been cut.
     pub original_len: u64,
 }
 
-/// A buffer has too few bytes for a packet that is to be edited.
+/// The buffer is too short for the packet that is to be edited.
 #[derive(Clone, Copy, PartialEq, Eq, Debug)]
 pub struct NoRoom;
 
@@ -76,17 +77,18 @@ impl fmt::Display for NoRoom {
 
 impl Error for NoRoom {}
 
-/// How many bytes a buffer has to have more than a packet that is edited in it.
+/// The number of bytes that a buffer needs beyond those of the packet.
 const FREE: usize = 4;
 
-/// Edits a packet, with a buffer for the bytes that it has then. Returns `None` if it stays as it is.
+/// Edits a packet, whose new bytes are written to a buffer.
 ///
-/// A packet stays that has no more bytes than its headers take, or is no frame of Ethernet or of cooked capture v1 with a VLAN tag to be
-/// taken off or changed, or a link to put one in after. What was captured of a frame check sequence stays, and doesn't fit the new frame.
+/// Returns `None`, leaving the packet alone, if there is nothing to cut, no matching VLAN tag to pop or set, or no
+/// link's header to push after, or if the TPID does not announce a VLAN tag. The captured bytes of a frame check
+/// sequence are unchanged, and don't fit the new frame.
 ///
 /// # Errors
 ///
-/// The buffer has fewer than four bytes more than were captured of the packet.
+/// The buffer does not have four bytes more than were captured of the packet.
 ///
 /// ```
 /// # use etherpeel::*;
@@ -150,7 +152,7 @@ pub fn edit_packet(
     }
 }
 
-/// Cuts a packet where its headers end.
+/// Cuts a packet to its headers.
 #[inline]
 fn cut_to_headers(packet: &CapturedPacket<'_>, buffer: &mut [u8]) -> Option<EditedPacket> {
     let len = headers_len(packet);
@@ -166,7 +168,7 @@ fn cut_to_headers(packet: &CapturedPacket<'_>, buffer: &mut [u8]) -> Option<Edit
     })
 }
 
-/// Takes off the VLAN tag after the header of a frame's link.
+/// Takes off the VLAN tag after the link's header of a packet, if the packet is a frame.
 #[inline]
 fn pop(packet: &CapturedPacket<'_>, buffer: &mut [u8]) -> Option<EditedPacket> {
     match Content::of(packet) {
@@ -175,7 +177,7 @@ fn pop(packet: &CapturedPacket<'_>, buffer: &mut [u8]) -> Option<EditedPacket> {
     }
 }
 
-/// Takes off the VLAN tag of the frame that a packet is.
+/// Takes off the VLAN tag after the link's header of a packet that is a frame.
 #[inline]
 fn pop_frame(
     start: Start,
@@ -195,7 +197,7 @@ fn pop_frame(
     }
 }
 
-/// Puts in a VLAN tag after the header of a frame's link.
+/// Puts in a VLAN tag after the link's header of a packet, if the packet is a frame.
 #[inline]
 fn push(
     tpid: EtherType,
@@ -209,7 +211,7 @@ fn push(
     }
 }
 
-/// Puts a VLAN tag into the frame that a packet is.
+/// Puts in a VLAN tag after the link's header of a packet that is a frame.
 #[inline]
 fn push_frame(
     tpid: EtherType,
@@ -238,7 +240,7 @@ fn push_frame(
     }
 }
 
-/// Gives the outermost VLAN tag of a frame with an identifier another one.
+/// Changes the outermost VLAN tag with an identifier, if the packet is a frame.
 #[inline]
 fn set(
     from: VlanId,
@@ -252,7 +254,7 @@ fn set(
     }
 }
 
-/// Gives a VLAN tag of the frame that a packet is another identifier.
+/// Changes the outermost VLAN tag with an identifier in a packet that is a frame.
 #[inline]
 fn set_in_frame(
     from: VlanId,
@@ -274,7 +276,7 @@ fn set_in_frame(
     }
 }
 
-/// Writes bytes between two places of a buffer. Those before them stay.
+/// Writes bytes to the buffer from the index `start` up to `end`. The bytes before are unchanged.
 #[inline]
 fn put_between(buffer: &mut [u8], start: usize, end: usize, bytes: &[u8]) {
     buffer[start..end].copy_from_slice(bytes);

@@ -1,4 +1,4 @@
-//! How many bytes of a captured packet its headers take.
+//! The number of bytes that the headers of a captured packet take.
 
 use crate::ether_content::content::{Content, payload_of};
 use crate::ether_content::cooked::CookedHeader;
@@ -7,10 +7,10 @@ use crate::ether_pcap::CapturedPacket;
 use crate::ether_peel::Start;
 use crate::ether_sll2::{LinuxSll2Header, LinuxSll2Slice};
 
-/// How many bytes of a packet its link-layer headers take, with the payloads whose lengths they name: cut to so many bytes, it keeps all
-/// headers.
+/// The number of bytes that the link-layer headers of a packet take, with the payloads whose lengths they give. A
+/// packet that is cut to that many bytes keeps all headers.
 ///
-/// A header that is refused does not count, and a packet whose link type the walk does not know has none.
+/// A header that is refused is not counted, and a packet whose link type the walk does not know has no headers.
 ///
 /// ```
 /// # use etherpeel::*;
@@ -55,13 +55,13 @@ pub fn headers_len(packet: &CapturedPacket<'_>) -> usize {
     }
 }
 
-/// How far the headers of a frame reach.
+/// The number of bytes that the headers of a frame take.
 #[inline]
 fn frame_len(start: Start, frame: &[u8]) -> usize {
     min_snap_len(start, frame)
 }
 
-/// How many bytes of a packet of cooked capture v2 its headers take.
+/// The number of bytes that the headers of a packet of cooked capture v2 take.
 #[inline]
 fn linux_sll2_len(bytes: &[u8]) -> usize {
     match LinuxSll2Slice::from_slice(bytes) {

@@ -1,14 +1,14 @@
-//! Filters in memory of the caller: which packets of a capture they select.
+//! Applies filters that are kept in memory of the caller to captured packets.
 
 use crate::ether_content::content::{Content, is_cut, whole_len};
-use crate::ether_filter::{Decision, Instruction, Packet, program};
+use crate::ether_filter::{Decision, Instruction, Packet, filter_program};
 use crate::ether_pcap::CapturedPacket;
 use crate::ether_peel::Start;
 use crate::ether_sll2::LinuxSll2Header;
 
-/// Returns `true` if the filter that gave the instructions selects a packet, as [`selects`](crate::ether_content::selects) says.
+/// Returns `true` if the filter of these instructions selects a packet, as [`selects`](crate::ether_content::selects) says.
 ///
-/// If no filter gave them, the result says nothing.
+/// If the instructions are not those of a filter, nothing is claimed of the result.
 ///
 /// <details><summary>Contract</summary>
 ///
@@ -33,7 +33,7 @@ fn holds(
     frame: &[u8],
     packet: &CapturedPacket<'_>,
 ) -> bool {
-    program::matches(
+    filter_program::matches(
         instructions,
         &Packet {
             start,
@@ -44,10 +44,10 @@ fn holds(
     )
 }
 
-/// Returns `true` if the captured bytes of a packet don't decide whether the filter that gave the instructions selects it, as
-/// [`is_undecided`](crate::ether_content::is_undecided) says.
+/// Returns `true` if the captured bytes of a packet do not decide whether the filter of these instructions selects it,
+/// as [`is_undecided`](crate::ether_content::is_undecided) says.
 ///
-/// If no filter gave them, the result says nothing.
+/// If the instructions are not those of a filter, nothing is claimed of the result.
 ///
 /// <details><summary>Contract</summary>
 ///
@@ -61,7 +61,7 @@ pub fn is_undecided(instructions: &[Instruction], packet: &CapturedPacket<'_>) -
     is_cut(packet) && leaves_open(instructions, packet)
 }
 
-/// Whether the captured bytes of a packet don't decide whether a filter selects it.
+/// Does as `is_undecided`, for a packet that was cut.
 #[inline(never)]
 fn leaves_open(instructions: &[Instruction], packet: &CapturedPacket<'_>) -> bool {
     let content = Content::of(packet);
@@ -76,7 +76,7 @@ fn leaves_open(instructions: &[Instruction], packet: &CapturedPacket<'_>) -> boo
     }
 }
 
-/// Whether more bytes of a packet's walk are needed to decide whether a filter's expression holds of it.
+/// Whether a filter needs more bytes of a frame to decide.
 #[inline]
 fn needs_bytes(
     instructions: &[Instruction],
@@ -84,7 +84,7 @@ fn needs_bytes(
     frame: &[u8],
     packet: &CapturedPacket<'_>,
 ) -> bool {
-    let decision = program::decide(
+    let decision = filter_program::decide(
         instructions,
         &Packet {
             start,

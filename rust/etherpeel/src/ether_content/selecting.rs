@@ -4,10 +4,10 @@ use crate::ether_content::program;
 use crate::ether_filter::Filter;
 use crate::ether_pcap::CapturedPacket;
 
-/// Returns `true` if a filter selects a packet: its expression holds of what is walked of the packet.
+/// Returns `true` if a filter selects a packet: if its expression holds for the part of the packet that is walked.
 ///
-/// A packet whose link type the walk does not know is never selected, nor one of cooked capture v2 whose payload no ether type
-/// announces.
+/// A packet is never selected if the walk does not know its link type, or if it is of cooked capture v2 and its
+/// payload has no ether type.
 ///
 /// ```
 /// # use etherpeel::*;
@@ -48,11 +48,11 @@ pub fn selects(filter: &Filter, packet: &CapturedPacket<'_>) -> bool {
     program::selects(filter.instructions(), packet)
 }
 
-/// Returns `true` if a packet was cut so that its captured bytes don't decide whether a filter selects it.
+/// Returns `true` if a packet was cut, and its captured bytes do not decide whether a filter selects it.
 ///
-/// That is so if [`Filter::decide`] needs more bytes of what is walked of the packet, and if the header of cooked capture v2 was cut.
-/// [`selects`] says then what holds by the captured bytes. A frame check sequence that was cut counts as bytes that may belong to
-/// headers.
+/// This is so if [`Filter::decide`] needs more bytes of the part that is walked, or if the header of cooked capture v2
+/// was cut short. [`selects`] then returns what holds for the captured bytes. Missing bytes of a frame check sequence
+/// count as bytes that may belong to headers.
 ///
 /// ```
 /// # use etherpeel::*;

@@ -1,10 +1,10 @@
-//! What may come next in an expression.
+//! What may follow at a place of an expression.
 
 use crate::ether_filter::filter_error::FilterErrorKind;
 use crate::ether_filter::primitive::Primitive;
 use crate::ether_filter::token::Token;
 
-/// A primitive that ends in a number.
+/// A primitive whose last word is a number.
 #[derive(Clone, Copy)]
 pub(crate) enum Numbered {
     VlanId,
@@ -15,7 +15,7 @@ pub(crate) enum Numbered {
     Greater,
 }
 
-/// A primitive that ends in an address.
+/// A primitive whose last word is an address.
 #[derive(Clone, Copy)]
 pub(crate) enum Addressed {
     Source,
@@ -23,12 +23,12 @@ pub(crate) enum Addressed {
     Host,
 }
 
-/// What may come next in an expression.
+/// What may follow at a place of an expression.
 #[derive(Clone, Copy)]
 pub(crate) enum Awaited {
     Operand,
     Operator,
-    /// The identifier after `vlan`, or what may come after an operand.
+    /// The identifier after `vlan`, or what may follow an operand.
     VlanId,
     /// `vlan`, before a number.
     Vlan(Numbered),
@@ -37,18 +37,18 @@ pub(crate) enum Awaited {
     Address(Addressed),
 }
 
-/// What a word makes of a primitive that is begun.
+/// What a word does to a primitive that is partly read.
 #[derive(Clone, Copy)]
 pub(crate) enum Step {
-    /// The whole primitive.
+    /// It completes the primitive.
     Done(Primitive),
-    /// Its next part.
+    /// The primitive goes on, and awaits this.
     More(Awaited),
-    /// Nothing.
+    /// It does not fit.
     Fails,
 }
 
-/// What a word makes of a primitive that it begins.
+/// What a word does as the first word of a primitive.
 #[inline]
 pub(crate) fn first_step(token: Token) -> Step {
     match token {
@@ -87,7 +87,7 @@ pub(crate) fn next_step(awaited: Awaited, token: Token) -> Step {
     }
 }
 
-/// A primitive with its number.
+/// Completes a primitive by its number.
 #[inline]
 fn with_number(numbered: Numbered, number: u32) -> Step {
     if number > most_of(numbered) {
@@ -103,7 +103,7 @@ fn with_number(numbered: Numbered, number: u32) -> Step {
     }
 }
 
-/// The greatest number of a primitive.
+/// The greatest number that a primitive takes.
 #[inline]
 fn most_of(numbered: Numbered) -> u32 {
     match numbered {
@@ -113,7 +113,7 @@ fn most_of(numbered: Numbered) -> u32 {
     }
 }
 
-/// A primitive with its address.
+/// Completes a primitive by its address.
 #[inline]
 fn with_address(addressed: Addressed, address: u64) -> Primitive {
     match addressed {
@@ -123,7 +123,7 @@ fn with_address(addressed: Addressed, address: u64) -> Primitive {
     }
 }
 
-/// What is missing where this is awaited.
+/// The error for a word that does not fit where this is awaited.
 #[inline]
 pub(crate) fn kind_of(awaited: Awaited) -> FilterErrorKind {
     match awaited {

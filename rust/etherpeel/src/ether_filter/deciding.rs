@@ -8,16 +8,16 @@ use crate::ether_filter::seen::Seen;
 use crate::ether_peel::{PeelError, Start, summary};
 use crate::err::Layer;
 
-/// The length of its frame with which a packet may have more headers.
+/// A length of the frame with which a packet might have further headers.
 #[derive(Clone, Copy)]
 pub(crate) struct Opening {
     pub needed: usize,
-    /// The layer of the unit that is refused until then. `None` if the frame ends in a frame check sequence, whose place is
-    /// known only of the whole frame.
+    /// The layer of the unit that is refused for want of bytes. `None` if the frame ends in a frame check sequence,
+    /// whose place is known only in the whole frame.
     pub layer: Option<Layer>,
 }
 
-/// The length with which a packet may have more headers, if it may.
+/// The length with which a packet might have further headers; `None` if its headers are known.
 #[inline]
 pub(crate) fn find_opening(packet: &Packet<'_>) -> Option<Opening> {
     let lost = lost(packet);
@@ -40,7 +40,8 @@ pub(crate) fn find_opening(packet: &Packet<'_>) -> Option<Opening> {
     })
 }
 
-/// How many bytes the unit needs at which a frame ends too early, and the unit's layer. `None` if more bytes would not help.
+/// The number of bytes that are missing at the end of a frame, and the layer of the unit that needs them. `None` if
+/// more bytes would not help.
 #[inline]
 fn refused_unit(start: Start, frame: &[u8]) -> Option<(usize, Layer)> {
     let fault = summary(start, frame).fault?;
@@ -80,7 +81,7 @@ pub(crate) fn known(
     Some(is_match)
 }
 
-/// Whether it is known if a primitive matches an open packet, by whether it matches so far.
+/// Whether it is known if a primitive matches an open packet. `is_match` says whether it matches the headers so far.
 #[inline]
 fn is_known(
     primitive: Primitive,
@@ -98,7 +99,7 @@ fn is_known(
     }
 }
 
-/// Whether a primitive speaks of the two lengths of a packet.
+/// Whether a primitive asks about the two lengths of a packet.
 #[inline]
 fn is_of_lengths(primitive: Primitive) -> bool {
     matches!(
@@ -107,7 +108,7 @@ fn is_of_lengths(primitive: Primitive) -> bool {
     )
 }
 
-/// Whether a unit of a layer, or one after it, may tell of a primitive.
+/// Whether a primitive can depend on a unit of this layer, or on one after it.
 #[inline]
 fn can_tell(layer: Layer, primitive: Primitive) -> bool {
     match layer {
@@ -117,7 +118,7 @@ fn can_tell(layer: Layer, primitive: Primitive) -> bool {
     }
 }
 
-/// Whether a primitive speaks of the addresses of an Ethernet II header.
+/// Whether a primitive asks about the addresses of an Ethernet II header.
 #[inline]
 fn is_of_link(primitive: Primitive) -> bool {
     matches!(
@@ -130,7 +131,8 @@ fn is_of_link(primitive: Primitive) -> bool {
     )
 }
 
-/// Whether the headers so far tell of a primitive, by whether it matches so far.
+/// Whether the headers so far decide a primitive, whatever headers follow. `is_match` says whether it matches these
+/// headers.
 #[inline]
 fn is_told(primitive: Primitive, packet: &Packet<'_>, seen: &Option<Seen>, is_match: bool) -> bool {
     match primitive {
@@ -140,7 +142,7 @@ fn is_told(primitive: Primitive, packet: &Packet<'_>, seen: &Option<Seen>, is_ma
     }
 }
 
-/// The value of two operands that are joined, `None` if it is unknown.
+/// The value of two joined operands, in Kleene's logic; `None` is unknown.
 #[inline]
 pub(crate) fn joined_value(
     operator: Operator,

@@ -1,12 +1,12 @@
-//! What is known of whether a packet matches.
+//! Whether a packet matches, as far as its captured bytes tell.
 
-/// What is known of whether a packet matches, if not all of its bytes were captured.
+/// Whether a packet matches, as far as its captured bytes tell.
 #[derive(Clone, Copy, PartialEq, Eq, Debug)]
 pub enum Decision {
     /// It matches, whatever the missing bytes are.
     Matches,
-    /// It doesn't match, whatever the missing bytes are.
+    /// It does not match, whatever the missing bytes are.
     Fails,
-    /// That is unknown, and stays unknown until the frame has at least this many bytes.
+    /// It is unknown whether it matches, and remains unknown until at least this many bytes of the frame are captured.
     Needs(usize),
 }

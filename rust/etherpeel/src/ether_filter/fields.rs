@@ -1,4 +1,4 @@
-//! The fields of a header that primitives speak of.
+//! The fields of a header that primitives ask about.
 
 use crate::ether_filter::primitive::Primitive;
 use crate::ether_base::big_endian::u64_of;
@@ -8,7 +8,7 @@ use crate::EtherType;
 /// The broadcast address.
 const BROADCAST: u64 = 0xFFFF_FFFF_FFFF;
 
-/// The fields of a header that primitives speak of.
+/// The fields of a header that primitives ask about.
 #[derive(Clone, Copy)]
 pub(crate) enum Fields {
     /// The two addresses of an Ethernet II header.
@@ -19,7 +19,7 @@ pub(crate) enum Fields {
     Other,
 }
 
-/// The fields of the header of a unit.
+/// The fields of a unit's header.
 #[inline]
 pub(crate) fn read_fields(unit: &PeelUnit<'_>) -> Fields {
     match unit {
@@ -33,14 +33,14 @@ pub(crate) fn read_fields(unit: &PeelUnit<'_>) -> Fields {
     }
 }
 
-/// An address as one number.
+/// An address as one number, its first byte the most significant one.
 #[inline]
 fn address(bytes: [u8; 6]) -> u64 {
     let [a, b, c, d, e, f] = bytes;
     u64_of([0, 0, a, b, c, d, e, f])
 }
 
-/// The ether type that is announced, if one is.
+/// The ether type that announces the rest, if one does.
 #[inline]
 pub(crate) fn announced_type(kind: RestKind) -> Option<u16> {
     match kind {
@@ -49,7 +49,7 @@ pub(crate) fn announced_type(kind: RestKind) -> Option<u16> {
     }
 }
 
-/// Whether the addresses of a link show a primitive.
+/// Whether a link with these addresses makes a primitive match.
 #[inline]
 pub(crate) fn is_shown_by_link(primitive: Primitive, destination: u64, source: u64) -> bool {
     match primitive {
@@ -62,7 +62,7 @@ pub(crate) fn is_shown_by_link(primitive: Primitive, destination: u64, source: u
     }
 }
 
-/// Whether an address is that of a group.
+/// Whether an address is a group address.
 #[inline]
 fn is_group(address: u64) -> bool {
     address / (1 << 40) % 2 == 1

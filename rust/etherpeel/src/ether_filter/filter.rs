@@ -1,24 +1,24 @@
-//! A filter.
+//! Filters, which are read from text.
 
 use crate::ether_filter::decision::Decision;
 use crate::ether_filter::filter_error::{FilterError, FilterErrorKind};
+use crate::ether_filter::filter_program;
 use crate::ether_filter::instruction::Instruction;
 use crate::ether_filter::node::Node;
 use crate::ether_filter::packet::Packet;
-use crate::ether_filter::program;
 use crate::ether_filter::reading::Reading;
 use crate::ether_filter::text_words::next_word;
 use crate::ether_filter::token::token_of;
 use arrayvec::ArrayVec;
 
-/// The greatest number of words of an expression.
+/// The maximum number of words in an expression.
 pub(crate) const MAX_WORDS: usize = 192;
 
 /// A filter of packets: an expression in words of pcap-filter(7).
 ///
-/// An expression is one primitive, or several of them with `not` (or `!`), `and` (`&&`), `or` (`||`) and parentheses. `not` takes
-/// what comes directly after it: one primitive, one group in parentheses, or another `not`. `and` and `or` can be mixed
-/// only with parentheses, since readers disagree on what they mean without.
+/// An expression is one primitive, or several with `not` (or `!`), `and` (`&&`), `or` (`||`) and parentheses.
+/// `not` applies to what directly follows it: one primitive, one group in parentheses, or another `not`. `and` and
+/// `or` can be mixed only with parentheses, because readers disagree on what they mean without.
 ///
 /// | Primitive | A packet matches if |
 /// |---|---|
@@ -27,19 +27,19 @@ pub(crate) const MAX_WORDS: usize = 192;
 /// | `outer vlan N` | its first VLAN tag has the identifier `N` |
 /// | `inner vlan N` | it has two or more VLAN tags, and the last one has the identifier `N` |
 /// | `macsec` | it has a MACsec SecTag |
-/// | `ether proto N` | the ether type `N` is announced, by what it begins with or by one of its headers |
+/// | `ether proto N` | the ether type `N` is announced, at its start or by one of its headers |
 /// | `arp`, `ip`, `ip6` | the same for 0x0806, 0x0800, 0x86DD |
 /// | `ether src A`, `ether dst A`, `ether host A` | its Ethernet II header has the address `A` as source, destination, or either |
-/// | `ether broadcast`, `ether multicast` | its Ethernet II header has the broadcast address, or that of any group, as destination |
+/// | `ether broadcast`, `ether multicast` | its Ethernet II header has the broadcast address, or any group address, as destination |
 /// | `refused` | one of its headers is refused: cut short or malformed |
 /// | `cut` | fewer bytes were captured than were on the wire |
 /// | `less N`, `greater N` | it had at most, or at least, `N` bytes on the wire |
 ///
-/// Each speaks of the whole packet, whatever other words the expression has. All VLAN tags and SecTags are read, and nothing of an
-/// encrypted or modified payload.
+/// Each primitive asks about the whole packet, whatever other words the expression has. All VLAN tags and SecTags are
+/// read, but no encrypted or modified payload.
 ///
-/// A number is decimal, without leading zeros, or hexadecimal after `0x`. An address is six pairs of hexadecimal digits with colons
-/// between them, or twelve digits. Blanks, `(`, `)` and `!` separate words.
+/// A number is decimal, without leading zeros, or hexadecimal after `0x`. An address is six pairs of hexadecimal
+/// digits with colons between them, or twelve digits. Blanks, `(`, `)` and `!` separate words.
 ///
 /// No call allocates memory.
 ///
@@ -69,18 +69,21 @@ pub(crate) const MAX_WORDS: usize = 192;
 /// ```
 #[derive(Debug)]
 pub struct Filter {
-    /// The instructions of the expression's nodes, each after those of its operands.
+    /// The instructions of the expression's nodes: each operator's follows those of its operands.
     instructions: ArrayVec<Instruction, MAX_WORDS>,
 }
 
 impl Filter {
-    /// The greatest number of words of an expression. One of up to 64 primitives and operators that has no more parentheses than it
-    /// needs has fewer.
+    /// The maximum number of words in an expression, 192. An expression of up to 64 primitives and operators has fewer
+    /// words if it has no needless parentheses.
     pub const MAX_WORDS: usize = MAX_WORDS;
 
-    /// The filter that a text means, or why it means none, and where: at the first word that fits nothing after those before it.
+    /// Reads a filter from text, in the words that [`Filter`] lists.
     ///
-    /// See [`Filter`] for the words.
+    /// # Errors
+    ///
+    /// The error names the first word that does not fit after those before it, or that exceeds
+    /// [`MAX_WORDS`](Self::MAX_WORDS), or the end of the text if words are missing there.
     ///
     /// <details><summary>Contract</summary>
     ///
@@ -94,13 +97,14 @@ impl Filter {
     pub fn parse(text: &[u8]) -> Result<Filter, FilterError> {
         match read(text) {
             Ok(nodes) => Ok(Filter {
-                instructions: program::instructions_of(nodes.as_slice()),
+                instructions: filter_program::instructions_of(nodes.as_slice()),
             }),
             Err(error) => Err(error),
         }
     }
 
-    /// The instructions of the filter, for memory of the caller: the module [`program`](crate::ether_filter::program) runs them on packets.
+    /// The instructions of the filter, which a caller can copy to memory of its own. The module
+    /// [`filter_program`](crate::ether_filter::filter_program) runs them on packets.
     ///
     /// <details><summary>Contract</summary>
     ///
@@ -114,8 +118,8 @@ impl Filter {
         self.instructions.as_slice()
     }
 
-    /// Returns `true` if a packet matches, by the bytes that were captured. Of a packet that was cut, [`decide`](Self::decide)
-    /// tells more.
+    /// Returns `true` if the captured bytes of a packet match. For a packet that was cut, [`decide`](Self::decide)
+    /// says what is certain.
     ///
     /// <details><summary>Contract</summary>
     ///
@@ -127,21 +131,21 @@ impl Filter {
     /// </details>
     #[inline]
     pub fn matches(&self, packet: &Packet<'_>) -> bool {
-        program::matches(self.instructions.as_slice(), packet)
+        filter_program::matches(self.instructions.as_slice(), packet)
     }
 
-    /// What is known of whether a packet matches, if not all of its bytes were captured.
+    /// Decides whether a packet matches if some of its bytes may be missing.
     ///
-    /// `Matches` and `Fails` hold whatever the missing `original_len - captured_len` bytes are. `Needs(n)` means that this is
-    /// unknown, and that it stays unknown with fewer than `n` bytes of the frame.
+    /// `Matches` and `Fails` hold whatever the missing `original_len - captured_len` bytes are. `Needs(n)` means that
+    /// the answer is unknown, and remains unknown while fewer than `n` bytes of the frame are captured.
     ///
-    /// A primitive is unknown if the header that was cut short, or one after it, can still show it. `not`, `and` and `or` are
-    /// those of Kleene's logic of three values: `vlan 5 and greater 100` fails for a packet of 64 bytes, even if its VLAN tags
-    /// are unknown. If the frame was not cut within a header, the result is `Matches` or `Fails`, as
-    /// [`matches`](Self::matches) says.
+    /// A primitive is unknown if the header that was cut short, or one after it, could still change its answer. `not`,
+    /// `and` and `or` follow Kleene's three-valued logic: `vlan 5 and greater 100` fails for a packet of 64 bytes,
+    /// even if its VLAN tags are unknown. If missing bytes could not complete a header, the result is `Matches` or
+    /// `Fails`, as [`matches`](Self::matches) says.
     ///
-    /// If the frame ends in a frame check sequence, a primitive that asks for headers needs all of its bytes, since only then
-    /// the place of the sequence is known.
+    /// If the frame ends in a frame check sequence, a primitive about headers needs all bytes of the frame, because
+    /// the place of the sequence is not known before.
     ///
     /// ```
     /// # use etherpeel::*;
@@ -184,11 +188,11 @@ impl Filter {
     /// </details>
     #[inline]
     pub fn decide(&self, packet: &Packet<'_>) -> Decision {
-        program::decide(self.instructions.as_slice(), packet)
+        filter_program::decide(self.instructions.as_slice(), packet)
     }
 }
 
-/// The nodes of the expression that a text means.
+/// Reads the nodes of an expression.
 #[inline]
 fn read(text: &[u8]) -> Result<ArrayVec<Node, MAX_WORDS>, FilterError> {
     let mut reading = Reading::new();

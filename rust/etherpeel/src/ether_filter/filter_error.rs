@@ -1,9 +1,9 @@
-//! Why a text is no expression.
+//! Why a text is not an expression.
 
 use core::error::Error;
 use core::fmt;
 
-/// Why a text is no expression, and where.
+/// Why a text is not an expression, and where.
 ///
 /// ```
 /// # use etherpeel::*;
@@ -26,20 +26,21 @@ use core::fmt;
 /// ```
 #[derive(Clone, Copy, PartialEq, Eq, Debug)]
 pub struct FilterError {
-    /// Where the first word that fits nothing begins, in bytes. It's the length of the text if words are missing at its end.
+    /// The offset in bytes of the first word that does not fit. It is the length of the text if words are missing at
+    /// the end.
     pub offset: usize,
-    /// What is expected there, or why the word doesn't fit.
+    /// What is expected there, or why the word does not fit.
     pub kind: FilterErrorKind,
 }
 
-/// What is expected at a place of an expression, or why a word doesn't fit there.
+/// What is expected at a place of an expression, or why a word does not fit there.
 #[derive(Clone, Copy, PartialEq, Eq, Debug)]
 pub enum FilterErrorKind {
     /// A primitive, `not` or `(` is expected.
     ExpectedOperand,
     /// `and`, `or`, `)` or the end of the text is expected.
     ExpectedOperator,
-    /// An identifier up to 4095 is expected after `vlan`, or what may come after an operand.
+    /// An identifier up to 4095 is expected after `vlan`, or `and`, `or`, `)` or the end of the text.
     ExpectedVlanIdOrOperator,
     /// `vlan` is expected.
     ExpectedVlan,
@@ -47,15 +48,15 @@ pub enum FilterErrorKind {
     ExpectedEtherWord,
     /// An address is expected, in the form `xx:xx:xx:xx:xx:xx` or `xxxxxxxxxxxx`.
     ExpectedAddress,
-    /// A number that is not greater than this one is expected.
+    /// A number up to this one is expected.
     ExpectedNumber(u32),
     /// `and` and `or` are mixed without parentheses.
     MixedOperators,
-    /// There is no `(` for a `)`.
+    /// A `)` has no `(`.
     Unopened,
-    /// The text ends before the `)` of a `(`.
+    /// The text ends before a `(` is closed.
     Unclosed,
-    /// There are more words than [`Filter::MAX_WORDS`](crate::ether_filter::Filter::MAX_WORDS).
+    /// The expression has more than [`Filter::MAX_WORDS`](crate::ether_filter::Filter::MAX_WORDS) words.
     TooLong,
 }
 

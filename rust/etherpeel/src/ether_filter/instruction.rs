@@ -1,4 +1,4 @@
-//! The instructions of a filter, as numbers alone.
+//! The instructions of a filter, which consist of numbers only.
 
 use crate::ether_filter::jumps::{Jump, is_of_tags};
 use crate::ether_filter::node::{Node, Operator};
@@ -6,18 +6,19 @@ use crate::ether_filter::primitive::Primitive;
 
 /// An instruction of a filter: a node of its expression, and where the evaluation goes on after it.
 ///
-/// It is numbers alone, so that a filter can lie in memory of any kind: [`Filter::instructions`](crate::ether_filter::Filter::instructions) gives
-/// them, and the module [`program`](crate::ether_filter::program) runs them on packets. Each bit pattern is a value. What the numbers mean may
-/// change with the version.
+/// It consists of numbers only, so a filter can be kept in any memory.
+/// [`Filter::instructions`](crate::ether_filter::Filter::instructions) returns the instructions of a filter, and the module
+/// [`filter_program`](crate::ether_filter::filter_program) runs them on packets. Each bit pattern is a value. What the numbers mean
+/// may change with the version.
 #[repr(C)]
 #[derive(Clone, Copy, Debug, Default)]
 pub struct Instruction {
-    /// The number or the address that a primitive names.
+    /// The number or the address in a primitive.
     operand: u64,
-    /// Which node it is.
+    /// The number of the node's kind.
     kind: u32,
     pub(crate) jump: Jump,
-    /// Where the evaluation goes on if there are no VLAN tags.
+    /// The index at which the evaluation goes on if the packet has no VLAN tags.
     pub(crate) past_tags: u8,
 }
 
@@ -39,7 +40,7 @@ impl Instruction {
         }
     }
 
-    /// The primitive that it asks, if it asks one.
+    /// The primitive that the instruction tests; `None` for an operator.
     #[inline(always)]
     pub(crate) fn primitive(&self) -> Option<Primitive> {
         let operand = self.operand;
@@ -63,7 +64,7 @@ impl Instruction {
         })
     }
 
-    /// Whether it asks for VLAN tags.
+    /// Whether it tests for VLAN tags.
     #[inline(always)]
     pub(crate) fn asks_tags(&self) -> bool {
         match self.primitive() {
@@ -72,7 +73,7 @@ impl Instruction {
         }
     }
 
-    /// Whether it asks for another identifier of VLAN tags than this.
+    /// Whether it tests for a VLAN tag with another identifier than this.
     #[inline(always)]
     pub(crate) fn asks_other_id(&self, id: u16) -> bool {
         match self.primitive() {
@@ -81,7 +82,7 @@ impl Instruction {
         }
     }
 
-    /// The node of the expression. Each instruction that a filter gives has one.
+    /// The node of the expression. Each instruction that a filter returns has one.
     ///
     /// <details><summary>Contract</summary>
     ///
@@ -99,7 +100,7 @@ impl Instruction {
     }
 }
 
-/// The numbers of a primitive.
+/// The number of a primitive's kind, and its operand.
 #[inline]
 fn numbers_of(primitive: Primitive) -> (u32, u64) {
     match primitive {
@@ -121,7 +122,7 @@ fn numbers_of(primitive: Primitive) -> (u32, u64) {
     }
 }
 
-/// The operator with a number.
+/// The operator whose kind has this number.
 #[inline]
 fn operator(kind: u32) -> Option<Node> {
     match kind {

@@ -1,16 +1,16 @@
-//! Where the evaluation of an expression goes on after each of its primitives.
+//! Where the evaluation of an expression goes on after each primitive.
 
 use crate::ether_filter::filter::MAX_WORDS;
 use crate::ether_filter::node::{Node, Operator};
 use crate::ether_filter::primitive::Primitive;
 
-/// Where it goes on if the expression holds.
+/// The end of an evaluation: the expression holds.
 pub(crate) const HOLDS: u8 = 255;
 
-/// Where it goes on if it doesn't.
+/// The end of an evaluation: the expression does not hold.
 const FAILS: u8 = 254;
 
-/// Where the evaluation goes on after a primitive: at which node, or an end.
+/// Where the evaluation goes on after a primitive: the index of a node, or an end.
 #[repr(C)]
 #[derive(Clone, Copy, Debug, Default)]
 pub struct Jump {
@@ -19,7 +19,7 @@ pub struct Jump {
 }
 
 impl Jump {
-    /// Where it goes on, by whether the primitive matches.
+    /// Where it goes on if the primitive matches, or if it does not.
     #[inline]
     pub(crate) fn after(self, matches: bool) -> usize {
         usize::from(if matches { self.if_true } else { self.if_false })
@@ -38,8 +38,8 @@ pub(crate) fn jumps_of(nodes: &[Node]) -> [Jump; MAX_WORDS] {
     jumps
 }
 
-/// Where the evaluation goes on after each primitive that asks for VLAN tags, if there are none: past those that follow it and ask
-/// for VLAN tags too.
+/// Where the evaluation of a packet without VLAN tags goes on after each primitive that asks for VLAN tags: past all
+/// those that directly follow it.
 #[inline]
 pub(crate) fn past_tags(nodes: &[Node], jumps: &[Jump; MAX_WORDS]) -> [u8; MAX_WORDS] {
     let mut past = [0; MAX_WORDS];
@@ -51,7 +51,7 @@ pub(crate) fn past_tags(nodes: &[Node], jumps: &[Jump; MAX_WORDS]) -> [u8; MAX_W
     past
 }
 
-/// .. after one of them, by where it goes on if it does not match.
+/// .. after the primitive at the index `at`, if it does not match and goes on at `next`.
 #[inline]
 fn past_next(nodes: &[Node], past: &[u8; MAX_WORDS], at: usize, next: u8) -> u8 {
     let index = usize::from(next);
@@ -79,7 +79,8 @@ pub(crate) fn is_of_tags(primitive: &Primitive) -> bool {
     )
 }
 
-/// Fills in the jumps of the expression whose nodes end at an index, and returns the index at which they begin.
+/// Fills in the jumps of the expression whose nodes end before the index `end`, and returns the index at which they
+/// begin.
 #[inline]
 fn fill(jumps: &mut [Jump; MAX_WORDS], nodes: &[Node], end: usize, jump: Jump) -> usize {
     if end == 0 {
@@ -99,7 +100,7 @@ fn fill(jumps: &mut [Jump; MAX_WORDS], nodes: &[Node], end: usize, jump: Jump) -
     }
 }
 
-/// The jump after an expression that is negated.
+/// The jump of the operand of a `not` that has this jump.
 #[inline]
 fn negated(jump: Jump) -> Jump {
     Jump {
@@ -108,7 +109,7 @@ fn negated(jump: Jump) -> Jump {
     }
 }
 
-/// The jump after a left operand, by where the right one begins and the jump after both.
+/// The jump of a left operand, if the right one begins at `right` and both together have this jump.
 #[inline]
 fn before(operator: Operator, right: u8, jump: Jump) -> Jump {
     match operator {

@@ -6,7 +6,7 @@ use crate::ether_filter::primitive::Primitive;
 use crate::ether_filter::seen::{Seen, is_seen};
 use crate::ether_peel::{Peel, Start};
 
-/// Whether a primitive matches a packet, by what was seen in it.
+/// Whether a primitive matches a packet. If there is no `seen`, it takes a walk of its own.
 #[inline]
 pub(crate) fn matches_primitive(
     primitive: &Primitive,
@@ -19,7 +19,7 @@ pub(crate) fn matches_primitive(
     }
 }
 
-/// Whether a primitive matches a packet, by a walk of its own.
+/// Whether a primitive matches a packet, by a walk for it alone.
 #[inline(never)]
 pub(crate) fn matches_walked(primitive: &Primitive, packet: &Packet<'_>) -> bool {
     match *primitive {
@@ -30,7 +30,7 @@ pub(crate) fn matches_walked(primitive: &Primitive, packet: &Packet<'_>) -> bool
     }
 }
 
-/// Whether a primitive is found in a walk.
+/// Whether a walk finds what a primitive asks for.
 #[inline]
 fn is_found(primitive: Primitive, start: Start, frame: &[u8]) -> bool {
     let mut peel = Peel::new(start, frame);
@@ -55,7 +55,7 @@ fn is_found(primitive: Primitive, start: Start, frame: &[u8]) -> bool {
     }
 }
 
-/// Whether a primitive is found before the first header, by the ether type that is announced.
+/// Whether it is found before the first header, by the ether type that is announced.
 #[inline]
 fn found_first(primitive: Primitive, announced: Option<u16>) -> bool {
     match primitive {
@@ -64,7 +64,7 @@ fn found_first(primitive: Primitive, announced: Option<u16>) -> bool {
     }
 }
 
-/// Whether a primitive is found after one more header, by whether it was found before, and whether a VLAN tag was.
+/// Whether it is found after a further header, by whether it was found before, and whether a VLAN tag was.
 #[inline]
 fn found_after(
     primitive: Primitive,
@@ -82,7 +82,7 @@ fn found_after(
     }
 }
 
-/// Whether a primitive is found if the walk is refused, by whether it was found before.
+/// Whether it is found if the walk is refused, by whether it was found before.
 #[inline]
 fn found_at_fault(primitive: Primitive, found: bool) -> bool {
     match primitive {
@@ -97,7 +97,7 @@ fn is_tagged(fields: Fields) -> bool {
     matches!(fields, Fields::Tag(_))
 }
 
-/// Whether one header shows a primitive.
+/// Whether one header makes a primitive match.
 #[inline]
 fn is_shown(primitive: Primitive, fields: Fields, announced: Option<u16>) -> bool {
     if let Primitive::EtherType(number) = primitive {
@@ -114,7 +114,7 @@ fn is_shown(primitive: Primitive, fields: Fields, announced: Option<u16>) -> boo
     }
 }
 
-/// Whether the identifier of a VLAN tag shows a primitive.
+/// Whether the identifier of a VLAN tag makes a primitive match.
 #[inline]
 fn is_shown_by_tag(primitive: Primitive, id: u16) -> bool {
     match primitive {

@@ -1,4 +1,4 @@
-//! Nodes of an expression.
+//! The nodes of an expression.
 use crate::ether_filter::primitive::Primitive;
 
 /// An operator between two operands.
@@ -10,14 +10,14 @@ pub enum Operator {
     Or,
 }
 
-/// A node of an expression in postfix order: each operator comes after its operands.
+/// A node of an expression in postfix order: each operator follows its operands.
 #[derive(Clone, Copy, Debug)]
 pub enum Node {
     /// A primitive.
     Test(Primitive),
-    /// `not`, of the operand before it.
+    /// `not`, for the operand before it.
     Not,
-    /// An operator between the two operands before it.
+    /// An operator, for the two operands before it.
     Join(Operator),
 }
 

@@ -1,10 +1,10 @@
 //! Numbers and addresses as words.
 
-/// A number from which on numbers are not told apart while digits are read.
+/// Numbers from this one on are read as this one. It is greater than each address and each 32-bit number.
 const CAP: u64 = 1 << 48;
 
-/// The number that a word writes, in hexadecimal digits after `0x`, or in decimal digits without a leading zero. `None` if it writes
-/// none, and `Some(None)` if the number has more than 32 bits.
+/// The number in a word: hexadecimal digits after `0x`, or decimal digits without a leading zero. `None` if the word
+/// is not a number, and `Some(None)` if the number does not fit in 32 bits.
 ///
 /// ```
 /// # use etherpeel::*;
@@ -40,7 +40,7 @@ pub fn number_of(word: &[u8]) -> Option<Option<u32>> {
     }
 }
 
-/// The address that a word writes, in six pairs of hexadecimal digits with colons between them or without, as one number.
+/// The address in a word, as one number: six pairs of hexadecimal digits, with colons between the pairs or without.
 #[inline]
 pub(crate) fn address_of(word: &[u8]) -> Option<u64> {
     if word.len() == 12 {
@@ -59,13 +59,13 @@ pub(crate) fn address_of(word: &[u8]) -> Option<u64> {
     digits_of(&digits, 16)
 }
 
-/// Whether colons are where an address has them.
+/// Whether the colons of an address are in their places.
 #[inline]
 fn has_colons(word: &[u8]) -> bool {
     word[2] == b':' && word[5] == b':' && word[8] == b':' && word[11] == b':' && word[14] == b':'
 }
 
-/// The number that digits write, or the cap if that is less. `None` if there is no digit, or something else.
+/// The number that digits write, at most the cap. `None` if there are no digits, or other characters.
 #[inline]
 fn digits_of(digits: &[u8], radix: u32) -> Option<u64> {
     if digits.is_empty() {
@@ -79,7 +79,7 @@ fn digits_of(digits: &[u8], radix: u32) -> Option<u64> {
     Some(number)
 }
 
-/// The number with one more digit, or the cap if that is less.
+/// The number with a further digit, at most the cap.
 #[inline]
 fn appended(number: u64, radix: u32, digit: u32) -> u64 {
     (number * u64::from(radix) + u64::from(digit)).min(CAP)

@@ -1,4 +1,4 @@
-//! What a filter is asked about.
+//! What a filter is applied to.
 use crate::ether_peel::Start;
 
 /// A packet of a capture.
@@ -6,11 +6,11 @@ use crate::ether_peel::Start;
 pub struct Packet<'a> {
     /// What the frame begins with.
     pub start: Start,
-    /// The frame, as far as it was captured. It has a frame check sequence only if `start` says so.
+    /// The captured bytes of the frame. They end in a frame check sequence only if `start` says so.
     pub frame: &'a [u8],
-    /// The number of bytes that were captured. It's more than those of `frame` if the capture has a header of its own before the
-    /// frame, or a frame check sequence after it.
+    /// The number of captured bytes. It exceeds the length of `frame` if the capture has a header of its own before
+    /// the frame, or a frame check sequence after it.
     pub captured_len: usize,
-    /// The number of bytes that the packet had on the wire.
+    /// The number of bytes of the packet on the wire.
     pub original_len: u32,
 }

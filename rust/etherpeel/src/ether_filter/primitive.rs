@@ -1,8 +1,8 @@
 //! The primitives of an expression.
 
-/// What an expression asks of a packet in one primitive, as the table of [`Filter`](crate::ether_filter::Filter) says.
+/// A test of a packet, as the table of [`Filter`](crate::ether_filter::Filter) says.
 ///
-/// An address is one number, whose first byte is the most significant one.
+/// An address is one number, its first byte the most significant one.
 #[derive(Clone, Copy, Debug)]
 pub enum Primitive {
     /// `vlan`

@@ -1,4 +1,4 @@
-//! An expression that is read word after word.
+//! Reads an expression word by word.
 
 use crate::ether_filter::awaited::{Awaited, Numbered, Step, first_step, kind_of, next_step};
 use crate::ether_filter::filter::MAX_WORDS;
@@ -8,14 +8,14 @@ use crate::ether_filter::primitive::Primitive;
 use crate::ether_filter::token::Token;
 use arrayvec::ArrayVec;
 
-/// What is open in an expression that is read.
+/// A part of an expression that is not complete yet.
 #[derive(Clone, Copy)]
 pub(crate) enum Pending {
-    /// A parenthesis.
+    /// A parenthesis that is not closed.
     Open,
-    /// A negation, before its operand.
+    /// A negation without its operand.
     Not,
-    /// An operator, after its left operand.
+    /// An operator without its right operand.
     Join(Operator),
 }
 
@@ -26,17 +26,17 @@ impl Default for Pending {
     }
 }
 
-/// An expression that is read.
+/// An expression that is read up to some word.
 pub(crate) struct Reading {
-    /// The nodes of what is whole.
+    /// The nodes of its complete parts.
     nodes: ArrayVec<Node, MAX_WORDS>,
-    /// What is open, the innermost last.
+    /// The incomplete parts, the innermost last.
     pending: ArrayVec<Pending, MAX_WORDS>,
     awaited: Awaited,
 }
 
 impl Reading {
-    /// Nothing is read yet.
+    /// An expression of which nothing is read yet.
     ///
     /// <details><summary>Contract</summary>
     ///
@@ -54,7 +54,7 @@ impl Reading {
         }
     }
 
-    /// Takes one word more.
+    /// Consumes the next word.
     ///
     /// <details><summary>Contract</summary>
     ///
@@ -96,7 +96,7 @@ impl Reading {
         }
     }
 
-    /// Takes what a word makes of a primitive.
+    /// Does what a word does to a primitive.
     #[inline]
     fn step(&mut self, step: Step) -> Result<(), FilterErrorKind> {
         match step {
@@ -107,14 +107,14 @@ impl Reading {
         Ok(())
     }
 
-    /// Takes a primitive, which is an operand.
+    /// Adds a primitive, which is an operand.
     #[inline]
     fn complete(&mut self, primitive: Primitive) {
         self.nodes.push(Node::Test(primitive));
         self.close();
     }
 
-    /// Ends the negations of an operand.
+    /// Completes the negations of the operand that was read last.
     #[inline]
     fn close(&mut self) {
         while let Some(last) = self.pending.pop() {
@@ -127,7 +127,7 @@ impl Reading {
         self.awaited = Awaited::Operator;
     }
 
-    /// Takes a word after an operand.
+    /// Consumes a word after an operand.
     #[inline]
     fn take_operator(&mut self, token: Token) -> Result<(), FilterErrorKind> {
         match token {
@@ -137,7 +137,7 @@ impl Reading {
         }
     }
 
-    /// Takes an operator.
+    /// Consumes an operator.
     #[inline]
     fn join(&mut self, operator: Operator) -> Result<(), FilterErrorKind> {
         match self.pending.pop() {
@@ -155,7 +155,7 @@ impl Reading {
         Ok(())
     }
 
-    /// Takes a closing parenthesis.
+    /// Consumes a closing parenthesis.
     #[inline]
     fn close_group(&mut self) -> Result<(), FilterErrorKind> {
         self.settle();
@@ -168,7 +168,7 @@ impl Reading {
         }
     }
 
-    /// Ends the operands that an operator joins.
+    /// Completes the operator before an operand.
     #[inline]
     fn settle(&mut self) {
         match self.pending.pop() {
@@ -178,7 +178,7 @@ impl Reading {
         }
     }
 
-    /// The nodes of the expression, if all of it is read.
+    /// The nodes of the expression, if it is complete.
     ///
     /// <details><summary>Contract</summary>
     ///
@@ -207,7 +207,7 @@ impl Reading {
     }
 }
 
-/// Whether these are two operators.
+/// Whether two operators differ.
 #[inline]
 fn differ(first: Operator, second: Operator) -> bool {
     matches!(

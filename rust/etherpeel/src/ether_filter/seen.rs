@@ -1,11 +1,11 @@
-//! What one walk through a packet shows of all primitives.
+//! `Seen`: what one walk through a packet shows, for all primitives together.
 
 use crate::ether_filter::fields::{Fields, announced_type, is_shown_by_link, read_fields};
 use crate::ether_filter::primitive::Primitive;
 use arrayvec::ArrayVec;
 use crate::ether_peel::{Peel, Start};
 
-/// The most identifiers, and the most ether types, that there is room for.
+/// The most VLAN identifiers, and the most ether types, that are kept.
 const ROOM: usize = 8;
 
 /// The two addresses of a link.
@@ -15,7 +15,7 @@ pub(crate) struct Addresses {
     source: u64,
 }
 
-/// What some headers show, but for what they are many of.
+/// What headers show, except for the identifiers and ether types, which can be many.
 #[derive(Clone, Copy)]
 pub(crate) struct Told {
     link: Option<Addresses>,
@@ -27,7 +27,7 @@ pub(crate) struct Told {
     is_refused: bool,
 }
 
-/// What some headers show.
+/// What headers show.
 pub(crate) struct Seen {
     told: Told,
     /// The identifiers of the VLAN tags.
@@ -36,7 +36,7 @@ pub(crate) struct Seen {
     types: ArrayVec<u16, ROOM>,
 }
 
-/// What the headers of a packet show. `None` if it is more than there is room for.
+/// Walks through a packet, and returns what its headers show. `None` if there is no room for that.
 #[inline]
 pub(crate) fn look(start: Start, frame: &[u8]) -> Option<Seen> {
     let mut peel = Peel::new(start, frame);
@@ -57,7 +57,7 @@ pub(crate) fn look(start: Start, frame: &[u8]) -> Option<Seen> {
     }
 }
 
-/// What is known before the first header, by the ether type that is announced.
+/// What is known before the first header: the ether type that is announced, if one is.
 #[inline]
 fn begin(announced: Option<u16>) -> Seen {
     let mut types = ArrayVec::new();
@@ -77,7 +77,7 @@ fn begin(announced: Option<u16>) -> Seen {
     }
 }
 
-/// Takes one header more. Returns `false` if there is no room for what it shows.
+/// Adds what a further header shows. Returns `false` if there is no room for it.
 #[inline]
 fn take(seen: &mut Seen, fields: Fields, announced: Option<u16>) -> bool {
     if !fits(seen.told.link, fields) {
@@ -87,13 +87,13 @@ fn take(seen: &mut Seen, fields: Fields, announced: Option<u16>) -> bool {
     keep(&mut seen.ids, tag_id(fields)) && keep(&mut seen.types, announced)
 }
 
-/// Whether no link is seen twice.
+/// Whether these are not the fields of a second link.
 #[inline]
 fn fits(link: Option<Addresses>, fields: Fields) -> bool {
     !matches!((link, fields), (Some(_), Fields::Link { .. }))
 }
 
-/// What is told after one header more.
+/// What is known after a further header with these fields.
 #[inline]
 fn told_after(told: Told, fields: Fields) -> Told {
     match fields {
@@ -135,7 +135,7 @@ fn tag_id(fields: Fields) -> Option<u16> {
     }
 }
 
-/// Keeps a number, if there is one. Returns `false` if there is no room for it.
+/// Appends a number, if there is one. Returns `false` if there is no room for it.
 #[inline]
 fn keep(numbers: &mut ArrayVec<u16, ROOM>, number: Option<u16>) -> bool {
     if let Some(number) = number {
@@ -147,7 +147,7 @@ fn keep(numbers: &mut ArrayVec<u16, ROOM>, number: Option<u16>) -> bool {
     true
 }
 
-/// Whether a primitive matches a packet of two lengths in which this was seen.
+/// Whether a primitive matches a packet of these lengths in which this was seen.
 #[inline]
 pub(crate) fn is_seen(
     primitive: &Primitive,
@@ -188,18 +188,18 @@ fn has(numbers: &[u16], number: u16) -> bool {
     false
 }
 
-/// The VLAN tags that are seen.
+/// What is known of the VLAN tags of a packet.
 #[derive(Clone, Copy)]
 pub(crate) enum Tags {
     /// There is none.
     Untagged,
     /// There is one, with this identifier.
     One(u16),
-    /// There are several, or it is not seen how many there are.
+    /// There are several, or it is not known how many.
     Any,
 }
 
-/// The VLAN tags that are seen of a packet.
+/// What is known of the VLAN tags of a packet, by what was seen in it.
 #[inline]
 pub(crate) fn tags_seen(seen: &Option<Seen>) -> Tags {
     let Some(seen) = seen else {

@@ -1,26 +1,26 @@
 //! The words of a text.
 
-/// What a character of a text is.
+/// The class of a character.
 #[derive(Clone, Copy)]
 pub(crate) enum Class {
-    /// Between words.
+    /// It separates words.
     Blank,
-    /// A word of its own.
+    /// It is a word of its own.
     Sign,
-    /// In a word of such characters.
+    /// It is part of a word of `&` or `|`.
     Connective,
-    /// In a word of such characters.
+    /// It is part of a word of other characters.
     Letter,
 }
 
-/// Where a word of a text begins and ends.
+/// The offsets in a text at which a word begins and ends.
 #[derive(Clone, Copy)]
 pub(crate) struct Word {
     pub start: usize,
     pub end: usize,
 }
 
-/// The first word of a text from a place on.
+/// The first word of a text from the offset `from` on.
 #[inline]
 pub(crate) fn next_word(text: &[u8], from: usize) -> Option<Word> {
     let start = word_start(text, from);
@@ -31,7 +31,7 @@ pub(crate) fn next_word(text: &[u8], from: usize) -> Option<Word> {
     Some(Word { start, end })
 }
 
-/// Where the blanks from a place on end.
+/// The offset at which the blanks from `from` on end.
 #[inline]
 fn word_start(text: &[u8], from: usize) -> usize {
     let mut start = from;
@@ -44,7 +44,7 @@ fn word_start(text: &[u8], from: usize) -> usize {
     start
 }
 
-/// Where the word that begins at a place ends.
+/// The offset at which the word ends that begins at `start`.
 #[inline]
 fn word_end(text: &[u8], start: usize) -> usize {
     let mut end = start + 1;
@@ -54,7 +54,7 @@ fn word_end(text: &[u8], start: usize) -> usize {
     end
 }
 
-/// What a character is.
+/// The class of a character.
 #[inline]
 fn class_of(byte: u8) -> Class {
     match byte {
@@ -65,7 +65,7 @@ fn class_of(byte: u8) -> Class {
     }
 }
 
-/// Whether two characters, one after the other, are of one word.
+/// Whether two neighboring characters are in one word.
 #[inline]
 fn are_joined(first: Class, second: Class) -> bool {
     matches!(

@@ -1,15 +1,15 @@
-//! Where the VLAN tags and SecTags of a packet lie in its frame.
+//! Where the VLAN tags and SecTags of a packet are in its frame.
 
 use core::fmt;
 
-/// A window of a frame: where it starts, and its bytes.
+/// A window of a frame: its offset, and its bytes.
 #[derive(Clone, Copy)]
 pub(crate) struct FrameWindow<'a> {
     pub start: usize,
     pub bytes: &'a [u8],
 }
 
-/// Shows the number of the bytes, which are shown with the frame.
+/// Shows how many bytes there are, and not the bytes: the frame has them.
 impl fmt::Debug for FrameWindow<'_> {
     fn fmt(&self, f: &mut fmt::Formatter<'_>) -> fmt::Result {
         f.debug_struct("FrameWindow")
@@ -19,7 +19,7 @@ impl fmt::Debug for FrameWindow<'_> {
     }
 }
 
-/// Which link extension a tag is.
+/// Whether a tag is a VLAN tag or a SecTag.
 #[derive(Clone, Copy, Debug)]
 pub(crate) enum ExtKind {
     Vlan,
@@ -33,7 +33,8 @@ pub(crate) struct ExtPlace<'a> {
     pub place: FrameWindow<'a>,
 }
 
-/// Up to three tags in order. Three fields take fewer instructions than a list, whose unused places are filled.
+/// Up to three tags in order. Three fields take fewer instructions than an `ArrayVec`, whose unused places have to be
+/// filled.
 #[derive(Debug)]
 pub(crate) struct ExtPlaces<'a> {
     first: Option<ExtPlace<'a>>,
@@ -60,7 +61,7 @@ impl<'a> ExtPlaces<'a> {
         }
     }
 
-    /// Adds a tag after the others.
+    /// Appends a tag.
     ///
     /// <details><summary>Contract</summary>
     ///
@@ -100,7 +101,7 @@ impl<'a> ExtPlaces<'a> {
         }
     }
 
-    /// How many tags there are.
+    /// The number of tags.
     ///
     /// <details><summary>Contract</summary>
     ///

@@ -1,16 +1,17 @@
-//! A VLAN tag or SecTag of a frame, by its index.
+//! Finds a VLAN tag or SecTag of a frame by its index.
 
 use crate::ether_peel::{Peel, PeelUnit, Start};
 use crate::LinkExtHeader;
 
-/// A VLAN tag or SecTag of a frame, and where it starts.
+/// A VLAN tag or SecTag of a frame, and its offset.
 #[derive(Clone, Copy)]
 pub(crate) struct PlacedExt {
     pub(crate) at: usize,
     pub(crate) header: LinkExtHeader,
 }
 
-/// The VLAN tag or SecTag at an index, counted from the outermost one. If there is none, how many the frame has.
+/// The VLAN tag or SecTag at an index, counted from the outermost one. The error is the number of VLAN tags and
+/// SecTags, if there is none at the index.
 #[inline]
 pub(crate) fn ext_at(start: Start, frame: &[u8], index: usize) -> Result<PlacedExt, usize> {
     let mut peel = Peel::new(start, frame);
@@ -32,7 +33,7 @@ pub(crate) fn ext_at(start: Start, frame: &[u8], index: usize) -> Result<PlacedE
     }
 }
 
-/// The VLAN tag or SecTag that a unit is, if it is one.
+/// The VLAN tag or SecTag in a unit, if it has one.
 #[inline(always)]
 fn ext_of(unit: &PeelUnit<'_>) -> Option<LinkExtHeader> {
     match unit {

@@ -1,23 +1,23 @@
-//! How a frame begins: the header of its link, and the VLAN tag directly after it.
+//! The first headers of a frame: that of the link, and the VLAN tag directly after it.
 
 use crate::ether_packet::popping::require_tag;
 use crate::ether_packet::typed_link::chunk_at;
 use crate::ether_peel::Start;
 use crate::{Ethernet2Header, Ethernet2Slice, LinuxSllHeader, SingleVlanHeader};
 
-/// How an Ethernet II frame begins.
+/// The first headers of an Ethernet II frame.
 #[derive(Clone, Copy, Debug)]
 pub struct EthernetFront {
     /// The header of Ethernet II.
     pub link: Ethernet2Header,
-    /// The VLAN tag directly after it.
+    /// The VLAN tag directly after it, if there is one.
     pub vlan: Option<SingleVlanHeader>,
 }
 
-/// The header of an Ethernet II frame without a frame check sequence, and the VLAN tag directly after it.
+/// Reads the header of an Ethernet II frame without a frame check sequence, and the VLAN tag directly after it.
 ///
-/// What a switch or a load balancer looks at. What follows isn't read. `None` if the frame has fewer than 14 bytes. A
-/// tag that is cut short is none.
+/// This is what a switch or a load balancer needs; the bytes after these headers are not read. `None` if the frame has
+/// fewer than 14 bytes. A VLAN tag that is cut short is not returned.
 ///
 /// # Examples
 ///
@@ -63,9 +63,10 @@ pub fn ethernet_front(frame: &[u8]) -> Option<EthernetFront> {
     }
 }
 
-/// The VLAN tag directly after the header of a link, which [`pop_vlan`](crate::ether_packet::pop_vlan) takes off.
+/// The VLAN tag directly after the header of the link, which is the tag that [`pop_vlan`](crate::ether_packet::pop_vlan) would take
+/// off.
 ///
-/// `None` if that refuses the frame.
+/// `None` where `pop_vlan` refuses the frame.
 ///
 /// # Examples
 ///
@@ -99,7 +100,7 @@ pub fn outer_vlan(start: Start, frame: &[u8]) -> Option<SingleVlanHeader> {
     }
 }
 
-/// The length of the header of a link, from a start that has one.
+/// The length in bytes of the link's header, for a start that has one.
 #[inline]
 fn link_len(start: Start) -> usize {
     match start {

@@ -1,4 +1,4 @@
-//! The headers of a packet, kept as windows of the frame: a view is made when it is asked for.
+//! The headers of a packet, kept as windows of the frame. A getter makes the view from its window.
 
 use crate::ether_packet::ext_places::{ExtKind, ExtPlace, ExtPlaces, FrameWindow};
 use crate::ether_packet::{PacketExt, PacketParts};
@@ -9,7 +9,7 @@ use crate::{
     SingleVlanHeader, SingleVlanSlice,
 };
 
-/// The header of a link that a frame begins with, if it has one.
+/// The kind of the link's header at the front of a frame, if there is one.
 #[derive(Clone, Copy, Debug)]
 enum LinkKind {
     Missing,
@@ -18,7 +18,7 @@ enum LinkKind {
     LinuxSll,
 }
 
-/// The headers that were read of a frame, each with the window in which it was read.
+/// The headers that were read from a frame, each with its window.
 #[derive(Debug)]
 pub(crate) struct PacketUnits<'a> {
     frame: &'a [u8],
@@ -47,7 +47,7 @@ impl<'a> PacketUnits<'a> {
         }
     }
 
-    /// Adds a header that was read in a window.
+    /// Appends a header that was read in a window.
     ///
     /// <details><summary>Contract</summary>
     ///
@@ -71,7 +71,7 @@ impl<'a> PacketUnits<'a> {
         }
     }
 
-    /// Adds a VLAN tag or SecTag.
+    /// Appends a VLAN tag or SecTag.
     #[inline(always)]
     fn add_ext(&mut self, kind: ExtKind, place: FrameWindow<'a>) {
         self.exts.push(ExtPlace { kind, place });
@@ -96,7 +96,7 @@ impl<'a> PacketUnits<'a> {
         }
     }
 
-    /// How many VLAN tags and SecTags there are.
+    /// The number of VLAN tags and SecTags.
     ///
     /// <details><summary>Contract</summary>
     ///
@@ -111,7 +111,8 @@ impl<'a> PacketUnits<'a> {
         self.exts.len()
     }
 
-    /// The VLAN tag or SecTag at an index. A branch for each index takes fewer instructions than one that selects the place.
+    /// The VLAN tag or SecTag at an index. One branch for each index takes fewer instructions than selecting the place
+    /// first.
     ///
     /// <details><summary>Contract</summary>
     ///
@@ -130,7 +131,7 @@ impl<'a> PacketUnits<'a> {
         }
     }
 
-    /// The same.
+    /// Does as `ext`, by selecting the place first.
     #[inline(always)]
     fn ext_at(&self, index: usize) -> Option<PacketExt<'a>> {
         match self.exts.get(index) {
@@ -201,7 +202,7 @@ impl<'a> PacketUnits<'a> {
         }
     }
 
-    /// Where the ARP packet starts.
+    /// The offset of the ARP packet.
     ///
     /// <details><summary>Contract</summary>
     ///
@@ -218,7 +219,7 @@ impl<'a> PacketUnits<'a> {
         }
     }
 
-    /// The bytes of the frame after so many bytes from a place on.
+    /// The bytes of the frame after the `len` bytes from the offset `at` on.
     ///
     /// <details><summary>Contract</summary>
     ///
@@ -234,7 +235,8 @@ impl<'a> PacketUnits<'a> {
         &frame[end..]
     }
 
-    /// The headers as values, before a rest that an ether type announces and what follows it; `None` without a link's header.
+    /// The headers as values, with the rest after them, its ether type and the trailer; `None` if there is no link's
+    /// header.
     ///
     /// <details><summary>Contract</summary>
     ///
@@ -264,7 +266,7 @@ impl<'a> PacketUnits<'a> {
         })
     }
 
-    /// The VLAN tag or SecTag at an index as a value, or any if there are not so many.
+    /// The VLAN tag or SecTag at an index as a value; any value if there is no tag at the index.
     #[inline]
     fn ext_header(&self, index: usize) -> LinkExtHeader {
         match self.ext(index) {
@@ -273,7 +275,7 @@ impl<'a> PacketUnits<'a> {
         }
     }
 
-    /// How far the headers reach, with the payloads whose length a SecTag names.
+    /// The offset at which the headers end, including payloads whose length a SecTag gives.
     ///
     /// <details><summary>Contract</summary>
     ///
@@ -315,7 +317,8 @@ fn arp_packet(arp: Option<FrameWindow<'_>>) -> Option<ArpPacket> {
     }
 }
 
-/// Where the headers of a link and of tags end, and how far they reach.
+/// The offset at which the link's header and the tags end, and how far they reach with the payloads whose length a
+/// SecTag gives.
 #[inline]
 fn tags_reach(link: LinkKind, exts: &ExtPlaces<'_>) -> (usize, usize) {
     let mut at = link_len(link);
@@ -330,7 +333,7 @@ fn tags_reach(link: LinkKind, exts: &ExtPlaces<'_>) -> (usize, usize) {
     (at, end)
 }
 
-/// The length of the link's header, 0 if there is none.
+/// The length in bytes of the link's header, 0 if there is none.
 #[inline]
 fn link_len(link: LinkKind) -> usize {
     match link {
@@ -340,7 +343,7 @@ fn link_len(link: LinkKind) -> usize {
     }
 }
 
-/// The length of a tag.
+/// The length in bytes of a tag.
 #[inline]
 fn ext_len(ext: &LinkExtSlice<'_>) -> usize {
     match ext {
@@ -349,7 +352,7 @@ fn ext_len(ext: &LinkExtSlice<'_>) -> usize {
     }
 }
 
-/// The length of the payload that a SecTag names, 0 if none is named.
+/// The length in bytes of the payload that a SecTag gives, 0 if it gives none.
 #[inline]
 fn named_len(ext: &LinkExtSlice<'_>) -> usize {
     match ext {
@@ -358,7 +361,7 @@ fn named_len(ext: &LinkExtSlice<'_>) -> usize {
     }
 }
 
-/// Whether a frame has a frame check sequence.
+/// The kind of an Ethernet II frame: with or without a frame check sequence.
 #[inline(always)]
 fn frame_place(slice: &Ethernet2Slice<'_>) -> LinkKind {
     if slice.fcs().is_some() {

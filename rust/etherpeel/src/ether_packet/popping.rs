@@ -1,4 +1,4 @@
-//! VLAN tags that are taken off in place.
+//! Takes VLAN tags off in place.
 
 use crate::ether_packet::TagError;
 use crate::ether_packet::packet_builder::put_at;
@@ -6,20 +6,21 @@ use crate::ether_packet::typed_link::{chunk_at, typed_link};
 use crate::ether_peel::Start;
 use crate::SingleVlanHeader;
 
-/// Takes off the VLAN tag after the header of a link, in place, and returns it: the frame is then `frame[4..]`.
+/// Takes off the VLAN tag after the link's header, in place, and returns it. The frame is then `frame[4..]`.
 ///
-/// Only the 12 bytes of the addresses are moved, or the 14 bytes of a cooked capture before its protocol type, so the time
-/// does not depend on the length of the frame. The ether type of the tag becomes that of the link's header. All later headers
-/// and the payload stay where they are, also if a later header is refused. A frame check sequence and an integrity check
-/// value stay as they were, and don't fit the new frame.
+/// The ether type of the tag becomes that of the link's header. Only the bytes of the link before that ether type are
+/// moved: 12 bytes of addresses, or 14 bytes of a cooked capture header. So the time does not depend on the length of
+/// the frame. All later headers and the payload are unchanged, even if a later header is refused. A frame check
+/// sequence and an integrity check value are also unchanged, and don't fit the new frame.
 ///
 /// # Errors
 ///
-/// The frame then stays as it was:
+/// The frame is then unchanged:
 ///
-/// - [`TagError::NoLink`]: the frame begins with what an ether type announces, or the header of its link is refused.
+/// - [`TagError::NoLink`]: the frame begins after a link's header ([`Start::EtherType`]), or its link's header is
+///   refused.
 /// - [`TagError::HardwareType`]: the header of cooked capture has this hardware type, which is not that of Ethernet.
-/// - [`TagError::NoVlan`]: the ether type of the link announces no VLAN tag.
+/// - [`TagError::NoVlan`]: the ether type of the link's header does not announce a VLAN tag.
 /// - [`TagError::CutVlan`]: it does, but fewer than 4 bytes follow, not counting a frame check sequence.
 ///
 /// # Examples
@@ -75,7 +76,7 @@ pub fn pop_vlan(start: Start, frame: &mut [u8]) -> Result<SingleVlanHeader, TagE
     }
 }
 
-/// Requires that a VLAN tag follows the header of a link.
+/// Requires that a VLAN tag follows the link's header.
 #[inline(always)]
 pub(crate) fn require_tag(start: Start, frame: &[u8]) -> Result<(), TagError> {
     let link = typed_link(start, frame)?;
@@ -88,7 +89,7 @@ pub(crate) fn require_tag(start: Start, frame: &[u8]) -> Result<(), TagError> {
     Ok(())
 }
 
-/// Returns the tag after the header of a link whose type is at `N`, and moves the bytes before the type over it.
+/// Returns the tag after a link's header whose type is at the offset `N`, and moves the bytes before the type over it.
 #[inline(always)]
 fn take_off<const N: usize>(frame: &mut [u8]) -> SingleVlanHeader {
     let tag = SingleVlanHeader::from_bytes(chunk_at::<4>(frame, N + 2));

@@ -1,4 +1,4 @@
-//! VLAN tags that are put in in place.
+//! Puts VLAN tags in, in place.
 
 use crate::ether_packet::TagError;
 use crate::ether_packet::packet_builder::put_at;
@@ -6,24 +6,27 @@ use crate::ether_packet::typed_link::{chunk_at, typed_link};
 use crate::ether_peel::Start;
 use crate::{EtherType, SingleVlanHeader};
 
-/// Puts a VLAN tag after the header of a link, in place: the frame is `buffer[4..]` before the call and the whole buffer after it.
+/// Puts a VLAN tag after the link's header, in place. The frame is `buffer[4..]` before the call, and the whole buffer
+/// after it.
 ///
 /// The TPID is the ether type that announces the tag: 0x8100 ([`EtherType::VLAN_TAGGED_FRAME`]), 0x88A8
-/// ([`EtherType::PROVIDER_BRIDGING`]) or 0x9100 ([`EtherType::VLAN_DOUBLE_TAGGED_FRAME`]). It becomes the ether type of the
-/// link's header, whose own one becomes that of the tag: `tag.ether_type` is ignored. So [`pop_vlan`](crate::ether_packet::pop_vlan) takes
-/// off what was put in, and its result may be put in again.
+/// ([`EtherType::PROVIDER_BRIDGING`]) or 0x9100 ([`EtherType::VLAN_DOUBLE_TAGGED_FRAME`]). It becomes the ether type
+/// of the link's header, and the former ether type of that header becomes the tag's: `tag.ether_type` is ignored. So
+/// [`pop_vlan`](crate::ether_packet::pop_vlan) takes off the tag that was put in, and this call can put in what `pop_vlan` returned.
 ///
-/// Only the 12 bytes of the addresses are moved, or the 14 bytes of a cooked capture before its protocol type, so the time
-/// does not depend on the length of the frame. All later headers and the payload stay where they are, also if a later header
-/// is refused. A frame check sequence and an integrity check value stay as they were, and don't fit the new frame.
+/// Only the bytes of the link before its ether type are moved: 12 bytes of addresses, or 14 bytes of a cooked capture
+/// header. So the time does not depend on the length of the frame. All later headers and the payload are unchanged,
+/// even if a later header is refused. A frame check sequence and an integrity check value are also unchanged, and
+/// don't fit the new frame.
 ///
 /// # Errors
 ///
-/// The buffer then stays as it was. The first of these that applies is returned:
+/// The first of these that applies. The buffer is then unchanged:
 ///
-/// - [`TagError::Tpid`]: the TPID, which the error names, is none of the three.
+/// - [`TagError::Tpid`]: the TPID, which the error names, is not one of the three.
 /// - [`TagError::NoRoom`]: the buffer has fewer than 4 bytes.
-/// - [`TagError::NoLink`]: the frame begins with what an ether type announces, or the header of its link is refused.
+/// - [`TagError::NoLink`]: the frame begins after a link's header ([`Start::EtherType`]), or its link's header is
+///   refused.
 /// - [`TagError::HardwareType`]: the header of cooked capture has this hardware type, which is not that of Ethernet.
 ///
 /// # Examples
@@ -89,7 +92,7 @@ pub fn push_vlan(
     Ok(())
 }
 
-/// Requires that four bytes of a buffer are free before the header of a link, and that the ether type announces a VLAN tag.
+/// Requires four free bytes before the link's header, and an ether type that announces a VLAN tag.
 #[inline(always)]
 fn require_link(start: Start, buffer: &[u8], tpid: EtherType) -> Result<(), TagError> {
     if !tpid.announces_vlan() {
@@ -102,7 +105,7 @@ fn require_link(start: Start, buffer: &[u8], tpid: EtherType) -> Result<(), TagE
     Ok(())
 }
 
-/// Moves the `N` bytes of a link before its type to the front, and puts four bytes after them.
+/// Moves the `N` bytes of a link before its type to the front, and writes the four bytes of the tag after them.
 #[inline(always)]
 fn put_in<const N: usize>(buffer: &mut [u8], tag: SingleVlanHeader, tpid: EtherType) {
     let front = chunk_at::<N>(buffer, 4);

@@ -1,4 +1,4 @@
-//! Headers of a frame that are replaced in place.
+//! Replaces headers of a frame in place.
 
 use crate::ether_packet::finding::ext_at;
 use crate::ether_packet::packet_builder::{write_ext, write_link_header};
@@ -6,21 +6,21 @@ use crate::ether_packet::{Difference, ReplaceError};
 use crate::ether_peel::Start;
 use crate::{Ethernet2Slice, LinkExtHeader, LinkHeader, LinuxSllSlice};
 
-/// Replaces a VLAN tag or SecTag of a frame in place by another one of the same length, which says the same about what
+/// Replaces a VLAN tag or SecTag of a frame, in place, by one that has the same length and says the same about what
 /// follows it.
 ///
-/// The index counts VLAN tags and SecTags, the outermost first. There may be any number of them. No other byte changes, so
-/// the headers of the frame are those from before with this one replaced, also if a later header is refused. A frame
-/// check sequence and an integrity check value stay as they were, and don't fit the new bytes.
+/// The index counts VLAN tags and SecTags, outermost first. There may be any number of them. No other byte changes:
+/// the walk has the new tag at this index, and all other headers are unchanged, even if a later header is refused. A
+/// frame check sequence and an integrity check value are also unchanged, and don't fit the new bytes.
 ///
 /// # Errors
 ///
-/// The frame then stays as it was:
+/// The frame is then unchanged:
 ///
-/// - [`ReplaceError::NoLinkExt`]: there is no tag at the index. It names how many there are.
-/// - [`ReplaceError::SaysOther`]: one tag is a VLAN tag and the other a SecTag, or the ether types of two VLAN tags
-///   differ, or the types of payload of two SecTags, their short lengths, or whether they have an SCI. It names the
-///   difference.
+/// - [`ReplaceError::NoLinkExt`]: there is no tag at the index. The error names the number of tags.
+/// - [`ReplaceError::SaysOther`]: one tag is a VLAN tag and the other a SecTag; two VLAN tags differ in their ether
+///   types; or two SecTags differ in their payload types, in their short lengths, or in whether they have an SCI. The
+///   error names the difference.
 ///
 /// # Examples
 ///
@@ -67,7 +67,7 @@ pub fn replace_link_ext(
     Ok(())
 }
 
-/// Where the tag at an index starts, if the other one can replace it.
+/// The offset of the tag at an index, if the other tag can replace it.
 #[inline]
 fn find_ext(
     start: Start,
@@ -84,7 +84,7 @@ fn find_ext(
     }
 }
 
-/// The first difference between two tags in kind, length and what they say about what follows them.
+/// The first difference between two tags, in kind, in length, or in what they say about what follows them.
 #[inline]
 fn ext_difference(new: &LinkExtHeader, old: &LinkExtHeader) -> Option<Difference> {
     match (new, old) {
@@ -106,20 +106,21 @@ fn ext_difference(new: &LinkExtHeader, old: &LinkExtHeader) -> Option<Difference
     }
 }
 
-/// Replaces the header of a link that a frame begins with, in place by another one of the same kind, which says the same
-/// about what follows it.
+/// Replaces the link's header at the front of a frame, in place, by one of the same kind that says the same about what
+/// follows it.
 ///
-/// No other byte changes, so the headers of the frame are those from before with this one replaced, also if a later
-/// header is refused. A frame check sequence stays as it was, and doesn't fit the new bytes.
+/// No other byte changes: the walk has the new header first, and all other headers are unchanged, even if a later
+/// header is refused. A frame check sequence is also unchanged, and doesn't fit the new bytes.
 ///
 /// # Errors
 ///
-/// The frame then stays as it was:
+/// The frame is then unchanged:
 ///
-/// - [`ReplaceError::NoLink`]: the frame begins with what an ether type announces, or its first header is refused.
-/// - [`ReplaceError::SaysOther`]: one header is of Ethernet II and the other of cooked capture, or the ether types of two
-///   Ethernet II headers differ, or the hardware types or the protocol types of two cooked captures. It names the
-///   difference.
+/// - [`ReplaceError::NoLink`]: the frame begins after a link's header ([`Start::EtherType`]), or its first header is
+///   refused.
+/// - [`ReplaceError::SaysOther`]: one header is of Ethernet II and the other of cooked capture; two Ethernet II
+///   headers differ in their ether types; or two cooked capture headers differ in their hardware types or protocol
+///   types. The error names the difference.
 ///
 /// # Examples
 ///
@@ -163,7 +164,7 @@ pub fn replace_link(start: Start, frame: &mut [u8], header: &LinkHeader) -> Resu
     Ok(())
 }
 
-/// Requires that a frame begins with the header of a link that another one can replace.
+/// Requires that a frame begins with a link's header that the other header can replace.
 #[inline]
 fn require_link(start: Start, frame: &[u8], header: &LinkHeader) -> Result<(), ReplaceError> {
     let Some(old) = link_of(start, frame) else {
@@ -175,7 +176,7 @@ fn require_link(start: Start, frame: &[u8], header: &LinkHeader) -> Result<(), R
     }
 }
 
-/// The header of a link that a frame begins with.
+/// The link's header at the front of a frame.
 #[inline]
 fn link_of(start: Start, frame: &[u8]) -> Option<LinkHeader> {
     match start {
@@ -195,7 +196,7 @@ fn link_of(start: Start, frame: &[u8]) -> Option<LinkHeader> {
     }
 }
 
-/// The first difference between two headers of links in kind and what they say about what follows them.
+/// The first difference between two links' headers, in kind, or in what they say about what follows them.
 #[inline]
 fn link_difference(new: &LinkHeader, old: &LinkHeader) -> Option<Difference> {
     match (new, old) {

@@ -1,29 +1,29 @@
-//! An ARP packet of a frame that is replaced in place.
+//! Replaces the ARP packet of a frame in place.
 
 use crate::ether_packet::packet_builder::write_arp;
 use crate::ether_packet::{Difference, PacketSlice, ReplaceError};
 use crate::ether_peel::Start;
 use crate::{ArpPacket, ArpPacketSlice};
 
-/// Replaces the ARP packet of a frame in place by another one, whose hardware addresses and protocol addresses have the
-/// same lengths.
+/// Replaces the ARP packet of a frame, in place, by another one whose hardware addresses and protocol addresses have
+/// the same lengths.
 ///
-/// The ARP packet is the one that [`PacketSlice::arp`] returns. No other byte changes, so the headers of the frame are
-/// those from before with this one replaced. A frame check sequence and an integrity check value stay as they were, and
-/// don't fit the new bytes.
+/// The ARP packet is the one that [`PacketSlice::arp`] returns. No other byte changes: the walk has the new ARP
+/// packet, and all other headers are unchanged. A frame check sequence and an integrity check value are also
+/// unchanged, and don't fit the new bytes.
 ///
 /// # Errors
 ///
-/// The frame then stays as it was:
+/// The frame is then unchanged:
 ///
-/// - [`ReplaceError::NoArp`]: the frame has no ARP packet, or it is cut short.
-/// - [`ReplaceError::SaysOther`]: the hardware addresses of the two packets differ in length, or the protocol addresses
-///   do. It names the difference.
+/// - [`ReplaceError::NoArp`]: the frame has no ARP packet, or its ARP packet is cut short.
+/// - [`ReplaceError::SaysOther`]: the two packets differ in the length of their hardware addresses, or in that of
+///   their protocol addresses. The error names the difference.
 ///
 /// # Examples
 ///
-/// The request for the hardware address of 10.0.0.2 becomes the reply to it. The addresses of the Ethernet II header are
-/// left to [`replace_link`](crate::ether_packet::replace_link).
+/// The request for the hardware address of 10.0.0.2 becomes the reply to it. The addresses of the Ethernet II header
+/// are left to [`replace_link`](crate::ether_packet::replace_link).
 ///
 /// ```
 /// # use etherpeel::*;
@@ -69,7 +69,7 @@ pub fn replace_arp(start: Start, frame: &mut [u8], packet: &ArpPacket) -> Result
     Ok(())
 }
 
-/// Where the ARP packet of a frame ends, if the other one can replace it.
+/// The offset at which the ARP packet of a frame ends, if the other packet can replace it.
 #[inline]
 fn find_arp(start: Start, frame: &[u8], packet: &ArpPacket) -> Result<usize, ReplaceError> {
     let read = PacketSlice::from_slice(start, frame);
@@ -77,13 +77,13 @@ fn find_arp(start: Start, frame: &[u8], packet: &ArpPacket) -> Result<usize, Rep
         return Err(ReplaceError::NoArp);
     };
     match arp_difference(packet, &old) {
-        // Nothing follows an ARP packet, so the rest starts where it ends.
+        // Nothing is read after an ARP packet, so the rest starts where it ends.
         None => Ok(read.rest_offset),
         Some(difference) => Err(ReplaceError::SaysOther(difference)),
     }
 }
 
-/// The first difference between two ARP packets in the lengths of their addresses.
+/// The first of the two address lengths in which ARP packets differ.
 #[inline]
 fn arp_difference(new: &ArpPacket, old: &ArpPacketSlice<'_>) -> Option<Difference> {
     if new.hw_addr_size() != old.hw_addr_size() {

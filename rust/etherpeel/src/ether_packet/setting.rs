@@ -1,4 +1,4 @@
-//! VLAN tags that are changed in place.
+//! Changes VLAN tags in place.
 
 use crate::ether_packet::TagError;
 use crate::ether_packet::finding::{PlacedExt, ext_at};
@@ -6,7 +6,7 @@ use crate::ether_packet::packet_builder::put_at;
 use crate::ether_peel::{Peel, PeelUnit, Start};
 use crate::{EtherType, LinkExtHeader, SingleVlanHeader, VlanId, VlanPcp};
 
-/// A VLAN tag of a frame, and where it starts.
+/// A VLAN tag of a frame, and its offset.
 #[derive(Clone, Copy)]
 struct PlacedVlan {
     at: usize,
@@ -20,10 +20,10 @@ struct IndexedVlan {
     placed: PlacedVlan,
 }
 
-/// The index of the outermost VLAN tag with an identifier; `None` if no VLAN tag of the frame has it.
+/// The index of the outermost VLAN tag with an identifier; `None` if no VLAN tag of the frame has that identifier.
 ///
-/// The index counts VLAN tags and SecTags, the outermost first. There may be any number of them;
-/// [`PacketSlice::link_exts`](crate::ether_packet::PacketSlice::link_exts) has the first three.
+/// The index counts VLAN tags and SecTags, outermost first. There may be any number of them;
+/// [`PacketSlice::link_exts`](crate::ether_packet::PacketSlice::link_exts) returns the first three.
 ///
 /// # Examples
 ///
@@ -61,12 +61,12 @@ pub fn find_vlan(start: Start, frame: &[u8], vlan_id: VlanId) -> Option<usize> {
     Some(found.index)
 }
 
-/// Gives the outermost VLAN tag with an identifier another identifier, in place, and returns its index; `None` if no VLAN tag of
-/// the frame has it, and the frame then stays as it was.
+/// Changes the identifier of the outermost VLAN tag that has the identifier `from`, in place, to `to`. Returns the
+/// index of that tag, or `None` if no VLAN tag of the frame has the identifier; the frame is then unchanged.
 ///
-/// The index is that of [`find_vlan`]. Priority code point and drop eligible indicator of the tag, all other headers and the
-/// payload stay as they were. A frame check sequence and an integrity check value stay as they were, and don't fit the new
-/// bytes.
+/// The index is that of [`find_vlan`]. The tag's priority code point and drop eligible indicator, all other headers
+/// and the payload are unchanged. A frame check sequence and an integrity check value are also unchanged, and don't
+/// fit the new bytes.
 ///
 /// # Examples
 ///
@@ -115,15 +115,15 @@ pub fn replace_vlan_id(start: Start, frame: &mut [u8], from: VlanId, to: VlanId)
 
 /// Sets the identifier of a VLAN tag of a frame in place.
 ///
-/// The index counts VLAN tags and SecTags, the outermost first, as that of [`find_vlan`]. All other headers and the payload stay
-/// as they were. A frame check sequence and an integrity check value stay as they were, and don't fit the
-/// new bytes.
+/// The index counts VLAN tags and SecTags, outermost first, as that of [`find_vlan`]. The tag's other fields, all
+/// other headers and the payload are unchanged. A frame check sequence and an integrity check value are also
+/// unchanged, and don't fit the new bytes.
 ///
 /// # Errors
 ///
-/// The frame then stays as it was:
+/// The frame is then unchanged:
 ///
-/// - [`TagError::NoLinkExt`]: there is no tag at the index. It names how many there are.
+/// - [`TagError::NoLinkExt`]: there is no tag at the index. The error names the number of tags.
 /// - [`TagError::NoVlan`]: there is a SecTag at the index.
 ///
 /// # Examples
@@ -174,10 +174,10 @@ pub fn set_vlan_id(
     Ok(())
 }
 
-/// Sets the whole tag control information of a VLAN tag of a frame in place: priority code point, drop eligible indicator and
-/// identifier.
+/// Sets the tag control information of a VLAN tag of a frame in place: priority code point, drop eligible indicator
+/// and identifier.
 ///
-/// The same as [`set_vlan_id`] but for the two fields more. The ether type of what follows the tag stays.
+/// Otherwise as [`set_vlan_id`]. The ether type of what follows the tag is unchanged.
 ///
 /// # Errors
 ///
@@ -239,15 +239,16 @@ pub fn set_vlan_tag(
 
 /// Sets the ether type that announces a VLAN tag of a frame (TPID), in place, to 0x8100, 0x88A8 or 0x9100.
 ///
-/// It is the ether type of the header before the tag: of the link, or of another VLAN tag or SecTag. The index counts VLAN
-/// tags and SecTags, the outermost first, as that of [`find_vlan`]. All other headers and the payload stay as they were. A frame check sequence and an integrity check value stay as they were, and don't fit the new bytes.
+/// It is the ether type of the header before the tag: of the link, or of another VLAN tag or SecTag. The index counts
+/// VLAN tags and SecTags, outermost first, as that of [`find_vlan`]. All other headers and the payload are unchanged.
+/// A frame check sequence and an integrity check value are also unchanged, and don't fit the new bytes.
 ///
 /// # Errors
 ///
-/// The frame then stays as it was. The first of these that applies is returned:
+/// The first of these that applies. The frame is then unchanged:
 ///
-/// - [`TagError::Tpid`]: the TPID, which the error names, is none of the three.
-/// - [`TagError::NoLinkExt`]: there is no tag at the index. It names how many there are.
+/// - [`TagError::Tpid`]: the TPID, which the error names, is not one of the three.
+/// - [`TagError::NoLinkExt`]: there is no tag at the index. The error names the number of tags.
 /// - [`TagError::NoVlan`]: there is a SecTag at the index.
 /// - [`TagError::Unannounced`]: the frame begins with the tag, as from [`Start::EtherType`].
 ///
@@ -300,7 +301,7 @@ pub fn set_tpid(
     Ok(())
 }
 
-/// The VLAN tag at an index of the tags.
+/// The VLAN tag at an index among VLAN tags and SecTags.
 #[inline]
 fn vlan_at(start: Start, frame: &[u8], index: usize) -> Result<PlacedVlan, TagError> {
     match ext_at(start, frame, index) {
@@ -333,7 +334,7 @@ fn outermost_with(start: Start, frame: &[u8], vlan_id: VlanId) -> Option<Indexed
     }
 }
 
-/// The VLAN tag that a unit is, if it has an identifier.
+/// The VLAN tag in a unit, if it has this identifier.
 #[inline(always)]
 fn tag_with(unit: &PeelUnit<'_>, vlan_id: VlanId) -> Option<SingleVlanHeader> {
     match unit {
@@ -342,7 +343,7 @@ fn tag_with(unit: &PeelUnit<'_>, vlan_id: VlanId) -> Option<SingleVlanHeader> {
     }
 }
 
-/// How many VLAN tags and SecTags a unit is.
+/// The number of VLAN tags and SecTags in a unit: 0 or 1.
 #[inline(always)]
 fn ext_count(unit: &PeelUnit<'_>) -> usize {
     match unit {

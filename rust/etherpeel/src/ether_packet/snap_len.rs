@@ -1,9 +1,10 @@
-//! How many bytes of a frame its headers take.
+//! The number of bytes that the headers of a frame take.
 
 use crate::ether_peel::{Peel, PeelUnit, Start};
 
-/// How many bytes of a frame its headers take, with the payloads whose lengths they name: the least snap length that keeps all of
-/// them. There may be any number of headers; [`PacketSlice::min_snap_len`](crate::ether_packet::PacketSlice::min_snap_len) counts those of a packet.
+/// The number of bytes that the headers of a frame take, with the payloads whose lengths they give: the least snap
+/// length that keeps all of them. There may be any number of headers;
+/// [`PacketSlice::min_snap_len`](crate::ether_packet::PacketSlice::min_snap_len) counts only those that a packet holds.
 ///
 /// A frame check sequence is not counted, nor is a header that is refused.
 ///
@@ -36,7 +37,7 @@ pub fn min_snap_len(start: Start, frame: &[u8]) -> usize {
     reached(start, frame)
 }
 
-/// Where the headers of a frame end, with the payloads whose lengths they name.
+/// The offset at which the headers of a frame end, with the payloads whose lengths they give.
 #[inline(always)]
 fn reached(start: Start, frame: &[u8]) -> usize {
     let mut peel = Peel::new(start, frame);
@@ -50,7 +51,8 @@ fn reached(start: Start, frame: &[u8]) -> usize {
     }
 }
 
-/// Where the unit ends that a walk has just returned, with its payload if it names that one's length.
+/// The offset at which the unit ends that a walk has just returned, with its payload if the unit gives the payload's
+/// length.
 #[inline(always)]
 fn unit_end(unit: &PeelUnit<'_>, peel: &Peel<'_>) -> usize {
     match unit {

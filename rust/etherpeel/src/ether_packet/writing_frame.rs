@@ -1,4 +1,4 @@
-//! Frames that are written whole, of parts that were read.
+//! Writes a whole frame from parts that were read.
 
 use crate::ether_packet::packet_builder::write_at;
 use crate::ether_packet::{PacketBuilder, PacketContent, PacketParts};
@@ -6,8 +6,8 @@ use crate::EtherType;
 use crate::err::{Layer, SliceWriteSpaceError};
 
 impl<'a> PacketParts<'a> {
-    /// The length in bytes of the frame that [`write_frame`](Self::write_frame) writes: of the headers, the rest and the
-    /// trailer. `usize::MAX` if they are longer than that.
+    /// The length in bytes of the frame that [`write_frame`](Self::write_frame) writes: of the headers, the rest and
+    /// the trailer. `usize::MAX` if the length does not fit in a `usize`.
     ///
     /// <details><summary>Contract</summary>
     ///
@@ -28,16 +28,17 @@ impl<'a> PacketParts<'a> {
             .saturating_add(self.trailer.len())
     }
 
-    /// Writes the whole frame to the front of a target: the headers as they are, then the rest, then the trailer. Returns
-    /// its length. The bytes after it stay as they were.
+    /// Writes the whole frame to the front of a target: the headers as they are, then the rest, then the trailer.
+    /// Returns the length of the frame. The bytes after it are unchanged.
     ///
-    /// Nothing is set by what follows it, and `ether_type` is not used. If headers were replaced by others that say the same
-    /// about what follows them, as the same tag with another VLAN ID does, the frame is read with these and ends as before.
-    /// A frame check sequence and an integrity check value are written as they were, and don't fit headers that were changed.
+    /// No header field is set by what follows it, and `ether_type` is not used. If headers were replaced by others
+    /// that say the same about what follows them, as a tag with another VLAN ID does, the frame is read with the new
+    /// headers, and the walk ends as before. A frame check sequence and an integrity check value are written as they
+    /// were, and don't fit headers that were changed.
     ///
     /// # Errors
     ///
-    /// The target is shorter than [`frame_len`](Self::frame_len). It then stays as it was.
+    /// The target is shorter than [`frame_len`](Self::frame_len). It is then unchanged.
     ///
     /// # Examples
     ///
@@ -97,7 +98,7 @@ impl<'a> PacketParts<'a> {
         Ok(required_len)
     }
 
-    /// The same, with room for it.
+    /// Writes the frame to a target that has room for it.
     #[inline]
     fn write_whole(&self, target: &mut [u8]) {
         let headers = PacketBuilder {
@@ -110,7 +111,7 @@ impl<'a> PacketParts<'a> {
         write_at(target, rest_at + self.rest.len(), self.trailer);
     }
 
-    /// An ARP packet if there is one, and else an empty payload.
+    /// The ARP packet if there is one, else an empty payload.
     #[inline]
     fn without_rest(&self) -> PacketContent<'_> {
         match &self.arp {

@@ -1,23 +1,24 @@
-//! Packets that are written with their headers as they are.
+//! Writes packets with their headers as they are.
 
 use crate::ether_packet::packet_builder::{write_arp, write_at, write_ext, write_link_header};
 use crate::ether_packet::{PacketBuilder, PacketContent};
 use crate::err::{Layer, SliceWriteSpaceError};
 
 impl<'a, 'b> PacketBuilder<'a, 'b> {
-    /// Writes the packet with its headers as they are to the front of a target, and returns its length. The bytes after it
-    /// stay as they were.
+    /// Writes the packet with its headers as they are to the front of a target, and returns its length. The bytes
+    /// after it are unchanged.
     ///
-    /// Where [`write`](Self::write) sets ether types and short lengths by what follows, this sets nothing. So the parts of a
-    /// packet that was read give the front of its frame again, also of a cooked capture of any link. A builder has nothing
-    /// that follows its content, so this is not written: the integrity check value after the payload of a SecTag with a
-    /// short length, the padding after an ARP packet, and a frame check sequence.
-    /// [`PacketParts::write_frame`](crate::ether_packet::PacketParts::write_frame) keeps all of these. What the headers announce, and
-    /// whether a walk finds it, is up to the caller.
+    /// [`write`](Self::write) sets ether types and short lengths by what follows them; this call sets nothing. So the
+    /// parts of a packet that was read give the front of its frame again, even if that is a cooked capture of another
+    /// link than Ethernet. The caller has to make sure that the headers announce what follows them.
+    ///
+    /// A builder has nothing after its content. So these are not written: the integrity check value after the payload
+    /// of a SecTag with a short length, the padding after an ARP packet, and a frame check sequence.
+    /// [`PacketParts::write_frame`](crate::ether_packet::PacketParts::write_frame) keeps them all.
     ///
     /// # Errors
     ///
-    /// The target is shorter than [`size`](Self::size). It then stays as it was.
+    /// The target is shorter than [`size`](Self::size). It is then unchanged.
     ///
     /// ```
     /// # use etherpeel::*;
@@ -74,7 +75,7 @@ impl<'a, 'b> PacketBuilder<'a, 'b> {
         Ok(required_len)
     }
 
-    /// Writes the headers one after the other, and what follows them.
+    /// Writes the headers one after the other, and then the content.
     #[inline]
     pub(crate) fn write_parts(&self, target: &mut [u8]) {
         write_link_header(target, &self.link);
@@ -87,7 +88,7 @@ impl<'a, 'b> PacketBuilder<'a, 'b> {
     }
 }
 
-/// Writes an ARP packet or a payload from a place on.
+/// Writes an ARP packet or a payload from the offset `at` on.
 #[inline]
 fn write_content_at(target: &mut [u8], at: usize, content: &PacketContent<'_>) {
     match content {

@@ -24,7 +24,7 @@ pub enum ByteOrder {
 }
 
 impl ByteOrder {
-    /// The number of two bytes in this order.
+    /// The number that two bytes are in this order.
     ///
     /// <details><summary>Contract</summary>
     ///
@@ -41,7 +41,7 @@ impl ByteOrder {
         }
     }
 
-    /// The number of four bytes in this order.
+    /// The number that four bytes are in this order.
     ///
     /// <details><summary>Contract</summary>
     ///
@@ -58,7 +58,7 @@ impl ByteOrder {
         }
     }
 
-    /// The number of eight bytes in this order.
+    /// The number that eight bytes are in this order.
     ///
     /// <details><summary>Contract</summary>
     ///
@@ -109,13 +109,13 @@ impl ByteOrder {
         }
     }
 
-    /// The number in the two bytes at a place.
+    /// The number in the two bytes from the offset `at` on.
     #[inline]
     pub(crate) fn u16_at(self, bytes: &[u8], at: usize) -> u16 {
         self.u16_of([bytes[at], bytes[at + 1]])
     }
 
-    /// The number in the four bytes at a place.
+    /// The number in the four bytes from the offset `at` on.
     #[inline]
     pub(crate) fn u32_at(self, bytes: &[u8], at: usize) -> u32 {
         self.u32_of([bytes[at], bytes[at + 1], bytes[at + 2], bytes[at + 3]])

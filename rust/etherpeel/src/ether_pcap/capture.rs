@@ -1,7 +1,7 @@
 //! Capture files of either format, unit by unit or packet by packet.
 //!
-//! A [`CaptureReader`] reads one unit, a header, record or block, from whatever bytes there are. [`CapturePackets`] iterates over the packets
-//! of a whole file.
+//! A [`CaptureReader`] reads one unit at a time from the bytes that it is given: a file header, a record or a block.
+//! [`CapturePackets`] iterates over the packets of a whole file in memory.
 mod capture_blocks;
 mod capture_error;
 mod capture_fault;

@@ -1,7 +1,7 @@
 //! Classic capture files: the file header and the records (draft-ietf-opsawg-pcap).
 //!
-//! A file is a [`FileHeader`] and then [`PcapRecord`]s, in the byte order of the header. [`PcapRecords`] iterates over those of a slice.
-//! Both are written by `to_bytes` and `header_to_bytes`.
+//! A file is a [`FileHeader`], followed by [`PcapRecord`]s in the byte order of that header. [`PcapRecords`] iterates
+//! over the records of a file in memory. [`FileHeader::to_bytes`] and [`PcapRecord::header_to_bytes`] write them.
 mod file_header;
 mod file_header_error;
 mod pcap_record;

@@ -1,8 +1,8 @@
 //! Blocks of pcapng files (draft-ietf-opsawg-pcapng).
 //!
-//! A [`PcapngBlock`] has a type, a body and its length twice. A [`SectionHeader`] begins a section, and says in which byte order it is; an
-//! [`InterfaceDescription`] describes one more interface of the section; an [`EnhancedPacket`] or a [`SimplePacket`] has a packet of one.
-//! All but the last are written, too.
+//! A [`PcapngBlock`] has a type, a body, and its length at both ends. A [`SectionHeader`] begins a section and gives
+//! its byte order. An [`InterfaceDescription`] describes an interface of the section. An [`EnhancedPacket`] or a
+//! [`SimplePacket`] has a packet of such an interface. All but simple packets can also be written.
 mod block_error;
 mod body_error;
 pub(crate) mod enhanced_packet;

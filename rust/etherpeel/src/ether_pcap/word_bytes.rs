@@ -8,13 +8,13 @@ pub(crate) fn word(order: ByteOrder, number: u32) -> [u8; 4] {
     order.bytes_of_u32(number)
 }
 
-/// A number of bytes, filled up to a multiple of 4.
+/// Rounds a number of bytes up to a multiple of 4.
 #[inline]
 pub(crate) fn padded_len(len: usize) -> usize {
     len.div_ceil(4) * 4
 }
 
-/// The bytes of a length, modulo 2^32.
+/// The four bytes of a length, modulo 2^32.
 #[inline]
 pub(crate) fn len_word(order: ByteOrder, len: usize) -> [u8; 4] {
     word(order, (len as u64 % 0x1_0000_0000) as u32)
@@ -34,7 +34,7 @@ pub(crate) fn half_words(order: ByteOrder, first: u16, second: u16) -> [u8; 4] {
     [a, b, c, d]
 }
 
-/// Four words.
+/// Joins four words.
 #[inline]
 pub(crate) fn four_words(a: [u8; 4], b: [u8; 4], c: [u8; 4], d: [u8; 4]) -> [u8; 16] {
     let [a0, a1, a2, a3] = a;
@@ -46,7 +46,7 @@ pub(crate) fn four_words(a: [u8; 4], b: [u8; 4], c: [u8; 4], d: [u8; 4]) -> [u8;
     ]
 }
 
-/// Three words.
+/// Joins three words.
 #[inline]
 pub(crate) fn three_words(a: [u8; 4], b: [u8; 4], c: [u8; 4]) -> [u8; 12] {
     let [a0, a1, a2, a3] = a;
@@ -55,7 +55,7 @@ pub(crate) fn three_words(a: [u8; 4], b: [u8; 4], c: [u8; 4]) -> [u8; 12] {
     [a0, a1, a2, a3, b0, b1, b2, b3, c0, c1, c2, c3]
 }
 
-/// Three words after four.
+/// Appends three words to four.
 #[inline]
 pub(crate) fn seven_words(front: [u8; 16], e: [u8; 4], f: [u8; 4], g: [u8; 4]) -> [u8; 28] {
     let [

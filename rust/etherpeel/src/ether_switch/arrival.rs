@@ -7,20 +7,20 @@ use crate::VlanPcp;
 use core::error::Error;
 use core::fmt;
 
-/// Why a bridge discards a frame. The first that applies is named.
+/// Why a bridge discards a frame. Of several reasons the first in this order is named.
 #[derive(Clone, Copy, PartialEq, Eq, Debug)]
 pub enum Discarded {
     /// It has fewer than 14 bytes.
     NoHeader,
-    /// Its tag is cut short.
+    /// It announces a tag of the bridge's kind, which is cut short.
     CutTag,
     /// Its tag has the identifier 4095, which is reserved (IEEE 802.1Q, table 9-2).
     ReservedIdentifier,
-    /// Its source is the address of a group, or all zeros.
+    /// Its source is a group address, or all zeros.
     Source,
-    /// The port does not take frames with such a tag, or without one (IEEE 802.1Q, 6.9).
+    /// The port does not accept frames with such a tag, or frames without a tag (IEEE 802.1Q, 6.9).
     FrameType,
-    /// The port is not a member of its VLAN, and has ingress filtering (IEEE 802.1Q, 8.6.2).
+    /// The port filters ingress, and is not a member of the frame's VLAN (IEEE 802.1Q, 8.6.2).
     NotAMember,
     /// Its destination is a reserved address (IEEE 802.1Q, 8.6.3).
     ReservedAddress,
@@ -51,7 +51,7 @@ pub(crate) enum Tagging {
     VlanTagged,
 }
 
-/// A frame that a port takes, its addresses as numbers of 48 bits.
+/// A frame that a port accepts. The addresses are numbers of 48 bits.
 #[derive(Clone, Copy, Debug)]
 pub(crate) struct Admitted {
     pub vlan: Vlan,
@@ -61,7 +61,7 @@ pub(crate) struct Admitted {
     pub destination: u64,
 }
 
-/// What a port makes of a frame.
+/// Accepts a frame, or says why the bridge discards it.
 #[inline]
 pub(crate) fn admit(
     kind: BridgeKind,
@@ -74,7 +74,7 @@ pub(crate) fn admit(
     }
 }
 
-/// What a port makes of a frame that begins like this.
+/// Does as `admit` with a frame whose header and tag were read.
 #[inline]
 fn admit_front(port: &PortConfig, front: &EthernetFront) -> Result<Admitted, Discarded> {
     let Some(vlan) = vlan_for(port.pvid, front) else {
@@ -86,7 +86,7 @@ fn admit_front(port: &PortConfig, front: &EthernetFront) -> Result<Admitted, Dis
     }
 }
 
-/// The header of a frame, and its tag if it has one of the bridge.
+/// The header of a frame, and the tag after it if that is of the bridge's kind.
 #[inline]
 pub(crate) fn read_front(kind: BridgeKind, frame: &[u8]) -> Result<EthernetFront, Discarded> {
     let Some(front) = ethernet_front(frame) else {
@@ -113,7 +113,7 @@ fn vlan_for(pvid: Vlan, front: &EthernetFront) -> Option<Vlan> {
     }
 }
 
-/// Why a port refuses a frame of a VLAN, if it does.
+/// Why a port refuses a frame of a VLAN, if it refuses it.
 #[inline]
 fn refusal(port: &PortConfig, front: &EthernetFront, vlan: Vlan) -> Option<Discarded> {
     if !is_station(address_of(front.link.source)) {
@@ -128,7 +128,7 @@ fn refusal(port: &PortConfig, front: &EthernetFront, vlan: Vlan) -> Option<Disca
     None
 }
 
-/// A frame of a VLAN that a port takes.
+/// The frame of a VLAN as a port accepts it.
 #[inline]
 fn taken(port: &PortConfig, front: &EthernetFront, vlan: Vlan) -> Admitted {
     Admitted {
@@ -140,7 +140,7 @@ fn taken(port: &PortConfig, front: &EthernetFront, vlan: Vlan) -> Admitted {
     }
 }
 
-/// The priority of a frame.
+/// The priority in the tag of a frame, or else the port's default.
 #[inline]
 fn priority(default_priority: VlanPcp, front: &EthernetFront) -> VlanPcp {
     match front.vlan {
@@ -149,7 +149,7 @@ fn priority(default_priority: VlanPcp, front: &EthernetFront) -> VlanPcp {
     }
 }
 
-/// Whether a frame may be dropped first.
+/// Whether the tag of a frame says that it may be dropped first.
 #[inline]
 fn is_drop_eligible(front: &EthernetFront) -> bool {
     match front.vlan {
@@ -168,7 +168,7 @@ fn tagging_in(front: &EthernetFront) -> Tagging {
     }
 }
 
-/// Whether a port takes frames that name their VLAN like this.
+/// Whether a port accepts frames that name their VLAN in this way.
 #[inline]
 fn admits(frame_types: AcceptableFrames, tagging: Tagging) -> bool {
     match frame_types {
@@ -178,20 +178,20 @@ fn admits(frame_types: AcceptableFrames, tagging: Tagging) -> bool {
     }
 }
 
-/// An address as one number.
+/// An address as one number, its first byte the most significant one.
 #[inline]
 pub(crate) fn address_of(bytes: [u8; 6]) -> u64 {
     let [a, b, c, d, e, f] = bytes;
     u64_of([0, 0, a, b, c, d, e, f])
 }
 
-/// Whether an address is one of a single station.
+/// Whether an address is that of a single station: not a group address, and not all zeros.
 #[inline]
 fn is_station(address: u64) -> bool {
     !is_group(address) && address != 0
 }
 
-/// Whether an address is that of a group.
+/// Whether an address is a group address.
 #[inline]
 pub(crate) fn is_group(address: u64) -> bool {
     address / (1 << 40) % 2 == 1

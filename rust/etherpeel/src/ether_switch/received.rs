@@ -1,4 +1,4 @@
-//! Frames that a bridge has received, and how they leave.
+//! Frames that a bridge has received, and in which form they leave.
 
 use crate::ether_switch::arrival::read_front;
 use crate::ether_switch::{BridgeKind, PortConfig, Vlan, retagging};
@@ -9,9 +9,9 @@ use crate::VlanPcp;
 pub enum Forwarding {
     /// To one port.
     Port(u16),
-    /// Nowhere: its destination is on the port that it came from, or a static entry says so.
+    /// Nowhere: its destination is at the port by which it came in, or a static entry says so.
     Discard,
-    /// To all ports but the one that it came from.
+    /// To all ports except the one by which it came in.
     Flood,
 }
 
@@ -20,30 +20,31 @@ pub enum Forwarding {
 pub struct Received {
     /// The kind of the bridge.
     pub kind: BridgeKind,
-    /// The port that it came from.
+    /// The port by which it came in.
     pub from: u16,
     /// Its VLAN.
     pub vlan: Vlan,
     /// Its priority: that of its tag, or else the port's default.
     pub priority: VlanPcp,
-    /// Whether it may be dropped first under congestion, by its tag.
+    /// Whether its tag says that it may be dropped first under congestion.
     pub drop_eligible: bool,
     /// Where it goes.
     pub decision: Forwarding,
 }
 
 impl Received {
-    /// Makes the frame ready to leave by a port, and returns where it begins then.
+    /// Makes the frame ready to leave by a port, and returns the index in the buffer at which it then begins.
     ///
-    /// The buffer has four bytes that are free, and then the frame, as it was received. It leaves as `buffer[at..]`: without
-    /// its tag if its VLAN is in the port's untagged set, and with the tag of its VLAN else. Only bytes before the frame's
-    /// payload change, so the time does not depend on its length.
+    /// The buffer has four free bytes, and then the frame as it was received. The frame leaves as `buffer[at..]`:
+    /// without its tag if its VLAN is in the port's untagged set, else with the tag of its VLAN. Only bytes before the
+    /// frame's payload change, so the time does not depend on its length.
     ///
-    /// `None` if it does not leave by the port: the decision does not include that, or it is not a member of the VLAN. Also if
-    /// the buffer's frame is too short for a header and a tag. The buffer is then unchanged.
+    /// Returns `None`, leaving the buffer unchanged, if the frame does not leave by the port: the decision does not
+    /// include the port, or the port is not a member of the VLAN. The same is returned if the frame in the buffer is
+    /// too short for its header or its tag.
     ///
-    /// For many ports, make the frame ready by [`Received::tagged`] once and let it leave by all ports that want it like this, and
-    /// the same by [`Received::untagged`], each from a copy of the frame.
+    /// If the frame leaves by many ports, call [`Received::tagged`] once, on a copy of the frame, for all ports that
+    /// send it with a tag, and [`Received::untagged`] once, on another copy, for all others.
     ///
     /// # Examples
     ///
@@ -106,7 +107,7 @@ impl Received {
         self.tagged(buffer)
     }
 
-    /// Whether the frame leaves by a port with a number.
+    /// Whether the frame leaves by the port with the number `to`.
     ///
     /// <details><summary>Contract</summary>
     ///
@@ -120,10 +121,12 @@ impl Received {
         self.decision.includes(self.from, to) && port.members.contains(self.vlan)
     }
 
-    /// Makes the frame ready to leave with the tag of its VLAN, and returns where it begins then.
+    /// Makes the frame ready to leave with the tag of its VLAN, and returns the index in the buffer at which it then
+    /// begins.
     ///
-    /// The buffer is that of [`Received::send`]. A tag of the bridge keeps its priority, and gets the identifier of the VLAN; a
-    /// frame without one gets a tag. `None` if the frame is too short for a header and a tag.
+    /// The buffer is that of [`Received::send`]. A tag of the bridge's kind keeps its priority, and gets the
+    /// identifier of the VLAN; a frame without such a tag gets one. Returns `None`, leaving the buffer unchanged, if
+    /// the frame is too short for its header or its tag.
     ///
     /// <details><summary>Contract</summary>
     ///
@@ -153,11 +156,13 @@ impl Received {
         }
     }
 
-    /// Makes the frame ready to leave without a tag, and returns where it begins then.
+    /// Makes the frame ready to leave without a tag, and returns the index in the buffer at which it then begins.
     ///
-    /// The buffer is that of [`Received::send`]. `None` if the frame is too short for a header and a tag.
+    /// The buffer is that of [`Received::send`]. Returns `None`, leaving the buffer unchanged, if the frame is too
+    /// short for its header or its tag.
     ///
-    /// A frame that came with two tags of the bridge's kind leaves with the second one.
+    /// Only the first tag is taken off: a frame that came in with two tags of the bridge's kind leaves with the second
+    /// one.
     ///
     /// <details><summary>Contract</summary>
     ///
@@ -185,7 +190,8 @@ impl Received {
     }
 }
 
-/// Whether the frame after four bytes of a buffer has a tag of the bridge; `None` if it is cut short.
+/// Whether the frame after four bytes of a buffer has a tag of the bridge's kind; `None` if its header or tag is cut
+/// short.
 #[inline]
 fn is_tagged(kind: BridgeKind, buffer: &[u8]) -> Option<bool> {
     if buffer.len() < 4 {
@@ -198,7 +204,7 @@ fn is_tagged(kind: BridgeKind, buffer: &[u8]) -> Option<bool> {
 }
 
 impl Forwarding {
-    /// Whether a frame that came from a port is to go to another.
+    /// Whether a frame that came in by the port `from` leaves by the port `to`.
     #[inline]
     fn includes(self, from: u16, to: u16) -> bool {
         match self {

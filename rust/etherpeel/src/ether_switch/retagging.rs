@@ -1,11 +1,12 @@
-//! Frames that get a tag, another one, or lose it.
+//! Puts tags into frames, changes them, and takes them off.
 
 use crate::ether_switch::{Received, Vlan};
 use crate::ether_packet::{TagError, pop_vlan, push_vlan, set_vlan_id};
 use crate::ether_peel::Start;
 use crate::{EtherType, SingleVlanHeader};
 
-/// Puts the tag of its VLAN into a frame without one, after four free bytes of a buffer. It begins at 0 then.
+/// Puts the tag of its VLAN into a frame without a tag, after four free bytes of a buffer. The frame then begins at
+/// index 0.
 #[inline]
 pub(crate) fn tag(frame: &Received, buffer: &mut [u8]) -> Result<(), TagError> {
     let tag = SingleVlanHeader {
@@ -24,7 +25,7 @@ pub(crate) fn rename(vlan: Vlan, buffer: &mut [u8]) -> Result<(), TagError> {
     set_vlan_id(Start::Ethernet2, frame, 0, vlan.id())
 }
 
-/// Takes the tag off a frame, after four bytes of a buffer. It begins at 8 then.
+/// Takes the tag off a frame, after four bytes of a buffer. The frame then begins at index 8.
 #[inline]
 pub(crate) fn untag(buffer: &mut [u8]) -> Result<SingleVlanHeader, TagError> {
     let (_, frame) = buffer.split_at_mut(4);

@@ -2,31 +2,31 @@
 
 use arrayvec::ArrayVec;
 
-/// A frame of a station, by when and by which port it came.
+/// A frame of a station: when it came in, and by which port.
 ///
 /// Each bit pattern is a value.
 #[repr(C)]
 #[derive(Clone, Copy, Debug, Default)]
 pub struct Sighting {
-    /// The identifier of the VLAN, 1 to 4094, times 2^48, plus the address, a number of 48 bits. 0 is no station.
+    /// The VLAN identifier, 1 to 4094, times 2^48, plus the address, a number of 48 bits. 0 is not a station.
     pub station: u64,
-    /// The time, as the caller gave it.
+    /// The time in seconds, as the caller gave it.
     pub time: u64,
-    /// The port.
+    /// The number of the port.
     pub port: u16,
 }
 
-/// The newest sightings of up to four stations, the newest first; in a place that is free the station is 0.
+/// The last sightings of up to four stations, the newest first. In a free place the station is 0.
 ///
-/// Each bit pattern is a value, so a table may be any memory that is 0 at first.
+/// Each bit pattern is a value, so a table can be any memory that is initially 0.
 #[repr(C)]
 #[derive(Clone, Copy, Debug, Default)]
 pub struct StationBucket {
     /// The newest one.
     pub first: Sighting,
-    /// The one before.
+    /// The second newest.
     pub second: Sighting,
-    /// The third.
+    /// The third newest.
     pub third: Sighting,
     /// The oldest one.
     pub fourth: Sighting,
@@ -34,10 +34,12 @@ pub struct StationBucket {
 
 /// The stations that a bridge has learned (IEEE 802.1Q, 8.7 and 8.8.3).
 ///
-/// A station is an address in a VLAN, so the same address in two VLANs is two stations. They are held in `BUCKETS` buckets of four:
-/// in a full bucket the station that was seen last the longest ago leaves. A frame costs a look at two buckets, however many
-/// there are. With none, nothing is learned. Who sends from many addresses of one bucket makes the bridge forget the others in
-/// it: their frames then go to all members of their VLAN, and no further.
+/// A station is an address in a VLAN, so one address in two VLANs is two stations. The table has `BUCKETS` buckets
+/// with places for four stations each. If a bucket is full, a new station replaces the one that was seen least
+/// recently. Each frame costs a look at two buckets, however many there are. With no buckets, nothing is learned.
+///
+/// A sender that uses many addresses of one bucket makes the bridge forget the other stations in it. Frames to these
+/// stations then go to all members of their VLAN, and no further.
 ///
 /// ```
 /// # use etherpeel::*;
@@ -56,7 +58,7 @@ pub struct StationTable<const BUCKETS: usize> {
 }
 
 impl StationBucket {
-    /// A bucket of no station.
+    /// A bucket without stations.
     pub const EMPTY: StationBucket = StationBucket {
         first: Sighting::NONE,
         second: Sighting::NONE,
@@ -66,7 +68,7 @@ impl StationBucket {
 }
 
 impl Sighting {
-    /// No sighting.
+    /// A free place.
     const NONE: Sighting = Sighting {
         station: 0,
         time: 0,
@@ -101,7 +103,7 @@ impl<const BUCKETS: usize> Default for StationTable<BUCKETS> {
     }
 }
 
-/// Which of so many buckets holds a station.
+/// The index of the bucket, of this many, that holds a station.
 #[inline]
 fn place(station: u64, buckets: usize) -> usize {
     let address = station % (1 << 48);
@@ -109,7 +111,7 @@ fn place(station: u64, buckets: usize) -> usize {
     ((vlan + address) % buckets as u64) as usize
 }
 
-/// Learns from a sighting of a station.
+/// Learns a sighting.
 #[inline]
 pub(crate) fn learn_in(buckets: &mut [StationBucket], sighting: Sighting) {
     if buckets.is_empty() {
@@ -119,7 +121,7 @@ pub(crate) fn learn_in(buckets: &mut [StationBucket], sighting: Sighting) {
     buckets[at] = seen(&buckets[at], sighting);
 }
 
-/// A bucket with a sighting of a station first, in place of an older one.
+/// The bucket with this sighting as its newest, without older ones of the same station.
 #[inline]
 fn seen(bucket: &StationBucket, sighting: Sighting) -> StationBucket {
     let station = sighting.station;
@@ -159,7 +161,7 @@ fn seen(bucket: &StationBucket, sighting: Sighting) -> StationBucket {
     }
 }
 
-/// A sighting of another station; a free place if it is one of this station.
+/// The sighting, or a free place if it is one of this station.
 #[inline]
 fn other(sighting: Sighting, station: u64) -> Sighting {
     if sighting.station == station {
@@ -169,7 +171,7 @@ fn other(sighting: Sighting, station: u64) -> Sighting {
     }
 }
 
-/// The port of a station, if it was seen not longer ago than the ageing time.
+/// The port at which a station was seen last, if that was at most the ageing time ago.
 #[inline]
 pub(crate) fn port_in(
     buckets: &[StationBucket],
@@ -205,7 +207,7 @@ fn sighting_of(bucket: &StationBucket, station: u64) -> Option<Sighting> {
     None
 }
 
-/// The port of a sighting, if it is not older than the ageing time.
+/// The port of a sighting, if that was at most the ageing time ago.
 #[inline]
 fn port_now(sighting: Sighting, now: u64, ageing_time: u64) -> Option<u16> {
     if now.saturating_sub(sighting.time) <= ageing_time {

@@ -1,4 +1,4 @@
-//! VLANs.
+//! VLANs, by their identifiers.
 
 use crate::VlanId;
 use core::error::Error;
@@ -6,7 +6,7 @@ use core::fmt;
 
 /// A VLAN, by its identifier: 1 to 4094.
 ///
-/// In a tag, 0 says that there is a priority and no VLAN, and 4095 is reserved (IEEE 802.1Q, table 9-2).
+/// In a tag, the identifier 0 means that the tag has only a priority, and 4095 is reserved (IEEE 802.1Q, table 9-2).
 ///
 /// ```
 /// # use etherpeel::*;
@@ -28,16 +28,16 @@ use core::fmt;
 #[derive(Clone, Copy, PartialEq, Eq, PartialOrd, Ord, Hash, Debug)]
 pub struct Vlan(VlanId);
 
-/// This number is not the identifier of a VLAN: it is not from 1 to 4094.
+/// This number is not the identifier of a VLAN, which is from 1 to 4094.
 #[derive(Clone, Copy, PartialEq, Eq, Debug)]
 pub struct VlanError(pub u16);
 
 impl Vlan {
-    /// The VLAN with an identifier.
+    /// The VLAN with this identifier.
     ///
     /// # Errors
     ///
-    /// The number, if it is not the identifier of a VLAN.
+    /// [`VlanError`] with the number, if it is not from 1 to 4094.
     ///
     /// <details><summary>Contract</summary>
     ///

@@ -2,7 +2,8 @@
 
 use crate::ether_switch::Vlan;
 
-/// A set of VLANs: that with the identifier `i` is in it if bit `i % 64` of the number `i / 64` is 1, the lowest bit being 0.
+/// A set of VLANs. The VLAN with the identifier `i` is in the set if bit `i % 64` of the word `i / 64` is 1, where bit
+/// 0 is the lowest.
 ///
 /// ```
 /// # use etherpeel::*;
@@ -28,7 +29,7 @@ pub struct VlanSet {
 }
 
 impl VlanSet {
-    /// No VLAN.
+    /// The empty set.
     ///
     /// <details><summary>Contract</summary>
     ///
@@ -42,7 +43,7 @@ impl VlanSet {
         VlanSet { words: [0; 64] }
     }
 
-    /// All VLANs.
+    /// The set of all VLANs.
     ///
     /// <details><summary>Contract</summary>
     ///
@@ -77,7 +78,7 @@ impl VlanSet {
         (self.words[id as usize / 64] >> (id % 64)) & 1 == 1
     }
 
-    /// Puts a VLAN in.
+    /// Adds a VLAN to the set.
     ///
     /// <details><summary>Contract</summary>
     ///
@@ -92,7 +93,7 @@ impl VlanSet {
         self.words[id as usize / 64] |= 1 << (id % 64);
     }
 
-    /// Takes a VLAN out.
+    /// Removes a VLAN from the set.
     ///
     /// <details><summary>Contract</summary>
     ///

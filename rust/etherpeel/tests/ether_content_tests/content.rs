@@ -1,1 +1,1 @@
-//! What callers learn of the derived traits of the types of `ether_content`.
+//! What callers know of the derived traits of `ether_content`'s types.

@@ -1,4 +1,4 @@
-//! Frames that the examples take, and what they make of them.
+//! Frames for the examples, and what these do with them.
 mod arp_generator;
 mod snap_checker;
 mod vlan_filter;

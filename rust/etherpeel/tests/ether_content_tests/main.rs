@@ -1,5 +1,6 @@
-//! Tests of `ether_packet`, `ether_pcap`, `ether_filter` and `ether_content`, of what callers learn of the derived traits of their types,
-//! and of the examples. They are in a crate above them, so that each library is proved once.
+//! Tests of `ether_packet`, `ether_pcap`, `ether_filter` and `ether_content`, of what callers know of the derived
+//! traits of their types, and of the examples. They are in a crate above the libraries, so that each library is proved
+//! once.
 
 // Assertions no longer take the runtime, what is left out no longer uses what others have, and the forms are those of
 // the sources.

@@ -1,2 +1,2 @@
-//! Tests of `ether_pcap`, and what callers learn of the derived traits of its types.
+//! Tests of `ether_pcap`, and what callers know of the derived traits of its types.
 mod tests;

@@ -1,4 +1,4 @@
-//! What a port makes of frames. The answers are those of the standard's clauses.
+//! How a port accepts frames, or why it does not. The expected values follow the standard's clauses.
 use crate::checks::equal;
 use etherpeel::ether_switch::{
     AcceptableFrames, Bridge, BridgeKind, Discarded, PortConfig, StationTable, Vlan, VlanSet,
@@ -117,7 +117,7 @@ static ROWS: [Row; 14] = [
     },
 ];
 
-/// Fails if the row's frame gets another answer.
+/// Fails if the result for the row's frame differs.
 fn check<R: Abort>(rt: &R, row: &Row, port: &PortConfig) {
     let bridge = Bridge {
         kind: row.kind,

@@ -1,10 +1,10 @@
-//! What a bridge makes of frames one after the other.
+//! Where a bridge sends frames that come in one after the other.
 use crate::checks::equal;
 use etherpeel::ether_switch::{Bridge, BridgeKind, Forwarding, PortConfig, StaticEntry, StationTable, Vlan};
 use crate::kit::Abort;
 use crate::kit::Fail;
 
-/// A frame of one station to another, by the last bytes of their addresses.
+/// A frame from one station to another, by the last bytes of their addresses.
 struct Row {
     name: &'static str,
     now: u64,

@@ -1,11 +1,11 @@
-//! Frames that leave a bridge.
+//! The form in which frames leave a bridge.
 use crate::checks::equal;
 use etherpeel::ether_switch::{BridgeKind, Forwarding, PortConfig, Received, Vlan};
 use etherpeel::VlanPcp;
 use crate::kit::Abort;
 use crate::kit::Fail;
 
-/// A frame after four free bytes, and how it leaves by an access port and by a trunk.
+/// A frame after four free bytes, and the bytes that leave by an access port and by a trunk.
 struct Row {
     name: &'static str,
     buffer: &'static [u8; 23],
@@ -34,7 +34,7 @@ static ROWS: [Row; 3] = [
     },
 ];
 
-/// Fails if the frame does not leave by a port like this.
+/// Fails if the frame does not leave by a port with these bytes.
 fn check<R: Abort>(
     rt: &R,
     name: &str,

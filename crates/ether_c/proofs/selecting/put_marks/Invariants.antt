@@ -1,5 +1,5 @@
 use Rattle.ether_filter.specs.Expressions.{Expression}
-use Rattle.ether_filter.specs.Programs.{IsProgramOf}
+use Rattle.ether_filter.specs.FilterProgram.{IsProgramOf}
 use Rattle.ether_c.proofs.Marks.{MarkedSoFar}
 use Rattle.ether_c.proofs.selecting.put_marks.Given as goal
 

@@ -4,7 +4,7 @@ use Rattle.etherparse.specs.Header.{Header}
 use Rattle.ether_peel.specs.Grammar.Stack.{Ending, Walk}
 use Rattle.ether_peel.specs.Walker.Start.{start_of}
 use Rattle.ether_peel.specs.declared.start.Start.TheVariants as starts
-use Rattle.ether_switch.specs.declared.kind.BridgeKind.{BridgeKind}
+use Rattle.ether_switch.specs.declared.bridge_kind.BridgeKind.{BridgeKind}
 use Rattle.ether_switch.specs.declared.port.PortConfig.{PortConfig}
 use Rattle.ether_c.specs.Numbers.{done}
 use Rattle.ether_c.specs.Switching.{config_of, GivesReceived}

@@ -1,4 +1,4 @@
-//! What is walked of a captured packet, and the examples of `ether_content`.
+//! The part of a captured packet that is walked, and the examples of `ether_content`.
 use crate::checks::equal;
 use ether_content::{Content, NoRoom, PacketEdit, edit_packet, headers_len, is_cut, selects};
 use ether_filter::Filter;
@@ -8,7 +8,7 @@ use etherparse::{ArpHardwareId, EtherType, VlanId};
 use std::alloc::AllocError;
 use std::test::Fail;
 
-/// An ARP packet that cooked capture v2 announces, without its own bytes (LINKTYPE_LINUX_SLL2).
+/// A header of cooked capture v2 that announces an ARP packet, without that packet (LINKTYPE_LINUX_SLL2).
 const LINUX_SLL2: [u8; 20] = [
     0x08, 0x06, 0x00, 0x00, 0x00, 0x00, 0x00, 0x03, 0x00, 0x01, 0x00, 0x06, 0x02, 0x00, 0x00, 0x00,
     0x00, 0x01, 0x00, 0x00,
@@ -31,7 +31,8 @@ fn packet(
     }
 }
 
-/// Two bytes of IPv4 after a header of cooked capture v1 on the loopback device, hardware type 772 (LINKTYPE_LINUX_SLL).
+/// Two bytes of IPv4 after a header of cooked capture v1 on the loopback device, hardware type 772
+/// (LINKTYPE_LINUX_SLL).
 const LOOPBACK: [u8; 18] = [
     0x00, 0x00, 0x03, 0x04, 0x00, 0x06, 0x00, 0x00, 0x00, 0x00, 0x00, 0x00, 0x00, 0x00, 0x08, 0x00,
     0x45, 0x00,
@@ -39,7 +40,7 @@ const LOOPBACK: [u8; 18] = [
 
 const BYTES: [u8; 18] = [0xFF; 18];
 
-/// A link type, the length of a check sequence, the original length, the bytes, and the frame that they hold.
+/// A link type, the length of a check sequence, the original length, the bytes, and the frame in them that is walked.
 type Framed = (
     &'static str,
     u16,
@@ -114,7 +115,8 @@ fn a_filter_selects_captured_packets(rt: HostRuntime) -> Result<(), Fail> {
     Ok(())
 }
 
-/// A link type, the length of a check sequence, the original length, the bytes, and how many of them are headers.
+/// A link type, the length of a check sequence, the original length, the bytes, and the number of bytes that are
+/// headers.
 #[rattlefmt::skip]
 static HEADERS: [(&str, u16, Option<u8>, u32, &[u8], usize); 7] = [
     ("a tag and a payload", 1, None, 60, &TAGGED, 18),
@@ -160,7 +162,7 @@ const PUSHED: [u8; 24] = [
     0x45, 0x00,
 ];
 
-/// VLAN 5 in place of VLAN 291.
+/// The same with VLAN 5 in place of VLAN 291.
 const OTHER: [u8; 20] = [
     0xFF, 0xFF, 0xFF, 0xFF, 0xFF, 0xFF, 0x02, 0x00, 0x00, 0x00, 0x00, 0x01, 0x81, 0x00, //
     0xB0, 0x05, 0x08, 0x00, //

@@ -1,4 +1,4 @@
-//! What is known of packets that were cut.
+//! Decisions on packets that were cut.
 use crate::checks::equal;
 use ether_filter::{Decision, Filter, Packet};
 use ether_peel::Start;
@@ -8,7 +8,8 @@ use std::test::Fail;
 const FRAME: [u8; 50] =
     *b"\x03\x00\x5E\x10\x00\x02\x02\x00\x5E\x10\x00\x01\x88\xA8\x00\x64\x81\x00\x00\x05\x08\x06\x00\x01\x08\x00\x06\x04\x00\x01\x02\x00\x5E\x10\x00\x01\xC0\x00\x02\x01\x00\x00\x00\x00\x00\x00\xC0\x00\x02\x02";
 
-/// Less than the link, the first tag, the second tag, the first eight bytes of the ARP packet, and that packet; and all of it.
+/// Cuts within the link's header, the first tag, the second tag, the first eight bytes of the ARP packet, and that
+/// packet; and the whole frame.
 const CUTS: [usize; 6] = [13, 16, 20, 24, 31, 50];
 
 /// The decisions on the cuts.
@@ -75,7 +76,7 @@ const FCS: Start = Start::Ethernet2Fcs;
 
 const SLL: Start = Start::LinuxSll;
 
-/// A start, how many bytes of the frame were captured, of how many, an expression, and the decision on it.
+/// A start, the number of captured bytes of the frame, the original length, an expression, and the decision on it.
 #[rattlefmt::skip]
 static OTHER: [(Start, usize, u32, &str, Decision); 9] = [
     (ETH, 16, 18, "vlan", N18),

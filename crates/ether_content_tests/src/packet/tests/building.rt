@@ -11,12 +11,13 @@ use std::alloc::AllocError;
 use std::process::Abort;
 use std::test::Fail;
 
-/// A packet by the bytes of its headers, and what is at the front of a target of this room then, or why nothing is written.
+/// A packet by the bytes of its headers, the length of the target, and the bytes at the front of the target
+/// afterwards, or why nothing is written.
 struct Row {
     name: &'static str,
     link: &'static [u8],
     exts: &'static [&'static [u8]],
-    /// The ARP request with two tags, if it is none.
+    /// The payload; `None` for the ARP request with two tags.
     payload: Option<(EtherType, &'static [u8])>,
     room: usize,
     wanted: Result<&'static [u8], BuildError>,
@@ -44,7 +45,7 @@ macro_rules! tags {
     };
 }
 
-/// To all stations, with an ether type of 0, of VLAN tags, or of MACsec.
+/// Headers to all stations, with an ether type of 0, of VLAN tags, or of MACsec.
 const BROADCAST: &[u8] = &[
     0xFF, 0xFF, 0xFF, 0xFF, 0xFF, 0xFF, 2, 0, 0x5E, 0x10, 0, 1, 0, 0,
 ];
@@ -69,14 +70,15 @@ const SECURED: &[u8] = &[
     0xFF, 0xFF, 0xFF, 0xFF, 0xFF, 0xFF, 2, 0, 0, 0, 0, 1, 0x88, 0xE5,
 ];
 
-/// Cooked captures sent to us: of Ethernet, with the ether type of a service tag, and of netlink.
+/// Cooked captures that were sent to us: of Ethernet, with the ether type of a service tag, and of netlink.
 const COOKED: &[u8] = &[0, 0, 0, 1, 0, 6, 2, 0, 0, 0, 0, 1, 0, 0, 0, 0];
 
 const COOKED_SERVICE: &[u8] = &[0, 0, 0, 1, 0, 6, 2, 0, 0, 0, 0, 1, 0, 0, 0x88, 0xA8];
 
 const NETLINK: &[u8] = &[0, 0, 3, 0x38, 0, 6, 2, 0, 0, 0, 0, 1, 0, 0, 0, 0];
 
-/// SecTags with packet number 1, before payloads that can be read, with ether types of 0 and 0x9100, and that can't.
+/// SecTags with the packet number 1: before readable payloads, with the ether types 0 and 0x9100, and before
+/// unreadable ones.
 const READABLE: &[u8] = &[0, 0, 0, 0, 0, 1, 0, 0];
 
 const READABLE_DOUBLE: &[u8] = &[0, 0, 0, 0, 0, 1, 0x91, 0x00];
@@ -93,7 +95,7 @@ const SPACE: SliceWriteSpaceError = SliceWriteSpaceError {
     layer_start_offset: 0,
 };
 
-/// The headers of the rows have ether types and short lengths of other payloads.
+/// The headers in the rows have ether types and short lengths that fit other payloads: those that are written differ.
 #[rattlefmt::skip]
 static ROWS: [Row; 16] = [
     row!("the example", &[0; 14], &[&[0, 0x64, 0, 0]], BYTE, 19,
@@ -112,7 +114,7 @@ static ROWS: [Row; 16] = [
     row!("a target that is too short", BROADCAST, &[], BYTE, 14, Err(BuildError::Space(SPACE))),
     row!("a capture of another link", NETLINK, &[], Some((EtherType::IPV4, &[])), 16,
         Err(BuildError::HardwareType(ArpHardwareId(824)))),
-    // ether types that announce a VLAN tag stay before one, and no others
+    // ether types that announce a VLAN tag are kept before one; no others are
     row!("no ether types", NAMELESS, &[&[0, 10, 0, 0], &[0, 100, 0x91, 0x00]], BYTE, 23, tags!(0x88, 0xA8, 0x81, 0x00)),
     row!("customer tags", CUSTOMER, &[&[0, 10, 0x81, 0x00], &[0, 100, 0x91, 0x00]], BYTE, 23, tags!(0x81, 0x00, 0x81, 0x00)),
     row!("service tags", SERVICE, &[&[0, 10, 0x88, 0xA8], &[0, 100, 0x91, 0x00]], BYTE, 23, tags!(0x88, 0xA8, 0x88, 0xA8)),
@@ -135,7 +137,7 @@ static ROWS: [Row; 16] = [
         ])),
 ];
 
-/// The header of Ethernet II, if there are 14 bytes, or of a cooked capture.
+/// The header of Ethernet II if there are 14 bytes, else that of a cooked capture.
 fn link(bytes: &[u8]) -> Result<LinkHeader, Fail> {
     if let Ok((header, [])) = Ethernet2Header::from_slice(bytes) {
         return Ok(LinkHeader::Ethernet2(header));
@@ -146,7 +148,7 @@ fn link(bytes: &[u8]) -> Result<LinkHeader, Fail> {
     }
 }
 
-/// Up to three VLAN tags or SecTags; default tags fill the places after them.
+/// Up to three VLAN tags or SecTags, padded with default tags.
 fn exts(list: &[&[u8]]) -> Result<[LinkExtHeader; 3], Fail> {
     let mut headers = [LinkExtHeader::Vlan(SingleVlanHeader::default()); 3];
     for (header, bytes) in headers.iter_mut().zip(list) {
@@ -155,7 +157,7 @@ fn exts(list: &[&[u8]]) -> Result<[LinkExtHeader; 3], Fail> {
     Ok(headers)
 }
 
-/// Writes a packet to a target that holds 0xAA before.
+/// Writes a packet to a target of bytes 0xAA.
 fn writes(rt: &impl Abort, row: &Row, packet: &PacketBuilder<'_, '_>) {
     let (mut target, mut after) = ([0xAA; 64], [0xAA; 64]);
     let written = packet.write(&mut target[..row.room.min(64)]);
@@ -221,7 +223,7 @@ fn each_tag_gets_the_ether_type_that_announces_it(rt: HostRuntime) {
     );
 }
 
-/// Error and text.
+/// An error, and its text.
 static TEXTS: [(BuildError, &str); 3] = [
     (
         BuildError::HardwareType(ArpHardwareId(824)),

@@ -1,4 +1,4 @@
-//! Packets that are read, and written with their headers as they are, or as another list.
+//! Packets that are read, and then written with their headers unchanged, or with other headers.
 use super::frames::{CHECKED, INTEGRITY, SECOND_TAG_CUT, TWICE_TAGGED_ARP_REQUEST};
 use super::{equal, ext, put};
 use ether_packet::{PacketBuilder, PacketContent, PacketSlice, ReplaceError};
@@ -8,13 +8,13 @@ use etherparse::err::{Layer, SliceWriteSpaceError};
 use std::process::Abort;
 use std::test::Fail;
 
-/// Two bytes of a packet on the loopback device, whose protocol number is kept: netlink, of hardware type 824.
+/// A packet of netlink, hardware type 824, on the loopback device. Its protocol number is kept.
 const NETLINK: [u8; 18] = [
     0, 4, 0x03, 0x38, 0, 0, 0, 0, 0, 0, 0, 0, 0, 0, 0, 0x10, 0x11, 0x22,
 ];
 
-/// An Ethernet II header, a SecTag with both reserved bits that names 6 bytes of secured data, these from the ether type on, and 2 bytes
-/// of an integrity check value.
+/// An Ethernet II header, a SecTag with both reserved bits whose short length gives 6 bytes of secured data, these
+/// from the ether type on, and 2 bytes of an integrity check value.
 const NAMED: [u8; 28] = [
     0xFF, 0xFF, 0xFF, 0xFF, 0xFF, 0xFF, 2, 0, 0, 0, 0, 1, 0x88, 0xE5, // Ethernet II
     0x00, 0xC6, 0, 0, 0, 1, 0x08, 0x00, // SecTag
@@ -35,8 +35,8 @@ const NAMED_WHOLE: [u8; 28] = [
     0x45, 0x11, 0x22, 0x33, 0xEE, 0xEE,
 ];
 
-/// An Ethernet II header, a SecTag that names 4 bytes of secured data, these its ether type and half a VLAN tag, and 2 bytes of an
-/// integrity check value.
+/// An Ethernet II header, a SecTag whose short length gives 4 bytes of secured data, these, which are its ether type
+/// and half a VLAN tag, and 2 bytes of an integrity check value.
 const CUT_IN_SEC_TAG: [u8; 26] = [
     0xFF, 0xFF, 0xFF, 0xFF, 0xFF, 0xFF, 2, 0, 0, 0, 0, 1, 0x88, 0xE5, // Ethernet II
     0x00, 0x04, 0, 0, 0, 1, 0x81, 0x00, // SecTag
@@ -58,7 +58,7 @@ const PADDED_ARP_REQUEST: [u8; 60] = [
     0x00, 0x00, // padding
 ];
 
-/// A start, the first bytes of a frame, and the first bytes of a list that are written.
+/// A start, the first bytes of a frame, and those of the list that is written.
 type Row = (
     &'static str,
     Start,
@@ -78,7 +78,7 @@ static ROWS: [Row; 6] = [
     ("netlink", Start::LinuxSll, &NETLINK, 18, &NETLINK, 18),
 ];
 
-/// Writes the parts of a packet unchanged to a target that holds 0xAA, and compares the front of it.
+/// Writes the parts of a packet unchanged to a target of bytes 0xAA, and compares its front.
 fn goes_back(rt: &impl Abort, name: &str, start: Start, frame: &[u8], wanted: &[u8]) {
     let (mut target, mut after) = ([0xAA; 96], [0xAA; 96]);
     put(&mut after, 0, wanted);
@@ -100,7 +100,7 @@ fn parts_are_written_as_they_were_read(rt: HostRuntime) {
     }
 }
 
-/// A start, a frame, the frame that is written whole, and how many bytes the rest and the trailer have.
+/// A start, a frame, the whole frame that is written, and the lengths of the rest and the trailer.
 type WholeRow = (
     &'static str,
     Start,
@@ -122,7 +122,7 @@ static WHOLE_ROWS: [WholeRow; 8] = [
     ("a tag that is cut off in a SecTag", Start::Ethernet2, &CUT_IN_SEC_TAG, &CUT_IN_SEC_TAG, 2, 2),
 ];
 
-/// Writes the frame of a packet whole to a target that holds 0xAA.
+/// Writes the whole frame of a packet to a target of bytes 0xAA.
 fn goes_back_whole(rt: &impl Abort, row: WholeRow) {
     let (name, start, frame, wanted, rest_len, trailer_len) = row;
     let (mut target, mut after) = ([0xAA; 96], [0xAA; 96]);

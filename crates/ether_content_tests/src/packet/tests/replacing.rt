@@ -11,7 +11,8 @@ use std::test::Fail;
 
 const ETH: Start = Start::Ethernet2;
 
-/// A start, a frame, the index of a tag, the bytes of a header for it, and the bytes that change, from a place on.
+/// A start, a frame, the index of a tag, the bytes of a header for it, and the bytes that change, with the offset of
+/// the first.
 type Row = (
     &'static str,
     Start,
@@ -32,7 +33,7 @@ const CHECKED: &[u8] = &[
     0x08, 0x00, 0x45, 0x11, 0x22, 0x33, 0x44,
 ];
 
-/// The SecTag of the frame with integrity protection with the next packet number, and with 1.
+/// The SecTag of the frame with integrity protection, with the next packet number, and with packet number 1.
 const NUMBERED: &[u8] = &[
     0x22, 0x2A, 0xB2, 0xC2, 0x84, 0x66, 0x12, 0x15, 0x35, 0x24, 0xC0, 0x89, 0x5E, 0x81, 0x08, 0x00,
 ];
@@ -41,7 +42,7 @@ const FIRST: &[u8] = &[
     0x22, 0x2A, 0, 0, 0, 1, 0x12, 0x15, 0x35, 0x24, 0xC0, 0x89, 0x5E, 0x81, 0x08, 0x00,
 ];
 
-/// The second one for IPv6, encrypted, without a short length, and without an SCI.
+/// The second of these: for IPv6, encrypted, without a short length, and without an SCI.
 const OF_IPV6: &[u8] = &[
     0x22, 0x2A, 0, 0, 0, 1, 0x12, 0x15, 0x35, 0x24, 0xC0, 0x89, 0x5E, 0x81, 0x86, 0xDD,
 ];
@@ -218,7 +219,7 @@ fn a_replaced_tag_is_read_again(rt: HostRuntime) {
     );
 }
 
-/// Error and text.
+/// An error, and its text.
 static TEXTS: [(ReplaceError, &str); 4] = [
     (
         ReplaceError::NoLink,

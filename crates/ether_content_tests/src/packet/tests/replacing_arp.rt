@@ -8,7 +8,7 @@ use ether_peel::Start;
 use etherparse::{ArpEthIpv4Packet, ArpHardwareId, ArpOperation, ArpPacket, EtherType};
 use std::test::Fail;
 
-/// The reply of 02:00:5E:10:00:02 to the captured request for 192.0.2.2.
+/// The reply from 02:00:5E:10:00:02 to the captured request for 192.0.2.2.
 const REPLY: ArpEthIpv4Packet = ArpEthIpv4Packet {
     operation: ArpOperation::REPLY,
     sender_mac: [0x02, 0x00, 0x5E, 0x10, 0x00, 0x02],
@@ -23,7 +23,7 @@ const REPLY_BYTES: [u8; 28] = [
     0x02, 0x02, 0x02, 0x00, 0x5E, 0x10, 0x00, 0x01, 0xC0, 0x00, 0x02, 0x01,
 ];
 
-/// A packet with the same addresses for the sender and the target.
+/// A packet with equal addresses for sender and target.
 fn between(hardware: &[u8], protocol: &[u8]) -> Result<ArpPacket, Fail> {
     Ok(ArpPacket::new(
         ArpHardwareId::ETHERNET,
@@ -51,7 +51,7 @@ const PADDED: &[u8] = &[
     0xAA, 0xBB, 0xCC,
 ];
 
-/// Frames of a length whose ARP packet is replaced by the reply, and where it begins, or why it is not.
+/// Frames of a length, and the offset of the ARP packet that the reply replaces, or why it is not replaced.
 static FRAMES: [(&str, Start, &[u8], usize, Result<usize, ReplaceError>); 7] = [
     ("the example", ETH, EXAMPLE, 42, Ok(14)),
     ("after two tags", ETH, &TWICE_TAGGED_ARP_REQUEST, 50, Ok(22)),
@@ -148,7 +148,7 @@ fn addresses_of_other_sizes_replace_as_many_bytes(rt: HostRuntime) -> Result<(),
     Ok(())
 }
 
-/// Lengths of hardware and protocol addresses, and which of them the frame has not.
+/// Hardware and protocol addresses, and which of their lengths differs from the frame's.
 static LENGTHS: [(&str, &[u8], &[u8], Difference); 3] = [
     (
         "longer hardware addresses",

@@ -10,7 +10,7 @@ use etherparse::{
     LinuxSllHeader, LinuxSllPacketType, LinuxSllProtocolType,
 };
 
-/// A header: of Ethernet II, from 02:00:00:00:00:03 to 02:00:00:00:00:02, or [`HEADER`] but for a field.
+/// A header: of Ethernet II, from 02:00:00:00:00:03 to 02:00:00:00:00:02; or [`HEADER`] except for one field.
 enum Link {
     Ethernet2(EtherType),
     EtherType(EtherType),
@@ -61,7 +61,7 @@ const FCS: Start = Start::Ethernet2Fcs;
 
 const SLL: Start = Start::LinuxSll;
 
-/// The addresses that the frames get, and the front of the cooked captures.
+/// The addresses in the new headers, and the front of the cooked captures.
 const ADDRESSES: &[u8] = &[2, 0, 0, 0, 0, 2, 2, 0, 0, 0, 0, 3];
 
 const SENT: &[u8] = &[0, 4, 0, 1, 0, 6, 2, 0, 0, 0, 0, 3];
@@ -99,7 +99,7 @@ const SEVENTEEN: &[u8] = &[
     0xFF, 0xFF, 0xFF, 0xFF, 0xFF, 0xFF, 2, 0, 0, 0, 0, 1, 0x08, 0x00, 0x45, 0x11, 0x22,
 ];
 
-/// A start, a frame, a header for it, and the bytes at its front then.
+/// A start, a frame, a header for it, and the bytes at its front afterwards.
 type Row = (
     &'static str,
     Start,

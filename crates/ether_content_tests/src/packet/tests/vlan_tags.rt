@@ -1,4 +1,4 @@
-//! VLAN tags that are taken off, put in and changed in place. The frames with a tag and without it are those of scapy 2.5.0.
+//! VLAN tags that are taken off, put in and changed in place. scapy 2.5.0 wrote the frames with and without a tag.
 use super::frames::{CONFIDENTIALITY, FOUR_TAGS, INTEGRITY, SECOND_TAG_CUT, TAG_IN_SEC_TAG};
 use super::{equal, filled, put};
 use ether_packet::{
@@ -56,7 +56,7 @@ const CAPTURED_OFF: &[u8] = &[
     0x00, 0x01, 0x00, 0x00, 0x00, 0x00, 0x00, 0x00, 0x0A, 0x00, 0x00, 0x02,
 ];
 
-/// A start, a frame with a tag and without it, and the tag with its TPID.
+/// A start, a frame with a tag and the same frame without it, and the tag with its TPID.
 type BothWays = (
     &'static str,
     Start,
@@ -101,7 +101,7 @@ static BOTH_WAYS: [BothWays; 4] = [
     ),
 ];
 
-/// The tag of one frame is taken off, which gives the other, and put in again.
+/// Taking the tag off one frame gives the other, and putting it in again gives the first.
 #[test]
 fn popping_and_pushing_a_tag_undo_one_another(rt: HostRuntime) {
     for &(name, start, tagged, untagged, tpid, tag) in &BOTH_WAYS {
@@ -141,7 +141,7 @@ static KEPT: [(&str, Start, &[u8], usize, TagError); 6] = [
     ),
 ];
 
-/// The frame stays as it was.
+/// The frame is unchanged.
 #[test]
 fn a_frame_without_a_tag_to_pop_is_unchanged(rt: HostRuntime) {
     for (name, start, frame, len, error) in &KEPT {
@@ -179,7 +179,7 @@ static FULL: [(&str, Start, &[u8], usize, EtherType, TagError); 5] = [
     ),
 ];
 
-/// The buffer stays as it was.
+/// The buffer is unchanged.
 #[test]
 fn a_buffer_that_no_tag_is_pushed_to_is_unchanged(rt: HostRuntime) {
     for (name, start, bytes, len, tpid, error) in &FULL {
@@ -193,14 +193,14 @@ fn a_buffer_that_no_tag_is_pushed_to_is_unchanged(rt: HostRuntime) {
     }
 }
 
-/// What is set: a VLAN identifier of 0xABC, with it a PCP of 7 and a DEI, or a TPID.
+/// What is set: the VLAN identifier 0xABC; or that, PCP 7 and DEI; or a TPID.
 enum Change {
     VlanId,
     Tag(bool),
     Tpid(EtherType),
 }
 
-/// A start, a frame, the index of a tag, what is set, and the two bytes that change, from a place on.
+/// A start, a frame, the index of a tag, what is set, and the two bytes that change, with the offset of the first.
 type Set = (
     &'static str,
     Start,
@@ -356,8 +356,8 @@ fn the_fields_of_the_tag_at_an_index_are_set_alone(rt: HostRuntime) -> Result<()
     Ok(())
 }
 
-/// A start, a frame, an identifier, the index of the outermost tag that has it, and the two bytes that change from a place on if the
-/// identifier gets 0xABC.
+/// A start, a frame, an identifier, the index of the outermost tag that has it, and the two bytes that change, with
+/// the offset of the first, if the tag gets the identifier 0xABC.
 type Found = (
     &'static str,
     Start,
@@ -425,7 +425,7 @@ fn the_first_tag_with_an_identifier_is_found(rt: HostRuntime) -> Result<(), Fail
     Ok(())
 }
 
-/// Error and text.
+/// An error, and its text.
 static TEXTS: [(TagError, &str); 8] = [
     (
         TagError::Tpid(EtherType::IPV4),

@@ -8,7 +8,7 @@ use ether_pcap::{
 use std::process::Abort;
 use std::test::Fail;
 
-/// The header of a file whose first number is the most significant byte first, in microseconds.
+/// The header of a big-endian file with times in microseconds.
 const HEADER: FileHeader = FileHeader {
     byte_order: ByteOrder::BigEndian,
     resolution: TimestampResolution::Microseconds,
@@ -92,7 +92,7 @@ fn a_file_header_is_read_whole_and_a_cut_one_refused(rt: HostRuntime) {
     }
 }
 
-/// Bytes of the header that are changed, from a place on, and what it is then.
+/// Bytes of the header that are changed, with the offset of the first, and what is then read.
 static CHANGED: [(&str, usize, [u8; 4], Result<FileHeader, FileHeaderError>); 18] = [
     (
         "no sequence",
@@ -178,8 +178,8 @@ fn a_changed_file_header_is_read_or_refused(rt: HostRuntime) {
     }
 }
 
-/// A file, and of each record its place, its time in nanoseconds, its length and its end. The times and lengths are those that
-/// `tshark` prints.
+/// A file, and for each record its offset, its time in nanoseconds, its length and its end. The times and lengths are
+/// those that `tshark` prints.
 type Records = (
     &'static str,
     &'static [u8],
@@ -223,7 +223,7 @@ static FILES: [Records; 5] = [
     ),
 ];
 
-/// The fault of a record at a place of a file that is cut, if there is one.
+/// The fault of a record of a cut file, if there is one.
 fn fault_at(place: usize, end: usize, len: usize) -> Option<RecordFault> {
     let have = len.saturating_sub(place);
     let required_len = if have < 16 {
@@ -243,7 +243,7 @@ fn fault_at(place: usize, end: usize, len: usize) -> Option<RecordFault> {
     })
 }
 
-/// The whole records of a file, and the fault of the one that is cut.
+/// Tests that the whole records of a file are read, and then the fault of the record that is cut.
 fn are_read(
     rt: &impl Abort,
     name: &str,

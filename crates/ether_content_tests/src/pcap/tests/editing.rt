@@ -3,19 +3,19 @@ use super::{equal, put};
 use arrayvec::ArrayVec;
 use ether_pcap::{CaptureInterface, CaptureReader, EditedUnit};
 
-/// The header of a classic file, most significant byte first.
+/// The header of a big-endian classic file.
 const BIG_FILE: &[u8] = &[
     0xA1, 0xB2, 0xC3, 0xD4, 0x00, 0x02, 0x00, 0x04, 0x00, 0x00, 0x00, 0x00, //
     0x00, 0x00, 0x00, 0x00, 0x00, 0x00, 0xFF, 0xFF, 0x00, 0x00, 0x00, 0x01, //
 ];
 
-/// The same with nanoseconds, least significant byte first.
+/// The header of a little-endian classic file with times in nanoseconds.
 const LITTLE_FILE: &[u8] = &[
     0x4D, 0x3C, 0xB2, 0xA1, 0x02, 0x00, 0x04, 0x00, 0x00, 0x00, 0x00, 0x00, //
     0x00, 0x00, 0x00, 0x00, 0xFF, 0xFF, 0x00, 0x00, 0x01, 0x00, 0x00, 0x00, //
 ];
 
-/// A section header, and the description of an interface.
+/// A big-endian section header, and an interface description.
 const BIG_SECTION: &[u8] = &[
     0x0A, 0x0D, 0x0D, 0x0A, 0x00, 0x00, 0x00, 0x1C, 0x1A, 0x2B, 0x3C, 0x4D, 0x00, 0x01, 0x00, 0x00, //
     0xFF, 0xFF, 0xFF, 0xFF, 0xFF, 0xFF, 0xFF, 0xFF, 0x00, 0x00, 0x00, 0x1C, //
@@ -23,7 +23,7 @@ const BIG_SECTION: &[u8] = &[
     0x00, 0x04, 0x00, 0x00, 0x00, 0x00, 0x00, 0x14, //
 ];
 
-/// The same, least significant byte first.
+/// The same, little-endian.
 const LITTLE_SECTION: &[u8] = &[
     0x0A, 0x0D, 0x0D, 0x0A, 0x1C, 0x00, 0x00, 0x00, 0x4D, 0x3C, 0x2B, 0x1A, 0x01, 0x00, 0x00, 0x00, //
     0xFF, 0xFF, 0xFF, 0xFF, 0xFF, 0xFF, 0xFF, 0xFF, 0x1C, 0x00, 0x00, 0x00, //
@@ -53,8 +53,8 @@ fn reader_after(file: &[u8]) -> CaptureReader<ArrayVec<CaptureInterface, 4>> {
     reader
 }
 
-/// What is read before the unit, the unit, the captured bytes and the original length that it gets, and what it is then if it can be
-/// edited.
+/// What is read before the unit; the unit; the new captured bytes and the new original length; and the edited unit, if
+/// it can be edited.
 type Row = (
     &'static str,
     &'static [u8],
@@ -64,7 +64,8 @@ type Row = (
     Option<&'static [u8]>,
 );
 
-/// By the figures of draft-ietf-opsawg-pcap, section 5, and draft-ietf-opsawg-pcapng, sections 4.3, 4.4 and appendix A.
+/// By the figures of draft-ietf-opsawg-pcap, section 5, and draft-ietf-opsawg-pcapng, sections 4.3, 4.4 and appendix
+/// A.
 const ROWS: &[Row] = &[
     (
         "record, shorter",
@@ -237,13 +238,13 @@ const BIG_SIMPLE: &[u8] = &[
     0xAA, 0xBB, 0xCC, 0x00, 0x00, 0x00, 0x00, 0x14, //
 ];
 
-/// The same, least significant byte first.
+/// The same, little-endian.
 const LITTLE_SIMPLE: &[u8] = &[
     0x03, 0x00, 0x00, 0x00, 0x14, 0x00, 0x00, 0x00, 0x03, 0x00, 0x00, 0x00, //
     0xAA, 0xBB, 0xCC, 0x00, 0x14, 0x00, 0x00, 0x00, //
 ];
 
-/// Puts the bytes of a unit to the front of others, and returns their number.
+/// Writes the bytes of a unit to the front of a target, and returns their number.
 fn put_unit(target: &mut [u8], unit: &EditedUnit<'_>) -> usize {
     match unit {
         EditedUnit::Record { header, packet } => {

@@ -3,7 +3,7 @@ use super::equal;
 use super::pcapng_captures::{BIG, LITTLE};
 use ether_pcap::{ByteOrder, InterfaceDescription, LinkType};
 
-/// A place of options in bytes, and the length of the frame check sequence and the resolution of times that they name.
+/// Options from an offset on, and the length of the frame check sequence and the resolution of times in them.
 type Row = (
     &'static str,
     ByteOrder,
@@ -35,7 +35,7 @@ const BE: ByteOrder = ByteOrder::BigEndian;
 
 const LE: ByteOrder = ByteOrder::LittleEndian;
 
-/// Of both files Wireshark's `capinfos` shows 0 bytes and a resolution of 9.
+/// Wireshark's `capinfos` shows 0 bytes and a resolution of 9 for both files.
 #[rattlefmt::skip]
 static OPTIONS: [Row; 11] = [
     ("the most significant byte first", BE, &BIG, 44, 64, Some(0), Some(9)),
@@ -66,7 +66,7 @@ fn options_give_check_sequence_and_resolution(rt: HostRuntime) {
     }
 }
 
-/// The second option is read from 13 bytes on, without its padding. The first one is read from 5 bytes on.
+/// The first option needs 5 bytes, and the second needs 13: its padding may be missing.
 #[test]
 fn an_option_is_read_once_its_value_is_whole(rt: HostRuntime) {
     let options = [

@@ -1,5 +1,5 @@
-//! A file of two sections, read one unit at a time, and changed until it is refused. It was written with Python's `struct`; times,
-//! lengths and link types of its packets were printed by Wireshark's `tshark`.
+//! A file of two sections, read one unit at a time, and changed until it is refused. Python's `struct` wrote it;
+//! Wireshark's `tshark` printed the times, lengths and link types of its packets.
 use super::{equal, put};
 use arrayvec::ArrayVec;
 use ether_pcap::{
@@ -8,9 +8,9 @@ use ether_pcap::{
 };
 use std::test::Fail;
 
-/// A section most significant byte first with two interfaces, Ethernet in microseconds and cooked capture in nanoseconds, and a packet
-/// of each; and one least significant byte first with three, whose times count 1/1024 seconds, seconds, and microseconds from an
-/// hour later on.
+/// A big-endian section with two interfaces, Ethernet in microseconds and cooked capture in nanoseconds, and a packet
+/// of each; and a little-endian section with three interfaces, whose times count 1/1024 seconds, seconds, and
+/// microseconds with an offset of one hour.
 const SECTIONS: [u8; 508] = [
     0x0A, 0x0D, 0x0D, 0x0A, 0x00, 0x00, 0x00, 0x1C, 0x1A, 0x2B, 0x3C, 0x4D, 0x00, 0x01, 0x00, 0x00, // section header
     0xFF, 0xFF, 0xFF, 0xFF, 0xFF, 0xFF, 0xFF, 0xFF, 0x00, 0x00, 0x00, 0x1C, //
@@ -49,7 +49,7 @@ const SECTIONS: [u8; 508] = [
     0x00, 0x01, 0x02, 0x00, 0x00, 0x00, 0x00, 0x02, 0x88, 0xB5, 0x01, 0x02, 0x20, 0x00, 0x00, 0x00, //
 ];
 
-/// Where the units begin, and where the last one ends.
+/// The offset at which each unit begins, and the one at which the last unit ends.
 const PLACES: [usize; 14] = [
     0, 28, 68, 100, 152, 200, 228, 260, 292, 328, 376, 424, 476, 508,
 ];
@@ -57,7 +57,7 @@ const PLACES: [usize; 14] = [
 /// A reader of sections with up to four interfaces.
 type Reader = CaptureReader<ArrayVec<CaptureInterface, 4>>;
 
-/// A reader that has read the units up to a number.
+/// A reader that has read this number of units.
 fn reader_at(file: &[u8; 508], number: usize) -> Result<Reader, Fail> {
     let mut reader = CaptureReader::new(ArrayVec::new());
     for start in PLACES.iter().take(number.min(13)) {
@@ -66,7 +66,8 @@ fn reader_at(file: &[u8; 508], number: usize) -> Result<Reader, Fail> {
     Ok(reader)
 }
 
-/// The number of a unit, and the nanoseconds, original length, link type, snap length, length of a frame check sequence and place of its packet.
+/// The number of a unit, and its packet: interface, nanoseconds, original length, link type, snap length, length of
+/// the frame check sequence, begin and end.
 #[rattlefmt::skip]
 static PACKETS: [(&str, usize, u32, Option<u32>, u32, LinkType, u32, Option<u8>, usize, usize); 5] = [
     ("the second interface", 3, 1, Some(123_456_789), 60, LinkType::LINUX_SLL, 17, None, 128, 145),
@@ -109,7 +110,7 @@ fn packets_have_the_interface_of_their_own_section(rt: HostRuntime) -> Result<()
     Ok(())
 }
 
-/// The file is cut at each byte: its last unit needs more bytes, also if none of it is there.
+/// The file is cut at each byte: the unit at the cut needs more bytes, even if none of it is there.
 #[test]
 fn a_unit_cut_anywhere_names_the_length_it_needs(rt: HostRuntime) -> Result<(), Fail> {
     for i in 0..13 {
@@ -135,7 +136,7 @@ fn a_unit_cut_anywhere_names_the_length_it_needs(rt: HostRuntime) -> Result<(), 
     Ok(())
 }
 
-/// The file with other bytes from some places on.
+/// The file with these bytes changed, each list with its offset.
 fn changed(changes: &[(usize, &[u8])]) -> [u8; 508] {
     let mut file = SECTIONS;
     for (place, bytes) in changes {
@@ -144,7 +145,8 @@ fn changed(changes: &[(usize, &[u8])]) -> [u8; 508] {
     file
 }
 
-/// Other bytes, the number of units that are read before, the place that is read then, and why it is refused.
+/// The bytes that are changed, the number of units that are read before the refused one, its offset, and why it is
+/// refused.
 type Refused = (
     &'static str,
     &'static [(usize, &'static [u8])],
@@ -193,7 +195,8 @@ fn the_fifth_of_four_interfaces_is_refused(rt: HostRuntime) -> Result<(), Fail> 
     Ok(())
 }
 
-/// Other bytes, the number of units that are read before, where the next one begins, and its seconds and nanoseconds.
+/// The bytes that are changed, the number of units that are read before the packet, the offset of the unit, and its
+/// seconds and nanoseconds.
 type Shifted = (
     &'static str,
     &'static [(usize, &'static [u8])],
@@ -203,8 +206,8 @@ type Shifted = (
     u32,
 );
 
-/// A packet of an interface whose times are an hour later, and a second earlier; and a packet as an obsolete block of type 2, whose
-/// interface has two bytes. Wireshark's `tshark` shows these times.
+/// A packet of an interface whose times are offset by an hour, and by a second backwards; and a packet in an obsolete
+/// block of type 2, whose interface has two bytes. Wireshark's `tshark` shows these times.
 #[rattlefmt::skip]
 static SHIFTED: [Shifted; 3] = [
     ("an hour later", &[], 11, 424, 1_700_003_600, 123_456_000),

@@ -9,7 +9,7 @@ use std::fmt;
 use std::process::Abort;
 use std::test::Fail;
 
-/// The text of an error, by `Display`.
+/// Tests the text of an error, as `Display` writes it.
 fn reads(
     rt: &(impl Abort + AllocGlobal),
     error: &impl fmt::Display,
@@ -20,7 +20,7 @@ fn reads(
     Ok(())
 }
 
-/// Error, text, and what `Debug` shows.
+/// An error, its text, and what `Debug` shows.
 static FILE_HEADERS: [(FileHeaderError, &str, &str); 5] = [
     (
         FileHeaderError::Len {

@@ -8,7 +8,8 @@ use ether_pcap::{
 };
 use std::test::Fail;
 
-/// The length of a unit, and the seconds, nanoseconds, original length and place of its packet.
+/// The length of a unit, and the seconds, nanoseconds and original length of its packet, with the offsets at which
+/// that begins and ends.
 type Shown = (usize, Option<(Option<(u64, u32)>, u32, usize, usize)>);
 
 /// The packet of a unit as it is shown, in a file with one interface of this link type.
@@ -41,7 +42,7 @@ fn packet<'a>(
     })
 }
 
-/// Both files of pcapng: their interface counts nanoseconds, and has a frame check sequence of no bytes.
+/// Both files of pcapng: their interface counts nanoseconds, and its frame check sequence has no bytes.
 const BLOCKS: &[Shown] = &[
     (28, None),
     (40, None),
@@ -50,7 +51,8 @@ const BLOCKS: &[Shown] = &[
     (56, Some((None, 42, 144, 183))),
 ];
 
-/// A file with its link type, its snap length, the length of its frame check sequence and the number of its interface, and its units.
+/// A file, its link type, its snap length, the length of its frame check sequence, the number of its interface, and
+/// its units.
 type Row = (
     &'static str,
     &'static [u8],

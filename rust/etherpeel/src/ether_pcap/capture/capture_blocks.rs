@@ -6,7 +6,7 @@ use crate::ether_pcap::{
     PcapngBlock, SimplePacket,
 };
 
-/// The block at the front of bytes that begin with no section header.
+/// Reads the block at the front of bytes that do not begin with a section header.
 #[inline(always)]
 pub(crate) fn read_block<'a, T: InterfaceTable>(
     byte_order: ByteOrder,
@@ -24,7 +24,7 @@ pub(crate) fn read_block<'a, T: InterfaceTable>(
     })
 }
 
-/// The packet, if the block is one. Appends the interface, if it describes one.
+/// Returns the block's packet, if it has one. Appends the interface if the block describes one.
 #[inline]
 fn read_body<'a, T: InterfaceTable>(
     byte_order: ByteOrder,
@@ -69,7 +69,7 @@ fn add_interface<T: InterfaceTable>(
     Ok(())
 }
 
-/// The packet in the body of a simple packet, which is one of the first interface.
+/// Reads the body of a simple packet, whose interface is the first of the section.
 #[inline]
 fn simple_packet<'a>(
     byte_order: ByteOrder,
@@ -94,7 +94,7 @@ fn simple_packet<'a>(
     })
 }
 
-/// The packet in the body of an enhanced packet, or of an obsolete packet block.
+/// Reads the body of an enhanced packet, or of an obsolete packet block.
 #[inline]
 fn enhanced_packet<'a>(
     byte_order: ByteOrder,
@@ -120,7 +120,7 @@ fn enhanced_packet<'a>(
     })
 }
 
-/// The first of two lengths that is known.
+/// The length that the packet's flags give, else that of its interface.
 #[inline]
 fn first_of(of_packet: Option<u8>, of_interface: Option<u8>) -> Option<u8> {
     match of_packet {
@@ -129,7 +129,7 @@ fn first_of(of_packet: Option<u8>, of_interface: Option<u8>) -> Option<u8> {
     }
 }
 
-/// The interface of a number, counted from 0.
+/// The interface with this number, counted from 0.
 #[inline]
 pub(crate) fn interface_at(interfaces: &[CaptureInterface], number: u32) -> Option<CaptureInterface> {
     let index = number as usize;

@@ -25,7 +25,7 @@ use core::fmt;
 /// ```
 #[derive(Clone, Copy, PartialEq, Eq, Debug)]
 pub struct CaptureFault {
-    /// The place of the file header, record or block that can't be read, from the start of the file.
+    /// The offset in bytes, from the start of the file, of the file header, record or block that can't be read.
     pub offset: usize,
     /// Why it can't be read.
     pub error: CaptureError,

@@ -1,19 +1,21 @@
-//! An interface of a section of a pcapng file, as far as its packets need it.
+//! What a section of a pcapng file says of an interface, as far as its packets need it.
 
 use crate::ether_pcap::{BodyError, ByteOrder, InterfaceDescription, LinkType, Timestamp};
 
-/// An interface of a section of a pcapng file, as far as its packets need it.
+/// What a section of a pcapng file says of an interface, as far as its packets need it.
 #[derive(Clone, Copy, Debug)]
 pub struct CaptureInterface {
     /// The link type of its packets.
     pub link_type: LinkType,
-    /// How many bytes of a packet are captured at most; 0 if there is no limit.
+    /// The maximum number of bytes captured of a packet; 0 if there is no limit.
     pub snap_len: u32,
-    /// The length in bytes of the frame check sequence at the end of each packet, if it is known.
+    /// The length in bytes of the frame check sequence at the end of each packet, if the option `if_fcslen` gives it.
+    /// The values 16 and 32 of that option are read as bits, all others as bytes.
     pub fcs_len: Option<u8>,
-    /// The number that gives the resolution of times, if there is one: microseconds without it.
+    /// The value of the option `if_tsresol`, which gives the unit of times: 10^-n seconds for a value n below 128,
+    /// else 2^-(n - 128) seconds. Without the option times are in microseconds.
     pub time_resolution: Option<u8>,
-    /// The seconds that are added to each time, as a signed number of 64 bits.
+    /// The value of the option `if_tsoffset`, or 0: the seconds that are added to each time, in two's complement.
     pub time_offset: u64,
 }
 
@@ -40,7 +42,8 @@ impl CaptureInterface {
         })
     }
 
-    /// The time that a number of units is on the interface. `None` if it is before 1970, or its seconds don't fit 64 bits.
+    /// The time of a packet whose block counts this many ticks on the interface. `None` if that is before 1970, or if
+    /// its seconds do not fit in 64 bits.
     ///
     /// <details><summary>Contract</summary>
     ///
@@ -62,7 +65,7 @@ impl CaptureInterface {
     }
 }
 
-/// A length of the frame check sequence in bytes, of a number that may be its bits.
+/// Reads 32 and 16 as numbers of bits, and any other number as one of bytes.
 #[inline]
 fn in_bytes(number: Option<u8>) -> Option<u8> {
     match number {
@@ -72,7 +75,7 @@ fn in_bytes(number: Option<u8>) -> Option<u8> {
     }
 }
 
-/// Seconds and an offset whose bits are a signed number.
+/// Adds an offset in two's complement to seconds. `None` if the sum is negative or does not fit in 64 bits.
 #[inline]
 fn shifted(offset: u64, seconds: u64) -> Option<u64> {
     let (sum, is_over) = seconds.overflowing_add(offset);
@@ -96,7 +99,7 @@ impl Default for CaptureInterface {
     }
 }
 
-/// How many units a second has.
+/// Ticks per second, for the value of `if_tsresol` if there is one.
 #[inline]
 fn units(time_resolution: Option<u8>) -> u128 {
     match time_resolution {
@@ -105,8 +108,8 @@ fn units(time_resolution: Option<u8>) -> u128 {
     }
 }
 
-/// How many units a second has if an interface gives their resolution. From ten to the power of 29 on they are so many that each time
-/// is less than a nanosecond, and the power of 29 does for all of them.
+/// Ticks per second for an `if_tsresol` value. Powers of ten are capped at 29: from there on every 64-bit tick count
+/// is below one nanosecond.
 #[inline]
 fn power(resolution: u8) -> u128 {
     if resolution < 128 {
@@ -116,7 +119,7 @@ fn power(resolution: u8) -> u128 {
     }
 }
 
-/// The time of a number of units since 1970, if a second has so many.
+/// The time that `ticks` are, at this many ticks per second.
 #[inline]
 fn time(units: u128, ticks: u64) -> Timestamp {
     let ticks = u128::from(ticks);

@@ -5,13 +5,13 @@ use crate::ether_pcap::{
 };
 use arrayvec::ArrayVec;
 
-/// The interfaces of a section, in 96 KiB.
+/// Room for the interfaces of a section: 96 KiB.
 type Interfaces = ArrayVec<CaptureInterface, MAX_INTERFACES>;
 
-/// How many interfaces a section may describe.
+/// The most interfaces that a section may describe.
 const MAX_INTERFACES: usize = 4_096;
 
-/// The packets of a capture file of either format that is in memory, one after the other, and then the fault if there is one.
+/// The packets of a capture file of either format in memory, one after the other, and then the fault if there is one.
 ///
 /// ```
 /// # use etherpeel::*;
@@ -41,10 +41,10 @@ pub struct CapturePackets<'a> {
 }
 
 impl<'a> CapturePackets<'a> {
-    /// How many interfaces a section may describe, 4,096.
+    /// The most interfaces that a section may describe: 4,096.
     pub const MAX_INTERFACES: usize = MAX_INTERFACES;
 
-    /// The packets of a file, from the first one on.
+    /// An iterator over the packets of a file, from the first one on.
     ///
     /// <details><summary>Contract</summary>
     ///
@@ -63,7 +63,7 @@ impl<'a> CapturePackets<'a> {
         }
     }
 
-    /// The bytes that are left to read: after a fault, from the start of what can't be read.
+    /// The bytes that are left to read. After a fault they begin with the unit that can't be read.
     ///
     /// <details><summary>Contract</summary>
     ///
@@ -77,7 +77,7 @@ impl<'a> CapturePackets<'a> {
         self.rest
     }
 
-    /// The place of the bytes that are left to read, from the start of the file.
+    /// The offset of [`rest`](Self::rest), from the start of the file.
     ///
     /// <details><summary>Contract</summary>
     ///
@@ -95,7 +95,8 @@ impl<'a> CapturePackets<'a> {
 impl<'a> Iterator for CapturePackets<'a> {
     type Item = Result<CapturedPacket<'a>, CaptureFault>;
 
-    /// The next packet, the fault that ends the file, or `None` if nothing is left to read or the fault was returned.
+    /// Returns the next packet, or the fault that ends the file. Returns `None` at the end of the file, and after the
+    /// fault.
     #[inline]
     fn next(&mut self) -> Option<Result<CapturedPacket<'a>, CaptureFault>> {
         if self.is_over {

@@ -8,7 +8,7 @@ use crate::ether_pcap::{
     FileHeader, InterfaceTable, PcapRecord, PcapngBlock, SectionHeader, Timestamp,
 };
 
-/// What was read of a file.
+/// How far a file was read.
 #[derive(Clone, Copy)]
 pub(crate) enum Progress {
     /// Nothing.
@@ -19,11 +19,11 @@ pub(crate) enum Progress {
     Section(ByteOrder),
 }
 
-/// A reader of capture files of the classic pcap format and of pcapng, one unit at a time.
+/// Reads capture files of the classic pcap format and of pcapng, one unit at a time.
 ///
-/// It keeps what it needs of the file header, or of the section header and the interfaces of the section, and no bytes: a program
-/// can read a file through a buffer of its own. The first bytes say which format it is. A section may describe as many interfaces as
-/// `T` has room for.
+/// The reader keeps the file header, or the byte order of the section and its interfaces, but no bytes of the file: a
+/// program can read a file through a buffer of its own. The first bytes of the file show its format. A section may
+/// describe as many interfaces as `T` has room for.
 ///
 /// ```
 /// # use etherpeel::*;
@@ -64,7 +64,7 @@ pub struct CaptureReader<T: InterfaceTable> {
 }
 
 impl<T: InterfaceTable> CaptureReader<T> {
-    /// A reader that has read nothing yet, and keeps interfaces in this table.
+    /// A reader at the beginning of a file, which keeps interfaces in this table.
     ///
     /// <details><summary>Contract</summary>
     ///
@@ -81,7 +81,7 @@ impl<T: InterfaceTable> CaptureReader<T> {
         }
     }
 
-    /// Tests that a unit was read. If nothing is left to read then, the file has ended where a file may end.
+    /// Tests that at least one unit was read. If so, and if no bytes are left, the file is complete.
     ///
     /// <details><summary>Contract</summary>
     ///
@@ -95,16 +95,17 @@ impl<T: InterfaceTable> CaptureReader<T> {
         !matches!(self.progress, Progress::Nothing)
     }
 
-    /// Reads the unit at the front of a slice. Bytes after it are not read.
+    /// Reads the unit at the front of a slice. Bytes after the unit are ignored.
     ///
-    /// At the beginning a file whose first four bytes are the type of a section header is one of pcapng, and any other a classic
-    /// one. In a section a further section header begins another, which describes interfaces of its own. Blocks of other types than
-    /// interface descriptions, simple packets, enhanced packets and the obsolete packet blocks are units without a packet.
+    /// A file whose first four bytes are the type of a section header is read as pcapng, and any other file as classic
+    /// pcap. A further section header begins a new section, without interfaces. Interface descriptions, simple and
+    /// enhanced packets and obsolete packet blocks are read; blocks of other types are units without a packet.
     ///
     /// # Errors
     ///
-    /// The reader is as it was then. If the slice ends within the unit, [`CaptureError::required_len`] says how many bytes it needs at
-    /// least, more than the slice has: the unit can be read again with so many. Otherwise, the file can't be read on.
+    /// After an error the reader is unchanged. If the slice ends within the unit, [`CaptureError::required_len`] is
+    /// the minimum number of bytes that the unit needs, which is more than the slice has: call again with at least
+    /// that many. With any other error the rest of the file can't be read.
     ///
     /// <details><summary>Contract</summary>
     ///
@@ -125,14 +126,15 @@ impl<T: InterfaceTable> CaptureReader<T> {
         self.read_unit(bytes)
     }
 
-    /// The unit of a packet with these captured bytes and this original length in place of its own.
+    /// The unit of a packet with other captured bytes and another original length.
     ///
-    /// `unit` has exactly the bytes of the unit that this reader read last. The captured and the original length change, and in a block
-    /// also both total lengths and the padding, which is then of zeros. Time, interface and options stay.
+    /// `unit` must have exactly the bytes of the unit that this reader read last. The captured and the original length
+    /// change, and in a block also both total lengths and the padding, which is then all zeros. Time, interface and
+    /// options are unchanged.
     ///
-    /// Returns `None` for a simple packet, whose block gives no captured length; if there are more than
-    /// [`PcapRecord::MAX_CAPTURED_LEN`] bytes, or the original length has more than 32 bits; and if the block would be longer than
-    /// [`PcapngBlock::MAX_LEN`]. Of a unit that is no packet nothing is claimed.
+    /// Returns `None` for a simple packet, whose block gives no captured length; if `packet` has more than
+    /// [`PcapRecord::MAX_CAPTURED_LEN`] bytes; if `original_len` does not fit in 32 bits; and if the block would be
+    /// longer than [`PcapngBlock::MAX_LEN`]. If the unit is not a packet, nothing is claimed of the result.
     ///
     /// ```
     /// # use etherpeel::*;
@@ -192,11 +194,12 @@ impl<T: InterfaceTable> CaptureReader<T> {
         }
     }
 
-    /// What a copy has of a unit without a packet.
+    /// The bytes that a copy has for a unit without a packet.
     ///
-    /// `unit` has exactly the bytes of the unit that this reader read last. A copy that is another capture has the snap length of a file
-    /// header or an interface description raised, so that it is still a bound for packets to which an edit adds bytes. A section header
-    /// gives no length of its section, and a custom block of type [`PcapngBlock::UNCOPIED_CUSTOM`] is left out.
+    /// `unit` must have exactly the bytes of the unit that this reader read last. With [`CopyMode::Exact`] they are
+    /// copied as they are. With [`CopyMode::Changed`] the snap length of a file header or an interface description is
+    /// raised, so that it is still a bound if an edit makes packets longer; a section header gives no section length;
+    /// and a custom block of type [`PcapngBlock::UNCOPIED_CUSTOM`] is left out.
     ///
     /// ```
     /// # use etherpeel::*;
@@ -241,7 +244,7 @@ impl<T: InterfaceTable> CaptureReader<T> {
         }
     }
 
-    /// The unit in a copy that is another capture.
+    /// The bytes that a changed copy has for a unit without a packet.
     #[inline]
     fn changed_unit<'a>(&self, raise: u32, unit: &'a [u8]) -> CopiedUnit<'a> {
         match self.progress {
@@ -252,10 +255,11 @@ impl<T: InterfaceTable> CaptureReader<T> {
         }
     }
 
-    /// Tests that a copy can have the unit of a packet that is not edited.
+    /// Tests that a copy can have the unit of a packet that is not edited, unchanged.
     ///
-    /// `unit` has exactly the bytes of the unit that this reader read last, and `packet` is its packet. A simple packet has as many bytes as
-    /// the snap length allows. So one that was cut would have more where that is raised, and there is no unit for it.
+    /// `unit` must have exactly the bytes of the unit that this reader read last, and `packet` must be its packet. The
+    /// captured length of a simple packet is not stored: it follows from the snap length. So a simple packet that was
+    /// cut can't be copied where the snap length is raised.
     ///
     /// <details><summary>Contract</summary>
     ///
@@ -276,7 +280,7 @@ impl<T: InterfaceTable> CaptureReader<T> {
         }
     }
 
-    /// The unit at the front of a slice.
+    /// Does as `read`.
     #[inline(always)]
     fn read_unit<'a>(&mut self, bytes: &'a [u8]) -> Result<CaptureUnit<'a>, CaptureError> {
         if let Progress::Classic(header) = self.progress {
@@ -314,7 +318,7 @@ fn begins_section(bytes: &[u8]) -> bool {
     bytes.len() >= 4 && ByteOrder::BigEndian.u32_at(bytes, 0) == PcapngBlock::SECTION_HEADER
 }
 
-/// The record at the front of a slice.
+/// Reads the record at the front of a slice.
 #[inline]
 fn read_record<'a>(header: &FileHeader, bytes: &'a [u8]) -> Result<CaptureUnit<'a>, CaptureError> {
     let record = match PcapRecord::from_slice(header, bytes) {

@@ -5,9 +5,9 @@
 pub enum CopyMode {
     /// Byte for byte.
     Exact,
-    /// As another capture: some of its packets are left out or edited.
+    /// As another capture: some packets are left out or edited.
     Changed {
-        /// By how many bytes snap lengths are raised: as many as an edit may add to a packet.
+        /// By how many bytes snap lengths are raised: the most bytes that an edit adds to a packet.
         raise: u32,
     },
 }

@@ -1,10 +1,10 @@
-//! Units of a copy that is another capture.
+//! Units of a copy that is another capture than the file.
 
 use crate::ether_pcap::pcapng::simple_packet::captured_len;
 use crate::ether_pcap::word_bytes::word;
 use crate::ether_pcap::{ByteOrder, CapturedPacket, CopiedUnit, FileHeader, PcapngBlock};
 
-/// The file header with a snap length that is raised.
+/// The file header with its snap length raised.
 #[inline]
 pub(crate) fn changed_header<'a>(header: &FileHeader, raise: u32, unit: &'a [u8]) -> CopiedUnit<'a> {
     if unit.len() < FileHeader::LEN {
@@ -14,7 +14,7 @@ pub(crate) fn changed_header<'a>(header: &FileHeader, raise: u32, unit: &'a [u8]
     with_snap_len(header.byte_order, 16, snap_len, unit)
 }
 
-/// A section header that gives no length of its section.
+/// The section header without a section length.
 #[inline]
 pub(crate) fn changed_section<'a>(unit: &'a [u8]) -> CopiedUnit<'a> {
     if unit.len() < 24 {
@@ -26,7 +26,7 @@ pub(crate) fn changed_section<'a>(unit: &'a [u8]) -> CopiedUnit<'a> {
     }
 }
 
-/// A block that is neither a section header nor a packet.
+/// What a copy has for a block that is neither a section header nor a packet.
 #[inline]
 pub(crate) fn changed_block<'a>(order: ByteOrder, raise: u32, block: &'a [u8]) -> CopiedUnit<'a> {
     if block.len() < 4 {
@@ -39,7 +39,7 @@ pub(crate) fn changed_block<'a>(order: ByteOrder, raise: u32, block: &'a [u8]) -
     }
 }
 
-/// An interface description with a snap length that is raised.
+/// The interface description with its snap length raised.
 #[inline]
 fn changed_interface<'a>(order: ByteOrder, raise: u32, block: &'a [u8]) -> CopiedUnit<'a> {
     if block.len() < 16 {
@@ -49,7 +49,7 @@ fn changed_interface<'a>(order: ByteOrder, raise: u32, block: &'a [u8]) -> Copie
     with_snap_len(order, 12, snap_len, block)
 }
 
-/// Tests that the block of a packet is still that packet where snap lengths are raised.
+/// Tests that a packet's block still has that packet after snap lengths are raised.
 #[inline]
 pub(crate) fn keeps_block(
     order: ByteOrder,
@@ -64,7 +64,7 @@ pub(crate) fn keeps_block(
     captured_len(snap_len, packet.original_len) as usize == packet.packet.len()
 }
 
-/// A unit with another snap length at a place.
+/// The unit with another snap length at the offset `at`.
 #[inline]
 fn with_snap_len<'a>(order: ByteOrder, at: usize, snap_len: u32, unit: &'a [u8]) -> CopiedUnit<'a> {
     CopiedUnit::SnapLen {
@@ -74,7 +74,7 @@ fn with_snap_len<'a>(order: ByteOrder, at: usize, snap_len: u32, unit: &'a [u8])
     }
 }
 
-/// A snap length that is raised, 0 for none.
+/// Raises a snap length, to 2^32 - 1 at most. A snap length of 0 (no limit) is unchanged.
 #[inline]
 fn raised_len(raise: u32, snap_len: u32) -> u32 {
     if snap_len == 0 {

@@ -1,9 +1,9 @@
-//! Units whose packet is edited.
+//! The units of edited packets.
 
 use crate::ether_pcap::word_bytes::{four_words, len_word, padded_len, seven_words, word};
 use crate::ether_pcap::{ByteOrder, EditedUnit, FileHeader, PcapRecord, PcapngBlock};
 
-/// The record of a packet with other captured bytes and another original length.
+/// The record with other captured bytes and another original length.
 #[inline]
 pub(crate) fn edited_record<'a>(
     header: &FileHeader,
@@ -26,7 +26,8 @@ pub(crate) fn edited_record<'a>(
     })
 }
 
-/// The block of a packet with other captured bytes and another original length, if it gives these lengths.
+/// The block with other captured bytes and another original length. `None` for a simple packet, and if the block would
+/// be too long.
 #[inline]
 pub(crate) fn edited_block<'a>(
     order: ByteOrder,
@@ -45,7 +46,7 @@ pub(crate) fn edited_block<'a>(
     }
 }
 
-/// The block of an enhanced packet, or an obsolete packet block, with other captured bytes and another original length.
+/// Does as `edited_block`, for an enhanced packet block or an obsolete packet block.
 #[inline]
 fn edited_enhanced_packet<'a>(
     order: ByteOrder,
@@ -76,7 +77,7 @@ fn edited_enhanced_packet<'a>(
     })
 }
 
-/// The bytes of a block before the captured bytes, with other lengths.
+/// The bytes of the block before the captured bytes, with other lengths.
 #[inline]
 fn block_header(
     order: ByteOrder,
@@ -98,7 +99,7 @@ fn block_header(
     )
 }
 
-/// The four bytes at a place.
+/// The four bytes from the offset `at` on.
 #[inline]
 fn word_at(bytes: &[u8], at: usize) -> [u8; 4] {
     [bytes[at], bytes[at + 1], bytes[at + 2], bytes[at + 3]]

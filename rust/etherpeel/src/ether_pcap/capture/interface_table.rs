@@ -3,11 +3,12 @@
 use crate::ether_pcap::capture::capture_interface::CaptureInterface;
 use arrayvec::ArrayVec;
 
-/// Where a [`CaptureReader`](crate::ether_pcap::CaptureReader) keeps the interfaces that a section has described.
+/// Where a [`CaptureReader`](crate::ether_pcap::CaptureReader) keeps the interfaces of a section.
 ///
-/// An [`ArrayVec`] is a table for so many interfaces, and takes no memory. A program that has memory can keep them there.
+/// An `ArrayVec<CaptureInterface, N>` holds up to `N` interfaces and allocates no memory. A program that allocates can
+/// implement this trait for a table of its own.
 pub trait InterfaceTable {
-    /// The interfaces, in the order in which they were described.
+    /// The interfaces, in the order in which they were added.
     ///
     /// <details><summary>Contract</summary>
     ///
@@ -18,7 +19,7 @@ pub trait InterfaceTable {
     /// </details>
     fn interfaces(&self) -> &[CaptureInterface];
 
-    /// Appends an interface. Returns `false`, and appends nothing, if there is no room.
+    /// Appends an interface. If there is no room, appends nothing and returns `false`.
     ///
     /// <details><summary>Contract</summary>
     ///
@@ -32,7 +33,7 @@ pub trait InterfaceTable {
     /// </details>
     fn add(&mut self, interface: CaptureInterface) -> bool;
 
-    /// Takes all interfaces out.
+    /// Removes all interfaces.
     ///
     /// <details><summary>Contract</summary>
     ///

@@ -1,6 +1,6 @@
 //! The time of a capture.
 
-/// The time of a capture since the beginning of 1970, UTC.
+/// The time of a capture, counted from the beginning of 1970, UTC.
 ///
 /// ```
 /// # use etherpeel::*;
@@ -20,7 +20,7 @@
 pub struct Timestamp {
     /// The whole seconds.
     pub seconds: u64,
-    /// The nanoseconds after them, less than 1,000,000,000 in each time that is read.
+    /// The nanoseconds after them. Less than 1,000,000,000 in each time that a reader returns.
     pub nanoseconds: u32,
 }
 

@@ -2,7 +2,8 @@
 
 use crate::ether_pcap::{ByteOrder, FileHeaderError, LinkType, TimestampResolution};
 
-/// The header of a classic pcap file (draft-ietf-opsawg-pcap, section 4), 24 bytes: how the records after it are to be read.
+/// The header of a classic pcap file (draft-ietf-opsawg-pcap, section 4), 24 bytes: how the records after it are to be
+/// read.
 ///
 /// ```text
 ///  0       4       6       8            16         20         24
@@ -11,9 +12,9 @@ use crate::ether_pcap::{ByteOrder, FileHeaderError, LinkType, TimestampResolutio
 ///  +-------+-------+-------+------------+----------+----------+
 /// ```
 ///
-/// Each number is in the byte order of the machine that wrote the file, which the magic number shows. In the last number the
-/// 16 lowest bits are the link type. If bit 26 is set (P; the lowest bit is bit 0), bits 28 to 31 are the length of the frame check
-/// sequence in units of two bytes. Bits 16 to 25 and 27 are reserved and ignored.
+/// Each number is in the byte order of the machine that wrote the file, which the magic number shows. In the last
+/// number the 16 lowest bits are the link type. If bit 26 is set (P; the lowest bit is bit 0), bits 28 to 31 are the
+/// length of the frame check sequence in units of two bytes. Bits 16 to 25 and 27 are reserved and ignored.
 ///
 /// ```
 /// # use etherpeel::*;
@@ -42,13 +43,14 @@ use crate::ether_pcap::{ByteOrder, FileHeaderError, LinkType, TimestampResolutio
 pub struct FileHeader {
     /// The order of the bytes of each number in the file.
     pub byte_order: ByteOrder,
-    /// What the second number of each record's time counts.
+    /// The unit of the second number in each record's time.
     pub resolution: TimestampResolution,
     /// The length in bytes to which longer packets were cut when they were captured.
     pub snap_len: u32,
     /// What each packet begins with.
     pub link_type: LinkType,
-    /// The length in bytes of the frame check sequence at the end of each packet, 0 to 30, if the file gives it.
+    /// The length in bytes of the frame check sequence at the end of each packet, if the file gives it: an even number
+    /// up to 30.
     pub fcs_len: Option<u8>,
 }
 
@@ -56,7 +58,7 @@ impl FileHeader {
     /// The length of the header in bytes.
     pub const LEN: usize = 24;
 
-    /// The header at the front of a slice. The records begin after its 24 bytes.
+    /// Reads the header at the front of a slice. The records begin after its 24 bytes.
     ///
     /// # Errors
     ///
@@ -98,9 +100,10 @@ impl FileHeader {
         })
     }
 
-    /// The bytes of the header, with those that are not read and the reserved bits 0.
+    /// The 24 bytes of the header. Bytes that are not read, and reserved bits, are 0.
     ///
-    /// A length of the frame check sequence is even and at most 30; of another one half of it, rounded down, is taken modulo 16.
+    /// `fcs_len` should be even and at most 30. Of any other number, half of it, rounded down and modulo 16, is
+    /// written.
     ///
     /// <details><summary>Contract</summary>
     ///
@@ -153,7 +156,7 @@ fn link_word(link_type: LinkType, fcs_len: Option<u8>) -> u32 {
     }
 }
 
-/// The byte order and the resolution of timestamps that the first four bytes say.
+/// The byte order and the resolution of times that the first four bytes show.
 #[inline]
 fn magic(slice: &[u8]) -> Result<(ByteOrder, TimestampResolution), FileHeaderError> {
     let number = ByteOrder::BigEndian.u32_at(slice, 0);

@@ -1,8 +1,8 @@
-//! The records of a file, one after the other.
+//! The records of a classic capture file, one after the other.
 
 use crate::ether_pcap::{FileHeader, FileHeaderError, PcapRecord, RecordFault};
 
-/// The records of a classic pcap file that is in memory, one after the other, and then the fault if there is one.
+/// The records of a classic pcap file in memory, one after the other, and then the fault if there is one.
 ///
 /// ```
 /// # use etherpeel::*;
@@ -37,11 +37,11 @@ pub struct PcapRecords<'a> {
 }
 
 impl<'a> PcapRecords<'a> {
-    /// The records of a file, from the first one on.
+    /// Reads the file header, and returns an iterator over the records of the file.
     ///
     /// # Errors
     ///
-    /// As [`FileHeader::from_slice`].
+    /// Those of [`FileHeader::from_slice`].
     ///
     /// <details><summary>Contract</summary>
     ///
@@ -79,7 +79,7 @@ impl<'a> PcapRecords<'a> {
         self.header
     }
 
-    /// The bytes that are left to read: after a fault, from the start of the record that can't be read.
+    /// The bytes that are left to read. After a fault they begin with the record that can't be read.
     ///
     /// <details><summary>Contract</summary>
     ///
@@ -93,7 +93,7 @@ impl<'a> PcapRecords<'a> {
         self.rest
     }
 
-    /// The place of the bytes that are left to read, from the start of the file.
+    /// The offset of [`rest`](Self::rest), from the start of the file.
     ///
     /// <details><summary>Contract</summary>
     ///
@@ -111,7 +111,8 @@ impl<'a> PcapRecords<'a> {
 impl<'a> Iterator for PcapRecords<'a> {
     type Item = Result<PcapRecord<'a>, RecordFault>;
 
-    /// The next record, the fault that ends the file, or `None` if nothing is left to read or the fault was returned.
+    /// Returns the next record, or the fault that ends the file. Returns `None` at the end of the file, and after the
+    /// fault.
     #[inline]
     fn next(&mut self) -> Option<Result<PcapRecord<'a>, RecordFault>> {
         if self.is_over || self.rest.is_empty() {

@@ -1,7 +1,6 @@
 //! The resolution of the timestamps of a file.
 
-/// The resolution of a file's timestamps: what the second number of each counts. The magic number at the start of the
-/// file says it.
+/// The resolution of a file's timestamps: the unit of the second number of each. The file's magic number gives it.
 ///
 /// ```
 /// # use etherpeel::*;
@@ -22,7 +21,7 @@ pub enum TimestampResolution {
 }
 
 impl TimestampResolution {
-    /// The resolution of a file with this magic number. Returns `None` if it is no magic number of the format.
+    /// The resolution of a file with this magic number. `None` if the format does not have that magic number.
     ///
     /// <details><summary>Contract</summary>
     ///

@@ -22,12 +22,12 @@ use core::fmt;
 pub enum BodyError {
     /// The body is too short for its fields, or for its captured bytes.
     Len {
-        /// The length that is required.
+        /// The minimum length of the body in bytes.
         required_len: usize,
-        /// The length of the body.
+        /// The length of the body in bytes.
         len: usize,
     },
-    /// The block names this many captured bytes, more than
+    /// The block gives this captured length, which is above
     /// [`PcapRecord::MAX_CAPTURED_LEN`](crate::ether_pcap::PcapRecord::MAX_CAPTURED_LEN).
     CapturedLen(u32),
 }

@@ -4,11 +4,12 @@ use crate::ether_pcap::pcapng::pcapng_option::{bytes_from, u32_option};
 use crate::ether_pcap::word_bytes::{four_words, len_word, padded_len, seven_words, word};
 use crate::ether_pcap::{BodyError, ByteOrder, PcapRecord, PcapngBlock};
 
-/// The code of the option with flags, `epb_flags` of an enhanced packet and `pack_flags` of the obsolete packet block.
+/// The code of the option that has a packet's flags: `epb_flags` of an enhanced packet, `pack_flags` of the obsolete
+/// packet block.
 const FLAGS: u16 = 2;
 
-/// A view of the body of an enhanced packet (draft-ietf-opsawg-pcapng, section 4.3): a packet that was captured on one of several
-/// interfaces.
+/// A view of the body of an enhanced packet (draft-ietf-opsawg-pcapng, section 4.3): a packet that was captured on one
+/// of several interfaces.
 ///
 /// ```text
 ///  0           4           8           12             16             20
@@ -42,11 +43,12 @@ const FLAGS: u16 = 2;
 pub struct EnhancedPacket<'a> {
     /// The interface, counted from 0 in the order of the section's interface descriptions.
     pub interface: u32,
-    /// The time of the capture since the beginning of 1970, UTC: in microseconds if no option of the interface says otherwise.
+    /// The time of the capture since the beginning of 1970, UTC: in microseconds unless an option of the interface
+    /// says otherwise.
     pub time: u64,
-    /// How many bytes the packet had before it was cut.
+    /// The length of the packet in bytes before it was cut.
     pub original_len: u32,
-    /// The bytes that were captured of the packet.
+    /// The captured bytes of the packet.
     pub packet: &'a [u8],
     /// The bytes of the options.
     pub options: &'a [u8],
@@ -61,7 +63,8 @@ impl<'a> EnhancedPacket<'a> {
     ///
     /// - `BodyError::Len`: the body has fewer than 20 bytes. `required_len` is 20, `len` the body's length.
     /// - `BodyError::CapturedLen`: the number of captured bytes, which the error names, is above 262,144.
-    /// - `BodyError::Len`: the body ends within the packet. `required_len` is 20 more than the number of captured bytes.
+    /// - `BodyError::Len`: the body ends within the packet. `required_len` is 20 more than the number of captured
+    ///   bytes.
     ///
     /// <details><summary>Contract</summary>
     ///
@@ -76,8 +79,9 @@ impl<'a> EnhancedPacket<'a> {
         packet_of_body(byte_order, true, body)
     }
 
-    /// Reads the body of a block of type [`PcapngBlock::PACKET`](crate::ether_pcap::PcapngBlock::PACKET), which is obsolete (appendix A): its
-    /// first four bytes are a number of two bytes for the interface, and the number of packets that were dropped before this one.
+    /// Reads the body of a block of type [`PcapngBlock::PACKET`](crate::ether_pcap::PcapngBlock::PACKET), which is obsolete
+    /// (appendix A). Its first two bytes are the number of the interface, and the next two count the packets that were
+    /// dropped before this one; the count is not read.
     ///
     /// # Errors
     ///
@@ -99,7 +103,7 @@ impl<'a> EnhancedPacket<'a> {
         packet_of_body(byte_order, false, body)
     }
 
-    /// How many zeros follow the packet in its block.
+    /// The number of zeros after the packet in its block, at most 3.
     ///
     /// <details><summary>Contract</summary>
     ///
@@ -121,12 +125,13 @@ impl<'a> EnhancedPacket<'a> {
         ((32 + packet_len + options_len) % 0x1_0000_0000) as u32
     }
 
-    /// The front of an enhanced packet block: its type and length, interface, time, captured and original length. The bytes of `packet`
-    /// follow, [`padding_len`](Self::padding_len) zeros, those of `options`, whose number should be a multiple of 4, and then
-    /// [`trailer_to_bytes`](Self::trailer_to_bytes).
+    /// The front of an enhanced packet block: block type, total length, interface, time, captured and original length.
+    /// In a file these follow: the bytes of `packet`, [`padding_len`](Self::padding_len) zeros, the bytes of
+    /// `options`, whose number should be a multiple of 4, and [`trailer_to_bytes`](Self::trailer_to_bytes).
     ///
-    /// A packet of more than [`PcapRecord::MAX_CAPTURED_LEN`] bytes is not read back, nor a block of more than
-    /// [`PcapngBlock::MAX_LEN`](crate::ether_pcap::PcapngBlock::MAX_LEN); a length of 4 GiB or more is written modulo 2^32.
+    /// A packet of more than [`PcapRecord::MAX_CAPTURED_LEN`] bytes, or a block of more than
+    /// [`PcapngBlock::MAX_LEN`](crate::ether_pcap::PcapngBlock::MAX_LEN), can be written, but is not read back. A length of 4 GiB
+    /// or more is written modulo 2^32.
     ///
     /// ```
     /// # use etherpeel::*;
@@ -176,7 +181,7 @@ impl<'a> EnhancedPacket<'a> {
         )
     }
 
-    /// The end of an enhanced packet block with this packet: its length.
+    /// The end of the enhanced packet block: its total length again.
     ///
     /// <details><summary>Contract</summary>
     ///
@@ -190,7 +195,8 @@ impl<'a> EnhancedPacket<'a> {
         word(byte_order, self.block_len())
     }
 
-    /// The length in bytes of the frame check sequence at the end of the packet before it was cut, if the option with flags gives it.
+    /// The length in bytes of the frame check sequence at the end of the packet before it was cut, if the packet's
+    /// flags give it: 1 to 15 (bits 5 to 8 of the flags, section 4.3.1).
     ///
     /// <details><summary>Contract</summary>
     ///
@@ -210,7 +216,7 @@ impl<'a> EnhancedPacket<'a> {
     }
 }
 
-/// The packet in a body whose interface has four bytes if `is_enhanced`, and else two.
+/// Reads a body whose interface has four bytes if `is_enhanced`, else two.
 #[inline]
 pub(crate) fn packet_of_body<'a>(
     byte_order: ByteOrder,
@@ -245,7 +251,7 @@ pub(crate) fn packet_of_body<'a>(
     })
 }
 
-/// The number at the front of a body: four bytes if `is_enhanced`, and else two.
+/// The number at the front of a body: four bytes if `is_enhanced`, else two.
 #[inline]
 fn interface_number(byte_order: ByteOrder, is_enhanced: bool, body: &[u8]) -> u32 {
     if is_enhanced {

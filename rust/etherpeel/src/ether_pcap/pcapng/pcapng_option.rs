@@ -11,7 +11,8 @@ pub(crate) struct PcapngOption<'a> {
 }
 
 impl<'a> PcapngOption<'a> {
-    /// The option at the front of a slice. Returns `None` if the slice begins with the end of the options, or ends within an option.
+    /// Reads the option at the front of a slice. Returns `None` if the slice begins with the end of options, or ends
+    /// within an option.
     ///
     /// <details><summary>Contract</summary>
     ///
@@ -56,7 +57,7 @@ impl<'a> PcapngOption<'a> {
     }
 }
 
-/// The bytes from a place on, none if there are fewer.
+/// The bytes from the offset `place` on; none if there are fewer bytes.
 #[inline]
 pub(crate) fn bytes_from(bytes: &[u8], place: usize) -> &[u8] {
     if bytes.len() < place {
@@ -66,7 +67,7 @@ pub(crate) fn bytes_from(bytes: &[u8], place: usize) -> &[u8] {
     }
 }
 
-/// The value of the first option with a code.
+/// The value of the first option with this code.
 #[inline]
 pub(crate) fn option_value(byte_order: ByteOrder, options: &[u8], code: u16) -> Option<&[u8]> {
     let mut rest = options;
@@ -79,7 +80,7 @@ pub(crate) fn option_value(byte_order: ByteOrder, options: &[u8], code: u16) -> 
     None
 }
 
-/// The number in the first option with a code, if its value is four bytes.
+/// The number in the first option with this code, if its value has four bytes.
 #[inline]
 pub(crate) fn u32_option(byte_order: ByteOrder, options: &[u8], code: u16) -> Option<u32> {
     match option_value(byte_order, options, code) {
@@ -88,7 +89,7 @@ pub(crate) fn u32_option(byte_order: ByteOrder, options: &[u8], code: u16) -> Op
     }
 }
 
-/// The number in the first option with a code, if its value is eight bytes.
+/// The number in the first option with this code, if its value has eight bytes.
 #[inline]
 pub(crate) fn u64_option(byte_order: ByteOrder, options: &[u8], code: u16) -> Option<u64> {
     match option_value(byte_order, options, code) {

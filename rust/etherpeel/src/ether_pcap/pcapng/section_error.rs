@@ -24,29 +24,29 @@ use core::fmt;
 pub enum SectionError {
     /// The slice is too short for a type, a length and a byte-order magic.
     Len {
-        /// The length of the three, 12 bytes.
+        /// The length of these three fields, 12 bytes.
         required_len: usize,
         /// The length of the slice.
         len: usize,
     },
-    /// The type of the block, as a number whose first byte is the most significant one.
+    /// The block is not a section header. This is its type, as a big-endian number.
     BlockType(u32),
-    /// The byte-order magic, as a number whose first byte is the most significant one.
+    /// The byte-order magic is wrong in either byte order. This is its value, as a big-endian number.
     Magic(u32),
-    /// The slice does not begin with a block.
+    /// The block of the section header can't be read.
     Block(BlockError),
-    /// The body is too short for its fields.
+    /// The body is too short for the byte-order magic, the version and the section length.
     Body {
-        /// The length of the fields, 16 bytes.
+        /// The length of these fields, 16 bytes.
         required_len: usize,
         /// The length of the body.
         len: usize,
     },
     /// The version of the format is neither 1.0 nor 1.2.
     Version {
-        /// The number before the point.
+        /// The number before the dot.
         major: u16,
-        /// The number after the point.
+        /// The number after the dot.
         minor: u16,
     },
 }

@@ -2,8 +2,8 @@
 
 use crate::ether_pcap::{BodyError, ByteOrder, PcapRecord};
 
-/// A view of the body of a simple packet (draft-ietf-opsawg-pcapng, section 4.4): a packet with no time, captured on the first
-/// interface of its section.
+/// A view of the body of a simple packet (draft-ietf-opsawg-pcapng, section 4.4): a packet without a time, captured on
+/// the first interface of its section.
 ///
 /// ```
 /// # use etherpeel::*;
@@ -23,15 +23,17 @@ use crate::ether_pcap::{BodyError, ByteOrder, PcapRecord};
 /// ```
 #[derive(Clone, Copy, PartialEq, Eq, Debug)]
 pub struct SimplePacket<'a> {
-    /// How many bytes the packet had before it was cut.
+    /// The length of the packet in bytes before it was cut.
     pub original_len: u32,
-    /// The bytes that were captured of the packet.
+    /// The captured bytes of the packet.
     pub packet: &'a [u8],
 }
 
 impl<'a> SimplePacket<'a> {
-    /// Reads the body of a block of type [`PcapngBlock::SIMPLE_PACKET`](crate::ether_pcap::PcapngBlock::SIMPLE_PACKET), in a section whose first
-    /// interface has this snap length, 0 for none. It says how many bytes were captured: the packet's length if that is less.
+    /// Reads the body of a block of type [`PcapngBlock::SIMPLE_PACKET`](crate::ether_pcap::PcapngBlock::SIMPLE_PACKET).
+    ///
+    /// `snap_len` is the snap length of the section's first interface, 0 for no limit. The number of captured bytes is
+    /// the lesser of it and the packet's original length.
     ///
     /// # Errors
     ///
@@ -39,7 +41,8 @@ impl<'a> SimplePacket<'a> {
     ///
     /// - `BodyError::Len`: the body has fewer than 4 bytes. `required_len` is 4, `len` the body's length.
     /// - `BodyError::CapturedLen`: the number of captured bytes, which the error names, is above 262,144.
-    /// - `BodyError::Len`: the body ends within the packet. `required_len` is 4 more than the number of captured bytes.
+    /// - `BodyError::Len`: the body ends within the packet. `required_len` is 4 more than the number of captured
+    ///   bytes.
     ///
     /// <details><summary>Contract</summary>
     ///
@@ -80,7 +83,7 @@ impl<'a> SimplePacket<'a> {
     }
 }
 
-/// How many bytes of a packet are captured with a snap length, where 0 is none.
+/// The number of captured bytes of a packet with this original length. A snap length of 0 is no limit.
 #[inline]
 pub(crate) fn captured_len(snap_len: u32, original_len: u32) -> u32 {
     if snap_len == 0 {

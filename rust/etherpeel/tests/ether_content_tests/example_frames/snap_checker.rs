@@ -5,11 +5,11 @@ use etherpeel::ether_peel::Start;
 
 /// Returns `true` if a capture with this snap length keeps all headers of a frame.
 ///
-/// The headers are those of [`PacketSlice::from_slice`]. The capture holds the first `snap_len` bytes of the frame, or
-/// the whole frame if it is shorter. The payload whose length a SecTag names has to be kept too, since the tag is
-/// refused without it.
+/// The headers are those of [`PacketSlice::from_slice`]. The capture has the first `snap_len` bytes of the frame, or
+/// the whole frame if it is shorter. If a SecTag gives the length of its payload, that payload must be kept, too,
+/// because the tag is refused without it.
 ///
-/// A capture of a frame with a frame check sequence has lost it. The headers are then kept if it is read as a frame
+/// A captured frame has lost its frame check sequence. All headers are kept if they are read from it as from a frame
 /// without one.
 ///
 /// # Examples

@@ -1,4 +1,4 @@
-//! Which packets match, where texts are refused, and the examples of the documentation.
+//! Tests of which packets match and where texts are refused, and the examples of the documentation.
 mod content;
 mod deciding;
 mod examples;

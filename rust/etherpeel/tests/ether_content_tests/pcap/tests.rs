@@ -1,5 +1,5 @@
-//! Small captures, read and edited. Their fields were printed by Wireshark's `tshark`. The rows are in statics: to prove a function
-//! takes longer with each row that it makes.
+//! Small captures, read and edited. Wireshark's `tshark` printed their fields. The rows are statics, because a
+//! function takes longer to prove with each row that it makes.
 mod blocks;
 mod captures;
 mod classic;

@@ -5,7 +5,7 @@ use Rattle.ether_peel.specs.Walker.Start.{start_of}
 use Rattle.ether_peel.proofs.Grammar.Stacks.{some_stack}
 use Rattle.ether_filter.specs.Primitives.{walked}
 use Rattle.ether_filter.specs.Deciding.{Says}
-use Rattle.ether_filter.specs.Programs.{IsProgramOf}
+use Rattle.ether_filter.specs.FilterProgram.{IsProgramOf}
 use Rattle.ether_filter.proofs.Kleene.{knows_so}
 use Rattle.ether_filter.proofs.Completions.{agrees, waits}
 use Rattle.ether_filter.proofs.Waiting.{needs_all}

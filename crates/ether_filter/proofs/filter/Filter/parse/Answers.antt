@@ -2,7 +2,7 @@ use Rattle.std.proofs.Common.{◌≡◌, ap, ◌∙◌, subst, sym}
 use Rattle.ether_filter.specs.Expressions.{Expression}
 use Rattle.ether_filter.specs.Postfix.{expression_of, expression_of-postfix}
 use Rattle.ether_filter.specs.Texts.{IsExpressionOf}
-use Rattle.ether_filter.specs.Programs.{IsProgramOf, nodes_of}
+use Rattle.ether_filter.specs.FilterProgram.{IsProgramOf, nodes_of}
 use Rattle.ether_filter.proofs.ProgramLemmas.{nodes_are}
 use Rattle.ether_filter.proofs.Refused.{text_refused}
 use Rattle.ether_filter.proofs.TextLemmas.{text_means}

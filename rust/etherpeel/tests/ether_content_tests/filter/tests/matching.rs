@@ -1,4 +1,4 @@
-//! Packets that match, by what the words of an expression say.
+//! Which packets match an expression.
 use crate::checks::equal;
 use etherpeel::ether_filter::{Filter, Packet};
 use etherpeel::ether_peel::Start;
@@ -15,7 +15,7 @@ const FRAMES: [&[u8]; 6] = [
     b"\x02\x00\x5E\x10\x00\x02\x02\x00\x5E\x10\x00\x01\x88\xA8\x00\x64\x81\x00\x00\x05\x08\x00\x45",
 ];
 
-/// How many bytes each packet had on the wire.
+/// The number of bytes of each packet on the wire.
 const ORIGINAL_LENS: [u32; 6] = [60, 64, 64, 100, 15, 104];
 
 /// The numbers of the packets that match.
@@ -89,7 +89,7 @@ const FOUR_TAGS: &[u8] =
 const TEN_TAGS: &[u8] =
     b"\x02\x00\x5E\x10\x00\x02\x02\x00\x5E\x10\x00\x01\x81\x00\x00\x01\x81\x00\x00\x02\x81\x00\x00\x03\x81\x00\x00\x04\x81\x00\x00\x05\x81\x00\x00\x06\x81\x00\x00\x07\x81\x00\x00\x08\x81\x00\x00\x09\x81\x00\x00\x0A\x08\x00";
 
-/// VLAN 9 and no more of an ARP packet in a SecTag that leaves its payload readable.
+/// VLAN 9 and the announcement of an ARP packet, in a SecTag that leaves its payload readable.
 const IN_SEC_TAG: &[u8] =
     b"\x02\x00\x5E\x10\x00\x02\x02\x00\x5E\x10\x00\x01\x88\xE5\x00\x00\x00\x00\x00\x01\x81\x00\x00\x09\x08\x06";
 
@@ -100,7 +100,7 @@ const ENCRYPTED: &[u8] =
 /// A broadcast of IPv6 in Linux cooked capture v1, from Ethernet.
 const COOKED: &[u8] = b"\x00\x01\x00\x01\x00\x06\xFF\xFF\xFF\xFF\xFF\xFF\x00\x00\x86\xDD\x60";
 
-/// Less than the fourth tag, and less than the cooked header.
+/// Cuts within the fourth tag, and within the cooked header.
 const FOUR_TAGS_CUT: &[u8] =
     b"\x02\x00\x5E\x10\x00\x02\x02\x00\x5E\x10\x00\x01\x81\x00\x00\x01\x81\x00\x00\x02\x81\x00\x00\x03\x81\x00\x00\x04\x08";
 
@@ -114,7 +114,7 @@ const SLL: Start = Start::LinuxSll;
 
 const TAG: Start = Start::EtherType(EtherType::VLAN_TAGGED_FRAME);
 
-/// A start, a frame, an expression, and whether they match.
+/// A start, a frame, an expression, and whether the frame matches.
 #[rustfmt::skip]
 static OTHER: [(Start, &[u8], &str, bool); 19] = [
     (ETH, FOUR_TAGS, "outer vlan 1 and inner vlan 4", true),

@@ -1,4 +1,4 @@
-//! Texts that are no expression: the place and the kind.
+//! Texts that are not expressions: the offset and the kind of each error.
 use crate::checks::equal;
 use etherpeel::ether_filter::{Filter, FilterError, FilterErrorKind};
 

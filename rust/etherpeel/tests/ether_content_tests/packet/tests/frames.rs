@@ -11,23 +11,23 @@ pub const SECOND_TAG_CUT: [u8; 20] = [
     0x02,
 ];
 
-/// An Ethernet II header with IPv4, and a check sequence.
+/// An Ethernet II header that announces IPv4, a byte of payload, and a check sequence.
 pub const CHECKED: [u8; 19] = [
     0xFF, 0xFF, 0xFF, 0xFF, 0xFF, 0xFF, 2, 0, 0, 0, 0, 1, 0x08, 0x00, 0x45, 0x11, 0x22, 0x33, 0x44,
 ];
 
-/// After the ether type of a VLAN tag: tags with VID 1, 2, 3 and 4, the last with IPv4.
+/// After the ether type of a VLAN tag: tags with VID 1, 2, 3 and 4. The last one announces IPv4.
 pub const FOUR_TAGS: [u8; 16] = [
     0, 1, 0x81, 0x00, 0, 2, 0x81, 0x00, 0, 3, 0x81, 0x00, 0, 4, 0x08, 0x00,
 ];
 
-/// After the ether type of MACsec: a SecTag that names 4 bytes of payload, a VLAN tag with VID 0xABB in these, and 2 bytes
-/// after them.
+/// After the ether type of MACsec: a SecTag whose short length gives 4 bytes of payload, a VLAN tag with VID 0xABB in
+/// these, and 2 bytes after them.
 pub const TAG_IN_SEC_TAG: [u8; 14] = [
     0x00, 0x06, 0x00, 0x00, 0x00, 0x01, 0x81, 0x00, 0xAA, 0xBB, 0xCC, 0xDD, 0xEE, 0xEE,
 ];
 
-/// Sent as composed by hand, and captured: an ARP request of the Linux kernel with a service tag and a customer tag.
+/// An ARP request of the Linux kernel with a service tag and a customer tag: composed by hand, sent, and captured.
 pub const TWICE_TAGGED_ARP_REQUEST: [u8; 50] = [
     0xFF, 0xFF, 0xFF, 0xFF, 0xFF, 0xFF, 0x02, 0x00, 0x5E, 0x10, 0x00, 0x01, 0x88, 0xA8, 0x00, 0x0A,
     0x81, 0x00, 0x00, 0x64, 0x08, 0x06, 0x00, 0x01, 0x08, 0x00, 0x06, 0x04, 0x00, 0x01, 0x02, 0x00,

@@ -1,10 +1,10 @@
-//! How frames begin. The bytes are worked by hand.
+//! The first headers of frames. The bytes were worked out by hand.
 use super::equal;
 use etherpeel::ether_packet::{ethernet_front, outer_vlan};
 use etherpeel::ether_peel::Start;
 use etherpeel::{EtherType, Ethernet2Header, SingleVlanHeader};
 
-/// A frame with a customer tag, which has a frame check sequence if its last four bytes are one.
+/// A frame with a customer tag. Its last four bytes can be read as a frame check sequence.
 const TAGGED: [u8; 22] = [
     0xFF, 0xFF, 0xFF, 0xFF, 0xFF, 0xFF, 0x02, 0x00, 0x00, 0x00, 0x00, 0x01, 0x81, 0x00, // Ethernet II
     0xB1, 0x23, 0x08, 0x00, // VLAN
@@ -17,7 +17,7 @@ const CAPTURED: [u8; 20] = [
     0x00, 0x0A, 0x08, 0x06, // VLAN
 ];
 
-/// Lengths to which the frame is cut, whether it has a whole header then, and its tag.
+/// The length to which the frame is cut, whether its header is then whole, and its tag.
 static CUTS: [(&str, usize, bool, Option<[u8; 4]>); 5] = [
     ("all bytes", 22, true, Some([0xB1, 0x23, 0x08, 0x00])),
     ("18 bytes", 18, true, Some([0xB1, 0x23, 0x08, 0x00])),
@@ -50,13 +50,13 @@ fn a_cut_front_has_the_tag_only_if_it_is_whole() {
     }
 }
 
-/// The captured frame as one of netlink.
+/// The captured frame with the hardware type of netlink.
 const NETLINK: [u8; 20] = [
     0x00, 0x00, 0x03, 0x38, 0x00, 0x06, 0x02, 0x00, 0x00, 0x00, 0x00, 0x01, 0x00, 0x00, 0x88, 0xA8, // cooked capture
     0x00, 0x0A, 0x08, 0x06, // VLAN
 ];
 
-/// A start, a frame from a place to another, and its outer tag.
+/// A start, a frame by its first byte and its end, and its outer tag.
 type Outer = (
     &'static str,
     Start,

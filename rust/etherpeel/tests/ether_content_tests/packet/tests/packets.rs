@@ -1,4 +1,4 @@
-//! The headers of packets, with what is left and the fault, and the least length to which a frame can be cut.
+//! The headers of packets, the rest and the fault, and the least length to which a frame can be cut.
 use super::equal;
 use super::frames::{
     CHECKED, CONFIDENTIALITY, COOKED_ARP_REQUEST, FOUR_TAGS, INTEGRITY, PADDED_ARP, SECOND_TAG_CUT,
@@ -14,7 +14,7 @@ use etherpeel::{
 use crate::kit::Abort;
 use crate::kit::Fail;
 
-/// The fault of a VLAN tag or an Ethernet II header at an offset that lacks bytes.
+/// The length fault of a VLAN tag or an Ethernet II header at an offset.
 fn short(offset: usize, required_len: usize, len: usize, layer: Layer) -> PeelFault {
     PeelFault {
         offset,
@@ -31,7 +31,7 @@ fn short(offset: usize, required_len: usize, len: usize, layer: Layer) -> PeelFa
 
 const MACSEC: Start = Start::EtherType(EtherType::MACSEC);
 
-/// What announces the bytes that are left, if it is no protocol of a cooked capture.
+/// What the rest is announced as, except for a protocol of a cooked capture.
 enum Kind {
     Start,
     EtherType(EtherType),
@@ -48,8 +48,9 @@ fn rest_kind(kind: &Kind) -> RestKind {
     }
 }
 
-/// What is left of a frame and how it ends: the identifiers of the tags, where the rest starts and ends, its kind, the place, the required
-/// length, the length and the layer of a fault, and the least length to which the frame can be cut.
+/// What is left of a frame, and how its walk ends: the identifiers of the tags; the offsets at which the rest starts
+/// and ends, and its kind; the offset, the required length, the length and the layer of a fault; and the least length
+/// to which the frame can be cut.
 struct Left {
     name: &'static str,
     start: Start,
@@ -110,7 +111,7 @@ static ROWS: [Left; 12] = [
     left!("no link after an ether type", Start::EtherType(EtherType::IPV4), &[0x45], &[], (0, 1), IPV4, None, 0),
 ];
 
-/// The packet of a row's frame has these identifiers, this rest, this fault and this least length.
+/// Tests that the packet of a row's frame has these identifiers, this rest, this fault and this least length.
 fn is_left(rt: &impl Abort, row: &Left) {
     let packet = PacketSlice::from_slice(row.start, row.frame);
     let mut numbers = [0; 3];
@@ -118,7 +119,7 @@ fn is_left(rt: &impl Abort, row: &Left) {
         *number = id.value();
     }
     let (start, end) = row.rest;
-    // three tags are followed by a fourth one, with which the frame ends
+    // a fourth tag follows three tags, and the frame ends with it
     let least_of_all = if row.ids.len() == 3 {
         row.frame.len()
     } else {
@@ -213,7 +214,7 @@ fn a_packet_shows_its_link_of_either_kind() -> Result<(), Fail> {
     Ok(())
 }
 
-/// A start, a frame, and the ether type, source of the length and place of its payload.
+/// A start, a frame, and the ether type, the length source and the place of its payload.
 type Payload = (
     &'static str,
     Start,
@@ -256,7 +257,7 @@ fn a_payload_has_its_ether_type_and_the_source_of_its_length() {
     }
 }
 
-/// The bytes of a tag are shown with the frame alone.
+/// `Debug` shows the bytes of a packet once, with the frame, and not again with each tag.
 #[test]
 fn debug_shows_the_bytes_of_a_packet_once() -> Result<(), Fail> {
     let rt = crate::kit::HostRuntime;

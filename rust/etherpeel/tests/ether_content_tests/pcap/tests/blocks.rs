@@ -7,7 +7,7 @@ use etherpeel::ether_pcap::{
 };
 use crate::kit::Fail;
 
-/// Both files with their byte orders.
+/// Both files, with their byte orders.
 const FILES: [(&str, ByteOrder, &[u8; 188]); 2] = [
     ("most significant byte first", ByteOrder::BigEndian, &BIG),
     (
@@ -17,7 +17,7 @@ const FILES: [(&str, ByteOrder, &[u8; 188]); 2] = [
     ),
 ];
 
-/// Where the blocks of both files begin, with their types, and where they end.
+/// The offset at which each block of both files begins, its type, and the offset at which it ends.
 const BLOCKS: [(usize, u32, usize); 5] = [
     (0, 0x0A0D_0D0A, 28),
     (28, 1, 68),
@@ -120,7 +120,7 @@ fn a_body_with_too_many_captured_bytes_is_refused() {
     );
 }
 
-/// Snap lengths that don't cut a simple packet.
+/// Snap lengths that do not cut a simple packet.
 static SNAP_LENS: [(&str, u32); 4] = [
     ("none", 0),
     ("just its length", 3),
@@ -212,7 +212,7 @@ fn a_section_header_decides_the_byte_order() {
     }
 }
 
-/// The bytes of a section header that are changed, from a place on, and why it is refused.
+/// The bytes of a section header that are changed, with the offset of the first, and why the header is refused.
 static REFUSED: [(&str, usize, &[u8], SectionError); 8] = [
     (
         "another type",

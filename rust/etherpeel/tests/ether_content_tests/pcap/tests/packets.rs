@@ -4,7 +4,7 @@ use super::equal;
 use super::pcapng_captures::{BIG, LITTLE};
 use etherpeel::ether_pcap::{CaptureError, CaptureFault, CapturePackets, RecordError};
 
-/// A capture, and the places of its packets.
+/// A capture, and the offset at which each of its packets begins and ends.
 static CAPTURES: [(&str, &[u8], &[(usize, usize)]); 5] = [
     ("microseconds", &BIG_MICROSECONDS, &[(40, 82), (98, 114)]),
     ("check sequence", &LITTLE_FCS, &[(40, 60)]),

@@ -1,0 +1,73 @@
+-- A filter as numbers only: the nodes of its expression, and where the evaluation goes on after each.
+use Rattle.std.specs.Prelude.{◌≡◌, ℕ, ◌%◌, ◌^◌, ◌<◌, ◌≤◌, List, [], ◌∷◌, length, get_or, Option, Some, None, nat_eq, if◌then◌else◌}
+use Rattle.ether_filter.specs.declared.jumps.Jump.{Jump}
+use Rattle.ether_filter.specs.declared.node.Node.{Node}
+use Rattle.ether_filter.specs.declared.node.Node.TheVariants as nodes
+use Rattle.ether_filter.specs.declared.node.Operator.TheVariants as operators
+use Rattle.ether_filter.specs.declared.primitive.Primitive.{Primitive}
+use Rattle.ether_filter.specs.declared.primitive.Primitive.TheVariants as primitives
+use Rattle.ether_filter.specs.declared.instruction.Instruction.{Instruction}
+use Rattle.ether_filter.specs.Expressions.{Expression}
+use Rattle.ether_filter.specs.Postfix.{postfix}
+use Rattle.ether_filter.specs.Jumps.{AreJumps, ArePassed, first_jump, jump_at}
+
+-- the primitive whose kind has this number; some kinds have an operand
+abbrev pub primitive_numbered : (kind operand : ℕ) → Option Primitive
+primitive_numbered kind operand =
+    if nat_eq kind 0 then Some primitives.Vlan
+    else (if nat_eq kind 1 then Some (primitives.VlanId (operand % 2 ^ 16))
+    else (if nat_eq kind 2 then Some (primitives.OuterVlan (operand % 2 ^ 16))
+    else (if nat_eq kind 3 then Some (primitives.InnerVlan (operand % 2 ^ 16))
+    else (if nat_eq kind 4 then Some primitives.Macsec
+    else (if nat_eq kind 5 then Some (primitives.EtherType (operand % 2 ^ 16))
+    else (if nat_eq kind 6 then Some (primitives.Source operand)
+    else (if nat_eq kind 7 then Some (primitives.Destination operand)
+    else (if nat_eq kind 8 then Some (primitives.Host operand)
+    else (if nat_eq kind 9 then Some primitives.Broadcast
+    else (if nat_eq kind 10 then Some primitives.Multicast
+    else (if nat_eq kind 11 then Some primitives.Refused
+    else (if nat_eq kind 12 then Some primitives.Cut
+    else (if nat_eq kind 13 then Some (primitives.Less (operand % 2 ^ 32))
+    else (if nat_eq kind 14 then Some (primitives.Greater (operand % 2 ^ 32))
+    else None))))))))))))))
+
+-- the operator whose kind has this number
+abbrev pub operator_numbered : (kind : ℕ) → Option Node
+operator_numbered kind =
+    if nat_eq kind 15 then Some nodes.Not
+    else (if nat_eq kind 16 then Some (nodes.Join operators.And)
+    else (if nat_eq kind 17 then Some (nodes.Join operators.Or) else None))
+
+-- the primitive if there is one, else the operator
+abbrev pub test_or : Option Primitive → Option Node → Option Node
+test_or (Some primitive) operator = Some (nodes.Test primitive)
+test_or None operator = operator
+
+abbrev pub node_numbered : (kind operand : ℕ) → Option Node
+node_numbered kind operand = test_or (primitive_numbered kind operand) (operator_numbered kind)
+
+-- the instruction of a node
+pub record IsInstruction (n : Node) (j : Jump) (past : ℕ) (s : Instruction) : Type 0 where
+  pub node : node_numbered s.kind s.operand ≡ Some n
+  pub jump : s.jump ≡ j
+  pub past_tags : s.past_tags ≡ past
+
+-- the instructions of an expression: one for each of its nodes, in postfix order
+pub record IsProgramOf (instructions : List Instruction) (x : Expression) : Type 0 where
+  pub jumps : List Jump
+  pub past : List ℕ
+  pub are_jumps : AreJumps jumps 0 x first_jump
+  pub are_passed : ArePassed (postfix x) jumps past
+  pub few : length instructions ≤ 192
+  pub count : length instructions ≡ length (postfix x)
+  pub each : (i : ℕ) → i < length instructions → (d : Node) (e : Instruction)
+      → IsInstruction (get_or (postfix x) i d) (jump_at jumps i) (get_or past i 0) (get_or instructions i e)
+
+-- the nodes of instructions
+abbrev pub with_node : Option Node → List Node → List Node
+with_node None ns = ns
+with_node (Some n) ns = n ∷ ns
+
+abbrev pub nodes_of : List Instruction → List Node
+nodes_of [] = []
+nodes_of (s ∷ instructions) = with_node (node_numbered s.kind s.operand) (nodes_of instructions)

@@ -1,0 +1,239 @@
+//! Runs the instructions of a filter on packets: for filters that are kept in memory of the caller.
+ghost use Rattle.std.specs.Prelude.{◌≡◌, ◌↔◌, ◌+◌, ◌<◌, ◌≤◌, ◌&&◌, ℕ, List, Bool, true, false, IsTrue, Some, length, reverse};
+ghost use Rattle.arrayvec.specs.ArrayVec.{array_vec_len};
+ghost use Rattle.etherparse.specs.Bytes.{IsBytes};
+ghost use Rattle.etherparse.specs.Header.{Header};
+ghost use Rattle.ether_peel.specs.Grammar.Stack.{Ending, Walk};
+ghost use Rattle.ether_peel.specs.Walker.Start.{start_of, next_of};
+ghost use Rattle.ether_filter.specs.Primitives.{walked, Matches};
+ghost use Rattle.ether_filter.specs.Jumps.{LeadsOn};
+ghost use Rattle.ether_filter.specs.Expressions.{Expression, Holds};
+ghost use Rattle.ether_filter.specs.Postfix.{postfix, pushed};
+ghost use Rattle.ether_filter.specs.FilterProgram.{IsProgramOf};
+ghost use Rattle.ether_filter.specs.Evaluation.{AreValues, IsOpening, IsValue};
+ghost use Rattle.ether_filter.specs.Seen.{IsSeen, asks_headers as asks_headers_of};
+ghost use Rattle.ether_filter.specs.Deciding.{Says};
+
+use crate::deciding::{Opening, find_opening, joined_value, known};
+use crate::decision::Decision;
+use crate::filter::MAX_WORDS;
+use crate::instruction::Instruction;
+use crate::jumps::{HOLDS, jumps_of, past_tags};
+use crate::matching::{matches_primitive, matches_walked};
+use crate::node::Node;
+use crate::packet::Packet;
+use crate::primitive::Primitive;
+use crate::seen::{Seen, Tags, look, tags_seen};
+use arrayvec::ArrayVec;
+use ether_peel::Start;
+
+/// Returns `true` if a packet matches the filter of these instructions, as [`Filter::matches`](crate::Filter::matches)
+/// says.
+///
+/// If the instructions are not those of a filter, nothing is claimed of the result.
+///
+/// ```
+/// let frame = [
+///     0xFF, 0xFF, 0xFF, 0xFF, 0xFF, 0xFF, 0x02, 0x00, 0x00, 0x00, 0x00, 0x01, 0x81, 0x00, // Ethernet II
+///     0x00, 0x05, 0x08, 0x06, // VLAN
+/// ];
+/// let packet = Packet {
+///     start: Start::Ethernet2,
+///     frame: &frame,
+///     captured_len: 18,
+///     original_len: 64,
+/// };
+/// let filter = Filter::parse(b"vlan 5 and not ip")?;
+/// assert!(rt; filter_program::matches(filter.instructions(), &packet));
+/// ```
+pub fn matches(instructions: &[Instruction], packet: &Packet<'_>) -> bool
+    ensures { (x : Expression) → IsProgramOf instructions.now x → (hs : List Header) (e : Ending)
+        → Walk (start_of packet.now.start) packet.now.frame.now hs e → IsTrue result ↔ Holds x (walked packet.now hs e) }
+{
+    if let [instruction] = instructions {
+        if let Some(primitive) = instruction.primitive() {
+            return matches_walked(&primitive, packet);
+        }
+    }
+    matches_by_jumps(instructions, packet)
+}
+
+/// Whether a packet matches, by what one walk shows for all primitives.
+fn matches_by_jumps(instructions: &[Instruction], packet: &Packet<'_>) -> bool
+    ensures { (x : Expression) → IsProgramOf instructions.now x → (hs : List Header) (e : Ending)
+        → Walk (start_of packet.now.start) packet.now.frame.now hs e → IsTrue result ↔ Holds x (walked packet.now hs e) }
+{
+    let seen = look_for(instructions, packet.start, packet.frame);
+    let tags = tags_seen(&seen);
+    let mut at = past_misses(instructions, 0, tags);
+    while at < instructions.len() {
+        let instruction = &instructions[at];
+        let Some(primitive) = instruction.primitive() else {
+            return false; // not reached: each jump leads to a primitive
+        };
+        let next = instruction
+            .jump
+            .after(matches_primitive(&primitive, packet, &seen));
+        if next <= at {
+            return false; // not reached: each jump leads forward
+        }
+        at = past_misses(instructions, next, tags);
+    }
+    at == usize::from(HOLDS)
+}
+
+/// Where the evaluation goes on from the index `begin`, past primitives that these VLAN tags don't match.
+#[inline]
+fn past_misses(instructions: &[Instruction], begin: usize, tags: Tags) -> usize
+    ensures forward { begin ≤ result }
+    ensures reaches { (x : Expression) (p : IsProgramOf instructions.now x) → LeadsOn x p.jumps tags begin result }
+{
+    match tags {
+        Tags::Untagged => past_all(instructions, begin),
+        Tags::One(id) => past_others(instructions, begin, id),
+        Tags::Any => begin,
+    }
+}
+
+/// .. past primitives that ask for VLAN tags, if there are none.
+fn past_all(instructions: &[Instruction], begin: usize) -> usize
+    ensures forward { begin ≤ result }
+    ensures reaches { (x : Expression) (p : IsProgramOf instructions.now x) → LeadsOn x p.jumps Tags.Untagged begin result }
+{
+    let mut at = begin;
+    while at < instructions.len() && instructions[at].asks_tags() {
+        let next = usize::from(instructions[at].past_tags);
+        if next <= at {
+            return at; // not reached: each jump leads forward
+        }
+        at = next;
+    }
+    at
+}
+
+/// .. past primitives that ask for another identifier than that of the only VLAN tag.
+fn past_others(instructions: &[Instruction], begin: usize, id: u16) -> usize
+    ensures forward { begin ≤ result }
+    ensures reaches { (x : Expression) (p : IsProgramOf instructions.now x) → LeadsOn x p.jumps (Tags.One id) begin result }
+{
+    let mut at = begin;
+    while at < instructions.len() && instructions[at].asks_other_id(id) {
+        let next = instructions[at].jump.after(false);
+        if next <= at {
+            return at; // not reached: each jump leads forward
+        }
+        at = next;
+    }
+    at
+}
+
+/// Decides whether a packet matches the filter of these instructions if some of its bytes may be missing, as
+/// [`Filter::decide`](crate::Filter::decide) says.
+///
+/// If the instructions are not those of a filter, nothing is claimed of the result.
+pub fn decide(instructions: &[Instruction], packet: &Packet<'_>) -> Decision
+    ensures says { (x : Expression) → IsProgramOf instructions.now x → (hs : List Header) (e : Ending)
+        → Walk (start_of packet.now.start) packet.now.frame.now hs e
+        → (d : Decision) → (result ≡ d) ↔ Says packet.now hs e x d }
+    ensures bytes { IsBytes packet.now.frame.now }
+{
+    let opening = find_opening(packet);
+    let seen = look_for(instructions, packet.start, packet.frame);
+    let mut values = ArrayVec::new();
+    for instruction in instructions {
+        if values.is_full() {
+            return Decision::Fails; // not reached: a filter has at most as many instructions as there is room for
+        }
+        let Some(node) = instruction.node() else {
+            return Decision::Fails; // not reached: each instruction has a node
+        };
+        decide_node(&mut values, node, packet, &seen, opening);
+    }
+    decision(values.pop().unwrap_or(None), opening)
+}
+
+/// The instructions of an expression's nodes.
+pub(crate) fn instructions_of(nodes: &[Node]) -> ArrayVec<Instruction, MAX_WORDS>
+    requires { length nodes.now ≤ MAX_WORDS }
+    ensures { (x : Expression) → nodes.now ≡ postfix x → IsProgramOf result.items x }
+{
+    let jumps = jumps_of(nodes);
+    let past_tags = past_tags(nodes, &jumps);
+    let mut instructions = ArrayVec::new();
+    for (at, node) in nodes.iter().enumerate() {
+        instructions.push(Instruction::of(*node, jumps[at], past_tags[at]));
+    }
+    instructions
+}
+
+/// What the headers of a packet show. `None` if no instruction asks for headers, or if there is no room for what they
+/// show.
+#[inline]
+fn look_for(instructions: &[Instruction], start: Start, frame: &[u8]) -> Option<Seen>
+    ensures bytes { IsBytes frame.now }
+    ensures seen { (hs : List Header) (e : Ending) → Walk (start_of start) frame.now hs e → IsSeen (next_of start) hs e result }
+{
+    for instruction in instructions {
+        if let Some(primitive) = instruction.primitive() {
+            if asks_headers(primitive) {
+                return look(start, frame);
+            }
+        }
+    }
+    None
+}
+
+/// Whether a primitive asks for headers.
+fn asks_headers(primitive: Primitive) -> bool
+    ensures { result ≡ asks_headers_of primitive }
+{
+    !matches!(
+        primitive,
+        Primitive::Cut | Primitive::Less(_) | Primitive::Greater(_)
+    )
+}
+
+/// The decision on an expression with this value, where `None` is unknown.
+fn decision(value: Option<bool>, opening: Option<Opening>) -> Decision
+    ensures { (packet : Packet) (hs : List Header) (e : Ending) (x : Expression) → IsOpening packet e opening → IsValue packet hs e value x
+        → Says packet hs e x result }
+{
+    match (value, opening) {
+        (Some(true), _) => Decision::Matches,
+        (Some(false), _) => Decision::Fails,
+        (None, Some(opening)) => Decision::Needs(opening.needed),
+        (None, None) => Decision::Fails, // not reached: without an opening every primitive is known
+    }
+}
+
+/// Evaluates one postfix node: pops its operands' values and pushes its own.
+fn decide_node(
+    values: &mut ArrayVec<Option<bool>, MAX_WORDS>,
+    node: Node,
+    packet: &Packet<'_>,
+    seen: &Option<Seen>,
+    opening: Option<Opening>,
+)
+    requires { array_vec_len values.old < MAX_WORDS }
+    ensures len { array_vec_len values.new ≤ array_vec_len values.old + 1 }
+    ensures values { (hs : List Header) (e : Ending) → Walk (start_of packet.now.start) packet.now.frame.now hs e
+        → IsSeen (next_of packet.now.start) hs e seen.now → IsOpening packet.now e opening
+        → (xs : List Expression) → AreValues (IsValue packet.now hs e) (reverse values.old.items) xs
+        → AreValues (IsValue packet.now hs e) (reverse values.new.items) (pushed xs node) }
+{
+    match node {
+        Node::Test(primitive) => values.push(known(primitive, packet, seen, opening)),
+        Node::Not => {
+            if let Some(value) = values.pop() {
+                values.push(value.map(|truth| !truth));
+            }
+        }
+        Node::Join(operator) => {
+            let right = values.pop();
+            let left = values.pop();
+            if let (Some(left), Some(right)) = (left, right) {
+                values.push(joined_value(operator, left, right));
+            }
+        }
+    }
+}

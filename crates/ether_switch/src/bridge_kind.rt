@@ -1,0 +1,39 @@
+//! `BridgeKind`: customer bridges and provider bridges.
+ghost use Rattle.std.specs.Prelude.{◌≡◌};
+ghost use Rattle.ether_switch.specs.BridgeKinds.{tpid_of, is_reserved as is_reserved_by};
+
+use etherparse::EtherType;
+
+/// A kind of bridge, by the tags that it reads and writes. A tag of the other kind is payload for it.
+#[derive(Clone, Copy, PartialEq, Eq, Debug)]
+pub enum BridgeKind {
+    /// A bridge with customer tags, which 0x8100 announces.
+    Customer,
+    /// A provider bridge, with service tags, which 0x88A8 announces.
+    Provider,
+}
+
+impl BridgeKind {
+    /// The ether type that announces a tag of the bridge (IEEE 802.1Q, table 9-1).
+    pub fn tpid(self) -> EtherType
+        ensures { result.0 ≡ tpid_of self }
+    {
+        match self {
+            BridgeKind::Customer => EtherType::VLAN_TAGGED_FRAME,
+            BridgeKind::Provider => EtherType::PROVIDER_BRIDGING,
+        }
+    }
+
+    /// Whether the bridge forwards no frame to this address, a number of 48 bits (IEEE 802.1Q, tables 8-1 and 8-2).
+    pub(crate) fn reserves(self, address: u64) -> bool
+        ensures { result ≡ is_reserved_by self address }
+    {
+        if address / 16 != 0x0180C200000 {
+            return false;
+        }
+        match self {
+            BridgeKind::Customer => true,
+            BridgeKind::Provider => matches!(address % 16, 1..=10 | 14),
+        }
+    }
+}

@@ -1,0 +1,225 @@
+//! Runs the instructions of a filter on packets: for filters that are kept in memory of the caller.
+
+use crate::ether_filter::deciding::{Opening, find_opening, joined_value, known};
+use crate::ether_filter::decision::Decision;
+use crate::ether_filter::filter::MAX_WORDS;
+use crate::ether_filter::instruction::Instruction;
+use crate::ether_filter::jumps::{HOLDS, jumps_of, past_tags};
+use crate::ether_filter::matching::{matches_primitive, matches_walked};
+use crate::ether_filter::node::Node;
+use crate::ether_filter::packet::Packet;
+use crate::ether_filter::primitive::Primitive;
+use crate::ether_filter::seen::{Seen, Tags, look, tags_seen};
+use arrayvec::ArrayVec;
+use crate::ether_peel::Start;
+
+/// Returns `true` if a packet matches the filter of these instructions, as [`Filter::matches`](crate::ether_filter::Filter::matches)
+/// says.
+///
+/// If the instructions are not those of a filter, nothing is claimed of the result.
+///
+/// ```
+/// # use etherpeel::*;
+/// # use etherpeel::ether_peel::*;
+/// # use etherpeel::ether_sll2::*;
+/// # use etherpeel::ether_packet::*;
+/// # use etherpeel::ether_filter::*;
+/// # use etherpeel::ether_filter::filter_program::*;
+/// # fn main() -> Result<(), Box<dyn std::error::Error>> {
+/// let frame = [
+///     0xFF, 0xFF, 0xFF, 0xFF, 0xFF, 0xFF, 0x02, 0x00, 0x00, 0x00, 0x00, 0x01, 0x81, 0x00, // Ethernet II
+///     0x00, 0x05, 0x08, 0x06, // VLAN
+/// ];
+/// let packet = Packet {
+///     start: Start::Ethernet2,
+///     frame: &frame,
+///     captured_len: 18,
+///     original_len: 64,
+/// };
+/// let filter = Filter::parse(b"vlan 5 and not ip")?;
+/// assert!(filter_program::matches(filter.instructions(), &packet));
+/// # Ok(())
+/// # }
+/// ```
+///
+/// <details><summary>Contract</summary>
+///
+/// ```text
+/// ensures { (x : Expression) → IsProgramOf instructions.now x → (hs : List Header) (e : Ending)
+///     → Walk (start_of packet.now.start) packet.now.frame.now hs e → IsTrue result ↔ Holds x (walked packet.now hs e) }
+/// ```
+///
+/// </details>
+#[inline]
+pub fn matches(instructions: &[Instruction], packet: &Packet<'_>) -> bool {
+    if let [instruction] = instructions {
+        if let Some(primitive) = instruction.primitive() {
+            return matches_walked(&primitive, packet);
+        }
+    }
+    matches_by_jumps(instructions, packet)
+}
+
+/// Whether a packet matches, by what one walk shows for all primitives.
+#[inline]
+fn matches_by_jumps(instructions: &[Instruction], packet: &Packet<'_>) -> bool {
+    let seen = look_for(instructions, packet.start, packet.frame);
+    let tags = tags_seen(&seen);
+    let mut at = past_misses(instructions, 0, tags);
+    while at < instructions.len() {
+        let instruction = &instructions[at];
+        let Some(primitive) = instruction.primitive() else {
+            return false; // not reached: each jump leads to a primitive
+        };
+        let next = instruction
+            .jump
+            .after(matches_primitive(&primitive, packet, &seen));
+        if next <= at {
+            return false; // not reached: each jump leads forward
+        }
+        at = past_misses(instructions, next, tags);
+    }
+    at == usize::from(HOLDS)
+}
+
+/// Where the evaluation goes on from the index `begin`, past primitives that these VLAN tags don't match.
+#[inline]
+fn past_misses(instructions: &[Instruction], begin: usize, tags: Tags) -> usize {
+    match tags {
+        Tags::Untagged => past_all(instructions, begin),
+        Tags::One(id) => past_others(instructions, begin, id),
+        Tags::Any => begin,
+    }
+}
+
+/// .. past primitives that ask for VLAN tags, if there are none.
+#[inline]
+fn past_all(instructions: &[Instruction], begin: usize) -> usize {
+    let mut at = begin;
+    while at < instructions.len() && instructions[at].asks_tags() {
+        let next = usize::from(instructions[at].past_tags);
+        if next <= at {
+            return at; // not reached: each jump leads forward
+        }
+        at = next;
+    }
+    at
+}
+
+/// .. past primitives that ask for another identifier than that of the only VLAN tag.
+#[inline]
+fn past_others(instructions: &[Instruction], begin: usize, id: u16) -> usize {
+    let mut at = begin;
+    while at < instructions.len() && instructions[at].asks_other_id(id) {
+        let next = instructions[at].jump.after(false);
+        if next <= at {
+            return at; // not reached: each jump leads forward
+        }
+        at = next;
+    }
+    at
+}
+
+/// Decides whether a packet matches the filter of these instructions if some of its bytes may be missing, as
+/// [`Filter::decide`](crate::ether_filter::Filter::decide) says.
+///
+/// If the instructions are not those of a filter, nothing is claimed of the result.
+///
+/// <details><summary>Contract</summary>
+///
+/// ```text
+/// ensures says { (x : Expression) → IsProgramOf instructions.now x → (hs : List Header) (e : Ending)
+///     → Walk (start_of packet.now.start) packet.now.frame.now hs e
+///     → (d : Decision) → (result ≡ d) ↔ Says packet.now hs e x d }
+/// ensures bytes { IsBytes packet.now.frame.now }
+/// ```
+///
+/// </details>
+#[inline]
+pub fn decide(instructions: &[Instruction], packet: &Packet<'_>) -> Decision {
+    let opening = find_opening(packet);
+    let seen = look_for(instructions, packet.start, packet.frame);
+    let mut values = ArrayVec::new();
+    for instruction in instructions {
+        if values.is_full() {
+            return Decision::Fails; // not reached: a filter has at most as many instructions as there is room for
+        }
+        let Some(node) = instruction.node() else {
+            return Decision::Fails; // not reached: each instruction has a node
+        };
+        decide_node(&mut values, node, packet, &seen, opening);
+    }
+    decision(values.pop().unwrap_or(None), opening)
+}
+
+/// The instructions of an expression's nodes.
+#[inline]
+pub(crate) fn instructions_of(nodes: &[Node]) -> ArrayVec<Instruction, MAX_WORDS> {
+    let jumps = jumps_of(nodes);
+    let past_tags = past_tags(nodes, &jumps);
+    let mut instructions = ArrayVec::new();
+    for (at, node) in nodes.iter().enumerate() {
+        instructions.push(Instruction::of(*node, jumps[at], past_tags[at]));
+    }
+    instructions
+}
+
+/// What the headers of a packet show. `None` if no instruction asks for headers, or if there is no room for what they
+/// show.
+#[inline]
+fn look_for(instructions: &[Instruction], start: Start, frame: &[u8]) -> Option<Seen> {
+    for instruction in instructions {
+        if let Some(primitive) = instruction.primitive() {
+            if asks_headers(primitive) {
+                return look(start, frame);
+            }
+        }
+    }
+    None
+}
+
+/// Whether a primitive asks for headers.
+#[inline]
+fn asks_headers(primitive: Primitive) -> bool {
+    !matches!(
+        primitive,
+        Primitive::Cut | Primitive::Less(_) | Primitive::Greater(_)
+    )
+}
+
+/// The decision on an expression with this value, where `None` is unknown.
+#[inline]
+fn decision(value: Option<bool>, opening: Option<Opening>) -> Decision {
+    match (value, opening) {
+        (Some(true), _) => Decision::Matches,
+        (Some(false), _) => Decision::Fails,
+        (None, Some(opening)) => Decision::Needs(opening.needed),
+        (None, None) => Decision::Fails, // not reached: without an opening every primitive is known
+    }
+}
+
+/// Evaluates one postfix node: pops its operands' values and pushes its own.
+#[inline]
+fn decide_node(
+    values: &mut ArrayVec<Option<bool>, MAX_WORDS>,
+    node: Node,
+    packet: &Packet<'_>,
+    seen: &Option<Seen>,
+    opening: Option<Opening>,
+) {
+    match node {
+        Node::Test(primitive) => values.push(known(primitive, packet, seen, opening)),
+        Node::Not => {
+            if let Some(value) = values.pop() {
+                values.push(value.map(|truth| !truth));
+            }
+        }
+        Node::Join(operator) => {
+            let right = values.pop();
+            let left = values.pop();
+            if let (Some(left), Some(right)) = (left, right) {
+                values.push(joined_value(operator, left, right));
+            }
+        }
+    }
+}
