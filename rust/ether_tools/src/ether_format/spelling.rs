@@ -152,9 +152,16 @@ pub(crate) fn mac_text(address: [u8; 6]) -> [u8; 17] {
 /// Writes a moment as in ISO 8601.
 pub(crate) fn write_moment<W: Sink>(moment: &Moment, out: &mut OutputBuffer<'_, W>) {
     write_date(moment, out);
-    out.append(b".");
-    out.append_array(nine_digits(moment.nanoseconds));
-    out.append(b"Z");
+    out.append_array(fraction(moment.nanoseconds));
+}
+
+/// What follows the second of a moment: its nine decimals, and the Z of UTC.
+#[inline(always)]
+fn fraction(nanoseconds: u32) -> [u8; 11] {
+    let d = nine_digits(nanoseconds);
+    [
+        b'.', d[0], d[1], d[2], d[3], d[4], d[5], d[6], d[7], d[8], b'Z',
+    ]
 }
 
 /// Writes a date and a time of day.
