@@ -27,17 +27,17 @@ use Rattle.ether_stream.specs.declared.usage.Usage.TheVariants as usages
 use Rattle.ether_stream.specs.declared.usage.ValueOption.TheVariants as value_options
 use Rattle.ether_stream.specs.Task.{TaskValue, FormValue, Lines, Copy, task_view}
 use Rattle.ether_capture.specs.WrongWords.{IsUsageOf, flag_names, option_names}
-use Rattle.ether_capture.specs.declared.asked.Asked.{Asked}
-use Rattle.ether_capture.specs.declared.asked.Heading.{Heading}
-use Rattle.ether_capture.specs.declared.asked.Heading.TheVariants.{Absent, Line, Statistics}
+use Rattle.ether_capture.specs.declared.request.Asked.{Asked}
+use Rattle.ether_capture.specs.declared.request.Heading.{Heading}
+use Rattle.ether_capture.specs.declared.request.Heading.TheVariants.{Absent, Line, Statistics}
 use Rattle.ether_capture.specs.declared.statistics_format.StatisticsFormat.{StatisticsFormat}
 use Rattle.ether_capture.specs.declared.statistics_format.StatisticsFormat.TheVariants as counts
-use Rattle.ether_capture.specs.declared.asked.Listing.{Listing}
+use Rattle.ether_capture.specs.declared.request.Listing.{Listing}
 use Rattle.ether_stream.specs.declared.task.LineOptions.{LineOptions}
-use Rattle.ether_capture.specs.declared.asked.RequestError.{RequestError}
-use Rattle.ether_capture.specs.declared.asked.RequestError.TheVariants as reasons
-use Rattle.ether_capture.specs.declared.asked.Request.{Request}
-use Rattle.ether_capture.specs.declared.asked.Request.TheVariants as requests
+use Rattle.ether_capture.specs.declared.request.RequestError.{RequestError}
+use Rattle.ether_capture.specs.declared.request.RequestError.TheVariants as reasons
+use Rattle.ether_capture.specs.declared.request.Request.{Request}
+use Rattle.ether_capture.specs.declared.request.Request.TheVariants as requests
 
 -- the lines of the captures in the files of these names
 pub record ListingValue : Type 0 where

@@ -4,10 +4,10 @@ use Rattle.std.specs.Vec.Iter.{into_iter_items}
 use Rattle.std.specs.declared.vec.IntoIter.{IntoIter}
 use Rattle.std.specs.Io.KnownBytes.{Appends}
 use Rattle.ether_capture.specs.Options.{RequestValue, Run, Lists, Help, Version, NamesRequest, RefusesWords, columns_in, heading_in, statistics_asked}
-use Rattle.ether_capture.specs.declared.asked.RequestError.{RequestError}
-use Rattle.ether_capture.specs.declared.asked.RequestError.TheVariants as reasons
+use Rattle.ether_capture.specs.declared.request.RequestError.{RequestError}
+use Rattle.ether_capture.specs.declared.request.RequestError.TheVariants as reasons
 use Rattle.ether_capture.specs.Copies.{HasRead, IsCopied}
-use Rattle.ether_capture.specs.Files.{HasListed}
+use Rattle.ether_capture.specs.SeveralFiles.{HasListed}
 use Rattle.ether_stream.specs.Run.{IfSettled}
 use Rattle.ether_stream.specs.Task.{TaskValue}
 use Rattle.ether_stream.specs.Outcome.{last_bytes, last_text, is_message, status_of_program}

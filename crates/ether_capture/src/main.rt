@@ -5,33 +5,33 @@
 //! and why something was not read or written to standard error.
 #![tactic(auto)]
 
-pub mod asked;
+pub mod capture_files;
 pub mod captures;
 pub mod copies;
 pub mod copy_files;
 pub mod copy_run;
 pub mod count;
 pub mod count_table;
-pub mod files;
 pub mod heap_memory;
 pub mod heap_text;
 pub mod interface_buffer;
 pub mod journal;
 pub mod laws;
-pub mod meter;
-pub mod opening;
 pub mod options;
 pub mod program;
+pub mod progress_line;
+pub mod request;
 pub mod rows;
 pub mod run_input;
+pub mod several_files;
 pub mod statistics;
 pub mod statistics_format;
 pub mod wrong_words;
 
+use capture_files::CaptureFiles;
 use copy_files::CopyFiles;
 use ether_text::{Noted, tell_failure};
-use meter::{Gauge, Meter};
-use opening::CaptureFiles;
+use progress_line::{Gauge, Meter};
 use std::process::ExitCode;
 use std::{env, io};
 

@@ -6,7 +6,7 @@ ghost use Rattle.ether_content.specs.Editing.{EditValue};
 ghost use Rattle.ether_content.specs.EditingViews.{edit_view};
 ghost use Rattle.ether_capture.specs.Options.{Asks, IsEdit, IsWrongEditOf, KindNames, NamesRequest, RefusesKind, RefusesRows, RefusesWords, asked_view, capture_app, file_rule, flag_rule, is_set, letter_rule, option_rule, request_view};
 
-use crate::asked::{Asked, Request, RequestError, counted_of};
+use crate::request::{Asked, Request, RequestError, counted_of};
 use crate::wrong_words::usage_of;
 use clap::error::ErrorKind;
 use clap::{Arg, ArgAction, ArgMatches, Command};
@@ -16,7 +16,7 @@ use std::alloc::{AllocError, Global};
 use std::env;
 
 impl<'a> From<AllocError> for RequestError<'a> {
-    ghost use Rattle.ether_capture.specs.declared.asked.RequestError.TheVariants.{Memory};
+    ghost use Rattle.ether_capture.specs.declared.request.RequestError.TheVariants.{Memory};
 
     ghost from_gives = { λ _ error. error ≡ Memory };
 

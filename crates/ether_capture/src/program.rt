@@ -3,21 +3,21 @@ ghost use Rattle.std.specs.Prelude.{◌≡◌, ◌≢◌, ◌⊎◌, Bool, true,
 ghost use Rattle.std.specs.Option.{option_map};
 ghost use Rattle.ether_stream.specs.Outcome.{is_message, status_of_program};
 ghost use Rattle.ether_capture.specs.Program.{HasDone, HasHeaded, HasObeyed, HasRunFile, HasRunJob, HasServed, IfGone, heading_if, PrintsApart, PrintsLast, arguments_of};
-ghost use Rattle.ether_capture.specs.Files.{Settles};
+ghost use Rattle.ether_capture.specs.SeveralFiles.{Settles};
 ghost use Rattle.ether_capture.specs.Options.{request_view, statistics_asked};
 ghost use Rattle.std.specs.Io.KnownBytes.{Appends};
 ghost use Rattle.ether_format.specs.declared.columns.Columns.{Columns as ColumnsValue};
 ghost use Rattle.std.specs.Prelude.{OnErr, OnOk};
 ghost use Rattle.ether_stream.specs.Task.{task_view};
 
-use crate::asked::{Job, Request, RequestError};
 use crate::captures::Captures;
 use crate::copies::Copies;
 use crate::copy_run::{copy_file, copy_input};
-use crate::files::run_files;
 use crate::journal::Journal;
 use crate::options::request_of_words;
+use crate::request::{Job, Request, RequestError};
 use crate::run_input::run_input;
+use crate::several_files::run_files;
 use crate::statistics::Statistics;
 use ether_format::Columns;
 use ether_stream::{LineSink, Outcome, RunFault, Task, is_message, last_line, program_status};

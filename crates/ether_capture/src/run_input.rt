@@ -4,7 +4,7 @@ ghost use Rattle.ether_text.specs.Run.{IsEndless};
 ghost use Rattle.ether_stream.specs.Counting.{AreCounted, HasCounted};
 ghost use Rattle.ether_stream.specs.Run.{HasNoMemory, HasRun, IfSettled, OnStreamFault};
 ghost use Rattle.ether_stream.specs.Task.{task_view};
-ghost use Rattle.ether_capture.specs.Files.{Settles};
+ghost use Rattle.ether_capture.specs.SeveralFiles.{Settles};
 
 use crate::heap_memory::HeapMemory;
 use crate::interface_buffer::InterfaceBuffer;

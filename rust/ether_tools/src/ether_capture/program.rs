@@ -1,13 +1,13 @@
 //! The program, over any arguments, files, reader and writer.
 
-use crate::ether_capture::asked::{Job, Request, RequestError};
 use crate::ether_capture::captures::Captures;
 use crate::ether_capture::copies::Copies;
 use crate::ether_capture::copy_run::{copy_file, copy_input};
-use crate::ether_capture::files::run_files;
 use crate::ether_capture::journal::Journal;
 use crate::ether_capture::options::request_of_words;
+use crate::ether_capture::request::{Job, Request, RequestError};
 use crate::ether_capture::run_input::run_input;
+use crate::ether_capture::several_files::run_files;
 use crate::ether_capture::statistics::Statistics;
 use crate::ether_format::Columns;
 use crate::ether_stream::{LineSink, Outcome, RunFault, Task, is_message, last_line, program_status};

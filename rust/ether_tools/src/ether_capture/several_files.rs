@@ -1,7 +1,7 @@
 //! Reads several captures, one after the other.
 
-use crate::ether_capture::asked::Listing;
 use crate::ether_capture::captures::Captures;
+use crate::ether_capture::request::Listing;
 use crate::ether_capture::run_input::run_input;
 use crate::ether_stream::{
     FileEnd, Form, LineSink, PacketCounts, RunFault, Task, line_of_file, status_of_file,

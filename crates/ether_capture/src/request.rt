@@ -26,7 +26,7 @@ pub enum RequestError<'a> {
 }
 
 impl<'a> From<Usage<'a>> for RequestError<'a> {
-    ghost use Rattle.ether_capture.specs.declared.asked.RequestError.TheVariants as reasons;
+    ghost use Rattle.ether_capture.specs.declared.request.RequestError.TheVariants as reasons;
 
     ghost from_gives = { λ usage error. error ≡ reasons.Usage usage };
 

@@ -4,7 +4,7 @@ ghost use Rattle.std.specs.IoError.{error_kind};
 ghost use Rattle.ether_capture.specs.Captures.{open_fault_of};
 
 use crate::captures::Captures;
-use crate::meter::{Gauge, Meter};
+use crate::progress_line::{Gauge, Meter};
 use ether_stream::OpenFault;
 use std::fs::OpenFile;
 use std::io::{ErrorKind, Write};

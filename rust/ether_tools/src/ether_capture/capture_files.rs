@@ -1,6 +1,6 @@
 //! Opens captures in the file system. Written by hand, not proved.
 use crate::ether_capture::captures::Captures;
-use crate::ether_capture::meter::{Gauge, Meter};
+use crate::ether_capture::progress_line::{Gauge, Meter};
 use crate::ether_stream::OpenFault;
 use std::fs::File;
 use std::io::{Error, ErrorKind};

@@ -14,7 +14,7 @@ use Rattle.ether_stream.specs.Run.{HasRunOver, HasNoMemory, OnStreamFault}
 use Rattle.ether_stream.specs.Task.{TaskValue, Lines, IsChosen, IsOpen}
 use Rattle.ether_stream.specs.declared.open_fault.OpenFault.{OpenFault}
 use Rattle.ether_stream.specs.declared.selection.Selection.{Selection}
-use Rattle.ether_capture.specs.declared.files.Tally.{Tally}
+use Rattle.ether_capture.specs.declared.several_files.Tally.{Tally}
 use Rattle.ether_stream.specs.declared.outcome.FileEnd.{FileEnd}
 use Rattle.ether_stream.specs.declared.outcome.FileEnd.TheVariants as ends
 use Rattle.ether_stream.specs.declared.outcome.RunFault.TheVariants.{Output}

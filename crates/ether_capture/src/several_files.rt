@@ -5,7 +5,7 @@ ghost use Rattle.std.specs.Io.KnownBytes.{Appends};
 ghost use Rattle.std.specs.Option.{option_map};
 ghost use Rattle.ether_pcap.specs.Capture.{PacketValue};
 ghost use Rattle.ether_stream.specs.Counting.{AreCounted, IfFileRead};
-ghost use Rattle.ether_capture.specs.Files.{HasEnded, HasListed, ReadsFile, ReadsFiles, Settles, Tells, next_task, nothing_read};
+ghost use Rattle.ether_capture.specs.SeveralFiles.{HasEnded, HasListed, ReadsFile, ReadsFiles, Settles, Tells, next_task, nothing_read};
 ghost use Rattle.ether_stream.specs.FrameLines.{totals_line_if};
 ghost use Rattle.ether_capture.specs.Options.{ListingValue, listing_view};
 ghost use Rattle.ether_stream.specs.Outcome.{status_of_file, text_of_file};
@@ -14,8 +14,8 @@ ghost use Rattle.ether_stream.specs.Task.{task_view};
 ghost use Rattle.ether_stream.specs.declared.outcome.FileEnd.TheVariants as ends;
 ghost use Rattle.ether_stream.specs.declared.outcome.RunFault.TheVariants.{Output};
 
-use crate::asked::Listing;
 use crate::captures::Captures;
+use crate::request::Listing;
 use crate::run_input::run_input;
 use ether_stream::{
     FileEnd, Form, LineSink, PacketCounts, RunFault, Task, line_of_file, status_of_file,
