@@ -10,7 +10,12 @@ no_fields : (text : List ℕ) → ((columns : List ColumnValue) → AreColumns t
 no_fields text none None is = is
 no_fields text none (Some columns) is = none (columns_view columns) is
 
+pub returns-in-Some-unknown_name-clause-err : goal.returns-in-Some-unknown_name-clause-err
+returns-in-Some-unknown_name-clause-err c fields is =
+    no_fields c.in-Some.text.now (c.in_default-of_names.ensures.none) fields
+    (subst (λ (text : Option (Bor (List ℕ))). IsIfAny AreFields (option_map (λ s. s.now) text) fields) c.in-Some.is is)
+
 pub returns-in-None-clause-err : goal.returns-in-None-clause-err
 returns-in-None-clause-err c fields is =
-    no_fields c.in-Some.text.now c.in-None.ensures.none fields
+    no_fields c.in-Some.text.now (c.in_default-of_names.ensures.none) fields
     (subst (λ (text : Option (Bor (List ℕ))). IsIfAny AreFields (option_map (λ s. s.now) text) fields) c.in-Some.is is)
