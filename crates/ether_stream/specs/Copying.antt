@@ -51,7 +51,7 @@ pub record CopiesToFault (mode : ModeValue) (select : Option Selection) (count :
   pub is_offset : offset ≡ counted (length front)
   pub fewer : HasFewer select count front
 
--- .. up to a packet that is to be edited, and can't be
+-- .. up to a packet that is to be edited and can't be
 abbrev pub CopiesToPacket : ModeValue → (select : Option Selection) → (count : Option ℕ) → (asked : Option EditValue) → (offset : ℕ) → (bytes copy : List ℕ) → Type 0
 CopiesToPacket mode select count asked offset bytes copy = (p : PacketValue) × CopiesToFault mode select count asked (NotEdited p) offset bytes copy
 

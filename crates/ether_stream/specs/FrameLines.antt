@@ -26,7 +26,7 @@ unfoldable pub time_text : Option TimeValue → List ℕ
 time_text None = codes "-"
 time_text (Some t) = decimal t.seconds ++ (codes "." ++ nine_digits t.nanoseconds)
 
--- a word that is there or not
+-- a word, or nothing
 abbrev pub mark : Bool → List ℕ → List ℕ
 mark true word = word
 mark false word = []
@@ -79,7 +79,7 @@ abbrev pub AnswersPacket : (select : Option Selection) → (options : LineOption
 AnswersPacket select options number p text accepted =
     (IsChosen select p × HasLines options number p text accepted) ⊎ (¬ (IsChosen select p) × (text ≡ []) × (accepted ≡ true))
 
--- ---- the line after those of all packets
+-- ---- the line of the totals
 
 -- a number after its word
 abbrev pub told : (word : List ℕ) → ℕ → List ℕ
