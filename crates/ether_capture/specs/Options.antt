@@ -177,7 +177,7 @@ pub record Asks (rows : List Row) (a : AskedValue) : Type 0 where
 
 -- ---- requests
 
--- there are two at least
+-- there are two names at least
 abbrev pub are_several : List Text → Bool
 are_several (name ∷ other ∷ names) = true
 are_several _ = false
@@ -238,7 +238,7 @@ clashes_in_names a = (is_some a.undecided && not (is_some a.text)) || (is_some a
 abbrev pub clashes : AskedValue → Bool
 clashes a = clashes_with_copy a || (clashes_in_names a || clashes_in_columns a)
 
--- which lines are asked for; no totals stand among those of another format
+-- which lines are asked for; those of another format have no totals
 abbrev pub options_of : AskedValue → LineOptions
 options_of a = record { is_plain = a.plain || is_some (format_asked a); format = format_asked a; limit = a.limit; before = None }
 

@@ -73,7 +73,7 @@ HasRunJob has can_fail can_refuse can_read can_write can_keep can_copy task (Som
     × (after ≡ before) × (holds ≡ held)
 HasRunJob has can_fail can_refuse can_read can_write can_keep can_copy task input output before after held holds had gets outcome = ⊥
 
--- What is asked for was done. Only reading several files tells anything.
+-- What is asked for was done. Only reading several files writes messages.
 abbrev pub HasAnswered : (has : List ℕ → Option (List ℕ) → Type 0) (can_fail : Type 0) (can_refuse : OpenFault → Type 0)
     (can_read can_write can_tell : Type 0) (can_keep : WriteFault → Type 0) (can_copy : Type 0) → RequestValue
     → (before after held holds told tells : Option (List ℕ)) → (had gets : List ℕ → Option (List ℕ)) → Outcome → Type 0

@@ -20,7 +20,7 @@ pub struct CaptureFiles<'a, H, M> {
 }
 
 impl<'a, H, M> CaptureFiles<'a, H, M> {
-    /// All files.
+    /// The captures in all files; `gauge` shows how far they are read.
     pub fn new(host: &'a H, gauge: &'a Gauge<'a, H, M>) -> Self {
         CaptureFiles { host, gauge }
     }

@@ -28,9 +28,9 @@ use std::{env, io};
 /// Writes the lines of a capture, or a copy of it, as the arguments say, prints the last line if there is one, and returns the exit status.
 /// Lines go to `writer`, and so does a copy, unless its file is named: then `copies` keeps it.
 ///
-/// Why something was not read goes to `messages`, as all last lines do, so that `writer` has the lines or the copy alone; but the usage and the
-/// version, if they are asked for, go to `writer`. If the arguments are wrong or can't be read, nothing is read. The latter is a fault of the
-/// input.
+/// The last line goes to `messages`, so that `writer` has only the lines or the copy; but the usage and the version, if
+/// they are asked for, go to `writer`. If the arguments are wrong or can't be read, nothing is read. Arguments that
+/// can't be read are a fault of the input.
 pub fn program<J: Journal + Drop, C: Captures, K: Copies, R: Source, W: LineSink, M: LineSink>(
     args: io::Result<env::Args>,
     alloc: Global,

@@ -70,7 +70,7 @@ pub struct Job<'a> {
     pub output: Option<&'a str>,
     /// What is made of columns.
     pub heading: Heading,
-    /// Whether is shown how far it is read.
+    /// Whether to show how far it is read.
     pub is_shown: bool,
 }
 
@@ -79,7 +79,7 @@ pub struct Job<'a> {
 pub struct Listing<'a> {
     /// Which packets are chosen; all of them without a selection.
     pub selection: Option<Selection>,
-    /// After how many of these the run ends; at the end of the last capture without a number.
+    /// The number of these after which the run ends; with `None` it ends at the end of the last capture.
     pub count: Option<NonZeroUsize>,
     /// Which lines a packet has.
     pub options: LineOptions,
@@ -87,7 +87,7 @@ pub struct Listing<'a> {
     pub files: Vec<&'a str>,
     /// What is made of columns.
     pub heading: Heading,
-    /// Whether is shown how far they are read.
+    /// Whether to show how far they are read.
     pub is_shown: bool,
 }
 
@@ -106,7 +106,7 @@ pub(crate) struct Asked<'a> {
     pub(crate) limit: Option<usize>,
     pub(crate) format: Option<Format>,
     pub(crate) fields: Option<Columns>,
-    /// The columns whose texts are counted, if that is asked for and there is room.
+    /// The columns whose texts are counted, if that is asked for and there are 32 at most.
     pub(crate) counted: Option<Columns>,
     pub(crate) input: Option<&'a str>,
     pub(crate) output: Option<&'a str>,
@@ -271,7 +271,7 @@ impl<'a> Asked<'a> {
         }
     }
 
-    /// Lines are asked for, or a copy.
+    /// Lines, or a copy if one is asked for.
     fn form(&self) -> Form
         ensures { form_view result ≡ form_of (asked_view self.now) }
     {
@@ -298,7 +298,7 @@ impl<'a> Asked<'a> {
         }
     }
 
-    /// By how many bytes the edit lets a packet grow, if there is one.
+    /// The most bytes that the edit adds to a packet; 0 without an edit.
     fn growth(&self) -> u32
         ensures { result ≡ growth_if (asked_view self.now).edit }
     {
@@ -344,7 +344,8 @@ fn line_of(columns: &Option<Columns>) -> Heading
     }
 }
 
-/// The columns whose texts are counted: the length of the packet, and then these, or common ones.
+/// The columns whose texts are counted: the length of the packet, and then these, or common ones. Returns `None` if
+/// nothing is counted, or if these would be more than 32.
 pub(crate) fn counted_of(is_counted: bool, fields: &Option<Columns>) -> Option<Columns>
     ensures { AreCountedColumns is_counted fields.now result }
 {

@@ -13,7 +13,7 @@ use ether_stream::{Buffers, NoMemory, PacketCounts, RunFault, Task};
 use ether_text::{Sink, Source, Verdict};
 use std::alloc::Global;
 
-/// Does as [`run_counted`], with memory that is allocated before.
+/// Like [`run_counted`], with memory of the heap that is allocated first.
 pub fn run_input<R: Source, W: Sink>(
     task: &Task,
     alloc: Global,

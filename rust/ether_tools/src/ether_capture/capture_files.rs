@@ -7,7 +7,7 @@ use std::io::{Error, ErrorKind};
 
 /// Captures in files, and what shows how far they are read.
 pub struct CaptureFiles<'a> {
-    /// What shows it.
+    /// Shows how far they are read.
     pub gauge: &'a Gauge,
 }
 
