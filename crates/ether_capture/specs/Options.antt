@@ -387,7 +387,7 @@ RefusesRows rows (reasons.Usage usage) = MeansNothing rows usage
 RefusesRows rows (reasons.Filter e) = ⊥
 RefusesRows rows reasons.Memory = ⊤
 
--- why what is asked for is no request
+-- why what is asked for is not a request
 abbrev pub RefusesAsked : AskedValue → RequestError → Type 0
 RefusesAsked a (reasons.Usage usages.Clash) = clashes a ≡ true
 RefusesAsked a (reasons.Usage usage) = ⊥

@@ -85,7 +85,7 @@ fn bare_option(words: &[String]) -> Option<&str>
     None
 }
 
-/// Tests that the first word can be a value: it is no option.
+/// Tests that the first word can be a value: it is not an option.
 fn begins_with_value(words: &[String]) -> bool
     ensures { result ≡ begins_with_value (map string_bytes words.now) }
 {

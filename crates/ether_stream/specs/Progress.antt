@@ -99,7 +99,7 @@ abbrev pub Makes : (select : Option Selection) → FormValue → CaptureExpectat
 Makes select (Lines options) x number unit packet accepted text = Answers select options number packet accepted text
 Makes select (Copy mode edit) x number unit packet accepted text = Writes mode select edit x unit packet text × (accepted ≡ true)
 
--- what is written for a unit that is no packet
+-- what is written for a unit that is not a packet
 abbrev pub other_text : FormValue → CaptureExpectation → (unit : List ℕ) → List ℕ
 other_text (Lines options) x unit = []
 other_text (Copy mode edit) x unit = other_unit mode x unit

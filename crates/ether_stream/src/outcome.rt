@@ -125,7 +125,7 @@ pub enum Outcome<'a> {
         /// Why it can't.
         fault: WriteFault,
     },
-    /// The text of the filter is no expression.
+    /// The text of the filter is not an expression.
     NoFilter(FilterError),
     /// The arguments ask how the program is used.
     Help,
@@ -225,7 +225,7 @@ pub enum LastLine<'a> {
     Version,
     /// The arguments are wrong.
     Usage(Usage<'a>),
-    /// The text of the filter is no expression.
+    /// The text of the filter is not an expression.
     NoFilter(&'a FilterError),
     /// Memory for the arguments was refused.
     NoMemory,

@@ -15,7 +15,7 @@ pub enum RequestError<'a> {
     Usage(Usage<'a>),
     /// Memory for them was refused.
     Memory,
-    /// The filter is no expression.
+    /// The filter is not an expression.
     Filter(FilterError),
 }
 

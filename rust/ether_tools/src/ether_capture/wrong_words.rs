@@ -82,7 +82,7 @@ fn bare_option(words: &[String]) -> Option<&str> {
     None
 }
 
-/// Tests that the first word can be a value: it is no option.
+/// Tests that the first word can be a value: it is not an option.
 fn begins_with_value(words: &[String]) -> bool {
     match words {
         [] => false,
