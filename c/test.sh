@@ -164,7 +164,7 @@ if [ -n "$cc" ] && [ -n "$python" ]; then
     run "The examples" sh tests/examples.sh "$cc" "$library" "$python" "$work"
     run "The VLANs of captures" "$python" tests/vlan_examples.py "$work/vlans" "$work/package" $dask
     run "The recipe for dask" "$python" tests/recipes.py "$cc" "$PWD/$library" "$work/recipes"
-    run "docs/C.md" "$python" tests/page.py "$cc" "$PWD/$library" "$work/page"
+    run "docs/C.md" "$python" tests/c_document.py "$cc" "$PWD/$library" "$work/page"
     if [ -x ../crates/ether_tool/out/ether_tool ]; then
         run "The lines of the tool" sh tests/lines.sh "$cc" "$library" "$python" "$work"
     else

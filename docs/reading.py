@@ -197,7 +197,7 @@ ORDER = {
         ether_pcap: Texts PcapngTexts CaptureTexts
         ether_filter: ErrorTexts
         ether_stream: Outcome
-        ether_capture: Copies Files KeyCounts RowFields Statistics Journal Program
+        ether_capture: Copies SeveralFiles KeyCounts RowFields Statistics Journal Program
     """,
     "Bridges": """
         ether_switch: BridgeKinds VlanSets Arrivals Learning Relaying History Leaving Laws

@@ -21,7 +21,7 @@ CALLS, CALLS_NAME = "ether_c", "etherpeel_c"
 PROGRAMS, PROGRAMS_NAME = ["ether_text", "ether_format", "ether_stream", "ether_capture"], "ether_tools"  # what the programs are made of
 # What stands in the place of sources that take the runtime or an allocator.
 BY_HAND = [f"{PROGRAMS_NAME}/src/{path}.rs" for path in (
-    "ether_text/noted", *(f"ether_capture/{it}" for it in ("copy_files", "count_table", "heap_memory", "heap_text", "interface_buffer", "memory", "meter", "opening", "options")),
+    "ether_text/noted", *(f"ether_capture/{it}" for it in ("capture_files", "copy_files", "count_table", "heap_memory", "heap_text", "interface_buffer", "memory", "options", "progress_line")),
 )] + [f"{PROGRAMS_NAME}/examples/{program}/main.rs" for program in ("example_switch", "example_vlan_rewriter")]
 # The programs among the examples, each with the libraries that are its modules; their `main`s are by hand.
 EXAMPLE_PROGRAMS = {"example_switch": [], "example_vlan_rewriter": []}
@@ -37,7 +37,7 @@ TESTS = {"etherparse_tests": [], "ether_content_tests": ["example_frames"], "eth
 EXAMPLES = [example for examples in TESTS.values() for example in examples]
 # Modules that are left out: laws, what is proved and never run, and the tests of a crate that is not in the result.
 LEFT_OUT, LEFT_OUT_OF_TESTS = {"laws"}, {"laws", "derived_traits", "text"}
-LEFT_OUT_OF_PROGRAMS = {"laws", "noted", "main", "options", "opening", "copy_files", "count_table", "heap_memory", "heap_text", "interface_buffer", "meter"}
+LEFT_OUT_OF_PROGRAMS = {"laws", "noted", "main", "options", "capture_files", "copy_files", "count_table", "heap_memory", "heap_text", "interface_buffer", "progress_line"}
 
 ROOT = """#![doc = include_str!("../README.md")]
 #![no_std]

@@ -6,7 +6,7 @@ import subprocess
 import tempfile
 from dataclasses import dataclass
 
-from captures import (
+from made_captures import (
     CLASSIC, COOKED, CUT_PACKET, DISK_IS_FULL, ETHERNET, INPUT, LOOPBACK_V1, NO_FILE, OBSOLETE, SECTIONS, SECTION_HEADER, SELECTED, SIX,
     TAGGED_V1, TAGGED_V2, UNKNOWN, WITH_FCS, block, classic, cooked, frame, interface, joined, long_record, record_is_cut, secrets,
 )

@@ -5,7 +5,7 @@ import os
 import subprocess
 import tempfile
 
-from captures import (
+from made_captures import (
     CLASSIC, CLASSIC_LINES, DISK_IS_FULL, DOUBLE, FCS_LINES, FIRST_LINES, IS_FOLDER, NO_FILE, ONE_LINES, SECTIONS, SECTION_LINES, SIX, TAGGED_V2,
     V2_LINE, WITH_FCS, classic, plain, record_is_cut, secrets,
 )

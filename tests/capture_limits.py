@@ -5,7 +5,7 @@ import subprocess
 import tempfile
 import time
 
-from captures import CLASSIC, CLASSIC_LINES, NO_FILE, ONE_LINES, SECTIONS, SECTION_LINES, SIX, classic, plain
+from made_captures import CLASSIC, CLASSIC_LINES, NO_FILE, ONE_LINES, SECTIONS, SECTION_LINES, SIX, classic, plain
 from capture_files import part, totals
 from programs import run, run_apart
 

@@ -8,7 +8,7 @@ import subprocess
 import tempfile
 import time
 
-from captures import CLASSIC, CLASSIC_LINES, INPUT, IS_FOLDER, NO_FILE, SIX, classic, record_is_cut
+from made_captures import CLASSIC, CLASSIC_LINES, INPUT, IS_FOLDER, NO_FILE, SIX, classic, record_is_cut
 from capture_copies import copied
 from programs import run_apart
 

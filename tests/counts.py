@@ -9,8 +9,8 @@ import subprocess
 import tempfile
 from shutil import which
 
-from captures import CLASSIC, INPUT, classic, joined, record_is_cut
-from json_lines import drawn
+from made_captures import CLASSIC, INPUT, classic, joined, record_is_cut
+from formats import drawn
 from programs import run_apart
 
 ARP = classic(joined("ffffffffffff 020000000001 0806 0001 0800 06 04 0001 020000000001 0a000001 000000000000 0a000002"))

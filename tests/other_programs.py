@@ -16,9 +16,9 @@ import tempfile
 import time
 from shutil import which
 
-from captures import TAGGED_V1, block, classic, cooked, joined
+from made_captures import TAGGED_V1, block, classic, cooked, joined
 from counts import counted_by_tshark
-from json_lines import readers
+from formats import readers
 from programs import count
 
 PUSH = ["--write", "--push-vlan", "0x8100:5"]

@@ -8,7 +8,7 @@ import signal
 import socket
 import subprocess
 
-from page import TOP, bin, check, clone, copy, counts, program, work
+from c_document import TOP, bin, check, clone, copy, counts, program, work
 
 PYTHON = "/usr/bin/python3"
 SECONDS = 120

@@ -1,6 +1,6 @@
 pub mod WrongWordLemmas
 pub mod OptionsLemmas
-pub mod FilesLemmas
+pub mod SeveralFilesLemmas
 pub mod CountTableLemmas
 pub mod KeyCountLemmas
 pub mod FieldLemmas

@@ -6,9 +6,9 @@ use Rattle.clap.specs.declared.error.kind.ErrorKind.{ErrorKind}
 use Rattle.clap.specs.declared.parser.matches.ArgMatches.{ArgMatches}
 use Rattle.ether_capture.specs.Options.{AskedValue, Asks, IsRefusedUsage, IsRequestOf, KindNames, MeansNothing, NamesRequest, RefusesAsked, RefusesKind, RefusesRows, RefusesWords, capture_app, clash, help, no_filter, no_memory, nothing, options, refused, request_view, version}
 use Rattle.ether_stream.specs.declared.usage.Usage.TheVariants as usages
-use Rattle.ether_capture.specs.declared.asked.Request.{Request}
-use Rattle.ether_capture.specs.declared.asked.RequestError.{RequestError}
-use Rattle.ether_capture.specs.declared.asked.RequestError.TheVariants as reasons
+use Rattle.ether_capture.specs.declared.request.Request.{Request}
+use Rattle.ether_capture.specs.declared.request.RequestError.{RequestError}
+use Rattle.ether_capture.specs.declared.request.RequestError.TheVariants as reasons
 
 -- the command is simple: `clap` says exactly what it finds, or how it fails
 free_app : is_simple_and_free capture_app ≡ true

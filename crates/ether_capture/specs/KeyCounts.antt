@@ -7,12 +7,12 @@ use Rattle.ether_capture.specs.declared.count.Count.{Count}
 
 -- ---- what is counted
 
--- a packet of so many bytes that has a key
+-- a packet that had `bytes` bytes, and has a key
 pub record Hit : Type 0 where
   pub key : List ℕ
   pub bytes : ℕ
 
--- with one packet more
+-- a count with another packet
 abbrev pub plus : Option Count → ℕ → Count
 plus None bytes = record { packets = 1; bytes = bytes }
 plus (Some c) bytes = record { packets = counted (c.packets + 1); bytes = counted (c.bytes + bytes) }

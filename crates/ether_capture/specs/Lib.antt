@@ -3,7 +3,7 @@ pub mod Copies
 pub mod WrongWords
 pub mod Options
 pub mod Program
-pub mod Files
+pub mod SeveralFiles
 pub mod KeyCounts
 pub mod CountTable
 pub mod RowFields

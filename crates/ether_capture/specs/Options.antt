@@ -27,17 +27,17 @@ use Rattle.ether_stream.specs.declared.usage.Usage.TheVariants as usages
 use Rattle.ether_stream.specs.declared.usage.ValueOption.TheVariants as value_options
 use Rattle.ether_stream.specs.Task.{TaskValue, FormValue, Lines, Copy, task_view}
 use Rattle.ether_capture.specs.WrongWords.{IsUsageOf, flag_names, option_names}
-use Rattle.ether_capture.specs.declared.asked.Asked.{Asked}
-use Rattle.ether_capture.specs.declared.asked.Heading.{Heading}
-use Rattle.ether_capture.specs.declared.asked.Heading.TheVariants.{Absent, Line, Statistics}
+use Rattle.ether_capture.specs.declared.request.Asked.{Asked}
+use Rattle.ether_capture.specs.declared.request.Heading.{Heading}
+use Rattle.ether_capture.specs.declared.request.Heading.TheVariants.{Absent, Line, Statistics}
 use Rattle.ether_capture.specs.declared.statistics_format.StatisticsFormat.{StatisticsFormat}
 use Rattle.ether_capture.specs.declared.statistics_format.StatisticsFormat.TheVariants as counts
-use Rattle.ether_capture.specs.declared.asked.Listing.{Listing}
+use Rattle.ether_capture.specs.declared.request.Listing.{Listing}
 use Rattle.ether_stream.specs.declared.task.LineOptions.{LineOptions}
-use Rattle.ether_capture.specs.declared.asked.RequestError.{RequestError}
-use Rattle.ether_capture.specs.declared.asked.RequestError.TheVariants as reasons
-use Rattle.ether_capture.specs.declared.asked.Request.{Request}
-use Rattle.ether_capture.specs.declared.asked.Request.TheVariants as requests
+use Rattle.ether_capture.specs.declared.request.RequestError.{RequestError}
+use Rattle.ether_capture.specs.declared.request.RequestError.TheVariants as reasons
+use Rattle.ether_capture.specs.declared.request.Request.{Request}
+use Rattle.ether_capture.specs.declared.request.Request.TheVariants as requests
 
 -- the lines of the captures in the files of these names
 pub record ListingValue : Type 0 where
@@ -177,7 +177,7 @@ pub record Asks (rows : List Row) (a : AskedValue) : Type 0 where
 
 -- ---- requests
 
--- there are two at least
+-- there are two names at least
 abbrev pub are_several : List Text → Bool
 are_several (name ∷ other ∷ names) = true
 are_several _ = false
@@ -238,7 +238,7 @@ clashes_in_names a = (is_some a.undecided && not (is_some a.text)) || (is_some a
 abbrev pub clashes : AskedValue → Bool
 clashes a = clashes_with_copy a || (clashes_in_names a || clashes_in_columns a)
 
--- which lines are asked for; no totals stand among those of another format
+-- which lines are asked for; those of another format have no totals
 abbrev pub options_of : AskedValue → LineOptions
 options_of a = record { is_plain = a.plain || is_some (format_asked a); format = format_asked a; limit = a.limit; before = None }
 
@@ -387,7 +387,7 @@ RefusesRows rows (reasons.Usage usage) = MeansNothing rows usage
 RefusesRows rows (reasons.Filter e) = ⊥
 RefusesRows rows reasons.Memory = ⊤
 
--- why what is asked for is no request
+-- why what is asked for is not a request
 abbrev pub RefusesAsked : AskedValue → RequestError → Type 0
 RefusesAsked a (reasons.Usage usages.Clash) = clashes a ≡ true
 RefusesAsked a (reasons.Usage usage) = ⊥

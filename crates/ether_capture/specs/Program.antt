@@ -4,10 +4,10 @@ use Rattle.std.specs.Vec.Iter.{into_iter_items}
 use Rattle.std.specs.declared.vec.IntoIter.{IntoIter}
 use Rattle.std.specs.Io.KnownBytes.{Appends}
 use Rattle.ether_capture.specs.Options.{RequestValue, Run, Lists, Help, Version, NamesRequest, RefusesWords, columns_in, heading_in, statistics_asked}
-use Rattle.ether_capture.specs.declared.asked.RequestError.{RequestError}
-use Rattle.ether_capture.specs.declared.asked.RequestError.TheVariants as reasons
+use Rattle.ether_capture.specs.declared.request.RequestError.{RequestError}
+use Rattle.ether_capture.specs.declared.request.RequestError.TheVariants as reasons
 use Rattle.ether_capture.specs.Copies.{HasRead, IsCopied}
-use Rattle.ether_capture.specs.Files.{HasListed}
+use Rattle.ether_capture.specs.SeveralFiles.{HasListed}
 use Rattle.ether_stream.specs.Run.{IfSettled}
 use Rattle.ether_stream.specs.Task.{TaskValue}
 use Rattle.ether_stream.specs.Outcome.{last_bytes, last_text, is_message, status_of_program}
@@ -73,7 +73,7 @@ HasRunJob has can_fail can_refuse can_read can_write can_keep can_copy task (Som
     × (after ≡ before) × (holds ≡ held)
 HasRunJob has can_fail can_refuse can_read can_write can_keep can_copy task input output before after held holds had gets outcome = ⊥
 
--- What is asked for was done. Only reading several files tells anything.
+-- What is asked for was done. Only reading several files writes messages.
 abbrev pub HasAnswered : (has : List ℕ → Option (List ℕ) → Type 0) (can_fail : Type 0) (can_refuse : OpenFault → Type 0)
     (can_read can_write can_tell : Type 0) (can_keep : WriteFault → Type 0) (can_copy : Type 0) → RequestValue
     → (before after held holds told tells : Option (List ℕ)) → (had gets : List ℕ → Option (List ℕ)) → Outcome → Type 0

@@ -6,7 +6,7 @@ use Rattle.ether_stream.specs.Packets.{counted}
 
 -- ---- lines and fields
 
--- the pieces of a text that a byte ends, each without it; some bytes come before the text
+-- the pieces of a text that a byte ends, each without it; the first also has the bytes `before`
 abbrev pub pieces : (byte : ℕ) → (before text : List ℕ) → List (List ℕ)
 pieces byte before [] = []
 pieces byte before (b ∷ bs) = if b == byte then before ∷ pieces byte [] bs else pieces byte (before ++ b ∷ []) bs
@@ -30,7 +30,7 @@ fields_if (Some text) = row_fields text
 
 -- ---- what is counted
 
--- the number that decimal digits spell after so many; the digit 0 is 48
+-- the number that decimal digits spell after those of `before`; the digit 0 is 48
 abbrev pub decimal_value : ℕ → List ℕ → ℕ
 decimal_value before [] = before
 decimal_value before (d ∷ ds) = decimal_value (before * 10 + (d - 48)) ds
@@ -53,7 +53,7 @@ abbrev pub after_first : List (List ℕ) → List (List ℕ)
 after_first [] = []
 after_first (f ∷ fs) = fs
 
--- so many bytes under each key
+-- a packet that had `bytes` bytes, under each key
 abbrev pub hits_under : (bytes : ℕ) → (keys : List (List ℕ)) → List Hit
 hits_under bytes keys = map (λ k. record { key = k; bytes = bytes }) keys
 

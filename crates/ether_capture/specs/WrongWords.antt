@@ -46,7 +46,7 @@ abbrev pub option_need : (text : Text) → Option Bool
 option_need [] = Some false
 option_need (letter ∷ text) = if letter == 45 then long_word_need text else letter_need letter (length text == 0)
 
--- .. and by a word; one that is no option needs no value
+-- .. and by a word; one that is not an option needs no value
 abbrev pub need_of : (word : Text) → Option Bool
 need_of [] = Some false
 need_of (letter ∷ text) = if letter == 45 then option_need text else Some false

@@ -6,8 +6,8 @@ use ether_text::Source;
 
 /// What opens captures by their names, and can show how far they are read.
 ///
-/// What is proved for all of them is proved for one that can't fail, too. So whoever reports that a capture can't be opened has
-/// tried it.
+/// What is proved for all of them holds for one that can't fail, too. So a call that reports that a capture can't be
+/// opened has tried it.
 pub trait Captures {
     ghost use Rattle.ether_stream.specs.declared.open_fault.OpenFault.{OpenFault};
 
@@ -20,12 +20,12 @@ pub trait Captures {
     // What holds if a capture can't be opened for this reason.
     ghost can_refuse: { OpenFault → Type 0 };
 
-    /// Opens the capture of a name, from its first byte on.
+    /// Opens the capture of a name, at its first byte.
     fn open_named(&self, name: &str) -> Result<Self::Input, OpenFault>
         ensures ok { IfOk result (λ input. has self.now name.now (Self.Input.Source.remaining input)) }
         ensures refused { IfErr result (λ fault. can_refuse fault) };
 
-    /// From here on shows how far captures are read, these and standard input.
+    /// From here on, shows how far these captures and standard input are read.
     fn show(&self);
 
     /// Ends the line in which that is shown, if there is one.

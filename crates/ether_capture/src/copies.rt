@@ -6,8 +6,8 @@ use ether_text::Sink;
 
 /// What keeps copies by their names, as files do.
 ///
-/// What is proved for all of them is proved for one whose files are known, and for one that can't fail. So whoever reports that a copy can't be
-/// written has tried it.
+/// What is proved for all of them holds for one whose files are known, and for one that can't fail. So a call that
+/// reports that a copy can't be written has tried it.
 ///
 /// A copy is begun, written and then finished or given up. Only when it is finished does its file get the copy's bytes, all at once; until then,
 /// and for ever if it is given up, the file is as it was.
@@ -36,7 +36,7 @@ pub trait Copies {
         ensures kept { OnErr result (file self.new name.now ≡ file self.old name.now) }
         ensures refused { IfErr result can_refuse };
 
-    /// Gives a copy up, and returns why it can't be written, if that was the cause.
+    /// Gives a copy up, and returns why it could not be written, if a fault of writing was the cause.
     fn give_up(&mut self, name: &str, part: Self::Part) -> WriteFault
         ensures kept { file self.new name.now ≡ file self.old name.now };
 }

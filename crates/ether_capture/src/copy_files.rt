@@ -11,7 +11,7 @@ use std::io::{ErrorKind, Write};
 use std::rt::Files;
 use std::{fs, io};
 
-/// How many names of parts are tried: that many runs that were killed may have left one.
+/// How many names are tried for a part: each run that was killed may have left one.
 const MOST_PARTS: usize = 100;
 
 /// Files that get copies.
@@ -22,14 +22,14 @@ pub struct CopyFiles<'a, F> {
 }
 
 impl<'a, F> CopyFiles<'a, F> {
-    /// All files.
+    /// The copies in all files.
     pub fn new(files: &'a F, alloc: Global) -> Self {
         CopyFiles { files, alloc }
     }
 }
 
-/// A copy that is being written: to a file beside that which gets it; or where the name is not that of a file, as with `/dev/null`, to what
-/// it names.
+/// A copy that is being written: to a new file in the folder of the file that gets it, or directly to what the name is
+/// of, if that is not a regular file, as `/dev/null`.
 #[derive(Drop)]
 pub struct PartFile<W> {
     file: W,
@@ -38,7 +38,7 @@ pub struct PartFile<W> {
 }
 
 impl<W: Write> PartFile<W> {
-    /// Keeps the error of a call, if it has failed, and returns what the call did.
+    /// Keeps the error of a call, if it has failed, and returns what the call returned.
     fn note<V>(&mut self, answer: io::Result<V>) -> io::Result<V>
         ensures { result ≡ answer }
     {
@@ -117,7 +117,7 @@ impl<F: Files> Copies for CopyFiles<'_, F> {
 }
 
 impl<F: Files> CopyFiles<'_, F> {
-    /// Gives a part the name of its file. Where that is a symbolic link, the file gets the part that it leads to.
+    /// Gives a part the name of its file. If that is a symbolic link, the part replaces the file that it leads to.
     fn rename(&self, part: &str, name: &str) -> io::Result<()> {
         match self.files.canonicalize(self.alloc, name) {
             Ok(path) => fs::rename(self.files, part, path.to_string_lossy()),
@@ -125,7 +125,7 @@ impl<F: Files> CopyFiles<'_, F> {
         }
     }
 
-    /// What a name stands for that is there already.
+    /// Opens what exists under a name, to write to it directly.
     fn directly(&self, name: &str) -> Result<PartFile<F::File>, WriteFault> {
         match OpenOptions::new().write(true).open(self.files, name) {
             Ok(file) => Ok(PartFile {
@@ -137,7 +137,7 @@ impl<F: Files> CopyFiles<'_, F> {
         }
     }
 
-    /// A new file beside that of a name.
+    /// Creates a part in the folder of the file of a name.
     fn beside(&self, name: &str) -> Result<PartFile<F::File>, WriteFault> {
         for number in 0..MOST_PARTS {
             let Ok(part) = part_name(name, number, self.alloc) else {
@@ -164,7 +164,7 @@ impl<F: Files> CopyFiles<'_, F> {
     }
 }
 
-/// The name of a part of the file of this name.
+/// The name of the part with this number, for the file of this name.
 fn part_name(name: &str, number: usize, alloc: Global) -> Result<String, AllocError> {
     match number {
         0 => format!(in alloc; "{name}.part"),

@@ -12,14 +12,14 @@ pub struct Count {
 }
 
 impl Count {
-    /// One packet of so many bytes.
+    /// The count of one packet that had `bytes` bytes.
     pub(crate) fn of_packet(bytes: usize) -> Count
         ensures { result ≡ plus None bytes }
     {
         Count { packets: 1, bytes }
     }
 
-    /// These and a packet of so many bytes.
+    /// This count with another packet, which had `bytes` bytes.
     pub(crate) fn with(self, bytes: usize) -> Count
         ensures { result ≡ plus (Some self) bytes }
     {

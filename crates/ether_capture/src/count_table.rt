@@ -30,7 +30,7 @@ impl CountTable {
         }
     }
 
-    /// Counts a packet of so many bytes under a key.
+    /// Counts a packet that had `bytes` bytes under a key. Returns [`NoMemory`] if memory for the key is refused.
     pub fn add(&mut self, key: &[u8], bytes: usize) -> Result<(), NoMemory>
         ensures { OnOk result (AddsHit key.now bytes (count_at self.old) (count_at self.new)) }
     {
@@ -43,7 +43,7 @@ impl CountTable {
         }
     }
 
-    /// Puts in a count under a key.
+    /// Sets the count under a key.
     fn insert(&mut self, key: &[u8], count: Count) -> Result<(), NoMemory>
         ensures { OnOk result ((q : List ℕ) → count_at self.new q ≡ (if bytes_eq key.now q then Some count else count_at self.old q)) }
     {

@@ -14,7 +14,7 @@ pub struct HeapMemory {
 }
 
 impl HeapMemory {
-    /// No memory yet.
+    /// Memory of 0 bytes.
     pub fn new(alloc: Global) -> HeapMemory
         ensures { result.bytes.items ≡ [] }
     {

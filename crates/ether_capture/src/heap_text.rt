@@ -27,7 +27,7 @@ impl HeapText {
         self.bytes.as_slice()
     }
 
-    /// Forgets the text, and keeps its memory.
+    /// Empties the text, and keeps its memory.
     pub fn clear(&mut self)
         ensures { self.new.bytes.items ≡ [] }
     {

@@ -14,7 +14,7 @@ pub struct InterfaceBuffer {
 }
 
 impl InterfaceBuffer {
-    /// Memory with no interface.
+    /// Memory for 65,536 interfaces, with none in it. Returns [`AllocError`] if it is refused.
     pub fn new(alloc: Global) -> Result<Self, AllocError> {
         let interfaces = Vec::with_capacity(alloc, MAX_INTERFACES)?;
         Ok(InterfaceBuffer { interfaces })

@@ -1,4 +1,4 @@
-//! What is counted, word for word.
+//! A sink that may keep the rows that are counted.
 ghost use Rattle.std.specs.Prelude.{◌≡◌, Bool, false, refl};
 ghost use Rattle.ether_capture.specs.Journal.{known_if};
 
@@ -7,8 +7,8 @@ use std::io;
 
 /// A sink for the rows that are counted.
 ///
-/// The program's journal keeps none of them. That the counts are those of the rows that a journal holds is proved for every journal, also for
-/// one that keeps them.
+/// The program's journal keeps none of them. For every journal, also for one that keeps them, it is proved that the
+/// counts are those of the rows that it holds.
 pub trait Journal: Sink {
     // Whether it is known what it holds.
     ghost is_known: { Bool };

@@ -5,12 +5,12 @@ ghost use Rattle.ether_capture.specs.Statistics.{StatisticsAreOne};
 use crate::journal::Journal;
 use arrayvec::ArrayVec;
 
-/// The counts of a text are one text.
+/// The rows of a text have one text of counts, and no second one.
 pub fn statistics_are_one()
     ensures { StatisticsAreOne }
 {}
 
-/// A journal that keeps all rows, as far as it has room. So what is proved of journals that are known is said of one.
+/// A journal that keeps all rows, as far as it has room. So what is proved of journals that are known holds for one.
 impl<const N: usize> Journal for ArrayVec<u8, N> {
     ghost is_known = { true };
 

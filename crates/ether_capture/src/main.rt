@@ -1,37 +1,37 @@
 //! Reads a capture of the classic pcap format or of pcapng, a file or standard input, and prints the lines of the walk of each
 //! packet, or copies the capture without some of its packets, to standard output or a file.
 //!
-//! `main` calls [`program::program`] on the arguments, the files and the standard streams. Lines and copies go to standard output,
-//! and why something was not read or written to standard error.
+//! `main` calls [`program::program`] on the arguments, the files and the standard streams. Lines and copies go to
+//! standard output, and messages why something was not read or written go to standard error.
 #![tactic(auto)]
 
-pub mod asked;
+pub mod capture_files;
 pub mod captures;
 pub mod copies;
 pub mod copy_files;
 pub mod copy_run;
 pub mod count;
 pub mod count_table;
-pub mod files;
 pub mod heap_memory;
 pub mod heap_text;
 pub mod interface_buffer;
 pub mod journal;
 pub mod laws;
-pub mod meter;
-pub mod opening;
 pub mod options;
 pub mod program;
+pub mod progress_line;
+pub mod request;
 pub mod rows;
 pub mod run_input;
+pub mod several_files;
 pub mod statistics;
 pub mod statistics_format;
 pub mod wrong_words;
 
+use capture_files::CaptureFiles;
 use copy_files::CopyFiles;
 use ether_text::{Noted, tell_failure};
-use meter::{Gauge, Meter};
-use opening::CaptureFiles;
+use progress_line::{Gauge, Meter};
 use std::process::ExitCode;
 use std::{env, io};
 

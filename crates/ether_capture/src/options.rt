@@ -6,7 +6,7 @@ ghost use Rattle.ether_content.specs.Editing.{EditValue};
 ghost use Rattle.ether_content.specs.EditingViews.{edit_view};
 ghost use Rattle.ether_capture.specs.Options.{Asks, IsEdit, IsWrongEditOf, KindNames, NamesRequest, RefusesKind, RefusesRows, RefusesWords, asked_view, capture_app, file_rule, flag_rule, is_set, letter_rule, option_rule, request_view};
 
-use crate::asked::{Asked, Request, RequestError, counted_of};
+use crate::request::{Asked, Request, RequestError, counted_of};
 use crate::wrong_words::usage_of;
 use clap::error::ErrorKind;
 use clap::{Arg, ArgAction, ArgMatches, Command};
@@ -16,7 +16,7 @@ use std::alloc::{AllocError, Global};
 use std::env;
 
 impl<'a> From<AllocError> for RequestError<'a> {
-    ghost use Rattle.ether_capture.specs.declared.asked.RequestError.TheVariants.{Memory};
+    ghost use Rattle.ether_capture.specs.declared.request.RequestError.TheVariants.{Memory};
 
     ghost from_gives = { λ _ error. error ≡ Memory };
 
@@ -82,11 +82,15 @@ fn command<'a>(alloc: Global) -> Result<Command<'a>, AllocError>
 
 /// What the program's arguments ask for. The first of them is its own name.
 ///
-/// Options go before, between and after the names of files: `--plain`, `--limit` with a number of headers, `--format` with `lines`, `brief` or
-/// `json`, and `--fields` with the names of columns, with it `--header`, and `--stats`; or `--write`, or `-w` with the name of the copy, and
-/// with it one of `--cut-to-headers`, `--pop-vlan`, `--push-vlan` with a tag and `--set-vlan` with two identifiers; `--select`
-/// with the text of a filter, and with it `--undecided` with `keep` or `drop`; `-c` with a number of packets; `-r` with the name of the only
-/// file; and `--progress`. `--help` and `--version` need no others.
+/// Options go before, between and after the names of files:
+///
+/// - for lines, `--plain`, `--limit` with a number of headers, `--format` with `lines`, `brief` or `json`, `--fields`
+///   with the names of columns, and with it `--header`, and `--stats`
+/// - for a copy, `--write`, or `-w` with the name of the copy, and with it one of `--cut-to-headers`, `--pop-vlan`,
+///   `--push-vlan` with a tag and `--set-vlan` with two identifiers
+/// - for both, `--select` with the text of a filter, and with it `--undecided` with `keep` or `drop`, `-c` with a
+///   number of packets, `-r` with the name of the only file, and `--progress`
+/// - `--help` and `--version`, which need no others
 pub fn request_of_words<'a>(
     words: &'a [String],
     alloc: Global,
@@ -101,7 +105,7 @@ pub fn request_of_words<'a>(
     }
 }
 
-/// What arguments ask for that `clap` finds no options in: to it `--help` and `--version` are errors.
+/// What arguments ask for that `clap` answers with an error, as it does for `--help` and `--version`.
 fn request_of_kind<'a>(
     kind: ErrorKind,
     words: &'a [String],

@@ -3,21 +3,21 @@ ghost use Rattle.std.specs.Prelude.{◌≡◌, ◌≢◌, ◌⊎◌, Bool, true,
 ghost use Rattle.std.specs.Option.{option_map};
 ghost use Rattle.ether_stream.specs.Outcome.{is_message, status_of_program};
 ghost use Rattle.ether_capture.specs.Program.{HasDone, HasHeaded, HasObeyed, HasRunFile, HasRunJob, HasServed, IfGone, heading_if, PrintsApart, PrintsLast, arguments_of};
-ghost use Rattle.ether_capture.specs.Files.{Settles};
+ghost use Rattle.ether_capture.specs.SeveralFiles.{Settles};
 ghost use Rattle.ether_capture.specs.Options.{request_view, statistics_asked};
 ghost use Rattle.std.specs.Io.KnownBytes.{Appends};
 ghost use Rattle.ether_format.specs.declared.columns.Columns.{Columns as ColumnsValue};
 ghost use Rattle.std.specs.Prelude.{OnErr, OnOk};
 ghost use Rattle.ether_stream.specs.Task.{task_view};
 
-use crate::asked::{Job, Request, RequestError};
 use crate::captures::Captures;
 use crate::copies::Copies;
 use crate::copy_run::{copy_file, copy_input};
-use crate::files::run_files;
 use crate::journal::Journal;
 use crate::options::request_of_words;
+use crate::request::{Job, Request, RequestError};
 use crate::run_input::run_input;
+use crate::several_files::run_files;
 use crate::statistics::Statistics;
 use ether_format::Columns;
 use ether_stream::{LineSink, Outcome, RunFault, Task, is_message, last_line, program_status};
@@ -28,9 +28,9 @@ use std::{env, io};
 /// Writes the lines of a capture, or a copy of it, as the arguments say, prints the last line if there is one, and returns the exit status.
 /// Lines go to `writer`, and so does a copy, unless its file is named: then `copies` keeps it.
 ///
-/// Why something was not read goes to `messages`, as all last lines do, so that `writer` has the lines or the copy alone; but the usage and the
-/// version, if they are asked for, go to `writer`. If the arguments are wrong or can't be read, nothing is read. The latter is a fault of the
-/// input.
+/// The last line goes to `messages`, so that `writer` has only the lines or the copy; but the usage and the version, if
+/// they are asked for, go to `writer`. If the arguments are wrong or can't be read, nothing is read. Arguments that
+/// can't be read are a fault of the input.
 pub fn program<J: Journal + Drop, C: Captures, K: Copies, R: Source, W: LineSink, M: LineSink>(
     args: io::Result<env::Args>,
     alloc: Global,

@@ -18,7 +18,7 @@ use ether_stream::NoMemory;
 use ether_text::{OutputBuffer, Sink};
 use std::alloc::Global;
 
-/// The counts of the lines so far, and what follows the last of them. The first line names the columns.
+/// The counts of the lines so far, and the bytes after the last line feed. The first line names the columns.
 #[derive(Drop)]
 pub struct Rows {
     heading: HeapText,
@@ -42,7 +42,7 @@ impl Rows {
         }
     }
 
-    /// Takes the bytes that come next.
+    /// Takes the next bytes. Returns [`NoMemory`] if memory for them is refused.
     pub fn take(&mut self, bytes: &[u8]) -> Result<(), NoMemory>
         ensures { (text : List ℕ) → Tabulates text self.old → OnOk result (Tabulates (text ++ bytes.now) self.new) }
     {
@@ -128,7 +128,7 @@ fn count_row(
     Ok(())
 }
 
-/// Counts a packet of so many bytes for the text of a column.
+/// Counts a packet for the text of a column.
 fn count(
     column: &[u8],
     text: &[u8],
@@ -142,7 +142,7 @@ fn count(
     counts.add(key.as_slice(), bytes)
 }
 
-/// Writes the key of a column's text, in place of what was written.
+/// Replaces `key` by the key of a column's text: the column, a tab and the text.
 fn write_key(column: &[u8], text: &[u8], key: &mut HeapText) -> Result<(), NoMemory>
     ensures { OnOk result (key.new.bytes.items ≡ key_text column.now text.now) }
 {

@@ -4,7 +4,7 @@ ghost use Rattle.ether_text.specs.Run.{IsEndless};
 ghost use Rattle.ether_stream.specs.Counting.{AreCounted, HasCounted};
 ghost use Rattle.ether_stream.specs.Run.{HasNoMemory, HasRun, IfSettled, OnStreamFault};
 ghost use Rattle.ether_stream.specs.Task.{task_view};
-ghost use Rattle.ether_capture.specs.Files.{Settles};
+ghost use Rattle.ether_capture.specs.SeveralFiles.{Settles};
 
 use crate::heap_memory::HeapMemory;
 use crate::interface_buffer::InterfaceBuffer;
@@ -13,7 +13,7 @@ use ether_stream::{Buffers, NoMemory, PacketCounts, RunFault, Task};
 use ether_text::{Sink, Source, Verdict};
 use std::alloc::Global;
 
-/// Does as [`run_counted`], with memory that is allocated before.
+/// Like [`run_counted`], with memory of the heap that is allocated first.
 pub fn run_input<R: Source, W: Sink>(
     task: &Task,
     alloc: Global,

@@ -32,8 +32,8 @@ static OPTIONS: [&str; 7] = [
     "fields",
 ];
 
-/// What is wrong with words that `clap` refuses, the first of which is the program's name: an option that is not known, or else one that lacks its
-/// value.
+/// What is wrong with words that `clap` refuses: an option is not known, or else one lacks its value, or else
+/// [`Usage::Words`]. The first of the words is the program's name.
 pub fn usage_of(words: &[String]) -> Usage<'_>
     ensures { IsUsageOf (map string_bytes words.now) result }
 {
@@ -85,7 +85,7 @@ fn bare_option(words: &[String]) -> Option<&str>
     None
 }
 
-/// Tests that the first word can be a value: it is no option.
+/// Tests that the first word can be a value: it is not an option.
 fn begins_with_value(words: &[String]) -> bool
     ensures { result ≡ begins_with_value (map string_bytes words.now) }
 {
@@ -114,7 +114,7 @@ fn need_of(word: &[u8]) -> Option<bool>
     }
 }
 
-/// .. of an option with a long name, which may have `=` and a value after it.
+/// The same for an option with a long name, which may have `=` and a value after it.
 fn long_need(text: &[u8]) -> Option<bool>
     ensures { result ≡ long_need text.now }
 {
@@ -124,7 +124,7 @@ fn long_need(text: &[u8]) -> Option<bool>
     }
 }
 
-/// .. of an option with this name, which is all of the word or not.
+/// The same for an option with this name, which is all of the word or not.
 fn name_need(name: &[u8], is_all: bool) -> Option<bool>
     ensures { result ≡ name_need name.now is_all }
 {
@@ -137,7 +137,7 @@ fn name_need(name: &[u8], is_all: bool) -> Option<bool>
     None
 }
 
-/// .. of an option with this letter, which is all of the word or not.
+/// The same for an option with this letter, which is all of the word or not.
 fn letter_need(letter: u8, is_all: bool) -> Option<bool>
     ensures { result ≡ letter_need letter is_all }
 {

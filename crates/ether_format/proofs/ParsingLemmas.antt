@@ -46,14 +46,14 @@ splits_name it name is same = record {
 pub no_column_plain : (name : List ℕ) → All (λ b. (b == 46) ≡ false) name → (it : ColumnValue) → IsColumn it → column_name it ≢ name
 no_column_plain name none it is same = no_split 46 refl name it.section it.member none (splits_name it name is same)
 
--- .. nor one whose front is no section's
+-- .. nor one whose front is not the name of a section
 pub no_column_section : (name before after : List ℕ) → SplitsAt 46 name before after → ((s : Section) → section_name s ≢ before)
     → (it : ColumnValue) → IsColumn it → column_name it ≢ name
 no_column_section name before after split none it is same =
     let one = one_split 46 refl name it.section it.member before after (splits_name it name is same) split in
     none is.of (sym is.is_section ∙ one.0)
 
--- .. nor one whose back is no member's
+-- .. nor one whose back is not the name of a member
 pub no_column_member : (name before after : List ℕ) (s : Section) (words : List (Bor (List ℕ))) → SplitsAt 46 name before after
     → section_name s ≡ before → map (λ w. w.now) words ≡ section_members s → All (λ w. w.now ≢ after) words
     → (it : ColumnValue) → IsColumn it → column_name it ≢ name

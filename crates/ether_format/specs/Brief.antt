@@ -101,7 +101,7 @@ name_or_number None t = hex_number t
 abbrev pub type_text : ℕ → List ℕ
 type_text t = name_or_number (description_in type_names t) t
 
--- what is left, and its length; the padding after an ARP packet is not told
+-- what is left, and its length; the padding after an ARP packet is left out
 abbrev pub brief_rest : (len : ℕ) → RestKind → List ℕ
 brief_rest len rests.AfterArp = []
 brief_rest len (rests.EtherType t) = codes " " ++ (type_text t.0 ++ (codes " " ++ (decimal len ++ codes " bytes")))

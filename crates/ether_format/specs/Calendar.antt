@@ -5,11 +5,11 @@ use Rattle.ether_format.specs.declared.moment.Moment.{Moment}
 
 -- ---- the calendar
 
--- each fourth year is a leap year, but not each hundredth, but each four hundredth
+-- every fourth year is a leap year, except for every hundredth that is not a four hundredth
 abbrev pub is_leap_year : ℕ → Bool
 is_leap_year y = nat_eq (y % 4) 0 && (not (nat_eq (y % 100) 0) || nat_eq (y % 400) 0)
 
--- the days of each month of a year
+-- the number of days of each month of a year
 abbrev pub month_lens : (leap : Bool) → List ℕ
 month_lens leap = 31 ∷ (if leap then 29 else 28) ∷ 31 ∷ 30 ∷ 31 ∷ 30 ∷ 31 ∷ 31 ∷ 30 ∷ 31 ∷ 30 ∷ 31 ∷ []
 
@@ -17,17 +17,17 @@ abbrev pub sum : List ℕ → ℕ
 sum [] = 0
 sum (n ∷ ns) = n + sum ns
 
--- the days of a year before a month
+-- the number of days of a year before a month
 abbrev pub days_before_month : (leap : Bool) → (month : ℕ) → ℕ
 days_before_month leap month = sum (take (month - 1) (month_lens leap))
 
--- the days before a year, from the beginning of the year 1
+-- the number of days from 1 January of the year 1 to 1 January of a year
 abbrev pub days_before_year : ℕ → ℕ
 days_before_year y = let years = y - 1 in 365 * years + (years / 4 - years / 100 + years / 400)
 
 -- ---- a time
 
--- a day of the calendar, so many days after the beginning of the year 1
+-- the day that is `days` days after 1 January of the year 1
 pub record IsDate (days year month day : ℕ) : Type 0 where
   pub first_year : 1 ≤ year
   pub first_month : 1 ≤ month
@@ -36,7 +36,7 @@ pub record IsDate (days year month day : ℕ) : Type 0 where
   pub last_day : day ≤ slice_index (month_lens (is_leap_year year)) (month - 1)
   pub is_sum : days ≡ days_before_year year + days_before_month (is_leap_year year) month + (day - 1)
 
--- the hour, minute and second of so many seconds of a day
+-- the time of day that is `seconds` seconds after midnight
 pub record IsHour (seconds hour minute second : ℕ) : Type 0 where
   pub hours : hour < 24
   pub minutes : minute < 60

@@ -21,7 +21,7 @@ pub record Section : Type 0 where
 abbrev pub section : List ℕ → List Member → Section
 section name members = record { name = name; members = members }
 
--- a header goes by its own name; and its name and place go by `headers`, too
+-- a header is a section with its own name; its name and place are also a section `headers`
 abbrev pub header_sections : Told → List Section
 header_sections h =
     section (told_name h) (told_members h) ∷ section (codes "headers") (placed_members (told_name h) (told_place h) []) ∷ []
@@ -34,7 +34,7 @@ sections number p moment headers end =
 
 -- ---- a column
 
--- the members with a name, of the sections with a name
+-- the name of a section, and that of a member
 pub record ColumnValue : Type 0 where
   pub section : List ℕ
   pub member : List ℕ
@@ -105,16 +105,17 @@ pub record IsColumn (c : ColumnValue) : Type 0 where
   pub is_section : c.section ≡ section_name of
   pub is_member : IsAmong (section_members of) c.member
 
--- a text names them, with a comma (44) between two, 32 at most
+-- a text names these columns, at most 32, with a comma (44) between two
 pub record AreColumns (text : List ℕ) (columns : List ColumnValue) : Type 0 where
   pub names : slice_split (λ b. b == 44) text ≡ map column_name columns
   pub known : All IsColumn columns
   pub most : length columns ≤ 32
 
--- the first of these names that no column has, if there is one
+-- a column has this name
 abbrev pub NamesColumn : (name : List ℕ) → Type 0
 NamesColumn name = (c : ColumnValue) × IsColumn c × (column_name c ≡ name)
 
+-- the first of these names that no column has, if there is one
 abbrev pub IsUnknownIn : (names : List (List ℕ)) → (unknown : Option (List ℕ)) → Type 0
 IsUnknownIn [] unknown = unknown ≡ None
 IsUnknownIn (name ∷ names) unknown = ((¬ (NamesColumn name)) × (unknown ≡ Some name)) ⊎ (NamesColumn name × IsUnknownIn names unknown)
@@ -123,7 +124,7 @@ IsUnknownIn (name ∷ names) unknown = ((¬ (NamesColumn name)) × (unknown ≡ 
 abbrev pub original_column : ColumnValue
 original_column = record { section = codes "frame"; member = codes "original" }
 
--- what a summary counts unless columns are named
+-- the columns that a summary counts if none are named
 abbrev pub common_columns : List ColumnValue
 common_columns =
     record { section = codes "headers"; member = codes "header" } ∷ record { section = codes "vlan"; member = codes "vid" }

@@ -42,7 +42,7 @@ pub record GathersWalk (at : ℕ) (x : Expectation) (frame : List ℕ) (old new 
   pub whole : new ≡ old ++ later
   pub tells : TellsWalk at x frame (map found_told later) (end_told end) (is_accepted end)
 
--- more headers are told than there is room for after so many others
+-- after `others` headers there is no room for all those of the walk
 abbrev pub HasNoRoom : (tells : List Told → ToldEnd → Bool → Type 0) → (others : ℕ) → Type 0
 HasNoRoom tells others = (told : List Told) (end : ToldEnd) (accepted : Bool) → tells told end accepted → 4 < others + length told
 

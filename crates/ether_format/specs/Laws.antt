@@ -17,7 +17,7 @@ pub record TextsAreOne : Type 0 where
   pub text : (format : Format) (limit : Option ℕ) (number : ℕ) (p : PacketValue) (text other : List ℕ) (accepted also : Bool)
       → HasText format limit number p text accepted → HasText format limit number p other also → (text ≡ other) × (accepted ≡ also)
 
--- What a packet, a header and the end of a walk say has the names of the columns of its section.
+-- The members of a packet, of a header and of the end of a walk have the names of the columns of their section.
 pub record ColumnsAreMembers : Type 0 where
   pub packet : (number : ℕ) (p : PacketValue) (moment : Option Moment) → map (λ m. m.name) (packet_members number p moment) ≡ section_members Frame
   pub header : (h : Told) (s : Section) → told_name h ≡ section_name s → map (λ m. m.name) (told_members h) ≡ section_members s

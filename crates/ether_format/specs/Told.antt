@@ -23,7 +23,7 @@ use Rattle.ether_format.specs.Members.{Value, Nothing, Number, Protocol, Flag, W
 
 -- ---- a header
 
--- where it starts and ends, where its payload ends, and whether further bytes of the packet could not belong to that
+-- where it starts and ends, where its payload ends, and whether bytes appended to the packet would lie outside that
 pub record Place : Type 0 where
   pub start : ℕ
   pub header_end : ℕ
@@ -35,7 +35,7 @@ pub data Told : Type 0 where
   Walked : Place → Header → (fcs : Option (List ℕ)) → Told
   CookedV2 : Place → LinuxSll2Value → Told
 
--- the place of a header whose payload is a window; each offset counts from so many bytes before the list
+-- the place of a header of a window of a list; each offset counts from `at` bytes before the list
 abbrev pub place_of : (at : ℕ) → Window → Header → Place
 place_of at w h = let inner = payload w h in record {
   start = at + w.start;
@@ -79,7 +79,7 @@ abbrev pub cause_of_v2 : LinuxSll2Refusal → Cause
 cause_of_v2 (Short required len) = Length required len sources.Slice
 cause_of_v2 (PacketType n) = UnknownPacketType n
 
--- what is left, from a place to a place, and what it is announced as; a packet whose link type the walk does not know; or a fault
+-- what is left, between two offsets, and what it is announced as; a packet whose link type is unknown; or a fault
 pub data ToldEnd : Type 0 where
   Rest : (start finish : ℕ) → RestKind → ToldEnd
   Skipped : (len : ℕ) → ToldEnd
@@ -100,7 +100,7 @@ pub record TellsWalk (at : ℕ) (start : Expectation) (frame : List ℕ) (told :
   pub is_end : end ≡ told_end at ending
   pub verdict : accepted ≡ is_accepted ending
 
--- a cooked header at the front of so many bytes
+-- the place of a cooked header at the front of `len` bytes
 abbrev pub cooked_place : (header_len len : ℕ) → Place
 cooked_place header_len len = record { start = 0; header_end = header_len; payload_end = len; closed = false }
 
@@ -125,7 +125,7 @@ pub data TellsCookedV2 (limit : Option ℕ) (bytes : List ℕ) : List Told → T
       → TellsAfter limit (told_ether_type (protocol_of_header bytes)) bytes told end accepted → TellsCookedV2 limit bytes told end accepted
   refused : (r : LinuxSll2Refusal) → RefusesLinuxSll2 bytes r → TellsCookedV2 limit bytes [] (Fault 0 false (cause_of_v2 r)) false
 
--- a packet of so many bytes, by what is walked of it
+-- what a packet of `len` bytes tells, by its content
 abbrev pub Tells : (limit : Option ℕ) → (len : ℕ) → ContentValue → List Told → ToldEnd → (accepted : Bool) → Type 0
 Tells limit len (Frame next bytes) told end accepted = TellsWalk 0 (record { next = next; limit = limit }) bytes told end accepted
 Tells limit len (LinuxSll s payload) told end accepted =

@@ -109,13 +109,13 @@ cause_shown (errors.Len e) = Length e.required_len e.len e.len_source
 cause_shown (errors.LinuxSll e) = linux_sll_cause e
 cause_shown (errors.Macsec e) = macsec_cause e
 
--- a fault whose place is counted from so many bytes before the frame
+-- a fault, whose offset counts from `at` bytes before the frame
 abbrev pub fault_shown : (at : ℕ) → PeelFault → ToldEnd
 fault_shown at f = Fault (at + f.offset) f.closed (cause_shown f.error)
 
 -- ---- in a column
 
--- nothing before the first header or value
+-- a comma, but nothing before the first header or value
 abbrev pub comma_if : (first : Bool) → List ℕ
 comma_if true = []
 comma_if false = codes ","
@@ -175,7 +175,7 @@ still_first first (v ∷ vs) = false
 
 -- ---- in a format
 
--- a header, if it is the first or not
+-- the text of a header, which is the first or not
 abbrev pub header_text : Part → (first : Bool) → Told → List ℕ
 header_text Json first h = comma_if first ++ json_object (told_members h)
 header_text Brief first h = brief_told h
@@ -191,7 +191,7 @@ end_text Json end = json_end end
 end_text Brief end = brief_end end
 end_text (Column c) end = column_on true (end_values (column_view c) end)
 
--- headers, of which the first is the packet's first or not, and the end
+-- the text of headers and the end; `first` says whether the first of them is the packet's first
 abbrev pub told_text : Part → (first : Bool) → List Told → ToldEnd → List ℕ
 told_text part first [] end = end_text part end
 told_text part first (h ∷ hs) end = header_text part first h ++ told_text part (next_is_first part first h) hs end

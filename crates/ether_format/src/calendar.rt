@@ -6,17 +6,18 @@ ghost use Rattle.ether_format.specs.Calendar.{IsDate, IsMoment, days_before_mont
 use crate::Moment;
 use ether_pcap::Timestamp;
 
-/// The days before 1970, from the beginning of the year 1.
+/// The number of days from 1 January of the year 1 to 1 January 1970.
 const DAYS_BEFORE_1970: u64 = 719_162;
 
-/// The days of four centuries, of one that does not end with a leap year, and of four years with a leap year.
+/// The number of days of 400 years, of a century whose last year is not a leap year, and of four years with one leap
+/// year.
 const DAYS_OF_400_YEARS: u64 = 146_097;
 
 const DAYS_OF_100_YEARS: u64 = 36_524;
 
 const DAYS_OF_4_YEARS: u64 = 1_461;
 
-/// The moment of a time.
+/// The date and the time of day of a time since 1970.
 pub(crate) fn moment_of(time: Timestamp) -> Moment
     ensures { IsMoment (timestamp_view time) result }
 {
@@ -33,7 +34,7 @@ pub(crate) fn moment_of(time: Timestamp) -> Moment
     }
 }
 
-/// The year, month and day of a day, counted from the beginning of the year 1.
+/// The year, month and day of the day that is `days` days after 1 January of the year 1.
 fn date_of(days: u64) -> (u64, u8, u8)
     ensures { IsDate days result.0 result.1 result.2 }
 {
@@ -42,7 +43,8 @@ fn date_of(days: u64) -> (u64, u8, u8)
     (year, month, day)
 }
 
-/// The year of a day, and which of its days it is, from 0 on.
+/// The year of the day that is `days` days after 1 January of the year 1, and the number of days of that year before
+/// it.
 #[inline(always)]
 fn year_of(days: u64) -> (u64, u64)
     ensures year { 1 ≤ result.0 }
@@ -66,7 +68,7 @@ fn is_leap_year(year: u64) -> bool
     year % 4 == 0 && (year % 100 != 0 || year % 400 == 0)
 }
 
-/// The month and the day of the month of a day of a year, which is counted from 0 on.
+/// The month and the day of the month, both counted from 1, of a day of a year, which is counted from 0.
 fn month_of(is_leap: bool, day_of_year: u64) -> (u8, u8)
     requires { day_of_year < sum (month_lens is_leap) }
     ensures first_month { 1 ≤ result.0 }
@@ -85,7 +87,7 @@ fn month_of(is_leap: bool, day_of_year: u64) -> (u8, u8)
     (month as u8 + 1, left as u8 + 1)
 }
 
-/// The days of each month.
+/// The number of days of each month.
 #[inline(always)]
 fn month_lens(is_leap: bool) -> [u8; 12]
     ensures { result ≡ month_lens is_leap }

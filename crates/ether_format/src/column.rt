@@ -9,7 +9,8 @@ ghost use Rattle.ether_format.specs.Walking.{is_end_section};
 use crate::split::split_at;
 use ether_text::{OutputBuffer, Sink};
 
-/// A part of what is written of a packet: the packet itself, headers with a name, all headers, or how the walk through them ends.
+/// A group of members, whose name begins the names of their columns: the packet itself, one kind of header, all
+/// headers, or how the walk ends.
 #[derive(Clone, Copy, PartialEq, Eq, Debug)]
 pub(crate) enum Section {
     Frame,
@@ -25,7 +26,7 @@ pub(crate) enum Section {
 }
 
 impl Section {
-    /// Its name.
+    /// Its name, as `vlan`.
     pub(crate) fn name(self) -> &'static str
         ensures { result.now ≡ section_name self }
     {
@@ -43,7 +44,7 @@ impl Section {
         }
     }
 
-    /// Whether it is how the walk ends.
+    /// Whether it is `rest` or `fault`: how the walk ends.
     #[inline(always)]
     pub(crate) fn is_end(self) -> bool
         ensures { result ≡ is_end_section self }
@@ -51,7 +52,7 @@ impl Section {
         matches!(self, Section::Rest | Section::Fault)
     }
 
-    /// The section of a name.
+    /// The section with this name.
     fn of_name(name: &[u8]) -> Option<Section>
         ensures some { IfSome result (λ it. section_name it ≡ name.now) }
         ensures none { IfNone result ((it : DeclaredSection) → section_name it ≢ name.now) }
@@ -71,7 +72,7 @@ impl Section {
         }
     }
 
-    /// The names of its members.
+    /// The names of its members, in the order of their indexes.
     fn members(self) -> &'static [&'static str]
         ensures { map (λ s. s.now) result.now ≡ section_members self }
     {
@@ -196,12 +197,12 @@ static FAULT: [&str; 7] = [
 pub struct Column {
     /// The section.
     pub(crate) section: Section,
-    /// Which of its members, counted from 0.
+    /// The index of the member in its section, counted from 0.
     pub(crate) index: u8,
 }
 
 impl Column {
-    /// The column of a name, as `vlan.vid`.
+    /// The column with this name, as `vlan.vid`. Returns `None` if no column has it.
     pub(crate) fn of_name(name: &[u8]) -> Option<Column>
         ensures some { IfSome result (λ it. IsColumn (column_view it) × (column_name (column_view it) ≡ name.now)) }
         ensures none { IfNone result ((it : ColumnValue) → IsColumn it → column_name it ≢ name.now) }
@@ -215,7 +216,7 @@ impl Column {
         })
     }
 
-    /// Writes the name.
+    /// Writes the name, as `vlan.vid`.
     pub(crate) fn write_name<W: Sink>(self, out: &mut OutputBuffer<'_, W>)
         ensures { Takes W.contents W.can_fail out.old (column_name (column_view self)) out.new }
     {
@@ -227,7 +228,7 @@ impl Column {
     }
 }
 
-/// Where a word is among words.
+/// The index of a word among words.
 fn index_of(words: &[&str], word: &[u8]) -> Option<usize>
     ensures some { IfSome result (λ at. (at < length words.now) × (slice_index_or (map (λ s. s.now) words.now) at [] ≡ word.now)) }
     ensures none { IfNone result (All (λ it. it.now ≢ word.now) words.now) }

@@ -27,11 +27,11 @@ use ether_pcap::CapturedPacket;
 use ether_peel::{PeelError, PeelUnit, RestKind};
 use ether_sll2::{LinuxSll2Error, LinuxSll2Slice};
 
-/// How many members the name and the place of a header are, which come before its own.
+/// The number of members that each header has before its own: its name and its place.
 const MEMBERS_OF_PLACE: u8 = 5;
 
 impl Column {
-    /// Its value in the packet.
+    /// Its value in the packet. Returns `None` for a column of another section than `frame`.
     pub(crate) fn in_packet<'a>(
         self,
         number: usize,
@@ -47,7 +47,7 @@ impl Column {
         member_at(&members::packet(number, packet, moment), &[], self.index)
     }
 
-    /// Its value in the packet, whose section is its own. The packet's moment is computed only if it is the value.
+    /// Its value in the packet, for a column of `frame`. The date is computed only if it is the value.
     #[inline(always)]
     pub(crate) fn in_frame<'a>(
         self,
@@ -132,7 +132,7 @@ impl Column {
         )
     }
 
-    /// Its value in the name and the place of a header.
+    /// Its value in the name and the place of a header, for a column of `headers`.
     #[inline(always)]
     fn in_place<'a>(self, section: Section, place: Place) -> Option<Value<'a>>
         ensures { if_any (option_map value_view result) ≡ values_placed (column_view self) (section_name section) (place_view place) }
@@ -143,7 +143,7 @@ impl Column {
         member_at(&placed(section.name(), place), &[], self.index)
     }
 
-    /// Its value in what is left, from a place to a place.
+    /// Its value in what is left, from `start` to `end`.
     pub(crate) fn in_rest<'a>(self, start: usize, end: usize, kind: RestKind) -> Option<Value<'a>>
         ensures { if_any (option_map value_view result) ≡ end_values (column_view self) (Rest start end kind) }
     {
@@ -153,7 +153,7 @@ impl Column {
         member_at(&endings::rest(start, end, kind), &[], self.index)
     }
 
-    /// Its value in a packet of so many bytes that is skipped.
+    /// Its value in a skipped packet of `len` bytes.
     pub(crate) fn in_skipped<'a>(self, len: usize) -> Option<Value<'a>>
         ensures { if_any (option_map value_view result) ≡ end_values (column_view self) (Skipped len) }
     {
@@ -211,7 +211,7 @@ pub(crate) fn section_of(unit: &PeelUnit<'_>) -> Section
     }
 }
 
-/// The value of a member of two lists, counted from the first of the first one.
+/// The value of the member at `index` of two lists, one after the other.
 #[inline(always)]
 pub(crate) fn member_at<'a>(
     first: &[Member<'a>],

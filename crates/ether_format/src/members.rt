@@ -225,7 +225,7 @@ pub(crate) fn cooked<'a>(header: &'a CookedHeader) -> [Member<'a>; 5]
     ]
 }
 
-/// As much of an address as its length says.
+/// The first `len` of the 8 bytes of an address, or all if `len` is greater.
 pub(crate) fn used(address: &[u8], len: usize) -> &[u8]
     requires { length address.now ≡ 8 }
     ensures { result.now ≡ take len (spelled 8 (number_of_bytes address.now)) }

@@ -63,7 +63,8 @@ fn write_later<W: Sink>(
     }
 }
 
-/// Writes a value of a column, if there is one, after a comma unless it is the first. Returns whether the next is the first.
+/// Writes a value of a column, if there is one, after a comma unless it is the first. Returns whether the next value
+/// is the first.
 #[inline(always)]
 pub(crate) fn write_value<W: Sink>(
     is_first: bool,

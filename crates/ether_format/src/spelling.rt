@@ -55,14 +55,14 @@ pub(crate) fn write_column_value<W: Sink>(value: &Value<'_>, out: &mut OutputBuf
     }
 }
 
-/// The first bytes, as many as it says, and no more than there are.
+/// The first `len` bytes, or all if there are fewer.
 pub(crate) fn first_of(bytes: &[u8], len: usize) -> &[u8]
     ensures { result.now ≡ take len bytes.now }
 {
     &bytes[..len.min(bytes.len())]
 }
 
-/// The word for a truth.
+/// `true` or `false`.
 fn flag_text(holds: bool) -> &'static str
     ensures { result.now ≡ flag_text holds }
 {
@@ -185,7 +185,7 @@ pub(crate) fn mac_text(address: [u8; 6]) -> [u8; 17]
     ]
 }
 
-/// Writes a moment as in ISO 8601.
+/// Writes a moment as in ISO 8601, with nine decimals of the second.
 pub(crate) fn write_moment<W: Sink>(moment: &Moment, out: &mut OutputBuffer<'_, W>)
     ensures { Takes W.contents W.can_fail out.old (moment_text moment.now) out.new }
 {
@@ -212,7 +212,7 @@ pub(crate) fn write_date<W: Sink>(moment: &Moment, out: &mut OutputBuffer<'_, W>
     out.append_array(month_to_second(moment));
 }
 
-/// What follows the year of a date, up to the second.
+/// What follows the year of a date, up to the second: `-11-14T22:13:20`.
 fn month_to_second(moment: &Moment) -> [u8; 15]
     ensures { result ≡ codes "-" ++ two_digits moment.now.month ++ codes "-" ++ two_digits moment.now.day ++ codes "T"
         ++ two_digits moment.now.hour ++ codes ":" ++ two_digits moment.now.minute ++ codes ":" ++ two_digits moment.now.second }

@@ -32,7 +32,7 @@ use etherparse::{
     ArpPacketSlice, Ethernet2Slice, LinuxSllSlice, MacsecHeaderSlice, SingleVlanSlice,
 };
 
-/// The value of a member of a header, counted from the first after its place.
+/// The value of the member at `index` of a header, counted from the first after its name and place.
 #[inline(always)]
 pub(crate) fn header_value<'a>(header: &'a FoundHeader<'_>, index: u8) -> Option<Value<'a>>
     ensures { if_any (option_map value_view result) ≡ value_at (member_values (found_members header.now)) index }
@@ -147,7 +147,7 @@ fn arp_value<'a>(packet: &'a ArpPacketSlice<'_>, index: u8) -> Option<Value<'a>>
     }
 }
 
-/// The value of a member of a packet. Its moment is computed only if it is asked for.
+/// The value of the member at `index` of a packet. Its date is computed only if it is that value.
 #[inline(always)]
 pub(crate) fn packet_value<'a>(
     number: usize,

@@ -12,8 +12,9 @@ use crate::write_header::write_header;
 use ether_peel::{Peel, Start};
 use ether_text::{OutputBuffer, Sink};
 
-/// Writes the headers of a walk, the first of which is the packet's first or not, and how it ends. Returns whether no header is refused.
-/// Each place is counted from `header_len` bytes before the frame.
+/// Writes the headers of a walk and how it ends, and returns whether no header is refused. `first` says whether the
+/// first header, or the first value of a column, is that of the packet. Each offset is counted from `header_len`
+/// bytes before the frame.
 #[inline(always)]
 pub(crate) fn write_walk<W: Sink>(
     part: Part,
@@ -55,7 +56,7 @@ pub(crate) fn write_walk<W: Sink>(
     }
 }
 
-/// The walk of a frame, with a limit on VLAN tags and SecTags or without.
+/// The walk of a frame. With a limit, it reads at most that many VLAN tags and SecTags.
 pub(crate) fn walker(start: Start, limit: Option<usize>, frame: &[u8]) -> Peel<'_>
     ensures going { result.over ≡ false }
     ensures walk { FacesWalk (start_with start limit) frame.now result }

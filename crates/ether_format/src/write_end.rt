@@ -17,7 +17,7 @@ use ether_peel::{PeelError, RestKind};
 use ether_sll2::LinuxSll2Error;
 use ether_text::{OutputBuffer, Sink};
 
-/// Writes what is left, from a place to a place.
+/// Writes what is left, from `start` to `end`.
 #[inline(always)]
 fn write_json_rest<W: Sink>(start: usize, end: usize, kind: RestKind, out: &mut OutputBuffer<'_, W>)
     ensures { Takes W.contents W.can_fail out.old (end_text Json (Rest start end kind)) out.new }
@@ -27,7 +27,7 @@ fn write_json_rest<W: Sink>(start: usize, end: usize, kind: RestKind, out: &mut 
     out.append(b"}\n");
 }
 
-/// Writes that a packet of so many bytes is of a link type that the walk does not know.
+/// Writes that a packet of `len` bytes is of a link type that the walk does not know.
 fn write_json_skipped<W: Sink>(len: usize, out: &mut OutputBuffer<'_, W>)
     ensures { Takes W.contents W.can_fail out.old (end_text Json (Skipped len)) out.new }
 {
@@ -63,7 +63,7 @@ fn write_json_linux_sll2_fault<W: Sink>(error: &LinuxSll2Error, out: &mut Output
     out.append(b"}\n");
 }
 
-/// Writes what is left, from a place to a place.
+/// Writes what is left, from `start` to `end`.
 #[inline(always)]
 pub(crate) fn write_rest<W: Sink>(
     part: Part,
@@ -82,7 +82,7 @@ pub(crate) fn write_rest<W: Sink>(
     }
 }
 
-/// Writes that a packet of so many bytes is of a link type that the walk does not know.
+/// Writes that a packet of `len` bytes is of a link type that the walk does not know.
 pub(crate) fn write_skipped<W: Sink>(part: Part, len: usize, out: &mut OutputBuffer<'_, W>)
     ensures { Takes W.contents W.can_fail out.old (end_text part (Skipped len)) out.new }
 {

@@ -20,8 +20,8 @@ use ether_peel::PeelUnit;
 use ether_sll2::LinuxSll2Slice;
 use ether_text::{OutputBuffer, Sink};
 
-/// Writes a header, which is the first of its packet or not; or its value in a column, the first or not. Returns whether the next is the
-/// first.
+/// Writes a header, or its value in a column. `is_first` says whether it is the first of the packet. Returns whether
+/// the next header or value is the first.
 #[inline(always)]
 pub(crate) fn write_header<W: Sink>(
     part: Part,

@@ -10,7 +10,7 @@ use Rattle.ether_stream.specs.Packets.{capture_start, counted, GoesOn, HasFewer,
 use Rattle.ether_stream.specs.Task.{Lines, packets_before}
 use Rattle.ether_stream.specs.declared.task.LineOptions.{LineOptions}
 
--- this is the text for the packets in order, after so many before them, and all says that each is accepted
+-- this is the text for the packets in order, after `before` others, and `all` says whether each is accepted
 abbrev pub AreAnswered : (select : Option Selection) → (options : LineOptions) → (before : ℕ) → List PacketValue → (text : List ℕ) → (all : Bool) → Type 0
 AreAnswered select options before [] text all = (text ≡ []) × (all ≡ true)
 AreAnswered select options before (p ∷ packets) text all =
@@ -18,7 +18,7 @@ AreAnswered select options before (p ∷ packets) text all =
     × AnswersPacket select options (counted (before + 1)) p first accepted × AreAnswered select options (before + 1) packets rest others_accepted
     × (text ≡ first ++ rest) × (all ≡ (accepted && others_accepted))
 
--- the line after those of all packets
+-- the line of the totals
 abbrev pub totals_of : (options : LineOptions) → List PacketValue → (undecided : Option ℕ) → List ℕ
 totals_of options packets undecided =
     totals_line_after options.before options.is_plain (counted (packets_before (Lines options) + length packets))

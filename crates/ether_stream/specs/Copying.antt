@@ -19,9 +19,10 @@ EditsIf (Some e) p o = Edits e p o
 abbrev pub growth_if : (asked : Option EditValue) → ℕ
 growth_if asked = unwrap_or (option_map growth asked) 0
 
--- The copy of a capture up to what is left of it. It is a capture of its own, which has exactly the packets that are chosen, each edited,
--- unless there was a fault before anything was copied. As another capture its packets have no more bytes than its snap lengths allow, if those of
--- the first have not. An exact copy of all that are not edited is the capture itself, up to what is left.
+-- The copy of a capture up to what is left of it. It is a capture of its own, which has exactly the packets that are
+-- chosen, each edited, unless there was a fault before anything was copied. If its snap lengths are raised by what the
+-- edit can add, and no chosen packet was longer than they allowed, then no packet of the copy is. An exact copy of all
+-- packets, none of them edited, is the capture itself, up to what is left.
 pub record IsCopy (mode : ModeValue) (select : Option Selection) (asked : Option EditValue)
     (bytes copy rest : List ℕ) (fault : Option CopyFault) : Type 0 where
   pub packets : List PacketValue
@@ -51,7 +52,7 @@ pub record CopiesToFault (mode : ModeValue) (select : Option Selection) (count :
   pub is_offset : offset ≡ counted (length front)
   pub fewer : HasFewer select count front
 
--- .. up to a packet that is to be edited, and can't be
+-- .. up to a packet that is to be edited and can't be
 abbrev pub CopiesToPacket : ModeValue → (select : Option Selection) → (count : Option ℕ) → (asked : Option EditValue) → (offset : ℕ) → (bytes copy : List ℕ) → Type 0
 CopiesToPacket mode select count asked offset bytes copy = (p : PacketValue) × CopiesToFault mode select count asked (NotEdited p) offset bytes copy
 

@@ -23,13 +23,13 @@ pub record AreCounted (task : TaskValue) (packets : List PacketValue) (counts : 
   pub undecided : HasOpen task.select packets counts.undecided
   pub is_left : IsLeftOf task.count (length kept) counts.left
 
--- of a run whose writer has not failed, and which met no packet that can't be edited
+-- if a run ended without a fault of its writer, and without a packet that can't be edited
 abbrev pub IfRead : Result Verdict RunFault → Type 0 → Type 0
 IfRead (Err Output) P = ⊤
 IfRead (Err (NotEdited offset)) P = ⊤
 IfRead outcome P = P
 
--- .. or of a file that can't be opened
+-- .. or a file can't be opened
 abbrev pub IfFileRead : FileEnd → Type 0 → Type 0
 IfFileRead (ends.NotOpened fault) P = P
 IfFileRead (ends.Read end) P = IfRead end P

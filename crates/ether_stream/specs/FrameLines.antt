@@ -26,7 +26,7 @@ unfoldable pub time_text : Option TimeValue → List ℕ
 time_text None = codes "-"
 time_text (Some t) = decimal t.seconds ++ (codes "." ++ nine_digits t.nanoseconds)
 
--- a word that is there or not
+-- a word, or nothing
 abbrev pub mark : Bool → List ℕ → List ℕ
 mark true word = word
 mark false word = []
@@ -47,7 +47,7 @@ packet_line_if false number p = packet_line number p
 
 -- ---- all lines of a packet
 
--- of cooked capture v1 that is no frame: the line of the header, and those of the walk of the payload
+-- of cooked capture v1 that is not a frame: the line of the header, and those of the walk of the payload
 pub record AnswersLinuxSll (limit : Option ℕ) (s : LinuxSllValue) (payload text : List ℕ) (accepted : Bool) : Type 0 where
   pub lines : List ℕ
   pub walk : AnswersWalkAfter 16 (record { next = EtherType s.protocol; limit = limit }) payload lines accepted
@@ -79,7 +79,7 @@ abbrev pub AnswersPacket : (select : Option Selection) → (options : LineOption
 AnswersPacket select options number p text accepted =
     (IsChosen select p × HasLines options number p text accepted) ⊎ (¬ (IsChosen select p) × (text ≡ []) × (accepted ≡ true))
 
--- ---- the line after those of all packets
+-- ---- the line of the totals
 
 -- a number after its word
 abbrev pub told : (word : List ℕ) → ℕ → List ℕ
@@ -90,7 +90,7 @@ abbrev pub told_if : (word : List ℕ) → Option ℕ → List ℕ
 told_if word None = []
 told_if word (Some n) = told word n
 
--- the number of packets that are undecided is told if packets are selected
+-- a number of undecided packets, which only a selection has
 abbrev pub if_selected : (select : Option Selection) → ℕ → Option ℕ
 if_selected None n = None
 if_selected (Some s) n = Some n

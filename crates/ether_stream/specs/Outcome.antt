@@ -99,7 +99,7 @@ write_fault_text write_faults.Other = []
 abbrev pub not_written_text : (name : List ℕ) → WriteFault → List ℕ
 not_written_text name fault = name ++ (codes ": can't be written" ++ write_fault_text fault)
 
--- why the text of a filter is no expression
+-- why the text of a filter is not an expression
 abbrev pub no_filter_text : FilterError → List ℕ
 no_filter_text error = codes "--select: " ++ filter_error_text error
 

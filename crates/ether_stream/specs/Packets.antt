@@ -5,11 +5,11 @@ use Rattle.ether_pcap.specs.Capture.{PacketValue, CaptureExpectation, Beginning,
 use Rattle.ether_pcap.specs.Copies.{Selected}
 use Rattle.ether_stream.specs.Task.{IsChosen, IsBelow, IsOpen}
 
--- a count stays at its greatest value
+-- a count that 64 bits can't hold is the greatest that they can
 abbrev pub counted : ℕ → ℕ
 counted n = min n (2 ^ 64 - 1)
 
--- what is expected at the beginning of a capture, where a section may describe so many interfaces
+-- what is expected at the beginning of a capture, where a section may describe at most 65536 interfaces
 abbrev pub capture_start : CaptureExpectation
 capture_start = Beginning 65536
 
@@ -19,18 +19,18 @@ GoesOn front packets x =
     (later : List ℕ) (others : List PacketValue) (rest : List ℕ) (fault : Option CaptureRefusal)
     → HasPackets x later others rest fault → HasPackets capture_start (front ++ later) (packets ++ others) rest fault
 
--- so many of the packets that are asked for at most are left, after so many
+-- after `k` packets, `left` of the `count` that are asked for are left
 abbrev pub IsLeftOf : (count : Option ℕ) → ℕ → (left : Option ℕ) → Type 0
 IsLeftOf None k left = left ≡ None
 IsLeftOf (Some n) k left = (m : ℕ) × (left ≡ Some m) × (m + k ≡ n)
 
--- of this number of packets the captured bytes don't decide whether they are selected
+-- `count` packets are undecided: their captured bytes don't decide whether they are selected
 pub record HasOpen (select : Option Selection) (packets : List PacketValue) (count : ℕ) : Type 0 where
   pub undecided : List PacketValue
   pub selected : Selected (IsOpen select) packets undecided
   pub is_count : count ≡ counted (length undecided)
 
--- Of the packets of these units fewer are chosen than are asked for at most.
+-- Fewer packets of these units are chosen than are asked for.
 pub record HasFewer (select : Option Selection) (count : Option ℕ) (front : List ℕ) : Type 0 where
   pub packets : List PacketValue
   pub kept : List PacketValue
@@ -39,7 +39,7 @@ pub record HasFewer (select : Option Selection) (count : Option ℕ) (front : Li
   pub selected : Selected (IsChosen select) packets kept
   pub below : IsBelow count (length kept)
 
--- The last of these units is the packet with which so many are chosen as are asked for.
+-- The last of these units is the packet with which the requested number of packets is reached.
 pub record EndsAtCount (select : Option Selection) (count : Option ℕ) (front : List ℕ) : Type 0 where
   pub before : List ℕ
   pub unit : List ℕ

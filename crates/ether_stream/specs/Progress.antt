@@ -34,7 +34,7 @@ Made select (Lines options) packets kept front text all x = AreListed select opt
 Made select (Copy mode edit) packets kept front text all x =
     (edited : List PacketValue) × CopiesOn mode select edit front text kept edited x × (all ≡ true)
 
--- Of the input the units before the buffered bytes are taken.
+-- The units of the input that precede the buffered bytes are taken.
 pub record Reached {W X : Type 0} (task : TaskValue) (contents : W → Option (List ℕ)) (held : Option (List ℕ)) (input buffered : List ℕ)
     (at : Progress X) (out : OutputBuffer W) : Type 0 where
   pub packets : List PacketValue
@@ -84,7 +84,8 @@ Answers select options number None accepted text = (text ≡ Some []) × (accept
 Answers select options number (Some p) accepted text =
     (lines : List ℕ) × AnswersPacket select options number p lines accepted × (text ≡ Some lines)
 
--- The copy of a unit, by its packet if it has one: nothing if that is not chosen, none if it is to be edited and can't be.
+-- The copy of a unit, by its packet if it has one: empty if that is not chosen, `None` if it is to be edited and
+-- can't be.
 pub data Writes (mode : ModeValue) (select : Option Selection) (edit : Option EditValue) (x : CaptureExpectation) (unit : List ℕ)
     : Option PacketValue → Option (List ℕ) → Type 0 where
   writes_unit : Writes mode select edit x unit None (Some (other_unit mode x unit))
@@ -98,22 +99,22 @@ abbrev pub Makes : (select : Option Selection) → FormValue → CaptureExpectat
 Makes select (Lines options) x number unit packet accepted text = Answers select options number packet accepted text
 Makes select (Copy mode edit) x number unit packet accepted text = Writes mode select edit x unit packet text × (accepted ≡ true)
 
--- what is written for a unit that is no packet
+-- what is written for a unit that is not a packet
 abbrev pub other_text : FormValue → CaptureExpectation → (unit : List ℕ) → List ℕ
 other_text (Lines options) x unit = []
 other_text (Copy mode edit) x unit = other_unit mode x unit
 
--- a truth says whether the packet of a unit is chosen, if it has one
+-- whether the packet of a unit is chosen, if it has one
 abbrev pub IsChoice : (select : Option Selection) → Option PacketValue → Bool → Type 0
 IsChoice select None is_chosen = ⊤
 IsChoice select (Some p) is_chosen = IsTrue is_chosen ↔ IsChosen select p
 
--- one packet less is left if this one is chosen
+-- the number of packets that are left goes down by one if this one is chosen
 abbrev pub LeavesLess : (select : Option Selection) → PacketValue → (old new : Option ℕ) → Type 0
 LeavesLess select p None new = new ≡ None
 LeavesLess select p (Some m) new = (IsChosen select p × (new ≡ Some (m - 1))) ⊎ (¬ (IsChosen select p) × (new ≡ Some m))
 
--- .. and one more is undecided if this one is
+-- .. and that of undecided packets goes up by one if this one is undecided
 abbrev pub CountsOpen : (select : Option Selection) → PacketValue → (old new : ℕ) → Type 0
 CountsOpen select p old new = (IsOpen select p × (new ≡ counted (old + 1))) ⊎ (¬ (IsOpen select p) × (new ≡ old))
 
@@ -195,7 +196,7 @@ IsTakingFault (faults.NotEdited offset) = ⊤
 IsTakingFault faults.Output = ⊤
 IsTakingFault _ = ⊥
 
--- Of the input the units before a packet are taken that is to be edited and can't be; it is at this place.
+-- The units of the input before a packet at this offset are taken; the packet is to be edited, and can't be.
 pub record Unedited {W : Type 0} (mode : ModeValue) (select : Option Selection) (count : Option ℕ) (edit : Option EditValue) (contents : W → Option (List ℕ))
     (held : Option (List ℕ)) (input : List ℕ) (offset : ℕ) (out : OutputBuffer W) : Type 0 where
   pub front : List ℕ
@@ -230,7 +231,8 @@ StopsAfter task contents buffered old from offset to =
     (held : Option (List ℕ)) (input : List ℕ) → Reached task contents held input buffered old from
     → UneditedIn task.select task.count task.form contents held input offset to
 
--- The units at the front of the buffered bytes are taken, and what is left of them is refused; or no packet more is asked for.
+-- The units at the front of the buffered bytes are taken, and what is left is refused; or the requested number of
+-- packets is reached.
 pub record TakesUnits {W X : Type 0} (task : TaskValue) (contents : W → Option (List ℕ)) (buffered : List ℕ) (old : Progress X)
     (from : OutputBuffer W) (left : List ℕ) (error : Option CaptureError) (new : Progress X) (to : OutputBuffer W) : Type 0 where
   pub reached : (held : Option (List ℕ)) (input : List ℕ) → Reached task contents held input buffered old from

@@ -22,12 +22,13 @@ abbrev pub Completes : (select : Option Selection) → FormValue → List Packet
 Completes select (Lines options) packets bytes text all = AnswersCapture select options packets bytes text all
 Completes select (Copy mode edit) packets bytes text all = CopiesCapture mode select edit bytes text all
 
--- .. and it has fewer packets that are chosen than are asked for at most
+-- .. and fewer of its packets are chosen than are asked for
 abbrev pub CompletesAll : (task : TaskValue) → List PacketValue → (bytes text : List ℕ) → (all : Bool) → Type 0
 CompletesAll task packets bytes text all =
     HasFewer task.select task.count bytes × Completes task.select task.form packets bytes text all
 
--- Of a capture this is made of the units up to the packet with which so many are chosen as are asked for, as if it were all.
+-- This is made of the units of a capture up to the packet with which the requested number is reached, as if the
+-- capture ended there.
 pub record ReachesCount (task : TaskValue) (packets : List PacketValue) (verdict : Verdict) (bytes text : List ℕ) : Type 0 where
   pub front : List ℕ
   pub rest : List ℕ
@@ -60,7 +61,8 @@ abbrev pub NeedsMemory : Option ℕ → Type 0
 NeedsMemory None = ⊥
 NeedsMemory (Some n) = 65536 < n
 
--- What a run that found these packets has read and written, by its outcome. Of a fault of the writer nothing is said.
+-- What a run that found these packets has read and written, by its outcome. After a fault of the writer nothing is
+-- claimed.
 abbrev pub HasRunOver : (task : TaskValue) → List PacketValue → (before after held holds : Option (List ℕ)) → Result Verdict RunFault → Type 0
 HasRunOver task packets before after held holds (Ok verdict) =
     AnswersAll (CompletesAll task packets) before after held holds verdict ⊎ StopsIn (ReachesCount task packets verdict) before after held holds
@@ -78,7 +80,7 @@ HasRunOver task packets before after held holds (Err Memory) =
 abbrev pub HasRun : (task : TaskValue) → (before after held holds : Option (List ℕ)) → Result Verdict RunFault → Type 0
 HasRun task before after held holds outcome = (packets : List PacketValue) × HasRunOver task packets before after held holds outcome
 
--- there is no memory to begin with
+-- memory was refused before anything was read
 abbrev pub HasNoMemory : (before after held holds : Option (List ℕ)) → Result Verdict RunFault → Type 0
 HasNoMemory before after held holds outcome = (outcome ≡ Err Memory) × (after ≡ before) × (holds ≡ held)
 

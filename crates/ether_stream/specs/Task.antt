@@ -58,12 +58,12 @@ abbrev pub IsChosen : (select : Option Selection) → PacketValue → Type 0
 IsChosen None p = ⊤
 IsChosen (Some s) p = IsChosenOf s.undecided (Selects s.filter p) (IsUndecided s.filter p)
 
--- .. by truths
+-- .. by flags
 abbrev pub chosen_by : Undecided → (is_selected is_undecided : Bool) → Bool
 chosen_by Kept is_selected is_undecided = is_selected || is_undecided
 chosen_by Dropped is_selected is_undecided = is_selected && not is_undecided
 
--- this is less than the number of packets that is asked for at most
+-- this is less than the number of packets that are asked for, if that is limited
 abbrev pub IsBelow : (count : Option ℕ) → ℕ → Type 0
 IsBelow None k = ⊤
 IsBelow (Some n) k = k < n

@@ -15,8 +15,8 @@ pub record IsPair (text : List ℕ) (m n : ℕ) : Type 0 where
   pub first : number_in before ≡ Some (Some m)
   pub second : number_in after ≡ Some (Some n)
 
--- What an option asks for, with two numbers as its value: a VLAN tag is put in, with a TPID that announces one, or one gets
--- another identifier. Identifiers have 12 bits.
+-- The edit that an option with two numbers asks for: a VLAN tag is pushed, with a TPID that announces one, or the
+-- identifier of one is changed. Identifiers have 12 bits.
 pub data IsTagEdit : (word text : List ℕ) → EditValue → Type 0 where
   push : (text : List ℕ) (tpid id : ℕ) → IsPair text tpid id → is_vlan_ether_type tpid ≡ true → id < 4096
       → IsTagEdit (codes "--push-vlan") text (PushVlan tpid id)

@@ -14,7 +14,7 @@ pub struct Buffers<B: Grow, T: InterfaceTable> {
 }
 
 impl<B: Grow, T: InterfaceTable> Buffers<B, T> {
-    /// Memory for a run; the first two buffers grow at once.
+    /// Memory for a run. Returns [`NoMemory`] if one of the first two buffers can't grow to its first size.
     pub fn new(input: B, edits: B, interfaces: T) -> Result<Self, NoMemory> {
         Ok(Buffers {
             input: InputBuffer::new(input)?,

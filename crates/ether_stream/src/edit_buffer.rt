@@ -10,7 +10,7 @@ use crate::{Grow, NoMemory};
 use ether_content::{EditedPacket, PacketEdit, edit_packet};
 use ether_pcap::CapturedPacket;
 
-/// How many bytes an [`EditBuffer`] has at least: four more than a captured packet at most.
+/// The least length of an [`EditBuffer`] in bytes: 4 more than the greatest of a captured packet.
 const ROOM: usize = 262_148;
 
 /// Memory for any packet of a capture that is edited.
@@ -21,14 +21,14 @@ pub struct EditBuffer<B: Grow> {
 }
 
 impl<B: Grow> EditBuffer<B> {
-    /// Memory for a packet, which grows at once.
+    /// A buffer in this memory, which grows to 262,148 bytes at once. Returns [`NoMemory`] if that is refused.
     pub fn new(memory: B) -> Result<Self, NoMemory> {
         let mut memory = memory;
         memory.grow(ROOM)?;
         Ok(EditBuffer { memory })
     }
 
-    /// Edits a packet, if there is an edit. Returns `None` if it stays as it is.
+    /// Edits a packet, if there is an edit. Returns `None` if the packet is unchanged.
     pub(crate) fn edit(
         &mut self,
         edit: Option<PacketEdit>,

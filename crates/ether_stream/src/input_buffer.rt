@@ -56,8 +56,8 @@ impl<B: Grow> InputBuffer<B> {
         self.end - self.start
     }
 
-    /// Takes the units at the front, and writes what is made of each. Returns why what is left does not begin with a unit, or
-    /// `None` if no packet more is asked for.
+    /// Takes the units at the front, and writes what is made of each. Returns why the bytes that are left do not
+    /// begin with a unit, or `None` if the requested number of packets was reached.
     pub(crate) fn take_units<T: InterfaceTable, W: Sink>(
         &mut self,
         progress: &mut Progress<T>,
@@ -138,7 +138,7 @@ impl<B: Grow> InputBuffer<B> {
     }
 }
 
-/// Reads some bytes to the place `end` of a slice, and returns their number. The bytes before it stay.
+/// Reads some bytes into a slice from `end` on, and returns their number. The bytes before `end` are unchanged.
 fn read_after<R: Source, W: Sink>(
     end: usize,
     bytes: &mut [u8],

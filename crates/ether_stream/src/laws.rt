@@ -1,8 +1,8 @@
 //! The law on runs over copies, as the contract of a function that does nothing.
 ghost use Rattle.ether_stream.specs.Composition.{RunsCompose};
 
-/// A copy of the packets that a filter selects from a copy, which has those that another filter selected, has the packets that `(E) and (F)`
-/// selects from the capture, byte for byte. By one filter twice it is the first copy.
+/// Copying what the filter `E` selects, and from that copy what `F` selects, makes the same bytes as copying what
+/// `(E) and (F)` selects. If both filters are one, the second copy is the first.
 ///
 /// So what [`run`](crate::run::run) makes of a copy that it made needs no other contract.
 pub fn runs_compose()

@@ -9,7 +9,8 @@ use std::io::Write;
 
 /// What lines are written to between runs: any [`Write`].
 ///
-/// What is proved for all of them is proved for one that can't fail, too. So whoever reports a fault has seen one.
+/// What is proved for every sink holds for one that can't fail, too. So a call that reports a fault of the sink has
+/// seen one.
 pub trait LineSink: Sink {
     /// Writes a line, and flushes the sink.
     fn put_line(&mut self, line: &LastLine<'_>) -> Result<(), OutputFault>

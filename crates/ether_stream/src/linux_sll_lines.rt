@@ -1,4 +1,4 @@
-//! Writes the line of the header of a packet of Linux cooked capture v1 that is no frame.
+//! Writes the line of the header of a packet of Linux cooked capture v1 that is not a frame.
 ghost use Rattle.std.specs.Prelude.{◌≡◌, ◌++◌, length, codes};
 ghost use Rattle.ether_base.specs.Bytes.{number, spelled};
 ghost use Rattle.ether_content.specs.ContentViews.{cooked_view};

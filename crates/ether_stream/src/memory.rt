@@ -17,12 +17,12 @@ pub trait Grow: Drop {
     fn bytes(&self) -> &[u8]
         ensures { result.now ≡ items self.now };
 
-    /// All bytes that there are, to be written.
+    /// All bytes that there are, for writing.
     fn bytes_mut(&mut self) -> &mut [u8]
         ensures* writes_back { sem 𝓛 (Lends Self.row (Array u8 0) self.entry result (with_items self.old)) }
         ensures value { result.now ≡ items self.old };
 
-    /// Makes room for `len` bytes in all. Those that are there stay, and what is after them is unspecified.
+    /// Makes room for `len` bytes in all. The bytes that are there are unchanged, and those after them unspecified.
     fn grow(&mut self, len: usize) -> Result<(), NoMemory>
         ensures kept { take (length (items self.old)) (items self.new) ≡ items self.old }
         ensures room { OnOk result (len ≤ length (items self.new)) }

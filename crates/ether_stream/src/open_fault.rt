@@ -3,7 +3,7 @@
 /// Why a capture can't be opened.
 #[derive(Clone, Copy, PartialEq, Eq, Debug)]
 pub enum OpenFault {
-    /// There is no file of its name.
+    /// No file has its name.
     NotFound,
     /// The file may not be read.
     PermissionDenied,

@@ -18,8 +18,11 @@ use ether_filter::{Filter, FilterError};
 use ether_format::{Columns, Format};
 use std::num::NonZeroUsize;
 
-/// The edit, if one at most is asked for: packets are cut, a VLAN tag is taken off, put in by a TPID and an identifier,
-/// or gets another identifier.
+/// The edit that options ask for, if any: to cut packets to their headers, to pop a VLAN tag, to push one, or to set
+/// an identifier.
+///
+/// Returns [`Usage::Edits`] if several are asked for, and [`Usage::Value`] if the value of `push` or `set` means
+/// nothing.
 pub fn edit_of_words<'a>(
     cuts: bool,
     pops: bool,
@@ -47,7 +50,7 @@ pub fn edit_of_words<'a>(
     }
 }
 
-/// The number of packets that a text says, if there is one.
+/// The value of `-c`, if there is one: a number of packets, 1 at least.
 pub fn count_of<'a>(text: Option<&'a str>) -> Result<Option<NonZeroUsize>, Usage<'a>>
     ensures ok { IfOk result (λ it. IsIfAny IsCount (option_map (λ s. s.now) text.entry) (option_map non_zero_usize_get it)) }
     ensures err { OnErr result ((n : Option ℕ) → ¬ (IsIfAny IsCount (option_map (λ s. s.now) text.entry) n)) }
@@ -65,7 +68,7 @@ pub fn count_of<'a>(text: Option<&'a str>) -> Result<Option<NonZeroUsize>, Usage
     }
 }
 
-/// The number of headers that a text says, if there is one.
+/// The value of `--limit`, if there is one: a number of headers.
 pub fn limit_of<'a>(text: Option<&'a str>) -> Result<Option<usize>, Usage<'a>>
     ensures ok { IfOk result (IsIfAny IsLimit (option_map (λ s. s.now) text.entry)) }
     ensures err { OnErr result ((n : Option ℕ) → ¬ (IsIfAny IsLimit (option_map (λ s. s.now) text.entry) n)) }
@@ -80,7 +83,7 @@ pub fn limit_of<'a>(text: Option<&'a str>) -> Result<Option<usize>, Usage<'a>>
     }
 }
 
-/// What becomes of packets that are undecided, as a text says it, if there is one: `keep` or `drop`.
+/// The value of `--undecided`, if there is one: `keep` or `drop`.
 pub fn undecided_of<'a>(text: Option<&'a str>) -> Result<Option<Undecided>, Usage<'a>>
     ensures ok { IfOk result (IsIfAny MeansUndecided (option_map (λ s. s.now) text.entry)) }
     ensures err { OnErr result ((u : Option UndecidedValue) → ¬ (IsIfAny MeansUndecided (option_map (λ s. s.now) text.entry) u)) }
@@ -94,7 +97,8 @@ pub fn undecided_of<'a>(text: Option<&'a str>) -> Result<Option<Undecided>, Usag
     }
 }
 
-/// The columns that a text names, if there is one.
+/// The value of `--fields`, if there is one: names of columns. Returns [`Usage::NoColumn`] with the first name that
+/// no column has, or [`Usage::Value`] if there are more than 32.
 pub fn fields_of<'a>(text: Option<&'a str>) -> Result<Option<Columns>, Usage<'a>>
     ensures ok { IfOk result (IsIfAny AreFields (option_map (λ s. s.now) text.entry)) }
     ensures err { OnErr result ((columns : Option ColumnsValue) → ¬ (IsIfAny AreFields (option_map (λ s. s.now) text.entry) columns)) }
@@ -112,7 +116,7 @@ pub fn fields_of<'a>(text: Option<&'a str>) -> Result<Option<Columns>, Usage<'a>
     }
 }
 
-/// The format that a text names, if it is another than lines.
+/// The value of `--format`: `None` for `lines`, and if there is no value.
 pub fn format_of<'a>(text: Option<&'a str>) -> Result<Option<Format>, Usage<'a>>
     ensures ok { IfOk result (IsFormat (option_map (λ s. s.now) text.entry)) }
     ensures err { OnErr result ((f : Option FormatValue) → ¬ (IsFormat (option_map (λ s. s.now) text.entry) f)) }
@@ -126,7 +130,7 @@ pub fn format_of<'a>(text: Option<&'a str>) -> Result<Option<Format>, Usage<'a>>
     }
 }
 
-/// The filter of a text, if there is one.
+/// The filter that a text means, if there is a text.
 pub fn filter_of(text: Option<&str>) -> Result<Option<Filter>, FilterError>
     ensures ok { IfOk result (IsSelection (option_map (λ s. s.now) text.entry)) }
     ensures err { IfErr result (RefusesSelection (option_map (λ s. s.now) text.entry)) }

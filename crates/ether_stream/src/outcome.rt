@@ -9,7 +9,8 @@ use ether_pcap::{CaptureError, CaptureFault, FileHeaderError};
 use ether_text::{InputFault, OutputFault, Verdict};
 use std::fmt;
 
-/// What reads a file that this crate can't read, by its first four bytes or its version.
+/// A sentence that names a program for a file that this crate can't read, by its first four bytes or its version; or
+/// nothing.
 fn hint(error: &CaptureError) -> &'static str
     ensures { result.now ≡ hint_text error.now }
 {
@@ -23,7 +24,7 @@ fn hint(error: &CaptureError) -> &'static str
     }
 }
 
-/// What reads a file with these first four bytes.
+/// The same for a file with these first four bytes.
 fn magic_hint(number: u32) -> &'static str
     ensures { result.now ≡ magic_hint_text number }
 {
@@ -41,11 +42,11 @@ fn magic_hint(number: u32) -> &'static str
 /// Why a run stopped before the end of its input.
 #[derive(Debug, Drop)]
 pub enum RunFault {
-    /// The capture can't be read further. A place above `usize::MAX` is given as that.
+    /// The capture can't be read further. An offset above `usize::MAX` is given as `usize::MAX`.
     Capture(CaptureFault),
-    /// The packet at this place is to be edited, and can't be.
+    /// The packet at this offset is to be edited, and can't be.
     NotEdited(usize),
-    /// The reader failed, or never came to an end.
+    /// The reader failed, or did not end.
     Input,
     /// The writer failed.
     Output,
@@ -99,7 +100,7 @@ pub fn status_of(outcome: &Result<Verdict, RunFault>) -> u8
 /// How the program has answered its arguments.
 #[derive(Debug, Drop)]
 pub enum Outcome<'a> {
-    /// Standard input was read, or the arguments can't be: how that ended.
+    /// Standard input was read, or the arguments could not be read: how that ended.
     Run(Result<Verdict, RunFault>),
     /// The only file was read.
     File {
@@ -124,7 +125,7 @@ pub enum Outcome<'a> {
         /// Why it can't.
         fault: WriteFault,
     },
-    /// The text of the filter is no expression.
+    /// The text of the filter is not an expression.
     NoFilter(FilterError),
     /// The arguments ask how the program is used.
     Help,
@@ -152,7 +153,7 @@ pub const VERSION: &str = "ether_capture 3.0.0";
 pub enum Reason<'a> {
     /// It can't be read further.
     Fault(&'a CaptureFault),
-    /// The packet at this place can't be edited.
+    /// The packet at this offset can't be edited.
     NotEdited(usize),
     /// Its reader failed.
     Input,
@@ -181,7 +182,7 @@ impl fmt::Display for Reason<'_> {
     }
 }
 
-/// Why a capture can't be opened, as it follows the words that say so.
+/// The end of the message that a capture can't be opened: why.
 fn reason_not_opened(fault: OpenFault) -> &'static str
     ensures { result.now ≡ open_fault_text fault }
 {
@@ -193,7 +194,7 @@ fn reason_not_opened(fault: OpenFault) -> &'static str
     }
 }
 
-/// Why a copy can't be written, as it follows the words that say so.
+/// The end of the message that a copy can't be written: why.
 fn reason_not_written(fault: WriteFault) -> &'static str
     ensures { result.now ≡ write_fault_text fault }
 {
@@ -224,7 +225,7 @@ pub enum LastLine<'a> {
     Version,
     /// The arguments are wrong.
     Usage(Usage<'a>),
-    /// The text of the filter is no expression.
+    /// The text of the filter is not an expression.
     NoFilter(&'a FilterError),
     /// Memory for the arguments was refused.
     NoMemory,
@@ -274,7 +275,8 @@ pub fn last_line<'a>(outcome: &'a Outcome<'_>) -> Option<LastLine<'a>>
     }
 }
 
-/// The line that says why standard input was not read to its end, if it was not. The program itself says why the system can't read it.
+/// The line that says why standard input was not read to its end, if it was not. There is no such line for
+/// [`RunFault::Input`]: `main` writes the system's reason.
 fn line_of_input(end: &Result<Verdict, RunFault>) -> Option<LastLine<'_>>
     ensures { option_map last_line_text result ≡ text_of_input end.now }
 {
@@ -299,7 +301,7 @@ fn line_of_run<'a>(name: &'a str, end: &'a Result<Verdict, RunFault>) -> Option<
     }
 }
 
-/// How a capture, one of several, has ended.
+/// How one of several captures has ended.
 #[derive(Debug, Drop)]
 pub enum FileEnd {
     /// Its file can't be opened.
@@ -308,7 +310,7 @@ pub enum FileEnd {
     Read(Result<Verdict, RunFault>),
 }
 
-/// The line that says why a capture, one of several, was not read to its end, if it was not.
+/// The line that says why one of several captures was not read to its end, if it was not.
 pub fn line_of_file<'a>(name: &'a str, end: &'a FileEnd) -> Option<LastLine<'a>>
     ensures { option_map last_line_text result ≡ text_of_file name.now end.now }
 {
@@ -318,7 +320,7 @@ pub fn line_of_file<'a>(name: &'a str, end: &'a FileEnd) -> Option<LastLine<'a>>
     }
 }
 
-/// The exit status of a capture, one of several.
+/// The exit status of one of several captures.
 pub fn status_of_file(end: &FileEnd) -> u8
     ensures { result ≡ status_of_file end.now }
 {
@@ -328,15 +330,16 @@ pub fn status_of_file(end: &FileEnd) -> u8
     }
 }
 
-/// Tests that the last line is a message, which is not printed where lines or a copy are: any but the usage and the version.
+/// Tests that the last line is a message, which is not printed where lines or a copy are. All are messages but the
+/// usage and the version.
 pub fn is_message(outcome: &Outcome<'_>) -> bool
     ensures { result ≡ is_message outcome.now }
 {
     !matches!(outcome, Outcome::Help | Outcome::Version)
 }
 
-/// The exit status of the program, by its outcome and whether the last line was printed. It is that of failed output if
-/// there was a last line and it was not printed, unless that is a message.
+/// The exit status of the program: that of its outcome, or if the last line was not printed and is not a message,
+/// that of failed output.
 pub fn program_status(outcome: &Outcome<'_>, is_printed: bool) -> u8
     ensures { result ≡ status_of_program outcome.now is_printed }
 {

@@ -17,7 +17,7 @@ use crate::{EditBuffer, Form, Grow, PacketCounts, RunFault, SectionTable, Task};
 use ether_pcap::{CaptureError, CaptureFault, CaptureReader, CapturedPacket, InterfaceTable};
 use ether_text::{OutputBuffer, Sink, Verdict};
 
-/// Where the run is in the capture, and what the packets before gave.
+/// Where the run is in the capture, and the counts and the verdict of the packets before that.
 #[derive(Drop)]
 pub struct Progress<T: InterfaceTable> {
     reader: CaptureReader<T>,
@@ -59,8 +59,9 @@ impl<T: InterfaceTable> Progress<T> {
         }
     }
 
-    /// Takes the units at the front of `bytes`, and writes what is made of each. Returns how many bytes were taken, and why what is left does
-    /// not begin with a unit, or `None` if no packet more is asked for.
+    /// Takes the units at the front of `bytes`, and writes what is made of each. Returns how many bytes were taken,
+    /// and why those that are left do not begin with a unit, or `None` if the requested number of packets was
+    /// reached.
     pub fn take_units<B: Grow, W: Sink>(
         &mut self,
         task: &Task,
@@ -91,7 +92,7 @@ impl<T: InterfaceTable> Progress<T> {
         Ok((at, None))
     }
 
-    /// Tests that no packet more is asked for.
+    /// Tests that the requested number of packets was reached.
     fn is_done(&self) -> bool
         ensures { IsTrue result ↔ (self.now.left ≡ Some 0) }
     {
@@ -129,7 +130,7 @@ impl<T: InterfaceTable> Progress<T> {
         Ok(())
     }
 
-    /// Refuses all packets together if this one is refused. If it is accepted, nothing is written.
+    /// Sets the verdict to [`Verdict::SomeRefused`] if a packet is refused.
     #[inline(always)]
     fn judge(&mut self, accepted: bool)
         ensures { self.new ≡ record self.old { verdict = verdict_with self.old.verdict accepted } }
@@ -139,8 +140,8 @@ impl<T: InterfaceTable> Progress<T> {
         }
     }
 
-    /// Writes what is made of a unit, and returns whether its packet is accepted. Returns `None` and writes nothing if the packet is to be
-    /// edited, and can't be.
+    /// Writes what is made of a unit, and returns whether its packet is accepted. Returns `None` and writes nothing
+    /// if the packet is to be edited, and can't be.
     #[inline(always)]
     fn write_unit<B: Grow, W: Sink>(
         &self,
@@ -232,7 +233,8 @@ impl<T: InterfaceTable> Progress<T> {
         self.reader.has_begun()
     }
 
-    /// Ends the run at the end of the capture: writes the line after those of all packets, if there is to be one, and returns the verdict.
+    /// Ends the run at the end of the capture: writes the line of the totals, if there is to be one, and returns the
+    /// verdict.
     pub fn finish<W: Sink>(
         &self,
         task: &Task,
@@ -267,7 +269,7 @@ fn is_chosen(task: &Task, packet: &Option<CapturedPacket<'_>>) -> bool
     }
 }
 
-/// How many packets are skipped with this one, after so many before it.
+/// How many packets are skipped up to this one, if `skipped` before it are.
 #[inline(always)]
 fn skipped_after(skipped: usize, packet: &CapturedPacket<'_>) -> usize
     ensures { result ≡ counted (skipped + skip_count (captured_packet_view packet.now)) }

@@ -11,16 +11,16 @@ use ether_filter::number_of;
 use ether_format::split_at;
 use etherparse::{EtherType, VlanId};
 
-/// An edit that two numbers say, with a colon between them.
+/// An edit whose value is two numbers with a colon between them.
 #[derive(Clone, Copy)]
 pub(crate) enum TagEdit {
-    /// A VLAN tag is put in: its TPID and its identifier.
+    /// A VLAN tag is pushed: its TPID and its identifier.
     Push,
-    /// A VLAN tag gets another identifier: the one that it has, and the one that it gets.
+    /// The identifier of a VLAN tag is changed: from the first number to the second.
     Set,
 }
 
-/// The edit of a text.
+/// The edit that a text means. Returns `None` if it means none.
 pub(crate) fn tag_edit_of(kind: TagEdit, text: &[u8]) -> Option<PacketEdit>
     ensures some { IfSome result (λ edit. IsTagEdit (tag_word kind) text.now (edit_view edit)) }
     ensures none { IfNone result ((e : EditValue) → ¬ (IsTagEdit (tag_word kind) text.now e)) }
@@ -32,7 +32,7 @@ pub(crate) fn tag_edit_of(kind: TagEdit, text: &[u8]) -> Option<PacketEdit>
     }
 }
 
-/// The edit that puts in a VLAN tag, if the TPID announces one and the identifier has no more than 12 bits.
+/// The edit that pushes a VLAN tag, if the TPID announces one and the identifier has at most 12 bits.
 fn push_of(tpid: u32, id: u32) -> Option<PacketEdit>
     ensures some { IfSome result (λ edit. (edit_view edit ≡ PushVlan tpid id) × (is_vlan_ether_type tpid ≡ true) × (id < 4096)) }
     ensures none { IfNone result (is_vlan_ether_type tpid ≡ true → id < 4096 → ⊥) }
@@ -45,7 +45,7 @@ fn push_of(tpid: u32, id: u32) -> Option<PacketEdit>
     Some(PacketEdit::PushVlan { tpid, vlan_id })
 }
 
-/// The edit that gives a VLAN tag another identifier, if both have no more than 12 bits.
+/// The edit that changes the identifier of a VLAN tag, if both have at most 12 bits.
 fn set_of(old: u32, new: u32) -> Option<PacketEdit>
     ensures some { IfSome result (λ edit. (edit_view edit ≡ SetVlan old new) × (old < 4096) × (new < 4096)) }
     ensures none { IfNone result (old < 4096 → new < 4096 → ⊥) }
@@ -55,7 +55,7 @@ fn set_of(old: u32, new: u32) -> Option<PacketEdit>
     Some(PacketEdit::SetVlan { from, to })
 }
 
-/// The VLAN identifier of a number, if it has no more than 12 bits.
+/// The VLAN identifier of a number, if it has at most 12 bits.
 fn vlan_id_of(number: u32) -> Option<VlanId>
     ensures some { IfSome result (λ id. (id ≡ number) × (number < 4096)) }
     ensures none { IfNone result (4096 ≤ number) }
@@ -80,7 +80,7 @@ fn pair_of(text: &[u8]) -> Option<(u32, u32)>
     Some((first, second))
 }
 
-/// The number of a text, if it has no more than 32 bits.
+/// The number of a text, if it has at most 32 bits.
 pub(crate) fn small_number(text: &[u8]) -> Option<u32>
     ensures some { IfSome result (λ number. number_in text.now ≡ Some (Some number)) }
     ensures none { IfNone result ((number : ℕ) → number_in text.now ≡ Some (Some number) → ⊥) }

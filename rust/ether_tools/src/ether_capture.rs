@@ -2,25 +2,25 @@
 //! each packet, or copies the capture without some of its packets, to standard output or a file.
 //!
 //! This list of modules is written by hand, in the place of `crates/ether_capture/src/main.rt`.
-pub mod asked;
+pub mod capture_files;
 pub mod captures;
 pub mod copies;
 pub mod copy_files;
 pub mod copy_run;
 pub mod count;
 pub mod count_table;
-pub mod files;
 pub mod heap_memory;
 pub mod heap_text;
 pub mod interface_buffer;
 pub mod journal;
 pub mod memory;
-pub mod meter;
-pub mod opening;
 pub mod options;
 pub mod program;
+pub mod progress_line;
+pub mod request;
 pub mod rows;
 pub mod run_input;
+pub mod several_files;
 pub mod statistics;
 pub mod statistics_format;
 pub mod wrong_words;

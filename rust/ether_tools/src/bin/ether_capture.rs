@@ -1,12 +1,12 @@
 //! `ether_capture` on the standard streams and the file system.
 //!
 //! Written by hand, not proved: `crates/ether_capture/src/main.rt` takes them from the runtime of Rattle.
+use ether_tools::ether_capture::capture_files::CaptureFiles;
 use ether_tools::ether_capture::copy_files::CopyFiles;
-use ether_tools::ether_capture::meter::{Gauge, Meter};
-use ether_tools::ether_capture::opening::CaptureFiles;
-use ether_tools::ether_capture::program::program;
-use ether_tools::ether_text::{Noted, tell_failure};
 use ether_tools::ether_capture::memory::Global;
+use ether_tools::ether_capture::program::program;
+use ether_tools::ether_capture::progress_line::{Gauge, Meter};
+use ether_tools::ether_text::{Noted, tell_failure};
 use ether_tools::streams::{arguments, input, output};
 use std::io;
 use std::process::ExitCode;

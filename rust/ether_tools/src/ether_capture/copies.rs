@@ -5,8 +5,8 @@ use crate::ether_text::Sink;
 
 /// What keeps copies by their names, as files do.
 ///
-/// What is proved for all of them is proved for one whose files are known, and for one that can't fail. So whoever reports that a copy can't be
-/// written has tried it.
+/// What is proved for all of them holds for one whose files are known, and for one that can't fail. So a call that
+/// reports that a copy can't be written has tried it.
 ///
 /// A copy is begun, written and then finished or given up. Only when it is finished does its file get the copy's bytes, all at once; until then,
 /// and for ever if it is given up, the file is as it was.
@@ -40,7 +40,7 @@ pub trait Copies {
     /// </details>
     fn finish(&mut self, name: &str, part: Self::Part) -> Result<(), WriteFault>;
 
-    /// Gives a copy up, and returns why it can't be written, if that was the cause.
+    /// Gives a copy up, and returns why it could not be written, if a fault of writing was the cause.
     ///
     /// <details><summary>Contract</summary>
     ///

@@ -4,14 +4,14 @@ use crate::ether_stream::WriteFault;
 use std::fs::{self, File, OpenOptions};
 use std::io::{self, Error, ErrorKind, Write};
 
-/// How many names of parts are tried: that many runs that were killed may have left one.
+/// How many names are tried for a part: each run that was killed may have left one.
 const MOST_PARTS: usize = 100;
 
 /// Files that get copies.
 pub struct CopyFiles;
 
-/// A copy that is being written: to a file beside that which gets it; or where the name is not that of a file, as with `/dev/null`, to what
-/// it names.
+/// A copy that is being written: to a new file in the folder of the file that gets it, or directly to what the name is
+/// of, if that is not a regular file, as `/dev/null`.
 pub struct PartFile {
     file: File,
     beside: Option<String>,
@@ -84,7 +84,7 @@ fn followed(name: &str) -> String {
     path.unwrap_or(name.to_owned())
 }
 
-/// A new file beside that of a name.
+/// Creates a part in the folder of the file of a name.
 fn beside(name: &str) -> Result<PartFile, WriteFault> {
     for number in 0..MOST_PARTS {
         let part = if number == 0 { format!("{name}.part") } else { format!("{name}.{number}.part") };

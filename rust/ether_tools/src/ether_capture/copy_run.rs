@@ -34,7 +34,7 @@ pub fn copy_input<'a, K: Copies, R: Source>(
     }
 }
 
-/// Copies the capture of a name to the file of another one, or of the same.
+/// Copies the capture of a name to the file of another name, or of the same one.
 ///
 /// <details><summary>Contract</summary>
 ///
@@ -66,7 +66,7 @@ pub fn copy_file<'a, C: Captures, K: Copies>(
     }
 }
 
-/// Copies what a reader gives to the file of a name, which gets the copy once it is whole.
+/// Copies what a reader reads to the file of a name, which gets the copy only when it is whole.
 fn copy_to<K: Copies, R: Source>(
     task: &Task,
     output: &str,

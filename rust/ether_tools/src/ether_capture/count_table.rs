@@ -17,7 +17,7 @@ impl CountTable {
         CountTable { counts: BTreeMap::new() }
     }
 
-    /// Counts a packet of so many bytes under a key.
+    /// Counts a packet that had `bytes` bytes under a key. Never returns an error: without memory std ends the process.
     pub fn add(&mut self, key: &[u8], bytes: usize) -> Result<(), NoMemory> {
         match self.counts.get_mut(key) {
             Some(count) => *count = count.with(bytes),

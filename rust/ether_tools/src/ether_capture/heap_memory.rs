@@ -8,7 +8,7 @@ pub struct HeapMemory {
 }
 
 impl HeapMemory {
-    /// No memory yet.
+    /// Memory of 0 bytes.
     pub fn new(_alloc: Global) -> HeapMemory {
         HeapMemory { bytes: Vec::new() }
     }

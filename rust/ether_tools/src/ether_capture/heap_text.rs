@@ -18,7 +18,7 @@ impl HeapText {
         self.bytes.as_slice()
     }
 
-    /// Forgets the text, and keeps its memory.
+    /// Empties the text, and keeps its memory.
     pub fn clear(&mut self) {
         self.bytes.clear();
     }

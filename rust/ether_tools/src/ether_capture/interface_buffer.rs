@@ -9,7 +9,7 @@ pub struct InterfaceBuffer {
 }
 
 impl InterfaceBuffer {
-    /// Memory with no interface.
+    /// Memory for 65,536 interfaces, with none in it. Returns [`NoMemory`] if it is refused.
     pub fn new(_alloc: Global) -> Result<Self, NoMemory> {
         let mut interfaces = Vec::new();
         match interfaces.try_reserve_exact(MAX_INTERFACES) {

@@ -1,12 +1,12 @@
-//! What is counted, word for word.
+//! A sink that may keep the rows that are counted.
 
 use crate::ether_text::Sink;
 use std::io;
 
 /// A sink for the rows that are counted.
 ///
-/// The program's journal keeps none of them. That the counts are those of the rows that a journal holds is proved for every journal, also for
-/// one that keeps them.
+/// The program's journal keeps none of them. For every journal, also for one that keeps them, it is proved that the
+/// counts are those of the rows that it holds.
 pub trait Journal: Sink {
     /// A journal with nothing in it.
     ///

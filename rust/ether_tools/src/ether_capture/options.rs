@@ -1,5 +1,5 @@
 //! What the arguments ask for, by their words, which `clap` reads. Written by hand, not proved.
-use crate::ether_capture::asked::{Asked, Request, RequestError, counted_of};
+use crate::ether_capture::request::{Asked, Request, RequestError, counted_of};
 use crate::ether_capture::wrong_words::usage_of;
 use crate::ether_stream::{Usage, count_of, edit_of_words, fields_of, format_of, limit_of, undecided_of};
 use crate::ether_capture::memory::Global;

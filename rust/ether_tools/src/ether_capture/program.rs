@@ -1,13 +1,13 @@
 //! The program, over any arguments, files, reader and writer.
 
-use crate::ether_capture::asked::{Job, Request, RequestError};
 use crate::ether_capture::captures::Captures;
 use crate::ether_capture::copies::Copies;
 use crate::ether_capture::copy_run::{copy_file, copy_input};
-use crate::ether_capture::files::run_files;
 use crate::ether_capture::journal::Journal;
 use crate::ether_capture::options::request_of_words;
+use crate::ether_capture::request::{Job, Request, RequestError};
 use crate::ether_capture::run_input::run_input;
+use crate::ether_capture::several_files::run_files;
 use crate::ether_capture::statistics::Statistics;
 use crate::ether_format::Columns;
 use crate::ether_stream::{LineSink, Outcome, RunFault, Task, is_message, last_line, program_status};
@@ -18,9 +18,9 @@ use std::{env, io};
 /// Writes the lines of a capture, or a copy of it, as the arguments say, prints the last line if there is one, and returns the exit status.
 /// Lines go to `writer`, and so does a copy, unless its file is named: then `copies` keeps it.
 ///
-/// Why something was not read goes to `messages`, as all last lines do, so that `writer` has the lines or the copy alone; but the usage and the
-/// version, if they are asked for, go to `writer`. If the arguments are wrong or can't be read, nothing is read. The latter is a fault of the
-/// input.
+/// The last line goes to `messages`, so that `writer` has only the lines or the copy; but the usage and the version, if
+/// they are asked for, go to `writer`. If the arguments are wrong or can't be read, nothing is read. Arguments that
+/// can't be read are a fault of the input.
 ///
 /// <details><summary>Contract</summary>
 ///

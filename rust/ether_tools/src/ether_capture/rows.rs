@@ -8,7 +8,7 @@ use crate::ether_stream::NoMemory;
 use crate::ether_text::{OutputBuffer, Sink};
 use crate::ether_capture::memory::Global;
 
-/// The counts of the lines so far, and what follows the last of them. The first line names the columns.
+/// The counts of the lines so far, and the bytes after the last line feed. The first line names the columns.
 pub struct Rows {
     heading: HeapText,
     has_heading: bool,
@@ -37,7 +37,7 @@ impl Rows {
         }
     }
 
-    /// Takes the bytes that come next.
+    /// Takes the next bytes. Returns [`NoMemory`] if memory for them is refused.
     ///
     /// <details><summary>Contract</summary>
     ///
@@ -123,7 +123,7 @@ fn count_row(
     Ok(())
 }
 
-/// Counts a packet of so many bytes for the text of a column.
+/// Counts a packet for the text of a column.
 fn count(
     column: &[u8],
     text: &[u8],
@@ -135,7 +135,7 @@ fn count(
     counts.add(key.as_slice(), bytes)
 }
 
-/// Writes the key of a column's text, in place of what was written.
+/// Replaces `key` by the key of a column's text: the column, a tab and the text.
 fn write_key(column: &[u8], text: &[u8], key: &mut HeapText) -> Result<(), NoMemory> {
     key.clear();
     key.append(column)?;

@@ -7,7 +7,7 @@ use crate::ether_stream::{Buffers, NoMemory, PacketCounts, RunFault, Task};
 use crate::ether_text::{Sink, Source, Verdict};
 use crate::ether_capture::memory::Global;
 
-/// Does as [`run_counted`], with memory that is allocated before.
+/// Like [`run_counted`], with memory of the heap that is allocated first.
 ///
 /// <details><summary>Contract</summary>
 ///

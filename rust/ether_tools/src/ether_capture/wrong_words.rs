@@ -27,8 +27,8 @@ static OPTIONS: [&str; 7] = [
     "fields",
 ];
 
-/// What is wrong with words that `clap` refuses, the first of which is the program's name: an option that is not known, or else one that lacks its
-/// value.
+/// What is wrong with words that `clap` refuses: an option is not known, or else one lacks its value, or else
+/// [`Usage::Words`]. The first of the words is the program's name.
 ///
 /// <details><summary>Contract</summary>
 ///
@@ -82,7 +82,7 @@ fn bare_option(words: &[String]) -> Option<&str> {
     None
 }
 
-/// Tests that the first word can be a value: it is no option.
+/// Tests that the first word can be a value: it is not an option.
 fn begins_with_value(words: &[String]) -> bool {
     match words {
         [] => false,
@@ -105,7 +105,7 @@ fn need_of(word: &[u8]) -> Option<bool> {
     }
 }
 
-/// .. of an option with a long name, which may have `=` and a value after it.
+/// The same for an option with a long name, which may have `=` and a value after it.
 fn long_need(text: &[u8]) -> Option<bool> {
     match split_at(b'=', text) {
         Some((name, _)) => name_need(name, false),
@@ -113,7 +113,7 @@ fn long_need(text: &[u8]) -> Option<bool> {
     }
 }
 
-/// .. of an option with this name, which is all of the word or not.
+/// The same for an option with this name, which is all of the word or not.
 fn name_need(name: &[u8], is_all: bool) -> Option<bool> {
     if has_name(&FLAGS, name) {
         return Some(false);
@@ -124,7 +124,7 @@ fn name_need(name: &[u8], is_all: bool) -> Option<bool> {
     None
 }
 
-/// .. of an option with this letter, which is all of the word or not.
+/// The same for an option with this letter, which is all of the word or not.
 fn letter_need(letter: u8, is_all: bool) -> Option<bool> {
     match letter {
         b'c' | b'r' | b'w' => Some(is_all),

@@ -1,4 +1,4 @@
-//! Writes headers, and how a walk ends, for the eye.
+//! Writes the parts of a line for the eye: the packet's number and time, its headers, and how the walk ends.
 
 use crate::ether_format::Moment;
 use crate::ether_format::endings::kind_word;
@@ -14,7 +14,7 @@ use etherpeel::{
     err,
 };
 
-/// Writes a header.
+/// Writes a header of the walk, after a space.
 pub(crate) fn write_brief_header<W: Sink>(unit: &PeelUnit<'_>, out: &mut OutputBuffer<'_, W>) {
     match unit {
         PeelUnit::Ethernet2(slice) => write_ethernet2(slice, out),
@@ -25,7 +25,7 @@ pub(crate) fn write_brief_header<W: Sink>(unit: &PeelUnit<'_>, out: &mut OutputB
     }
 }
 
-/// Writes the addresses of a header of Ethernet II.
+/// Writes ` SOURCE > DESTINATION`.
 fn write_ethernet2<W: Sink>(slice: &Ethernet2Slice<'_>, out: &mut OutputBuffer<'_, W>) {
     out.append(b" ");
     out.append_array(mac_text(slice.source()));
@@ -33,7 +33,7 @@ fn write_ethernet2<W: Sink>(slice: &Ethernet2Slice<'_>, out: &mut OutputBuffer<'
     out.append_array(mac_text(slice.destination()));
 }
 
-/// Writes a VLAN tag.
+/// Writes ` vlan VID pcp PCP`, and ` dei` if that bit is set.
 fn write_vlan<W: Sink>(slice: &SingleVlanSlice<'_>, out: &mut OutputBuffer<'_, W>) {
     write_number(out, b" vlan ", usize::from(slice.vlan_identifier().value()));
     write_number(
@@ -46,13 +46,13 @@ fn write_vlan<W: Sink>(slice: &SingleVlanSlice<'_>, out: &mut OutputBuffer<'_, W
     }
 }
 
-/// Writes a SecTag.
+/// Writes ` macsec an AN pn PN`: the association number and the packet number.
 fn write_macsec<W: Sink>(tag: &MacsecHeaderSlice<'_>, out: &mut OutputBuffer<'_, W>) {
     write_number(out, b" macsec an ", usize::from(tag.an().value()));
     write_number(out, b" pn ", tag.packet_nr() as usize);
 }
 
-/// Writes an ARP packet.
+/// Writes an ARP packet: as a request, a reply, or another operation by its number.
 fn write_arp<W: Sink>(packet: &ArpPacketSlice<'_>, out: &mut OutputBuffer<'_, W>) {
     let operation = packet.operation().0;
     if operation == 1 {
@@ -64,7 +64,7 @@ fn write_arp<W: Sink>(packet: &ArpPacketSlice<'_>, out: &mut OutputBuffer<'_, W>
     }
 }
 
-/// Writes who is asked for.
+/// Writes ` ARP who-has TARGET tell SENDER`, by their protocol addresses.
 fn write_arp_request<W: Sink>(packet: &ArpPacketSlice<'_>, out: &mut OutputBuffer<'_, W>) {
     let protocol = packet.proto_addr_type();
     out.append(b" ARP who-has ");
@@ -73,7 +73,7 @@ fn write_arp_request<W: Sink>(packet: &ArpPacketSlice<'_>, out: &mut OutputBuffe
     write_address(protocol, packet.sender_protocol_addr(), out);
 }
 
-/// Writes who answers.
+/// Writes ` ARP reply SENDER is-at HARDWARE`.
 fn write_arp_reply<W: Sink>(packet: &ArpPacketSlice<'_>, out: &mut OutputBuffer<'_, W>) {
     let protocol = packet.proto_addr_type();
     out.append(b" ARP reply ");
@@ -82,7 +82,7 @@ fn write_arp_reply<W: Sink>(packet: &ArpPacketSlice<'_>, out: &mut OutputBuffer<
     write_colons(packet.sender_hw_addr(), out);
 }
 
-/// Writes another operation.
+/// Writes ` ARP op NUMBER from SENDER to TARGET`.
 fn write_arp_other<W: Sink>(packet: &ArpPacketSlice<'_>, out: &mut OutputBuffer<'_, W>) {
     let protocol = packet.proto_addr_type();
     write_number(out, b" ARP op ", usize::from(packet.operation().0));
@@ -92,7 +92,7 @@ fn write_arp_other<W: Sink>(packet: &ArpPacketSlice<'_>, out: &mut OutputBuffer<
     write_address(protocol, packet.target_protocol_addr(), out);
 }
 
-/// Writes an address of a protocol.
+/// Writes a protocol address: of IPv4 with dots, any other in hexadecimal digits with colons.
 fn write_address<W: Sink>(protocol: EtherType, bytes: &[u8], out: &mut OutputBuffer<'_, W>) {
     if protocol == EtherType::IPV4 && bytes.len() == 4 {
         write_dotted(bytes, out);
@@ -108,7 +108,7 @@ fn write_linux_sll<W: Sink>(slice: &LinuxSllSlice<'_>, out: &mut OutputBuffer<'_
     write_sender(packet_type, &slice.sender_address_full(), len, out);
 }
 
-/// Writes how a packet of cooked capture was sent, and the sender's address.
+/// Writes ` cooked type TYPE from ADDRESS`: how the packet was sent, and the sender's address.
 pub(crate) fn write_sender<W: Sink>(
     packet_type: usize,
     address: &[u8; 8],
@@ -138,7 +138,7 @@ pub(crate) fn write_brief_linux_sll2<W: Sink>(
     write_sender(packet_type, &packet.sender_address_full(), len, out);
 }
 
-/// Writes what is left, and its length.
+/// Writes what is left, and its length; nothing for the padding after an ARP packet.
 pub(crate) fn write_brief_rest<W: Sink>(len: usize, kind: RestKind, out: &mut OutputBuffer<'_, W>) {
     match kind {
         RestKind::AfterArp => {}
@@ -155,13 +155,13 @@ pub(crate) fn write_brief_rest<W: Sink>(len: usize, kind: RestKind, out: &mut Ou
     }
 }
 
-/// Writes so many bytes, after a space.
+/// Writes ` LEN bytes`.
 fn write_len<W: Sink>(len: usize, out: &mut OutputBuffer<'_, W>) {
     write_number(out, b" ", len);
     out.append(b" bytes");
 }
 
-/// Writes an ether type by its name, or as a number.
+/// Writes an ether type by its name, or as a hexadecimal number if it has no name here.
 fn write_type<W: Sink>(ether_type: EtherType, out: &mut OutputBuffer<'_, W>) {
     match name_of(ether_type.0) {
         Some(name) => out.append(name.as_bytes()),
@@ -185,13 +185,13 @@ fn name_of(ether_type: u16) -> Option<&'static str> {
     }
 }
 
-/// Writes a packet that is skipped.
+/// Writes ` skipped LEN bytes`.
 pub(crate) fn write_brief_skipped<W: Sink>(len: usize, out: &mut OutputBuffer<'_, W>) {
     write_number(out, b" skipped ", len);
     out.append(b" bytes");
 }
 
-/// Writes a fault.
+/// Writes ` fault at START: CAUSE`.
 pub(crate) fn write_brief_fault<W: Sink>(
     start: usize,
     error: &PeelError,
@@ -206,7 +206,7 @@ pub(crate) fn write_brief_fault<W: Sink>(
     }
 }
 
-/// Writes how many bytes are needed, and how many there are.
+/// Writes `needs REQUIRED bytes, has LEN`.
 fn write_lengths<W: Sink>(required: usize, len: usize, out: &mut OutputBuffer<'_, W>) {
     write_number(out, b"needs ", required);
     write_number(out, b" bytes, has ", len);
@@ -250,7 +250,7 @@ pub(crate) fn write_brief_linux_sll2_fault<W: Sink>(
     }
 }
 
-/// Writes the number and the time of a packet.
+/// Writes the number and the time of a packet; a hyphen if it has no time.
 pub(crate) fn write_brief_front<W: Sink>(
     number: usize,
     moment: Option<Moment>,
@@ -264,7 +264,7 @@ pub(crate) fn write_brief_front<W: Sink>(
     }
 }
 
-/// Writes a moment, with as many decimals as it needs.
+/// Writes a date and a time of day, with six or nine decimals of the second.
 fn write_brief_moment<W: Sink>(moment: &Moment, out: &mut OutputBuffer<'_, W>) {
     write_date(moment, out);
     out.append(b".");

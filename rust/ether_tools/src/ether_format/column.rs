@@ -3,7 +3,8 @@
 use crate::ether_format::split::split_at;
 use crate::ether_text::{OutputBuffer, Sink};
 
-/// A part of what is written of a packet: the packet itself, headers with a name, all headers, or how the walk through them ends.
+/// A group of members, whose name begins the names of their columns: the packet itself, one kind of header, all
+/// headers, or how the walk ends.
 #[derive(Clone, Copy, PartialEq, Eq, Debug)]
 pub(crate) enum Section {
     Frame,
@@ -19,7 +20,7 @@ pub(crate) enum Section {
 }
 
 impl Section {
-    /// Its name.
+    /// Its name, as `vlan`.
     pub(crate) fn name(self) -> &'static str {
         match self {
             Section::Frame => "frame",
@@ -35,13 +36,13 @@ impl Section {
         }
     }
 
-    /// Whether it is how the walk ends.
+    /// Whether it is `rest` or `fault`: how the walk ends.
     #[inline(always)]
     pub(crate) fn is_end(self) -> bool {
         matches!(self, Section::Rest | Section::Fault)
     }
 
-    /// The section of a name.
+    /// The section with this name.
     fn of_name(name: &[u8]) -> Option<Section> {
         match name {
             b"frame" => Some(Section::Frame),
@@ -58,7 +59,7 @@ impl Section {
         }
     }
 
-    /// The names of its members.
+    /// The names of its members, in the order of their indexes.
     fn members(self) -> &'static [&'static str] {
         match self {
             Section::Frame => &FRAME,
@@ -181,12 +182,12 @@ static FAULT: [&str; 7] = [
 pub struct Column {
     /// The section.
     pub(crate) section: Section,
-    /// Which of its members, counted from 0.
+    /// The index of the member in its section, counted from 0.
     pub(crate) index: u8,
 }
 
 impl Column {
-    /// The column of a name, as `vlan.vid`.
+    /// The column with this name, as `vlan.vid`. Returns `None` if no column has it.
     pub(crate) fn of_name(name: &[u8]) -> Option<Column> {
         let (section, member) = split_at(b'.', name)?;
         let section = Section::of_name(section)?;
@@ -197,7 +198,7 @@ impl Column {
         })
     }
 
-    /// Writes the name.
+    /// Writes the name, as `vlan.vid`.
     pub(crate) fn write_name<W: Sink>(self, out: &mut OutputBuffer<'_, W>) {
         out.append(self.section.name().as_bytes());
         out.append(b".");
@@ -207,7 +208,7 @@ impl Column {
     }
 }
 
-/// Where a word is among words.
+/// The index of a word among words.
 fn index_of(words: &[&str], word: &[u8]) -> Option<usize> {
     words.iter().position(|it| it.as_bytes() == word)
 }

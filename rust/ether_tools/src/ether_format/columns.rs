@@ -43,7 +43,7 @@ static COMMON: [Column; 8] = [
     },
 ];
 
-/// The columns of a row, one at least and 32 at most.
+/// The columns of a row, 1 to 32.
 ///
 /// The name of a column is that of a section and that of one of its members in [`crate::ether_format::Format::Json`], with a dot between them:
 /// `frame.number`, `vlan.vid`. The sections are `frame`, the packet itself; `eth`, `sll`, `sll2`, `vlan`, `macsec` and `arp`, its headers;
@@ -52,7 +52,7 @@ static COMMON: [Column; 8] = [
 pub struct Columns {
     first: Column,
     others: [Column; MOST_OTHERS],
-    /// How many there are of the others.
+    /// How many of `others` are columns of the row, from the first on.
     count: usize,
 }
 
@@ -80,7 +80,8 @@ impl Columns {
         Some(columns)
     }
 
-    /// The first name that no column has, in a text with a comma between two names.
+    /// The first name in a text, with a comma between two names, that no column has. Returns `None` if each is that
+    /// of a column.
     ///
     /// <details><summary>Contract</summary>
     ///
@@ -103,8 +104,8 @@ impl Columns {
         None
     }
 
-    /// What a summary counts unless columns are named: the headers of a packet, its VLAN identifiers, its ether types, what is wrong with it,
-    /// and the senders of ARP.
+    /// The columns that a summary counts if none are named: the headers of a packet, its VLAN identifiers, its ether
+    /// types, what is wrong with it, and the senders of ARP.
     ///
     /// <details><summary>Contract</summary>
     ///
@@ -128,7 +129,7 @@ impl Columns {
         }
     }
 
-    /// The length of the packet, `frame.original`, and these columns after it; `None` if there are 32 already.
+    /// These columns after `frame.original`, the length that the packet had. Returns `None` if there are 32 already.
     ///
     /// <details><summary>Contract</summary>
     ///
@@ -159,7 +160,7 @@ impl Columns {
         }
     }
 
-    /// Takes a column more, if there is room.
+    /// Appends a column. Returns `None` if there are 32 already.
     fn push(&mut self, column: Column) -> Option<()> {
         if self.count >= MOST_OTHERS {
             return None;

@@ -72,7 +72,7 @@ fn protocol_value<'a>(protocol: &LinuxSllProtocolType) -> Value<'a> {
     }
 }
 
-/// The members of a fault but its cause.
+/// The members of a fault before those of its cause.
 pub(crate) fn fault<'a>(start: usize, closed: bool) -> [Member<'a>; 2] {
     [
         number("{\"start\":", start),

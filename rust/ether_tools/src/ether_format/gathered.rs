@@ -17,11 +17,11 @@ pub(crate) type Headers<'a> = ArrayVec<Found<'a>, ROOM>;
 
 /// How a walk ends.
 pub(crate) enum End {
-    /// What is left, from a place to a place.
+    /// What is left: the offsets of its start and its end, and what it is announced as.
     Rest(usize, usize, RestKind),
-    /// Nothing is walked of a packet of so many bytes.
+    /// A packet whose link type the walk does not know, with its length in bytes.
     Skipped(usize),
-    /// A fault: where, and whether further bytes of the packet could not belong there.
+    /// A fault: its offset, whether bytes appended to the packet would lie outside the window there, and the error.
     Fault(usize, bool, PeelError),
     /// A header of cooked capture v2 is refused.
     RefusedV2(LinuxSll2Error),
@@ -37,8 +37,8 @@ impl End {
     }
 }
 
-/// Adds the headers of a walk to those before it, and returns how it ends. Each place is counted from `header_len` bytes before the
-/// frame. Returns `None` if there is no room for the headers.
+/// Walks a frame, appends its headers to `headers`, and returns how the walk ends. Each offset is counted from
+/// `header_len` bytes before the frame. Returns `None` if there is no room for a header.
 #[inline(always)]
 pub(crate) fn gather<'a>(
     header_len: u8,

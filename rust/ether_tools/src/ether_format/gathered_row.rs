@@ -33,7 +33,7 @@ pub(crate) fn write_columns<W: Sink>(
     }
 }
 
-/// Gathers the headers of a packet, and returns how the walk ends. `None` if there is no room for the headers.
+/// Gathers the headers of a packet, and returns how the walk ends. Returns `None` if there is no room for the headers.
 #[inline(always)]
 fn gather_packet<'a>(
     limit: Option<usize>,

@@ -182,7 +182,7 @@ pub(crate) fn cooked<'a>(header: &'a CookedHeader) -> [Member<'a>; 5] {
     ]
 }
 
-/// As much of an address as its length says.
+/// The first `len` of the 8 bytes of an address, or all if `len` is greater.
 pub(crate) fn used(address: &[u8], len: usize) -> &[u8] {
     first_of(address, len)
 }

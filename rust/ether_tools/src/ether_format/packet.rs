@@ -19,7 +19,7 @@ use crate::ether_text::{OutputBuffer, Sink};
 
 /// Writes a packet with its number in a format, and returns whether no header of it is refused.
 ///
-/// With a limit no more than so many VLAN tags and SecTags are read.
+/// With a limit, at most that many VLAN tags and SecTags are read.
 ///
 /// ```
 /// # use etherpeel::*;
@@ -129,7 +129,7 @@ fn write_front<W: Sink>(
     }
 }
 
-/// Writes what comes before the headers of a packet as JSON has it.
+/// Writes the object of a packet up to its list of headers: its members, and the name of that list.
 fn write_json_front<W: Sink>(
     number: usize,
     packet: &CapturedPacket<'_>,
@@ -220,7 +220,7 @@ fn write_cooked_v2<W: Sink>(
     }
 }
 
-/// The place of a cooked header at the front of so many bytes.
+/// The place of a cooked header at the front of a packet of `len` bytes.
 pub(crate) fn cooked_place(header_len: usize, len: usize) -> Place {
     Place {
         start: 0,

@@ -9,6 +9,6 @@ pub(crate) struct Place {
     pub(crate) header_end: usize,
     /// Where its payload ends.
     pub(crate) payload_end: usize,
-    /// Whether further bytes of the packet could not belong to its payload.
+    /// Whether bytes appended to the packet would lie outside its payload.
     pub(crate) closed: bool,
 }

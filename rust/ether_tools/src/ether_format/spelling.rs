@@ -43,12 +43,12 @@ pub(crate) fn write_column_value<W: Sink>(value: &Value<'_>, out: &mut OutputBuf
     }
 }
 
-/// The first bytes, as many as it says, and no more than there are.
+/// The first `len` bytes, or all if there are fewer.
 pub(crate) fn first_of(bytes: &[u8], len: usize) -> &[u8] {
     &bytes[..len.min(bytes.len())]
 }
 
-/// The word for a truth.
+/// `true` or `false`.
 fn flag_text(holds: bool) -> &'static str {
     if holds { "true" } else { "false" }
 }
@@ -149,7 +149,7 @@ pub(crate) fn mac_text(address: [u8; 6]) -> [u8; 17] {
     ]
 }
 
-/// Writes a moment as in ISO 8601.
+/// Writes a moment as in ISO 8601, with nine decimals of the second.
 pub(crate) fn write_moment<W: Sink>(moment: &Moment, out: &mut OutputBuffer<'_, W>) {
     write_date(moment, out);
     out.append_array(fraction(moment.nanoseconds));
@@ -170,7 +170,7 @@ pub(crate) fn write_date<W: Sink>(moment: &Moment, out: &mut OutputBuffer<'_, W>
     out.append_array(month_to_second(moment));
 }
 
-/// What follows the year of a date, up to the second.
+/// What follows the year of a date, up to the second: `-11-14T22:13:20`.
 fn month_to_second(moment: &Moment) -> [u8; 15] {
     let m = two_digits(moment.month);
     let d = two_digits(moment.day);

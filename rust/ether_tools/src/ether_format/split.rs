@@ -1,6 +1,7 @@
 //! Splits a text at a byte.
 
-/// What is before and after the first byte of this value, if there is one: `vlan` and `vid` of `vlan.vid`, at a dot.
+/// The parts of a text before and after the first `byte`: `vlan` and `vid` of `vlan.vid`, at a dot. Returns `None` if
+/// it has no such byte.
 ///
 /// <details><summary>Contract</summary>
 ///

@@ -18,7 +18,7 @@ pub(crate) enum Value<'a> {
     Four([u8; 4]),
     /// The eight bytes of a secure channel identifier.
     Eight([u8; 8]),
-    /// The first of these bytes, as many as it says.
+    /// The first of these bytes, as many as the number says, or all if it is greater than 8.
     Short([u8; 8], usize),
     /// The bytes of an address of any length.
     Bytes(&'a [u8]),
@@ -33,7 +33,8 @@ pub(crate) enum Value<'a> {
 /// A member of a header.
 #[derive(Clone, Copy)]
 pub(crate) struct Member<'a> {
-    /// Its name as JSON has it, between quotation marks and with a colon: after a brace the first member's, after a comma each other's.
+    /// Its name in JSON, with what precedes it: `{"start":` for the first member of an object, `,"start":` for
+    /// another one.
     pub(crate) key: &'static str,
     /// Its value.
     pub(crate) value: Value<'a>,

@@ -7,8 +7,9 @@ use crate::ether_format::write_header::write_header;
 use etherpeel::ether_peel::{Peel, Start};
 use crate::ether_text::{OutputBuffer, Sink};
 
-/// Writes the headers of a walk, the first of which is the packet's first or not, and how it ends. Returns whether no header is refused.
-/// Each place is counted from `header_len` bytes before the frame.
+/// Writes the headers of a walk and how it ends, and returns whether no header is refused. `first` says whether the
+/// first header, or the first value of a column, is that of the packet. Each offset is counted from `header_len`
+/// bytes before the frame.
 #[inline(always)]
 pub(crate) fn write_walk<W: Sink>(
     part: Part,
@@ -47,7 +48,7 @@ pub(crate) fn write_walk<W: Sink>(
     }
 }
 
-/// The walk of a frame, with a limit on VLAN tags and SecTags or without.
+/// The walk of a frame. With a limit, it reads at most that many VLAN tags and SecTags.
 pub(crate) fn walker(start: Start, limit: Option<usize>, frame: &[u8]) -> Peel<'_> {
     match limit {
         Some(limit) => Peel::with_limit(start, frame, limit),

@@ -11,7 +11,7 @@ use etherpeel::ether_peel::{PeelError, RestKind};
 use etherpeel::ether_sll2::LinuxSll2Error;
 use crate::ether_text::{OutputBuffer, Sink};
 
-/// Writes what is left, from a place to a place.
+/// Writes what is left, from `start` to `end`.
 #[inline(always)]
 fn write_json_rest<W: Sink>(start: usize, end: usize, kind: RestKind, out: &mut OutputBuffer<'_, W>) {
     out.append(b"],\"rest\":");
@@ -19,7 +19,7 @@ fn write_json_rest<W: Sink>(start: usize, end: usize, kind: RestKind, out: &mut 
     out.append(b"}\n");
 }
 
-/// Writes that a packet of so many bytes is of a link type that the walk does not know.
+/// Writes that a packet of `len` bytes is of a link type that the walk does not know.
 fn write_json_skipped<W: Sink>(len: usize, out: &mut OutputBuffer<'_, W>) {
     out.append(b"],\"rest\":");
     write_object(&endings::skipped(len), &[], out);
@@ -49,7 +49,7 @@ fn write_json_linux_sll2_fault<W: Sink>(error: &LinuxSll2Error, out: &mut Output
     out.append(b"}\n");
 }
 
-/// Writes what is left, from a place to a place.
+/// Writes what is left, from `start` to `end`.
 #[inline(always)]
 pub(crate) fn write_rest<W: Sink>(
     part: Part,
@@ -65,7 +65,7 @@ pub(crate) fn write_rest<W: Sink>(
     }
 }
 
-/// Writes that a packet of so many bytes is of a link type that the walk does not know.
+/// Writes that a packet of `len` bytes is of a link type that the walk does not know.
 pub(crate) fn write_skipped<W: Sink>(part: Part, len: usize, out: &mut OutputBuffer<'_, W>) {
     match part {
         Part::Json => write_json_skipped(len, out),

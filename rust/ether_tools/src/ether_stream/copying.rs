@@ -5,7 +5,8 @@ use etherpeel::ether_content::{EditedPacket, PacketEdit};
 use etherpeel::ether_pcap::{CaptureReader, CapturedPacket, CopiedUnit, CopyMode, EditedUnit, InterfaceTable};
 use crate::ether_text::{OutputBuffer, Sink};
 
-/// Writes what a copy has of a unit without a packet.
+/// Writes what a copy has of a unit without a packet: the unit, the unit with another snap length or an unspecified
+/// section length, or nothing.
 ///
 /// <details><summary>Contract</summary>
 ///
@@ -43,7 +44,8 @@ pub fn write_other<T: InterfaceTable, W: Sink>(
     }
 }
 
-/// Writes the unit of a packet, edited if there is an edit for it. Returns `false` and writes nothing if it can't be.
+/// Writes the unit of a packet, edited if there is an edit for it. Returns `false` and writes nothing if it can't be
+/// edited.
 ///
 /// <details><summary>Contract</summary>
 ///
@@ -79,7 +81,7 @@ pub fn write_packet<T: InterfaceTable, B: Grow, W: Sink>(
     }
 }
 
-/// Writes the unit of a packet as edited. Returns `false` and writes nothing if it can't be.
+/// Writes the unit of a packet as edited. Returns `false` and writes nothing if it can't be edited.
 fn write_edited<T: InterfaceTable, B: Grow, W: Sink>(
     reader: &CaptureReader<T>,
     edits: &EditBuffer<B>,

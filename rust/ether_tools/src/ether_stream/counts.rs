@@ -5,13 +5,13 @@ use crate::ether_stream::Task;
 /// How many packets of a capture were read.
 #[derive(Clone, Copy, PartialEq, Eq, Debug)]
 pub struct PacketCounts {
-    /// The number of the last packet, after those of captures before this one.
+    /// The number of the last packet, counted on from the captures before this one.
     pub number: usize,
     /// How many packets of this capture were skipped.
     pub skipped: usize,
-    /// Of how many packets of this capture the captured bytes don't decide whether they are selected.
+    /// How many packets of this capture are undecided: their captured bytes don't decide whether they are selected.
     pub undecided: usize,
-    /// How many packets more are asked for, if their number is limited.
+    /// How many further packets are asked for, if their number is limited.
     pub left: Option<usize>,
 }
 

@@ -9,8 +9,8 @@ use etherpeel::ether_pcap::{CapturedPacket, Timestamp};
 use etherpeel::ether_peel::Start;
 use crate::ether_text::{OutputBuffer, Sink, eight_digits, write_decimal, write_walk_after};
 
-/// Writes the text of a packet: its lines, or that of the format that is asked for. Returns whether the walk through its headers ends in no
-/// fault.
+/// Writes the text of a packet: its lines, or its text in another format. Returns whether the walk through its
+/// headers ends without a fault.
 ///
 /// The packet has the number after `count`, which is read only if it is written.
 ///
@@ -37,8 +37,8 @@ pub fn write_lines<W: Sink>(
     }
 }
 
-/// Writes the line of a packet unless only those of walks are asked for, and the lines of the walk through its headers. Returns whether the
-/// walk ends in no fault.
+/// Writes the line of a packet, unless only lines of walks are asked for, and the lines of the walk through its
+/// headers. Returns whether the walk ends without a fault.
 ///
 /// A packet of another link type than Ethernet and Linux cooked capture is skipped: it has no lines of a walk.
 #[inline(always)]
@@ -69,7 +69,7 @@ fn write_walk_lines<W: Sink>(
     write_walk_after(header_len, start, options.limit, bytes, out)
 }
 
-/// Writes the line after those of all packets, unless the capture is one of several.
+/// Writes the line of the totals, unless the capture is one of several.
 ///
 /// <details><summary>Contract</summary>
 ///
@@ -91,8 +91,8 @@ pub fn write_totals_of<W: Sink>(
     }
 }
 
-/// Writes the line after those of all packets, unless `is_plain`: how many packets there are, how many of them were skipped, and how many
-/// are undecided, if that is asked for.
+/// Writes the line of the totals, unless `is_plain`: how many packets there are, how many of them were skipped, and
+/// how many are undecided, if that is asked for.
 ///
 /// <details><summary>Contract</summary>
 ///
@@ -143,7 +143,8 @@ pub fn is_skipped(packet: &CapturedPacket<'_>) -> bool {
     Content::of(packet).is_unknown()
 }
 
-/// Writes the line of a packet, unless `is_plain`: its number, that after `count`, its time, its link type, its lengths, and whether it was cut or is skipped.
+/// Writes the line of a packet, unless `is_plain`: its number, which is the one after `count`, its time, its link
+/// type, its lengths, and whether it was cut or is skipped.
 fn write_packet_line<W: Sink>(
     is_plain: bool,
     count: &usize,
@@ -167,14 +168,14 @@ fn write_packet_line<W: Sink>(
     out.append(b"\n");
 }
 
-/// Writes a word if it holds.
+/// Writes `word` if `holds`.
 fn write_mark<W: Sink>(holds: bool, word: &[u8], out: &mut OutputBuffer<'_, W>) {
     if holds {
         out.append(word);
     }
 }
 
-/// Writes the seconds of a packet's time with nine decimals, or a hyphen if there is none, between the words around it.
+/// Writes ` time SECONDS link `: the seconds have nine decimals, or there is a hyphen if the packet has no time.
 #[inline(always)]
 fn write_time<W: Sink>(time: Option<Timestamp>, out: &mut OutputBuffer<'_, W>) {
     match time {
@@ -185,7 +186,7 @@ fn write_time<W: Sink>(time: Option<Timestamp>, out: &mut OutputBuffer<'_, W>) {
     }
 }
 
-/// The text of a time whose seconds have ten digits: from the year 2001 to 2286.
+/// The same text for a time whose seconds have ten digits: from the year 2001 to 2286.
 #[inline(always)]
 fn recent_time(time: Timestamp) -> [u8; 32] {
     let h = eight_digits(time.seconds / 100_000_000);
@@ -198,7 +199,7 @@ fn recent_time(time: Timestamp) -> [u8; 32] {
     ]
 }
 
-/// Writes the text of a time whose seconds have any number of digits.
+/// Writes the same text for a time whose seconds have any number of digits.
 #[inline(never)]
 fn write_other_time<W: Sink>(time: Timestamp, out: &mut OutputBuffer<'_, W>) {
     out.append(b" time ");

@@ -5,8 +5,10 @@ use etherpeel::ether_sll2::{LinuxSll2Error, LinuxSll2Header, LinuxSll2Slice};
 use crate::ether_text::{OutputBuffer, Sink, hex_long, hex_type, write_number, write_rest};
 use etherpeel::EtherType;
 
-/// Writes the line of the header, and returns what its payload begins with, and the payload. If there is no walk of the payload, writes
-/// the line of what is left, or in place of the header's that of the fault, and returns whether there is no fault.
+/// Writes the line of the header, and returns what its payload begins with, and the payload.
+///
+/// If the payload is not walked, writes the line of what is left, too, and returns `Err(true)`. If the header is
+/// refused, writes only the line of the fault, and returns `Err(false)`.
 ///
 /// <details><summary>Contract</summary>
 ///

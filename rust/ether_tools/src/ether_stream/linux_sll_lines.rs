@@ -1,4 +1,4 @@
-//! Writes the line of the header of a packet of Linux cooked capture v1 that is no frame.
+//! Writes the line of the header of a packet of Linux cooked capture v1 that is not a frame.
 
 use etherpeel::ether_content::CookedHeader;
 use crate::ether_text::{OutputBuffer, Sink, hex_long, hex_type, write_number};

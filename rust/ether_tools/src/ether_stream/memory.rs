@@ -16,7 +16,7 @@ pub trait Grow {
     /// </details>
     fn bytes(&self) -> &[u8];
 
-    /// All bytes that there are, to be written.
+    /// All bytes that there are, for writing.
     ///
     /// <details><summary>Contract</summary>
     ///
@@ -28,7 +28,7 @@ pub trait Grow {
     /// </details>
     fn bytes_mut(&mut self) -> &mut [u8];
 
-    /// Makes room for `len` bytes in all. Those that are there stay, and what is after them is unspecified.
+    /// Makes room for `len` bytes in all. The bytes that are there are unchanged, and those after them unspecified.
     ///
     /// <details><summary>Contract</summary>
     ///

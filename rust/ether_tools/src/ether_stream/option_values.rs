@@ -8,8 +8,11 @@ use etherpeel::ether_filter::{Filter, FilterError};
 use crate::ether_format::{Columns, Format};
 use std::num::NonZeroUsize;
 
-/// The edit, if one at most is asked for: packets are cut, a VLAN tag is taken off, put in by a TPID and an identifier,
-/// or gets another identifier.
+/// The edit that options ask for, if any: to cut packets to their headers, to pop a VLAN tag, to push one, or to set
+/// an identifier.
+///
+/// Returns [`Usage::Edits`] if several are asked for, and [`Usage::Value`] if the value of `push` or `set` means
+/// nothing.
 ///
 /// <details><summary>Contract</summary>
 ///
@@ -43,7 +46,7 @@ pub fn edit_of_words<'a>(
     }
 }
 
-/// The number of packets that a text says, if there is one.
+/// The value of `-c`, if there is one: a number of packets, 1 at least.
 ///
 /// <details><summary>Contract</summary>
 ///
@@ -67,7 +70,7 @@ pub fn count_of<'a>(text: Option<&'a str>) -> Result<Option<NonZeroUsize>, Usage
     }
 }
 
-/// The number of headers that a text says, if there is one.
+/// The value of `--limit`, if there is one: a number of headers.
 ///
 /// <details><summary>Contract</summary>
 ///
@@ -88,7 +91,7 @@ pub fn limit_of<'a>(text: Option<&'a str>) -> Result<Option<usize>, Usage<'a>> {
     }
 }
 
-/// What becomes of packets that are undecided, as a text says it, if there is one: `keep` or `drop`.
+/// The value of `--undecided`, if there is one: `keep` or `drop`.
 ///
 /// <details><summary>Contract</summary>
 ///
@@ -108,7 +111,8 @@ pub fn undecided_of<'a>(text: Option<&'a str>) -> Result<Option<Undecided>, Usag
     }
 }
 
-/// The columns that a text names, if there is one.
+/// The value of `--fields`, if there is one: names of columns. Returns [`Usage::NoColumn`] with the first name that
+/// no column has, or [`Usage::Value`] if there are more than 32.
 ///
 /// <details><summary>Contract</summary>
 ///
@@ -132,7 +136,7 @@ pub fn fields_of<'a>(text: Option<&'a str>) -> Result<Option<Columns>, Usage<'a>
     }
 }
 
-/// The format that a text names, if it is another than lines.
+/// The value of `--format`: `None` for `lines`, and if there is no value.
 ///
 /// <details><summary>Contract</summary>
 ///
@@ -152,7 +156,7 @@ pub fn format_of<'a>(text: Option<&'a str>) -> Result<Option<Format>, Usage<'a>>
     }
 }
 
-/// The filter of a text, if there is one.
+/// The filter that a text means, if there is a text.
 ///
 /// <details><summary>Contract</summary>
 ///

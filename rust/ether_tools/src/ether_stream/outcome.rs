@@ -6,7 +6,8 @@ use etherpeel::ether_pcap::{CaptureError, CaptureFault, FileHeaderError};
 use crate::ether_text::{InputFault, OutputFault, Verdict};
 use std::fmt;
 
-/// What reads a file that this crate can't read, by its first four bytes or its version.
+/// A sentence that names a program for a file that this crate can't read, by its first four bytes or its version; or
+/// nothing.
 fn hint(error: &CaptureError) -> &'static str {
     let CaptureError::File(error) = error else {
         return "";
@@ -18,7 +19,7 @@ fn hint(error: &CaptureError) -> &'static str {
     }
 }
 
-/// What reads a file with these first four bytes.
+/// The same for a file with these first four bytes.
 fn magic_hint(number: u32) -> &'static str {
     match number {
         0x1F8B_0000..=0x1F8B_FFFF => " This looks like gzip: zcat unpacks it.",
@@ -34,11 +35,11 @@ fn magic_hint(number: u32) -> &'static str {
 /// Why a run stopped before the end of its input.
 #[derive(Debug)]
 pub enum RunFault {
-    /// The capture can't be read further. A place above `usize::MAX` is given as that.
+    /// The capture can't be read further. An offset above `usize::MAX` is given as `usize::MAX`.
     Capture(CaptureFault),
-    /// The packet at this place is to be edited, and can't be.
+    /// The packet at this offset is to be edited, and can't be.
     NotEdited(usize),
-    /// The reader failed, or never came to an end.
+    /// The reader failed, or did not end.
     Input,
     /// The writer failed.
     Output,
@@ -86,7 +87,7 @@ pub fn status_of(outcome: &Result<Verdict, RunFault>) -> u8 {
 /// How the program has answered its arguments.
 #[derive(Debug)]
 pub enum Outcome<'a> {
-    /// Standard input was read, or the arguments can't be: how that ended.
+    /// Standard input was read, or the arguments could not be read: how that ended.
     Run(Result<Verdict, RunFault>),
     /// The only file was read.
     File {
@@ -111,7 +112,7 @@ pub enum Outcome<'a> {
         /// Why it can't.
         fault: WriteFault,
     },
-    /// The text of the filter is no expression.
+    /// The text of the filter is not an expression.
     NoFilter(FilterError),
     /// The arguments ask how the program is used.
     Help,
@@ -139,7 +140,7 @@ pub const VERSION: &str = "ether_capture 3.0.0";
 pub enum Reason<'a> {
     /// It can't be read further.
     Fault(&'a CaptureFault),
-    /// The packet at this place can't be edited.
+    /// The packet at this offset can't be edited.
     NotEdited(usize),
     /// Its reader failed.
     Input,
@@ -163,7 +164,7 @@ impl fmt::Display for Reason<'_> {
     }
 }
 
-/// Why a capture can't be opened, as it follows the words that say so.
+/// The end of the message that a capture can't be opened: why.
 fn reason_not_opened(fault: OpenFault) -> &'static str {
     match fault {
         OpenFault::NotFound => ": there is no such file",
@@ -173,7 +174,7 @@ fn reason_not_opened(fault: OpenFault) -> &'static str {
     }
 }
 
-/// Why a copy can't be written, as it follows the words that say so.
+/// The end of the message that a copy can't be written: why.
 fn reason_not_written(fault: WriteFault) -> &'static str {
     match fault {
         WriteFault::NotFound => ": there is no such folder",
@@ -202,7 +203,7 @@ pub enum LastLine<'a> {
     Version,
     /// The arguments are wrong.
     Usage(Usage<'a>),
-    /// The text of the filter is no expression.
+    /// The text of the filter is not an expression.
     NoFilter(&'a FilterError),
     /// Memory for the arguments was refused.
     NoMemory,
@@ -253,7 +254,8 @@ pub fn last_line<'a>(outcome: &'a Outcome<'_>) -> Option<LastLine<'a>> {
     }
 }
 
-/// The line that says why standard input was not read to its end, if it was not. The program itself says why the system can't read it.
+/// The line that says why standard input was not read to its end, if it was not. There is no such line for
+/// [`RunFault::Input`]: `main` writes the system's reason.
 fn line_of_input(end: &Result<Verdict, RunFault>) -> Option<LastLine<'_>> {
     match end {
         Err(RunFault::Input) => None,
@@ -274,7 +276,7 @@ fn line_of_run<'a>(name: &'a str, end: &'a Result<Verdict, RunFault>) -> Option<
     }
 }
 
-/// How a capture, one of several, has ended.
+/// How one of several captures has ended.
 #[derive(Debug)]
 pub enum FileEnd {
     /// Its file can't be opened.
@@ -283,7 +285,7 @@ pub enum FileEnd {
     Read(Result<Verdict, RunFault>),
 }
 
-/// The line that says why a capture, one of several, was not read to its end, if it was not.
+/// The line that says why one of several captures was not read to its end, if it was not.
 ///
 /// <details><summary>Contract</summary>
 ///
@@ -299,7 +301,7 @@ pub fn line_of_file<'a>(name: &'a str, end: &'a FileEnd) -> Option<LastLine<'a>>
     }
 }
 
-/// The exit status of a capture, one of several.
+/// The exit status of one of several captures.
 ///
 /// <details><summary>Contract</summary>
 ///
@@ -315,7 +317,8 @@ pub fn status_of_file(end: &FileEnd) -> u8 {
     }
 }
 
-/// Tests that the last line is a message, which is not printed where lines or a copy are: any but the usage and the version.
+/// Tests that the last line is a message, which is not printed where lines or a copy are. All are messages but the
+/// usage and the version.
 ///
 /// <details><summary>Contract</summary>
 ///
@@ -328,8 +331,8 @@ pub fn is_message(outcome: &Outcome<'_>) -> bool {
     !matches!(outcome, Outcome::Help | Outcome::Version)
 }
 
-/// The exit status of the program, by its outcome and whether the last line was printed. It is that of failed output if
-/// there was a last line and it was not printed, unless that is a message.
+/// The exit status of the program: that of its outcome, or if the last line was not printed and is not a message,
+/// that of failed output.
 ///
 /// <details><summary>Contract</summary>
 ///

@@ -6,7 +6,7 @@ use crate::ether_stream::{EditBuffer, Form, Grow, PacketCounts, RunFault, Sectio
 use etherpeel::ether_pcap::{CaptureError, CaptureFault, CaptureReader, CapturedPacket, InterfaceTable};
 use crate::ether_text::{OutputBuffer, Sink, Verdict};
 
-/// Where the run is in the capture, and what the packets before gave.
+/// Where the run is in the capture, and the counts and the verdict of the packets before that.
 pub struct Progress<T: InterfaceTable> {
     reader: CaptureReader<T>,
     count: usize,
@@ -59,8 +59,9 @@ impl<T: InterfaceTable> Progress<T> {
         }
     }
 
-    /// Takes the units at the front of `bytes`, and writes what is made of each. Returns how many bytes were taken, and why what is left does
-    /// not begin with a unit, or `None` if no packet more is asked for.
+    /// Takes the units at the front of `bytes`, and writes what is made of each. Returns how many bytes were taken,
+    /// and why those that are left do not begin with a unit, or `None` if the requested number of packets was
+    /// reached.
     ///
     /// <details><summary>Contract</summary>
     ///
@@ -97,7 +98,7 @@ impl<T: InterfaceTable> Progress<T> {
         Ok((at, None))
     }
 
-    /// Tests that no packet more is asked for.
+    /// Tests that the requested number of packets was reached.
     fn is_done(&self) -> bool {
         matches!(self.left, Some(0))
     }
@@ -123,7 +124,7 @@ impl<T: InterfaceTable> Progress<T> {
         Ok(())
     }
 
-    /// Refuses all packets together if this one is refused. If it is accepted, nothing is written.
+    /// Sets the verdict to [`Verdict::SomeRefused`] if a packet is refused.
     #[inline(always)]
     fn judge(&mut self, accepted: bool) {
         if !accepted {
@@ -131,8 +132,8 @@ impl<T: InterfaceTable> Progress<T> {
         }
     }
 
-    /// Writes what is made of a unit, and returns whether its packet is accepted. Returns `None` and writes nothing if the packet is to be
-    /// edited, and can't be.
+    /// Writes what is made of a unit, and returns whether its packet is accepted. Returns `None` and writes nothing
+    /// if the packet is to be edited, and can't be.
     #[inline(always)]
     fn write_unit<B: Grow, W: Sink>(
         &self,
@@ -218,7 +219,8 @@ impl<T: InterfaceTable> Progress<T> {
         self.reader.has_begun()
     }
 
-    /// Ends the run at the end of the capture: writes the line after those of all packets, if there is to be one, and returns the verdict.
+    /// Ends the run at the end of the capture: writes the line of the totals, if there is to be one, and returns the
+    /// verdict.
     ///
     /// <details><summary>Contract</summary>
     ///
@@ -257,7 +259,7 @@ fn is_chosen(task: &Task, packet: &Option<CapturedPacket<'_>>) -> bool {
     }
 }
 
-/// How many packets are skipped with this one, after so many before it.
+/// How many packets are skipped up to this one, if `skipped` before it are.
 #[inline(always)]
 fn skipped_after(skipped: usize, packet: &CapturedPacket<'_>) -> usize {
     if is_skipped(packet) {

@@ -7,14 +7,20 @@ use crate::ether_text::{InputReader, OutputBuffer, Sink, SliceSource, Source, Ve
 
 /// Reads a capture to its end, and writes what is asked for: the lines of its packets, or a copy.
 ///
-/// A capture is a classic pcap file or a pcapng file. At the first file header, record or block that can't be read the run stops with
-/// [`RunFault::Capture`], and at a packet that is to be edited and can't be with [`RunFault::NotEdited`]; what is made of those before it has
-/// been written and flushed. Before each read all of it so far has been written. Any fault of the reader, an interruption too, is
-/// [`RunFault::Input`], as is a reader that never ends. Any fault of the writer, also at the closing flush, is [`RunFault::Output`], and
-/// nothing is said of how much was written. After a fault neither is called again.
+/// A capture is a classic pcap file or a pcapng file. The run stops with [`RunFault::Capture`] at the first file
+/// header, record or block that can't be read, and with [`RunFault::NotEdited`] at a packet that is to be edited and
+/// can't be. What is made of the units before that has been written and flushed. Before each read, all that was made
+/// so far has been written.
 ///
-/// In a copy each unit is as it was read: the file header, section headers, descriptions of interfaces and any other block, and the packets
-/// that are chosen, each edited if that is asked for. So it is a capture of the same format. Its verdict is [`Verdict::AllAccepted`].
+/// Any fault of the reader, also an interruption, is [`RunFault::Input`], and so is a reader that does not end. Any
+/// fault of the writer, also at the closing flush, is [`RunFault::Output`]; nothing is claimed of how much was
+/// written. After a fault neither is called again.
+///
+/// A copy is a capture of the same format, of the file header, section headers, descriptions of interfaces, any other
+/// block, and the packets that are chosen, each edited if that is asked for. With `CopyMode::Exact` each unit is as
+/// it was read. With `CopyMode::Changed` section lengths are unspecified, snap lengths are raised by what an edit can
+/// add, and custom blocks that are not meant to be copied are left out. The verdict of a copy is
+/// [`Verdict::AllAccepted`].
 ///
 /// If a number of packets is asked for, the run ends after the last of these, as if the capture ended there.
 ///
@@ -42,7 +48,7 @@ pub fn run<B: Grow, T: SectionTable, R: Source, W: Sink>(
     outcome
 }
 
-/// Does as [`run`], and says how many packets were read.
+/// Like [`run`], but also returns how many packets were read.
 ///
 /// <details><summary>Contract</summary>
 ///
@@ -73,7 +79,7 @@ pub fn run_counted<B: Grow, T: SectionTable, R: Source, W: Sink>(
     (outcome, progress.counts())
 }
 
-/// Does as [`run`] on a capture that is a slice. No read can fail, so the outcome is never [`RunFault::Input`].
+/// Like [`run`] for a capture in a slice. No read can fail, so the outcome is never [`RunFault::Input`].
 ///
 /// <details><summary>Contract</summary>
 ///

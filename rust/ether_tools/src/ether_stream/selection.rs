@@ -9,8 +9,8 @@ use etherpeel::ether_pcap::CapturedPacket;
 pub struct Selection {
     /// Those that this filter selects.
     pub filter: Filter,
-    /// What becomes of a packet that was cut so that its captured bytes don't decide that. Without a word for it, they count as if
-    /// they were all.
+    /// What becomes of a packet that was cut so that its captured bytes don't decide that. With `None` the filter is
+    /// applied to these bytes as if they were the whole packet.
     pub undecided: Option<Undecided>,
 }
 

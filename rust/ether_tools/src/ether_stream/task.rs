@@ -11,7 +11,7 @@ use std::num::NonZeroUsize;
 pub struct Task {
     /// Which packets are chosen; all of them without a selection.
     pub selection: Option<Selection>,
-    /// After how many of these the run ends; at the end of the capture without a number.
+    /// The number of these after which the run ends; with `None` it ends at the end of the capture.
     pub count: Option<NonZeroUsize>,
     /// What is made of them.
     pub form: Form,
@@ -34,18 +34,18 @@ pub enum Form {
 /// Which lines a packet has.
 #[derive(Clone, Copy, PartialEq, Eq, Debug)]
 pub struct LineOptions {
-    /// Whether those of packets and of totals are left out.
+    /// Whether the lines of packets and of totals are left out.
     pub is_plain: bool,
-    /// The format of its text, if it is another than lines: then the packet has its text in that format, and nothing else.
+    /// Another format than lines: a packet then has its text in that format, and nothing else.
     pub format: Option<Format>,
-    /// How many VLAN tags and SecTags are read of a packet at most; `None` for all.
+    /// The greatest number of VLAN tags and SecTags that are read of a packet; `None` for all.
     pub limit: Option<usize>,
-    /// How many packets were before, if the capture is one of several: then it has no line of totals.
+    /// The number of packets in the captures before this one, if it is one of several; it then has no line of totals.
     pub before: Option<usize>,
 }
 
 impl LineOptions {
-    /// The same for a capture after others with so many packets.
+    /// The same for a capture that follows others with this number of packets.
     ///
     /// <details><summary>Contract</summary>
     ///
@@ -115,7 +115,7 @@ impl Task {
         }
     }
 
-    /// How many packets were before.
+    /// The number of packets in the captures before this one.
     ///
     /// <details><summary>Contract</summary>
     ///

@@ -5,16 +5,16 @@ use etherpeel::ether_filter::number_of;
 use crate::ether_format::split_at;
 use etherpeel::{EtherType, VlanId};
 
-/// An edit that two numbers say, with a colon between them.
+/// An edit whose value is two numbers with a colon between them.
 #[derive(Clone, Copy)]
 pub(crate) enum TagEdit {
-    /// A VLAN tag is put in: its TPID and its identifier.
+    /// A VLAN tag is pushed: its TPID and its identifier.
     Push,
-    /// A VLAN tag gets another identifier: the one that it has, and the one that it gets.
+    /// The identifier of a VLAN tag is changed: from the first number to the second.
     Set,
 }
 
-/// The edit of a text.
+/// The edit that a text means. Returns `None` if it means none.
 pub(crate) fn tag_edit_of(kind: TagEdit, text: &[u8]) -> Option<PacketEdit> {
     let (first, second) = pair_of(text)?;
     match kind {
@@ -23,7 +23,7 @@ pub(crate) fn tag_edit_of(kind: TagEdit, text: &[u8]) -> Option<PacketEdit> {
     }
 }
 
-/// The edit that puts in a VLAN tag, if the TPID announces one and the identifier has no more than 12 bits.
+/// The edit that pushes a VLAN tag, if the TPID announces one and the identifier has at most 12 bits.
 fn push_of(tpid: u32, id: u32) -> Option<PacketEdit> {
     let tpid = EtherType(u16::try_from(tpid).ok()?);
     if !tpid.announces_vlan() {
@@ -33,14 +33,14 @@ fn push_of(tpid: u32, id: u32) -> Option<PacketEdit> {
     Some(PacketEdit::PushVlan { tpid, vlan_id })
 }
 
-/// The edit that gives a VLAN tag another identifier, if both have no more than 12 bits.
+/// The edit that changes the identifier of a VLAN tag, if both have at most 12 bits.
 fn set_of(old: u32, new: u32) -> Option<PacketEdit> {
     let from = vlan_id_of(old)?;
     let to = vlan_id_of(new)?;
     Some(PacketEdit::SetVlan { from, to })
 }
 
-/// The VLAN identifier of a number, if it has no more than 12 bits.
+/// The VLAN identifier of a number, if it has at most 12 bits.
 fn vlan_id_of(number: u32) -> Option<VlanId> {
     if number > 4095 {
         return None;
@@ -59,7 +59,7 @@ fn pair_of(text: &[u8]) -> Option<(u32, u32)> {
     Some((first, second))
 }
 
-/// The number of a text, if it has no more than 32 bits.
+/// The number of a text, if it has at most 32 bits.
 pub(crate) fn small_number(text: &[u8]) -> Option<u32> {
     match number_of(text) {
         Some(number) => number,

@@ -1,7 +1,7 @@
 use Rattle.std.proofs.Common.{rules}
 use Rattle.ether_capture.specs.Options.{request_view}
 use Rattle.ether_capture.specs.Program.{done, refused}
-use Rattle.ether_capture.specs.declared.asked.RequestError.TheVariants as reasons
+use Rattle.ether_capture.specs.declared.request.RequestError.TheVariants as reasons
 use Rattle.ether_capture.proofs.program.obey.Goals as goal
 
 pub returns-in-Err-Usage-clause-obeyed : goal.returns-in-Err-Usage-clause-obeyed

@@ -4,7 +4,7 @@ use Rattle.std.specs.Vec.Iter.{into_iter_items}
 use Rattle.std.proofs.lemmas.Iterator.{items_from_collect}
 use Rattle.std.proofs.lemmas.Iterator.Adapters.{YieldsList-from_vec}
 use Rattle.ether_capture.specs.Program.{HasObeyed, refused, unread}
-use Rattle.ether_capture.specs.declared.asked.RequestError.TheVariants.{Memory}
+use Rattle.ether_capture.specs.declared.request.RequestError.TheVariants.{Memory}
 use Rattle.ether_stream.specs.declared.outcome.Outcome.TheVariants as outcomes
 use Rattle.ether_stream.specs.declared.outcome.RunFault.TheVariants.{Input}
 use Rattle.ether_capture.proofs.program.program.Goals as goal

@@ -1,12 +1,12 @@
-//! Shows how far captures are read, while that is asked for. Written by hand, not proved.
+//! The line of `--progress`, which shows how far captures are read. Written by hand, not proved.
 use std::cell::Cell;
 use std::io::{self, Read, Write};
 use std::time::{Duration, Instant};
 
-/// So much time passes at least before what is shown changes.
+/// The least time between two changes of the line.
 const PAUSE: Duration = Duration::from_millis(200);
 
-/// One line that is written over again and again.
+/// One line, which each change overwrites.
 #[derive(Default)]
 pub struct Gauge {
     is_on: Cell<bool>,
@@ -26,7 +26,7 @@ impl Gauge {
         }
     }
 
-    /// Shows how many bytes were read, of how many if that is known, and how many thousands of them a second.
+    /// Shows how many bytes were read, how many there are, if that is known, and how many thousands were read a second.
     fn tell(&self, read: u64, size: Option<u64>, rate: u64) {
         self.is_shown.set(true);
         let of = size.map_or(String::new(), |size| format!(" of {size}"));
@@ -44,12 +44,13 @@ pub struct Meter<'a, R> {
 }
 
 impl<'a, R> Meter<'a, R> {
-    /// A reader of so many bytes, if that is known.
+    /// A reader, with the number of its bytes, if that is known.
     pub fn new(stream: R, size: Option<u64>, gauge: &'a Gauge) -> Self {
         Meter { stream, gauge, size, read: 0, times: None }
     }
 
-    /// Adds bytes that were read, and shows how many are read, now and then and at the end.
+    /// Adds the number of bytes that a read returned. Changes the line if the last change is long enough ago, and at
+    /// the end.
     fn add(&mut self, count: usize) {
         let now = Instant::now();
         let (started, told) = *self.times.get_or_insert((now, now));

@@ -10,7 +10,7 @@ import subprocess
 import tempfile
 from shutil import which
 
-from captures import CLASSIC, INPUT, SECTIONS, SIX, WITH_FCS, classic, cooked, joined, record_is_cut
+from made_captures import CLASSIC, INPUT, SECTIONS, SIX, WITH_FCS, classic, cooked, joined, record_is_cut
 from programs import run, run_apart
 
 JSON, BRIEF = ["--format", "json"], ["--format", "brief"]

@@ -2,8 +2,8 @@ use Rattle.std.proofs.Common.{◌≢◌, Err}
 use Rattle.ether_stream.specs.Task.{task_view}
 use Rattle.ether_stream.specs.declared.outcome.FileEnd.TheVariants as ends
 use Rattle.ether_stream.specs.declared.outcome.RunFault.TheVariants.{Output}
-use Rattle.ether_capture.proofs.FilesLemmas.{file_read}
-use Rattle.ether_capture.proofs.files.read_file.Goals as goal
+use Rattle.ether_capture.proofs.SeveralFilesLemmas.{file_read}
+use Rattle.ether_capture.proofs.several_files.read_file.Goals as goal
 
 pub returns-clause-ok : goal.returns-clause-ok
 returns-clause-ok g c = λ l same.

@@ -1,13 +1,13 @@
 //! Opens captures in the file system. Written by hand, not proved.
 use crate::ether_capture::captures::Captures;
-use crate::ether_capture::meter::{Gauge, Meter};
+use crate::ether_capture::progress_line::{Gauge, Meter};
 use crate::ether_stream::OpenFault;
 use std::fs::File;
 use std::io::{Error, ErrorKind};
 
 /// Captures in files, and what shows how far they are read.
 pub struct CaptureFiles<'a> {
-    /// What shows it.
+    /// Shows how far they are read.
     pub gauge: &'a Gauge,
 }
 

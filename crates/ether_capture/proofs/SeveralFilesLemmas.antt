@@ -8,7 +8,7 @@ use Rattle.ether_pcap.specs.Capture.{PacketValue}
 use Rattle.ether_text.specs.Run.{IsEndless}
 use Rattle.ether_text.specs.declared.verdict.Verdict.{Verdict}
 use Rattle.ether_stream.specs.Counting.{AreCounted, HasCounted, IfFileRead, IfRead}
-use Rattle.ether_capture.specs.Files.{HasEnded, ReadsFile, Settles, Tells, next_task}
+use Rattle.ether_capture.specs.SeveralFiles.{HasEnded, ReadsFile, Settles, Tells, next_task}
 use Rattle.ether_capture.specs.Options.{ListingValue}
 use Rattle.ether_stream.specs.Outcome.{status_of_file, text_of_file}
 use Rattle.ether_stream.specs.Packets.{counted, IsLeftOf}
@@ -16,7 +16,7 @@ use Rattle.ether_stream.specs.Run.{HasNoMemory, OnStreamFault}
 use Rattle.ether_stream.specs.Task.{TaskValue}
 use Rattle.ether_stream.specs.declared.open_fault.OpenFault.{OpenFault}
 use Rattle.ether_stream.specs.declared.counts.PacketCounts.{PacketCounts}
-use Rattle.ether_capture.specs.declared.files.Tally.{Tally}
+use Rattle.ether_capture.specs.declared.several_files.Tally.{Tally}
 use Rattle.ether_stream.specs.declared.outcome.FileEnd.{FileEnd}
 use Rattle.ether_stream.specs.declared.outcome.FileEnd.TheVariants as ends
 use Rattle.ether_stream.specs.declared.outcome.RunFault.{RunFault}

@@ -2,11 +2,11 @@ use Rattle.std.proofs.Common.{◌≡◌, ◌≢◌, ◌∷◌, ℕ, List, Some, 
 use Rattle.std.specs.Int.NonZero.{non_zero_usize_get}
 use Rattle.std.specs.Option.{option_map, is_some}
 use Rattle.ether_text.proofs.ArgumentsLemmas.{items_end}
-use Rattle.ether_capture.specs.Files.{ReadsFiles, no_more, enough, next, next_task}
+use Rattle.ether_capture.specs.SeveralFiles.{ReadsFiles, no_more, enough, next, next_task}
 use Rattle.ether_capture.specs.Options.{listing_view}
 use Rattle.ether_stream.specs.Task.{Lines}
-use Rattle.ether_capture.proofs.FilesLemmas.{names_in, settled}
-use Rattle.ether_capture.proofs.files.read_files.Goals as goal
+use Rattle.ether_capture.proofs.SeveralFilesLemmas.{names_in, settled}
+use Rattle.ether_capture.proofs.several_files.read_files.Goals as goal
 
 pub returns-then-is_done-clause-ok : goal.returns-then-is_done-clause-ok
 returns-then-is_done-clause-ok g c =

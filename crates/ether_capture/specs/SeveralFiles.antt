@@ -14,7 +14,7 @@ use Rattle.ether_stream.specs.Run.{HasRunOver, HasNoMemory, OnStreamFault}
 use Rattle.ether_stream.specs.Task.{TaskValue, Lines, IsChosen, IsOpen}
 use Rattle.ether_stream.specs.declared.open_fault.OpenFault.{OpenFault}
 use Rattle.ether_stream.specs.declared.selection.Selection.{Selection}
-use Rattle.ether_capture.specs.declared.files.Tally.{Tally}
+use Rattle.ether_capture.specs.declared.several_files.Tally.{Tally}
 use Rattle.ether_stream.specs.declared.outcome.FileEnd.{FileEnd}
 use Rattle.ether_stream.specs.declared.outcome.FileEnd.TheVariants as ends
 use Rattle.ether_stream.specs.declared.outcome.RunFault.TheVariants.{Output}
@@ -27,7 +27,7 @@ nothing_read count = record { packets = 0; skipped = 0; undecided = 0; left = co
 abbrev pub next_task : ListingValue → (at : Tally) → TaskValue
 next_task l at = record { select = l.select; count = at.left; form = Lines (record l.options { before = Some at.packets }) }
 
--- the tally with a capture more, which has these packets and this end
+-- the tally after another capture, which has these packets and this end
 pub record IsTallied (select : Option Selection) (at : Tally) (packets : List PacketValue) (end : FileEnd) (next : Tally) : Type 0 where
   pub kept : List PacketValue
   pub selected : Selected (IsChosen select) packets kept
@@ -39,8 +39,8 @@ pub record IsTallied (select : Option Selection) (at : Tally) (packets : List Pa
   pub is_left : IsLeftOf at.left (length kept) next.left
   pub is_status : next.status ≡ max at.status (status_of_file end)
 
--- A run over the capture of this name has found these packets. Or it can't be opened, or there was no memory to begin with: then none is found, and
--- nothing is written.
+-- A run over the capture of this name has found these packets. Or it can't be opened, or memory was refused before
+-- anything was read: then none is found, and nothing is written.
 abbrev pub HasEnded : (has : List ℕ → Option (List ℕ) → Type 0) (can_refuse : OpenFault → Type 0) (can_read can_write : Type 0) → (task : TaskValue) → (name : List ℕ)
     → List PacketValue → (held holds : Option (List ℕ)) → FileEnd → Type 0
 HasEnded has can_refuse can_read can_write task name packets held holds (ends.NotOpened fault) = can_refuse fault × (packets ≡ []) × (holds ≡ held)
@@ -53,12 +53,13 @@ HasEnded has can_refuse can_read can_write task name packets held holds (ends.Re
 abbrev pub Settles : {W : Type 0} → (is_flushed : W → Type 0) → (old new : W) → Type 0
 Settles is_flushed old new = is_flushed new ⊎ (new ≡ old)
 
--- The line is told, if there is one. Or the writer of messages, which can fail, has failed.
+-- The line is written to the messages, if there is one. Or the writer of messages, which can fail, has failed.
 abbrev pub Tells : (can_tell : Type 0) → (text : Option (List ℕ)) → (told tells : Option (List ℕ)) → Type 0
 Tells can_tell None told tells = tells ≡ told
 Tells can_tell (Some text) told tells = Appends told tells (text ++ codes "\n") ⊎ can_tell
 
--- A capture was read: its lines are written, and nothing else. The line that says why it was not read to its end, if it was not, is told.
+-- A capture was read: its lines are written, and nothing else. The line that says why it was not read to its end, if it
+-- was not, is written to the messages.
 pub record ReadsFile (has : List ℕ → Option (List ℕ) → Type 0) (can_refuse : OpenFault → Type 0) (can_read can_write can_tell : Type 0)
     (l : ListingValue) (name : List ℕ)
     (at : Tally) (held told : Option (List ℕ)) (next : Tally) (holds tells : Option (List ℕ)) : Type 0 where
@@ -69,7 +70,7 @@ pub record ReadsFile (has : List ℕ → Option (List ℕ) → Type 0) (can_refu
   pub is_told : Tells can_tell (text_of_file name end) told tells
   pub tallied : IsTallied l.select at packets end next
 
--- Captures were read one after the other: the last one, too, or until no packet more is asked for.
+-- Captures were read one after the other, up to the last one or until the requested number of packets was reached.
 pub data ReadsFiles (has : List ℕ → Option (List ℕ) → Type 0) (can_refuse : OpenFault → Type 0) (can_read can_write can_tell : Type 0) (l : ListingValue)
     : (names : List (List ℕ)) → (at : Tally) → (held told : Option (List ℕ)) → (last : Tally) → (holds tells : Option (List ℕ)) → Type 0 where
   no_more : (at : Tally) (held told : Option (List ℕ)) → ReadsFiles has can_refuse can_read can_write can_tell l [] at held told at held told
@@ -80,7 +81,7 @@ pub data ReadsFiles (has : List ℕ → Option (List ℕ) → Type 0) (can_refus
       → ReadsFiles has can_refuse can_read can_write can_tell l names then mid between last holds tells
       → ReadsFiles has can_refuse can_read can_write can_tell l (name ∷ names) at held told last holds tells
 
--- .. and the line of the totals of all of them is written. Of a fault of the writer nothing is said.
+-- .. and the line of the totals of all of them is written. After a fault of the writer nothing is claimed.
 abbrev pub HasListed : (has : List ℕ → Option (List ℕ) → Type 0) (can_refuse : OpenFault → Type 0) (can_read can_write can_tell : Type 0) → (l : ListingValue)
     → (held holds told tells : Option (List ℕ)) → Result ℕ OutputFault → Type 0
 HasListed has can_refuse can_read can_write can_tell l held holds told tells (Ok status) =

@@ -1,11 +1,17 @@
 //! What the options together ask for.
+ghost use Rattle.std.specs.Prelude.{◌≡◌, IfOk, IfErr, map};
+ghost use Rattle.std.specs.Option.{is_some, option_map};
+ghost use Rattle.ether_pcap.specs.CopiedUnits.{copy_mode_view};
+ghost use Rattle.ether_stream.specs.Copying.{growth_if};
+ghost use Rattle.ether_stream.specs.Task.{form_view};
+ghost use Rattle.ether_capture.specs.Options.{AreCountedColumns, IsRequestOf, RefusesAsked, are_several, asked_view, clashes, clashes_in_columns, columns_asked, columns_in, is_brief, line_of, statistics_asked, statistics_in, statistics_of, form_of, format_asked, heading_of, mode_of, options_of, request_view, input_of, makes_copy, named, output_of, selection_of};
 
-use crate::ether_capture::statistics_format::StatisticsFormat;
-use etherpeel::ether_content::PacketEdit;
-use etherpeel::ether_filter::{Filter, FilterError};
-use crate::ether_format::{Columns, Format};
-use etherpeel::ether_pcap::CopyMode;
-use crate::ether_stream::{Form, LineOptions, Selection, Task, Undecided, Usage, filter_of};
+use crate::statistics_format::StatisticsFormat;
+use ether_content::PacketEdit;
+use ether_filter::{Filter, FilterError};
+use ether_format::{Columns, Format};
+use ether_pcap::CopyMode;
+use ether_stream::{Form, LineOptions, Selection, Task, Undecided, Usage, filter_of};
 use std::num::NonZeroUsize;
 
 /// Why the arguments ask for nothing.
@@ -15,18 +21,22 @@ pub enum RequestError<'a> {
     Usage(Usage<'a>),
     /// Memory for them was refused.
     Memory,
-    /// The filter is no expression.
+    /// The filter is not an expression.
     Filter(FilterError),
 }
 
 impl<'a> From<Usage<'a>> for RequestError<'a> {
+    ghost use Rattle.ether_capture.specs.declared.request.RequestError.TheVariants as reasons;
+
+    ghost from_gives = { λ usage error. error ≡ reasons.Usage usage };
+
     fn from(usage: Usage<'a>) -> RequestError<'a> {
         RequestError::Usage(usage)
     }
 }
 
 /// What the arguments ask for.
-#[derive(Debug)]
+#[derive(Debug, Drop)]
 pub enum Request<'a> {
     /// What is made of one capture.
     Run(Job<'a>),
@@ -50,7 +60,7 @@ pub enum Heading {
 }
 
 /// What is made of one capture.
-#[derive(Debug)]
+#[derive(Debug, Drop)]
 pub struct Job<'a> {
     /// Whether lines or a copy are made, and of what packets.
     pub task: Task,
@@ -60,16 +70,16 @@ pub struct Job<'a> {
     pub output: Option<&'a str>,
     /// What is made of columns.
     pub heading: Heading,
-    /// Whether is shown how far it is read.
+    /// Whether to show how far it is read.
     pub is_shown: bool,
 }
 
 /// Which lines of several captures.
-#[derive(Debug)]
+#[derive(Debug, Drop)]
 pub struct Listing<'a> {
     /// Which packets are chosen; all of them without a selection.
     pub selection: Option<Selection>,
-    /// After how many of these the run ends; at the end of the last capture without a number.
+    /// The number of these after which the run ends; with `None` it ends at the end of the last capture.
     pub count: Option<NonZeroUsize>,
     /// Which lines a packet has.
     pub options: LineOptions,
@@ -77,11 +87,12 @@ pub struct Listing<'a> {
     pub files: Vec<&'a str>,
     /// What is made of columns.
     pub heading: Heading,
-    /// Whether is shown how far they are read.
+    /// Whether to show how far they are read.
     pub is_shown: bool,
 }
 
 /// What options ask for.
+#[derive(Drop)]
 pub(crate) struct Asked<'a> {
     pub(crate) is_plain: bool,
     pub(crate) is_write: bool,
@@ -95,7 +106,7 @@ pub(crate) struct Asked<'a> {
     pub(crate) limit: Option<usize>,
     pub(crate) format: Option<Format>,
     pub(crate) fields: Option<Columns>,
-    /// The columns whose texts are counted, if that is asked for and there is room.
+    /// The columns whose texts are counted, if that is asked for and there are 32 at most.
     pub(crate) counted: Option<Columns>,
     pub(crate) input: Option<&'a str>,
     pub(crate) output: Option<&'a str>,
@@ -104,17 +115,23 @@ pub(crate) struct Asked<'a> {
 
 impl<'a> Asked<'a> {
     /// Tests that there are several names.
-    fn has_several(&self) -> bool {
+    fn has_several(&self) -> bool
+        ensures { result ≡ are_several (map (λ s. s.now) self.now.files.items) }
+    {
         matches!(self.files.as_slice(), [_, _, ..])
     }
 
     /// Tests that a copy is asked for.
-    fn is_copy(&self) -> bool {
+    fn is_copy(&self) -> bool
+        ensures { result ≡ makes_copy (asked_view self.now) }
+    {
         self.is_write || self.output.is_some()
     }
 
     /// Tests that there is an option that does not go with the others.
-    fn clashes(&self) -> bool {
+    fn clashes(&self) -> bool
+        ensures { result ≡ clashes (asked_view self.now) }
+    {
         if self.undecided.is_some() && self.text.is_none() {
             return true;
         }
@@ -132,7 +149,9 @@ impl<'a> Asked<'a> {
     }
 
     /// Tests that there is an option of columns that does not go with the others.
-    fn clashes_in_columns(&self) -> bool {
+    fn clashes_in_columns(&self) -> bool
+        ensures { result ≡ clashes_in_columns (asked_view self.now) }
+    {
         if self.is_counted {
             return self.has_header || self.counted.is_none() || self.is_brief();
         }
@@ -140,17 +159,23 @@ impl<'a> Asked<'a> {
     }
 
     /// Tests that lines for the eye are asked for.
-    fn is_brief(&self) -> bool {
+    fn is_brief(&self) -> bool
+        ensures { result ≡ is_brief self.now.format }
+    {
         matches!(self.format, Some(Format::Brief))
     }
 
     /// Tests that another format than lines is asked for.
-    fn has_format(&self) -> bool {
+    fn has_format(&self) -> bool
+        ensures { result ≡ is_some (format_asked (asked_view self.now)) }
+    {
         self.format.is_some() || self.columns().is_some()
     }
 
     /// The columns of rows, if these are asked for.
-    fn columns(&self) -> Option<Columns> {
+    fn columns(&self) -> Option<Columns>
+        ensures { result ≡ columns_asked (asked_view self.now) }
+    {
         if self.is_counted {
             return self.counted;
         }
@@ -158,7 +183,9 @@ impl<'a> Asked<'a> {
     }
 
     /// The format that is asked for, if it is another than lines.
-    fn format(&self) -> Option<Format> {
+    fn format(&self) -> Option<Format>
+        ensures { result ≡ format_asked (asked_view self.now) }
+    {
         match self.columns() {
             Some(columns) => Some(Format::Fields(columns)),
             None => self.format,
@@ -166,7 +193,9 @@ impl<'a> Asked<'a> {
     }
 
     /// What is made of columns.
-    fn heading(&self) -> Heading {
+    fn heading(&self) -> Heading
+        ensures { result ≡ heading_of (asked_view self.now) }
+    {
         if self.is_counted {
             return statistics_of(&self.format, &self.counted);
         }
@@ -177,7 +206,10 @@ impl<'a> Asked<'a> {
     }
 
     /// What all options together ask for.
-    pub(crate) fn request(self) -> Result<Request<'a>, RequestError<'a>> {
+    pub(crate) fn request(self) -> Result<Request<'a>, RequestError<'a>>
+        ensures ok { IfOk result (λ request. IsRequestOf (asked_view self.entry) (request_view request)) }
+        ensures err { IfErr result (RefusesAsked (asked_view self.entry)) }
+    {
         if self.clashes() {
             return Err(RequestError::Usage(Usage::Clash));
         }
@@ -210,7 +242,9 @@ impl<'a> Asked<'a> {
     }
 
     /// The name of the only file, unless standard input is asked for.
-    fn input(&self) -> Option<&'a str> {
+    fn input(&self) -> Option<&'a str>
+        ensures { option_map (λ s. s.now) result ≡ input_of (asked_view self.now) }
+    {
         match self.input {
             Some(name) => named(name),
             None => named(self.files.first().copied()?),
@@ -218,12 +252,16 @@ impl<'a> Asked<'a> {
     }
 
     /// The name of the copy's file, unless standard output is asked for.
-    fn output(&self) -> Option<&'a str> {
+    fn output(&self) -> Option<&'a str>
+        ensures { option_map (λ s. s.now) result ≡ output_of (asked_view self.now) }
+    {
         named(self.output?)
     }
 
     /// Which packets a filter selects, if there is one.
-    fn selection(&self, filter: Option<Filter>) -> Option<Selection> {
+    fn selection(&self, filter: Option<Filter>) -> Option<Selection>
+        ensures { result ≡ selection_of (asked_view self.now) filter }
+    {
         match filter {
             Some(filter) => Some(Selection {
                 filter,
@@ -233,8 +271,10 @@ impl<'a> Asked<'a> {
         }
     }
 
-    /// Lines are asked for, or a copy.
-    fn form(&self) -> Form {
+    /// Lines, or a copy if one is asked for.
+    fn form(&self) -> Form
+        ensures { form_view result ≡ form_of (asked_view self.now) }
+    {
         if self.is_copy() {
             Form::Copy {
                 mode: self.mode(),
@@ -246,7 +286,9 @@ impl<'a> Asked<'a> {
     }
 
     /// A copy is exact if all packets are copied, and none is edited.
-    fn mode(&self) -> CopyMode {
+    fn mode(&self) -> CopyMode
+        ensures { copy_mode_view result ≡ mode_of (asked_view self.now) }
+    {
         if self.text.is_some() || self.count.is_some() || self.edit.is_some() {
             CopyMode::Changed {
                 raise: self.growth(),
@@ -256,8 +298,10 @@ impl<'a> Asked<'a> {
         }
     }
 
-    /// By how many bytes the edit lets a packet grow, if there is one.
-    fn growth(&self) -> u32 {
+    /// The most bytes that the edit adds to a packet; 0 without an edit.
+    fn growth(&self) -> u32
+        ensures { result ≡ growth_if (asked_view self.now).edit }
+    {
         match self.edit {
             Some(edit) => edit.growth(),
             None => 0,
@@ -265,7 +309,9 @@ impl<'a> Asked<'a> {
     }
 
     /// Which lines are asked for.
-    fn options(&self) -> LineOptions {
+    fn options(&self) -> LineOptions
+        ensures { result ≡ options_of (asked_view self.now) }
+    {
         LineOptions {
             is_plain: self.is_plain || self.has_format(),
             format: self.format(),
@@ -276,7 +322,9 @@ impl<'a> Asked<'a> {
 }
 
 /// Counts of the texts of columns, in a format.
-fn statistics_of(format: &Option<Format>, columns: &Option<Columns>) -> Heading {
+fn statistics_of(format: &Option<Format>, columns: &Option<Columns>) -> Heading
+    ensures { result ≡ statistics_of format.now columns.now }
+{
     match (columns, format) {
         (Some(columns), Some(Format::Json)) => {
             Heading::Statistics(StatisticsFormat::Json, *columns)
@@ -287,15 +335,20 @@ fn statistics_of(format: &Option<Format>, columns: &Option<Columns>) -> Heading 
 }
 
 /// A line of the names of columns.
-fn line_of(columns: &Option<Columns>) -> Heading {
+fn line_of(columns: &Option<Columns>) -> Heading
+    ensures { result ≡ line_of columns.now }
+{
     match columns {
         Some(columns) => Heading::Line(*columns),
         None => Heading::Absent,
     }
 }
 
-/// The columns whose texts are counted: the length of the packet, and then these, or common ones.
-pub(crate) fn counted_of(is_counted: bool, fields: &Option<Columns>) -> Option<Columns> {
+/// The columns whose texts are counted: the length of the packet, and then these, or common ones. Returns `None` if
+/// nothing is counted, or if these would be more than 32.
+pub(crate) fn counted_of(is_counted: bool, fields: &Option<Columns>) -> Option<Columns>
+    ensures { AreCountedColumns is_counted fields.now result }
+{
     if !is_counted {
         return None;
     }
@@ -307,7 +360,9 @@ pub(crate) fn counted_of(is_counted: bool, fields: &Option<Columns>) -> Option<C
 
 impl Heading {
     /// The columns whose names are written first, if a line of them is.
-    pub(crate) fn columns(&self) -> Option<Columns> {
+    pub(crate) fn columns(&self) -> Option<Columns>
+        ensures { result ≡ columns_in self.now }
+    {
         match self {
             Heading::Absent => None,
             Heading::Line(columns) | Heading::Statistics(_, columns) => Some(*columns),
@@ -315,7 +370,9 @@ impl Heading {
     }
 
     /// How counts are written, if they are asked for.
-    pub(crate) fn statistics(&self) -> Option<StatisticsFormat> {
+    pub(crate) fn statistics(&self) -> Option<StatisticsFormat>
+        ensures { result ≡ statistics_in self.now }
+    {
         match self {
             Heading::Statistics(format, _) => Some(*format),
             Heading::Absent | Heading::Line(_) => None,
@@ -325,7 +382,9 @@ impl Heading {
 
 impl Request<'_> {
     /// How counts are written, if they are asked for.
-    pub(crate) fn statistics(&self) -> Option<StatisticsFormat> {
+    pub(crate) fn statistics(&self) -> Option<StatisticsFormat>
+        ensures { result ≡ statistics_asked (request_view self.now) }
+    {
         match self {
             Request::Run(job) => job.heading.statistics(),
             Request::List(listing) => listing.heading.statistics(),
@@ -335,7 +394,9 @@ impl Request<'_> {
 }
 
 /// A name of a file, unless it is that of a standard stream.
-fn named(name: &str) -> Option<&str> {
+fn named(name: &str) -> Option<&str>
+    ensures { option_map (λ s. s.now) result ≡ named name.entry.now }
+{
     if name == "-" {
         return None;
     }

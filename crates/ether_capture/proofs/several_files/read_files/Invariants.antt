@@ -1,9 +1,9 @@
 use Rattle.std.proofs.Common.{◌≡◌, ◌⊎◌, ℕ, List, Option, length}
-use Rattle.ether_capture.specs.Files.{ReadsFiles, Settles, nothing_read}
+use Rattle.ether_capture.specs.SeveralFiles.{ReadsFiles, Settles, nothing_read}
 use Rattle.ether_capture.specs.Options.{listing_view}
-use Rattle.ether_capture.specs.declared.files.Tally.{Tally}
-use Rattle.ether_capture.proofs.FilesLemmas.{names_in}
-use Rattle.ether_capture.proofs.files.read_files.Given as goal
+use Rattle.ether_capture.specs.declared.several_files.Tally.{Tally}
+use Rattle.ether_capture.proofs.SeveralFilesLemmas.{names_in}
+use Rattle.ether_capture.proofs.several_files.read_files.Given as goal
 
 abbrev pub invariant-loop-name : goal.invariant-loop-name
 invariant-loop-name g l =

@@ -5,7 +5,7 @@ ghost use Rattle.std.specs.Io.KnownBytes.{Appends};
 ghost use Rattle.std.specs.Option.{option_map};
 ghost use Rattle.ether_pcap.specs.Capture.{PacketValue};
 ghost use Rattle.ether_stream.specs.Counting.{AreCounted, IfFileRead};
-ghost use Rattle.ether_capture.specs.Files.{HasEnded, HasListed, ReadsFile, ReadsFiles, Settles, Tells, next_task, nothing_read};
+ghost use Rattle.ether_capture.specs.SeveralFiles.{HasEnded, HasListed, ReadsFile, ReadsFiles, Settles, Tells, next_task, nothing_read};
 ghost use Rattle.ether_stream.specs.FrameLines.{totals_line_if};
 ghost use Rattle.ether_capture.specs.Options.{ListingValue, listing_view};
 ghost use Rattle.ether_stream.specs.Outcome.{status_of_file, text_of_file};
@@ -14,8 +14,8 @@ ghost use Rattle.ether_stream.specs.Task.{task_view};
 ghost use Rattle.ether_stream.specs.declared.outcome.FileEnd.TheVariants as ends;
 ghost use Rattle.ether_stream.specs.declared.outcome.RunFault.TheVariants.{Output};
 
-use crate::asked::Listing;
 use crate::captures::Captures;
+use crate::request::Listing;
 use crate::run_input::run_input;
 use ether_stream::{
     FileEnd, Form, LineSink, PacketCounts, RunFault, Task, line_of_file, status_of_file,
@@ -32,16 +32,16 @@ pub struct Tally {
     pub packets: usize,
     /// How many of these were skipped.
     pub skipped: usize,
-    /// Of how many of these the captured bytes don't decide whether they are selected.
+    /// How many of these are undecided: their captured bytes don't decide whether they are selected.
     pub undecided: usize,
-    /// How many packets more are asked for, if their number is limited.
+    /// How many further packets are asked for, if their number is limited.
     pub left: Option<usize>,
     /// The greatest exit status of a capture.
     pub status: u8,
 }
 
 impl Tally {
-    /// Before the first capture.
+    /// The tally before the first capture.
     fn new(asked_for: Option<usize>) -> Tally
         ensures { result ≡ nothing_read asked_for }
     {
@@ -54,7 +54,7 @@ impl Tally {
         }
     }
 
-    /// With a capture more.
+    /// The tally after another capture.
     fn with(&self, counts: PacketCounts, end: &FileEnd) -> Tally
         ensures packets { result.packets ≡ counts.number }
         ensures skipped { result.skipped ≡ counted (self.now.skipped + counts.skipped) }
@@ -71,14 +71,14 @@ impl Tally {
         }
     }
 
-    /// Tests that no packet more is asked for.
+    /// Tests that the requested number of packets was reached.
     fn is_done(&self) -> bool
         ensures { IsTrue result ↔ (self.now.left ≡ Some 0) }
     {
         matches!(self.left, Some(0))
     }
 
-    /// How many packets more are asked for, if their number is limited and not 0.
+    /// How many further packets are asked for, if their number is limited and not 0.
     fn count(&self) -> Option<NonZeroUsize>
         ensures { self.now.left ≢ Some 0 → option_map non_zero_usize_get result ≡ self.now.left }
     {
@@ -89,8 +89,8 @@ impl Tally {
     }
 }
 
-/// Writes the lines of several captures, each after those before it, and then that of the totals of all. Where a capture is not read to its
-/// end, tells why. Returns the greatest exit status of a capture.
+/// Writes the lines of several captures, one after the other, and then the line of the totals of all. If a capture is
+/// not read to its end, writes the reason to `messages`. Returns the greatest exit status of a capture.
 pub fn run_files<C: Captures, W: Sink, M: LineSink>(
     listing: Listing<'_>,
     alloc: Global,
@@ -115,7 +115,7 @@ pub fn run_files<C: Captures, W: Sink, M: LineSink>(
     Ok(tally.status)
 }
 
-/// Writes what is made of each capture, until no packet more is asked for.
+/// Writes what is made of each capture, until the requested number of packets is reached.
 fn read_files<C: Captures, W: Sink, M: LineSink>(
     listing: Listing<'_>,
     alloc: Global,
@@ -148,7 +148,7 @@ fn read_files<C: Captures, W: Sink, M: LineSink>(
     Ok(tally)
 }
 
-/// Writes what is made of one capture, and tells why it was not read to its end, if it was not.
+/// Writes what is made of one capture, and to `messages` why it was not read to its end, if it was not.
 fn read_file<C: Captures, W: Sink, M: LineSink>(
     task: &Task,
     tally: &Tally,
@@ -180,7 +180,7 @@ fn is_output_fault(end: &FileEnd) -> bool
     matches!(end, FileEnd::Read(Err(RunFault::Output)))
 }
 
-/// Tells why a capture was not read to its end, if it was not.
+/// Writes to `messages` why a capture was not read to its end, if it was not.
 fn tell_reason<M: LineSink>(name: &str, end: &FileEnd, messages: &mut M)
     ensures told { Tells M.Sink.can_fail (text_of_file name.now end.now) (M.Sink.contents messages.old) (M.Sink.contents messages.new) }
     ensures flushed { Settles M.Sink.is_flushed messages.old messages.new ⊎ M.Sink.can_fail }

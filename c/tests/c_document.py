@@ -1,4 +1,4 @@
-"""Runs docs/C.md by its words alone: page.py CC libether_c.a FOLDER. The last line is 'N passed, M failed'.
+"""Runs docs/C.md by its words alone: c_document.py CC libether_c.a FOLDER. The last line is 'N passed, M failed'.
 
 The commands are run in order in a copy of the repository's files, with the library that is given in place of what `rt lib`
 makes, and without a network. What they print last is compared with the text after them; examples in C are compiled, examples in Python

@@ -1,6 +1,6 @@
 use Rattle.ether_stream.specs.Task.{task_view}
-use Rattle.ether_capture.proofs.FilesLemmas.{run_ended}
-use Rattle.ether_capture.proofs.files.end_of_file.Goals as goal
+use Rattle.ether_capture.proofs.SeveralFilesLemmas.{run_ended}
+use Rattle.ether_capture.proofs.several_files.end_of_file.Goals as goal
 
 pub returns-in-Ok : goal.returns-in-Ok
 returns-in-Ok g c =

@@ -1,7 +1,7 @@
 //! Reads several captures, one after the other.
 
-use crate::ether_capture::asked::Listing;
 use crate::ether_capture::captures::Captures;
+use crate::ether_capture::request::Listing;
 use crate::ether_capture::run_input::run_input;
 use crate::ether_stream::{
     FileEnd, Form, LineSink, PacketCounts, RunFault, Task, line_of_file, status_of_file,
@@ -18,16 +18,16 @@ pub struct Tally {
     pub packets: usize,
     /// How many of these were skipped.
     pub skipped: usize,
-    /// Of how many of these the captured bytes don't decide whether they are selected.
+    /// How many of these are undecided: their captured bytes don't decide whether they are selected.
     pub undecided: usize,
-    /// How many packets more are asked for, if their number is limited.
+    /// How many further packets are asked for, if their number is limited.
     pub left: Option<usize>,
     /// The greatest exit status of a capture.
     pub status: u8,
 }
 
 impl Tally {
-    /// Before the first capture.
+    /// The tally before the first capture.
     fn new(asked_for: Option<usize>) -> Tally {
         Tally {
             packets: 0,
@@ -38,7 +38,7 @@ impl Tally {
         }
     }
 
-    /// With a capture more.
+    /// The tally after another capture.
     fn with(&self, counts: PacketCounts, end: &FileEnd) -> Tally {
         Tally {
             packets: counts.number,
@@ -49,12 +49,12 @@ impl Tally {
         }
     }
 
-    /// Tests that no packet more is asked for.
+    /// Tests that the requested number of packets was reached.
     fn is_done(&self) -> bool {
         matches!(self.left, Some(0))
     }
 
-    /// How many packets more are asked for, if their number is limited and not 0.
+    /// How many further packets are asked for, if their number is limited and not 0.
     fn count(&self) -> Option<NonZeroUsize> {
         match self.left {
             Some(left) => NonZeroUsize::new(left),
@@ -63,8 +63,8 @@ impl Tally {
     }
 }
 
-/// Writes the lines of several captures, each after those before it, and then that of the totals of all. Where a capture is not read to its
-/// end, tells why. Returns the greatest exit status of a capture.
+/// Writes the lines of several captures, one after the other, and then the line of the totals of all. If a capture is
+/// not read to its end, writes the reason to `messages`. Returns the greatest exit status of a capture.
 ///
 /// <details><summary>Contract</summary>
 ///
@@ -95,7 +95,7 @@ pub fn run_files<C: Captures, W: Sink, M: LineSink>(
     Ok(tally.status)
 }
 
-/// Writes what is made of each capture, until no packet more is asked for.
+/// Writes what is made of each capture, until the requested number of packets is reached.
 fn read_files<C: Captures, W: Sink, M: LineSink>(
     listing: Listing<'_>,
     alloc: Global,
@@ -122,7 +122,7 @@ fn read_files<C: Captures, W: Sink, M: LineSink>(
     Ok(tally)
 }
 
-/// Writes what is made of one capture, and tells why it was not read to its end, if it was not.
+/// Writes what is made of one capture, and to `messages` why it was not read to its end, if it was not.
 fn read_file<C: Captures, W: Sink, M: LineSink>(
     task: &Task,
     tally: &Tally,
@@ -146,7 +146,7 @@ fn is_output_fault(end: &FileEnd) -> bool {
     matches!(end, FileEnd::Read(Err(RunFault::Output)))
 }
 
-/// Tells why a capture was not read to its end, if it was not.
+/// Writes to `messages` why a capture was not read to its end, if it was not.
 fn tell_reason<M: LineSink>(name: &str, end: &FileEnd, messages: &mut M) {
     if let Some(line) = line_of_file(name, end) {
         let _ = messages.put_line(&line);

@@ -1,7 +1,7 @@
 use Rattle.std.proofs.Common.{sym, ◌∙◌}
 use Rattle.ether_capture.specs.Options.{asked_view, clashes_in_columns, clashes_in_names, clashes_with_copy}
 use Rattle.ether_capture.proofs.OptionsLemmas.{any_last}
-use Rattle.ether_capture.proofs.asked.Asked.clashes.Goals as goal
+use Rattle.ether_capture.proofs.request.Asked.clashes.Goals as goal
 
 pub returns-then-clashes_in_columns : goal.returns-then-clashes_in_columns
 returns-then-clashes_in_columns c =

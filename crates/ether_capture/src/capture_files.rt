@@ -4,7 +4,7 @@ ghost use Rattle.std.specs.IoError.{error_kind};
 ghost use Rattle.ether_capture.specs.Captures.{open_fault_of};
 
 use crate::captures::Captures;
-use crate::meter::{Gauge, Meter};
+use crate::progress_line::{Gauge, Meter};
 use ether_stream::OpenFault;
 use std::fs::OpenFile;
 use std::io::{ErrorKind, Write};
@@ -20,7 +20,7 @@ pub struct CaptureFiles<'a, H, M> {
 }
 
 impl<'a, H, M> CaptureFiles<'a, H, M> {
-    /// All files.
+    /// The captures in all files; `gauge` shows how far they are read.
     pub fn new(host: &'a H, gauge: &'a Gauge<'a, H, M>) -> Self {
         CaptureFiles { host, gauge }
     }

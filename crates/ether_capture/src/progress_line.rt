@@ -1,4 +1,4 @@
-//! Shows how far captures are read, while that is asked for.
+//! The line of `--progress`, which shows how far captures are read.
 ghost use Rattle.std.specs.Prelude.{◌≡◌};
 
 use std::cell::Cell;
@@ -6,10 +6,10 @@ use std::io;
 use std::io::{Read, Write};
 use std::time::{Clock, Duration};
 
-/// So many milliseconds pass at least before what is shown changes.
+/// The least number of milliseconds between two changes of the line.
 const PAUSE: u64 = 200;
 
-/// One line that is written over again and again.
+/// One line, which each change overwrites.
 #[derive(Drop)]
 pub struct Gauge<'a, K, M> {
     clock: &'a K,
@@ -43,7 +43,7 @@ impl<'a, K: Clock, M: Write + Copy> Gauge<'a, K, M> {
         }
     }
 
-    /// Shows how many bytes were read, of how many if that is known, and how many thousands of them a second.
+    /// Shows how many bytes were read, how many there are, if that is known, and how many thousands were read a second.
     fn tell(&self, read: u64, size: Option<u64>, rate: u64) {
         self.is_shown.set(true);
         let mut messages = self.messages;
@@ -67,7 +67,7 @@ pub struct Meter<'a, R, K, M> {
 }
 
 impl<'a, R, K: Clock, M: Write + Copy> Meter<'a, R, K, M> {
-    /// A reader of so many bytes, if that is known.
+    /// A reader, with the number of its bytes, if that is known.
     pub fn new(stream: R, size: Option<u64>, gauge: &'a Gauge<'a, K, M>) -> Self {
         Meter {
             stream,
@@ -79,7 +79,8 @@ impl<'a, R, K: Clock, M: Write + Copy> Meter<'a, R, K, M> {
         }
     }
 
-    /// Adds bytes that were read, and shows how many are read, now and then and at the end.
+    /// Adds the number of bytes that a read returned. Changes the line if the last change is long enough ago, and at
+    /// the end.
     fn add(&mut self, count: usize)
         ensures { self.new.stream ≡ self.old.stream }
     {
@@ -99,7 +100,7 @@ impl<'a, R, K: Clock, M: Write + Copy> Meter<'a, R, K, M> {
     }
 }
 
-/// How many thousands of bytes a second that is.
+/// The rate in thousands of bytes a second.
 fn kilobytes_a_second(bytes: u64, time: Duration) -> u64 {
     let milliseconds = u64::try_from(time.as_millis()).unwrap_or(u64::MAX);
     bytes.checked_div(milliseconds).unwrap_or(bytes)
