@@ -4,8 +4,10 @@ use Rattle.clap.specs.Words.{App, FailsBy, HasKind, HasMatchesOf, IsAmong, Row, 
 use Rattle.clap.specs.declared.error.Error.{Error}
 use Rattle.clap.specs.declared.error.kind.ErrorKind.{ErrorKind}
 use Rattle.clap.specs.declared.parser.matches.ArgMatches.{ArgMatches}
-use Rattle.ether_capture.specs.Options.{AskedValue, Asks, IsRefusedUsage, IsRequestOf, KindNames, MeansNothing, NamesRequest, RefusesAsked, RefusesKind, RefusesRows, RefusesWords, capture_app, clash, help, no_filter, no_memory, nothing, options, refused, request_view, version}
+use Rattle.ether_capture.specs.Options.{AskedValue, Asks, IsRefusedUsage, IsRequestOf, KindNames, MeansNothing, NamesRequest, RefusesAsked, RefusesKind, RefusesRows, RefusesWords, capture_app, clap_refuses, clashing, help, means_nothing, no_expression, no_memory, options, request_view, version}
+use Rattle.ether_stream.specs.declared.usage.Usage.{Usage}
 use Rattle.ether_stream.specs.declared.usage.Usage.TheVariants as usages
+use Rattle.ether_capture.specs.declared.request.Asked.{Asked}
 use Rattle.ether_capture.specs.declared.request.Request.{Request}
 use Rattle.ether_capture.specs.declared.request.RequestError.{RequestError}
 use Rattle.ether_capture.specs.declared.request.RequestError.TheVariants as reasons
@@ -38,7 +40,7 @@ refuses a words e is fails =
 module _ (words : List Text) (rows : List Row) (taken : fault_of capture_app words ≡ [])
     (is : rows ≡ matches_of capture_app words) where
   rows_refused : (e : RequestError) → RefusesRows rows e → RefusesWords words e
-  rows_refused (reasons.Usage usage) means = nothing usage taken (subst (λ it. MeansNothing it usage) is means)
+  rows_refused (reasons.Usage usage) means = means_nothing usage taken (subst (λ it. MeansNothing it usage) is means)
   rows_refused (reasons.Filter e) never = absurd never
   rows_refused reasons.Memory refused = no_memory
 
@@ -60,7 +62,7 @@ module _ (words : List Text) (rows : List Row) (taken : fault_of capture_app wor
       → IfErr r (RefusesWords words)
   asked_refused a (Ok request) asks refused = tt
   asked_refused a (Err (reasons.Usage usages.Clash)) asks clashed =
-      clash (record { asked = a; taken = taken; asks = subst (λ it. Asks it a) is asks; clash = clashed })
+      clashing (record { asked = a; taken = taken; asks = subst (λ it. Asks it a) is asks; clash = clashed })
   asked_refused a (Err (reasons.Usage (usages.Unknown word))) asks never = absurd never
   asked_refused a (Err (reasons.Usage (usages.NoValue word))) asks never = absurd never
   asked_refused a (Err (reasons.Usage usages.Words)) asks never = absurd never
@@ -68,7 +70,7 @@ module _ (words : List Text) (rows : List Row) (taken : fault_of capture_app wor
   asked_refused a (Err (reasons.Usage (usages.NoColumn name))) asks never = absurd never
   asked_refused a (Err (reasons.Usage (usages.Value option text))) asks never = absurd never
   asked_refused a (Err (reasons.Filter e)) asks refused =
-      no_filter e (record { asked = a; taken = taken; asks = subst (λ it. Asks it a) is asks; no_filter = refused })
+      no_expression e (record { asked = a; taken = taken; asks = subst (λ it. Asks it a) is asks; no_filter = refused })
   asked_refused a (Err reasons.Memory) asks refused = absurd refused
 
 -- ---- it fails
@@ -82,8 +84,8 @@ module _ (words : List Text) (kind : ErrorKind) (e : Error) (fails : HasKind (fa
     where
       named : HasKind (fault_of capture_app words) e → KindNames kind (request_view request)
           → NamesRequest words (request_view request)
-      named (inl no_memory) (inl (kind_is, it)) = let bad = sym kind_is ∙ is ∙ no_memory in absurd cc
-      named (inl no_memory) (inr (kind_is, it)) = let bad = sym kind_is ∙ is ∙ no_memory in absurd cc
+      named (inl memory) (inl (kind_is, it)) = let bad = sym kind_is ∙ is ∙ memory in absurd cc
+      named (inl memory) (inr (kind_is, it)) = let bad = sym kind_is ∙ is ∙ memory in absurd cc
       named (inr among) (inl (kind_is, it)) =
           subst (NamesRequest words) (sym it)
           (help words (subst (λ k. IsAmong k (fault_of capture_app words)) (sym is ∙ kind_is) among))
@@ -95,16 +97,28 @@ module _ (words : List Text) (kind : ErrorKind) (e : Error) (fails : HasKind (fa
   kind_refused (Ok request) means = tt
   kind_refused (Err (reasons.Filter other)) never = absurd never
   kind_refused (Err reasons.Memory) means = no_memory
-  kind_refused (Err (reasons.Usage usage)) ((no_help, no_version, no_memory), means) = refused usage (by_kind fails) means
+  kind_refused (Err (reasons.Usage usage)) ((no_help, no_version, has_memory), means) = clap_refuses usage (by_kind fails) means
     where
       by_kind : HasKind (fault_of capture_app words) e → IsRefusedUsage words
-      by_kind (inl ends) = absurd (no_memory (is ∙ ends))
+      by_kind (inl ends) = absurd (has_memory (is ∙ ends))
       by_kind (inr among) = record {
         kind = kind;
         among = subst (λ k. IsAmong k (fault_of capture_app words)) (sym is) among;
         no_help = no_help;
         no_version = no_version;
       }
+
+-- ---- no memory, or a value that means nothing
+
+pub memory_refused : (words : List Text) (r : Result Request RequestError) → IsErrAnd r (λ it. it ≡ reasons.Memory)
+    → IfErr r (RefusesWords words)
+memory_refused words (Ok request) same = tt
+memory_refused words (Err e) same = subst (RefusesWords words) (sym same) no_memory
+
+pub value_refused : (rows : List Row) (usage : Usage) (r : Result Asked RequestError) → MeansNothing rows usage
+    → IsErrAnd r (λ it. it ≡ reasons.Usage usage) → IfErr r (RefusesRows rows)
+value_refused rows usage (Ok asked) means same = tt
+value_refused rows usage (Err e) means same = subst (RefusesRows rows) (sym same) means
 
 -- ---- options that clash
 

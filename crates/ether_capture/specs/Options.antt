@@ -307,16 +307,16 @@ IsWrongEditOf rows = IsWrongEdit (is_set (codes "cut-to-headers") rows) (is_set 
 
 -- .. or that of another option
 pub data MeansNothing (rows : List Row) : Usage → Type 0 where
-  edit : (usage : Usage) → ((e : Option EditValue) → ¬ (IsEdit rows e)) → IsWrongEditOf rows usage → MeansNothing rows usage
-  count : (usage : Usage) → ((n : Option ℕ) → ¬ (IsIfAny IsCount (first_of (codes "count") rows) n))
+  wrong_edit : (usage : Usage) → ((e : Option EditValue) → ¬ (IsEdit rows e)) → IsWrongEditOf rows usage → MeansNothing rows usage
+  wrong_count : (usage : Usage) → ((n : Option ℕ) → ¬ (IsIfAny IsCount (first_of (codes "count") rows) n))
       → IsWrongValue value_options.Count (first_of (codes "count") rows) usage → MeansNothing rows usage
-  limit : (usage : Usage) → ((n : Option ℕ) → ¬ (IsIfAny IsLimit (first_of (codes "limit") rows) n))
+  wrong_limit : (usage : Usage) → ((n : Option ℕ) → ¬ (IsIfAny IsLimit (first_of (codes "limit") rows) n))
       → IsWrongValue value_options.Limit (first_of (codes "limit") rows) usage → MeansNothing rows usage
-  format : (usage : Usage) → ((f : Option Format) → ¬ (IsFormat (first_of (codes "format") rows) f))
+  wrong_format : (usage : Usage) → ((f : Option Format) → ¬ (IsFormat (first_of (codes "format") rows) f))
       → IsWrongValue value_options.Format (first_of (codes "format") rows) usage → MeansNothing rows usage
-  fields : (usage : Usage) → ((c : Option Columns) → ¬ (IsIfAny AreFields (first_of (codes "fields") rows) c))
+  wrong_fields : (usage : Usage) → ((c : Option Columns) → ¬ (IsIfAny AreFields (first_of (codes "fields") rows) c))
       → AreWrongFields (first_of (codes "fields") rows) usage → MeansNothing rows usage
-  undecided : (usage : Usage) → ((u : Option Undecided) → ¬ (IsIfAny MeansUndecided (first_of (codes "undecided") rows) u))
+  wrong_undecided : (usage : Usage) → ((u : Option Undecided) → ¬ (IsIfAny MeansUndecided (first_of (codes "undecided") rows) u))
       → IsWrongValue value_options.Undecided (first_of (codes "undecided") rows) usage → MeansNothing rows usage
 
 -- .. or options do not go together
@@ -342,11 +342,11 @@ pub record NamesNoFilter (words : List Text) (e : FilterError) : Type 0 where
 -- Why arguments ask for nothing: `clap` refuses them, or takes them, but a value means nothing, or they do not go together, or the filter is no
 -- expression; or memory for them was refused.
 pub data RefusesWords (words : List Text) : RequestError → Type 0 where
-  refused : (usage : Usage) → IsRefusedUsage words → IsUsageOf words usage → RefusesWords words (reasons.Usage usage)
-  nothing : (usage : Usage) → fault_of capture_app words ≡ [] → MeansNothing (matches_of capture_app words) usage
+  clap_refuses : (usage : Usage) → IsRefusedUsage words → IsUsageOf words usage → RefusesWords words (reasons.Usage usage)
+  means_nothing : (usage : Usage) → fault_of capture_app words ≡ [] → MeansNothing (matches_of capture_app words) usage
       → RefusesWords words (reasons.Usage usage)
-  clash : NamesClash words → RefusesWords words (reasons.Usage usages.Clash)
-  no_filter : (e : FilterError) → NamesNoFilter words e → RefusesWords words (reasons.Filter e)
+  clashing : NamesClash words → RefusesWords words (reasons.Usage usages.Clash)
+  no_expression : (e : FilterError) → NamesNoFilter words e → RefusesWords words (reasons.Filter e)
   no_memory : RefusesWords words reasons.Memory
 
 -- ---- step by step

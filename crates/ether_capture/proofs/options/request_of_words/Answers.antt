@@ -1,8 +1,11 @@
 use Rattle.std.proofs.Common.{rules, map, string_bytes}
 use Rattle.clap.specs.Words.{app_of}
 use Rattle.ether_capture.specs.Options.{asked_view}
-use Rattle.ether_capture.proofs.OptionsLemmas.{asked_refused, finds, kind_named, kind_refused, nothing_asked, refuses, request_named}
+use Rattle.ether_capture.proofs.OptionsLemmas.{asked_refused, finds, kind_named, kind_refused, memory_refused, nothing_asked, refuses, request_named}
 use Rattle.ether_capture.proofs.options.request_of_words.Goals as goal
+
+pub returns-in_err-command-clause-err : goal.returns-in_err-command-clause-err
+returns-in_err-command-clause-err c = memory_refused (map string_bytes c.args.words.now) c.from_residual.result (search rules)
 
 pub returns-in_err-of-in-Ok-clause-err : goal.returns-in_err-of-in-Ok-clause-err
 returns-in_err-of-in-Ok-clause-err c =

@@ -1,5 +1,5 @@
 use Rattle.std.proofs.Common.{rules}
-use Rattle.ether_capture.specs.Options.{request_view}
+use Rattle.ether_capture.specs.Options.{no_memory, request_view}
 use Rattle.ether_capture.specs.Program.{done, refused}
 use Rattle.ether_capture.specs.declared.request.RequestError.TheVariants as reasons
 use Rattle.ether_capture.proofs.program.obey.Goals as goal
@@ -8,7 +8,7 @@ pub returns-in-Err-Usage-clause-obeyed : goal.returns-in-Err-Usage-clause-obeyed
 returns-in-Err-Usage-clause-obeyed g c = refused _ (reasons.Usage _) _ _ _ _ (search rules)
 
 pub returns-in-Err-Memory-clause-obeyed : goal.returns-in-Err-Memory-clause-obeyed
-returns-in-Err-Memory-clause-obeyed g c = refused _ reasons.Memory _ _ _ _ tt
+returns-in-Err-Memory-clause-obeyed g c = refused _ reasons.Memory _ _ _ _ no_memory
 
 pub returns-in-Err-Filter-clause-obeyed : goal.returns-in-Err-Filter-clause-obeyed
 returns-in-Err-Filter-clause-obeyed g c = refused _ (reasons.Filter _) _ _ _ _ (search rules)

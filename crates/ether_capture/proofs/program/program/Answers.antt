@@ -3,6 +3,7 @@ use Rattle.std.specs.Vec.{vec_items}
 use Rattle.std.specs.Vec.Iter.{into_iter_items}
 use Rattle.std.proofs.lemmas.Iterator.{items_from_collect}
 use Rattle.std.proofs.lemmas.Iterator.Adapters.{YieldsList-from_vec}
+use Rattle.ether_capture.specs.Options.{no_memory}
 use Rattle.ether_capture.specs.Program.{HasObeyed, refused, unread}
 use Rattle.ether_capture.specs.declared.request.RequestError.TheVariants.{Memory}
 use Rattle.ether_stream.specs.declared.outcome.Outcome.TheVariants as outcomes
@@ -30,7 +31,7 @@ returns-in_default-collect-clause-served g c =
       printed = c.end-in_default-collect.ensures.printed.0;
       mid = g.W.Sink.contents c.args.writer.now;
       between = g.M.Sink.contents c.args.messages.now;
-      obeyed = refused _ Memory _ _ _ _ tt;
+      obeyed = refused _ Memory _ _ _ _ no_memory;
       ended = c.end-in_default-collect.ensures.printed.1;
       is_status = c.end-in_default-collect.ensures.printed.2;
     })
