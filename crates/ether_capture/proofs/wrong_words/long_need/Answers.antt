@@ -1,4 +1,4 @@
-use Rattle.std.proofs.Common.{rules, ◌∙◌}
+use Rattle.std.proofs.Common.{rules}
 use Rattle.ether_capture.proofs.WrongWordLemmas.{need_alone, need_with_value}
 use Rattle.ether_capture.proofs.wrong_words.long_need.Goals as goal
 
