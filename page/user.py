@@ -72,7 +72,7 @@ def drop(page, folder, name, data):
 
 
 def told(page, *paths):
-    """Drops files of which something is told, and returns what."""
+    """Drops files, and returns the notice that the page shows."""
     page.evaluate("window.page.notice('')")
     page.drop(*paths)
     page.wait("!document.querySelector('#notice').hidden")

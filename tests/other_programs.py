@@ -92,7 +92,7 @@ def snap_lengths(program):
 
 
 def sections(program):
-    """A section that says its length, some packets of which are left out, and a second one after it."""
+    """A copy without some packets, of two sections that give their lengths."""
     one = section(None, interface(0), packet(60), block(0x4000_0BAD, "d97e0000 01020304"), packet(1038))
     copy, said, status = copied(program, ["--write", "--select", "cut"], one + one)
     lengths = [int.from_bytes(copy[at + 16:at + 24], "little", signed=True) for at in (0, copy.index(b"\x0a\x0d\x0d\x0a", 4))]

@@ -21,7 +21,7 @@ import time
 
 TOP = os.path.dirname(os.path.dirname(os.path.dirname(os.path.abspath(__file__))))
 SECONDS, RUNS = 3, 3
-# Of each row the VLANs of the ports by which frames come and leave, and the tag with which they are sent.
+# For each row: the VLANs of the port that receives frames and of the one that sends them, and the tag of the frames that arrive.
 ROWS = {"untagged": ("pvid=5", "pvid=5", 0), "to a trunk": ("pvid=5", "tagged=5", 0), "from a trunk": ("tagged=5", "pvid=5", 5)}
 LINKS = [("sender", "eth", "middle", "come"), ("receiver", "eth", "middle", "leave")]
 STATION, TYPE = bytes([2, 0, 0, 0, 0, 2]), b"\x88\xb5"
