@@ -7,7 +7,7 @@ ghost use Rattle.ether_base.specs.Formats.Kind as kinds;
 ghost use Rattle.ether_base.specs.Formats.RefusedLen.{IsRefusedLen};
 ghost use Rattle.ether_arp.specs.Arp.{BeginsWithArp, HoldsArp};
 
-use ether_base::big_endian::u16_at;
+use ether_base::big_endian::{array_at, u16_of};
 use ether_base::err::{Layer, LenError};
 use ether_base::slice_len::too_short;
 use ether_base::{ArpHardwareId, ArpOperation, EtherType, LenSource};
@@ -66,7 +66,7 @@ pub fn hw_addr_type(packet: &[u8]) -> ArpHardwareId
     requires { 8 ≤ length packet.now }
     ensures { result.0 ≡ (arp_front_in packet.now).hardware_type }
 {
-    ArpHardwareId(u16_at(packet, HARDWARE_TYPE))
+    ArpHardwareId(u16_of(array_at(packet, HARDWARE_TYPE).unwrap()))
 }
 
 /// The protocol type.
@@ -74,7 +74,7 @@ pub fn proto_addr_type(packet: &[u8]) -> EtherType
     requires { 8 ≤ length packet.now }
     ensures { result.0 ≡ (arp_front_in packet.now).protocol_type }
 {
-    EtherType(u16_at(packet, PROTOCOL_TYPE))
+    EtherType(u16_of(array_at(packet, PROTOCOL_TYPE).unwrap()))
 }
 
 /// The size of a hardware address in bytes.
@@ -98,7 +98,7 @@ pub fn operation(packet: &[u8]) -> ArpOperation
     requires { 8 ≤ length packet.now }
     ensures { result.0 ≡ (arp_front_in packet.now).operation }
 {
-    ArpOperation(u16_at(packet, OPERATION))
+    ArpOperation(u16_of(array_at(packet, OPERATION).unwrap()))
 }
 
 /// The sender's hardware address.

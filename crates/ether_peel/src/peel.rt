@@ -53,8 +53,8 @@ enum First {
 pub struct Peel<'a> {
     /// The window left to read.
     rest: &'a [u8],
-    /// Where it begins in the frame.
-    start: usize,
+    /// Where it ends in the frame, which most headers leave as it is.
+    end: usize,
     /// Whether bytes appended to the frame would lie outside the window.
     is_closed: bool,
     /// Whether the fault was returned.
@@ -71,14 +71,14 @@ pub struct Peel<'a> {
 }
 
 impl<'a> Model for Peel<'a> {
-    ghost use Rattle.std.specs.Prelude.{◌+◌, ◌^◌, ◌<◌, length};
+    ghost use Rattle.std.specs.Prelude.{◌-◌, ◌≤◌, length};
     ghost use Rattle.ether_peel.specs.Walker.State.{State, expected_of, Announces, IsShown};
 
     ghost Value = { State };
 
-    ghost view = { λ a. record { rest = a.rest.now; offset = a.start; closed = a.is_closed; bound = a.bound; expected = record { next = expected_of a.first a.kind; limit = a.limit }; over = a.is_over } };
+    ghost view = { λ a. record { rest = a.rest.now; offset = a.end - length a.rest.now; closed = a.is_closed; bound = a.bound; expected = record { next = expected_of a.first a.kind; limit = a.limit }; over = a.is_over } };
 
-    ghost invariant = { λ a. (a.start + length a.rest.now < 2 ^ 64) × Announces a.first a.announced.0 a.kind × IsShown a.first a.kind };
+    ghost invariant = { λ a. (length a.rest.now ≤ a.end) × Announces a.first a.announced.0 a.kind × IsShown a.first a.kind };
 }
 
 impl<'a> Peel<'a> {
@@ -135,7 +135,7 @@ impl<'a> Peel<'a> {
         };
         Peel {
             rest: bytes,
-            start: 0,
+            end: bytes.len(),
             is_closed: matches!(start, Start::Ethernet2Fcs),
             is_over: false,
             bound: LenSource::Slice,
@@ -160,7 +160,7 @@ impl<'a> Peel<'a> {
         ensures value { result ≡ self.now.offset }
         ensures fits { self.now.offset + length self.now.rest < 2 ^ 64 }
     {
-        self.start
+        self.end - self.rest.len()
     }
 
     /// What the window left to read is announced as: after a fault, what was expected there.
@@ -239,7 +239,8 @@ impl<'a> Peel<'a> {
           over = false;
         } }
     {
-        self.rest = &bytes[self.start..];
+        self.rest = &bytes[self.offset()..];
+        self.end = bytes.len();
         self.is_over = false;
     }
 
@@ -250,9 +251,10 @@ impl<'a> Peel<'a> {
         ensures gives { Gives self.old result self.new }
         ensures nearer { IsNearer self.old result self.new }
     {
+        let offset = self.offset();
         self.is_over = true;
         Some(Err(PeelFault {
-            offset: self.start,
+            offset,
             error: bounded(error, self.bound),
             closed: self.is_closed,
         }))
@@ -269,14 +271,13 @@ impl<'a> Peel<'a> {
         match Ethernet2Slice::from_slice_without_fcs(self.rest) {
             Ok(slice) => {
                 let ether_type = slice.ether_type();
-                self.start += slice.header_len();
                 self.rest = slice.payload_slice();
                 self.first = First::Read;
                 self.announced = ether_type;
                 self.kind = RestKind::EtherType(ether_type);
                 Some(Ok(PeelUnit::Ethernet2(slice)))
             }
-            Err(error) => self.fault(PeelError::Len(error.add_offset(self.start))),
+            Err(error) => self.fault(PeelError::Len(error.add_offset(self.offset()))),
         }
     }
 
@@ -291,14 +292,15 @@ impl<'a> Peel<'a> {
         match Ethernet2Slice::from_slice_with_crc32_fcs(self.rest) {
             Ok(slice) => {
                 let ether_type = slice.ether_type();
-                self.start += slice.header_len();
-                self.rest = slice.payload_slice();
+                let payload = slice.payload_slice();
+                self.end = self.offset() + slice.header_len() + payload.len();
+                self.rest = payload;
                 self.first = First::Read;
                 self.announced = ether_type;
                 self.kind = RestKind::EtherType(ether_type);
                 Some(Ok(PeelUnit::Ethernet2(slice)))
             }
-            Err(error) => self.fault(PeelError::Len(error.add_offset(self.start))),
+            Err(error) => self.fault(PeelError::Len(error.add_offset(self.offset()))),
         }
     }
 
@@ -313,7 +315,6 @@ impl<'a> Peel<'a> {
         match LinuxSllSlice::from_slice(self.rest) {
             Ok(slice) => {
                 let (announced, kind) = announced_in(&slice);
-                self.start += slice.header_len();
                 self.rest = slice.payload_slice();
                 self.first = First::Read;
                 self.announced = announced;
@@ -321,7 +322,7 @@ impl<'a> Peel<'a> {
                 Some(Ok(PeelUnit::LinuxSll(slice)))
             }
             Err(err::linux_sll::HeaderSliceError::Len(error)) => {
-                self.fault(PeelError::Len(error.add_offset(self.start)))
+                self.fault(PeelError::Len(error.add_offset(self.offset())))
             }
             Err(err::linux_sll::HeaderSliceError::Content(error)) => {
                 self.fault(PeelError::LinuxSll(error))
@@ -340,7 +341,6 @@ impl<'a> Peel<'a> {
         match SingleVlanSlice::from_slice(self.rest) {
             Ok(slice) => {
                 let ether_type = slice.ether_type();
-                self.start += slice.header_len();
                 self.rest = slice.payload_slice();
                 self.first = First::Read;
                 self.limit = lowered(self.limit);
@@ -348,7 +348,7 @@ impl<'a> Peel<'a> {
                 self.kind = RestKind::EtherType(ether_type);
                 Some(Ok(PeelUnit::Vlan(slice)))
             }
-            Err(error) => self.fault(PeelError::Len(error.add_offset(self.start))),
+            Err(error) => self.fault(PeelError::Len(error.add_offset(self.offset()))),
         }
     }
 
@@ -363,8 +363,9 @@ impl<'a> Peel<'a> {
         match MacsecSlice::from_slice(self.rest) {
             Ok(slice) => {
                 let (announced, kind) = announced_after(slice.payload);
-                self.start += slice.header.header_len();
-                self.rest = payload_bytes(slice.payload);
+                let payload = payload_bytes(slice.payload);
+                self.end = self.offset() + slice.header.header_len() + payload.len();
+                self.rest = payload;
                 let known = slice.header.expected_payload_len();
                 self.is_closed |= known.is_some();
                 self.bound = bound_after(known, self.bound);
@@ -375,7 +376,7 @@ impl<'a> Peel<'a> {
                 Some(Ok(PeelUnit::Macsec(slice)))
             }
             Err(err::macsec::HeaderSliceError::Len(error)) => {
-                self.fault(PeelError::Len(error.add_offset(self.start)))
+                self.fault(PeelError::Len(error.add_offset(self.offset())))
             }
             Err(err::macsec::HeaderSliceError::Content(error)) => {
                 self.fault(PeelError::Macsec(error))
@@ -394,14 +395,13 @@ impl<'a> Peel<'a> {
         match ArpPacketSlice::from_slice(self.rest) {
             Ok(slice) => {
                 let len = slice.slice().len();
-                self.start += len;
                 self.rest = &self.rest[len..];
                 self.first = First::Read;
                 self.announced = UNANNOUNCED;
                 self.kind = RestKind::AfterArp;
                 Some(Ok(PeelUnit::Arp(slice)))
             }
-            Err(error) => self.fault(PeelError::Len(error.add_offset(self.start))),
+            Err(error) => self.fault(PeelError::Len(error.add_offset(self.offset()))),
         }
     }
 }

@@ -8,7 +8,7 @@ ghost use Rattle.ether_tags.specs.Ethernet2.{ethernet2_header_of, ethernet2_view
 
 use crate::Ethernet2Header;
 use ether_base::EtherType;
-use ether_base::big_endian::u16_at;
+use ether_base::big_endian::{array_at, u16_of};
 use std::ops::Range;
 
 /// The bytes of the destination address.
@@ -41,7 +41,7 @@ pub fn ether_type(bytes: &[u8]) -> EtherType
     requires { 14 ≤ length bytes.now }
     ensures { result.0 ≡ (ethernet2_of bytes.now).ether_type }
 {
-    EtherType(u16_at(bytes, ETHER_TYPE))
+    EtherType(u16_of(array_at(bytes, ETHER_TYPE).unwrap()))
 }
 
 /// The header with all its fields.

@@ -9,7 +9,7 @@ ghost use Rattle.ether_tags.specs.Macsec.{IsUnmodified, payload_type_view};
 ghost use Rattle.ether_base.specs.Formats.Refusal.{IsTooShort};
 
 use crate::{MacsecHeader, MacsecPType};
-use ether_base::big_endian::{u16_at, u32_at, u64_at};
+use ether_base::big_endian::{array_at, u16_of, u32_of, u64_of};
 use ether_base::{EtherType, MacsecAn, MacsecShortLen};
 
 /// The byte with the TCI and the association number.
@@ -119,7 +119,7 @@ pub fn packet_nr(bytes: &[u8]) -> u32
     requires { 6 ≤ length bytes.now }
     ensures { result ≡ (sec_tag_of bytes.now).packet_number }
 {
-    u32_at(bytes, PACKET_NUMBER)
+    u32_of(array_at(bytes, PACKET_NUMBER).unwrap())
 }
 
 /// The secure channel identifier SCI, if SC is set.
@@ -128,7 +128,7 @@ pub fn sci(bytes: &[u8]) -> Option<u64>
     ensures { result ≡ (sec_tag_of bytes.now).sci }
 {
     if sci_present(bytes) {
-        Some(u64_at(bytes, SCI))
+        Some(u64_of(array_at(bytes, SCI).unwrap()))
     } else {
         None
     }
@@ -141,7 +141,10 @@ pub fn ptype(bytes: &[u8]) -> MacsecPType
     ensures { payload_type_view result ≡ (sec_tag_of bytes.now).payload_type }
 {
     match (encrypted(bytes), userdata_changed(bytes)) {
-        (false, false) => { MacsecPType::Unmodified(EtherType(u16_at(bytes, bytes.len() - 2))) }
+        (false, false) => {
+            let at = bytes.len() - 2;
+            MacsecPType::Unmodified(EtherType(u16_of(array_at(bytes, at).unwrap())))
+        }
         (false, true) => MacsecPType::Modified,
         (true, false) => MacsecPType::EncryptedUnmodified,
         (true, true) => MacsecPType::Encrypted,

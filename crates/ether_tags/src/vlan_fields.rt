@@ -7,7 +7,7 @@ ghost use Rattle.ether_base.specs.Formats.Vlan.{vlan_of};
 ghost use Rattle.ether_tags.specs.Vlan.{vlan_view};
 
 use crate::SingleVlanHeader;
-use ether_base::big_endian::{bytes_of_u16, u16_at};
+use ether_base::big_endian::{array_at, bytes_of_u16, u16_of};
 use ether_base::{EtherType, VlanId, VlanPcp};
 
 /// Where the tag control information begins.
@@ -45,7 +45,7 @@ pub fn ether_type(bytes: &[u8]) -> EtherType
     requires { 4 ≤ length bytes.now }
     ensures { result.0 ≡ (vlan_of bytes.now).ether_type }
 {
-    EtherType(u16_at(bytes, ETHER_TYPE))
+    EtherType(u16_of(array_at(bytes, ETHER_TYPE).unwrap()))
 }
 
 /// The tag with all its fields. The tag control information is read once, since three reads of it are compiled byte by
@@ -116,5 +116,5 @@ fn tag_control(bytes: &[u8]) -> u16
     requires { 2 ≤ length bytes.now }
     ensures { result ≡ number (slice_range bytes.now 0 2) }
 {
-    u16_at(bytes, TCI)
+    u16_of(array_at(bytes, TCI).unwrap())
 }

@@ -71,7 +71,7 @@ after_capture_is hardware n = after_either (hardware == 1) hardware n
 abbrev pub shown : Inside → State
 shown a = record {
   rest = a.rest.now;
-  offset = a.start;
+  offset = a.end - length a.rest.now;
   closed = a.is_closed;
   bound = a.bound;
   expected = record { next = expected_of a.first a.kind; limit = a.limit };
@@ -334,9 +334,9 @@ gives_unit s t u r = record {
   next = λ going list w hs e f. next_unit list w s t u hs e r f;
 }
 
--- a header that names no length was read at the start of these bytes, n bytes long, and what follows it is left
-pub record IsReadPlain (bytes rest : List ℕ) (x : Expectation) (n : ℕ) (u : PeelUnit) (next : Next)
-    (limit : Option ℕ) : Type 0 where
+-- a header that names no length was read at the start of these bytes, and what follows it is left
+pub record IsReadPlain (bytes rest : List ℕ) (x : Expectation) (u : PeelUnit) (next : Next) (limit : Option ℕ)
+    : Type 0 where
   pub header : Header
   pub no_len : payload_len header ≡ None
   pub no_trailer : trailer_len header ≡ 0
@@ -344,29 +344,36 @@ pub record IsReadPlain (bytes rest : List ℕ) (x : Expectation) (n : ℕ) (u : 
   pub accepted : Accepts sources.Slice bytes (kind_of header)
   pub means : Means bytes header
   pub shows : ShowsUnit bytes rest header u
-  pub len : n ≡ header_len header
   pub rest_is : rest ≡ slice_range bytes (header_len header) (length bytes)
   pub next_is : next ≡ next_after header
   pub limit_is : limit ≡ lowered (is_extension (kind_of header)) x.limit
 
 -- the walk goes on after it, in the same window
-abbrev pub after_plain : Inside → List ℕ → ℕ → Next → Option ℕ → State
-after_plain a rest n next limit = record {
+abbrev pub after_plain : Inside → List ℕ → Next → Option ℕ → State
+after_plain a rest next limit = record {
   rest = rest;
-  offset = a.start + n;
+  offset = a.end - length rest;
   closed = a.is_closed;
   bound = a.bound;
   expected = record { next = next; limit = limit };
   over = a.is_over;
 }
 
-pub gives_plain : (a : Inside) (s : State) (rest : List ℕ) (n : ℕ) (u : PeelUnit) (next : Next) (limit : Option ℕ)
-    → shown a ≡ s → s.over ≡ false → IsReadPlain a.rest.now rest s.expected n u next limit
-    → Gives s (Some (Ok u)) (after_plain a rest n next limit)
-gives_plain a s rest n u next limit is going r =
+-- where what is left begins, if it ends where the window does
+pub begins_after : (list rest : List ℕ) (end n : ℕ) → length list ≤ end → n ≤ length list
+    → rest ≡ slice_range list n (length list) → end - length rest ≡ end - length list + n
+begins_after list rest end n ends within is =
+    let len = ap length is ∙ length-part list n (length list) (omega arith) in
+    omega arith
+
+pub gives_plain : (a : Inside) (s : State) (rest : List ℕ) (u : PeelUnit) (next : Next) (limit : Option ℕ)
+    → length a.rest.now ≤ a.end → shown a ≡ s → s.over ≡ false → IsReadPlain a.rest.now rest s.expected u next limit
+    → Gives s (Some (Ok u)) (after_plain a rest next limit)
+gives_plain a s rest u next limit ends is going r =
     let bytes = a.rest.now in
     let h = r.header in
     let over = ap (λ (z : State). z.over) is ∙ going in
+    let fits = unit_fits sources.Slice bytes h r.accepted r.means in
     let all : length bytes - 0 ≡ length bytes = omega arith in
     let own : within bytes (own_payload (shown a) h) ≡ slice_range bytes (header_len h) (length bytes) =
     ap
@@ -375,8 +382,8 @@ gives_plain a s rest n u next limit is going r =
     r.no_len
     ∙ ap (λ (k : ℕ). slice_range bytes (header_len h) (length bytes - k)) r.no_trailer
     ∙ ap (slice_range bytes (header_len h)) all in
-    subst (λ (z : State). Gives z (Some (Ok u)) (after_plain a rest n next limit)) is
-    (gives_unit (shown a) (after_plain a rest n next limit) u (record {
+    subst (λ (z : State). Gives z (Some (Ok u)) (after_plain a rest next limit)) is
+    (gives_unit (shown a) (after_plain a rest next limit) u (record {
       going = over;
       header = h;
       announced = ap (λ (z : State). announced z.expected) is ∙ r.announced;
@@ -384,7 +391,7 @@ gives_plain a s rest n u next limit is going r =
       means = r.means;
       shows = r.shows;
       rest = r.rest_is ∙ sym own;
-      offset = ap (λ (k : ℕ). a.start + k) r.len;
+      offset = begins_after bytes rest a.end (header_len h) ends (omega arith) r.rest_is;
       closed = ap (payload_closed a.is_closed) (sym r.no_len);
       bound = ap (payload_bound a.bound) (sym r.no_len);
       next = r.next_is;

@@ -1,7 +1,7 @@
 //! The fields of an ARP packet in the bytes that begin with it (RFC 826, "Packet format"): hardware type, protocol
 //! type, the two sizes and the operation in eight bytes, then the addresses of the sender and those of the target.
 
-use crate::ether_base::big_endian::u16_at;
+use crate::ether_base::big_endian::{array_at, u16_of};
 use crate::ether_base::err::{Layer, LenError};
 use crate::ether_base::slice_len::too_short;
 use crate::ether_base::{ArpHardwareId, ArpOperation, EtherType, LenSource};
@@ -74,7 +74,7 @@ fn packet_len(packet: &[u8]) -> usize {
 /// </details>
 #[inline]
 pub fn hw_addr_type(packet: &[u8]) -> ArpHardwareId {
-    ArpHardwareId(u16_at(packet, HARDWARE_TYPE))
+    ArpHardwareId(u16_of(array_at(packet, HARDWARE_TYPE).unwrap()))
 }
 
 /// The protocol type.
@@ -91,7 +91,7 @@ pub fn hw_addr_type(packet: &[u8]) -> ArpHardwareId {
 /// </details>
 #[inline]
 pub fn proto_addr_type(packet: &[u8]) -> EtherType {
-    EtherType(u16_at(packet, PROTOCOL_TYPE))
+    EtherType(u16_of(array_at(packet, PROTOCOL_TYPE).unwrap()))
 }
 
 /// The size of a hardware address in bytes.
@@ -142,7 +142,7 @@ pub fn proto_addr_size(packet: &[u8]) -> u8 {
 /// </details>
 #[inline]
 pub fn operation(packet: &[u8]) -> ArpOperation {
-    ArpOperation(u16_at(packet, OPERATION))
+    ArpOperation(u16_of(array_at(packet, OPERATION).unwrap()))
 }
 
 /// The sender's hardware address.

@@ -48,8 +48,8 @@ enum First {
 pub struct Peel<'a> {
     /// The window left to read.
     rest: &'a [u8],
-    /// Where it begins in the frame.
-    start: usize,
+    /// Where it ends in the frame, which most headers leave as it is.
+    end: usize,
     /// Whether bytes appended to the frame would lie outside the window.
     is_closed: bool,
     /// Whether the fault was returned.
@@ -128,7 +128,7 @@ impl<'a> Peel<'a> {
         };
         Peel {
             rest: bytes,
-            start: 0,
+            end: bytes.len(),
             is_closed: matches!(start, Start::Ethernet2Fcs),
             is_over: false,
             bound: LenSource::Slice,
@@ -165,7 +165,7 @@ impl<'a> Peel<'a> {
     /// </details>
     #[inline(always)]
     pub fn offset(&self) -> usize {
-        self.start
+        self.end - self.rest.len()
     }
 
     /// What the window left to read is announced as: after a fault, what was expected there.
@@ -244,16 +244,18 @@ impl<'a> Peel<'a> {
     /// Goes on at the refused unit, with a longer front of the frame.
     #[inline(always)]
     pub(crate) fn go_on(&mut self, bytes: &'a [u8]) {
-        self.rest = &bytes[self.start..];
+        self.rest = &bytes[self.offset()..];
+        self.end = bytes.len();
         self.is_over = false;
     }
 
     /// Ends the walk at the unit that is announced.
     #[inline(always)]
     fn fault(&mut self, error: PeelError) -> Option<Result<PeelUnit<'a>, PeelFault>> {
+        let offset = self.offset();
         self.is_over = true;
         Some(Err(PeelFault {
-            offset: self.start,
+            offset,
             error: bounded(error, self.bound),
             closed: self.is_closed,
         }))
@@ -265,14 +267,13 @@ impl<'a> Peel<'a> {
         match Ethernet2Slice::from_slice_without_fcs(self.rest) {
             Ok(slice) => {
                 let ether_type = slice.ether_type();
-                self.start += slice.header_len();
                 self.rest = slice.payload_slice();
                 self.first = First::Read;
                 self.announced = ether_type;
                 self.kind = RestKind::EtherType(ether_type);
                 Some(Ok(PeelUnit::Ethernet2(slice)))
             }
-            Err(error) => self.fault(PeelError::Len(error.add_offset(self.start))),
+            Err(error) => self.fault(PeelError::Len(error.add_offset(self.offset()))),
         }
     }
 
@@ -282,14 +283,15 @@ impl<'a> Peel<'a> {
         match Ethernet2Slice::from_slice_with_crc32_fcs(self.rest) {
             Ok(slice) => {
                 let ether_type = slice.ether_type();
-                self.start += slice.header_len();
-                self.rest = slice.payload_slice();
+                let payload = slice.payload_slice();
+                self.end = self.offset() + slice.header_len() + payload.len();
+                self.rest = payload;
                 self.first = First::Read;
                 self.announced = ether_type;
                 self.kind = RestKind::EtherType(ether_type);
                 Some(Ok(PeelUnit::Ethernet2(slice)))
             }
-            Err(error) => self.fault(PeelError::Len(error.add_offset(self.start))),
+            Err(error) => self.fault(PeelError::Len(error.add_offset(self.offset()))),
         }
     }
 
@@ -299,7 +301,6 @@ impl<'a> Peel<'a> {
         match LinuxSllSlice::from_slice(self.rest) {
             Ok(slice) => {
                 let (announced, kind) = announced_in(&slice);
-                self.start += slice.header_len();
                 self.rest = slice.payload_slice();
                 self.first = First::Read;
                 self.announced = announced;
@@ -307,7 +308,7 @@ impl<'a> Peel<'a> {
                 Some(Ok(PeelUnit::LinuxSll(slice)))
             }
             Err(err::linux_sll::HeaderSliceError::Len(error)) => {
-                self.fault(PeelError::Len(error.add_offset(self.start)))
+                self.fault(PeelError::Len(error.add_offset(self.offset())))
             }
             Err(err::linux_sll::HeaderSliceError::Content(error)) => {
                 self.fault(PeelError::LinuxSll(error))
@@ -321,7 +322,6 @@ impl<'a> Peel<'a> {
         match SingleVlanSlice::from_slice(self.rest) {
             Ok(slice) => {
                 let ether_type = slice.ether_type();
-                self.start += slice.header_len();
                 self.rest = slice.payload_slice();
                 self.first = First::Read;
                 self.limit = lowered(self.limit);
@@ -329,7 +329,7 @@ impl<'a> Peel<'a> {
                 self.kind = RestKind::EtherType(ether_type);
                 Some(Ok(PeelUnit::Vlan(slice)))
             }
-            Err(error) => self.fault(PeelError::Len(error.add_offset(self.start))),
+            Err(error) => self.fault(PeelError::Len(error.add_offset(self.offset()))),
         }
     }
 
@@ -339,8 +339,9 @@ impl<'a> Peel<'a> {
         match MacsecSlice::from_slice(self.rest) {
             Ok(slice) => {
                 let (announced, kind) = announced_after(slice.payload);
-                self.start += slice.header.header_len();
-                self.rest = payload_bytes(slice.payload);
+                let payload = payload_bytes(slice.payload);
+                self.end = self.offset() + slice.header.header_len() + payload.len();
+                self.rest = payload;
                 let known = slice.header.expected_payload_len();
                 self.is_closed |= known.is_some();
                 self.bound = bound_after(known, self.bound);
@@ -351,7 +352,7 @@ impl<'a> Peel<'a> {
                 Some(Ok(PeelUnit::Macsec(slice)))
             }
             Err(err::macsec::HeaderSliceError::Len(error)) => {
-                self.fault(PeelError::Len(error.add_offset(self.start)))
+                self.fault(PeelError::Len(error.add_offset(self.offset())))
             }
             Err(err::macsec::HeaderSliceError::Content(error)) => {
                 self.fault(PeelError::Macsec(error))
@@ -365,14 +366,13 @@ impl<'a> Peel<'a> {
         match ArpPacketSlice::from_slice(self.rest) {
             Ok(slice) => {
                 let len = slice.slice().len();
-                self.start += len;
                 self.rest = &self.rest[len..];
                 self.first = First::Read;
                 self.announced = UNANNOUNCED;
                 self.kind = RestKind::AfterArp;
                 Some(Ok(PeelUnit::Arp(slice)))
             }
-            Err(error) => self.fault(PeelError::Len(error.add_offset(self.start))),
+            Err(error) => self.fault(PeelError::Len(error.add_offset(self.offset()))),
         }
     }
 }

@@ -3,7 +3,7 @@
 
 use crate::ether_tags::Ethernet2Header;
 use crate::ether_base::EtherType;
-use crate::ether_base::big_endian::u16_at;
+use crate::ether_base::big_endian::{array_at, u16_of};
 use core::ops::Range;
 
 /// The bytes of the destination address.
@@ -63,7 +63,7 @@ pub fn source(bytes: &[u8]) -> [u8; 6] {
 /// </details>
 #[inline]
 pub fn ether_type(bytes: &[u8]) -> EtherType {
-    EtherType(u16_at(bytes, ETHER_TYPE))
+    EtherType(u16_of(array_at(bytes, ETHER_TYPE).unwrap()))
 }
 
 /// The header with all its fields.

@@ -4,7 +4,7 @@
 //! the ether type of the user data if E and C are clear.
 
 use crate::ether_tags::{MacsecHeader, MacsecPType};
-use crate::ether_base::big_endian::{u16_at, u32_at, u64_at};
+use crate::ether_base::big_endian::{array_at, u16_of, u32_of, u64_of};
 use crate::ether_base::{EtherType, MacsecAn, MacsecShortLen};
 
 /// The byte with the TCI and the association number.
@@ -204,7 +204,7 @@ pub fn short_len(bytes: &[u8]) -> MacsecShortLen {
 /// </details>
 #[inline]
 pub fn packet_nr(bytes: &[u8]) -> u32 {
-    u32_at(bytes, PACKET_NUMBER)
+    u32_of(array_at(bytes, PACKET_NUMBER).unwrap())
 }
 
 /// The secure channel identifier SCI, if SC is set.
@@ -222,7 +222,7 @@ pub fn packet_nr(bytes: &[u8]) -> u32 {
 #[inline]
 pub fn sci(bytes: &[u8]) -> Option<u64> {
     if sci_present(bytes) {
-        Some(u64_at(bytes, SCI))
+        Some(u64_of(array_at(bytes, SCI).unwrap()))
     } else {
         None
     }
@@ -244,7 +244,10 @@ pub fn sci(bytes: &[u8]) -> Option<u64> {
 #[inline]
 pub fn ptype(bytes: &[u8]) -> MacsecPType {
     match (encrypted(bytes), userdata_changed(bytes)) {
-        (false, false) => { MacsecPType::Unmodified(EtherType(u16_at(bytes, bytes.len() - 2))) }
+        (false, false) => {
+            let at = bytes.len() - 2;
+            MacsecPType::Unmodified(EtherType(u16_of(array_at(bytes, at).unwrap())))
+        }
         (false, true) => MacsecPType::Modified,
         (true, false) => MacsecPType::EncryptedUnmodified,
         (true, true) => MacsecPType::Encrypted,

@@ -3,7 +3,7 @@
 //! follows.
 
 use crate::ether_tags::SingleVlanHeader;
-use crate::ether_base::big_endian::{bytes_of_u16, u16_at};
+use crate::ether_base::big_endian::{array_at, bytes_of_u16, u16_of};
 use crate::ether_base::{EtherType, VlanId, VlanPcp};
 
 /// Where the tag control information begins.
@@ -77,7 +77,7 @@ pub fn vlan_identifier(bytes: &[u8]) -> VlanId {
 /// </details>
 #[inline]
 pub fn ether_type(bytes: &[u8]) -> EtherType {
-    EtherType(u16_at(bytes, ETHER_TYPE))
+    EtherType(u16_of(array_at(bytes, ETHER_TYPE).unwrap()))
 }
 
 /// The tag with all its fields. The tag control information is read once, since three reads of it are compiled byte by
@@ -175,5 +175,5 @@ fn vid_of(control: u16) -> VlanId {
 /// The tag control information as one number.
 #[inline]
 fn tag_control(bytes: &[u8]) -> u16 {
-    u16_at(bytes, TCI)
+    u16_of(array_at(bytes, TCI).unwrap())
 }

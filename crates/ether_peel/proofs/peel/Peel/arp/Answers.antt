@@ -13,9 +13,9 @@ use Rattle.ether_peel.proofs.peel.Peel.arp.Goals as goal
 
 pub fault-requires : goal.fault-requires
 fault-requires c =
-    refused_len c.args.self.now kinds.Arp c.self.inside.rest.now c.fault.inside.start c.in-Err.error
+    refused_len c.args.self.now kinds.Arp c.self.inside.rest.now c.offset.result c.in-Err.error
     c.add_offset.result c.requires.going c.requires.announced (ap (λ (s : State). s.rest) c.self.view_is)
-    (ap (λ (s : State). s.offset) c.fault.view_is) c.in-Err.ensures.refused c.add_offset.ensures
+    c.offset.ensures.value c.in-Err.ensures.refused c.add_offset.ensures
 
 pub returns-in-Ok-clause-gives : goal.returns-in-Ok-clause-gives
 returns-in-Ok-clause-gives c =
@@ -28,8 +28,8 @@ returns-in-Ok-clause-gives c =
     let taken = packet_taken bytes packet c.in-Ok.ensures.bytes (sym same_len ∙ c.slice-len.ensures.len) in
     let len : n ≡ header_len h = same_len ∙ sym taken.len in
     let size : arp_len (arp_front_in bytes) ≡ header_len h = sym taken.front ∙ sym taken.len in
-    gives_plain c.self.inside c.args.self.now (slice_range bytes n (length bytes)) n (units.Arp packet) AfterArp
-    c.self.inside.limit c.self.view_is c.requires.going (record {
+    gives_plain c.self.inside c.args.self.now (slice_range bytes n (length bytes)) (units.Arp packet) AfterArp
+    c.self.inside.limit c.self.invariant.0 c.self.view_is c.requires.going (record {
       header = h;
       no_len = refl;
       no_trailer = refl;
@@ -37,7 +37,6 @@ returns-in-Ok-clause-gives c =
       accepted = c.in-Ok.ensures.accepted;
       means = c.in-Ok.ensures.value;
       shows = ap units.Arp (c.in-Ok.ensures.bytes ∙ ap (slice_range bytes 0) size);
-      len = len;
       rest_is = ap (λ k. slice_range bytes k (length bytes)) len;
       next_is = refl;
       limit_is = ap (λ (s : State). s.expected.limit) c.self.view_is;

@@ -22,7 +22,7 @@ returns-clause-walk c =
       faces = record {
         inside = record { ordered = omega arith; inside = omega arith };
         rest = sym (part_all list (length list) (omega arith));
-        offset = refl;
+        offset = omega arith;
         closed = search rules;
         bound = search rules;
         stack = subst (λ (y : Expectation). Stack list y (whole x list) s.0 s.1) (sym expected) s.2;

@@ -12,16 +12,16 @@ use Rattle.ether_peel.proofs.peel.Peel.ethernet2.Goals as goal
 pub fault-requires : goal.fault-requires
 fault-requires c =
     refused_len c.args.self.now kinds.Ethernet2
-    c.self.inside.rest.now c.fault.inside.start c.in-Err.error
+    c.self.inside.rest.now c.offset.result c.in-Err.error
     c.add_offset.result c.requires.going c.requires.announced (ap (λ (s : State). s.rest) c.self.view_is)
-    (ap (λ (s : State). s.offset) c.fault.view_is) c.in-Err.ensures.refused c.add_offset.ensures
+    c.offset.ensures.value c.in-Err.ensures.refused c.add_offset.ensures
 
 pub returns-in-Ok-clause-gives : goal.returns-in-Ok-clause-gives
 returns-in-Ok-clause-gives c =
     let bytes = c.self.inside.rest.now in
     let all : length bytes - 0 ≡ length bytes = omega arith in
-    gives_plain c.self.inside c.args.self.now c.payload_slice-self-inside.result.now c.header_len.result
-    (units.Ethernet2 c.in-Ok.slice) (EtherType c.ether_type-ether_type.result.0) c.self.inside.limit c.self.view_is
+    gives_plain c.self.inside c.args.self.now c.payload_slice-self-inside.result.now
+    (units.Ethernet2 c.in-Ok.slice) (EtherType c.ether_type-ether_type.result.0) c.self.inside.limit c.self.invariant.0 c.self.view_is
     c.requires.going (record {
       header =
           headers.Ethernet2 (ethernet2_of c.self.inside.rest.now);
@@ -31,7 +31,6 @@ returns-in-Ok-clause-gives c =
       accepted = c.in-Ok.ensures.accepted;
       means = c.in-Ok.ensures.value;
       shows = ap units.Ethernet2 c.in-Ok.ensures.frame;
-      len = c.header_len.ensures;
       rest_is =
           c.payload_slice-self-inside.ensures ∙ ap payload_of c.in-Ok.ensures.frame ∙ ap (slice_range bytes 14) all;
       next_is =

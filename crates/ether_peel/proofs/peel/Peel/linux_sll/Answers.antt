@@ -14,9 +14,9 @@ fault-requires c =
     subst (IsRefusedSll c.self.inside.rest.now)
     c.in-Err-Len.field-0-is c.in-Err-Len.ensures.refused in
     refused_len c.args.self.now kinds.LinuxSll
-    c.self.inside.rest.now c.fault.inside.start
+    c.self.inside.rest.now c.offset.result
     c.in-Err-Len.error c.add_offset.result c.requires.going c.requires.announced
-    (ap (λ (s : State). s.rest) c.self.view_is) (ap (λ (s : State). s.offset) c.fault.view_is) refused
+    (ap (λ (s : State). s.rest) c.self.view_is) c.offset.ensures.value refused
     c.add_offset.ensures
 
 pub fault-requires-in-Err-Content : goal.fault-requires-in-Err-Content
@@ -29,8 +29,8 @@ fault-requires-in-Err-Content c =
 
 pub returns-in-Ok-clause-gives : goal.returns-in-Ok-clause-gives
 returns-in-Ok-clause-gives c =
-    gives_plain c.self.inside c.args.self.now c.payload_slice-self-inside.result.now c.header_len.result
-    (units.LinuxSll c.in-Ok.slice) (shown_of c.announced_in-kind.result.1) c.self.inside.limit c.self.view_is
+    gives_plain c.self.inside c.args.self.now c.payload_slice-self-inside.result.now
+    (units.LinuxSll c.in-Ok.slice) (shown_of c.announced_in-kind.result.1) c.self.inside.limit c.self.invariant.0 c.self.view_is
     c.requires.going (record {
       header = headers.LinuxSll (linux_sll_of c.in-Ok.slice);
       no_len = refl;
@@ -39,7 +39,6 @@ returns-in-Ok-clause-gives c =
       accepted = c.in-Ok.ensures.accepted;
       means = c.in-Ok.ensures.value;
       shows = ap units.LinuxSll c.in-Ok.ensures.bytes;
-      len = c.header_len.ensures;
       rest_is = c.payload_slice-self-inside.ensures ∙ ap (λ l. slice_range l 16 (length l)) c.in-Ok.ensures.bytes;
       next_is =
           c.announced_in-kind.ensures.expected
