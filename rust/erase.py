@@ -32,11 +32,12 @@ PRIVATE = ["ether_tags", "ether_sll", "ether_arp"]  # private modules: the facad
 # Public modules.
 OUTER = ["ether_peel", "ether_sll2", "ether_packet", "ether_filter", "ether_pcap", "ether_content", "ether_switch"]
 LIBRARIES = [*HIDDEN, *PRIVATE, FACADE, *OUTER]
-# The crates of tests, each with the examples that it tests.
-TESTS = {"etherparse_tests": [], "ether_content_tests": ["example_frames"], "ether_switch_tests": []}
+# The crates of tests, which are below `tests/`, each with the examples that it tests.
+TESTS = {"library_tests": ["example_frames"]}
+TEST_SOURCES = os.path.join(os.path.dirname(HERE), "tests")
 EXAMPLES = [example for examples in TESTS.values() for example in examples]
-# Modules that are left out: laws, what is proved and never run, and the tests of a crate that is not in the result.
-LEFT_OUT, LEFT_OUT_OF_TESTS = {"laws"}, {"laws", "derived_traits", "text"}
+# Modules that are left out: laws, and the tests of a crate that is not in the result.
+LEFT_OUT, LEFT_OUT_OF_TESTS = {"laws"}, {"text"}
 LEFT_OUT_OF_PROGRAMS = {"laws", "noted", "main", "options", "capture_files", "copy_files", "count_table", "heap_memory", "heap_text", "interface_buffer", "progress_line"}
 
 ROOT = """#![doc = include_str!("../README.md")]
@@ -62,15 +63,21 @@ mod kit;
 """
 
 
+def source_folder(crate):
+    """The folder of the sources of a crate. Those of tests end in .rt.txt, since they are no proved crate."""
+    return os.path.join(TEST_SOURCES if crate in TESTS else CRATES, crate, "src")
+
+
 def sources(crate, whole=False):
-    """Each source of a crate, but for those that are left out: its path below `src`, and its text."""
-    top = os.path.join(CRATES, crate, "src")
+    """Each source of a crate, but for those that are left out: its path below `src`, which ends in .rt, and its text."""
+    top = source_folder(crate)
     is_program = crate in PROGRAMS or crate in EXAMPLE_PROGRAMS
     left_out = LEFT_OUT_OF_TESTS if crate in TESTS else LEFT_OUT_OF_PROGRAMS if is_program else LEFT_OUT
     for folder, _, names in sorted(os.walk(top)):
-        for path in (os.path.relpath(os.path.join(folder, name), top) for name in sorted(names)):
+        for name in sorted(names):
+            path = os.path.relpath(os.path.join(folder, name), top).removesuffix(".txt")
             if whole or not left_out & set(path[:-3].split("/")):
-                with open(os.path.join(top, path), encoding="utf-8") as file:
+                with open(os.path.join(folder, name), encoding="utf-8") as file:
                     yield path, file.read()
 
 
@@ -209,7 +216,7 @@ def made(crates, known_too, home=None):
                 is_root = path == "lib.rt" and crate in [FACADE, CALLS, *TESTS]
                 yield place(crate, path, home), rooted(crate, erased) if is_root else erased
             except Refused as refused:
-                yield None, f"crates/{crate}/src/{path}:{refused.line}: {refused.what}"
+                yield None, f"{os.path.relpath(source_folder(crate), os.path.dirname(HERE))}/{path}:{refused.line}: {refused.what}"
 
 
 def result():

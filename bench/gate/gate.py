@@ -1,4 +1,4 @@
-"""Runs the gate: the checks of the documents and versions, the tests of the crate for cargo, `rt ci`, the tests of the programs, those of
+"""Runs the gate: the checks of the documents and versions, the tests of the libraries, those of the crate for cargo, `rt ci`, the tests of the programs, those of
 the calls from C, both also over what cargo builds, those of the page, and those of the release. Stops at the first that fails.
 
 Each line of these is passed on. After each proof a line says how many minutes have passed and how many minutes of processor time
@@ -22,6 +22,7 @@ COMMANDS = {
     "documents": [sys.executable, "docs/reading.py"],
     "versions": [sys.executable, "tests/versions.py"],
     "manual pages": [sys.executable, "tests/manual_pages.py"],
+    "library tests": [sys.executable, "try.py", "library_tests"],
     "rust": [sys.executable, "rust/test.py"],
     "crates": ["rt", "ci"],
     "tool": [sys.executable, "tests/ether_tool.py", "crates/ether_tool/out/ether_tool"],

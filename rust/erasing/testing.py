@@ -5,10 +5,9 @@ from .tokens import Refused, cut, drop, item_start, places, respell
 
 
 def left_out(tokens):
-    """The modules `derived_traits` are proved and never run; `text` tests a crate that the result does not have."""
-    for name in ("derived_traits", "text"):
-        for i, end in places(tokens, f"mod {name};"):
-            cut(tokens, item_start(tokens, i), end)
+    """The module `text` tests a crate that the result does not have."""
+    for i, end in places(tokens, "mod text;"):
+        cut(tokens, item_start(tokens, i), end)
 
 
 def test_modules(tokens):

@@ -1,0 +1,1 @@
+"""What `bench/figures.py` counts: a module for each group of rows."""

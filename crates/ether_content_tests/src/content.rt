@@ -1,2 +1,0 @@
-//! What callers know of the derived traits of `ether_content`'s types.
-mod derived_traits;

@@ -1,8 +1,0 @@
-use Rattle.std.proofs.Common.{rules}
-use Rattle.etherparse_tests.proofs.derived_traits.sll.equality.Goals as goal
-
-pub returns-clause-linux_sll_header : goal.returns-clause-linux_sll_header
-returns-clause-linux_sll_header c = λ a b. (search rules, search rules)
-
-pub returns-clause-link_header : goal.returns-clause-link_header
-returns-clause-link_header c = λ a b. (search rules, search rules)

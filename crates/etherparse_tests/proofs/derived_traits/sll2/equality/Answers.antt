@@ -1,5 +1,0 @@
-use Rattle.std.proofs.Common.{rules}
-use Rattle.etherparse_tests.proofs.derived_traits.sll2.equality.Goals as goal
-
-pub returns-clause-linux_sll2_header : goal.returns-clause-linux_sll2_header
-returns-clause-linux_sll2_header c = λ a b. (search rules, search rules)

@@ -1,0 +1,2 @@
+//! Tests of `ether_filter`.
+mod tests;

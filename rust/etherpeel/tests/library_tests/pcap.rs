@@ -1,0 +1,2 @@
+//! Tests of `ether_pcap`.
+mod tests;
