@@ -7,16 +7,17 @@ ghost use Rattle.ether_base.specs.Formats.Kind as kinds;
 ghost use Rattle.ether_base.specs.Formats.RefusedLen.{IsRefusedLen};
 ghost use Rattle.ether_arp.specs.Arp.{BeginsWithArp, HoldsArp};
 
-use ether_base::big_endian::{array_at, u16_of};
+use ether_base::big_endian::u16_in;
 use ether_base::err::{Layer, LenError};
 use ether_base::slice_len::too_short;
 use ether_base::{ArpHardwareId, ArpOperation, EtherType, LenSource};
+use std::ops::Range;
 
-/// Where the hardware type begins.
-const HARDWARE_TYPE: usize = 0;
+/// The bytes of the hardware type.
+const HARDWARE_TYPE: Range<usize> = 0..2;
 
-/// Where the protocol type begins.
-const PROTOCOL_TYPE: usize = 2;
+/// The bytes of the protocol type.
+const PROTOCOL_TYPE: Range<usize> = 2..4;
 
 /// The byte with the size of a hardware address.
 const HARDWARE_SIZE: usize = 4;
@@ -24,8 +25,8 @@ const HARDWARE_SIZE: usize = 4;
 /// The byte with the size of a protocol address.
 const PROTOCOL_SIZE: usize = 5;
 
-/// Where the operation begins.
-const OPERATION: usize = 6;
+/// The bytes of the operation.
+const OPERATION: Range<usize> = 6..8;
 
 /// The length of the part before the addresses, in bytes.
 const FRONT_LEN: usize = 8;
@@ -66,7 +67,7 @@ pub fn hw_addr_type(packet: &[u8]) -> ArpHardwareId
     requires { 8 ≤ length packet.now }
     ensures { result.0 ≡ (arp_front_in packet.now).hardware_type }
 {
-    ArpHardwareId(u16_of(array_at(packet, HARDWARE_TYPE).unwrap()))
+    ArpHardwareId(u16_in(&packet[HARDWARE_TYPE]))
 }
 
 /// The protocol type.
@@ -74,7 +75,7 @@ pub fn proto_addr_type(packet: &[u8]) -> EtherType
     requires { 8 ≤ length packet.now }
     ensures { result.0 ≡ (arp_front_in packet.now).protocol_type }
 {
-    EtherType(u16_of(array_at(packet, PROTOCOL_TYPE).unwrap()))
+    EtherType(u16_in(&packet[PROTOCOL_TYPE]))
 }
 
 /// The size of a hardware address in bytes.
@@ -98,7 +99,7 @@ pub fn operation(packet: &[u8]) -> ArpOperation
     requires { 8 ≤ length packet.now }
     ensures { result.0 ≡ (arp_front_in packet.now).operation }
 {
-    ArpOperation(u16_of(array_at(packet, OPERATION).unwrap()))
+    ArpOperation(u16_in(&packet[OPERATION]))
 }
 
 /// The sender's hardware address.

@@ -6,7 +6,6 @@ ghost use Rattle.ether_peel.specs.Walker.Start.{start_of};
 ghost use Rattle.ether_packet.specs.TypedLink.{link_len, IsTypedLink, IsEthernetCapture, IsOtherCapture, RefusesTyped};
 
 use crate::TagError;
-use ether_base::big_endian::array_at;
 use ether_peel::Start;
 use ether_sll::linux_sll_fields::{arp_hardware_type, packet_type_number, protocol_number};
 use etherparse::{
@@ -86,8 +85,5 @@ pub(crate) fn chunk_at<const N: usize>(bytes: &[u8], at: usize) -> [u8; N]
     requires { at + N ≤ length bytes.now }
     ensures { result ≡ slice_range bytes.now at (at + N) }
 {
-    match array_at(bytes, at) {
-        Some(chunk) => chunk,
-        None => unreachable!(),
-    }
+    *bytes[at..at + N].first_chunk().unwrap()
 }

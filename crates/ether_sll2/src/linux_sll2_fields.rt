@@ -8,19 +8,20 @@ ghost use Rattle.ether_sll2.specs.LinuxSll2.{linux_sll2_of, protocol_on, protoco
 ghost use Rattle.ether_sll2.specs.Views.{HoldsLinuxSll2, IsRefusedSll2, IsShort, linux_sll2_view, valid_address};
 
 use crate::{LinuxSll2Error, LinuxSll2Header};
-use ether_base::big_endian::{bytes_of_u64, u16_at, u32_at, u64_at};
+use ether_base::big_endian::{bytes_of_u64, u16_in, u32_in, u64_in};
 use ether_base::{
     ArpHardwareId, EtherType, LinuxNonstandardEtherType, LinuxSllPacketType, LinuxSllProtocolType,
 };
+use std::ops::Range;
 
-/// Where the protocol begins.
-const PROTOCOL: usize = 0;
+/// The bytes of the protocol.
+const PROTOCOL: Range<usize> = 0..2;
 
-/// Where the interface index begins.
-const INTERFACE_INDEX: usize = 4;
+/// The bytes of the interface index.
+const INTERFACE_INDEX: Range<usize> = 4..8;
 
-/// Where the ARPHRD_ type begins.
-const HARDWARE_TYPE: usize = 8;
+/// The bytes of the ARPHRD_ type.
+const HARDWARE_TYPE: Range<usize> = 8..10;
 
 /// The byte of the packet type.
 const PACKET_TYPE: usize = 10;
@@ -75,7 +76,7 @@ pub fn interface_index(bytes: &[u8]) -> u32
     requires { 20 ≤ length bytes.now }
     ensures { result ≡ (linux_sll2_of bytes.now).interface_index }
 {
-    u32_at(bytes, INTERFACE_INDEX)
+    u32_in(&bytes[INTERFACE_INDEX])
 }
 
 /// The ARPHRD_ type of the interface.
@@ -83,7 +84,7 @@ pub fn arp_hardware_type(bytes: &[u8]) -> ArpHardwareId
     requires { 20 ≤ length bytes.now }
     ensures { result.0 ≡ (linux_sll2_of bytes.now).hardware_type }
 {
-    ArpHardwareId(u16_at(bytes, HARDWARE_TYPE))
+    ArpHardwareId(u16_in(&bytes[HARDWARE_TYPE]))
 }
 
 /// The packet type as a number.
@@ -98,9 +99,10 @@ pub fn packet_type_number(bytes: &[u8]) -> u8
 /// The protocol as a number.
 #[inline(always)]
 pub fn protocol_number(bytes: &[u8]) -> u16
+    requires { 20 ≤ length bytes.now }
     ensures { result ≡ (linux_sll2_of bytes.now).protocol }
 {
-    u16_at(bytes, PROTOCOL)
+    u16_in(&bytes[PROTOCOL])
 }
 
 /// The packet type.
@@ -125,9 +127,10 @@ pub fn sender_address_valid_length(bytes: &[u8]) -> u8
 
 /// All 8 bytes of the address field: the sender's address, truncated or padded.
 pub fn sender_address_full(bytes: &[u8]) -> [u8; 8]
+    requires { 20 ≤ length bytes.now }
     ensures { result ≡ spelled 8 (linux_sll2_of bytes.now).address }
 {
-    bytes_of_u64(u64_at(bytes, ADDRESS))
+    bytes_of_u64(u64_in(&bytes[ADDRESS..ADDRESS + 8]))
 }
 
 /// The sender's address, or its first 8 bytes if it is longer.

@@ -8,7 +8,7 @@ ghost use Rattle.ether_tags.specs.Ethernet2.{ethernet2_header_of, ethernet2_view
 
 use crate::Ethernet2Header;
 use ether_base::EtherType;
-use ether_base::big_endian::{array_at, u16_of};
+use ether_base::big_endian::u16_in;
 use std::ops::Range;
 
 /// The bytes of the destination address.
@@ -17,8 +17,8 @@ const DESTINATION: Range<usize> = 0..6;
 /// The bytes of the source address.
 const SOURCE: Range<usize> = 6..12;
 
-/// Where the type begins.
-const ETHER_TYPE: usize = 12;
+/// The bytes of the type.
+const ETHER_TYPE: Range<usize> = 12..14;
 
 /// The destination MAC address (IEEE 802.3, 3.2.4).
 pub fn destination(bytes: &[u8]) -> [u8; 6]
@@ -41,7 +41,7 @@ pub fn ether_type(bytes: &[u8]) -> EtherType
     requires { 14 ≤ length bytes.now }
     ensures { result.0 ≡ (ethernet2_of bytes.now).ether_type }
 {
-    EtherType(u16_of(array_at(bytes, ETHER_TYPE).unwrap()))
+    EtherType(u16_in(&bytes[ETHER_TYPE]))
 }
 
 /// The header with all its fields.

@@ -9,8 +9,9 @@ ghost use Rattle.ether_tags.specs.Macsec.{IsUnmodified, payload_type_view};
 ghost use Rattle.ether_base.specs.Formats.Refusal.{IsTooShort};
 
 use crate::{MacsecHeader, MacsecPType};
-use ether_base::big_endian::{array_at, u16_of, u32_of, u64_of};
+use ether_base::big_endian::{u16_in, u32_in, u64_in};
 use ether_base::{EtherType, MacsecAn, MacsecShortLen};
+use std::ops::Range;
 
 /// The byte with the TCI and the association number.
 const TCI_AN: usize = 0;
@@ -18,11 +19,11 @@ const TCI_AN: usize = 0;
 /// The byte with the short length.
 const SHORT_LENGTH: usize = 1;
 
-/// Where the packet number begins.
-const PACKET_NUMBER: usize = 2;
+/// The bytes of the packet number.
+const PACKET_NUMBER: Range<usize> = 2..6;
 
-/// Where the SCI begins, if the tag has one.
-const SCI: usize = 6;
+/// The bytes of the SCI, if the tag has one.
+const SCI: Range<usize> = 6..14;
 
 /// The bit of the version in the first byte.
 const V: u32 = 7;
@@ -119,7 +120,7 @@ pub fn packet_nr(bytes: &[u8]) -> u32
     requires { 6 ≤ length bytes.now }
     ensures { result ≡ (sec_tag_of bytes.now).packet_number }
 {
-    u32_of(array_at(bytes, PACKET_NUMBER).unwrap())
+    u32_in(&bytes[PACKET_NUMBER])
 }
 
 /// The secure channel identifier SCI, if SC is set.
@@ -128,7 +129,7 @@ pub fn sci(bytes: &[u8]) -> Option<u64>
     ensures { result ≡ (sec_tag_of bytes.now).sci }
 {
     if sci_present(bytes) {
-        Some(u64_of(array_at(bytes, SCI).unwrap()))
+        Some(u64_in(&bytes[SCI]))
     } else {
         None
     }
@@ -143,7 +144,7 @@ pub fn ptype(bytes: &[u8]) -> MacsecPType
     match (encrypted(bytes), userdata_changed(bytes)) {
         (false, false) => {
             let at = bytes.len() - 2;
-            MacsecPType::Unmodified(EtherType(u16_of(array_at(bytes, at).unwrap())))
+            MacsecPType::Unmodified(EtherType(u16_in(&bytes[at..])))
         }
         (false, true) => MacsecPType::Modified,
         (true, false) => MacsecPType::EncryptedUnmodified,

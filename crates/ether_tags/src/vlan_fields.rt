@@ -7,14 +7,15 @@ ghost use Rattle.ether_base.specs.Formats.Vlan.{vlan_of};
 ghost use Rattle.ether_tags.specs.Vlan.{vlan_view};
 
 use crate::SingleVlanHeader;
-use ether_base::big_endian::{array_at, bytes_of_u16, u16_of};
+use ether_base::big_endian::{bytes_of_u16, u16_in};
 use ether_base::{EtherType, VlanId, VlanPcp};
+use std::ops::Range;
 
-/// Where the tag control information begins.
-const TCI: usize = 0;
+/// The bytes of the tag control information.
+const TCI: Range<usize> = 0..2;
 
-/// Where the ether type of what follows begins.
-const ETHER_TYPE: usize = 2;
+/// The bytes of the ether type of what follows.
+const ETHER_TYPE: Range<usize> = 2..4;
 
 /// The priority code point.
 pub fn priority_code_point(bytes: &[u8]) -> VlanPcp
@@ -45,7 +46,7 @@ pub fn ether_type(bytes: &[u8]) -> EtherType
     requires { 4 ≤ length bytes.now }
     ensures { result.0 ≡ (vlan_of bytes.now).ether_type }
 {
-    EtherType(u16_of(array_at(bytes, ETHER_TYPE).unwrap()))
+    EtherType(u16_in(&bytes[ETHER_TYPE]))
 }
 
 /// The tag with all its fields. The tag control information is read once, since three reads of it are compiled byte by
@@ -116,5 +117,5 @@ fn tag_control(bytes: &[u8]) -> u16
     requires { 2 ≤ length bytes.now }
     ensures { result ≡ number (slice_range bytes.now 0 2) }
 {
-    u16_of(array_at(bytes, TCI).unwrap())
+    u16_in(&bytes[TCI])
 }

@@ -1,16 +1,17 @@
 //! The fields of an ARP packet in the bytes that begin with it (RFC 826, "Packet format"): hardware type, protocol
 //! type, the two sizes and the operation in eight bytes, then the addresses of the sender and those of the target.
 
-use crate::ether_base::big_endian::{array_at, u16_of};
+use crate::ether_base::big_endian::u16_in;
 use crate::ether_base::err::{Layer, LenError};
 use crate::ether_base::slice_len::too_short;
 use crate::ether_base::{ArpHardwareId, ArpOperation, EtherType, LenSource};
+use core::ops::Range;
 
-/// Where the hardware type begins.
-const HARDWARE_TYPE: usize = 0;
+/// The bytes of the hardware type.
+const HARDWARE_TYPE: Range<usize> = 0..2;
 
-/// Where the protocol type begins.
-const PROTOCOL_TYPE: usize = 2;
+/// The bytes of the protocol type.
+const PROTOCOL_TYPE: Range<usize> = 2..4;
 
 /// The byte with the size of a hardware address.
 const HARDWARE_SIZE: usize = 4;
@@ -18,8 +19,8 @@ const HARDWARE_SIZE: usize = 4;
 /// The byte with the size of a protocol address.
 const PROTOCOL_SIZE: usize = 5;
 
-/// Where the operation begins.
-const OPERATION: usize = 6;
+/// The bytes of the operation.
+const OPERATION: Range<usize> = 6..8;
 
 /// The length of the part before the addresses, in bytes.
 const FRONT_LEN: usize = 8;
@@ -74,7 +75,7 @@ fn packet_len(packet: &[u8]) -> usize {
 /// </details>
 #[inline]
 pub fn hw_addr_type(packet: &[u8]) -> ArpHardwareId {
-    ArpHardwareId(u16_of(array_at(packet, HARDWARE_TYPE).unwrap()))
+    ArpHardwareId(u16_in(&packet[HARDWARE_TYPE]))
 }
 
 /// The protocol type.
@@ -91,7 +92,7 @@ pub fn hw_addr_type(packet: &[u8]) -> ArpHardwareId {
 /// </details>
 #[inline]
 pub fn proto_addr_type(packet: &[u8]) -> EtherType {
-    EtherType(u16_of(array_at(packet, PROTOCOL_TYPE).unwrap()))
+    EtherType(u16_in(&packet[PROTOCOL_TYPE]))
 }
 
 /// The size of a hardware address in bytes.
@@ -142,7 +143,7 @@ pub fn proto_addr_size(packet: &[u8]) -> u8 {
 /// </details>
 #[inline]
 pub fn operation(packet: &[u8]) -> ArpOperation {
-    ArpOperation(u16_of(array_at(packet, OPERATION).unwrap()))
+    ArpOperation(u16_in(&packet[OPERATION]))
 }
 
 /// The sender's hardware address.

@@ -45,6 +45,61 @@ pub fn u64_of(bytes: [u8; 8]) -> u64 {
     u64::from_be_bytes(bytes)
 }
 
+/// Returns the number of the two bytes of a field: `u16_in(&[0x88, 0xA8])` is `0x88A8`. Of a longer slice it is the
+/// number of the first two bytes, of a shorter one the number of all its bytes, which is 0 if there are none.
+///
+/// <details><summary>Contract</summary>
+///
+/// ```text
+/// ensures value { result ≡ number (take 2 field.now) }
+/// ensures field { length field.now ≤ 2 → result ≡ number field.now }
+/// ```
+///
+/// </details>
+#[inline(always)]
+pub fn u16_in(field: &[u8]) -> u16 {
+    match field.first_chunk() {
+        Some(bytes) => u16_of(*bytes),
+        None => number_of(field) as u16,
+    }
+}
+
+/// Returns the number of the four bytes of a field, of the first four of a longer slice, or of all of a shorter one.
+///
+/// <details><summary>Contract</summary>
+///
+/// ```text
+/// ensures value { result ≡ number (take 4 field.now) }
+/// ensures field { length field.now ≤ 4 → result ≡ number field.now }
+/// ```
+///
+/// </details>
+#[inline(always)]
+pub fn u32_in(field: &[u8]) -> u32 {
+    match field.first_chunk() {
+        Some(bytes) => u32_of(*bytes),
+        None => number_of(field) as u32,
+    }
+}
+
+/// Returns the number of the eight bytes of a field, of the first eight of a longer slice, or of all of a shorter one.
+///
+/// <details><summary>Contract</summary>
+///
+/// ```text
+/// ensures value { result ≡ number (take 8 field.now) }
+/// ensures field { length field.now ≤ 8 → result ≡ number field.now }
+/// ```
+///
+/// </details>
+#[inline(always)]
+pub fn u64_in(field: &[u8]) -> u64 {
+    match field.first_chunk() {
+        Some(bytes) => u64_of(*bytes),
+        None => number_of(field),
+    }
+}
+
 /// Returns the number of the two bytes from offset `at` on: `u16_at(&[0x45, 0x88, 0xA8], 1)` is `0x88A8`. If the
 /// slice ends before `at + 2`, it is the number of the bytes that are left, which is 0 if there are none.
 ///

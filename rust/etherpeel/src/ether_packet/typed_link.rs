@@ -1,7 +1,6 @@
 //! The link's header at the front of a frame, and the ether type of what follows it.
 
 use crate::ether_packet::TagError;
-use crate::ether_base::big_endian::array_at;
 use crate::ether_peel::Start;
 use crate::ether_sll::linux_sll_fields::{arp_hardware_type, packet_type_number, protocol_number};
 use crate::{
@@ -68,8 +67,5 @@ fn other_hardware(frame: &[u8]) -> Option<ArpHardwareId> {
 /// The `N` bytes of a slice from the offset `at` on.
 #[inline(always)]
 pub(crate) fn chunk_at<const N: usize>(bytes: &[u8], at: usize) -> [u8; N] {
-    match array_at(bytes, at) {
-        Some(chunk) => chunk,
-        None => unreachable!(),
-    }
+    *bytes[at..at + N].first_chunk().unwrap()
 }

@@ -3,19 +3,20 @@
 //! sender's address (1 byte each), and the sender's address (8 bytes), in this order.
 
 use crate::ether_sll2::{LinuxSll2Error, LinuxSll2Header};
-use crate::ether_base::big_endian::{bytes_of_u64, u16_at, u32_at, u64_at};
+use crate::ether_base::big_endian::{bytes_of_u64, u16_in, u32_in, u64_in};
 use crate::ether_base::{
     ArpHardwareId, EtherType, LinuxNonstandardEtherType, LinuxSllPacketType, LinuxSllProtocolType,
 };
+use core::ops::Range;
 
-/// Where the protocol begins.
-const PROTOCOL: usize = 0;
+/// The bytes of the protocol.
+const PROTOCOL: Range<usize> = 0..2;
 
-/// Where the interface index begins.
-const INTERFACE_INDEX: usize = 4;
+/// The bytes of the interface index.
+const INTERFACE_INDEX: Range<usize> = 4..8;
 
-/// Where the ARPHRD_ type begins.
-const HARDWARE_TYPE: usize = 8;
+/// The bytes of the ARPHRD_ type.
+const HARDWARE_TYPE: Range<usize> = 8..10;
 
 /// The byte of the packet type.
 const PACKET_TYPE: usize = 10;
@@ -103,7 +104,7 @@ pub fn protocol_type(bytes: &[u8]) -> LinuxSllProtocolType {
 /// </details>
 #[inline]
 pub fn interface_index(bytes: &[u8]) -> u32 {
-    u32_at(bytes, INTERFACE_INDEX)
+    u32_in(&bytes[INTERFACE_INDEX])
 }
 
 /// The ARPHRD_ type of the interface.
@@ -120,7 +121,7 @@ pub fn interface_index(bytes: &[u8]) -> u32 {
 /// </details>
 #[inline]
 pub fn arp_hardware_type(bytes: &[u8]) -> ArpHardwareId {
-    ArpHardwareId(u16_at(bytes, HARDWARE_TYPE))
+    ArpHardwareId(u16_in(&bytes[HARDWARE_TYPE]))
 }
 
 /// The packet type as a number.
@@ -144,14 +145,17 @@ pub fn packet_type_number(bytes: &[u8]) -> u8 {
 ///
 /// <details><summary>Contract</summary>
 ///
+/// The caller must meet each `requires`; otherwise the call may panic or return something else.
+///
 /// ```text
+/// requires { 20 ≤ length bytes.now }
 /// ensures { result ≡ (linux_sll2_of bytes.now).protocol }
 /// ```
 ///
 /// </details>
 #[inline(always)]
 pub fn protocol_number(bytes: &[u8]) -> u16 {
-    u16_at(bytes, PROTOCOL)
+    u16_in(&bytes[PROTOCOL])
 }
 
 /// The packet type.
@@ -195,14 +199,17 @@ pub fn sender_address_valid_length(bytes: &[u8]) -> u8 {
 ///
 /// <details><summary>Contract</summary>
 ///
+/// The caller must meet each `requires`; otherwise the call may panic or return something else.
+///
 /// ```text
+/// requires { 20 ≤ length bytes.now }
 /// ensures { result ≡ spelled 8 (linux_sll2_of bytes.now).address }
 /// ```
 ///
 /// </details>
 #[inline]
 pub fn sender_address_full(bytes: &[u8]) -> [u8; 8] {
-    bytes_of_u64(u64_at(bytes, ADDRESS))
+    bytes_of_u64(u64_in(&bytes[ADDRESS..ADDRESS + 8]))
 }
 
 /// The sender's address, or its first 8 bytes if it is longer.

@@ -3,7 +3,7 @@
 
 use crate::ether_tags::Ethernet2Header;
 use crate::ether_base::EtherType;
-use crate::ether_base::big_endian::{array_at, u16_of};
+use crate::ether_base::big_endian::u16_in;
 use core::ops::Range;
 
 /// The bytes of the destination address.
@@ -12,8 +12,8 @@ const DESTINATION: Range<usize> = 0..6;
 /// The bytes of the source address.
 const SOURCE: Range<usize> = 6..12;
 
-/// Where the type begins.
-const ETHER_TYPE: usize = 12;
+/// The bytes of the type.
+const ETHER_TYPE: Range<usize> = 12..14;
 
 /// The destination MAC address (IEEE 802.3, 3.2.4).
 ///
@@ -63,7 +63,7 @@ pub fn source(bytes: &[u8]) -> [u8; 6] {
 /// </details>
 #[inline]
 pub fn ether_type(bytes: &[u8]) -> EtherType {
-    EtherType(u16_of(array_at(bytes, ETHER_TYPE).unwrap()))
+    EtherType(u16_in(&bytes[ETHER_TYPE]))
 }
 
 /// The header with all its fields.

@@ -4,8 +4,9 @@
 //! the ether type of the user data if E and C are clear.
 
 use crate::ether_tags::{MacsecHeader, MacsecPType};
-use crate::ether_base::big_endian::{array_at, u16_of, u32_of, u64_of};
+use crate::ether_base::big_endian::{u16_in, u32_in, u64_in};
 use crate::ether_base::{EtherType, MacsecAn, MacsecShortLen};
+use core::ops::Range;
 
 /// The byte with the TCI and the association number.
 const TCI_AN: usize = 0;
@@ -13,11 +14,11 @@ const TCI_AN: usize = 0;
 /// The byte with the short length.
 const SHORT_LENGTH: usize = 1;
 
-/// Where the packet number begins.
-const PACKET_NUMBER: usize = 2;
+/// The bytes of the packet number.
+const PACKET_NUMBER: Range<usize> = 2..6;
 
-/// Where the SCI begins, if the tag has one.
-const SCI: usize = 6;
+/// The bytes of the SCI, if the tag has one.
+const SCI: Range<usize> = 6..14;
 
 /// The bit of the version in the first byte.
 const V: u32 = 7;
@@ -204,7 +205,7 @@ pub fn short_len(bytes: &[u8]) -> MacsecShortLen {
 /// </details>
 #[inline]
 pub fn packet_nr(bytes: &[u8]) -> u32 {
-    u32_of(array_at(bytes, PACKET_NUMBER).unwrap())
+    u32_in(&bytes[PACKET_NUMBER])
 }
 
 /// The secure channel identifier SCI, if SC is set.
@@ -222,7 +223,7 @@ pub fn packet_nr(bytes: &[u8]) -> u32 {
 #[inline]
 pub fn sci(bytes: &[u8]) -> Option<u64> {
     if sci_present(bytes) {
-        Some(u64_of(array_at(bytes, SCI).unwrap()))
+        Some(u64_in(&bytes[SCI]))
     } else {
         None
     }
@@ -246,7 +247,7 @@ pub fn ptype(bytes: &[u8]) -> MacsecPType {
     match (encrypted(bytes), userdata_changed(bytes)) {
         (false, false) => {
             let at = bytes.len() - 2;
-            MacsecPType::Unmodified(EtherType(u16_of(array_at(bytes, at).unwrap())))
+            MacsecPType::Unmodified(EtherType(u16_in(&bytes[at..])))
         }
         (false, true) => MacsecPType::Modified,
         (true, false) => MacsecPType::EncryptedUnmodified,

@@ -3,14 +3,15 @@
 //! follows.
 
 use crate::ether_tags::SingleVlanHeader;
-use crate::ether_base::big_endian::{array_at, bytes_of_u16, u16_of};
+use crate::ether_base::big_endian::{bytes_of_u16, u16_in};
 use crate::ether_base::{EtherType, VlanId, VlanPcp};
+use core::ops::Range;
 
-/// Where the tag control information begins.
-const TCI: usize = 0;
+/// The bytes of the tag control information.
+const TCI: Range<usize> = 0..2;
 
-/// Where the ether type of what follows begins.
-const ETHER_TYPE: usize = 2;
+/// The bytes of the ether type of what follows.
+const ETHER_TYPE: Range<usize> = 2..4;
 
 /// The priority code point.
 ///
@@ -77,7 +78,7 @@ pub fn vlan_identifier(bytes: &[u8]) -> VlanId {
 /// </details>
 #[inline]
 pub fn ether_type(bytes: &[u8]) -> EtherType {
-    EtherType(u16_of(array_at(bytes, ETHER_TYPE).unwrap()))
+    EtherType(u16_in(&bytes[ETHER_TYPE]))
 }
 
 /// The tag with all its fields. The tag control information is read once, since three reads of it are compiled byte by
@@ -175,5 +176,5 @@ fn vid_of(control: u16) -> VlanId {
 /// The tag control information as one number.
 #[inline]
 fn tag_control(bytes: &[u8]) -> u16 {
-    u16_of(array_at(bytes, TCI).unwrap())
+    u16_in(&bytes[TCI])
 }
