@@ -77,9 +77,7 @@ pub fn read_back(packet: &ArpPacket) -> Result<ArpPacket, LenError>
     ArpPacket::from_slice(bytes.as_slice())
 }
 
-pub fn there_and_back(
-    packet: ArpEthIpv4Packet,
-) -> Result<ArpEthIpv4Packet, ArpEthIpv4FromError>
+pub fn there_and_back(packet: ArpEthIpv4Packet) -> Result<ArpEthIpv4Packet, ArpEthIpv4FromError>
     ensures { result ≡ Ok packet }
 {
     ArpEthIpv4Packet::try_from(ArpPacket::from(packet))

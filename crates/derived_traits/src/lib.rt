@@ -13,5 +13,6 @@ pub mod pcap;
 pub mod peel;
 pub mod sll;
 pub mod sll2;
+pub mod switch;
 pub mod tags;
 pub mod text;

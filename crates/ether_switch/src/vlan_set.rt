@@ -30,13 +30,12 @@ impl VlanSet {
 
     /// The set of all VLANs.
     pub fn all() -> VlanSet
-        ensures { (v : ℕ) → 1 ≤ v → v ≤ 4094 → has result v ≡ true }
+        ensures vlans { (v : ℕ) → 1 ≤ v → v ≤ 4094 → has result v ≡ true }
+        ensures reserved { (has result 0 ≡ false) × (has result 4095 ≡ false) }
     {
         let mut set = VlanSet::new();
         for id in 1..4095 {
-            if let Ok(vlan) = Vlan::try_new(id) {
-                set.insert(vlan);
-            }
+            set.insert(Vlan::try_new(id).unwrap());
         }
         set
     }

@@ -11,7 +11,12 @@ impl fmt::Display for ShownRefusal {
     ghost use Rattle.std.specs.Fmt.{decimal};
     ghost use Rattle.ether_base.specs.Enumerations.ValueType.{value_type_name};
 
-    ghost output = { λ shown. Some (codes "Error '" ++ (decimal shown.0.actual ++ (codes "' is too big to be a '" ++ (value_type_name shown.0.value_type ++ (codes "' (maximum allowed value is '" ++ (decimal shown.0.max_allowed ++ codes "')")))))) };
+    ghost output = { λ shown. Some
+        (codes "Error '"
+        ++ (decimal shown.0.actual
+        ++ (codes "' is too big to be a '"
+        ++ (value_type_name shown.0.value_type
+        ++ (codes "' (maximum allowed value is '" ++ (decimal shown.0.max_allowed ++ codes "')")))))) };
 
     fn fmt<W: fmt::Write>(&self, f: &mut fmt::Formatter<W>) -> fmt::Result {
         self.0.fmt(f)

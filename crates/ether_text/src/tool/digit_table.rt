@@ -29,7 +29,9 @@ impl Model for DigitTable {
 
 impl DigitTable {
     /// Makes the table, by calls of the crate `hex`.
-    pub fn new() -> Self {
+    pub fn new() -> Self
+        ensures { AreEntries result }
+    {
         let mut entries = [NO_DIGIT; 256];
         for (character, value) in entries.iter_mut().enumerate() {
             *value = entry(character as u8);
@@ -57,7 +59,8 @@ impl DigitTable {
     #[inline(always)]
     fn decode(&self, line: &[u8], out: &mut [u8]) -> bool
         requires { length line.now ≡ 2 * length out.now }
-        ensures digits { IsTrue result ↔ ((i : ℕ) → i < length line.now → is_some (hex_digit_value (slice_index line.now i)) ≡ true) }
+        ensures digits { IsTrue result
+            ↔ ((i : ℕ) → i < length line.now → is_some (hex_digit_value (slice_index line.now i)) ≡ true) }
         ensures bytes { IsTrue result → (i : ℕ) → i < length out.new
             → NameByte (slice_index line.now (2 * i)) (slice_index line.now (2 * i + 1)) (slice_index out.new i) }
     {

@@ -101,6 +101,7 @@ impl PortConfig {
     /// ```text
     /// ensures pvid { result.pvid ≡ 1 }
     /// ensures members { (v : ℕ) → 1 ≤ v → v ≤ 4094 → has result.members v ≡ true }
+    /// ensures reserved { (has result.members 0 ≡ false) × (has result.members 4095 ≡ false) }
     /// ensures untagged { (v : ℕ) → v < 4096 → has result.untagged v ≡ false }
     /// ensures frame_types { result.frame_types ≡ AcceptableFrames.OnlyVlanTagged }
     /// ensures ingress_filtering { result.ingress_filtering ≡ true }

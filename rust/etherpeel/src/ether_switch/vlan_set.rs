@@ -48,7 +48,8 @@ impl VlanSet {
     /// <details><summary>Contract</summary>
     ///
     /// ```text
-    /// ensures { (v : ℕ) → 1 ≤ v → v ≤ 4094 → has result v ≡ true }
+    /// ensures vlans { (v : ℕ) → 1 ≤ v → v ≤ 4094 → has result v ≡ true }
+    /// ensures reserved { (has result 0 ≡ false) × (has result 4095 ≡ false) }
     /// ```
     ///
     /// </details>
@@ -56,9 +57,7 @@ impl VlanSet {
     pub fn all() -> VlanSet {
         let mut set = VlanSet::new();
         for id in 1..4095 {
-            if let Ok(vlan) = Vlan::try_new(id) {
-                set.insert(vlan);
-            }
+            set.insert(Vlan::try_new(id).unwrap());
         }
         set
     }

@@ -15,6 +15,14 @@ pub struct DigitTable {
 
 impl DigitTable {
     /// Makes the table, by calls of the crate `hex`.
+    ///
+    /// <details><summary>Contract</summary>
+    ///
+    /// ```text
+    /// ensures { AreEntries result }
+    /// ```
+    ///
+    /// </details>
     pub fn new() -> Self {
         let mut entries = [NO_DIGIT; 256];
         for (character, value) in entries.iter_mut().enumerate() {
