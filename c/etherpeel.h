@@ -510,7 +510,7 @@ typedef struct etherpeel_field {
 typedef struct etherpeel_headers {
     etherpeel_unit units[5]; /* the headers, outermost first: at most a link, three tags, ARP */
     etherpeel_found found;   /* their number, the bytes after them, and the fault */
-    size_t min_snap_len;     /* the least length to which the frame can be cut without losing one */
+    size_t min_snap_len;     /* the least length to which the frame can be cut without losing one of these */
     uint16_t vlan_ids[3];    /* the identifiers of the VLAN tags, outermost first, then 0 */
     uint16_t vlan_count;     /* the number of VLAN tags */
 } etherpeel_headers;

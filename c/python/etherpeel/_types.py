@@ -356,7 +356,8 @@ class Packet(NamedTuple):
     vlan_ids: Tuple[int, ...]
     """The identifiers of the VLAN tags, outermost first."""
     min_snap_len: int
-    """The least length to which the frame can be cut without losing a header; it is then read without a check sequence."""
+    """The least length to which the frame can be cut without losing one of `units`; it is then read without a check sequence. A fourth
+    tag, and what follows it, are not among these."""
 
     def first(self, kind: Type[H]) -> Optional[H]:
         """The first header of a type, as in `packet.first(Arp)`; None if there is none."""

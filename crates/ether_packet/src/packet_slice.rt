@@ -286,8 +286,11 @@ impl<'a> PacketSlice<'a> {
         self.fault.is_none()
     }
 
-    /// The least snap length that keeps all headers: a frame cut to at least this many bytes still has them, and a
-    /// frame cut shorter lacks at least one.
+    /// The least snap length that keeps all headers of the packet: a frame cut to at least this many bytes still has
+    /// them, and a frame cut shorter lacks at least one.
+    ///
+    /// A packet has at most three tags. Of a frame with more tags, a fourth and what follows it are not counted, and
+    /// may be lost in such a cut; [`min_snap_len`](crate::min_snap_len) counts them all.
     ///
     /// If a SecTag gives the length of its payload, that payload counts, because the tag is refused without it. A
     /// frame check sequence does not count: a cut frame has lost it, and is read as a frame without one.
