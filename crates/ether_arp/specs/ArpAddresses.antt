@@ -1,5 +1,5 @@
--- The addresses that a packet can't hold: it has one size for both addresses of a kind, and a size is one byte (RFC 826,
--- "Packet format").
+-- The addresses that a packet can't hold: it has one size for both addresses of a kind, and a size is one byte (RFC
+-- 826, "Packet format").
 use Rattle.std.specs.Prelude.{◌≡◌, ℕ, ◌<◌, ◌≤◌, Result, MatchResult}
 use Rattle.ether_base.specs.declared.err.arp.arp_hw_addr_error.ArpHwAddrError.{ArpHwAddrError}
 use Rattle.ether_base.specs.declared.err.arp.arp_hw_addr_error.ArpHwAddrError.TheVariants as hw
@@ -23,7 +23,8 @@ pub data RefusesAddrs (sender_hw sender_proto target_hw target_proto : ℕ) : Ar
   hardware_unequal : (sender_hw ≡ target_hw → ⊥)
       → RefusesAddrs sender_hw sender_proto target_hw target_proto (HwAddr (hw.LenNonMatching sender_hw target_hw))
   protocol_unequal : sender_hw ≡ target_hw → (sender_proto ≡ target_proto → ⊥)
-      → RefusesAddrs sender_hw sender_proto target_hw target_proto (ProtoAddr (proto.LenNonMatching sender_proto target_proto))
+      → RefusesAddrs sender_hw sender_proto target_hw target_proto
+      (ProtoAddr (proto.LenNonMatching sender_proto target_proto))
   hardware_too_long : sender_hw ≡ target_hw → sender_proto ≡ target_proto → 255 < sender_hw
       → RefusesAddrs sender_hw sender_proto target_hw target_proto (HwAddr (hw.LenTooBig sender_hw))
   protocol_too_long : sender_hw ≡ target_hw → sender_proto ≡ target_proto → sender_hw ≤ 255 → 255 < sender_proto
@@ -37,15 +38,20 @@ abbrev pub AcceptsProtoAddrs : ℕ → ℕ → Type 0
 AcceptsProtoAddrs sender target = (e : ArpProtoAddrError) → RefusesProtoAddrs sender target e → ⊥
 
 abbrev pub AcceptsAddrs : ℕ → ℕ → ℕ → ℕ → Type 0
-AcceptsAddrs sender_hw sender_proto target_hw target_proto = (e : ArpNewError) → RefusesAddrs sender_hw sender_proto target_hw target_proto e → ⊥
+AcceptsAddrs sender_hw sender_proto target_hw target_proto =
+    (e : ArpNewError) → RefusesAddrs sender_hw sender_proto target_hw target_proto e → ⊥
 
 -- the answer to two addresses of a kind, or to all four: a refusal exactly if a row holds, and that row
 abbrev pub AnswersHwAddrs : {A : Type 0} → (sender target : ℕ) → Result A ArpHwAddrError → Type 0
-AnswersHwAddrs sender target result = MatchResult result (λ _. AcceptsHwAddrs sender target) (RefusesHwAddrs sender target)
+AnswersHwAddrs sender target result =
+    MatchResult result (λ _. AcceptsHwAddrs sender target) (RefusesHwAddrs sender target)
 
 abbrev pub AnswersProtoAddrs : {A : Type 0} → (sender target : ℕ) → Result A ArpProtoAddrError → Type 0
-AnswersProtoAddrs sender target result = MatchResult result (λ _. AcceptsProtoAddrs sender target) (RefusesProtoAddrs sender target)
+AnswersProtoAddrs sender target result =
+    MatchResult result (λ _. AcceptsProtoAddrs sender target) (RefusesProtoAddrs sender target)
 
-abbrev pub AnswersAddrs : {A : Type 0} → (sender_hw sender_proto target_hw target_proto : ℕ) → Result A ArpNewError → Type 0
+abbrev pub AnswersAddrs : {A : Type 0} → (sender_hw sender_proto target_hw target_proto : ℕ) → Result A ArpNewError
+    → Type 0
 AnswersAddrs sender_hw sender_proto target_hw target_proto result =
-    MatchResult result (λ _. AcceptsAddrs sender_hw sender_proto target_hw target_proto) (RefusesAddrs sender_hw sender_proto target_hw target_proto)
+    MatchResult result (λ _. AcceptsAddrs sender_hw sender_proto target_hw target_proto)
+    (RefusesAddrs sender_hw sender_proto target_hw target_proto)

@@ -20,7 +20,8 @@ eth_ipv4_view p = record {
 
 -- its 28 bytes: hardware type 1, protocol type 2048, sizes 6 and 4, the operation, and the four addresses
 abbrev pub eth_ipv4_bytes : ArpEthIpv4Packet → List ℕ
-eth_ipv4_bytes p = spelled 8 (1 * 2 ^ 48 + 2048 * 2 ^ 32 + 6 * 2 ^ 24 + 4 * 2 ^ 16 + p.operation.0) ++ p.sender_mac ++ p.sender_ipv4 ++ p.target_mac ++ p.target_ipv4
+eth_ipv4_bytes p = spelled 8 (1 * 2 ^ 48 + 2048 * 2 ^ 32 + 6 * 2 ^ 24 + 4 * 2 ^ 16 + p.operation.0) ++ p.sender_mac
+    ++ p.sender_ipv4 ++ p.target_mac ++ p.target_ipv4
 
 -- the rows for a value that is not of Ethernet and IPv4, each with what the value has instead
 pub data RefusesEthIpv4 (a : ArpValue) : ArpEthIpv4FromError → Type 0 where
@@ -30,7 +31,8 @@ pub data RefusesEthIpv4 (a : ArpValue) : ArpEthIpv4FromError → Type 0 where
       → RefusesEthIpv4 a (NonMatchingProtocolType (record { 0 = a.protocol_type }))
   hardware_size : a.hardware_type ≡ 1 → a.protocol_type ≡ 2048 → (length a.sender_hardware ≡ 6 → ⊥)
       → RefusesEthIpv4 a (NonMatchingHwAddrSize (length a.sender_hardware))
-  protocol_size : a.hardware_type ≡ 1 → a.protocol_type ≡ 2048 → length a.sender_hardware ≡ 6 → (length a.sender_protocol ≡ 4 → ⊥)
+  protocol_size : a.hardware_type ≡ 1 → a.protocol_type ≡ 2048 → length a.sender_hardware ≡ 6
+      → (length a.sender_protocol ≡ 4 → ⊥)
       → RefusesEthIpv4 a (NonMatchingProtoAddrSize (length a.sender_protocol))
 
 -- no row holds

@@ -87,7 +87,10 @@ impl Model for ArpPacket {
       target_protocol = a.target_protocol_addr.items;
     } };
 
-    ghost invariant = { λ a. (length a.target_hw_addr.items ≡ length a.sender_hw_addr.items) × (length a.target_protocol_addr.items ≡ length a.sender_protocol_addr.items) × IsBytes a.sender_hw_addr.items × IsBytes a.sender_protocol_addr.items × IsBytes a.target_hw_addr.items × IsBytes a.target_protocol_addr.items };
+    ghost invariant = { λ a. (length a.target_hw_addr.items ≡ length a.sender_hw_addr.items)
+        × (length a.target_protocol_addr.items ≡ length a.sender_protocol_addr.items) × IsBytes a.sender_hw_addr.items
+        × IsBytes a.sender_protocol_addr.items × IsBytes a.target_hw_addr.items
+        × IsBytes a.target_protocol_addr.items };
 }
 
 impl ArpPacket {
@@ -443,7 +446,12 @@ impl Clone for ArpPacket {
 }
 
 impl PartialEq for ArpPacket {
-    ghost eq = { eq_of_both (on (λ a. a.hardware_type) ◌==◌) (eq_of_both (on (λ a. a.protocol_type) ◌==◌) (eq_of_both (on (λ a. a.operation) ◌==◌) (eq_of_both (on (λ a. a.sender_hardware) (pointwise ◌==◌)) (eq_of_both (on (λ a. a.sender_protocol) (pointwise ◌==◌)) (eq_of_both (on (λ a. a.target_hardware) (pointwise ◌==◌)) (on (λ a. a.target_protocol) (pointwise ◌==◌))))))) };
+    ghost eq = { eq_of_both (on (λ a. a.hardware_type) ◌==◌)
+        (eq_of_both (on (λ a. a.protocol_type) ◌==◌)
+        (eq_of_both (on (λ a. a.operation) ◌==◌)
+        (eq_of_both (on (λ a. a.sender_hardware) (pointwise ◌==◌))
+        (eq_of_both (on (λ a. a.sender_protocol) (pointwise ◌==◌))
+        (eq_of_both (on (λ a. a.target_hardware) (pointwise ◌==◌)) (on (λ a. a.target_protocol) (pointwise ◌==◌))))))) };
 
     ghost laws = { Prim.search (comparing, rules) depth 16 };
 
@@ -463,7 +471,9 @@ impl Eq for ArpPacket {
 }
 
 impl Hash for ArpPacket {
-    ghost hash_input = { λ a. fed.u16 a.hardware_type ++ fed.u16 a.protocol_type ++ fed.u16 a.operation ++ fed.slice fed.u8 a.sender_hardware ++ fed.slice fed.u8 a.sender_protocol ++ fed.slice fed.u8 a.target_hardware ++ fed.slice fed.u8 a.target_protocol };
+    ghost hash_input = { λ a. fed.u16 a.hardware_type ++ fed.u16 a.protocol_type ++ fed.u16 a.operation
+        ++ fed.slice fed.u8 a.sender_hardware ++ fed.slice fed.u8 a.sender_protocol
+        ++ fed.slice fed.u8 a.target_hardware ++ fed.slice fed.u8 a.target_protocol };
 
     ghost respects_eq = { Prim.search (hashing, rules) depth 16 };
 

@@ -22,8 +22,10 @@ pub record NumbersAreBytes : Type 0 where
 
 -- at most one row of a kind holds, and it is decided whether one does
 pub record RowsAreApart : Type 0 where
-  pub one : (bound : LenSource) (bytes : List ℕ) (kind : Kind) (r s : Refusal) → Refuses bound bytes kind r → Refuses bound bytes kind s → r ≡ s
-  pub decided : (bound : LenSource) (bytes : List ℕ) (kind : Kind) → IsBytes bytes → ((r : Refusal) × Refuses bound bytes kind r) ⊎ Accepts bound bytes kind
+  pub one : (bound : LenSource) (bytes : List ℕ) (kind : Kind) (r s : Refusal) → Refuses bound bytes kind r
+      → Refuses bound bytes kind s → r ≡ s
+  pub decided : (bound : LenSource) (bytes : List ℕ) (kind : Kind) → IsBytes bytes
+      → ((r : Refusal) × Refuses bound bytes kind r) ⊎ Accepts bound bytes kind
 
 -- a row that refuses a length says how many bytes there are, and that more are required
 abbrev pub LengthRowsAreShort : Type 0
@@ -32,15 +34,20 @@ LengthRowsAreShort =
     → Refuses bound bytes kind (Length required n source layer)
     → (n ≡ length bytes) × (n < required)
 
--- Accepted bytes mean a header, and a list means at most one header of a kind. The other clauses name it, for a list that is
--- long enough (14, 4 or 16 bytes, or as many as the front of a SecTag says): its fields are read at their places.
+-- Accepted bytes mean a header, and a list means at most one header of a kind. The other clauses name it, for a list
+-- that is long enough (14, 4 or 16 bytes, or as many as the front of a SecTag says): its fields are read at their
+-- places.
 pub record HeadersAreMeant : Type 0 where
-  pub some : (bound : LenSource) (bytes : List ℕ) (kind : Kind) → IsBytes bytes → Accepts bound bytes kind → (h : Header) × (kind_of h ≡ kind) × Means bytes h
+  pub some : (bound : LenSource) (bytes : List ℕ) (kind : Kind) → IsBytes bytes → Accepts bound bytes kind
+      → (h : Header) × (kind_of h ≡ kind) × Means bytes h
   pub one : (bytes : List ℕ) (h k : Header) → kind_of h ≡ kind_of k → Means bytes h → Means bytes k → h ≡ k
-  pub ethernet2 : (bytes : List ℕ) → IsBytes bytes → 14 ≤ length bytes → Means bytes (headers.Ethernet2 (ethernet2_of bytes))
+  pub ethernet2 : (bytes : List ℕ) → IsBytes bytes → 14 ≤ length bytes
+      → Means bytes (headers.Ethernet2 (ethernet2_of bytes))
   pub vlan : (bytes : List ℕ) → IsBytes bytes → 4 ≤ length bytes → Means bytes (headers.Vlan (vlan_of bytes))
-  pub linux_sll : (bytes : List ℕ) → IsBytes bytes → 16 ≤ length bytes → Means bytes (headers.LinuxSll (linux_sll_of bytes))
-  pub macsec : (bytes : List ℕ) → IsBytes bytes → 6 ≤ length bytes → sec_tag_len (sec_tag_front_in bytes) ≤ length bytes → Means bytes (headers.Macsec (sec_tag_of bytes))
+  pub linux_sll : (bytes : List ℕ) → IsBytes bytes → 16 ≤ length bytes
+      → Means bytes (headers.LinuxSll (linux_sll_of bytes))
+  pub macsec : (bytes : List ℕ) → IsBytes bytes → 6 ≤ length bytes → sec_tag_len (sec_tag_front_in bytes) ≤ length bytes
+      → Means bytes (headers.Macsec (sec_tag_of bytes))
 
 -- a header's bytes have its length, and they mean it, whatever follows them
 pub record BytesMeanTheirHeader : Type 0 where

@@ -16,7 +16,8 @@ pub record IsRefusedSpace (required : ℕ) (layer : Layer) (slice : List ℕ) (e
 
 -- the rest if the slice has room for `required` bytes of a layer, else the refusal
 abbrev pub AnswersRest : ℕ → Layer → List ℕ → Result (MutBor (List ℕ)) SliceWriteSpaceError → Type 0
-AnswersRest required layer slice result = MatchResult result (IsRest required slice) (IsRefusedSpace required layer slice)
+AnswersRest required layer slice result =
+    MatchResult result (IsRest required slice) (IsRefusedSpace required layer slice)
 
 -- Afterwards the slice holds these bytes, and after them what was left in the rest; if it was refused, it is unchanged.
 abbrev pub LendsRest : List ℕ → MutBor (List ℕ) → Result (MutBor (List ℕ)) SliceWriteSpaceError → Fml

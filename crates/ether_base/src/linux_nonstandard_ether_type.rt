@@ -133,7 +133,8 @@ impl TryFrom<u16> for LinuxNonstandardEtherType {
     ghost use Rattle.std.specs.Prelude.{MatchResult, true, false};
     ghost use Rattle.ether_base.specs.Enumerations.LinuxNonstandardEtherType.{is_nonstandard};
 
-    ghost try_from_gives = { λ number r. MatchResult r (λ ether_type. (is_nonstandard number ≡ true) × (ether_type ≡ number)) (λ _. is_nonstandard number ≡ false) };
+    ghost try_from_gives = { λ number r. MatchResult r (λ ether_type. (is_nonstandard number ≡ true)
+        × (ether_type ≡ number)) (λ _. is_nonstandard number ≡ false) };
 
     #[inline(always)]
     fn try_from(number: u16) -> Result<LinuxNonstandardEtherType, ()> {

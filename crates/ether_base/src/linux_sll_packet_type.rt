@@ -84,7 +84,8 @@ impl TryFrom<u16> for LinuxSllPacketType {
     ghost use Rattle.std.specs.Prelude.{MatchResult};
     ghost use Rattle.ether_base.specs.declared.err.linux_sll.header_error.HeaderError.TheVariants.{UnsupportedPacketTypeField};
 
-    ghost try_from_gives = { λ number r. MatchResult r (λ packet_type. (number ≤ 7) × (packet_type ≡ number)) (λ e. (7 < number) × (e ≡ UnsupportedPacketTypeField number)) };
+    ghost try_from_gives = { λ number r. MatchResult r (λ packet_type. (number ≤ 7) × (packet_type ≡ number))
+        (λ e. (7 < number) × (e ≡ UnsupportedPacketTypeField number)) };
 
     #[inline(always)]
     fn try_from(number: u16) -> Result<LinuxSllPacketType, HeaderError> {

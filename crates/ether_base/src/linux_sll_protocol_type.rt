@@ -67,7 +67,8 @@ impl TryFrom<NumberOnLink> for LinuxSllProtocolType {
     ghost use Rattle.std.specs.Prelude.{IsOk, ◌↔◌, Contains};
     ghost use Rattle.ether_base.specs.declared.linux_sll_protocol_type.TheConstants.LinuxSllProtocolType.{SUPPORTED_ARPHWD};
 
-    ghost try_from_gives = { λ pair r. (r ≡ protocol_type_of pair.0 pair.1) × (IsOk r ↔ Contains SUPPORTED_ARPHWD pair.0) };
+    ghost try_from_gives = { λ pair r. (r ≡ protocol_type_of pair.0 pair.1)
+        × (IsOk r ↔ Contains SUPPORTED_ARPHWD pair.0) };
 
     #[inline(always)]
     fn try_from(pair: NumberOnLink) -> Result<LinuxSllProtocolType, HeaderError> {

@@ -252,7 +252,8 @@ gives_packet start list frame old new found status g ok summary five status_is f
     let units = units_are start list old new.units found.units g five in
     let vids : unit_ids (take found.units new.units) ≡ vlan_ids_of (packet_headers has.packet) =
     ap unit_ids units ∙ ids_of_units (whole x list) g.headers ∙ ap vlan_ids_of (sym has.headers) in
-    let reaches = snap ∙ ap units_reach units ∙ reach_of_units (whole x list) g.headers ∙ ap (reach 0) (sym has.headers) in
+    let reaches =
+    snap ∙ ap units_reach units ∙ reach_of_units (whole x list) g.headers ∙ ap (reach 0) (sym has.headers) in
     record {
       packet = has.packet;
       is = has.is;

@@ -100,7 +100,8 @@ unit_given list w left e s t u ok faces n =
     let own = subst (λ (l : List Header). Faces list w s l e) n.parts faces in
     let unit = own.stack.0 in
     let shows = subst (λ (l : List ℕ). ShowsUnit l t.rest n.header u) own.rest n.shows in
-    let same = unit_header-shown (within list w) t.rest n.header u (IsBytes-part w.start w.finish list ok) unit.means shows
+    let same =
+    unit_header-shown (within list w) t.rest n.header u (IsBytes-part w.start w.finish list ok) unit.means shows
     in
     let inner = n.faces in
     let from = own.offset in

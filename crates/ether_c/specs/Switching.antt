@@ -160,7 +160,8 @@ abbrev pub stays : ℕ
 stays = 21
 
 -- The frame is made ready to leave by a port; or it does not leave by that port.
-pub record GivesSent (r : Received) (to : ℕ) (config : PortConfig) (old new : List ℕ) (at_old at_new status : ℕ) : Type 0 where
+pub record GivesSent (r : Received) (to : ℕ) (config : PortConfig) (old new : List ℕ) (at_old at_new status : ℕ) : Type
+    0 where
   pub sent : Option ℕ
   pub leaves : IfSome sent (λ at. (hs : List Header) (e : Ending)
       → Walk (start_of starts.Ethernet2) (drop 4 old) hs e

@@ -79,10 +79,12 @@ fn put_unit(
 ) -> usize
     requires header { place.start + header_len (unit_header unit.now) ≤ length bytes.now }
     requires trailer { place.payload_end + trailer_len (unit_header unit.now) ≤ length bytes.now }
-    requires room { at + length (header_fields (unit_header unit.now)) + length (trailer_fields (unit_header unit.now)) < 2 ^ 64 }
+    requires room { at + length (header_fields (unit_header unit.now)) + length (trailer_fields (unit_header unit.now))
+        < 2 ^ 64 }
     ensures fields { fields.new ≡ put_all fields.old at
         (c_placed_fields bytes.now place.index place.start place.payload_end (unit_header unit.now)) }
-    ensures next { result ≡ at + length (header_fields (unit_header unit.now)) + length (trailer_fields (unit_header unit.now)) }
+    ensures next { result ≡ at + length (header_fields (unit_header unit.now))
+        + length (trailer_fields (unit_header unit.now)) }
 {
     let next = put_header(bytes, unit, place, fields, at);
     match unit {

@@ -37,7 +37,8 @@ pub(crate) fn put_marks(
     packets: &[EtherCaptured<'_>],
     matches: &mut [u8],
 ) -> u32
-    ensures { (x : Expression) → IsProgramOf instructions.now x → PutsMarks x packets.now matches.old matches.new result }
+    ensures { (x : Expression) → IsProgramOf instructions.now x
+        → PutsMarks x packets.now matches.old matches.new result }
 {
     if matches.len() < packets.len() {
         return NO_ROOM;

@@ -71,7 +71,8 @@ frame_is p end old new w =
 -- after the headers alone the rest and the trailer are written
 pub all_written : (p : PacketParts) (b : PacketBuilder) (old first second new : List ℕ) (at next : ℕ)
     → given_headers b ≡ parts_headers p → content_payload b.content ≡ [] → b.link ≡ p.link
-    → frame_size p ≤ length old → at ≡ packet_len b → IsWrittenUnchanged b old (packet_len b) first → HasPacketType b.link
+    → frame_size p ≤ length old → at ≡ packet_len b → IsWrittenUnchanged b old (packet_len b) first
+    → HasPacketType b.link
     → second ≡ overwritten first at p.rest.now → next ≡ at + length p.rest.now
     → new ≡ overwritten second next p.trailer.now → IsFrameWritten p old (frame_size p) new
 all_written p b old first second new at next same empty link room is w packet_type rest past trailer =
@@ -246,8 +247,15 @@ changed_frames_are_read p end old new w start list packet e is walk same rest tr
     let order = s.order in
     let inside = s.inside in
     let len : length (laid_over list gs) ≡ length list =
-    omega
-    (arith, length-append (flat_map header_bytes gs) (drop (place 0 gs) list), length-drop (place 0 gs) list, own, at, order, inside) in
+    omega (
+      arith,
+      length-append (flat_map header_bytes gs) (drop (place 0 gs) list),
+      length-drop (place 0 gs) list,
+      own,
+      at,
+      order,
+      inside,
+    ) in
     record {
       len = sym frame.len ∙ ap length is_laid ∙ len;
       walk =

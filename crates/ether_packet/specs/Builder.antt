@@ -57,7 +57,8 @@ inner_headers p = map ext_header_view p.link_exts.now ++ content_headers p.conte
 
 -- the headers as they are written
 abbrev pub built_headers : PacketBuilder → List Header
-built_headers p = built (link_header p.link ∷ inner_headers p) (content_type p.content) (length (content_payload p.content))
+built_headers p =
+    built (link_header p.link ∷ inner_headers p) (content_type p.content) (length (content_payload p.content))
 
 abbrev pub packet_len : PacketBuilder → ℕ
 packet_len p = place (length (content_payload p.content)) (link_header p.link ∷ inner_headers p)
@@ -105,7 +106,8 @@ IsOtherLink (links.Ethernet2 h) e = ⊥
 pub data RefusesPacket (p : PacketBuilder) (target : List ℕ) : BuildError → Type 0 where
   hardware_type : (e : BuildError) → IsOtherLink p.link e → RefusesPacket p target e
   sealed : (i : ℕ) → IsEthernet p.link → IsSealedAt (inner_headers p) i → RefusesPacket p target (errors.Sealed i)
-  space : (e : SliceWriteSpaceError) → IsEthernet p.link → IsChain (inner_headers p) → IsRefusedSpace (packet_len p) layers.EtherPayload target e → RefusesPacket p target (errors.Space e)
+  space : (e : SliceWriteSpaceError) → IsEthernet p.link → IsChain (inner_headers p)
+      → IsRefusedSpace (packet_len p) layers.EtherPayload target e → RefusesPacket p target (errors.Space e)
 
 -- no reason for refusal holds
 abbrev pub AcceptsPacket : (p : PacketBuilder) (target : List ℕ) → Type 0

@@ -48,7 +48,8 @@ abbrev pub before : Header → (t n : ℕ) → Header
 before (headers.Ethernet2 e) t n = headers.Ethernet2 (record e { ether_type = t })
 before (headers.LinuxSll s) t n = headers.LinuxSll (record s { protocol = t })
 before (headers.Vlan v) t n = headers.Vlan (record v { ether_type = t })
-before (headers.Macsec m) t n = let p = retyped m.payload_type t in headers.Macsec (record m { payload_type = p; short_len = short_len_for p n })
+before (headers.Macsec m) t n = let p =
+    retyped m.payload_type t in headers.Macsec (record m { payload_type = p; short_len = short_len_for p n })
 before h t n = h
 
 -- a SecTag before n bytes, with its payload type unchanged
@@ -95,4 +96,5 @@ window_after w (h ∷ hs) = window_after (payload w h) hs
 pub record BeginsWith (start : Expectation) (list : List ℕ) (hs : List Header) (rest : List ℕ) : Type 0 where
   pub payload : within list (window_after (whole start list) hs) ≡ rest
   pub ends : (window_after (whole start list) hs).finish ≡ length list
-  pub walk : (ks : List Header) (e : Ending) → Stack list (expected_after start hs) (window_after (whole start list) hs) ks e → Walk start list (hs ++ ks) e
+  pub walk : (ks : List Header) (e : Ending) → Stack list (expected_after start hs) (window_after (whole start list) hs)
+      ks e → Walk start list (hs ++ ks) e

@@ -72,7 +72,8 @@ headers_for p (h ∷ hs) = in_place_of p.link h ∷ parts_inner p
 
 -- The target begins with a list as long as the old one, whose bytes after the headers are those of the old one. Its
 -- walk has these headers and this ending.
-pub record IsRead (start : Expectation) (old : List ℕ) (hs : List Header) (e : Ending) (end : ℕ) (new : List ℕ) : Type 0 where
+pub record IsRead (start : Expectation) (old : List ℕ) (hs : List Header) (e : Ending) (end : ℕ)
+    (new : List ℕ) : Type 0 where
   pub len : end ≡ length old
   pub walk : Walk start (take end new) hs e
   pub kept : drop (place 0 hs) (take end new) ≡ drop (place 0 hs) old

@@ -77,7 +77,9 @@ pub record IsBuilderOf (p : PacketParts) (b : PacketBuilder) : Type 0 where
 -- each SecTag: the headers, and the rest of the last window, unless it follows an ARP packet.
 abbrev pub PartsGoBack : Type 0
 PartsGoBack =
-    (start : Expectation) (list : List ℕ) (packet : PacketSlice) (parts : PacketParts) (b : PacketBuilder) (end : ℕ) (old new : List ℕ)
-    → IsBytes list → IsPacket start list packet → ArePartsOf parts packet → IsBuilderOf parts b → IsWrittenUnchanged b old end new
+    (start : Expectation) (list : List ℕ) (packet : PacketSlice) (parts : PacketParts) (b : PacketBuilder) (end : ℕ)
+    (old new : List ℕ)
+    → IsBytes list → IsPacket start list packet → ArePartsOf parts packet → IsBuilderOf parts b
+    → IsWrittenUnchanged b old end new
     → (end ≡ place 0 (packet_headers packet) + length (content_payload b.content))
     × (take end new ≡ take end (cleared list 0 (packet_headers packet)))

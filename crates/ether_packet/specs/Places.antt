@@ -69,10 +69,11 @@ IsReadableLink frame links.LinuxSll = Reads frame kinds.LinuxSll
 abbrev pub IsReadableExt : ExtPlace → Type 0
 IsReadableExt e = IsReadable (ext_kind e.kind) e.place
 
-pub record AreReadable (frame : List ℕ) (first : LinkKind) (tags : List ExtPlace) (last : Option FrameWindow) : Type 0 where
-  pub link : IsReadableLink frame first
-  pub exts : All IsReadableExt tags
-  pub arp : IfSome last (IsReadable kinds.Arp)
+pub record AreReadable (frame : List ℕ) (first : LinkKind) (tags : List ExtPlace) (last : Option FrameWindow) : Type 0
+  where
+    pub link : IsReadableLink frame first
+    pub exts : All IsReadableExt tags
+    pub arp : IfSome last (IsReadable kinds.Arp)
 
 -- the kind of an Ethernet II header with a frame check sequence, or without
 abbrev pub frame_link : Bool → LinkKind

@@ -14,13 +14,15 @@ use Rattle.ether_packet.specs.TypedLink.{type_of_link, with_type, BeginsTyped, R
 -- A frame begins with a link's header and a VLAN tag. Only the bytes of the link before its type are moved, by four
 -- bytes toward the end, and the frame then begins four bytes later. Its walk has the link with the type of the tag;
 -- all later headers and the ending are as before, at offsets lower by four.
-pub record IsPopped (start : Expectation) (old : List ℕ) (hs : List Header) (e : Ending) (tag : VlanValue) (new : List ℕ)
+pub record IsPopped (start : Expectation) (old : List ℕ) (hs : List Header) (e : Ending) (tag : VlanValue)
+    (new : List ℕ)
     : Type 0 where
   pub link : Header
   pub later : List Header
   pub begins : BeginsTyped hs link (headers.Vlan tag ∷ later)
   pub bytes : new ≡ overwritten old 4 (take (header_len link - 2) old)
-  pub walk : Walk start (drop 4 new) (with_type link tag.ether_type ∷ later) (moved_ending (header_len link + 4) (header_len link) e)
+  pub walk : Walk start (drop 4 new) (with_type link tag.ether_type ∷ later)
+      (moved_ending (header_len link + 4) (header_len link) e)
 
 -- No tag is taken off: the frame does not begin with a link's header and an ether type; or that does not announce a
 -- VLAN tag; or the walk ends before the tag, which is cut short.
@@ -28,7 +30,8 @@ pub data RefusesPop (hs : List Header) : TagError → Type 0 where
   link : (error : TagError) → RefusesTyped hs error → RefusesPop hs error
   no_vlan : (link : Header) (later : List Header)
       → BeginsTyped hs link later → is_vlan_ether_type (type_of_link link) ≡ false → RefusesPop hs errors.NoVlan
-  cut_vlan : (link : Header) → BeginsTyped hs link [] → is_vlan_ether_type (type_of_link link) ≡ true → RefusesPop hs errors.CutVlan
+  cut_vlan : (link : Header) → BeginsTyped hs link [] → is_vlan_ether_type (type_of_link link) ≡ true
+      → RefusesPop hs errors.CutVlan
 
 -- ---- how it is found
 

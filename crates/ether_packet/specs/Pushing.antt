@@ -20,7 +20,8 @@ pushed_bytes tpid tag = spelled 2 tpid ++ slice_range (vlan_bytes tag) 0 2
 -- are moved, by four bytes toward the front, and four bytes are put in after them. The walk of the whole buffer has
 -- the link with the type that announces the tag, and the tag with the type of the link; all later headers and the
 -- ending are as before, at offsets higher by four.
-pub record IsPushed (start : Expectation) (old : List ℕ) (hs : List Header) (e : Ending) (tag : VlanValue) (tpid : ℕ) (new : List ℕ)
+pub record IsPushed (start : Expectation) (old : List ℕ) (hs : List Header) (e : Ending) (tag : VlanValue) (tpid : ℕ)
+    (new : List ℕ)
     : Type 0 where
   pub link : Header
   pub later : List Header
@@ -35,7 +36,8 @@ pub record IsPushed (start : Expectation) (old : List ℕ) (hs : List Header) (e
 pub data RefusesPush (buffer : List ℕ) (hs : List Header) (tpid : ℕ) : TagError → Type 0 where
   other_tpid : is_vlan_ether_type tpid ≡ false → RefusesPush buffer hs tpid (errors.Tpid (record { 0 = tpid }))
   no_room : is_vlan_ether_type tpid ≡ true → length buffer < 4 → RefusesPush buffer hs tpid errors.NoRoom
-  link : (error : TagError) → is_vlan_ether_type tpid ≡ true → 4 ≤ length buffer → RefusesTyped hs error → RefusesPush buffer hs tpid error
+  link : (error : TagError) → is_vlan_ether_type tpid ≡ true → 4 ≤ length buffer → RefusesTyped hs error
+      → RefusesPush buffer hs tpid error
 
 -- ---- how it is found
 

@@ -32,7 +32,8 @@ abbrev pub Differs : Header → Header → Difference → Type 0
 Differs g h differences.Kind = kind_of g ≢ kind_of h
 Differs (headers.Vlan g) (headers.Vlan h) differences.EtherType = g.ether_type ≢ h.ether_type
 Differs (headers.Macsec g) (headers.Macsec h) differences.PayloadType = g.payload_type ≢ h.payload_type
-Differs (headers.Macsec g) (headers.Macsec h) differences.ShortLen = (g.payload_type ≡ h.payload_type) × (g.short_len ≢ h.short_len)
+Differs (headers.Macsec g) (headers.Macsec h) differences.ShortLen =
+    (g.payload_type ≡ h.payload_type) × (g.short_len ≢ h.short_len)
 Differs (headers.Macsec g) (headers.Macsec h) differences.Sci =
     (g.payload_type ≡ h.payload_type) × (g.short_len ≡ h.short_len) × (sci_present_of g.sci ≢ sci_present_of h.sci)
 Differs (headers.Arp g) (headers.Arp h) differences.HwAddrLen = length g.sender_hardware ≢ length h.sender_hardware
@@ -70,7 +71,8 @@ pub record TakesExt (hs : List Header) (i : ℕ) (g : Header) (at : ℕ) : Type 
 
 -- In a list with the headers hs and this ending g replaces the extension at an index. Only the bytes of that extension
 -- change, and the walk has all other headers and the ending as before.
-pub record ReplacesExt (start : Expectation) (old : List ℕ) (hs : List Header) (e : Ending) (i : ℕ) (g : Header) (new : List ℕ)
+pub record ReplacesExt (start : Expectation) (old : List ℕ) (hs : List Header) (e : Ending) (i : ℕ) (g : Header)
+    (new : List ℕ)
     : Type 0 where
   pub front : List Header
   pub replaced : Header

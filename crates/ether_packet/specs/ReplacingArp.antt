@@ -33,7 +33,8 @@ pub record TakesArp (hs : List Header) (g : ArpValue) (end : ℕ) : Type 0 where
 
 -- In a list with the headers hs and this ending g replaces the ARP packet, which is the last header. Only the bytes of
 -- that packet change, and the walk has all other headers and the ending as before.
-pub record ReplacesArp (start : Expectation) (old : List ℕ) (hs : List Header) (e : Ending) (g : ArpValue) (new : List ℕ) : Type 0 where
+pub record ReplacesArp (start : Expectation) (old : List ℕ) (hs : List Header) (e : Ending) (g : ArpValue)
+    (new : List ℕ) : Type 0 where
   pub front : List Header
   pub replaced : ArpValue
   pub parts : hs ≡ front ++ headers.Arp replaced ∷ []
@@ -48,4 +49,5 @@ pub record ReplacesArp (start : Expectation) (old : List ℕ) (hs : List Header)
 pub data RefusesArp (hs : List Header) (g : ArpValue) : ReplaceError → Type 0 where
   no_arp : has_arp hs ≡ false → RefusesArp hs g errors.NoArp
   other_arp : (front : List Header) (a : ArpValue) (d : Difference)
-      → hs ≡ front ++ headers.Arp a ∷ [] → Differs (headers.Arp g) (headers.Arp a) d → RefusesArp hs g (errors.SaysOther d)
+      → hs ≡ front ++ headers.Arp a ∷ [] → Differs (headers.Arp g) (headers.Arp a) d
+      → RefusesArp hs g (errors.SaysOther d)

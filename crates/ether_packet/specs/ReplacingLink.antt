@@ -39,7 +39,8 @@ protocol_in s = protocol_of s.hardware_type s.protocol
 abbrev pub LinkAgrees : LinkHeader → Header → Type 0
 LinkAgrees (links.Ethernet2 g) (headers.Ethernet2 h) = g.ether_type.0 ≡ h.ether_type
 LinkAgrees (links.Ethernet2 g) (headers.Ethernet2Fcs h) = g.ether_type.0 ≡ h.ether_type
-LinkAgrees (links.LinuxSll g) (headers.LinuxSll h) = (g.arp_hrd_type.0 ≡ h.hardware_type) × (g.protocol_type ≡ protocol_in h)
+LinkAgrees (links.LinuxSll g) (headers.LinuxSll h) =
+    (g.arp_hrd_type.0 ≡ h.hardware_type) × (g.protocol_type ≡ protocol_in h)
 LinkAgrees g h = ⊥
 
 -- the first difference between a link's header and the header of a walk, in the order of kind and fields
@@ -68,7 +69,8 @@ pub record TakesLink (hs : List Header) (g : LinkHeader) : Type 0 where
 
 -- In a list with the headers hs and this ending g replaces the first header. Only the bytes of that header change, and
 -- the walk has all other headers and the ending as before.
-pub record ReplacesLink (start : Expectation) (old : List ℕ) (hs : List Header) (e : Ending) (g : LinkHeader) (new : List ℕ) : Type 0 where
+pub record ReplacesLink (start : Expectation) (old : List ℕ) (hs : List Header) (e : Ending) (g : LinkHeader)
+    (new : List ℕ) : Type 0 where
   pub takes : TakesLink hs g
   pub fits : FitsHeader (link_header g)
   pub bytes : new ≡ overwritten old 0 (header_bytes (link_header g))
@@ -100,7 +102,8 @@ pub record BeginsWithLink (hs : List Header) (g : LinkHeader) : Type 0 where
 -- two links' headers have the same kind, and say the same about what follows them
 abbrev pub LinksAgree : LinkHeader → LinkHeader → Type 0
 LinksAgree (links.Ethernet2 g) (links.Ethernet2 h) = g.ether_type ≡ h.ether_type
-LinksAgree (links.LinuxSll g) (links.LinuxSll h) = (g.arp_hrd_type ≡ h.arp_hrd_type) × (g.protocol_type ≡ h.protocol_type)
+LinksAgree (links.LinuxSll g) (links.LinuxSll h) =
+    (g.arp_hrd_type ≡ h.arp_hrd_type) × (g.protocol_type ≡ h.protocol_type)
 LinksAgree g h = ⊥
 
 -- the first difference between two links' headers

@@ -18,7 +18,8 @@ use Rattle.ether_packet.specs.TypedLink.{with_type}
 
 -- A frame has a VLAN tag at an index of its extensions, which is changed. Only the bytes of that tag change, and the
 -- walk has all other headers and the ending as before.
-pub record SetsTag (start : Expectation) (old : List ℕ) (hs : List Header) (e : Ending) (i : ℕ) (change : VlanValue → VlanValue) (new : List ℕ)
+pub record SetsTag (start : Expectation) (old : List ℕ) (hs : List Header) (e : Ending) (i : ℕ) (change : VlanValue
+    → VlanValue) (new : List ℕ)
     : Type 0 where
   pub front : List Header
   pub tag : VlanValue
@@ -52,7 +53,8 @@ pub data RefusesTpid (hs : List Header) (i tpid : ℕ) : TagError → Type 0 whe
   other_tpid : is_vlan_ether_type tpid ≡ false → RefusesTpid hs i tpid (errors.Tpid (record { 0 = tpid }))
   tag : (error : TagError) → is_vlan_ether_type tpid ≡ true → RefusesTag hs i error → RefusesTpid hs i tpid error
   unannounced : (v : VlanValue) (later : List Header)
-      → is_vlan_ether_type tpid ≡ true → IsExtAt hs i [] (headers.Vlan v) later → RefusesTpid hs i tpid errors.Unannounced
+      → is_vlan_ether_type tpid ≡ true → IsExtAt hs i [] (headers.Vlan v) later
+      → RefusesTpid hs i tpid errors.Unannounced
 
 -- ---- the outermost one with an identifier
 

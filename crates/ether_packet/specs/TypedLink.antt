@@ -42,7 +42,8 @@ pub record BeginsTyped (hs : List Header) (link : Header) (later : List Header) 
 pub data RefusesTyped (hs : List Header) : TagError → Type 0 where
   no_link : has_link hs ≡ false → RefusesTyped hs errors.NoLink
   hardware_type : (s : LinuxSllValue) (later : List Header)
-      → hs ≡ headers.LinuxSll s ∷ later → (s.hardware_type ≡ 1 → ⊥) → RefusesTyped hs (errors.HardwareType (record { 0 = s.hardware_type }))
+      → hs ≡ headers.LinuxSll s ∷ later → (s.hardware_type ≡ 1 → ⊥)
+      → RefusesTyped hs (errors.HardwareType (record { 0 = s.hardware_type }))
 
 -- ---- how it is read
 
@@ -62,9 +63,11 @@ pub record IsTypedLink (start : Start) (list : List ℕ) (hs : List Header) (l :
 
 -- a list begins with a cooked capture header of Ethernet, whose packet type is supported
 abbrev pub IsEthernetCapture : List ℕ → Type 0
-IsEthernetCapture list = (16 ≤ length list) × ((linux_sll_of list).packet_type ≤ 7) × ((linux_sll_of list).hardware_type ≡ 1)
+IsEthernetCapture list =
+    (16 ≤ length list) × ((linux_sll_of list).packet_type ≤ 7) × ((linux_sll_of list).hardware_type ≡ 1)
 
 -- why it does not: the header has another hardware type, or is refused
 abbrev pub IsOtherCapture : List ℕ → Option ArpHardwareId → Type 0
-IsOtherCapture list (Some hardware) = Accepts sources.Slice list kinds.LinuxSll × (hardware.0 ≡ (linux_sll_of list).hardware_type)
+IsOtherCapture list (Some hardware) =
+    Accepts sources.Slice list kinds.LinuxSll × (hardware.0 ≡ (linux_sll_of list).hardware_type)
 IsOtherCapture list None = (r : Refusal) × Refuses sources.Slice list kinds.LinuxSll r

@@ -63,11 +63,13 @@ pub struct Findings<'a> {
 ///
 /// | Clause | Of a frame | Its line |
 /// |---|---|---|
-/// | `walk`, `one`, `begins`, `walker`, `items` | each header, and where it begins | `vlan 14 pcp 5 dei 1 vid 291 0x0800` |
+/// | `walk`, `one`, `begins`, `walker`, `items` | each header, and where it begins | `vlan 14 pcp 5 dei 1 vid 291
+/// 0x0800` |
 /// | `summary` | the last window, and what is expected there | `rest 18 46 type 0x0800` |
 /// | `summary` | its first breach: offset, mark and cause | `fault 14 open length 4 0 slice` |
 /// | `written` | the headers, written back | none: a caller of [`write_back`] has them |
-/// | `cuts`, `extensions` | a fault that more bytes may mend, and the length that it needs | `open` in the line `fault`, OFFSET and REQUIRED |
+/// | `cuts`, `extensions` | a fault that more bytes may mend, and the length that it needs | `open` in the line
+/// `fault`, OFFSET and REQUIRED |
 pub fn main_theorem<'a>(start: Start, bytes: &'a [u8], target: &mut [u8]) -> Findings<'a>
     ensures { MainTheorem (start_of start) bytes.now target.old target.new result }
 {

@@ -76,9 +76,17 @@ impl<'a> Model for Peel<'a> {
 
     ghost Value = { State };
 
-    ghost view = { λ a. record { rest = a.rest.now; offset = a.end - length a.rest.now; closed = a.is_closed; bound = a.bound; expected = record { next = expected_of a.first a.kind; limit = a.limit }; over = a.is_over } };
+    ghost view = { λ a. record {
+      rest = a.rest.now;
+      offset = a.end - length a.rest.now;
+      closed = a.is_closed;
+      bound = a.bound;
+      expected = record { next = expected_of a.first a.kind; limit = a.limit };
+      over = a.is_over;
+    } };
 
-    ghost invariant = { λ a. (length a.rest.now ≤ a.end) × Announces a.first a.announced.0 a.kind × IsShown a.first a.kind };
+    ghost invariant = { λ a. (length a.rest.now ≤ a.end) × Announces a.first a.announced.0 a.kind
+        × IsShown a.first a.kind };
 }
 
 impl<'a> Peel<'a> {

@@ -83,6 +83,8 @@ link_source (link_slices.LinuxSllPayload p) = sources.Slice
 abbrev pub SameLink : LinkSlice → LinkSlice → Type 0
 SameLink (link_slices.Ethernet2 a) (link_slices.Ethernet2 b) = a ≡ b
 SameLink (link_slices.LinuxSll a) (link_slices.LinuxSll b) = a ≡ b
-SameLink (link_slices.EtherPayload a) (link_slices.EtherPayload b) = (a.ether_type ≡ b.ether_type) × (a.len_source ≡ b.len_source) × (a.payload.now ≡ b.payload.now)
-SameLink (link_slices.LinuxSllPayload a) (link_slices.LinuxSllPayload b) = (a.protocol_type ≡ b.protocol_type) × (a.payload.now ≡ b.payload.now)
+SameLink (link_slices.EtherPayload a) (link_slices.EtherPayload b) =
+    (a.ether_type ≡ b.ether_type) × (a.len_source ≡ b.len_source) × (a.payload.now ≡ b.payload.now)
+SameLink (link_slices.LinuxSllPayload a) (link_slices.LinuxSllPayload b) =
+    (a.protocol_type ≡ b.protocol_type) × (a.payload.now ≡ b.payload.now)
 SameLink a b = ⊥

@@ -1,5 +1,5 @@
--- Headers of cooked capture as values of the wire format, their refusals as rows of the table, and what bytes say beyond the
--- numbers of their header.
+-- Headers of cooked capture as values of the wire format, their refusals as rows of the table, and what bytes say
+-- beyond the numbers of their header.
 use Rattle.std.specs.Prelude.{ℕ, List, ◌≡◌, ◌+◌, ◌≤◌, length, slice_range, min, true, Result, Ok, MatchResult}
 use Rattle.ether_base.specs.Bytes.{number}
 use Rattle.ether_base.specs.Formats.LinuxSll.{LinuxSllValue, IsLinuxSll, linux_sll_of, is_supported}
@@ -16,7 +16,8 @@ use Rattle.ether_base.specs.Formats.RefusedLen.{IsRefusedLen}
 use Rattle.ether_base.specs.declared.linux_sll_protocol_type.LinuxSllProtocolType.{LinuxSllProtocolType}
 
 -- the address as the number of its bytes
-abbrev pub linux_sll_value : (packet_type hardware_type address_len : ℕ) (address : List ℕ) (protocol : ℕ) → LinuxSllValue
+abbrev pub linux_sll_value : (packet_type hardware_type address_len : ℕ) (address : List ℕ) (protocol : ℕ)
+    → LinuxSllValue
 linux_sll_value packet_type hardware_type address_len address protocol = record {
   packet_type = packet_type;
   hardware_type = hardware_type;
@@ -28,14 +29,17 @@ linux_sll_value packet_type hardware_type address_len address protocol = record 
 -- the protocol type as its number
 abbrev pub linux_sll_view : LinuxSllHeader → LinuxSllValue
 linux_sll_view h =
-    linux_sll_value h.packet_type h.arp_hrd_type.0 h.sender_address_valid_length h.sender_address (protocol_number h.protocol_type)
+    linux_sll_value h.packet_type h.arp_hrd_type.0 h.sender_address_valid_length h.sender_address
+    (protocol_number h.protocol_type)
 
 -- ---- refusals
 
 -- the contents are refused, with the number that is not supported
 abbrev pub IsRefusedContent : List ℕ → HeaderError → Type 0
-IsRefusedContent bytes (UnsupportedPacketTypeField number) = Refuses sources.Slice bytes kinds.LinuxSll (UnsupportedPacketType number)
-IsRefusedContent bytes (UnsupportedArpHardwareId hardware) = Refuses sources.Slice bytes kinds.LinuxSll (UnsupportedHardwareType hardware.0)
+IsRefusedContent bytes (UnsupportedPacketTypeField number) =
+    Refuses sources.Slice bytes kinds.LinuxSll (UnsupportedPacketType number)
+IsRefusedContent bytes (UnsupportedArpHardwareId hardware) =
+    Refuses sources.Slice bytes kinds.LinuxSll (UnsupportedHardwareType hardware.0)
 
 -- a slice is refused as a cooked capture
 abbrev pub IsRefusedSll : List ℕ → HeaderSliceError HeaderError → Type 0
@@ -46,7 +50,9 @@ IsRefusedSll bytes (Content error) = IsRefusedContent bytes error
 
 -- bytes that begin with a header whose packet type and hardware type are supported
 abbrev pub HoldsLinuxSll : List ℕ → Type 0
-HoldsLinuxSll bytes = (16 ≤ length bytes) × ((linux_sll_of bytes).packet_type ≤ 7) × (is_supported (linux_sll_of bytes).hardware_type ≡ true)
+HoldsLinuxSll bytes =
+    (16 ≤ length bytes) × ((linux_sll_of bytes).packet_type ≤ 7)
+    × (is_supported (linux_sll_of bytes).hardware_type ≡ true)
 
 -- the protocol number, read according to the hardware type
 abbrev pub protocol_type_of_header : List ℕ → LinuxSllProtocolType

@@ -1,5 +1,5 @@
--- The header of Linux cooked capture, version 2 (LINKTYPE_LINUX_SLL2 of the tcpdump group), its refusals, and what its protocol
--- number means.
+-- The header of Linux cooked capture, version 2 (LINKTYPE_LINUX_SLL2 of the tcpdump group), its refusals, and what its
+-- protocol number means.
 use Rattle.std.specs.Prelude.{◌≡◌, ℕ, ◌+◌, ◌*◌, ◌^◌, ◌<◌, ◌≤◌, List, [], ◌∷◌, length, slice_range, ◌==◌, if◌then◌else◌}
 use Rattle.ether_base.specs.declared.linux_sll_protocol_type.LinuxSllProtocolType.{LinuxSllProtocolType}
 use Rattle.ether_base.specs.declared.linux_sll_protocol_type.LinuxSllProtocolType.TheVariants.{Ignored, NetlinkProtocolType, GenericRoutingEncapsulationProtocolType}
@@ -15,11 +15,12 @@ pub record LinuxSll2Value : Type 0 where
   pub address_len : ℕ
   pub address : ℕ
 
--- protocol type 2 bytes, reserved 2 bytes, interface index 4 bytes, ARPHRD_ type 2 bytes, packet type 1 byte, address length 1 byte,
--- address 8 bytes
+-- protocol type 2 bytes, reserved 2 bytes, interface index 4 bytes, ARPHRD_ type 2 bytes, packet type 1 byte, address
+-- length 1 byte, address 8 bytes
 abbrev pub linux_sll2_number : (reserved : ℕ) → LinuxSll2Value → ℕ
 linux_sll2_number reserved s =
-    s.protocol * 2 ^ 144 + reserved * 2 ^ 128 + s.interface_index * 2 ^ 96 + s.hardware_type * 2 ^ 80 + s.packet_type * 2 ^ 72 + s.address_len * 2 ^ 64 + s.address
+    s.protocol * 2 ^ 144 + reserved * 2 ^ 128 + s.interface_index * 2 ^ 96 + s.hardware_type * 2 ^ 80 + s.packet_type
+    * 2 ^ 72 + s.address_len * 2 ^ 64 + s.address
 
 pub record FitsLinuxSll2 (s : LinuxSll2Value) : Type 0 where
   pub protocol : s.protocol < 2 ^ 16
@@ -67,11 +68,12 @@ pub data LinuxSll2Refusal : Type 0 where
   Short : (required len : ℕ) → LinuxSll2Refusal
   PacketType : ℕ → LinuxSll2Refusal
 
--- The rows. Packet types are those of Linux, 0 to 7 (PACKET_ in its if_packet.h); the format names 0 to 4 of them. No hardware type
--- is refused.
+-- The rows. Packet types are those of Linux, 0 to 7 (PACKET_ in its if_packet.h); the format names 0 to 4 of them. No
+-- hardware type is refused.
 pub data RefusesLinuxSll2 (bytes : List ℕ) : LinuxSll2Refusal → Type 0 where
   short : length bytes < 20 → RefusesLinuxSll2 bytes (Short 20 (length bytes))
-  packet_type : (s : LinuxSll2Value) → BeginsLinuxSll2 bytes s → 7 < s.packet_type → RefusesLinuxSll2 bytes (PacketType s.packet_type)
+  packet_type : (s : LinuxSll2Value) → BeginsLinuxSll2 bytes s → 7 < s.packet_type
+      → RefusesLinuxSll2 bytes (PacketType s.packet_type)
 
 -- no row holds
 abbrev pub AcceptsLinuxSll2 : List ℕ → Type 0
@@ -79,8 +81,9 @@ AcceptsLinuxSll2 bytes = (r : LinuxSll2Refusal) → RefusesLinuxSll2 bytes r →
 
 -- ---- protocols
 
--- What a protocol number means, by the hardware type of the link: 824 netlink and 778 GRE over IP give it a meaning of their own,
--- 803 radiotap and 770 frame relay give it none; on any other link it is an ether type, or a number that Linux has below these.
+-- What a protocol number means, by the hardware type of the link: 824 netlink and 778 GRE over IP give it a meaning of
+-- their own, 803 radiotap and 770 frame relay give it none; on any other link it is an ether type, or a number that
+-- Linux has below these.
 abbrev pub protocol_on : (hardware number : ℕ) → LinuxSllProtocolType
 protocol_on hardware number =
     if hardware == 824 then NetlinkProtocolType number

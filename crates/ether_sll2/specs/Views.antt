@@ -10,7 +10,8 @@ use Rattle.ether_sll2.specs.declared.linux_sll2_header.LinuxSll2Header.{LinuxSll
 use Rattle.ether_sll2.specs.LinuxSll2.{LinuxSll2Value, IsLinuxSll2, linux_sll2_of, LinuxSll2Refusal, Short, PacketType, RefusesLinuxSll2, AcceptsLinuxSll2, protocol_on, protocol_of_header}
 
 -- the address as the number of its bytes
-abbrev pub linux_sll2_value : (protocol interface_index hardware_type packet_type address_len : ℕ) (address : List ℕ) → LinuxSll2Value
+abbrev pub linux_sll2_value : (protocol interface_index hardware_type packet_type address_len : ℕ) (address : List ℕ)
+    → LinuxSll2Value
 linux_sll2_value protocol interface_index hardware_type packet_type address_len address = record {
   protocol = protocol;
   interface_index = interface_index;
@@ -23,7 +24,8 @@ linux_sll2_value protocol interface_index hardware_type packet_type address_len 
 -- the protocol type as its number
 abbrev pub linux_sll2_view : LinuxSll2Header → LinuxSll2Value
 linux_sll2_view h =
-    linux_sll2_value (protocol_number h.protocol_type) h.interface_index h.arp_hrd_type.0 h.packet_type h.sender_address_valid_length h.sender_address
+    linux_sll2_value (protocol_number h.protocol_type) h.interface_index h.arp_hrd_type.0 h.packet_type
+    h.sender_address_valid_length h.sender_address
 
 -- ---- refusals
 

@@ -58,11 +58,13 @@ untyped kind (headers.Arp h ∷ hs) none = refl
 
 set_tag : (r : Received) (tag : Option VlanValue) (frame : List ℕ) (hs : List Header) (e : Ending) (sent : List ℕ)
     → Some true ≡ Some (is_some tag)
-    → SetsTag (start_of starts.Ethernet2) frame hs e 0 (λ t. record t { vid = r.vlan }) sent → HasTag r tag frame hs e sent
+    → SetsTag (start_of starts.Ethernet2) frame hs e 0 (λ t. record t { vid = r.vlan }) sent
+    → HasTag r tag frame hs e sent
 set_tag r (Some tag) frame hs e sent is sets = sets
 set_tag r None frame hs e sent is sets = absurd cc
 
-pub set_leaves : (r : Received) (front : Result Front Discarded) (frame : List ℕ) (hs : List Header) (e : Ending) (sent : List ℕ)
+pub set_leaves : (r : Received) (front : Result Front Discarded) (frame : List ℕ) (hs : List Header) (e : Ending)
+    (sent : List ℕ)
     → Some true ≡ has_tag front
     → SetsTag (start_of starts.Ethernet2) frame hs e 0 (λ t. record t { vid = r.vlan }) sent
     → LeavesTagged r front frame hs e sent
@@ -76,14 +78,16 @@ put_tag : (r : Received) (tag : Option VlanValue) (buffer : List ℕ) (hs : List
 put_tag r (Some tag) buffer hs e sent is pushed = absurd cc
 put_tag r None buffer hs e sent is pushed = (buffer, refl, pushed)
 
-pub put_leaves : (r : Received) (front : Result Front Discarded) (buffer : List ℕ) (hs : List Header) (e : Ending) (sent : List ℕ)
+pub put_leaves : (r : Received) (front : Result Front Discarded) (buffer : List ℕ) (hs : List Header) (e : Ending)
+    (sent : List ℕ)
     → Some false ≡ has_tag front
     → IsPushed (start_of starts.Ethernet2) buffer hs e (own_tag r) (tpid_of r.kind) sent
     → LeavesTagged r front (drop 4 buffer) hs e sent
 put_leaves r (Ok f) buffer hs e sent is pushed = put_tag r f.tag buffer hs e sent is pushed
 put_leaves r (Err reason) buffer hs e sent is pushed = absurd cc
 
-take_tag : (tag : Option VlanValue) (frame : List ℕ) (hs : List Header) (e : Ending) (popped : VlanValue) (moved : List ℕ)
+take_tag : (tag : Option VlanValue) (frame : List ℕ) (hs : List Header) (e : Ending) (popped : VlanValue)
+    (moved : List ℕ)
     → Some true ≡ Some (is_some tag) → IsPopped (start_of starts.Ethernet2) frame hs e popped moved
     → HasNoTag tag frame hs e (drop 4 moved)
 take_tag (Some tag) frame hs e popped moved is pops = (popped, moved, pops, refl)

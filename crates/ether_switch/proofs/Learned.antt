@@ -104,7 +104,8 @@ elsewhere : (n i : ℕ) (f : Sighting) (history : List Sighting) → i ≢ place
     → held n i history ≡ held n i (f ∷ history)
 elsewhere n i f history ne =
     let seen = filter (chosen n i) history in
-    ap (λ (b : Bool). take 4 (newest (if b then f ∷ seen else seen))) (sym (ne_eqb (place_of n f.station) i (λ e. ne (sym e))))
+    ap (λ (b : Bool). take 4 (newest (if b then f ∷ seen else seen)))
+    (sym (ne_eqb (place_of n f.station) i (λ e. ne (sym e))))
 
 -- where there is a bucket, one changes
 set_is : (f : Sighting) (buckets : List (List Sighting)) (n : ℕ) → length buckets ≡ n → 0 < n
@@ -113,17 +114,20 @@ set_is : (f : Sighting) (buckets : List (List Sighting)) (n : ℕ) → length bu
 set_is f buckets n len some =
     let ne : length buckets ≢ 0 = λ e. omega (arith, e, len, some) in
     let at = place_of (length buckets) f.station in
-    ap (λ (b : Bool). if b then buckets else set buckets at (with_newest f (get_or buckets at []))) (ne_eqb (length buckets) 0 ne)
+    ap (λ (b : Bool). if b then buckets else set buckets at (with_newest f (get_or buckets at [])))
+    (ne_eqb (length buckets) 0 ne)
     ∙ ap (λ (m : ℕ). set buckets (place_of m f.station) (with_newest f (get_or buckets (place_of m f.station) []))) len
 
 none_is : (f : Sighting) (buckets : List (List Sighting)) → length buckets ≡ 0 → with_sighting f buckets ≡ buckets
 none_is f buckets len =
     let at = place_of (length buckets) f.station in
-    ap (λ (b : Bool). if b then buckets else set buckets at (with_newest f (get_or buckets at []))) (eq-eqb (length buckets) 0 len)
+    ap (λ (b : Bool). if b then buckets else set buckets at (with_newest f (get_or buckets at [])))
+    (eq-eqb (length buckets) 0 len)
 
 known_more : (n : ℕ) (f : Sighting) (buckets : List (List Sighting)) (history : List Sighting)
     → place_of n f.station < n → Knows n buckets history
-    → Knows n (set buckets (place_of n f.station) (with_newest f (get_or buckets (place_of n f.station) []))) (f ∷ history)
+    → Knows n (set buckets (place_of n f.station) (with_newest f (get_or buckets (place_of n f.station) [])))
+    (f ∷ history)
 known_more n f buckets history within knows =
     let at = place_of n f.station in
     let new = with_newest f (get_or buckets at []) in
@@ -172,7 +176,8 @@ seen_in sightings buckets f at b some place is =
 pub learned_in : {B : Type 0} (sightings : B → List Sighting) (buckets : List B) (f : Sighting) (at : ℕ) (b d : B)
     → 0 < length buckets → at ≡ place_of (length buckets) f.station → at < length buckets
     → sightings b ≡ with_newest f (sightings (get_or buckets at d)) → (history : List Sighting)
-    → Knows (length buckets) (map sightings buckets) history → Knows (length buckets) (map sightings (set buckets at b)) (f ∷ history)
+    → Knows (length buckets) (map sightings buckets) history → Knows (length buckets) (map sightings (set buckets at b))
+    (f ∷ history)
 learned_in sightings buckets f at b d some place within is history knows =
     let read = get_or-map sightings buckets at d [] within in
     subst (λ (l : List (List Sighting)). Knows (length buckets) l (f ∷ history))

@@ -62,7 +62,8 @@ second g (headers.Macsec h ∷ later) t e = absurd cc
 second g (headers.Arp h ∷ later) t e = absurd cc
 
 -- a frame that begins with a tag has it as its outermost one
-outermost : (hs : List Header) (g : Ethernet2Value) (t : VlanValue) → first_ethernet2 hs ≡ Some g → outer_tag hs ≡ Some t
+outermost : (hs : List Header) (g : Ethernet2Value) (t : VlanValue) → first_ethernet2 hs ≡ Some g → outer_tag hs
+    ≡ Some t
     → (later : List Header) × (hs ≡ headers.Ethernet2 g ∷ headers.Vlan t ∷ later)
 outermost hs g t link tag =
     let a = first hs g link in
@@ -121,7 +122,8 @@ tagged_by r g tag false frame hs e sent l =
 tagged_how : (r : Received) (kind : BridgeKind) (link : Option Ethernet2Value) (tag : Option VlanValue) (frame : List ℕ)
     (hs : List Header) (e : Ending) (sent : List ℕ)
     → LeavesTagged r (front_in kind link tag) frame hs e sent
-    → WasSet r link tag (front_in kind link tag) frame hs e sent ⊎ WasPut r link (front_in kind link tag) frame hs e sent
+    → WasSet r link tag (front_in kind link tag) frame hs e sent
+    ⊎ WasPut r link (front_in kind link tag) frame hs e sent
 tagged_how r kind None tag frame hs e sent l = absurd l
 tagged_how r kind (Some g) tag frame hs e sent l =
     tagged_by r g tag (nat_eq g.ether_type (tpid_of kind)) frame hs e sent l
@@ -149,7 +151,8 @@ set_in : (r : Received) (front : Result Front Discarded) (frame sent : List ℕ)
     → IsBytes frame → Walk (start_of starts.Ethernet2) frame hs e
     → (w : WasSet r (first_ethernet2 hs) (outer_tag hs) front frame hs e sent)
     → (later : List Header)
-    × Walk (start_of starts.Ethernet2) sent (headers.Ethernet2 w.g ∷ headers.Vlan (record w.t { vid = r.vlan }) ∷ later) e
+    × Walk (start_of starts.Ethernet2) sent (headers.Ethernet2 w.g ∷ headers.Vlan (record w.t { vid = r.vlan })
+    ∷ later) e
     × SetsVid frame 14 r.vlan sent
 set_in r front frame sent hs e ok walk w =
     let begins = outermost hs w.g w.t w.link_is w.tag_is in
@@ -265,7 +268,8 @@ put_kept r front frame sent hs e walk w =
     is_inserted w.buffer sent (spelled 2 tpid) (slice_range (vlan_bytes (own_tag r)) 0 2) 12 (length-spelled 2 tpid)
     (length-part (vlan_bytes (own_tag r)) 0 2 (omega arith))
     (omega arith)
-    (p.bytes ∙ ap (λ (k : ℕ). overwritten w.buffer 0 (slice_range w.buffer 4 k ++ pushed_bytes tpid (own_tag r))) till) in
+    (p.bytes ∙ ap (λ (k : ℕ). overwritten w.buffer 0 (slice_range w.buffer 4 k ++ pushed_bytes tpid (own_tag r)))
+    till) in
     let begin : take 12 sent ≡ take 12 (drop 4 w.buffer) =
     sym (between_from_start sent 12) ∙ is.front ∙ between_from_start (drop 4 w.buffer) 12 in
     (λ i. begin i ++ is.rest i) ∙ ap (without_tag 0) w.frame_is

@@ -44,7 +44,8 @@ newest_choice : (s : ℕ) (f : Sighting) (earlier : List Sighting) (b : Bool) �
     ≡ (if b then Some f else find (is_of s) earlier)
 newest_choice s f earlier true is rest = refl
 newest_choice s f earlier false is rest =
-    find-filter (is_of s) (is_other f.station) (of_is_other s f.station (eqb-false f.station s is)) (newest earlier) ∙ rest
+    find-filter (is_of s) (is_other f.station) (of_is_other s f.station (eqb-false f.station s is)) (newest earlier)
+    ∙ rest
 
 find-newest : (s : ℕ) (history : List Sighting) → find (is_of s) (newest history) ≡ find (is_of s) history
 find-newest s [] = refl
@@ -56,7 +57,8 @@ taken_choice : (p : Sighting → Bool) (f g : Sighting) (n : ℕ) (l : List Sigh
 taken_choice p f g n l true rest e = e
 taken_choice p f g n l false rest e = rest e
 
-find-take : (p : Sighting → Bool) (n : ℕ) (l : List Sighting) (g : Sighting) → find p (take n l) ≡ Some g → find p l ≡ Some g
+find-take : (p : Sighting → Bool) (n : ℕ) (l : List Sighting) (g : Sighting) → find p (take n l) ≡ Some g → find p l
+    ≡ Some g
 find-take p zero l g e = absurd cc
 find-take p (suc n) [] g e = e
 find-take p (suc n) (f ∷ l) g e = taken_choice p f g n l (p f) (find-take p n l g) e
@@ -76,12 +78,14 @@ last n history s f e = last_choice n history s f (nat_eq n 0) e
 
 -- ---- when it is held
 
-since_near_choice : (n s : ℕ) (f : Sighting) (l rest : List Sighting) (b c : Bool) → (is_of s f ≡ true → near n s f ≡ true)
+since_near_choice : (n s : ℕ) (f : Sighting) (l rest : List Sighting) (b c : Bool)
+    → (is_of s f ≡ true → near n s f ≡ true)
     → is_of s f ≡ b → near n s f ≡ c → filter (near n s) rest ≡ since s l
     → filter (near n s) (if b then [] else f ∷ rest) ≡ since s (if c then f ∷ l else l)
 since_near_choice n s f l rest true true near_too is at e =
     sym (ap (λ (b : Bool). if b then [] else f ∷ since s l) is)
-since_near_choice n s f l rest true false near_too is at e = let both : true ≡ false = sym (near_too is) ∙ at in absurd cc
+since_near_choice n s f l rest true false near_too is at e = let both : true ≡ false =
+    sym (near_too is) ∙ at in absurd cc
 since_near_choice n s f l rest false true near_too is at e =
     ap (λ (b : Bool). if b then f ∷ filter (near n s) rest else filter (near n s) rest) at
     ∙ ap (λ (k : List Sighting). f ∷ k) e
@@ -90,10 +94,12 @@ since_near_choice n s f l rest false false near_too is at e =
     ap (λ (b : Bool). if b then f ∷ filter (near n s) rest else filter (near n s) rest) at ∙ e
 
 -- those near it since are the near ones since
-since_near : (n s : ℕ) (history : List Sighting) → filter (near n s) (since s history) ≡ since s (filter (near n s) history)
+since_near : (n s : ℕ) (history : List Sighting) → filter (near n s) (since s history)
+    ≡ since s (filter (near n s) history)
 since_near n s [] = refl
 since_near n s (f ∷ earlier) =
-    since_near_choice n s f (filter (near n s) earlier) (since s earlier) (is_of s f) (near n s f) (of_is_near n s f) refl refl
+    since_near_choice n s f (filter (near n s) earlier) (since s earlier) (is_of s f) (near n s f)
+    (of_is_near n s f) refl refl
     (since_near n s earlier)
 
 filter-append : (p : Sighting → Bool) (l k : List Sighting) → filter p (l ++ k) ≡ filter p l ++ filter p k
@@ -101,7 +107,8 @@ filter-append p [] k = refl
 filter-append p (f ∷ l) k = append_choice (p f) f (filter-append p l k)
   where
     append_choice : (b : Bool) (f : Sighting) → filter p (l ++ k) ≡ filter p l ++ filter p k
-        → (if b then f ∷ filter p (l ++ k) else filter p (l ++ k)) ≡ (if b then f ∷ filter p l else filter p l) ++ filter p k
+        → (if b then f ∷ filter p (l ++ k) else filter p (l ++ k)) ≡ (if b then f ∷ filter p l else filter p l)
+        ++ filter p k
     append_choice true f e = ap (λ (m : List Sighting). f ∷ m) e
     append_choice false f e = e
 
@@ -128,7 +135,8 @@ stands_choice s f g earlier false is rest e =
       parts =
           ap (λ (l : List Sighting). f ∷ l)
           (ap (filter p) r.parts ∙ filter-append p (newest (since s earlier)) (r.at ∷ r.later)
-          ∙ ap (λ (b : Bool). filter p (newest (since s earlier)) ++ (if b then r.at ∷ filter p r.later else filter p r.later)) passes);
+          ∙ ap (λ (b : Bool). filter p (newest (since s earlier))
+          ++ (if b then r.at ∷ filter p r.later else filter p r.later)) passes);
       is = r.is;
     }
 
@@ -200,7 +208,8 @@ toward_known_is : (from port : ℕ) (o : Option ℕ) → toward_known from o ≡
 toward_known_is from port None e = absurd cc
 toward_known_is from port (Some p) e = ap Some (toward_is from p port (nat_eq p from) e)
 
-decision_is : (from port : ℕ) (o : Option ℕ) (b : Bool) → (if b then Flood else toward_known from o) ≡ Port port → o ≡ Some port
+decision_is : (from port : ℕ) (o : Option ℕ) (b : Bool) → (if b then Flood else toward_known from o) ≡ Port port → o
+    ≡ Some port
 decision_is from port o true e = absurd cc
 decision_is from port o false e = toward_known_is from port o e
 

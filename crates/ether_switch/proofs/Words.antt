@@ -51,7 +51,8 @@ has_more words id v len within =
     let old = get_or words (id / 64) 0 in
     let k : id % 64 < 64 = omega arith in
     changed words id v _ true (λ t x. t || x) len within (λ x. refl) (λ x. refl)
-    (ap (λ (x : ℕ). nat_eq x 1) (bit_at_set_same w64 old (id % 64) k)) (λ j lt ne. bit_at_set_other w64 old (id % 64) k j ne)
+    (ap (λ (x : ℕ). nat_eq x 1) (bit_at_set_same w64 old (id % 64) k))
+    (λ j lt ne. bit_at_set_other w64 old (id % 64) k j ne)
 
 pub has_less : (words : List ℕ) (id v : ℕ) → length words ≡ 64 → id < 4096
     → has_at (set words (id / 64) (bit_and (get_or words (id / 64) 0) (2 ^ 64 - 1 - 1 * 2 ^ (id % 64) % 2 ^ 64))) v
@@ -60,4 +61,5 @@ has_less words id v len within =
     let old = get_or words (id / 64) 0 in
     let k : id % 64 < 64 = omega arith in
     changed words id v _ false (λ t x. not t && x) len within (λ x. refl) (λ x. refl)
-    (ap (λ (x : ℕ). nat_eq x 1) (bit_at_clear_same w64 old (id % 64) k)) (λ j lt ne. bit_at_clear_other w64 old (id % 64) k j lt ne)
+    (ap (λ (x : ℕ). nat_eq x 1) (bit_at_clear_same w64 old (id % 64) k))
+    (λ j lt ne. bit_at_clear_other w64 old (id % 64) k j lt ne)

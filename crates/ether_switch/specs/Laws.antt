@@ -47,7 +47,8 @@ abbrev pub FramesFollowStations : Type 0
 FramesFollowStations =
     (n ageing_time now : ℕ) (history : List Sighting) (from vid address port : ℕ)
     → decision [] from vid address (known_port n ageing_time now history (station vid address)) ≡ Port port
-    → (f : Sighting) × (find (is_of (station vid address)) history ≡ Some f) × (f.port ≡ port) × (now - f.time ≤ ageing_time)
+    → (f : Sighting) × (find (is_of (station vid address)) history ≡ Some f) × (f.port ≡ port)
+    × (now - f.time ≤ ageing_time)
 
 -- ---- VLANs
 

@@ -34,28 +34,35 @@ abbrev pub own_tag : Received → VlanValue
 own_tag r = record { pcp = r.priority; dei = bit r.drop_eligible; vid = r.vlan; ether_type = 0 }
 
 -- The frame with the tag of its VLAN: with its own tag, which gets this identifier, or with a tag that is put in.
-abbrev pub HasTag : Received → Option VlanValue → (frame : List ℕ) (hs : List Header) (e : Ending) (sent : List ℕ) → Type 0
-HasTag r (Some tag) frame hs e sent = SetsTag (start_of starts.Ethernet2) frame hs e 0 (λ t. record t { vid = r.vlan }) sent
+abbrev pub HasTag : Received → Option VlanValue → (frame : List ℕ) (hs : List Header) (e : Ending) (sent : List ℕ)
+    → Type 0
+HasTag r (Some tag) frame hs e sent =
+    SetsTag (start_of starts.Ethernet2) frame hs e 0 (λ t. record t { vid = r.vlan }) sent
 HasTag r None frame hs e sent =
-    (buffer : List ℕ) × (drop 4 buffer ≡ frame) × IsPushed (start_of starts.Ethernet2) buffer hs e (own_tag r) (tpid_of r.kind) sent
+    (buffer : List ℕ) × (drop 4 buffer ≡ frame) × IsPushed (start_of starts.Ethernet2) buffer hs e (own_tag r)
+    (tpid_of r.kind) sent
 
 -- the frame without its tag
 abbrev pub HasNoTag : Option VlanValue → (frame : List ℕ) (hs : List Header) (e : Ending) (sent : List ℕ) → Type 0
 HasNoTag (Some tag) frame hs e sent =
-    (popped : VlanValue) × (moved : List ℕ) × IsPopped (start_of starts.Ethernet2) frame hs e popped moved × (sent ≡ drop 4 moved)
+    (popped : VlanValue) × (moved : List ℕ) × IsPopped (start_of starts.Ethernet2) frame hs e popped moved
+    × (sent ≡ drop 4 moved)
 HasNoTag None frame hs e sent = sent ≡ frame
 
-abbrev pub LeavesTagged : Received → Result Front Discarded → (frame : List ℕ) (hs : List Header) (e : Ending) (sent : List ℕ) → Type 0
+abbrev pub LeavesTagged : Received → Result Front Discarded → (frame : List ℕ) (hs : List Header) (e : Ending)
+    (sent : List ℕ) → Type 0
 LeavesTagged r (Ok f) frame hs e sent = HasTag r f.tag frame hs e sent
 LeavesTagged r (Err reason) frame hs e sent = ⊥
 
-abbrev pub LeavesUntagged : Result Front Discarded → (frame : List ℕ) (hs : List Header) (e : Ending) (sent : List ℕ) → Type 0
+abbrev pub LeavesUntagged : Result Front Discarded → (frame : List ℕ) (hs : List Header) (e : Ending) (sent : List ℕ)
+    → Type 0
 LeavesUntagged (Ok f) frame hs e sent = HasNoTag f.tag frame hs e sent
 LeavesUntagged (Err reason) frame hs e sent = ⊥
 
 -- How it leaves by a port: without a tag if its VLAN is in the port's untagged set (IEEE 802.1Q, 6.9 and 8.8.2), else
 -- with a tag.
-abbrev pub Leaves : Received → PortConfig → Result Front Discarded → (frame : List ℕ) (hs : List Header) (e : Ending) (sent : List ℕ) → Type 0
+abbrev pub Leaves : Received → PortConfig → Result Front Discarded → (frame : List ℕ) (hs : List Header) (e : Ending)
+    (sent : List ℕ) → Type 0
 Leaves r port front frame hs e sent =
     MatchBool (has port.untagged r.vlan) (LeavesUntagged front frame hs e sent) (LeavesTagged r front frame hs e sent)
 

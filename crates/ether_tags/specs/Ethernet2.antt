@@ -14,7 +14,12 @@ ethernet2_view h = ethernet2_value h.destination h.source h.ether_type.0
 
 -- the header in a list of at least fourteen bytes
 abbrev pub ethernet2_header_of : List ℕ → Ethernet2Header
-ethernet2_header_of bytes = record { source = slice_range bytes 6 12; destination = slice_range bytes 0 6; ether_type = record { 0 = number (slice_range bytes 12 14) } }
+ethernet2_header_of bytes =
+    record {
+      source = slice_range bytes 6 12;
+      destination = slice_range bytes 0 6;
+      ether_type = record { 0 = number (slice_range bytes 12 14) };
+    }
 
 -- the frame's bytes as they were handed in, and whether the last four are a frame check sequence
 pub record Frame : Type 0 where

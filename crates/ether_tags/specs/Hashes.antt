@@ -1,5 +1,5 @@
--- What the derived `Hash` of a type feeds a hasher: for an enumeration first the place of the variant, then the fields in order;
--- for bytes first their number, then each.
+-- What the derived `Hash` of a type feeds a hasher: for an enumeration first the place of the variant, then the fields
+-- in order; for bytes first their number, then each.
 use Rattle.std.specs.Prelude.{◌++◌}
 use Rattle.std.specs.Hash as fed
 use Rattle.std.specs.Hash.{HashWrites}

@@ -33,7 +33,9 @@ ext_slice_len (Macsec s) = length (tag_bytes s.header)
 -- the payload after a VLAN tag, or that of a SecTag if it can be read
 abbrev pub HoldsExtPayload : LinkExtSlice → Option EtherPayloadSlice → Type 0
 HoldsExtPayload (Vlan s) None = ⊥
-HoldsExtPayload (Vlan s) (Some p) = (p.ether_type.0 ≡ (vlan_of s).ether_type) × (p.len_source ≡ sources.Slice) × (p.payload.now ≡ slice_range s 4 (length s))
+HoldsExtPayload (Vlan s) (Some p) =
+    (p.ether_type.0 ≡ (vlan_of s).ether_type) × (p.len_source ≡ sources.Slice)
+    × (p.payload.now ≡ slice_range s 4 (length s))
 HoldsExtPayload (Macsec s) answer = answer ≡ readable_payload s.payload
 
 -- views of one kind, a VLAN tag with the same bytes or a SecTag with the same bytes and payload

@@ -105,7 +105,13 @@ payload_end_after front whole = payload_end (known_payload_len front) (sec_tag_l
 -- a slice is too short for a tag and the payload whose length it names
 abbrev pub cut_payload : (required len : ℕ) → HeaderSliceError HeaderError
 cut_payload required len =
-    Len (record { required_len = required; len = len; len_source = sources.MacsecShortLength; layer = layers.MacsecPacket; layer_start_offset = 0 })
+    Len (record {
+      required_len = required;
+      len = len;
+      len_source = sources.MacsecShortLength;
+      layer = layers.MacsecPacket;
+      layer_start_offset = 0;
+    })
 
 -- what named the payload's length
 abbrev pub payload_source : Option ℕ → LenSource
@@ -118,12 +124,15 @@ payload_in front bytes = slice_range bytes (sec_tag_len front) (payload_end_afte
 
 -- a payload with its type exactly if E and C are 0
 abbrev pub HoldsTyped : MacsecPayloadSlice → Option ℕ → LenSource → List ℕ → Type 0
-HoldsTyped (kept.Unmodified p) (Some ether_type) source bytes = (p.ether_type.0 ≡ ether_type) × (p.len_source ≡ source) × (p.payload.now ≡ bytes)
+HoldsTyped (kept.Unmodified p) (Some ether_type) source bytes =
+    (p.ether_type.0 ≡ ether_type) × (p.len_source ≡ source) × (p.payload.now ≡ bytes)
 HoldsTyped (kept.Modified p) None source bytes = p.now ≡ bytes
 HoldsTyped _ _ source bytes = ⊥
 
 abbrev pub HoldsPayload : MacsecPayloadSlice → SecTagFront → List ℕ → Type 0
-HoldsPayload p front bytes = HoldsTyped p (readable_type (sec_tag_of bytes).payload_type) (payload_source (known_payload_len front)) (payload_in front bytes)
+HoldsPayload p front bytes =
+    HoldsTyped p (readable_type (sec_tag_of bytes).payload_type) (payload_source (known_payload_len front))
+    (payload_in front bytes)
 
 -- the payload with its type, if it is neither encrypted nor changed
 abbrev pub readable_payload : MacsecPayloadSlice → Option EtherPayloadSlice
@@ -132,7 +141,8 @@ readable_payload (kept.Modified p) = None
 
 -- payloads of one variant with the same fields
 abbrev pub SamePayload : MacsecPayloadSlice → MacsecPayloadSlice → Type 0
-SamePayload (kept.Unmodified p) (kept.Unmodified q) = (p.ether_type ≡ q.ether_type) × (p.len_source ≡ q.len_source) × (p.payload.now ≡ q.payload.now)
+SamePayload (kept.Unmodified p) (kept.Unmodified q) =
+    (p.ether_type ≡ q.ether_type) × (p.len_source ≡ q.len_source) × (p.payload.now ≡ q.payload.now)
 SamePayload (kept.Unmodified p) (kept.Modified q) = ⊥
 SamePayload (kept.Modified p) (kept.Unmodified q) = ⊥
 SamePayload (kept.Modified p) (kept.Modified q) = p.now ≡ q.now

@@ -27,7 +27,8 @@ impl Default for DoubleVlanHeader {
     ghost use Rattle.std.specs.Prelude.{◌≡◌};
     ghost use Rattle.ether_tags.specs.Vlan.{vlan_view};
 
-    ghost is_default = { λ h. (vlan_view h.outer ≡ record { pcp = 0; dei = 0; vid = 0; ether_type = 0x8100 }) × (vlan_view h.inner ≡ record { pcp = 0; dei = 0; vid = 0; ether_type = 0 }) };
+    ghost is_default = { λ h. (vlan_view h.outer ≡ record { pcp = 0; dei = 0; vid = 0; ether_type = 0x8100 })
+        × (vlan_view h.inner ≡ record { pcp = 0; dei = 0; vid = 0; ether_type = 0 }) };
 
     /// An outer tag with the ether type [`EtherType::VLAN_TAGGED_FRAME`], all else zero.
     fn default() -> DoubleVlanHeader {

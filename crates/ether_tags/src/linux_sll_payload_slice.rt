@@ -48,7 +48,8 @@ impl<'a> Clone for LinuxSllPayloadSlice<'a> {
 impl<'a> From<EtherPayloadSlice<'a>> for LinuxSllPayloadSlice<'a> {
     ghost use Rattle.ether_base.specs.declared.linux_sll_protocol_type.LinuxSllProtocolType.TheVariants as protocols;
 
-    ghost from_gives = { λ ether sll. (sll.protocol_type ≡ protocols.EtherType ether.ether_type) × (sll.payload.now ≡ ether.payload.now) };
+    ghost from_gives = { λ ether sll. (sll.protocol_type ≡ protocols.EtherType ether.ether_type)
+        × (sll.payload.now ≡ ether.payload.now) };
 
     fn from(payload: EtherPayloadSlice<'a>) -> LinuxSllPayloadSlice<'a> {
         LinuxSllPayloadSlice {
@@ -67,7 +68,9 @@ impl<'a> TryFrom<LinuxSllPayloadSlice<'a>> for EtherPayloadSlice<'a> {
     ghost use Rattle.ether_base.specs.declared.len_source.LenSource.TheVariants as sources;
     ghost use Rattle.ether_base.specs.Formats.LinuxSllProtocolType.{told_ether_type};
 
-    ghost try_from_gives = { λ sll r. MatchResult r (λ ether. (told_ether_type sll.protocol_type ≡ Some ether.ether_type.0) × (ether.len_source ≡ sources.Slice) × (ether.payload.now ≡ sll.payload.now)) (λ _. told_ether_type sll.protocol_type ≡ None) };
+    ghost try_from_gives = { λ sll r. MatchResult r (λ ether. (told_ether_type sll.protocol_type ≡ Some ether.ether_type.0)
+        × (ether.len_source ≡ sources.Slice) × (ether.payload.now ≡ sll.payload.now))
+        (λ _. told_ether_type sll.protocol_type ≡ None) };
 
     fn try_from(payload: LinuxSllPayloadSlice<'a>) -> Result<EtherPayloadSlice<'a>, ()> {
         match payload.protocol_type {

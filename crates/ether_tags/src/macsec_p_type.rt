@@ -1,8 +1,8 @@
 //! What a MACsec SecTag's payload is.
 use ether_base::EtherType;
 
-/// Whether the payload of a MACsec SecTag is encrypted (bit E) and changed (bit C, IEEE 802.1AE, 9.5), and its ether type
-/// if it is neither.
+/// Whether the payload of a MACsec SecTag is encrypted (bit E) and changed (bit C, IEEE 802.1AE, 9.5), and its ether
+/// type if it is neither.
 ///
 /// ```
 /// let readable = MacsecHeader::from_slice(&[0x00, 0x00, 0, 0, 0, 1, 0x08, 0x00])?;

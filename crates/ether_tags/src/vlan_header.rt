@@ -23,8 +23,8 @@ impl VlanHeader {
     ghost use Rattle.std.specs.Prelude.{◌≡◌};
     ghost use Rattle.ether_tags.specs.Vlan.{next_type};
 
-    /// The TPIDs, which are the ether types that announce a VLAN tag: 0x8100 of a customer tag, 0x88A8 of a service tag,
-    /// and 0x9100, which some devices sent before service tags had a number.
+    /// The TPIDs, which are the ether types that announce a VLAN tag: 0x8100 of a customer tag, 0x88A8 of a service
+    /// tag, and 0x9100, which some devices sent before service tags had a number.
     pub const VLAN_ETHER_TYPES: [EtherType; 3] = [
         EtherType::VLAN_TAGGED_FRAME,
         EtherType::PROVIDER_BRIDGING,

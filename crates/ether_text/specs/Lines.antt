@@ -55,33 +55,46 @@ source_text sources.ArpAddrLengths = codes "arp_addr_lengths"
 -- ---- a unit
 
 unfoldable pub ethernet2_text : ℕ → Ethernet2Value → List ℕ
-ethernet2_text start e = spaced (codes "ethernet2" ∷ decimal start ∷ hex_text (spelled 6 e.destination) ∷ hex_text (spelled 6 e.source) ∷ hex_number e.ether_type ∷ [])
+ethernet2_text start e =
+    spaced (codes "ethernet2" ∷ decimal start ∷ hex_text (spelled 6 e.destination) ∷ hex_text (spelled 6 e.source)
+    ∷ hex_number e.ether_type ∷ [])
 
 unfoldable pub ethernet2_fcs_text : ℕ → Ethernet2Value → List ℕ → List ℕ
-ethernet2_fcs_text start e fcs = spaced (codes "ethernet2" ∷ decimal start ∷ hex_text (spelled 6 e.destination) ∷ hex_text (spelled 6 e.source) ∷ hex_number e.ether_type ∷ codes "fcs" ∷ hex_text fcs ∷ [])
+ethernet2_fcs_text start e fcs =
+    spaced (codes "ethernet2" ∷ decimal start ∷ hex_text (spelled 6 e.destination) ∷ hex_text (spelled 6 e.source)
+    ∷ hex_number e.ether_type ∷ codes "fcs" ∷ hex_text fcs ∷ [])
 
 unfoldable pub linux_sll_text : ℕ → LinuxSllValue → List ℕ
 linux_sll_text start s =
-    spaced (codes "linux_sll" ∷ decimal start ∷ codes "packet" ∷ decimal s.packet_type ∷ codes "hw" ∷ decimal s.hardware_type ∷ codes "alen" ∷ decimal s.address_len ∷ codes "addr" ∷ hex_text (spelled 8 s.address) ∷ hex_number s.protocol ∷ [])
+    spaced (codes "linux_sll" ∷ decimal start ∷ codes "packet" ∷ decimal s.packet_type ∷ codes "hw"
+    ∷ decimal s.hardware_type ∷ codes "alen" ∷ decimal s.address_len ∷ codes "addr" ∷ hex_text (spelled 8 s.address)
+    ∷ hex_number s.protocol ∷ [])
 
 unfoldable pub vlan_text : ℕ → VlanValue → List ℕ
 vlan_text start v =
-    spaced (codes "vlan" ∷ decimal start ∷ codes "pcp" ∷ decimal v.pcp ∷ codes "dei" ∷ decimal v.dei ∷ codes "vid" ∷ decimal v.vid ∷ hex_number v.ether_type ∷ [])
+    spaced (codes "vlan" ∷ decimal start ∷ codes "pcp" ∷ decimal v.pcp ∷ codes "dei" ∷ decimal v.dei ∷ codes "vid"
+    ∷ decimal v.vid ∷ hex_number v.ether_type ∷ [])
 
 -- with the length and the mark of the payload's window
 unfoldable pub macsec_text : ℕ → SecTagValue → (len : ℕ) → (closed : Bool) → List ℕ
 macsec_text start t len closed =
-    spaced (codes "macsec" ∷ decimal start ∷ payload_type_text t.payload_type ∷ codes "es" ∷ decimal t.end_station ∷ codes "scb" ∷ decimal t.single_copy_broadcast ∷ codes "an" ∷ decimal t.association_number ∷ codes "sl" ∷ decimal t.short_len
-    ∷ codes "pn" ∷ decimal t.packet_number ∷ codes "sci" ∷ sci_text t.sci ∷ codes "window" ∷ decimal len ∷ mark_text closed ∷ [])
+    spaced (codes "macsec" ∷ decimal start ∷ payload_type_text t.payload_type ∷ codes "es" ∷ decimal t.end_station
+    ∷ codes "scb" ∷ decimal t.single_copy_broadcast ∷ codes "an" ∷ decimal t.association_number ∷ codes "sl"
+    ∷ decimal t.short_len
+    ∷ codes "pn" ∷ decimal t.packet_number ∷ codes "sci" ∷ sci_text t.sci ∷ codes "window" ∷ decimal len
+    ∷ mark_text closed ∷ [])
 
 unfoldable pub arp_text : ℕ → ArpValue → List ℕ
 arp_text start a =
-    spaced (codes "arp" ∷ decimal start ∷ codes "hw" ∷ decimal a.hardware_type ∷ codes "proto" ∷ hex_number a.protocol_type ∷ codes "hlen" ∷ decimal (length a.sender_hardware) ∷ codes "plen" ∷ decimal (length a.sender_protocol) ∷ codes "op" ∷ decimal a.operation ∷ [])
+    spaced (codes "arp" ∷ decimal start ∷ codes "hw" ∷ decimal a.hardware_type ∷ codes "proto"
+    ∷ hex_number a.protocol_type ∷ codes "hlen" ∷ decimal (length a.sender_hardware) ∷ codes "plen"
+    ∷ decimal (length a.sender_protocol) ∷ codes "op" ∷ decimal a.operation ∷ [])
 
 -- a unit of the list, with its window; each offset is counted from `at` bytes before the list
 unfoldable pub unit_text : (at : ℕ) → List ℕ → Window → Header → List ℕ
 unit_text at list w (headers.Ethernet2 e) = ethernet2_text (at + w.start) e
-unit_text at list w (headers.Ethernet2Fcs e) = ethernet2_fcs_text (at + w.start) e (slice_range list (w.finish - 4) w.finish)
+unit_text at list w (headers.Ethernet2Fcs e) =
+    ethernet2_fcs_text (at + w.start) e (slice_range list (w.finish - 4) w.finish)
 unit_text at list w (headers.LinuxSll s) = linux_sll_text (at + w.start) s
 unit_text at list w (headers.Vlan v) = vlan_text (at + w.start) v
 unit_text at list w (headers.Macsec t) =
@@ -110,11 +123,20 @@ unfoldable pub rest_text : (at : ℕ) → Window → Expectation → List ℕ
 rest_text at w x = spaced (codes "rest" ∷ decimal (at + w.start) ∷ decimal (at + w.finish) ∷ kind_text x.next ∷ [])
 
 unfoldable pub fault_text : (at : ℕ) → Window → Refusal → List ℕ
-fault_text at w (Length required len source layer) = spaced (codes "fault" ∷ decimal (at + w.start) ∷ mark_text w.closed ∷ codes "length" ∷ decimal required ∷ decimal len ∷ source_text source ∷ [])
-fault_text at w (UnsupportedPacketType n) = spaced (codes "fault" ∷ decimal (at + w.start) ∷ mark_text w.closed ∷ codes "content" ∷ codes "sll_packet_type" ∷ decimal n ∷ [])
-fault_text at w (UnsupportedHardwareType n) = spaced (codes "fault" ∷ decimal (at + w.start) ∷ mark_text w.closed ∷ codes "content" ∷ codes "sll_hardware_type" ∷ decimal n ∷ [])
-fault_text at w UnexpectedVersion = spaced (codes "fault" ∷ decimal (at + w.start) ∷ mark_text w.closed ∷ codes "content" ∷ codes "macsec_version" ∷ [])
-fault_text at w InvalidShortLen = spaced (codes "fault" ∷ decimal (at + w.start) ∷ mark_text w.closed ∷ codes "content" ∷ codes "macsec_short_len" ∷ [])
+fault_text at w (Length required len source layer) =
+    spaced (codes "fault" ∷ decimal (at + w.start) ∷ mark_text w.closed ∷ codes "length" ∷ decimal required
+    ∷ decimal len ∷ source_text source ∷ [])
+fault_text at w (UnsupportedPacketType n) =
+    spaced (codes "fault" ∷ decimal (at + w.start) ∷ mark_text w.closed ∷ codes "content" ∷ codes "sll_packet_type"
+    ∷ decimal n ∷ [])
+fault_text at w (UnsupportedHardwareType n) =
+    spaced (codes "fault" ∷ decimal (at + w.start) ∷ mark_text w.closed ∷ codes "content" ∷ codes "sll_hardware_type"
+    ∷ decimal n ∷ [])
+fault_text at w UnexpectedVersion =
+    spaced (codes "fault" ∷ decimal (at + w.start) ∷ mark_text w.closed ∷ codes "content" ∷ codes "macsec_version" ∷ [])
+fault_text at w InvalidShortLen =
+    spaced (codes "fault" ∷ decimal (at + w.start) ∷ mark_text w.closed ∷ codes "content" ∷ codes "macsec_short_len"
+    ∷ [])
 
 unfoldable pub ending_text : (at : ℕ) → Ending → List ℕ
 ending_text at (Accepted w x) = rest_text at w x
@@ -124,7 +146,8 @@ ending_text at (Fault w x r) = fault_text at w r
 
 -- how often more bytes were asked for, and how many were taken
 unfoldable pub feed_text : (refusals taken : ℕ) → List ℕ
-feed_text refusals taken = spaced (codes "feed" ∷ codes "refusals" ∷ decimal refusals ∷ codes "taken" ∷ decimal taken ∷ [])
+feed_text refusals taken =
+    spaced (codes "feed" ∷ codes "refusals" ∷ decimal refusals ∷ codes "taken" ∷ decimal taken ∷ [])
 
 -- the line of a fault, if there is one
 unfoldable pub fault_line : Ending → List ℕ

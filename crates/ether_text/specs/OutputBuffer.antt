@@ -15,9 +15,10 @@ contents_of contents g = append_known (contents g.writer.now) g.waiting.items
 pub record Marks {W : Type 0} (can_fail : Type 0) (old new : OutputBuffer W) : Type 0 where
   pub cause : new.has_failed ≡ true → (old.has_failed ≡ true) ⊎ can_fail
 
--- The writer is the same. Unless it has failed by now, it had not failed before, and its contents and the text that waits have
--- together grown by the bytes. Once it has failed it is not called again.
-pub record Grows {W : Type 0} (contents : W → Option (List ℕ)) (can_fail : Type 0) (old : OutputBuffer W) (bytes : List ℕ) (new : OutputBuffer W) : Type 0 where
+-- The writer is the same. Unless it has failed by now, it had not failed before, and its contents and the text that
+-- waits have together grown by the bytes. Once it has failed it is not called again.
+pub record Grows {W : Type 0} (contents : W → Option (List ℕ)) (can_fail : Type 0) (old : OutputBuffer W)
+    (bytes : List ℕ) (new : OutputBuffer W) : Type 0 where
   pub same_writer : new.writer.ghost_name ≡ old.writer.ghost_name
   pub going : new.has_failed ≡ false → old.has_failed ≡ false
   pub grown : new.has_failed ≡ false → Appends (contents_of contents old) (contents_of contents new) bytes
@@ -31,7 +32,8 @@ pub record Waits {W : Type 0} (old : OutputBuffer W) (bytes : List ℕ) (new : O
   pub same_mark : new.has_failed ≡ old.has_failed
 
 -- .. and if there is room for the bytes, they wait, and the writer is not called
-pub record Takes {W : Type 0} (contents : W → Option (List ℕ)) (can_fail : Type 0) (old : OutputBuffer W) (bytes : List ℕ) (new : OutputBuffer W) : Type 0 where
+pub record Takes {W : Type 0} (contents : W → Option (List ℕ)) (can_fail : Type 0) (old : OutputBuffer W)
+    (bytes : List ℕ) (new : OutputBuffer W) : Type 0 where
   pub grows : Grows contents can_fail old bytes new
   pub fitting : length old.waiting.items + length bytes ≤ room → Waits old bytes new
 
@@ -43,7 +45,8 @@ pub record WritesOut {W : Type 0} (contents : W → Option (List ℕ)) (old new 
   pub none_waits : new.waiting.items ≡ []
 
 -- the buffer takes the text for a frame
-pub record TakesAnswer {W : Type 0} (contents : W → Option (List ℕ)) (can_fail : Type 0) (IsAnswer : (text : List ℕ) → (accepted : Bool) → Type 0) (old new : OutputBuffer W) (accepted : Bool) : Type 0 where
+pub record TakesAnswer {W : Type 0} (contents : W → Option (List ℕ)) (can_fail : Type 0) (IsAnswer : (text : List ℕ)
+    → (accepted : Bool) → Type 0) (old new : OutputBuffer W) (accepted : Bool) : Type 0 where
   pub text : List ℕ
   pub answers : IsAnswer text accepted
   pub taken : Takes contents can_fail old text new

@@ -4,9 +4,10 @@ use Rattle.std.specs.Io.KnownBytes.{Appends, Consumes, IsAtEnd}
 use Rattle.ether_text.specs.Verdict.{verdict_of}
 use Rattle.ether_text.specs.declared.verdict.Verdict.{Verdict}
 
--- Between `before` and `after` the reader gave all its bytes, and the writer took the text for them. `all` says whether each unit
--- is accepted.
-pub record AnswersAll (Answers : (input text : List ℕ) → (all : Bool) → Type 0) (before after held holds : Option (List ℕ)) (verdict : Verdict)
+-- Between `before` and `after` the reader gave all its bytes, and the writer took the text for them. `all` says whether
+-- each unit is accepted.
+pub record AnswersAll (Answers : (input text : List ℕ) → (all : Bool) → Type 0)
+    (before after held holds : Option (List ℕ)) (verdict : Verdict)
     : Type 0 where
   pub input : List ℕ
   pub text : List ℕ
@@ -21,8 +22,8 @@ pub record AnswersAll (Answers : (input text : List ℕ) → (all : Bool) → Ty
 abbrev pub IsLeft : Option (List ℕ) → List ℕ → Type 0
 IsLeft after bytes = IfSome after (λ known. bytes ≡ known)
 
--- Between `before` and `after` the reader gave some of its bytes. The run stops in these and those that are left, and the writer
--- took the text for what precedes the stop.
+-- Between `before` and `after` the reader gave some of its bytes. The run stops in these and those that are left, and
+-- the writer took the text for what precedes the stop.
 pub record StopsIn (Stops : (input text : List ℕ) → Type 0) (before after held holds : Option (List ℕ)) : Type 0 where
   pub taken : List ℕ
   pub left : List ℕ
@@ -32,13 +33,15 @@ pub record StopsIn (Stops : (input text : List ℕ) → Type 0) (before after he
   pub stops : Stops (taken ++ left) text
   pub written : Appends held holds text
 
--- Between `before` and `after` the reader gave some of its bytes, and the writer took the text for the units that end in them.
-pub record BreaksOffAfter (Begins : (taken text : List ℕ) → Type 0) (before after held holds : Option (List ℕ)) : Type 0 where
-  pub taken : List ℕ
-  pub text : List ℕ
-  pub read : Consumes before after taken
-  pub begins : Begins taken text
-  pub written : Appends held holds text
+-- Between `before` and `after` the reader gave some of its bytes, and the writer took the text for the units that end
+-- in them.
+pub record BreaksOffAfter (Begins : (taken text : List ℕ) → Type 0) (before after held holds : Option (List ℕ)) : Type 0
+  where
+    pub taken : List ℕ
+    pub text : List ℕ
+    pub read : Consumes before after taken
+    pub begins : Begins taken text
+    pub written : Appends held holds text
 
 -- between `before` and `after` the reader gave at least as many bytes as a run may have reads
 pub record IsEndless (before after : Option (List ℕ)) : Type 0 where

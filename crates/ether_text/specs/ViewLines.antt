@@ -34,7 +34,8 @@ ethernet2_view_text start e (Some fcs) = ethernet2_fcs_text start e fcs
 abbrev pub fields_text : Ethernet2Value → List ℕ
 fields_text e =
     codes " "
-    ++ (hex_text (spelled 6 e.destination) ++ (codes " " ++ (hex_text (spelled 6 e.source) ++ (codes " " ++ hex_number e.ether_type))))
+    ++ (hex_text (spelled 6 e.destination)
+    ++ (codes " " ++ (hex_text (spelled 6 e.source) ++ (codes " " ++ hex_number e.ether_type))))
 
 -- what the frame check sequence adds to the line
 abbrev pub fcs_text : Option (List ℕ) → List ℕ
@@ -66,8 +67,10 @@ abbrev pub len_view_text : LenError → List ℕ
 len_view_text e = spaced (codes "length" ∷ decimal e.required_len ∷ decimal e.len ∷ source_text e.len_source ∷ [])
 
 abbrev pub linux_sll_view_text : LinuxSllHeaderError → List ℕ
-linux_sll_view_text (linux_sll.UnsupportedPacketTypeField n) = spaced (codes "content" ∷ codes "sll_packet_type" ∷ decimal n ∷ [])
-linux_sll_view_text (linux_sll.UnsupportedArpHardwareId hardware) = spaced (codes "content" ∷ codes "sll_hardware_type" ∷ decimal hardware.0 ∷ [])
+linux_sll_view_text (linux_sll.UnsupportedPacketTypeField n) =
+    spaced (codes "content" ∷ codes "sll_packet_type" ∷ decimal n ∷ [])
+linux_sll_view_text (linux_sll.UnsupportedArpHardwareId hardware) =
+    spaced (codes "content" ∷ codes "sll_hardware_type" ∷ decimal hardware.0 ∷ [])
 
 abbrev pub macsec_view_text : MacsecHeaderError → List ℕ
 macsec_view_text macsec.UnexpectedVersion = spaced (codes "content" ∷ codes "macsec_version" ∷ [])

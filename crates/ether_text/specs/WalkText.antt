@@ -6,8 +6,8 @@ use Rattle.ether_peel.specs.Grammar.Stack.{Ending, whole, Walk}
 use Rattle.ether_peel.specs.Grammar.Demands.{AreDemands, greatest}
 use Rattle.ether_text.specs.Lines.{frame_text, feed_text, fault_line, is_accepted}
 
--- The text is the lines of the frame's walk, with offsets counted from `at` bytes before the frame, and the frame is accepted
--- exactly if the walk ends without a fault.
+-- The text is the lines of the frame's walk, with offsets counted from `at` bytes before the frame, and the frame is
+-- accepted exactly if the walk ends without a fault.
 pub record AnswersWalkAfter (at : ℕ) (start : Expectation) (frame text : List ℕ) (accepted : Bool) : Type 0 where
   pub headers : List Header
   pub ending : Ending
@@ -19,9 +19,9 @@ pub record AnswersWalkAfter (at : ℕ) (start : Expectation) (frame text : List 
 abbrev pub AnswersWalk : (start : Expectation) → (frame text : List ℕ) → (accepted : Bool) → Type 0
 AnswersWalk start frame text accepted = AnswersWalkAfter 0 start frame text accepted
 
--- The demands are all the lengths that walks of the frame's fronts ask for, in order, and the front with the greatest of them is
--- taken. The text is a line with the number of demands and this length, and a line for the fault of the walk of that front, if it
--- has one. The frame is accepted exactly if it has none.
+-- The demands are all the lengths that walks of the frame's fronts ask for, in order, and the front with the greatest
+-- of them is taken. The text is a line with the number of demands and this length, and a line for the fault of the walk
+-- of that front, if it has one. The frame is accepted exactly if it has none.
 pub record AnswersFeed (start : Expectation) (frame text : List ℕ) (accepted : Bool) : Type 0 where
   pub demands : List ℕ
   pub are : AreDemands start frame 0 demands

@@ -28,13 +28,23 @@ pub(crate) fn frame_lines(
     ensures lines { IfOk result (λ text. (hs : List Header) (e : Ending)
         → Walk (start_of starts.Ethernet2) frame.now hs e
         → (earlier : List Event) → Knows BUCKETS table.old (sightings bridge.now.kind earlier)
-        → let event : Event = record { now = arrival.now.time; from = arrival.now.from; port = arrival.now.port; hs = hs } in
+        → let event : Event = record {
+          now = arrival.now.time;
+          from = arrival.now.from;
+          port = arrival.now.port;
+          hs = hs;
+        } in
         Answers (answer bridge.now.kind bridge.now.static_entries.now BUCKETS bridge.now.ageing_time event earlier)
         frame.now hs e ports.now (string_bytes text)) }
     ensures learned { (hs : List Header) (e : Ending)
         → Walk (start_of starts.Ethernet2) frame.now hs e
         → (earlier : List Event) → Knows BUCKETS table.old (sightings bridge.now.kind earlier)
-        → let event : Event = record { now = arrival.now.time; from = arrival.now.from; port = arrival.now.port; hs = hs } in
+        → let event : Event = record {
+          now = arrival.now.time;
+          from = arrival.now.from;
+          port = arrival.now.port;
+          hs = hs;
+        } in
         Knows BUCKETS table.new (sightings bridge.now.kind (event ∷ earlier)) }
 {
     match bridge.receive(table, arrival.time, arrival.from, &arrival.port, frame) {

@@ -1,4 +1,5 @@
--- What the derived `Hash` of a type feeds a hasher: for an enumeration first the place of the variant, then the fields in order.
+-- What the derived `Hash` of a type feeds a hasher: for an enumeration first the place of the variant, then the fields
+-- in order.
 use Rattle.std.specs.Prelude.{ℕ, pos, ◌++◌, fold}
 use Rattle.std.specs.Hash as fed
 use Rattle.std.specs.Hash.{HashWrites}
@@ -50,10 +51,12 @@ abbrev pub protocol_type_fed : LinuxSllProtocolType → HashWrites
 protocol_type_fed protocol_type = variant (protocol_place protocol_type) ++ fed.u16 (protocol_number protocol_type)
 
 abbrev pub len_error_fed : LenError → HashWrites
-len_error_fed e = fed.usize e.required_len ++ fed.usize e.len ++ len_source_fed e.len_source ++ layer_fed e.layer ++ fed.usize e.layer_start_offset
+len_error_fed e = fed.usize e.required_len ++ fed.usize e.len ++ len_source_fed e.len_source ++ layer_fed e.layer
+    ++ fed.usize e.layer_start_offset
 
 abbrev pub slice_write_space_error_fed : SliceWriteSpaceError → HashWrites
-slice_write_space_error_fed e = fed.usize e.required_len ++ fed.usize e.len ++ layer_fed e.layer ++ fed.usize e.layer_start_offset
+slice_write_space_error_fed e =
+    fed.usize e.required_len ++ fed.usize e.len ++ layer_fed e.layer ++ fed.usize e.layer_start_offset
 
 abbrev pub value_too_big_error_fed : (ℕ → HashWrites) → ValueTooBigError ℕ → HashWrites
 value_too_big_error_fed number_fed e = number_fed e.actual ++ number_fed e.max_allowed ++ value_type_fed e.value_type

@@ -9,7 +9,8 @@ pub record LayerTexts : Type 0 where
   pub name : List ℕ
 
 abbrev pub layer_texts : Layer → LayerTexts
-layer_texts LinuxSllHeader = record { title = codes "Linux Cooked Capture v1 Error"; name = codes "Linux Cooked Capture v1 header" }
+layer_texts LinuxSllHeader =
+    record { title = codes "Linux Cooked Capture v1 Error"; name = codes "Linux Cooked Capture v1 header" }
 layer_texts Ethernet2Header = record { title = codes "Ethernet 2 Header Error"; name = codes "Ethernet 2 header" }
 layer_texts EtherPayload = record { title = codes "Payload with Ether Type Error"; name = codes "Ether type payload" }
 layer_texts VlanHeader = record { title = codes "VLAN Header Error"; name = codes "VLAN header" }
@@ -18,12 +19,15 @@ layer_texts MacsecPacket = record { title = codes "MACsec Packet Error"; name = 
 layer_texts IpHeader = record { title = codes "IP Header Error"; name = codes "IP header" }
 layer_texts Ipv4Header = record { title = codes "IPv4 Header Error"; name = codes "IPv4 header" }
 layer_texts Ipv4Packet = record { title = codes "IPv4 Packet Error"; name = codes "IPv4 packet" }
-layer_texts IpAuthHeader = record { title = codes "IP Authentication Header Error"; name = codes "IP Authentication header" }
+layer_texts IpAuthHeader =
+    record { title = codes "IP Authentication Header Error"; name = codes "IP Authentication header" }
 layer_texts Ipv6Header = record { title = codes "IPv6 Header Error"; name = codes "IPv6 header" }
 layer_texts Ipv6Packet = record { title = codes "IPv6 Packet Error"; name = codes "IPv6 packet" }
 layer_texts Ipv6ExtHeader = record { title = codes "IPv6 Extension Header Error"; name = codes "IPv6 extension header" }
-layer_texts Ipv6HopByHopHeader = record { title = codes "IPv6 Hop-by-Hop Option Header Error"; name = codes "IPv6 hop-by-hop option header" }
-layer_texts Ipv6DestOptionsHeader = record { title = codes "IPv6 Destination Options Header Error"; name = codes "IPv6 destination options header" }
+layer_texts Ipv6HopByHopHeader =
+    record { title = codes "IPv6 Hop-by-Hop Option Header Error"; name = codes "IPv6 hop-by-hop option header" }
+layer_texts Ipv6DestOptionsHeader =
+    record { title = codes "IPv6 Destination Options Header Error"; name = codes "IPv6 destination options header" }
 layer_texts Ipv6RouteHeader = record { title = codes "IPv6 Routing Header Error"; name = codes "IPv6 routing header" }
 layer_texts Ipv6FragHeader = record { title = codes "IPv6 Fragment Header Error"; name = codes "IPv6 fragment header" }
 layer_texts UdpHeader = record { title = codes "UDP Header Error"; name = codes "UDP header" }
@@ -31,9 +35,14 @@ layer_texts UdpPayload = record { title = codes "UDP Payload Error"; name = code
 layer_texts TcpHeader = record { title = codes "TCP Header Error"; name = codes "TCP header" }
 layer_texts Icmpv4 = record { title = codes "ICMP Packet Error"; name = codes "ICMP packet" }
 layer_texts Icmpv4Timestamp = record { title = codes "ICMP Timestamp Error"; name = codes "ICMP timestamp message" }
-layer_texts Icmpv4TimestampReply = record { title = codes "ICMP Timestamp Reply Error"; name = codes "ICMP timestamp reply message" }
+layer_texts Icmpv4TimestampReply =
+    record { title = codes "ICMP Timestamp Reply Error"; name = codes "ICMP timestamp reply message" }
 layer_texts Icmpv6 = record { title = codes "ICMPv6 Packet Error"; name = codes "ICMPv6 packet" }
-layer_texts Arp = record { title = codes "Address Resolution Protocol Packet Error"; name = codes "Address Resolution Protocol packet" }
+layer_texts Arp =
+    record {
+      title = codes "Address Resolution Protocol Packet Error";
+      name = codes "Address Resolution Protocol packet";
+    }
 
 abbrev pub layer_title : Layer → List ℕ
 layer_title layer = (layer_texts layer).title

@@ -33,4 +33,5 @@ pub record OrdersAreByVariants : Type 0 where
   pub layers : (a b : Layer) → layer_cmp a b ≡ on layer_place nat_cmp a b
   pub value_types : (a b : ValueType) → value_type_cmp a b ≡ on value_type_place nat_cmp a b
   pub len_sources : (a b : LenSource) → len_source_cmp a b ≡ on len_source_place nat_cmp a b
-  pub protocol_types : (a b : LinuxSllProtocolType) → protocol_type_cmp a b ≡ then_cmp (on protocol_place nat_cmp) (on protocol_number nat_cmp) a b
+  pub protocol_types : (a b : LinuxSllProtocolType) → protocol_type_cmp a b
+      ≡ then_cmp (on protocol_place nat_cmp) (on protocol_number nat_cmp) a b

@@ -23,7 +23,8 @@ pub record ArpFront : Type 0 where
 
 -- hardware type 2 bytes, protocol type 2 bytes, the two sizes 1 byte each, operation 2 bytes
 abbrev pub arp_front_number : ArpFront → ℕ
-arp_front_number a = a.hardware_type * 2 ^ 48 + a.protocol_type * 2 ^ 32 + a.hardware_size * 2 ^ 24 + a.protocol_size * 2 ^ 16 + a.operation
+arp_front_number a = a.hardware_type * 2 ^ 48 + a.protocol_type * 2 ^ 32 + a.hardware_size * 2 ^ 24 + a.protocol_size
+    * 2 ^ 16 + a.operation
 
 pub record FitsArpFront (a : ArpFront) : Type 0 where
   pub hardware_type : a.hardware_type < 2 ^ 16
@@ -61,8 +62,10 @@ pub record IsArp (bytes : List ℕ) (a : ArpValue) : Type 0 where
   pub front : BeginsArp bytes (arp_front_of a)
   pub sender_hardware : bytes_at bytes 8 (length a.sender_hardware) ≡ a.sender_hardware
   pub sender_protocol : bytes_at bytes (8 + length a.sender_hardware) (length a.sender_protocol) ≡ a.sender_protocol
-  pub target_hardware : bytes_at bytes (8 + length a.sender_hardware + length a.sender_protocol) (length a.sender_hardware) ≡ a.target_hardware
-  pub target_protocol : bytes_at bytes (8 + 2 * length a.sender_hardware + length a.sender_protocol) (length a.sender_protocol) ≡ a.target_protocol
+  pub target_hardware : bytes_at bytes (8 + length a.sender_hardware + length a.sender_protocol)
+      (length a.sender_hardware) ≡ a.target_hardware
+  pub target_protocol : bytes_at bytes (8 + 2 * length a.sender_hardware + length a.sender_protocol)
+      (length a.sender_protocol) ≡ a.target_protocol
 
 -- the addresses are bytes, and the two of a kind have the same length, which fits in a byte
 pub record FitsArp (a : ArpValue) : Type 0 where
@@ -76,7 +79,8 @@ pub record FitsArp (a : ArpValue) : Type 0 where
 
 -- the bytes of a value
 abbrev pub arp_bytes : ArpValue → List ℕ
-arp_bytes a = spelled 8 (arp_front_number (arp_front_of a)) ++ a.sender_hardware ++ a.sender_protocol ++ a.target_hardware ++ a.target_protocol
+arp_bytes a = spelled 8 (arp_front_number (arp_front_of a)) ++ a.sender_hardware ++ a.sender_protocol
+    ++ a.target_hardware ++ a.target_protocol
 
 -- ---- reading
 

@@ -11,7 +11,8 @@ pub record LinuxSllValue : Type 0 where
 
 -- packet type 2 bytes, ARPHRD_ type 2 bytes, address length 2 bytes, address 8 bytes, protocol type 2 bytes
 abbrev pub linux_sll_number : LinuxSllValue → ℕ
-linux_sll_number s = s.packet_type * 2 ^ 112 + s.hardware_type * 2 ^ 96 + s.address_len * 2 ^ 80 + s.address * 2 ^ 16 + s.protocol
+linux_sll_number s = s.packet_type * 2 ^ 112 + s.hardware_type * 2 ^ 96 + s.address_len * 2 ^ 80 + s.address * 2 ^ 16
+    + s.protocol
 
 pub record FitsLinuxSll (s : LinuxSllValue) : Type 0 where
   pub packet_type : s.packet_type < 2 ^ 16
@@ -45,4 +46,5 @@ linux_sll_of bytes = record {
 
 -- the hardware types that are supported: 824 netlink, 778 GRE over IP, 803 radiotap, 770 frame relay, 1 Ethernet
 abbrev pub is_supported : ℕ → Bool
-is_supported hardware = nat_eq hardware 824 || nat_eq hardware 778 || nat_eq hardware 803 || nat_eq hardware 770 || nat_eq hardware 1
+is_supported hardware = nat_eq hardware 824 || nat_eq hardware 778 || nat_eq hardware 803 || nat_eq hardware 770
+    || nat_eq hardware 1

@@ -13,8 +13,8 @@ abbrev pub ethernet_protocol_type : ℕ → LinuxSllProtocolType
 ethernet_protocol_type number =
     if is_nonstandard number then LinuxNonstandardEtherType number else EtherType (record { 0 = number })
 
--- What it means on a supported link other than Ethernet (LINKTYPE_LINUX_SLL): 824 netlink and 778 GRE over IP give it a meaning,
--- 803 radiotap and 770 frame relay do not.
+-- What it means on a supported link other than Ethernet (LINKTYPE_LINUX_SLL): 824 netlink and 778 GRE over IP give it a
+-- meaning, 803 radiotap and 770 frame relay do not.
 abbrev pub link_protocol_of : ℕ → ℕ → LinuxSllProtocolType
 link_protocol_of hardware number =
     if hardware == 824 then NetlinkProtocolType number

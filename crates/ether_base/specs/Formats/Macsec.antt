@@ -1,4 +1,5 @@
--- The MACsec SecTag (IEEE 802.1AE, 9.3) without its own ether type, with the ether type that follows it if that can be read.
+-- The MACsec SecTag (IEEE 802.1AE, 9.3) without its own ether type, with the ether type that follows it if that can be
+-- read.
 use Rattle.std.specs.Prelude.{◌≡◌, ℕ, zero, suc, ◌+◌, ◌*◌, ◌/◌, ◌%◌, ◌^◌, ◌<◌, ◌-◌, ◌||◌, nat_eq, nat_lt, if◌then◌else◌, List, [], ◌++◌, slice_range, Option, Some, None}
 use Rattle.ether_base.specs.Bytes.{number, spelled}
 
@@ -17,7 +18,9 @@ pub record SecTagFront : Type 0 where
 
 -- V, ES, SC, SCB, E, C, two bits AN; two reserved bits, six bits SL
 abbrev pub sec_tag_front_number : SecTagFront → ℕ
-sec_tag_front_number t = t.version * 2 ^ 15 + t.end_station * 2 ^ 14 + t.sci_present * 2 ^ 13 + t.single_copy_broadcast * 2 ^ 12 + t.encrypted * 2 ^ 11 + t.changed * 2 ^ 10 + t.association_number * 2 ^ 8 + t.reserved * 2 ^ 6 + t.short_len
+sec_tag_front_number t = t.version * 2 ^ 15 + t.end_station * 2 ^ 14 + t.sci_present * 2 ^ 13 + t.single_copy_broadcast
+    * 2 ^ 12 + t.encrypted * 2 ^ 11 + t.changed * 2 ^ 10 + t.association_number * 2 ^ 8 + t.reserved * 2 ^ 6
+    + t.short_len
 
 pub record FitsSecTagFront (t : SecTagFront) : Type 0 where
   pub version : t.version < 2
@@ -46,8 +49,8 @@ ether_type_len _ _ = 0
 abbrev pub sec_tag_len : SecTagFront → ℕ
 sec_tag_len t = 6 + 8 * t.sci_present + ether_type_len t.encrypted t.changed
 
--- The length of the payload that a short length names. The short length also counts the ether type after the tag, if that can be
--- read. It names no length if it is 0 or smaller than that ether type.
+-- The length of the payload that a short length names. The short length also counts the ether type after the tag, if
+-- that can be read. It names no length if it is 0 or smaller than that ether type.
 abbrev pub known_len : (ether_type short : ℕ) → Option ℕ
 known_len ether_type short = if nat_eq short 0 || nat_lt short ether_type then None else Some (short - ether_type)
 
@@ -198,4 +201,5 @@ ether_type_bytes _ = []
 
 -- the bytes of a value, with version and reserved bits 0
 abbrev pub sec_tag_bytes : SecTagValue → List ℕ
-sec_tag_bytes t = spelled 2 (sec_tag_front_number (sec_tag_front_of 0 0 t)) ++ spelled 4 t.packet_number ++ sci_bytes t.sci ++ ether_type_bytes t.payload_type
+sec_tag_bytes t = spelled 2 (sec_tag_front_number (sec_tag_front_of 0 0 t)) ++ spelled 4 t.packet_number
+    ++ sci_bytes t.sci ++ ether_type_bytes t.payload_type

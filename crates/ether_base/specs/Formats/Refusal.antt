@@ -18,7 +18,8 @@ pub data Refusal : Type 0 where
   UnexpectedVersion : Refusal
   InvalidShortLen : Refusal
 
--- E and C are 0, and the short length is too small for the two bytes of the ether type that it counts (IEEE 802.1AE, 9.7)
+-- E and C are 0, and the short length is too small for the two bytes of the ether type that it counts (IEEE 802.1AE,
+-- 9.7)
 pub record IsTooShort (t : SecTagFront) : Type 0 where
   pub encrypted : t.encrypted ≡ 0
   pub changed : t.changed ≡ 0
@@ -26,12 +27,16 @@ pub record IsTooShort (t : SecTagFront) : Type 0 where
 
 -- the rows of the table; `bound` is what gave the number of the bytes
 pub data Refuses (bound : LenSource) (bytes : List ℕ) : Kind → Refusal → Type 0 where
-  ethernet2 : length bytes < 14 → Refuses bound bytes kinds.Ethernet2 (Length 14 (length bytes) bound layers.Ethernet2Header)
-  ethernet2_fcs : length bytes < 18 → Refuses bound bytes kinds.Ethernet2Fcs (Length 18 (length bytes) bound layers.Ethernet2Header)
-  linux_sll : length bytes < 16 → Refuses bound bytes kinds.LinuxSll (Length 16 (length bytes) bound layers.LinuxSllHeader)
+  ethernet2 : length bytes < 14
+      → Refuses bound bytes kinds.Ethernet2 (Length 14 (length bytes) bound layers.Ethernet2Header)
+  ethernet2_fcs : length bytes < 18
+      → Refuses bound bytes kinds.Ethernet2Fcs (Length 18 (length bytes) bound layers.Ethernet2Header)
+  linux_sll : length bytes < 16
+      → Refuses bound bytes kinds.LinuxSll (Length 16 (length bytes) bound layers.LinuxSllHeader)
   linux_sll_packet_type : (s : LinuxSllValue) → 16 ≤ length bytes → BeginsLinuxSll bytes s → 7 < s.packet_type
       → Refuses bound bytes kinds.LinuxSll (UnsupportedPacketType s.packet_type)
-  linux_sll_hardware_type : (s : LinuxSllValue) → 16 ≤ length bytes → BeginsLinuxSll bytes s → s.packet_type ≤ 7 → is_supported s.hardware_type ≡ false
+  linux_sll_hardware_type : (s : LinuxSllValue) → 16 ≤ length bytes → BeginsLinuxSll bytes s → s.packet_type ≤ 7
+      → is_supported s.hardware_type ≡ false
       → Refuses bound bytes kinds.LinuxSll (UnsupportedHardwareType s.hardware_type)
   vlan : length bytes < 4 → Refuses bound bytes kinds.Vlan (Length 4 (length bytes) bound layers.VlanHeader)
   macsec : length bytes < 6 → Refuses bound bytes kinds.Macsec (Length 6 (length bytes) bound layers.MacsecHeader)
@@ -39,10 +44,13 @@ pub data Refuses (bound : LenSource) (bytes : List ℕ) : Kind → Refusal → T
       → Refuses bound bytes kinds.Macsec UnexpectedVersion
   macsec_short_len : (t : SecTagFront) → 6 ≤ length bytes → BeginsSecTag bytes t → t.version ≡ 0 → IsTooShort t
       → Refuses bound bytes kinds.Macsec InvalidShortLen
-  macsec_header : (t : SecTagFront) → 6 ≤ length bytes → BeginsSecTag bytes t → t.version ≡ 0 → (IsTooShort t → ⊥) → length bytes < sec_tag_len t
+  macsec_header : (t : SecTagFront) → 6 ≤ length bytes → BeginsSecTag bytes t → t.version ≡ 0 → (IsTooShort t → ⊥)
+      → length bytes < sec_tag_len t
       → Refuses bound bytes kinds.Macsec (Length (sec_tag_len t) (length bytes) bound layers.MacsecHeader)
-  macsec_packet : (t : SecTagFront) (p : ℕ) → BeginsSecTag bytes t → t.version ≡ 0 → known_payload_len t ≡ Some p → sec_tag_len t ≤ length bytes → length bytes < sec_tag_len t + p
-      → Refuses bound bytes kinds.Macsec (Length (sec_tag_len t + p) (length bytes) sources.MacsecShortLength layers.MacsecPacket)
+  macsec_packet : (t : SecTagFront) (p : ℕ) → BeginsSecTag bytes t → t.version ≡ 0 → known_payload_len t ≡ Some p
+      → sec_tag_len t ≤ length bytes → length bytes < sec_tag_len t + p
+      → Refuses bound bytes kinds.Macsec
+      (Length (sec_tag_len t + p) (length bytes) sources.MacsecShortLength layers.MacsecPacket)
   arp : length bytes < 8 → Refuses bound bytes kinds.Arp (Length 8 (length bytes) bound layers.Arp)
   arp_addresses : (a : ArpFront) → 8 ≤ length bytes → BeginsArp bytes a → length bytes < arp_len a
       → Refuses bound bytes kinds.Arp (Length (arp_len a) (length bytes) sources.ArpAddrLengths layers.Arp)

@@ -3,8 +3,8 @@ use Rattle.std.specs.Prelude.{◌≡◌, ℕ, ◌+◌, ◌*◌, ◌/◌, ◌%◌
 use Rattle.std.specs.List.{list_any}
 use Rattle.ether_base.specs.Bytes.{number, spelled}
 
--- the ether types that announce a VLAN tag: of a customer tag and of a service tag (IEEE 802.1Q, table 9-1), and the older
--- number for double tagging
+-- the ether types that announce a VLAN tag: of a customer tag and of a service tag (IEEE 802.1Q, table 9-1), and the
+-- older number for double tagging
 abbrev pub vlan_ether_types : List ℕ
 vlan_ether_types = 0x8100 ∷ 0x88A8 ∷ 0x9100 ∷ []
 

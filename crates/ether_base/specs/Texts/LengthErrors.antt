@@ -13,7 +13,8 @@ use Rattle.ether_base.specs.Enumerations.ValueType.{value_type_name}
 abbrev pub layer_start_text : Layer → ℕ → List ℕ
 layer_start_text layer offset =
     if nat_lt 0 offset
-    then codes " ('" ++ (layer_name layer ++ (codes "' starts at overall parsed byte " ++ (decimal offset ++ codes ").")))
+    then codes " ('"
+    ++ (layer_name layer ++ (codes "' starts at overall parsed byte " ++ (decimal offset ++ codes ").")))
     else codes "."
 
 -- the text of a length error: fewer bytes are there than required, or else too many
@@ -48,7 +49,8 @@ len_error_text error =
 abbrev pub write_start_text : Layer → ℕ → List ℕ
 write_start_text layer offset =
     if nat_lt 0 offset
-    then codes " (start offset of " ++ (layer_name layer ++ (codes " write was " ++ (decimal offset ++ codes " byte(s)).")))
+    then codes " (start offset of "
+    ++ (layer_name layer ++ (codes " write was " ++ (decimal offset ++ codes " byte(s)).")))
     else codes "."
 
 abbrev pub slice_write_space_error_text : SliceWriteSpaceError → List ℕ

@@ -15,7 +15,8 @@ hex_byte upper n = digit_glyph upper (n / 16) ∷ digit_glyph upper (n % 16) ∷
 unfoldable pub hex_number : ℕ → List ℕ
 hex_number number =
     codes "0x"
-    ++ (digit_glyph true (number / 4096) ∷ digit_glyph true (number / 256 % 16) ∷ digit_glyph true (number / 16 % 16) ∷ digit_glyph true (number % 16) ∷ [])
+    ++ (digit_glyph true (number / 4096) ∷ digit_glyph true (number / 256 % 16) ∷ digit_glyph true (number / 16 % 16)
+    ∷ digit_glyph true (number % 16) ∷ [])
 
 -- digits, a space and a description in parentheses
 abbrev pub described : List ℕ → List ℕ → List ℕ

@@ -27,7 +27,8 @@ pub struct ValueTooBigError<T: Clone + Display + Debug + Eq + Hash> {
 }
 
 impl<T: Clone + Display + Debug + Eq + Hash> Display for ValueTooBigError<T> {
-    ghost output = { λ error. value_too_big_error_text (T.output error.actual) (T.output error.max_allowed) error.value_type };
+    ghost output = { λ error. value_too_big_error_text (T.output error.actual)
+        (T.output error.max_allowed) error.value_type };
 
     fn fmt<W: fmt::Write>(&self, f: &mut fmt::Formatter<W>) -> fmt::Result {
         let actual = &self.actual;

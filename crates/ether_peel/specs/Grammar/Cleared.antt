@@ -7,8 +7,8 @@ use Rattle.ether_peel.specs.Grammar.Window.{within}
 use Rattle.ether_peel.specs.Grammar.Expectation.{Expectation}
 use Rattle.ether_peel.specs.Grammar.Stack.{Ending, last_window, Walk}
 
--- Where a SecTag begins at a place, its second byte is replaced by its remainder by 64, which leaves out the two reserved bits
--- (IEEE 802.1AE, 9.7).
+-- Where a SecTag begins at a place, its second byte is replaced by its remainder by 64, which leaves out the two
+-- reserved bits (IEEE 802.1AE, 9.7).
 abbrev pub cleared_at : List ℕ → ℕ → Header → List ℕ
 cleared_at list at (headers.Macsec t) = slice_set list (at + 1) (slice_index list (at + 1) % 64)
 cleared_at list at _ = list
@@ -18,8 +18,8 @@ abbrev pub cleared : List ℕ → ℕ → List Header → List ℕ
 cleared list at [] = list
 cleared list at (h ∷ hs) = cleared_at (cleared list (at + header_len h) hs) at h
 
--- The bytes of the headers of a walk, and after them those of its last window, are the front of the cleared list up to the end of
--- that window.
+-- The bytes of the headers of a walk, and after them those of its last window, are the front of the cleared list up to
+-- the end of that window.
 abbrev pub HeadersGoBack : Type 0
 HeadersGoBack =
     (start : Expectation) (list : List ℕ) (hs : List Header) (e : Ending)

@@ -38,8 +38,10 @@ pub record KeepsCut (hs : List Header) (e : Ending) (n : ℕ) (ks : List Header)
 
 -- it is so for each cut of a list with headers hs and ending e
 abbrev pub KeepsCuts : Expectation → List ℕ → List Header → Ending → Type 0
-KeepsCuts start list hs e = (n : ℕ) (ks : List Header) (f : Ending) → n ≤ length list → Walk start (take n list) ks f → KeepsCut hs e n ks f
+KeepsCuts start list hs e = (n : ℕ) (ks : List Header) (f : Ending) → n ≤ length list → Walk start (take n list) ks f
+    → KeepsCut hs e n ks f
 
 -- and for each list of bytes, from a start without a frame check sequence
 abbrev pub CutsKeep : Type 0
-CutsKeep = (start : Expectation) (list : List ℕ) (hs : List Header) (e : Ending) → IsBytes list → has_fcs start ≡ false → Walk start list hs e → KeepsCuts start list hs e
+CutsKeep = (start : Expectation) (list : List ℕ) (hs : List Header) (e : Ending) → IsBytes list → has_fcs start ≡ false
+    → Walk start list hs e → KeepsCuts start list hs e

@@ -8,7 +8,8 @@ use Rattle.ether_peel.specs.Grammar.Stack.{Ending, last_window, last_expected, W
 use Rattle.ether_peel.specs.Grammar.Endings.{refusal_of, OpenRefusal, named_len}
 use Rattle.ether_peel.specs.Grammar.Cuts.{reach}
 
--- a length that the list is asked for: the walk of the front that is one byte shorter ends in an open refusal that names it
+-- a length that the list is asked for: the walk of the front that is one byte shorter ends in an open refusal that
+-- names it
 pub record IsDemand (start : Expectation) (list : List ℕ) (m : ℕ) : Type 0 where
   pub positive : 0 < m
   pub inside : m ≤ length list
@@ -22,7 +23,8 @@ pub record IsDemand (start : Expectation) (list : List ℕ) (m : ℕ) : Type 0 w
 abbrev pub AreDemands : Expectation → List ℕ → ℕ → List ℕ → Type 0
 AreDemands start list above [] = (k : ℕ) → above < k → IsDemand start list k → ⊥
 AreDemands start list above (m ∷ ms) =
-    (above < m) × IsDemand start list m × ((k : ℕ) → above < k → k < m → IsDemand start list k → ⊥) × AreDemands start list m ms
+    (above < m) × IsDemand start list m × ((k : ℕ) → above < k → k < m → IsDemand start list k → ⊥)
+    × AreDemands start list m ms
 
 -- the greatest of them, 0 if there is none
 abbrev pub greatest : List ℕ → ℕ
@@ -31,8 +33,8 @@ greatest (m ∷ ms) = max m (greatest ms)
 
 -- ---- how many there can be
 
--- how often a unit can ask for more: never in a closed window; for its header, for what its first bytes make of that (an ARP
--- packet's addresses, the rest of a SecTag), and for the payload whose length a SecTag names
+-- how often a unit can ask for more: never in a closed window; for its header, for what its first bytes make of that
+-- (an ARP packet's addresses, the rest of a SecTag), and for the payload whose length a SecTag names
 abbrev pub cap : Bool → Kind → ℕ
 cap true kind = 0
 cap false kinds.Ethernet2 = 1
@@ -55,10 +57,12 @@ announced_cap closed (Some kind) = cap closed kind
 abbrev pub last_cap : Ending → ℕ
 last_cap e = announced_cap (last_window e).closed (announced (last_expected e))
 
--- A walk with headers ks and ending f takes exactly the units of an accepted list with headers hs: no shorter front has all
--- headers.
-pub record TakesUnits (start : Expectation) (list : List ℕ) (hs : List Header) (taken : ℕ) (ks : List Header) (f : Ending) : Type 0 where
+-- A walk with headers ks and ending f takes exactly the units of an accepted list with headers hs: no shorter front has
+-- all headers.
+pub record TakesUnits (start : Expectation) (list : List ℕ) (hs : List Header) (taken : ℕ) (ks : List Header)
+    (f : Ending) : Type 0 where
   pub reaches : taken ≡ reach 0 hs
   pub all : ks ≡ hs
   pub accepted : refusal_of f ≡ None
-  pub least : (n : ℕ) (gs : List Header) (g : Ending) → n < taken → Walk start (take n list) gs g → length gs < length hs
+  pub least : (n : ℕ) (gs : List Header) (g : Ending) → n < taken → Walk start (take n list) gs g → length gs
+      < length hs

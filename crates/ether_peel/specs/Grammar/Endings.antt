@@ -29,8 +29,8 @@ pub record OpenRefusal (e : Ending) : Type 0 where
 abbrev pub named_len : (e : Ending) → OpenRefusal e → ℕ
 named_len e o = (last_window e).start + o.required
 
--- Two walks, of headers hs and ks, have the same headers and end at the same place: their last windows begin there and have the same
--- mark, and the same is expected. One of the windows may reach further.
+-- Two walks, of headers hs and ks, have the same headers and end at the same place: their last windows begin there and
+-- have the same mark, and the same is expected. One of the windows may reach further.
 pub record EndsAlike (hs : List Header) (e : Ending) (ks : List Header) (f : Ending) : Type 0 where
   pub headers : ks ≡ hs
   pub start : (last_window f).start ≡ (last_window e).start

@@ -14,14 +14,15 @@ place at (h ∷ hs) = place (at + header_len h) hs
 
 -- the window that lies as far after one place as this window lies after another
 abbrev pub moved : (old new : ℕ) → Window → Window
-moved old new w = record { start = new + (w.start - old); finish = new + (w.finish - old); closed = w.closed; bound = w.bound }
+moved old new w =
+    record { start = new + (w.start - old); finish = new + (w.finish - old); closed = w.closed; bound = w.bound }
 
 abbrev pub moved_ending : (old new : ℕ) → Ending → Ending
 moved_ending old new (Accepted v y) = Accepted (moved old new v) y
 moved_ending old new (Fault v y r) = Fault (moved old new v) y r
 
--- A stack depends on no bytes but its window's, and moves with it: if two windows, of two lists or of one, have the same bytes
--- and have the same mark and bound, a stack of the one is a stack of the other.
+-- A stack depends on no bytes but its window's, and moves with it: if two windows, of two lists or of one, have the
+-- same bytes and have the same mark and bound, a stack of the one is a stack of the other.
 abbrev pub StacksAreLocal : Type 0
 StacksAreLocal =
     (list other : List ℕ) (x : Expectation) (w v : Window) (hs : List Header) (e : Ending)

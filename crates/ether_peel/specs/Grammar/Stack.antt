@@ -32,12 +32,14 @@ pub record IsUnit (list : List ℕ) (x : Expectation) (w : Window) (h : Header) 
 -- and then this ending: nothing is announced; a row of the table holds; a unit, and a stack in its payload.
 abbrev pub Stack : List ℕ → Expectation → Window → List Header → Ending → Type 0
 Stack list x w [] (Accepted v y) = (v ≡ w) × (y ≡ x) × (announced x ≡ None)
-Stack list x w [] (Fault v y r) = (v ≡ w) × (y ≡ x) × (kind : Kind) × (announced x ≡ Some kind) × Refuses w.bound (within list w) kind r
+Stack list x w [] (Fault v y r) =
+    (v ≡ w) × (y ≡ x) × (kind : Kind) × (announced x ≡ Some kind) × Refuses w.bound (within list w) kind r
 Stack list x w (h ∷ hs) e = IsUnit list x w h × Stack list (after x h) (payload w h) hs e
 
 -- ---- walks
 
--- the whole list, which bounds itself: open, but closed if a frame check sequence is expected, which further bytes would move
+-- the whole list, which bounds itself: open, but closed if a frame check sequence is expected, which further bytes
+-- would move
 abbrev pub whole : Expectation → List ℕ → Window
 whole start list = record { start = 0; finish = length list; closed = has_fcs start; bound = sources.Slice }
 

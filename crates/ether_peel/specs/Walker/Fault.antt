@@ -12,7 +12,13 @@ use Rattle.ether_peel.specs.declared.peel_fault.PeelFault.{PeelFault}
 -- the refusal of a unit that starts at a place
 abbrev pub error_at : ℕ → Refusal → PeelError
 error_at start (Length required len source layer) =
-    errors.Len (record { required_len = required; len = len; len_source = source; layer = layer; layer_start_offset = start })
+    errors.Len (record {
+      required_len = required;
+      len = len;
+      len_source = source;
+      layer = layer;
+      layer_start_offset = start;
+    })
 error_at start (UnsupportedPacketType n) = errors.LinuxSll (linux_sll.UnsupportedPacketTypeField n)
 error_at start (UnsupportedHardwareType n) = errors.LinuxSll (linux_sll.UnsupportedArpHardwareId (record { 0 = n }))
 error_at start UnexpectedVersion = errors.Macsec macsec.UnexpectedVersion

@@ -15,7 +15,8 @@ use Rattle.ether_peel.specs.declared.peel_unit.PeelUnit.{PeelUnit}
 use Rattle.ether_peel.specs.declared.peel_unit.PeelUnit.TheVariants as units
 use Rattle.ether_peel.specs.declared.peel_fault.PeelFault.{PeelFault}
 
--- The walker faces these headers and this ending: what it shows is this window of the list, and they are the stack there.
+-- The walker faces these headers and this ending: what it shows is this window of the list, and they are the stack
+-- there.
 pub record Faces (list : List ℕ) (w : Window) (s : State) (hs : List Header) (e : Ending) : Type 0 where
   pub inside : IsIn list w
   pub rest : s.rest ≡ within list w
@@ -39,10 +40,11 @@ pub record FacesWalk (x : Expectation) (list : List ℕ) (s : State) : Type 0 wh
 -- what named their number
 pub record ShowsMacsec (bytes rest : List ℕ) (t : SecTagValue) (m : MacsecSlice) : Type 0 where
   pub header : tag_bytes m.header ≡ slice_range bytes 0 (header_len (headers.Macsec t))
-  pub payload : HoldsTyped m.payload (readable_type t.payload_type) (payload_source (payload_len (headers.Macsec t))) rest
+  pub payload : HoldsTyped m.payload (readable_type t.payload_type) (payload_source (payload_len (headers.Macsec t)))
+      rest
 
--- A view of a unit, of the bytes of the window in which it was read and those of the payload's window: it holds all of the
--- former, but a SecTag's holds tag and payload, and an ARP packet's the packet.
+-- A view of a unit, of the bytes of the window in which it was read and those of the payload's window: it holds all of
+-- the former, but a SecTag's holds tag and payload, and an ARP packet's the packet.
 abbrev pub ShowsUnit : (bytes rest : List ℕ) → Header → PeelUnit → Type 0
 ShowsUnit bytes rest (headers.Ethernet2 e) u = u ≡ units.Ethernet2 (record { bytes = bytes; has_fcs = false })
 ShowsUnit bytes rest (headers.Ethernet2Fcs e) u = u ≡ units.Ethernet2 (record { bytes = bytes; has_fcs = true })
@@ -51,19 +53,22 @@ ShowsUnit bytes rest (headers.Vlan v) u = u ≡ units.Vlan bytes
 ShowsUnit bytes rest (headers.Macsec t) u = (m : MacsecSlice) × (u ≡ units.Macsec m) × ShowsMacsec bytes rest t m
 ShowsUnit bytes rest (headers.Arp a) u = u ≡ units.Arp (slice_range bytes 0 (header_len (headers.Arp a)))
 
--- What a call returns if these headers and this ending are faced: nothing, and nothing changes; or the fault, after which calls
--- return nothing; or the first header's unit, after which what it announces is expected, and the others are faced in the window of
--- its payload.
-abbrev pub GivesNext : List ℕ → Window → List Header → Ending → State → Option (Result PeelUnit PeelFault) → State → Type 0
+-- What a call returns if these headers and this ending are faced: nothing, and nothing changes; or the fault, after
+-- which calls return nothing; or the first header's unit, after which what it announces is expected, and the others are
+-- faced in the window of its payload.
+abbrev pub GivesNext : List ℕ → Window → List Header → Ending → State → Option (Result PeelUnit PeelFault) → State
+    → Type 0
 GivesNext list w [] (Accepted v y) s result t = (result ≡ None) × (t ≡ s)
 GivesNext list w [] (Fault v y r) s result t = (result ≡ Some (Err (fault_in w r))) × (t ≡ record s { over = true })
 GivesNext list w (h ∷ hs) e s result t =
-    (u : PeelUnit) × (result ≡ Some (Ok u)) × ShowsUnit s.rest t.rest h u × (t.over ≡ false) × (t.expected ≡ after s.expected h) × Faces list (payload w h) t hs e
+    (u : PeelUnit) × (result ≡ Some (Ok u)) × ShowsUnit s.rest t.rest h u × (t.over ≡ false)
+    × (t.expected ≡ after s.expected h) × Faces list (payload w h) t hs e
 
 -- a call of next
 pub record Gives (s : State) (result : Option (Result PeelUnit PeelFault)) (t : State) : Type 0 where
   pub over : s.over ≡ true → (result ≡ None) × (t ≡ s)
-  pub next : s.over ≡ false → (list : List ℕ) (w : Window) (hs : List Header) (e : Ending) → Faces list w s hs e → GivesNext list w hs e s result t
+  pub next : s.over ≡ false → (list : List ℕ) (w : Window) (hs : List Header) (e : Ending) → Faces list w s hs e
+      → GivesNext list w hs e s result t
 
 -- The items of a walker from a state on: what each call gives after the one before it, until a call gives nothing.
 pub data Yields : State → List (Result PeelUnit PeelFault) → Type 0 where
@@ -71,8 +76,8 @@ pub data Yields : State → List (Result PeelUnit PeelFault) → Type 0 where
   item : (s t : State) (first : Result PeelUnit PeelFault) (others : List (Result PeelUnit PeelFault))
       → Gives s (Some first) t → Yields t others → Yields s (first ∷ others)
 
--- The items of these headers and this ending, each once and in order: the view of each header's unit, of the bytes of its window
--- and of its payload's; after them the fault, if it ends so.
+-- The items of these headers and this ending, each once and in order: the view of each header's unit, of the bytes of
+-- its window and of its payload's; after them the fault, if it ends so.
 abbrev pub AreItems : List ℕ → Window → List Header → Ending → List (Result PeelUnit PeelFault) → Type 0
 AreItems list w [] (Accepted v y) items = items ≡ []
 AreItems list w [] (Fault v y r) items = items ≡ Err (fault_in w r) ∷ []

@@ -23,7 +23,8 @@ pub record IsRefusedBy (s : State) (error : PeelError) : Type 0 where
   pub refuses : Refuses sources.Slice s.rest kind refusal
   pub shows : error ≡ error_at s.offset refusal
 
--- An error that names the bound of its window: the readers of units take what they are handed for the whole list, and name a slice.
+-- An error that names the bound of its window: the readers of units take what they are handed for the whole list, and
+-- name a slice.
 abbrev pub named_source : LenSource → LenSource → LenSource
 named_source bound sources.Slice = bound
 named_source bound source = source

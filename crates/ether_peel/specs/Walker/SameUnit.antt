@@ -4,8 +4,8 @@ use Rattle.etherparse.specs.Macsec.{SameTagged}
 use Rattle.ether_peel.specs.declared.peel_unit.PeelUnit.{PeelUnit}
 use Rattle.ether_peel.specs.declared.peel_unit.PeelUnit.TheVariants as units
 
--- views of the same kind that hold the same bytes; Ethernet II frames both end in a check sequence or both do not, SecTags
--- have the same payload
+-- views of the same kind that hold the same bytes; Ethernet II frames both end in a check sequence or both do not,
+-- SecTags have the same payload
 abbrev pub SameUnit : PeelUnit → PeelUnit → Type 0
 SameUnit (units.Ethernet2 a) (units.Ethernet2 b) = a ≡ b
 SameUnit (units.LinuxSll a) (units.LinuxSll b) = a ≡ b

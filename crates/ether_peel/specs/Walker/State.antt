@@ -9,7 +9,8 @@ use Rattle.ether_peel.specs.declared.rest_kind.RestKind.TheVariants as rests
 use Rattle.ether_peel.specs.declared.peel.First.{First}
 use Rattle.ether_peel.specs.declared.peel.First.TheVariants as firsts
 
--- the bytes of the window left to read, its start, its mark, its bound and what is expected there, and whether the fault was given
+-- the bytes of the window left to read, its start, its mark, its bound and what is expected there, and whether the
+-- fault was given
 pub record State : Type 0 where
   pub rest : List ℕ
   pub offset : ℕ
@@ -20,8 +21,8 @@ pub record State : Type 0 where
 
 -- ---- the representation
 
--- What is expected where a kind is shown, once the first header was read. `Start` is never shown then (`IsShown`), so its row
--- means nothing.
+-- What is expected where a kind is shown, once the first header was read. `Start` is never shown then (`IsShown`), so
+-- its row means nothing.
 abbrev pub shown_of : RestKind → Next
 shown_of rests.Start = AfterArp
 shown_of (rests.EtherType t) = EtherType t.0

@@ -35,8 +35,8 @@ summary_at s units fault = record {
   fault = fault;
 }
 
--- A list has a walk and no second one, and this is its summary. Without a frame check sequence, every extension of the list keeps
--- what was found until the named length is there.
+-- A list has a walk and no second one, and this is its summary. Without a frame check sequence, every extension of the
+-- list keeps what was found until the named length is there.
 pub record IsSummary (start : Expectation) (list : List ℕ) (s : Summary) : Type 0 where
   pub headers : List Header
   pub ending : Ending
@@ -45,8 +45,9 @@ pub record IsSummary (start : Expectation) (list : List ℕ) (s : Summary) : Typ
   pub is : s ≡ summary_of headers ending
   pub extensions : has_fcs start ≡ false → KeepsExtensions start list headers ending
 
--- It is the summary of the list's first n bytes. Without a frame check sequence, this cut keeps what it has of the whole list's
--- walk.
+-- It is the summary of the list's first n bytes. Without a frame check sequence, this cut keeps what it has of the
+-- whole list's walk.
 pub record IsCutSummary (start : Expectation) (list : List ℕ) (n : ℕ) (s : Summary) : Type 0 where
   pub summary : IsSummary start (take n list) s
-  pub keeps : has_fcs start ≡ false → (hs : List Header) (e : Ending) → Walk start list hs e → KeepsCut hs e n summary.headers summary.ending
+  pub keeps : has_fcs start ≡ false → (hs : List Header) (e : Ending) → Walk start list hs e
+      → KeepsCut hs e n summary.headers summary.ending

@@ -15,8 +15,8 @@ use Rattle.ether_peel.specs.declared.peel_unit.PeelUnit.{PeelUnit}
 use Rattle.ether_peel.specs.declared.peel_unit.PeelUnit.TheVariants as units
 use Rattle.ether_peel.specs.Grammar.Cleared.{cleared}
 
--- A target that holds the headers of the walk and the bytes of the last window, up to where that ends, and after them what it
--- held before. So it begins with the front of the cleared list.
+-- A target that holds the headers of the walk and the bytes of the last window, up to where that ends, and after them
+-- what it held before. So it begins with the front of the cleared list.
 pub record WritesBack (start : Expectation) (list : List ℕ) (end : ℕ) (old new : List ℕ) : Type 0 where
   pub found : List Header
   pub ending : Ending
@@ -28,7 +28,8 @@ pub record WritesBack (start : Expectation) (list : List ℕ) (end : ℕ) (old n
 
 -- a target has room for the headers of a walk and for its last window
 abbrev pub HasRoom : Expectation → List ℕ → List ℕ → Type 0
-HasRoom start list target = (hs : List Header) (e : Ending) → Walk start list hs e → (last_window e).finish ≤ length target
+HasRoom start list target = (hs : List Header) (e : Ending) → Walk start list hs e → (last_window e).finish
+    ≤ length target
 
 -- the refusal of a target that is too short for them
 pub record RefusesBack (start : Expectation) (list target : List ℕ) (error : SliceWriteSpaceError) : Type 0 where

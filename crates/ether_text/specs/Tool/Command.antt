@@ -14,7 +14,8 @@ pub record NamesLimit (word : List ℕ) (limit : ℕ) : Type 0 where
 -- the words of a mode; `limit` and its number may follow if there is at least one word
 pub data NamesCommand : List (List ℕ) → Mode × Option ℕ → Type 0 where
   plain : (words : List (List ℕ)) (mode : Mode) → NamesMode words mode → NamesCommand words (mode, None)
-  limited : (word : List ℕ) (words : List (List ℕ)) (digits : List ℕ) (mode : Mode) (limit : ℕ) → NamesMode (word ∷ words) mode
+  limited : (word : List ℕ) (words : List (List ℕ)) (digits : List ℕ) (mode : Mode) (limit : ℕ)
+      → NamesMode (word ∷ words) mode
       → NamesLimit digits limit → NamesCommand ((word ∷ words) ++ codes "limit" ∷ digits ∷ []) (mode, Some limit)
 
 abbrev pub NamesNoCommand : List (List ℕ) → Type 0

@@ -20,7 +20,8 @@ pub record SplitsAtLineFeed (bytes before after : List ℕ) : Type 0 where
   pub parts : bytes ≡ before ++ 10 ∷ after
 
 -- The lines that ended in the input so far are answered, and the rest of the input is the line that is being read.
-pub record Reached {W : Type 0} (command : Command) (contents : W → Option (List ℕ)) (held : Option (List ℕ)) (input : List ℕ) (at : LineLoop) (out : OutputBuffer W) : Type 0 where
+pub record Reached {W : Type 0} (command : Command) (contents : W → Option (List ℕ)) (held : Option (List ℕ))
+    (input : List ℕ) (at : LineLoop) (out : OutputBuffer W) : Type 0 where
   pub done : List (List ℕ)
   pub line : List ℕ
   pub text : List ℕ
@@ -34,7 +35,8 @@ pub record Reached {W : Type 0} (command : Command) (contents : W → Option (Li
   pub written : Appends held (contents_of contents out) text
 
 -- the line is answered, and the next begins
-pub record JudgesLine {W : Type 0} (command : Command) (contents : W → Option (List ℕ)) (line : List ℕ) (old : LineLoop) (from : OutputBuffer W) (new : LineLoop) (to : OutputBuffer W) : Type 0 where
+pub record JudgesLine {W : Type 0} (command : Command) (contents : W → Option (List ℕ)) (line : List ℕ) (old : LineLoop)
+    (from : OutputBuffer W) (new : LineLoop) (to : OutputBuffer W) : Type 0 where
   pub text : List ℕ
   pub accepted : Bool
   pub answered : IsLineAnswered command line text accepted
@@ -44,24 +46,28 @@ pub record JudgesLine {W : Type 0} (command : Command) (contents : W → Option 
   pub begins : KeepsLine new.line []
 
 -- the line that was being read and its last piece are a bad line, and nothing is written for it
-pub record RefusesLine {W : Type 0} (piece : List ℕ) (end : LineEnd) (old : LineLoop) (from to : OutputBuffer W) (number : ℕ) : Type 0 where
+pub record RefusesLine {W : Type 0} (piece : List ℕ) (end : LineEnd) (old : LineLoop) (from to : OutputBuffer W)
+    (number : ℕ) : Type 0 where
   pub is_bad : (line : List ℕ) → KeepsLine old.line line → IsBadLine (without_end end (line ++ piece))
   pub is_number : number ≡ number_after old.count
   pub same : to ≡ from
 
 -- the run has answered the lines that end in these bytes, and keeps the rest of them
-pub record Advances {W : Type 0} (command : Command) (contents : W → Option (List ℕ)) (old : LineLoop) (from : OutputBuffer W) (bytes : List ℕ) (new : LineLoop) (to : OutputBuffer W) : Type 0 where
+pub record Advances {W : Type 0} (command : Command) (contents : W → Option (List ℕ)) (old : LineLoop)
+    (from : OutputBuffer W) (bytes : List ℕ) (new : LineLoop) (to : OutputBuffer W) : Type 0 where
   pub reached : (held : Option (List ℕ)) (input : List ℕ) → Reached command contents held input old from
       → Reached command contents held (input ++ bytes) new to
 
 -- a bad line ends in these bytes, whatever follows them
-pub record StopsWithin {W : Type 0} (command : Command) (contents : W → Option (List ℕ)) (old : LineLoop) (from : OutputBuffer W) (bytes later : List ℕ) (to : OutputBuffer W) (number : ℕ) : Type 0 where
+pub record StopsWithin {W : Type 0} (command : Command) (contents : W → Option (List ℕ)) (old : LineLoop)
+    (from : OutputBuffer W) (bytes later : List ℕ) (to : OutputBuffer W) (number : ℕ) : Type 0 where
   pub stops : (held : Option (List ℕ)) (input : List ℕ) → Reached command contents held input old from
       → (text : List ℕ) × Appends held (contents_of contents to) text
       × StopsAtLine command ((input ++ bytes) ++ later) number text
 
 -- all the lines of the input are answered
-pub record Finishes {W : Type 0} (command : Command) (contents : W → Option (List ℕ)) (old : LineLoop) (from to : OutputBuffer W) (verdict : Verdict) : Type 0 where
+pub record Finishes {W : Type 0} (command : Command) (contents : W → Option (List ℕ)) (old : LineLoop)
+    (from to : OutputBuffer W) (verdict : Verdict) : Type 0 where
   pub answered : (held : Option (List ℕ)) (input : List ℕ) → Reached command contents held input old from
       → (text : List ℕ) × (all_accepted : Bool) × Appends held (contents_of contents to) text
       × AreAnswered command (lines input) text all_accepted × (verdict ≡ verdict_of all_accepted)

@@ -8,7 +8,8 @@ use Rattle.ether_text.specs.declared.tool.mode.Mode.TheVariants.{Eth, Fcs, Sll, 
 abbrev pub NamesNumber : (digits : List ℕ) → (number : ℕ) → Type 0
 NamesNumber [] number = number ≡ 0
 NamesNumber (digit ∷ digits) number =
-    (value : ℕ) × (rest : ℕ) × (hex_digit_value digit ≡ Some value) × NamesNumber digits rest × (number ≡ value * 16 ^ length digits + rest)
+    (value : ℕ) × (rest : ℕ) × (hex_digit_value digit ≡ Some value) × NamesNumber digits rest
+    × (number ≡ value * 16 ^ length digits + rest)
 
 -- exactly four digits
 pub record NamesType (word : List ℕ) (number : ℕ) : Type 0 where
@@ -22,7 +23,8 @@ pub data NamesMode : List (List ℕ) → Mode → Type 0 where
   fcs : NamesMode (codes "fcs" ∷ []) Fcs
   sll : NamesMode (codes "sll" ∷ []) Sll
   feed : NamesMode (codes "feed" ∷ []) Feed
-  ether_type : (digits : List ℕ) (number : ℕ) → NamesType digits number → NamesMode (codes "type" ∷ digits ∷ []) (EtherType (record { 0 = number }))
+  ether_type : (digits : List ℕ) (number : ℕ) → NamesType digits number
+      → NamesMode (codes "type" ∷ digits ∷ []) (EtherType (record { 0 = number }))
 
 abbrev pub NamesNoMode : List (List ℕ) → Type 0
 NamesNoMode words = (mode : Mode) → ¬ (NamesMode words mode)

@@ -10,11 +10,13 @@ use Rattle.ether_text.specs.declared.verdict.Verdict.{Verdict}
 use Rattle.ether_text.specs.declared.tool.outcome.ToolFault.{ToolFault}
 use Rattle.ether_text.specs.declared.tool.outcome.ToolFault.TheVariants.{Input}
 
--- The words name a command, and it has run. Or they name none, or they can't be read, which counts as a fault of the input; then
--- nothing is read or written.
-abbrev pub HasObeyed : Option (List (List ℕ)) → (before after held holds : Option (List ℕ)) → Result (Result Verdict ToolFault) Usage → Type 0
+-- The words name a command, and it has run. Or they name none, or they can't be read, which counts as a fault of the
+-- input; then nothing is read or written.
+abbrev pub HasObeyed : Option (List (List ℕ)) → (before after held holds : Option (List ℕ))
+    → Result (Result Verdict ToolFault) Usage → Type 0
 HasObeyed (Some words) before after held holds (Ok outcome) =
-    (command : Mode × Option ℕ) × NamesCommand words command × HasRun (record { mode = command.0; limit = command.1 }) before after held holds outcome
+    (command : Mode × Option ℕ) × NamesCommand words command
+    × HasRun (record { mode = command.0; limit = command.1 }) before after held holds outcome
 HasObeyed (Some words) before after held holds (Err usage) = NamesNoCommand words × (after ≡ before) × (holds ≡ held)
 HasObeyed None before after held holds outcome = (outcome ≡ Ok (Err Input)) × (after ≡ before) × (holds ≡ held)
 
@@ -29,12 +31,15 @@ last_bytes None = []
 last_bytes (Some text) = text ++ codes "\n"
 
 -- the last line of the outcome, if there is one, is written, or the writer has failed
-pub record PrintsLast (outcome : Result (Result Verdict ToolFault) Usage) (held holds : Option (List ℕ)) (printed : Bool) : Type 0 where
+pub record PrintsLast (outcome : Result (Result Verdict ToolFault) Usage) (held holds : Option (List ℕ))
+    (printed : Bool) : Type 0 where
   pub written : printed ≡ true → Appends held holds (last_bytes (last_text outcome))
   pub silent : IfNone (last_text outcome) (printed ≡ true)
 
--- The program has run the command that the words name, has printed the last line, and ends with the status of its outcome.
-pub record HasServed (words : Option (List (List ℕ))) (before after held holds : Option (List ℕ)) (status : ℕ) : Type 0 where
+-- The program has run the command that the words name, has printed the last line, and ends with the status of its
+-- outcome.
+pub record HasServed (words : Option (List (List ℕ))) (before after held holds : Option (List ℕ))
+    (status : ℕ) : Type 0 where
   pub outcome : Result (Result Verdict ToolFault) Usage
   pub printed : Bool
   pub between : Option (List ℕ)

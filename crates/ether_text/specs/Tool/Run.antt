@@ -31,7 +31,8 @@ AreAnswered command (line ∷ others) text all =
 abbrev pub HasNoLineFeed : List ℕ → Type 0
 HasNoLineFeed line = All (λ byte. (byte == 10) ≡ false) line
 
--- the number of the line after this many lines: lines are counted from 1, up to 2 ^ 64 - 1, which all later lines have too
+-- the number of the line after this many lines: lines are counted from 1, up to 2 ^ 64 - 1, which all later lines have
+-- too
 abbrev pub number_after : ℕ → ℕ
 number_after count = min (count + 1) (2 ^ 64 - 1)
 
@@ -48,12 +49,14 @@ pub record StopsAtLine (command : Command) (input : List ℕ) (number : ℕ) (te
 
 -- Between `before` and `after` the reader gave all its bytes, and the writer took the text for their lines.
 abbrev pub AnswersInput : Command → (before after held holds : Option (List ℕ)) → Verdict → Type 0
-AnswersInput command before after held holds verdict = AnswersAll (λ input. AreAnswered command (lines input)) before after held holds verdict
+AnswersInput command before after held holds verdict =
+    AnswersAll (λ input. AreAnswered command (lines input)) before after held holds verdict
 
--- Between `before` and `after` the reader gave some of its bytes. The line with this number is the first bad line of its input,
--- and the writer took the text for the lines before it.
+-- Between `before` and `after` the reader gave some of its bytes. The line with this number is the first bad line of
+-- its input, and the writer took the text for the lines before it.
 abbrev pub StopsInput : Command → (before after held holds : Option (List ℕ)) → (number : ℕ) → Type 0
-StopsInput command before after held holds number = StopsIn (λ input. StopsAtLine command input number) before after held holds
+StopsInput command before after held holds number =
+    StopsIn (λ input. StopsAtLine command input number) before after held holds
 
 -- The lines `done` end in the bytes `taken`, whatever follows these, and `text` is the text for them.
 pub record EndsLines (command : Command) (taken text : List ℕ) : Type 0 where
@@ -64,7 +67,8 @@ pub record EndsLines (command : Command) (taken text : List ℕ) : Type 0 where
   pub in_line : HasNoLineFeed begun
   pub answered : AreAnswered command done text all_accepted
 
--- Between `before` and `after` the reader gave some of its bytes, and the writer took the text for the lines that end in them.
+-- Between `before` and `after` the reader gave some of its bytes, and the writer took the text for the lines that end
+-- in them.
 abbrev pub BreaksOff : Command → (before after held holds : Option (List ℕ)) → Type 0
 BreaksOff command before after held holds = BreaksOffAfter (EndsLines command) before after held holds
 
@@ -75,12 +79,15 @@ HasRun command before after held holds (Err (BadLine number)) = StopsInput comma
 HasRun command before after held holds (Err Input) = BreaksOff command before after held holds
 HasRun command before after held holds (Err Output) = ⊤
 
--- What a run over a slice of these bytes has written, by its outcome. There is never a fault of the reader, and a fault of the
--- writer only if that can fail.
-abbrev pub AnswersSlice : Command → (can_fail : Type 0) → (bytes : List ℕ) → (held holds : Option (List ℕ)) → Result Verdict ToolFault → Type 0
+-- What a run over a slice of these bytes has written, by its outcome. There is never a fault of the reader, and a fault
+-- of the writer only if that can fail.
+abbrev pub AnswersSlice : Command → (can_fail : Type 0) → (bytes : List ℕ) → (held holds : Option (List ℕ))
+    → Result Verdict ToolFault → Type 0
 AnswersSlice command can_fail bytes held holds (Ok verdict) =
-    (text : List ℕ) × (all_accepted : Bool) × AreAnswered command (lines bytes) text all_accepted × (verdict ≡ verdict_of all_accepted) × Appends held holds text
-AnswersSlice command can_fail bytes held holds (Err (BadLine number)) = (text : List ℕ) × StopsAtLine command bytes number text × Appends held holds text
+    (text : List ℕ) × (all_accepted : Bool) × AreAnswered command (lines bytes) text all_accepted
+    × (verdict ≡ verdict_of all_accepted) × Appends held holds text
+AnswersSlice command can_fail bytes held holds (Err (BadLine number)) =
+    (text : List ℕ) × StopsAtLine command bytes number text × Appends held holds text
 AnswersSlice command can_fail bytes held holds (Err Input) = ⊥
 AnswersSlice command can_fail bytes held holds (Err Output) = can_fail
 

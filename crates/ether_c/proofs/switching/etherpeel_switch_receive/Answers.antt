@@ -13,9 +13,11 @@ use Rattle.ether_c.proofs.switching.etherpeel_switch_receive.Goals as goal
 pub returns-clause-given : goal.returns-clause-given
 returns-clause-given c =
     let answer = c.receive_in-answer in
-    subst (λ (o : Option BridgeKind). IfSome o (λ k. IfSome (config_of c.args.port.now) (λ p. (hs : List Header) (e : Ending)
+    subst (λ (o : Option BridgeKind). IfSome o
+    (λ k. IfSome (config_of c.args.port.now) (λ p. (hs : List Header) (e : Ending)
     → Walk (start_of starts.Ethernet2) c.args.frame.now hs e
-    → GivesReceived k p c.args.ageing_time c.args.now c.args.from hs c.args.buckets.now answer.new.buckets c.of.result done)))
+    → GivesReceived k p c.args.ageing_time c.args.now c.args.from hs c.args.buckets.now answer.new.buckets c.of.result
+    done)))
     c.in-Some.ensures
     (subst (λ (o : Option PortConfig). IfSome o (λ p. (hs : List Header) (e : Ending)
     → Walk (start_of starts.Ethernet2) c.args.frame.now hs e

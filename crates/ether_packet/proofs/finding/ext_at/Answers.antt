@@ -32,7 +32,9 @@ pub loop-unit-preserved-in-Some : goal.loop-unit-preserved-in-Some
 loop-unit-preserved-in-Some c = (
   omega (arith, c.loop-unit.invariant.0, c.if-count-index.false),
   λ hs e walk. let gives = rw c.in-Some-Ok.field-0-is at c.in-Some-Ok.ensures.steps in
-      let more = ap (λ (n : ℕ). c.loop-unit.count + n) (one_counted c.in-Some.header (unit_header c.in-Some-Ok.unit) c.in-Some.ensures) in
+      let more =
+      ap (λ (n : ℕ). c.loop-unit.count + n)
+      (one_counted c.in-Some.header (unit_header c.in-Some-Ok.unit) c.in-Some.ensures) in
       subst (Reached c.args.frame.now c.next.new.self hs e) more
       (reached_unit c.args.frame.now c.loop-unit.peel c.next.new.self hs e c.loop-unit.count
       c.in-Some-Ok.unit (λ i. omega (arith, c.type_inv.frame i)) (c.loop-unit.invariant.1 hs e walk) gives),
@@ -42,7 +44,8 @@ pub loop-unit-preserved : goal.loop-unit-preserved
 loop-unit-preserved c = (
   c.loop-unit.invariant.0,
   λ hs e walk. let gives = rw c.in-Some-Ok.field-0-is at c.in-Some-Ok.ensures.steps in
-      let same : c.loop-unit.count + ext_count (unit_header c.in-Some-Ok.unit ∷ []) ≡ c.loop-unit.count = omega (arith, c.in_default.ensures) in
+      let same : c.loop-unit.count + ext_count (unit_header c.in-Some-Ok.unit ∷ []) ≡ c.loop-unit.count =
+      omega (arith, c.in_default.ensures) in
       subst (Reached c.args.frame.now c.next.new.self hs e) same
       (reached_unit c.args.frame.now c.loop-unit.peel c.next.new.self hs e c.loop-unit.count
       c.in-Some-Ok.unit (λ i. omega (arith, c.type_inv.frame i)) (c.loop-unit.invariant.1 hs e walk) gives),

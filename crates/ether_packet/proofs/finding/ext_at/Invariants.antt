@@ -10,7 +10,8 @@ use Rattle.ether_packet.proofs.finding.ext_at.Given as goal
 abbrev pub invariant-loop-unit : goal.invariant-loop-unit
 invariant-loop-unit l =
     (l.count ≤ l.fn.index)
-    × ((hs : List Header) (e : Ending) → Walk (start_of l.fn.start) l.fn.frame hs e → Reached l.fn.frame l.peel hs e l.count)
+    × ((hs : List Header) (e : Ending) → Walk (start_of l.fn.start) l.fn.frame hs e
+    → Reached l.fn.frame l.peel hs e l.count)
 
 abbrev pub decreases-loop-unit : goal.decreases-loop-unit
 decreases-loop-unit l = size (items_left l.peel)

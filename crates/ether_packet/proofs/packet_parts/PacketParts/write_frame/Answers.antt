@@ -7,12 +7,16 @@ pub returns-clause-whole : goal.returns-clause-whole
 returns-clause-whole c =
     let p = c.args.self.now in
     let new = c.write_whole.new.target in
-    subst (λ (n : ℕ). IsWholeFrame p n new) (sym (counted_is p _ c.frame_len-required_len.ensures (let room = c.type_inv.target in let fits = c.if-len-required_len.false in omega arith)))
+    subst (λ (n : ℕ). IsWholeFrame p n new)
+    (sym (counted_is p _ c.frame_len-required_len.ensures
+    (let room = c.type_inv.target in let fits = c.if-len-required_len.false in omega arith)))
     (frames_go_back p (frame_size p) c.args.target.now new c.write_whole.ensures)
 
 pub returns-clause-changed : goal.returns-clause-changed
 returns-clause-changed c =
     let p = c.args.self.now in
     let new = c.write_whole.new.target in
-    subst (λ (n : ℕ). IsChangedFrame p n new) (sym (counted_is p _ c.frame_len-required_len.ensures (let room = c.type_inv.target in let fits = c.if-len-required_len.false in omega arith)))
+    subst (λ (n : ℕ). IsChangedFrame p n new)
+    (sym (counted_is p _ c.frame_len-required_len.ensures
+    (let room = c.type_inv.target in let fits = c.if-len-required_len.false in omega arith)))
     (changed_frames_are_read p (frame_size p) c.args.target.now new c.write_whole.ensures)

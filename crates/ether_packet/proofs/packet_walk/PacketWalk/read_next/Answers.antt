@@ -10,7 +10,8 @@ next : (c : In-Some-Ok) (start : Expectation) (list : List ℕ) (w : UnderWay st
     → NextOf start list c.args.self.now.peel c.next.new.self c.args.self.now.read c.in-Some-Ok.unit w.gathered
 next c start list w =
     let gives = rw c.in-Some-Ok.field-0-is at c.in-Some-Ok.ensures.steps in
-    next_of start list c.args.self.now.peel c.next.new.self c.args.self.now.read c.in-Some-Ok.unit w.bytes w.gathered gives
+    next_of start list c.args.self.now.peel c.next.new.self c.args.self.now.read c.in-Some-Ok.unit w.bytes w.gathered
+    gives
 
 pub add-requires-clause-fits : goal.add-requires-clause-fits
 add-requires-clause-fits c =

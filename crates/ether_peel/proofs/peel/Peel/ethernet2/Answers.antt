@@ -21,7 +21,8 @@ returns-in-Ok-clause-gives c =
     let bytes = c.self.inside.rest.now in
     let all : length bytes - 0 ≡ length bytes = omega arith in
     gives_plain c.self.inside c.args.self.now c.payload_slice-self-inside.result.now
-    (units.Ethernet2 c.in-Ok.slice) (EtherType c.ether_type-ether_type.result.0) c.self.inside.limit c.self.invariant.0 c.self.view_is
+    (units.Ethernet2 c.in-Ok.slice) (EtherType c.ether_type-ether_type.result.0) c.self.inside.limit c.self.invariant.0
+    c.self.view_is
     c.requires.going (record {
       header =
           headers.Ethernet2 (ethernet2_of c.self.inside.rest.now);

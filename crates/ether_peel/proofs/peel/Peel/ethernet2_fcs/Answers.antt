@@ -23,7 +23,8 @@ returns-in-Ok-clause-gives c =
     let is = c.in-Ok.ensures.frame in
     let t : State = record {
       rest = c.payload_slice-payload.result.now;
-      offset = c.offset.result + c.header_len.result + length c.payload_slice-payload.result.now - length c.payload_slice-payload.result.now;
+      offset = c.offset.result + c.header_len.result + length c.payload_slice-payload.result.now
+          - length c.payload_slice-payload.result.now;
       closed = a.is_closed;
       bound = a.bound;
       expected = record { next = EtherType c.ether_type-ether_type.result.0; limit = a.limit };

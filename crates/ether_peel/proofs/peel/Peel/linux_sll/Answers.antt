@@ -30,7 +30,8 @@ fault-requires-in-Err-Content c =
 pub returns-in-Ok-clause-gives : goal.returns-in-Ok-clause-gives
 returns-in-Ok-clause-gives c =
     gives_plain c.self.inside c.args.self.now c.payload_slice-self-inside.result.now
-    (units.LinuxSll c.in-Ok.slice) (shown_of c.announced_in-kind.result.1) c.self.inside.limit c.self.invariant.0 c.self.view_is
+    (units.LinuxSll c.in-Ok.slice) (shown_of c.announced_in-kind.result.1) c.self.inside.limit c.self.invariant.0
+    c.self.view_is
     c.requires.going (record {
       header = headers.LinuxSll (linux_sll_of c.in-Ok.slice);
       no_len = refl;

@@ -47,7 +47,8 @@ returns-in-Ok-clause-gives c =
     let payload = c.payload_bytes-payload.ensures in
     let t : State = record {
       rest = c.payload_bytes-payload.result.now;
-      offset = c.offset.result + n + length c.payload_bytes-payload.result.now - length c.payload_bytes-payload.result.now;
+      offset = c.offset.result + n + length c.payload_bytes-payload.result.now
+          - length c.payload_bytes-payload.result.now;
       closed = a.is_closed || c.is_some.result;
       bound = c.bound_after-self-inside.result;
       expected = record { next = shown_of c.announced_after-kind.result.1; limit = c.lowered-self-inside.result };
@@ -90,5 +91,8 @@ returns-in-Ok-clause-nearer c =
     let least = read.len in
     let going : a.is_over ≡ false = ap (λ (s : State). s.over) c.self.view_is ∙ c.requires.going in
     nearer (shown a) c.args.self.now
-    (shown (record a { end = c.offset.result + n + length c.payload_bytes-payload.result.now; rest = c.payload_bytes-payload.result }))
+    (shown (record a {
+      end = c.offset.result + n + length c.payload_bytes-payload.result.now;
+      rest = c.payload_bytes-payload.result;
+    }))
     c.self.view_is going (omega arith)

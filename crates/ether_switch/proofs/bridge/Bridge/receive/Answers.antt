@@ -16,8 +16,10 @@ returns-clause-history g c hs e walk earlier knows =
     let left = c.receive_in.new.buckets in
     let old = c.table.inside.buckets in
     let same : length left ≡ length old.items = search rules in
-    let view : map sightings_in slice ≡ c.args.table.now = ap (map sightings_in) c.as_mut_slice.ensures.value ∙ c.table.view_is in
-    let size : length slice ≡ n = sym (length-map slice sightings_in) ∙ ap (λ (l : List (List Sighting)). length l) view ∙ knows.size in
+    let view : map sightings_in slice ≡ c.args.table.now =
+    ap (map sightings_in) c.as_mut_slice.ensures.value ∙ c.table.view_is in
+    let size : length slice ≡ n = sym (length-map slice sightings_in) ∙ ap (λ (l : List (List Sighting)). length l) view
+    ∙ knows.size in
     let told = c.receive_in.ensures.history hs e walk earlier
     (subst (λ (m : ℕ). Knows m (map sightings_in slice) (sightings kind earlier)) (sym size)
     (subst (λ (l : List (List Sighting)). Knows n l (sightings kind earlier)) (sym view) knows)) in (

@@ -29,13 +29,15 @@ returns-clause-history c hs e walk earlier knows =
     ≡ relayed kind from frame (decision entries from frame.vlan frame.destination
     (known_port n ageing now seen (station frame.vlan frame.destination))) =
     c.relay.ensures.value
-    ∙ ap (relayed kind from frame) (c.decide.ensures.value ∙ ap (decision entries from frame.vlan frame.destination) known) in
+    ∙ ap (relayed kind from frame) (c.decide.ensures.value
+    ∙ ap (decision entries from frame.vlan frame.destination) known) in
     subst (λ (x : Result Admitted Discarded).
     (c.relay.result ≡ answer_by kind entries from (known_port n ageing now (seen_with now from x history)) x)
     × Knows n new (seen_with now from x history))
     (c.in_ok-frame.ensures.value hs e walk)
     (subst (λ (s : ℕ). (c.relay.result
     ≡ relayed kind from frame (decision entries from frame.vlan frame.destination
-    (known_port n ageing now (record { station = s; time = now; port = from } ∷ history) (station frame.vlan frame.destination))))
+    (known_port n ageing now (record { station = s; time = now; port = from } ∷ history)
+    (station frame.vlan frame.destination))))
     × Knows n new (record { station = s; time = now; port = from } ∷ history))
     c.station.ensures.value (answers, learned))

@@ -7,7 +7,8 @@ use Rattle.ether_switch.proofs.received.Received.send.Goals as goal
 pub returns-then-contains-clause-sent : goal.returns-then-contains-clause-sent
 returns-then-contains-clause-sent c =
     let is : true ≡ has c.args.port.now.untagged c.args.self.now.vlan = sym c.if-contains.true ∙ c.contains.ensures in
-    if_some c.untagged.result _ _ (λ at leaves hs e walk. match_true _ _ _ is (leaves hs e walk)) c.untagged.ensures.sent
+    if_some c.untagged.result _ _ (λ at leaves hs e walk. match_true _ _ _ is (leaves hs e walk))
+    c.untagged.ensures.sent
 
 pub returns-then-contains-clause-goes : goal.returns-then-contains-clause-goes
 returns-then-contains-clause-goes c hs e walk =

@@ -18,10 +18,12 @@ loop-byte-preserved c =
     let low = slice_index_or c.self.inside.entries c.from-in-loop-byte.result 0 in
     let first_is : c.from.result ≡ first =
     c.from.ensures ∙ ap (λ (l : List ℕ). slice_index l 0) c.split_at.ensures.front
-    ∙ pair_at (2 * i) 0 (2 * i) c.args.line.now c.loop-byte.rest.now c.loop-byte.invariant.rest (omega arith) (omega arith) in
+    ∙ pair_at (2 * i) 0 (2 * i) c.args.line.now c.loop-byte.rest.now c.loop-byte.invariant.rest (omega arith)
+    (omega arith) in
     let second_is : c.from-in-loop-byte.result ≡ second =
     c.from-in-loop-byte.ensures ∙ ap (λ (l : List ℕ). slice_index l 1) c.split_at.ensures.front
-    ∙ pair_at (2 * i) 1 (2 * i + 1) c.args.line.now c.loop-byte.rest.now c.loop-byte.invariant.rest (omega arith) refl in
+    ∙ pair_at (2 * i) 1 (2 * i + 1) c.args.line.now c.loop-byte.rest.now c.loop-byte.invariant.rest
+    (omega arith) refl in
     let high_is : high ≡ entry_of first =
     c.self.invariant c.from.result (omega (arith, first_is, c.type_inv.line (2 * i))) ∙ ap entry_of first_is in
     let low_is : low ≡ entry_of second =
