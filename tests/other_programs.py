@@ -35,9 +35,9 @@ def snapped(snap_len, *lengths):
     return classic()[:16] + snap_len.to_bytes(4, "big") + classic()[20:24] + b"".join(cut(it) for it in lengths)
 
 
-def packet(length):
-    """An enhanced packet of the first interface."""
-    front = b"".join(it.to_bytes(4, "little") for it in (0, 0, 1_000_000, length, 1038))
+def packet(length, number=0):
+    """An enhanced packet of the interface with this number."""
+    front = b"".join(it.to_bytes(4, "little") for it in (number, 0, 1_000_000, length, 1038))
     return block(6, (front + FRAME[:length] + bytes(-length % 4)).hex())
 
 
@@ -88,6 +88,18 @@ def snap_lengths(program):
     for name, file in files.items():
         copy, said, status = copied(program, PUSH, file)
         tried.append((f"{name} with a snap length, after --push-vlan", (tcpdump_lengths(copy), said, status), (([100, 64, 100], []), "", 0)))
+    return tried
+
+
+def several_interfaces(program):
+    """Two interfaces whose snap lengths are one to libpcap, which reads no other capture: 0, 262144 and what exceeds 31 bits are the same."""
+    tried = []
+    for pair in ((96, 96), (0, 0), (0, 262_144), (262_144, 0), (65_535, 65_535), (262_142, 262_142), (300_000, 300_000), (262_144, 0xFFFF_FFFF), (0x8000_0000, 0)):
+        file = section(-1, interface(pair[0]), packet(60), interface(pair[1]), packet(96, 1), packet(60))
+        copy, said, status = copied(program, PUSH, file)
+        read = tcpdump_lengths(file), tcpdump_lengths(copy)
+        tried.append((f"interfaces with snap lengths {pair}, before and after --push-vlan", (*read, said, status),
+                      (([60, 96, 60], []), ([64, 100, 64], []), "", 0)))
     return tried
 
 
@@ -162,7 +174,8 @@ def live(program):
 def main():
     program = os.path.realpath(sys.argv[1])
     tried = []
-    for needed, tests in (("tcpdump", snap_lengths), ("tshark", sections), ("tshark", cooked_headers), ("tshark", readers), ("tshark", counted_by_tshark), ("dumpcap", live)):
+    for needed, tests in (("tcpdump", snap_lengths), ("tcpdump", several_interfaces), ("tshark", sections), ("tshark", cooked_headers),
+                          ("tshark", readers), ("tshark", counted_by_tshark), ("dumpcap", live)):
         missing = [it for it in {needed, "tcpdump"} if not which(it)]
         if missing:
             print(f"left out: {tests.__name__.replace('_', ' ')}, since there is no {' and no '.join(missing)}")

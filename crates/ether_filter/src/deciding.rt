@@ -1,5 +1,5 @@
 //! What is known of a primitive if not all bytes of a packet were captured.
-ghost use Rattle.std.specs.Prelude.{◌≡◌, ◌↔◌, ◌≤◌, ◌-◌, List, Some, IsTrue};
+ghost use Rattle.std.specs.Prelude.{◌≡◌, ◌↔◌, ◌<◌, ◌≤◌, ◌-◌, ◌^◌, List, Some, IsTrue};
 ghost use Rattle.etherparse.specs.Header.{Header};
 ghost use Rattle.ether_peel.specs.Grammar.Expectation.{has_fcs as has_fcs_of};
 ghost use Rattle.ether_peel.specs.Grammar.Stack.{Ending, Walk};
@@ -38,7 +38,7 @@ pub(crate) fn find_opening(packet: &Packet<'_>) -> Option<Opening>
     }
     if has_fcs(packet.start) {
         return Some(Opening {
-            needed: packet.frame.len() + lost,
+            needed: packet.frame.len().saturating_add(lost),
             layer: None,
         });
     }
@@ -47,7 +47,7 @@ pub(crate) fn find_opening(packet: &Packet<'_>) -> Option<Opening>
         return None;
     }
     Some(Opening {
-        needed: packet.frame.len() + missing,
+        needed: packet.frame.len().saturating_add(missing),
         layer: Some(layer),
     })
 }
@@ -75,7 +75,8 @@ fn has_fcs(start: Start) -> bool
 
 /// The number of bytes of a packet that were not captured.
 fn lost(packet: &Packet<'_>) -> usize
-    ensures { result ≡ lost_of packet.now }
+    ensures value { result ≡ lost_of packet.now }
+    ensures within { result < 2 ^ 32 }
 {
     (packet.original_len as usize).saturating_sub(packet.captured_len)
 }

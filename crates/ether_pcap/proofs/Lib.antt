@@ -16,6 +16,7 @@ pub mod PacketsOne
 pub mod CaptureSome
 pub mod CaptureReadingLemmas
 pub mod Copies
+mod Interfaces
 pub mod CopiesOne
 pub mod CopiesCompose
 pub mod EditUnits

@@ -51,7 +51,7 @@ module _ (at : ℕ) (new bytes : List ℕ) (room : at + length new ≤ length by
 -- ---- a raised snap length
 
 pub raised_none : (raise n : ℕ) → n ≡ 0 → raised_len raise n ≡ 0
-raised_none raise n is = ap (λ (b : Bool). if b then 0 else min (n + raise) (2 ^ 32 - 1)) (eq-eqb n 0 is)
+raised_none raise n is = search rules
 
 raised_below : (raise n : ℕ) → raised_len raise n < 256 ^ 4
 raised_below raise n = search rules

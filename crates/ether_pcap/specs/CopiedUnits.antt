@@ -1,8 +1,9 @@
 -- What a copy of a capture file has for each unit: its bytes; or, if the copy is another capture, bytes that are true
 -- of that capture (draft-ietf-opsawg-pcap, section 4; draft-ietf-opsawg-pcapng, section 4).
-use Rattle.std.specs.Prelude.{ℕ, ◌+◌, ◌-◌, ◌^◌, min, List, [], ◌∷◌, ◌++◌, length, map, drop, Option, Some, None, Bool, true, nat_eq, slice_range, if◌then◌else◌}
+use Rattle.std.specs.Prelude.{ℕ, ◌+◌, ◌-◌, ◌^◌, min, max, List, [], ◌∷◌, ◌++◌, length, map, drop, Option, Some, None, Bool, true, nat_eq, slice_range, if◌then◌else◌}
 use Rattle.ether_base.specs.Bytes.{number}
 use Rattle.ether_pcap.specs.Numbers.{Order, field}
+use Rattle.ether_pcap.specs.Record.{max_captured_len}
 use Rattle.ether_pcap.specs.Bodies.{captured_by}
 use Rattle.ether_pcap.specs.FileHeader.{FileHeaderValue}
 use Rattle.ether_pcap.specs.Section.{section_type}
@@ -25,9 +26,10 @@ copy_mode_view (modes.Changed raise) = Changed raise
 
 -- ---- snap lengths
 
--- the raised snap length: at most the greatest number of four bytes; 0, no limit, is unchanged
+-- The raised snap length, a number of four bytes: at most as many bytes as a packet has. One that is not less is
+-- unchanged, as is 0, no limit.
 abbrev pub raised_len : (raise snap_len : ℕ) → ℕ
-raised_len raise n = if nat_eq n 0 then 0 else min (n + raise) (2 ^ 32 - 1)
+raised_len raise n = if nat_eq n 0 then 0 else min (max n (min (n + raise) max_captured_len)) (2 ^ 32 - 1)
 
 abbrev pub raised_header : ℕ → FileHeaderValue → FileHeaderValue
 raised_header raise h = record h { snap_len = raised_len raise h.snap_len }

@@ -6,6 +6,7 @@ use Rattle.ether_base.specs.Bytes.{IsBytes}
 use Rattle.ether_pcap.specs.Capture.{PacketValue, IsWithinSnap, CaptureExpectation, Beginning, CaptureRefusal, Begins, RefusesCapture, HasBegun, IsEnd, HasPackets}
 use Rattle.ether_pcap.specs.Editing.{EditedValue}
 use Rattle.ether_pcap.specs.CopiedUnits.{ModeValue, Exact, Changed, expected_in, other_unit, unit_after, packet_after}
+use Rattle.ether_pcap.specs.Interfaces.{KeepsInterfaces}
 
 -- why a copy ends before the file does: the rest is refused, or begins with a packet that is to be edited but can't be
 pub data CopyFault : Type 0 where
@@ -95,8 +96,9 @@ CopiesBy mode test edits = Copies mode (λ p. IsTrue (test p)) (λ p o. IsTrue (
 
 -- A copy is a file whose packets are the kept packets of the file, in order, each as it is edited. If nothing of a
 -- file is copied, the file is refused at its beginning. In a copy that is another capture snap lengths are still
--- bounds, if they are raised by as many bytes as an edit adds to a packet. If no packet is edited, an exact copy with
--- all packets is the file itself, up to the rest.
+-- bounds, if they are raised by as many bytes as an edit adds to a packet; and libpcap reads the copy with all its
+-- interfaces if it reads the file with all of them. If no packet is edited, an exact copy with all packets is the file
+-- itself, up to the rest.
 pub record CopiesAreRead : Type 0 where
   pub read : (mode : ModeValue) (test : PacketValue → Bool) (edits : PacketValue → Option EditedValue → Bool) (x : CaptureExpectation) (bytes copy : List ℕ) (kept edited : List PacketValue) (rest : List ℕ) (fault : Option CopyFault)
       → CopiesBy mode test edits x bytes copy kept edited rest fault → IsRead mode x copy edited
@@ -110,6 +112,8 @@ pub record CopiesAreRead : Type 0 where
       → CopiesBy mode test edits x bytes copy kept edited rest (Some (NotEdited p)) → IsNotEdited mode (λ q. IsTrue (test q)) (λ q o. IsTrue (edits q o)) rest p
   pub within : (raise : ℕ) (test : PacketValue → Bool) (edits : PacketValue → Option EditedValue → Bool) (x : CaptureExpectation) (bytes copy : List ℕ) (kept edited : List PacketValue) (rest : List ℕ) (fault : Option CopyFault)
       → CopiesBy (Changed raise) test edits x bytes copy kept edited rest fault → EditsWithin raise (λ p o. IsTrue (edits p o)) → All IsWithinSnap kept → All IsWithinSnap edited
+  pub interfaces : (raise : ℕ) (test : PacketValue → Bool) (edits : PacketValue → Option EditedValue → Bool) (x : CaptureExpectation) (bytes copy : List ℕ) (kept edited : List PacketValue) (rest : List ℕ) (fault : Option CopyFault)
+      → CopiesBy (Changed raise) test edits x bytes copy kept edited rest fault → KeepsInterfaces raise x bytes copy rest
   pub unedited : (edits : PacketValue → Option EditedValue → Bool) (kept edited : List PacketValue) → EditsNone (λ p o. IsTrue (edits p o))
       → AreEdited Exact (λ p o. IsTrue (edits p o)) kept edited → edited ≡ kept
   pub all : (edits : PacketValue → Option EditedValue → Bool) (x : CaptureExpectation) (bytes copy : List ℕ) (kept edited : List PacketValue) (rest : List ℕ) (fault : Option CopyFault)

@@ -19,5 +19,6 @@ pub mod CaptureReading
 pub mod CaptureLaws
 pub mod Editing
 pub mod CopiedUnits
+pub mod Interfaces
 pub mod Copies
 pub mod WritingBlocks

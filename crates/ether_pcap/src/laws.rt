@@ -79,7 +79,7 @@ pub fn written_sections_are_read()
 /// A copy of a capture file without some of its packets, and with others edited, is a file of the same format. It has
 /// exactly the packets that are kept, in their order, each as it was edited. If nothing of a file is copied, the file
 /// is refused at its first unit. A copy ends before a packet that can't be edited: a simple packet, or one that would
-/// be too long.
+/// be too long. What libpcap asks of the interfaces of a pcapng file holds of a copy if it holds of the file.
 pub fn copies_are_read()
     ensures { CopiesAreRead }
 {}

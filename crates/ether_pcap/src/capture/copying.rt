@@ -9,7 +9,7 @@ ghost use Rattle.ether_pcap.specs.Writing.{bytes_of};
 
 use crate::pcapng::simple_packet::captured_len;
 use crate::word_bytes::word;
-use crate::{ByteOrder, CapturedPacket, CopiedUnit, FileHeader, PcapngBlock};
+use crate::{ByteOrder, CapturedPacket, CopiedUnit, FileHeader, PcapRecord, PcapngBlock};
 
 /// The file header with its snap length raised.
 pub(crate) fn changed_header<'a>(header: &FileHeader, raise: u32, unit: &'a [u8]) -> CopiedUnit<'a>
@@ -92,12 +92,17 @@ fn with_snap_len<'a>(order: ByteOrder, at: usize, snap_len: u32, unit: &'a [u8])
     }
 }
 
-/// Raises a snap length, to 2^32 - 1 at most. A snap length of 0 (no limit) is unchanged.
+/// Raises a snap length, to the most bytes that are captured of a packet. One that is not less, and 0 (no limit), are
+/// unchanged: libpcap reads several interfaces only if their snap lengths are equal, and 0 as that number.
 fn raised_len(raise: u32, snap_len: u32) -> u32
     ensures { result ≡ raised raise snap_len }
 {
     if snap_len == 0 {
         return 0;
     }
-    snap_len.saturating_add(raise)
+    snap_len.max(
+        snap_len
+            .saturating_add(raise)
+            .min(PcapRecord::MAX_CAPTURED_LEN),
+    )
 }

@@ -82,7 +82,11 @@ fn edited_enhanced_packet<'a>(
     if block.len() < 32 || block.len() > PcapngBlock::MAX_LEN as usize {
         return None;
     }
-    let options_at = 28 + padded_len(order.u32_at(block, 20) as usize);
+    let captured_len = order.u32_at(block, 20);
+    if captured_len > PcapRecord::MAX_CAPTURED_LEN {
+        return None;
+    }
+    let options_at = 28 + padded_len(captured_len as usize);
     let end = block.len() - 4;
     if end < options_at {
         return None;

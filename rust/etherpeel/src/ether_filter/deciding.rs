@@ -26,7 +26,7 @@ pub(crate) fn find_opening(packet: &Packet<'_>) -> Option<Opening> {
     }
     if has_fcs(packet.start) {
         return Some(Opening {
-            needed: packet.frame.len() + lost,
+            needed: packet.frame.len().saturating_add(lost),
             layer: None,
         });
     }
@@ -35,7 +35,7 @@ pub(crate) fn find_opening(packet: &Packet<'_>) -> Option<Opening> {
         return None;
     }
     Some(Opening {
-        needed: packet.frame.len() + missing,
+        needed: packet.frame.len().saturating_add(missing),
         layer: Some(layer),
     })
 }

@@ -1,4 +1,4 @@
-use Rattle.std.proofs.Common.{sym, arith}
+use Rattle.std.proofs.Common.{◌≡◌, ◌+◌, length, sym, arith, rules}
 use Rattle.ether_filter.proofs.Opened.{not_open, out_of_reach, in_reach}
 use Rattle.ether_filter.proofs.deciding.find_opening.Goals as goal
 
@@ -12,7 +12,14 @@ returns-then-missing-lost c hs e walk =
     out_of_reach c.args.packet.now e c.in_ok-missing.missing c.in_ok-missing.layer (sym c.if-has_fcs.ensures)
     (c.in_ok-missing.ensures hs e walk) (omega arith)
 
+pub returns-then-has_fcs : goal.returns-then-has_fcs
+returns-then-has_fcs c hs e walk =
+    let sum : c.saturating_add.result ≡ length c.args.packet.now.frame.now + c.lost-lost.result = search rules in
+    rw sum (search rules)
+
 pub returns : goal.returns
 returns c hs e walk =
-    in_reach c.args.packet.now e c.in_ok-missing.missing c.in_ok-missing.layer (c.in_ok-missing.ensures hs e walk)
-    (omega arith) (omega arith)
+    let sum : c.saturating_add-2.result ≡ length c.args.packet.now.frame.now + c.in_ok-missing.missing = search rules in
+    rw sum
+    (in_reach c.args.packet.now e c.in_ok-missing.missing c.in_ok-missing.layer (c.in_ok-missing.ensures hs e walk)
+    (omega arith) (omega arith))

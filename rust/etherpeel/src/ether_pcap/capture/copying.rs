@@ -2,7 +2,7 @@
 
 use crate::ether_pcap::pcapng::simple_packet::captured_len;
 use crate::ether_pcap::word_bytes::word;
-use crate::ether_pcap::{ByteOrder, CapturedPacket, CopiedUnit, FileHeader, PcapngBlock};
+use crate::ether_pcap::{ByteOrder, CapturedPacket, CopiedUnit, FileHeader, PcapRecord, PcapngBlock};
 
 /// The file header with its snap length raised.
 #[inline]
@@ -74,11 +74,16 @@ fn with_snap_len<'a>(order: ByteOrder, at: usize, snap_len: u32, unit: &'a [u8])
     }
 }
 
-/// Raises a snap length, to 2^32 - 1 at most. A snap length of 0 (no limit) is unchanged.
+/// Raises a snap length, to the most bytes that are captured of a packet. One that is not less, and 0 (no limit), are
+/// unchanged: libpcap reads several interfaces only if their snap lengths are equal, and 0 as that number.
 #[inline]
 fn raised_len(raise: u32, snap_len: u32) -> u32 {
     if snap_len == 0 {
         return 0;
     }
-    snap_len.saturating_add(raise)
+    snap_len.max(
+        snap_len
+            .saturating_add(raise)
+            .min(PcapRecord::MAX_CAPTURED_LEN),
+    )
 }
