@@ -7,10 +7,11 @@ import signal
 import subprocess
 import tempfile
 import time
+from shutil import which
 
 from made_captures import CLASSIC, CLASSIC_LINES, INPUT, IS_FOLDER, NO_FILE, SIX, classic, record_is_cut
 from capture_copies import copied
-from programs import run_apart
+from programs import interrupted, run_apart
 
 OLD = b"what the file had before"
 CLASH = "ether_capture: these options do not go together; try --help\n"
@@ -182,6 +183,15 @@ def closed_pipes(program):
     return tried
 
 
+def interrupted_calls(program):
+    """Reads and writes that signals interrupt. They are tried again, so that the run ends as ever."""
+    if not which("strace"):
+        print("left out: interrupted calls, since there is no strace")
+        return []
+    wanted = [([], "", 1), (["in"], "", 1), (["-r", "in"], "", 1), (["in", "no"], "no" + NO_FILE, 4)]
+    return [(f"interrupted reads and writes {words}", interrupted(program, words, CLASSIC), (CLASSIC_LINES, said, status)) for words, said, status in wanted]
+
+
 def shown(said):
     """What of the text on standard error is shown of reading: how often, the last bytes and their number in all, and what is said besides."""
     *others, end = said.split("\r")
@@ -225,4 +235,5 @@ def streams(program):
     for name, words, given, files, text, said, status, changed in COPIES + READS:
         found = done(program, words, given, files)
         tried.append((f"-w or -r: {name}", found, (text, said, status, {**files, **changed})))
-    return [*tried, *files_too_large(program), *files_of_others(program), *protected_files(program), *links(program), *killed_runs(program), *modes(program), *closed_pipes(program), *progress(program)]
+    others = (files_too_large, files_of_others, protected_files, links, killed_runs, modes, closed_pipes, interrupted_calls, progress)
+    return [*tried, *(it for tests in others for it in tests(program))]

@@ -1,5 +1,6 @@
 """What the tests of the programs share: runs of a built program, and the count of those that end as they should."""
 
+import os
 import resource
 import socket
 import subprocess
@@ -58,6 +59,20 @@ def run_until_a_fault(program, words, given):
         ours.close()
         text = child.stdout.read().decode("latin-1")
     return text, child.returncode
+
+
+def interrupted(program, words, given):
+    """What the program prints, what it says on standard error, and its status, if signals interrupt every second read of its input, a file `in`
+    that may also be named, and every second write of its output."""
+    with tempfile.TemporaryDirectory() as folder:
+        paths = [os.path.join(os.path.realpath(folder), name) for name in ("in", "out")]
+        with open(paths[0], "wb") as file:
+            file.write(given)
+        traced = ["strace", "-qq", "-o", "/dev/null", *(word for it in paths for word in ("-P", it)), "-e", "inject=read,write:error=EINTR:when=1+2"]
+        with open(paths[0], "rb") as file, open(paths[1], "wb") as out:
+            done = subprocess.run([*traced, program, *words], stdin=file, stdout=out, stderr=subprocess.PIPE, cwd=folder, check=False)
+        with open(paths[1], "rb") as out:
+            return out.read().decode(), done.stderr.decode(), done.returncode
 
 
 def on_a_full_disk(program, words, given):

@@ -75,7 +75,7 @@ PROGRAM_MACROS = {"write": "(", "writeln": "(", "format": "("}
 PROGRAM_NAMES = {"ErrorKind", "Global", "NonZeroUsize", "Noted", "String", "Vec", "Read", "Write", "tell_failure"}
 PROGRAM_PATHS = set(
     """std::env std::error::Error std::fmt std::io std::io::ErrorKind std::io::Read std::io::Write std::num::NonZeroUsize
-    NonZeroUsize::new env::Args io::Error
+    ErrorKind::Interrupted NonZeroUsize::new env::Args io::Error
     io::Result io::Sink io::Write io::sink hex::decode_to_slice hex::encode_to_slice thiserror::Error u64::MAX""".split()
 )
 PROGRAM_METHODS = set(

@@ -1,12 +1,12 @@
 //! Streams that keep the error of a call that failed.
-ghost use Rattle.std.specs.Prelude.{◌≡◌, None, Some, IfErr, IfSome, OnOk};
+ghost use Rattle.std.specs.Prelude.{◌≡◌, ◌≢◌, None, Some, IfErr, IfSome, OnOk};
 ghost use Rattle.std.specs.IoError.{error_kind};
-ghost use Rattle.std.specs.declared.io.ErrorKind.TheVariants.{BrokenPipe};
+ghost use Rattle.std.specs.declared.io.ErrorKind.TheVariants.{BrokenPipe, Interrupted};
 
 use std::io;
 use std::io::{ErrorKind, Read, Write};
 
-/// A reader or writer, and the error of the last call on it that failed.
+/// A reader or writer, and the error of the last call on it that failed, but for calls that a signal interrupted.
 ///
 /// A run returns only that a stream has failed. This keeps the reason.
 ///
@@ -40,14 +40,17 @@ impl<T> Noted<T> {
     }
 }
 
-/// Keeps the error of a call that failed, and returns what the call returned.
+/// Keeps the error of a call that failed, unless a signal interrupted the call, which is then tried again. Returns what
+/// the call returned.
 fn note<V>(answer: io::Result<V>, error: &mut Option<io::Error>) -> io::Result<V>
     ensures same { result ≡ answer }
-    ensures noted { IfErr result (λ e. error.new ≡ Some e) }
+    ensures noted { IfErr result (λ e. error_kind e ≢ Interrupted → error.new ≡ Some e) }
+    ensures interrupted { IfErr result (λ e. error_kind e ≡ Interrupted → error.new ≡ error.old) }
     ensures kept { OnOk result (error.new ≡ error.old) }
 {
     match answer {
         Ok(value) => Ok(value),
+        Err(e) if e.kind() == ErrorKind::Interrupted => Err(e),
         Err(e) => {
             *error = Some(e);
             Err(e)

@@ -3,7 +3,7 @@ ghost use Rattle.std.specs.Prelude.{◌≡◌, ◌≤◌, ◌<◌, ℕ, List, Op
 ghost use Rattle.std.specs.Io.KnownBytes.{Consumes, IsAtEnd, Keeps};
 
 use crate::InputFault;
-use std::io::Read;
+use std::io::{ErrorKind, Read};
 
 /// What a run reads from: any [`Read`], or a [`SliceSource`].
 ///
@@ -32,11 +32,16 @@ impl<R: Read> Source for R {
 
     ghost can_fail = { ⊤ };
 
+    // a read that a signal interrupted is tried again
     fn read_some(&mut self, chunk: &mut [u8]) -> Result<usize, InputFault> {
-        match self.read(chunk) {
-            Ok(count) => Ok(count),
-            Err(_) => Err(InputFault),
+        for _ in 0..u64::MAX {
+            match self.read(chunk) {
+                Ok(count) => return Ok(count),
+                Err(error) if error.kind() == ErrorKind::Interrupted => {}
+                Err(_) => return Err(InputFault),
+            }
         }
+        Err(InputFault)
     }
 }
 

@@ -1,7 +1,7 @@
 //! Streams that keep the error of a call that failed. Written by hand, not proved.
 use std::io::{self, ErrorKind, Read, Write};
 
-/// A reader or writer, and the error of the last call on it that failed.
+/// A reader or writer, and the error of the last call on it that failed, but for calls that a signal interrupted.
 ///
 /// A run says only that a stream has failed. This says why.
 pub struct Noted<T> {
@@ -20,11 +20,13 @@ impl<T> Noted<T> {
         self.error.as_ref()
     }
 
-    /// Keeps the error of a call, if it has failed.
+    /// Keeps the error of a call, if it has failed, unless a signal interrupted it: then it is tried again.
     fn note<V>(&mut self, answer: io::Result<V>) -> io::Result<V> {
         answer.map_err(|error| {
             let kind = error.kind();
-            self.error = Some(error);
+            if kind != ErrorKind::Interrupted {
+                self.error = Some(error);
+            }
             kind.into()
         })
     }

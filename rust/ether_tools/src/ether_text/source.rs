@@ -1,7 +1,7 @@
 //! What a run reads from.
 
 use crate::ether_text::InputFault;
-use std::io::Read;
+use std::io::{ErrorKind, Read};
 
 /// What a run reads from: any [`Read`], or a [`SliceSource`].
 ///
@@ -27,11 +27,16 @@ pub trait Source {
 }
 
 impl<R: Read> Source for R {
+    // a read that a signal interrupted is tried again
     fn read_some(&mut self, chunk: &mut [u8]) -> Result<usize, InputFault> {
-        match self.read(chunk) {
-            Ok(count) => Ok(count),
-            Err(_) => Err(InputFault),
+        for _ in 0..u64::MAX {
+            match self.read(chunk) {
+                Ok(count) => return Ok(count),
+                Err(error) if error.kind() == ErrorKind::Interrupted => {}
+                Err(_) => return Err(InputFault),
+            }
         }
+        Err(InputFault)
     }
 }
 
