@@ -6,11 +6,12 @@ import datetime
 import json
 import os
 import random
+import re
 import subprocess
 import tempfile
 from shutil import which
 
-from made_captures import CLASSIC, INPUT, SECTIONS, SIX, WITH_FCS, classic, cooked, joined, record_is_cut
+from made_captures import CLASSIC, INPUT, SECTIONS, SIX, WITH_FCS, block, classic, cooked, interface, joined, record_is_cut
 from programs import run, run_apart
 
 JSON, BRIEF = ["--format", "json"], ["--format", "brief"]
@@ -165,6 +166,15 @@ DOCUMENTED_LINE = (
     '"start":0,"end":14,"payload_end":14,"closed":false,"dst":"ff:ff:ff:ff:ff:ff","src":"02:00:00:00:00:01","type":2048,'
     '"fcs":null}],"rest":{"start":14,"end":14,"kind":"ether_type","type":2048}}\n')
 
+# Two packets of an interface whose unit of time is a millisecond: the last one of the year 9999, and a later one, for which RFC 3339 has no date
+# (`date -u -d @253402300800`).
+LATE = interface("09000100 03000000 00000000") + b"".join(
+    block(6, "00000000", time, "14000000 14000000", "020000000001 020000000002 88b5 010203040506") for time in ("77e60000 ffdb1fd2", "77e60000 7bdc1fd2"))
+LATE_TIMES = [(JSON, r'"time":([^,]*),', ['"9999-12-31T23:59:59.999000000Z"', "253402300800.123000000"]),
+              (BRIEF, r"\d+ (\S+) ", ["9999-12-31T23:59:59.999000Z", "253402300800.123000"]),
+              (["--fields", "frame.time"], r"(.*)", ["9999-12-31T23:59:59.999000000Z", "253402300800.123000000"]),
+              ([], r"frame \d time (\S+) .*", ["253402300799.999000000", "253402300800.123000000"])]
+
 # The rows of columns, by hand from the bytes.
 ROWS = [
     ("the example of the documentation", classic(joined("ffffffffffff 020000000001 8100 0005 0800"),
@@ -234,6 +244,10 @@ def examples(program):
         capture = classic() + seconds.to_bytes(4, "big") + joined("0000002a", "00000001" * 2, "00")
         tried.append((f"the date of {seconds}", json.loads(run(program, JSON, capture)[0])["time"], f"{date}.000042000Z"))
         tried.append((f"the date of {seconds} for the eye", run(program, BRIEF, capture)[0].split()[1], f"{date}.000042Z"))
+    for words, form, wanted in LATE_TIMES:
+        text, _ = run(program, words, LATE)
+        found = [told[1] for told in (re.search(form, line) for line in text.splitlines()) if told]
+        tried.append((f"late times {words}", found, wanted))
     for words, end in BRIEF_ENDS:
         text, _ = run(program, BRIEF, classic(joined("ffffffffffff 020000000001", words)))
         tried.append((f"{words} for the eye", text, f"1 2023-11-14T22:13:20.000000Z 02:00:00:00:00:01 > {BROADCAST} {end}\n"))
@@ -332,8 +346,8 @@ def schema(program):
     if subprocess.run([PYTHON, "-c", "import jsonschema"], stderr=subprocess.DEVNULL, check=False).returncode:
         print("left out: JSON with its schema, since jsonschema is not there")
         return []
-    captures = [it[1] for it in PACKETS] + [classic(*drawn(500))]
-    packets = sum(len(it[3]) for it in PACKETS) + 500
+    captures = [it[1] for it in PACKETS] + [LATE, classic(*drawn(500))]
+    packets = sum(len(it[3]) for it in PACKETS) + 502
     with tempfile.NamedTemporaryFile() as file:
         for capture in captures:
             file.write(subprocess.run([program, *JSON], input=capture, capture_output=True, check=False).stdout)

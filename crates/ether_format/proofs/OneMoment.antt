@@ -111,7 +111,9 @@ one_moment t m n a b =
     let date = one_date (days_before_year 1970 + t.seconds / 86400) m.year m.month m.day n.year n.month n.day a.date b.date in
     let hour = one_hour (t.seconds % 86400) m.hour m.minute m.second n.hour n.minute n.second a.hour b.hour in
     let rest = a.nanoseconds ∙ sym b.nanoseconds in
+    let seconds = a.seconds ∙ sym b.seconds in
     λ i. record {
+      seconds = seconds i;
       year = date.0 i;
       month = date.1 i;
       day = date.2 i;

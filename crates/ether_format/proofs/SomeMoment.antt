@@ -117,6 +117,7 @@ some_moment t =
     let a = dated (days_before_year 1970 + t.seconds / 86400) in
     let seconds = t.seconds % 86400 in (
       record {
+        seconds = t.seconds;
         year = a.year;
         month = a.month;
         day = a.day;
@@ -125,7 +126,7 @@ some_moment t =
         second = seconds % 60;
         nanoseconds = t.nanoseconds;
       },
-      record { date = a.is_date; hour = some_hour seconds (omega arith); nanoseconds = refl },
+      record { seconds = refl; date = a.is_date; hour = some_hour seconds (omega arith); nanoseconds = refl },
     )
 
 pub some_moments : (t : Option TimeValue) → (m : Option Moment) × AreMoments t m

@@ -19,7 +19,7 @@ use Rattle.ether_peel.specs.declared.rest_kind.RestKind.TheVariants as rests
 use Rattle.ether_format.specs.declared.moment.Moment.{Moment}
 use Rattle.ether_format.specs.Members.{protocol_address}
 use Rattle.ether_format.specs.Told.{Told, Walked, CookedV2, Cause, Length, UnknownPacketType, UnknownHardwareType, Version, ShortLength, ToldEnd, Rest, Skipped, Fault, kind_word}
-use Rattle.ether_format.specs.Spelling.{colon_text, column_value, date_text, nine_digits}
+use Rattle.ether_format.specs.Spelling.{colon_text, column_value, date_text, has_date, nine_digits}
 
 -- ---- headers, each after a space
 
@@ -132,7 +132,9 @@ abbrev pub fraction_text : ℕ → List ℕ
 fraction_text n = if nat_eq (n % 1000) 0 then take 6 (nine_digits n) else nine_digits n
 
 abbrev pub brief_moment : Moment → List ℕ
-brief_moment m = date_text m ++ (codes "." ++ (fraction_text m.nanoseconds ++ codes "Z"))
+brief_moment m =
+    if has_date m then date_text m ++ (codes "." ++ (fraction_text m.nanoseconds ++ codes "Z"))
+    else decimal m.seconds ++ (codes "." ++ fraction_text m.nanoseconds)
 
 abbrev pub brief_time : Option Moment → List ℕ
 brief_time None = codes "-"

@@ -45,6 +45,7 @@ pub record IsHour (seconds hour minute second : ℕ) : Type 0 where
 
 -- seconds and nanoseconds since the beginning of 1970, as a moment
 pub record IsMoment (t : TimeValue) (m : Moment) : Type 0 where
+  pub seconds : m.seconds ≡ t.seconds
   pub date : IsDate (days_before_year 1970 + t.seconds / 86400) m.year m.month m.day
   pub hour : IsHour (t.seconds % 86400) m.hour m.minute m.second
   pub nanoseconds : m.nanoseconds ≡ t.nanoseconds

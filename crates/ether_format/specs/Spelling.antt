@@ -1,5 +1,5 @@
 -- How values are spelled.
-use Rattle.std.specs.Prelude.{ℕ, ◌/◌, ◌%◌, ◌^◌, ◌+◌, List, [], ◌∷◌, ◌++◌, codes, Bool, true, false}
+use Rattle.std.specs.Prelude.{ℕ, ◌/◌, ◌%◌, ◌^◌, ◌+◌, List, [], ◌∷◌, ◌++◌, codes, Bool, true, false, nat_lt, if◌then◌else◌}
 use Rattle.std.specs.List.{flat_map}
 use Rattle.std.specs.Fmt.{decimal}
 use Rattle.etherparse.specs.NumberText.{hex_number}
@@ -32,13 +32,29 @@ date_text m =
     ++ two_digits m.minute ++ codes ":" ++ two_digits m.second)
 
 -- .. with nine decimals
+unfoldable pub dated_text : Moment → List ℕ
+dated_text m = date_text m ++ (codes "." ++ (nine_digits m.nanoseconds ++ codes "Z"))
+
+-- the seconds since the beginning of 1970, with nine decimals
+unfoldable pub seconds_text : Moment → List ℕ
+seconds_text m = decimal m.seconds ++ (codes "." ++ nine_digits m.nanoseconds)
+
+-- the year has at most four digits: RFC 3339 (5.6) has no date for a later one, and ISO 8601 only by agreement
+abbrev pub has_date : Moment → Bool
+has_date m = nat_lt m.year 10000
+
+-- a moment as a date, or if it has none, as its seconds
 unfoldable pub moment_text : Moment → List ℕ
-moment_text m = date_text m ++ (codes "." ++ (nine_digits m.nanoseconds ++ codes "Z"))
+moment_text m = if has_date m then dated_text m else seconds_text m
 
 -- ---- in JSON (RFC 8259, 3)
 
 abbrev pub quoted : List ℕ → List ℕ
 quoted text = codes "\"" ++ (text ++ codes "\"")
+
+-- a date is a text, and seconds are a number
+unfoldable pub json_moment : Moment → List ℕ
+json_moment m = if has_date m then quoted (dated_text m) else seconds_text m
 
 abbrev pub flag_text : Bool → List ℕ
 flag_text true = codes "true"
@@ -52,7 +68,7 @@ json_value (Flag b) = flag_text b
 json_value (Bytes bytes) = quoted (colon_text bytes)
 json_value (Dotted bytes) = quoted (dotted_text bytes)
 json_value (Word word) = quoted word
-json_value (Time m) = quoted (moment_text m)
+json_value (Time m) = json_moment m
 
 -- ---- in a column; what a header does not have is empty
 

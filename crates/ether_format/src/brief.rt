@@ -24,7 +24,9 @@ ghost use Rattle.ether_format.specs.Walking.{cause_shown, linux_sll_cause, macse
 use crate::Moment;
 use crate::endings::kind_word;
 use crate::members::used;
-use crate::spelling::{first_of, mac_text, nine_digits, write_colons, write_date, write_dotted};
+use crate::spelling::{
+    first_of, has_date, mac_text, nine_digits, write_colons, write_date, write_dotted,
+};
 use ether_content::{CookedHeader, is_cut};
 use ether_pcap::CapturedPacket;
 use ether_peel::{PeelError, PeelUnit, RestKind};
@@ -333,10 +335,16 @@ pub(crate) fn write_brief_front<W: Sink>(
     }
 }
 
-/// Writes a date and a time of day, with six or nine decimals of the second.
+/// Writes a date and a time of day, or without a date the seconds since the beginning of 1970, with six or nine decimals.
 fn write_brief_moment<W: Sink>(moment: &Moment, out: &mut OutputBuffer<'_, W>)
     ensures { Takes W.contents W.can_fail out.old (brief_moment moment.now) out.new }
 {
+    if !has_date(moment) {
+        write_decimal(out, moment.seconds as usize);
+        out.append(b".");
+        write_fraction(moment.nanoseconds, out);
+        return;
+    }
     write_date(moment, out);
     out.append(b".");
     write_fraction(moment.nanoseconds, out);

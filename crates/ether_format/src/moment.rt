@@ -3,6 +3,8 @@
 /// A time as a date of the Gregorian calendar and a time of day (ISO 8601), in Coordinated Universal Time.
 #[derive(Clone, Copy, PartialEq, Eq, Debug)]
 pub struct Moment {
+    /// The seconds since the beginning of 1970.
+    pub seconds: u64,
     /// The year, 1970 at least.
     pub year: u64,
     /// The month, 1 to 12.

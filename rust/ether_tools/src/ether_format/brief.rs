@@ -3,7 +3,9 @@
 use crate::ether_format::Moment;
 use crate::ether_format::endings::kind_word;
 use crate::ether_format::members::used;
-use crate::ether_format::spelling::{first_of, mac_text, nine_digits, write_colons, write_date, write_dotted};
+use crate::ether_format::spelling::{
+    first_of, has_date, mac_text, nine_digits, write_colons, write_date, write_dotted,
+};
 use etherpeel::ether_content::{CookedHeader, is_cut};
 use etherpeel::ether_pcap::CapturedPacket;
 use etherpeel::ether_peel::{PeelError, PeelUnit, RestKind};
@@ -264,8 +266,14 @@ pub(crate) fn write_brief_front<W: Sink>(
     }
 }
 
-/// Writes a date and a time of day, with six or nine decimals of the second.
+/// Writes a date and a time of day, or without a date the seconds since the beginning of 1970, with six or nine decimals.
 fn write_brief_moment<W: Sink>(moment: &Moment, out: &mut OutputBuffer<'_, W>) {
+    if !has_date(moment) {
+        write_decimal(out, moment.seconds as usize);
+        out.append(b".");
+        write_fraction(moment.nanoseconds, out);
+        return;
+    }
     write_date(moment, out);
     out.append(b".");
     write_fraction(moment.nanoseconds, out);

@@ -19,6 +19,7 @@ pub(crate) fn moment_of(time: Timestamp) -> Moment {
     let (year, month, day) = date_of(DAYS_BEFORE_1970 + time.seconds / 86_400);
     let seconds = time.seconds % 86_400;
     Moment {
+        seconds: time.seconds,
         year,
         month,
         day,

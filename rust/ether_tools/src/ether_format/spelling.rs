@@ -20,7 +20,7 @@ pub(crate) fn write_json_value<W: Sink>(value: &Value<'_>, out: &mut OutputBuffe
         Value::Bytes(bytes) => write_quoted_bytes(bytes, out),
         Value::Dotted(bytes) => write_quoted_dotted(bytes, out),
         Value::Word(word) => write_quoted_word(word, out),
-        Value::Time(moment) => write_quoted_moment(moment, out),
+        Value::Time(moment) => write_json_moment(moment, out),
     }
 }
 
@@ -77,11 +77,20 @@ fn write_quoted_dotted<W: Sink>(bytes: &[u8], out: &mut OutputBuffer<'_, W>) {
     out.append(b"\"");
 }
 
-/// Writes a moment between quotation marks.
+/// Writes a moment as a value of JSON: its date between quotation marks, or the number of its seconds.
 #[inline(never)]
-fn write_quoted_moment<W: Sink>(moment: &Moment, out: &mut OutputBuffer<'_, W>) {
+fn write_json_moment<W: Sink>(moment: &Moment, out: &mut OutputBuffer<'_, W>) {
+    if has_date(moment) {
+        write_quoted_date(moment, out);
+    } else {
+        write_seconds(moment, out);
+    }
+}
+
+/// Writes the date of a moment between quotation marks.
+fn write_quoted_date<W: Sink>(moment: &Moment, out: &mut OutputBuffer<'_, W>) {
     out.append(b"\"");
-    write_moment(moment, out);
+    write_dated(moment, out);
     out.append(b"\"");
 }
 
@@ -149,10 +158,32 @@ pub(crate) fn mac_text(address: [u8; 6]) -> [u8; 17] {
     ]
 }
 
-/// Writes a moment as in ISO 8601, with nine decimals of the second.
+/// Writes a moment: its date as in ISO 8601, or without one its seconds, with nine decimals of the second.
 pub(crate) fn write_moment<W: Sink>(moment: &Moment, out: &mut OutputBuffer<'_, W>) {
+    if has_date(moment) {
+        write_dated(moment, out);
+    } else {
+        write_seconds(moment, out);
+    }
+}
+
+/// Whether the year has at most four digits, as in RFC 3339.
+#[inline(always)]
+pub(crate) fn has_date(moment: &Moment) -> bool {
+    moment.year < 10_000
+}
+
+/// Writes a date and a time of day with nine decimals of the second.
+fn write_dated<W: Sink>(moment: &Moment, out: &mut OutputBuffer<'_, W>) {
     write_date(moment, out);
     out.append_array(fraction(moment.nanoseconds));
+}
+
+/// Writes the seconds since the beginning of 1970, with nine decimals.
+fn write_seconds<W: Sink>(moment: &Moment, out: &mut OutputBuffer<'_, W>) {
+    write_decimal(out, moment.seconds as usize);
+    out.append(b".");
+    out.append_array(nine_digits(moment.nanoseconds));
 }
 
 /// What follows the second of a moment: its nine decimals, and the Z of UTC.

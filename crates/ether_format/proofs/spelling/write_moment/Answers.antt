@@ -1,7 +1,11 @@
-use Rattle.ether_text.proofs.OutputBufferLemmas.{Takes-then, Takes-same}
+use Rattle.std.proofs.Common.{rules}
 use Rattle.ether_format.specs.Spelling.{moment_text}
 use Rattle.ether_format.proofs.spelling.write_moment.Goals as goal
 
-pub returns : goal.returns
+pub returns-then-has_date : goal.returns-then-has_date
 unfolding moment_text
-returns g c = Takes-then c.write_date.ensures (Takes-same c.fraction.ensures c.append_array.ensures)
+returns-then-has_date g c = search rules
+
+pub returns-else-has_date : goal.returns-else-has_date
+unfolding moment_text
+returns-else-has_date g c = search rules
