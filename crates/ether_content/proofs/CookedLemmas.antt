@@ -27,7 +27,8 @@ none_other true true true never = refl
 none_other true true false never = absurd (never refl refl refl)
 
 -- no row holds of a header of a supported hardware type
-accepted_usual : (list : List ℕ) → IsBytes list → Accepts sources.Slice list kinds.LinuxSll → has_other_hardware list ≡ false
+accepted_usual : (list : List ℕ) → IsBytes list → Accepts sources.Slice list kinds.LinuxSll → has_other_hardware list
+    ≡ false
 accepted_usual list ok accepted =
     let s = linux_sll_of list in
     none_other (nat_le 16 (length list)) (nat_le s.packet_type 7) (is_supported s.hardware_type)

@@ -136,7 +136,8 @@ cut_usual cut (h ∷ hs) e ok is walk = walked_usual (Start kinds.LinuxSll) cut 
 
 abbrev cooked_by : Bool → List ℕ → ContentValue
 cooked_by other bytes =
-    if other then LinuxSll (linux_sll_of bytes) (slice_range bytes 16 (length bytes)) else Frame (Start kinds.LinuxSll) bytes
+    if other then LinuxSll (linux_sll_of bytes) (slice_range bytes 16 (length bytes))
+    else Frame (Start kinds.LinuxSll) bytes
 
 cooked_again_by : (b : Bool) (bytes : List ℕ) (n : ℕ) → IsBytes bytes → has_other_hardware bytes ≡ b
     → HeadersTake (cooked_by b bytes) n → Again cooked_content bytes n
@@ -160,7 +161,8 @@ cooked_again_by true bytes n ok other (takes.cooked _ _ m r) =
     (λ i. if still i then LinuxSll (same i) (rest_of_cut bytes 16 m all i) else Frame (Start kinds.LinuxSll) cut) in (
       all,
       subst (λ (c : ContentValue). HeadersTake c (16 + m)) (sym is)
-          (takes.cooked s (take m left) m (reaches_again (EtherType s.protocol) left m (IsBytes-part 16 (length bytes) bytes ok) refl r)),
+          (takes.cooked s (take m left) m
+          (reaches_again (EtherType s.protocol) left m (IsBytes-part 16 (length bytes) bytes ok) refl r)),
     )
 cooked_again_by false bytes n ok usual (takes.frame _ _ _ r) =
     let next = Start kinds.LinuxSll in
@@ -192,7 +194,8 @@ accepted_again bytes n ok least le a =
     let len = length-take-le n bytes le in
     let known : s.packet_type ≤ 7 =
     elim (cases_lt 7 s.packet_type) [
-      | inl lt ↦ absurd (a (PacketType s.packet_type) (sll2.packet_type s (linux_sll2_begins bytes ok (accepted_least bytes a)) lt))
+      | inl lt ↦ absurd
+          (a (PacketType s.packet_type) (sll2.packet_type s (linux_sll2_begins bytes ok (accepted_least bytes a)) lt))
       | inr few ↦ few
     ] in
     linux_sll2_accepted (take n bytes) (IsBytes-take n bytes ok) (omega (arith, len, least))
@@ -257,7 +260,8 @@ without all v hs e walk =
     let part = take n all in
     let least =
     with_fcs all
-    (subst (λ (l : List ℕ). rows.Accepts sources.Slice l kinds.Ethernet2Fcs) (part_all all (length all) (omega arith)) walk.0.accepted) in
+    (subst (λ (l : List ℕ). rows.Accepts sources.Slice l kinds.Ethernet2Fcs) (part_all all (length all) (omega arith))
+    walk.0.accepted) in
     let len = length-take-le n all (omega arith) in
     let m = means_whole_list x all (headers.Ethernet2Fcs v) walk.0 in
     let y = after x (headers.Ethernet2Fcs v) in
@@ -300,11 +304,16 @@ fcs_by all n [] e ok walk is = inr is
 fcs_by all n (headers.Ethernet2Fcs v ∷ hs) e ok walk is =
     let w = without all v hs e walk in
     inl (record { headers = headers.Ethernet2 v ∷ hs; ending = w.0; walk = w.1; is_reach = is })
-fcs_by all n (headers.Ethernet2 v ∷ hs) e ok walk is = let no : Some kinds.Ethernet2Fcs ≡ Some kinds.Ethernet2 = walk.0.announced in absurd cc
-fcs_by all n (headers.LinuxSll v ∷ hs) e ok walk is = let no : Some kinds.Ethernet2Fcs ≡ Some kinds.LinuxSll = walk.0.announced in absurd cc
-fcs_by all n (headers.Vlan v ∷ hs) e ok walk is = let no : Some kinds.Ethernet2Fcs ≡ Some kinds.Vlan = walk.0.announced in absurd cc
-fcs_by all n (headers.Macsec v ∷ hs) e ok walk is = let no : Some kinds.Ethernet2Fcs ≡ Some kinds.Macsec = walk.0.announced in absurd cc
-fcs_by all n (headers.Arp v ∷ hs) e ok walk is = let no : Some kinds.Ethernet2Fcs ≡ Some kinds.Arp = walk.0.announced in absurd cc
+fcs_by all n (headers.Ethernet2 v ∷ hs) e ok walk is = let no : Some kinds.Ethernet2Fcs ≡ Some kinds.Ethernet2 =
+    walk.0.announced in absurd cc
+fcs_by all n (headers.LinuxSll v ∷ hs) e ok walk is = let no : Some kinds.Ethernet2Fcs ≡ Some kinds.LinuxSll =
+    walk.0.announced in absurd cc
+fcs_by all n (headers.Vlan v ∷ hs) e ok walk is = let no : Some kinds.Ethernet2Fcs ≡ Some kinds.Vlan =
+    walk.0.announced in absurd cc
+fcs_by all n (headers.Macsec v ∷ hs) e ok walk is = let no : Some kinds.Ethernet2Fcs ≡ Some kinds.Macsec =
+    walk.0.announced in absurd cc
+fcs_by all n (headers.Arp v ∷ hs) e ok walk is = let no : Some kinds.Ethernet2Fcs ≡ Some kinds.Arp =
+    walk.0.announced in absurd cc
 
 -- nothing is reached in no bytes
 none_reached : (next : Next) (list : List ℕ) (n : ℕ) → IsBytes list → next_has_fcs next ≡ false → n ≡ 0
@@ -324,7 +333,11 @@ fcs_again all n ok r =
     let part = take (length all - 4) all in
     let bytes = IsBytes-take (length all - 4) all ok in
     elim (fcs_by all n r.headers r.ending ok r.walk r.is_reach) [
-      | inl s ↦ (reaches_inside next part n refl s, takes.frame next (take n part) n (reaches_again next part n bytes refl s))
+      | inl s ↦ (
+        reaches_inside next part n refl s,
+        takes.frame next (take n part) n
+            (reaches_again next part n bytes refl s),
+      )
       | inr none ↦ (omega (arith, none), takes.frame next (take n part) n (none_reached next part n bytes refl none))
     ]
 

@@ -37,8 +37,8 @@ use Rattle.ether_content.proofs.CookedLemmas.{walked_usual, written_bytes}
 
 -- ---- the frame of a packet
 
--- what is walked, by the link type, whether a packet of cooked capture v1 is no frame, whether a whole check sequence is there, all bytes,
--- and those without it
+-- what is walked, by the link type, whether a packet of cooked capture v1 is no frame, whether a whole check sequence
+-- is there, all bytes, and those without it
 abbrev pub content_by : (ethernet cooked other cooked2 fcs : Bool) → (all without : List ℕ) → ContentValue
 content_by ethernet cooked other cooked2 fcs all without =
     if ethernet then (if fcs then Frame (Start kinds.Ethernet2Fcs) all else Frame (Start kinds.Ethernet2) without)

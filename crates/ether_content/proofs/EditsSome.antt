@@ -47,7 +47,8 @@ framed_by false false o false d all without x y = inr (λ next frame is. absurd 
 pub framed_or_not : (p : PacketValue) → IsBytes p.packet → Framed (content_of p) ⊎ Unframed (content_of p)
 framed_or_not p ok =
     framed_by (nat_eq p.link_type 1) (nat_eq p.link_type 113) (has_other_hardware (without_fcs p))
-    (nat_eq p.link_type 276) (has_fcs p) p.packet (without_fcs p) ok (IsBytes-take (max p.original_len (length p.packet) - fcs_len p) p.packet ok)
+    (nat_eq p.link_type 276) (has_fcs p) p.packet (without_fcs p) ok
+    (IsBytes-take (max p.original_len (length p.packet) - fcs_len p) p.packet ok)
 
 -- the walk of a frame
 record Walked (p : PacketValue) : Type 0 where

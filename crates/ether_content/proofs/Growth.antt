@@ -57,7 +57,13 @@ pushed_len tpid id p e is =
     let four = pushed_bytes tpid (tag_with id) in
     let tag = slice_range (vlan_bytes (tag_with id)) 0 2 in
     let four_len : length four ≤ 4 =
-    omega (arith, length-append (spelled 2 tpid) tag, length-spelled 2 tpid, length-part-is (vlan_bytes (tag_with id)) 0 2) in
+    omega (
+      arith,
+      length-append (spelled 2 tpid) tag,
+      length-spelled 2 tpid,
+      length-part-is
+          (vlan_bytes (tag_with id)) 0 2,
+    ) in
     let fits : 0 + length (moved ++ four) ≤ 4 + length is.frame =
     omega (arith, length-append moved four, four_len, length-part-is old 4 (header_len is.pushed.link + 2)) in
     let whole = overwritten_len old (moved ++ four) 0 (4 + length is.frame) fits (omega arith) in
@@ -78,7 +84,8 @@ set_len old new p e is =
     is.ending walk in
     let tag = vlan_bytes (change is.set.tag) in
     let four : length tag ≡ 4 = length-spelled 4 _ in
-    let whole = overwritten_len is.frame tag (place 0 is.set.front) (length is.frame) (omega (arith, inside, four)) (omega arith) in
+    let whole =
+    overwritten_len is.frame tag (place 0 is.set.front) (length is.frame) (omega (arith, inside, four)) (omega arith) in
     let changed : length is.changed ≤ length is.frame =
     subst (λ (l : List ℕ). length l ≤ length is.frame) (sym is.set.bytes) whole in
     as_edited p e (with_frame p is.frame is.changed p.original_len) 0 is.is
@@ -89,9 +96,12 @@ grows_if : (edit : EditValue) (p : PacketValue) (o : Option EditedValue) (e : Ed
 grows_if edit p o e is (cuts _ n takes lt) =
     let same : take n p.packet ≡ e.packet = cc in
     subst (λ (l : List ℕ). length l ≤ length p.packet + 0) same (omega (arith, length-take n p.packet))
-grows_if edit p o e is (pops _ f popped) = let same : f ≡ e = cc in subst (λ (g : EditedValue). length g.packet ≤ length p.packet + 0) same (popped_len p f popped)
-grows_if edit p o e is (pushes _ tpid id f pushed) = let same : f ≡ e = cc in subst (λ (g : EditedValue). length g.packet ≤ length p.packet + 4) same (pushed_len tpid id p f pushed)
-grows_if edit p o e is (sets _ old new f set) = let same : f ≡ e = cc in subst (λ (g : EditedValue). length g.packet ≤ length p.packet + 0) same (set_len old new p f set)
+grows_if edit p o e is (pops _ f popped) = let same : f ≡ e =
+    cc in subst (λ (g : EditedValue). length g.packet ≤ length p.packet + 0) same (popped_len p f popped)
+grows_if edit p o e is (pushes _ tpid id f pushed) = let same : f ≡ e =
+    cc in subst (λ (g : EditedValue). length g.packet ≤ length p.packet + 4) same (pushed_len tpid id p f pushed)
+grows_if edit p o e is (sets _ old new f set) = let same : f ≡ e =
+    cc in subst (λ (g : EditedValue). length g.packet ≤ length p.packet + 0) same (set_len old new p f set)
 grows_if edit p o e is (not_cut _ n takes le) = absurd cc
 grows_if edit p o e is (not_popped _ stays) = absurd cc
 grows_if edit p o e is (not_pushed _ tpid id stays) = absurd cc

@@ -61,7 +61,8 @@ not_refused link g later error begins is (cut_vlan h other announces) =
 -- ---- it is taken off
 
 abbrev pushed_headers : (link : Header) (tpid : ℕ) → VlanValue → (later : List Header) → List Header
-pushed_headers link tpid tag later = with_type link tpid ∷ headers.Vlan (record tag { ether_type = type_of_link link }) ∷ later
+pushed_headers link tpid tag later = with_type link tpid ∷ headers.Vlan (record tag { ether_type = type_of_link link })
+    ∷ later
 
 record TakenOff (start : Start) (frame new : List ℕ) (hs : List Header) (e : Ending) : Type 0 where
   tag : VlanValue
@@ -77,7 +78,9 @@ taken_off : (start : Start) (frame new : List ℕ) (hs : List Header) (e : Endin
 taken_off start frame new hs e tag tpid ok walk is =
     let ks = pushed_headers is.link tpid tag is.later in
     let f = moved_ending (header_len is.link) (header_len is.link + 4) e in
-    let begins = begins_pushed hs is.link is.later (headers.Vlan (record tag { ether_type = type_of_link is.link }) ∷ is.later) tpid is.begins in
+    let begins =
+    begins_pushed hs is.link is.later (headers.Vlan (record tag { ether_type = type_of_link is.link }) ∷ is.later) tpid
+    is.begins in
     let announces : is_vlan_ether_type (type_of_link (with_type is.link tpid)) ≡ true =
     ap is_vlan_ether_type (type_set is.link tpid is.begins.is_link) ∙ is.announces in
     elim (popped_or_not start new ks f (pushed_bytes_fit (next_of start) frame hs e tag tpid new ok is) is.walk) [
@@ -86,7 +89,8 @@ taken_off start frame new hs e tag tpid ok walk is =
         bytes = t.new;
         is = t.is;
         back =
-            (packet_laws.popped_after_pushed start (after_free frame) new t.new hs ks e f tag t.tag tpid walk is is.walk t.is).0;
+            (packet_laws.popped_after_pushed start (after_free frame) new t.new hs ks e f tag t.tag tpid walk is is.walk
+            t.is).0;
       }
       | inr r ↦ absurd (not_refused (with_type is.link tpid) _ is.later r.0 begins announces r.1)
     ]

@@ -61,13 +61,15 @@ sets_back p old new e ok lacks a =
     let content = frame_front p a.next a.frame a.is_frame.content in
     let bytes : IsBytes a.frame = subst IsBytes content.1 (IsBytes-take (length a.frame) p.packet ok) in
     let same =
-    tag_once a.headers a.index a.finds.front set.front a.finds.tag tag a.finds.later set.later a.finds.found set.found in
+    tag_once a.headers a.index a.finds.front set.front a.finds.tag tag a.finds.later set.later a.finds.found
+    set.found in
     let has : tag.vid ≡ old = ap (λ (v : VlanValue). v.vid) (sym same.1) ∙ a.finds.has in
     let tag_is : record tag { vid = old } ≡ tag = λ i. record tag { vid = sym has i } in
     let split = subst (λ (hs : List Header). Walk start a.frame hs a.ending) set.found.parts a.is_frame.walk in
     let room = header_inside start a.frame set.front (headers.Vlan tag) set.later a.ending split in
     let own : IsVlan (slice_range a.frame at (at + 4)) tag =
-    own_bytes a.frame start (whole start a.frame) set.front (headers.Vlan tag) set.later a.ending (whole_in start a.frame)
+    own_bytes a.frame start (whole start a.frame) set.front (headers.Vlan tag) set.later a.ending
+    (whole_in start a.frame)
     split in
     let four : length (slice_range a.frame at (at + 4)) ≡ 4 =
     length-part a.frame at (at + 4) (omega (arith, room)) ∙ omega arith in

@@ -73,8 +73,10 @@ needs-here q place x is = record {
   says = (
     open-here q place is.ending is.len is.says.0,
     record {
-      not_true = λ known. is.says.1.not_true (knows-here (moved q place) q.frame.ref_ptr is.headers is.ending x true known);
-      not_false = λ known. is.says.1.not_false (knows-here (moved q place) q.frame.ref_ptr is.headers is.ending x false known);
+      not_true =
+          λ known. is.says.1.not_true (knows-here (moved q place) q.frame.ref_ptr is.headers is.ending x true known);
+      not_false =
+          λ known. is.says.1.not_false (knows-here (moved q place) q.frame.ref_ptr is.headers is.ending x false known);
     },
   );
 }

@@ -39,18 +39,21 @@ pub data ContentValue : Type 0 where
 -- of Ethernet and gives protocol numbers no meaning of its own (LINKTYPE_LINUX_SLL). The walk refuses such a header.
 abbrev pub has_other_hardware : List ℕ → Bool
 has_other_hardware bytes =
-    nat_le 16 (length bytes) && nat_le (linux_sll_of bytes).packet_type 7 && not (is_supported (linux_sll_of bytes).hardware_type)
+    nat_le 16 (length bytes) && nat_le (linux_sll_of bytes).packet_type 7
+    && not (is_supported (linux_sll_of bytes).hardware_type)
 
 -- a packet of cooked capture v1 is read as a frame, or by its header and payload
 abbrev pub cooked_content : List ℕ → ContentValue
 cooked_content bytes =
-    if has_other_hardware bytes then LinuxSll (linux_sll_of bytes) (slice_range bytes 16 (length bytes)) else Frame (Start kinds.LinuxSll) bytes
+    if has_other_hardware bytes then LinuxSll (linux_sll_of bytes) (slice_range bytes 16 (length bytes))
+    else Frame (Start kinds.LinuxSll) bytes
 
 -- .. by its link type: 1 is Ethernet, 113 and 276 are Linux cooked capture v1 and v2 (the list of link types of the
 -- tcpdump group). A frame check sequence of four bytes is part of an Ethernet frame if all of it was captured.
 abbrev pub content_of : PacketValue → ContentValue
 content_of p =
-    if nat_eq p.link_type 1 then (if has_fcs p then Frame (Start kinds.Ethernet2Fcs) p.packet else Frame (Start kinds.Ethernet2) (without_fcs p))
+    if nat_eq p.link_type 1 then (if has_fcs p then Frame (Start kinds.Ethernet2Fcs) p.packet
+    else Frame (Start kinds.Ethernet2) (without_fcs p))
     else (if nat_eq p.link_type 113 then cooked_content (without_fcs p)
     else (if nat_eq p.link_type 276 then LinuxSll2 (without_fcs p) else Unknown))
 

@@ -32,7 +32,8 @@ pub record IsFrame (p : PacketValue) (next : Next) (frame : List ℕ) (hs : List
 
 -- another frame in place of the packet's; captured bytes after it, of a frame check sequence, are unchanged
 abbrev pub with_frame : PacketValue → (frame new : List ℕ) → (original_len : ℕ) → EditedValue
-with_frame p frame new original_len = record { original_len = original_len; packet = new ++ drop (length frame) p.packet }
+with_frame p frame new original_len =
+    record { original_len = original_len; packet = new ++ drop (length frame) p.packet }
 
 -- The VLAN tag after the link's header is taken off, and the packet is four bytes shorter. It is still a frame, with
 -- the walk that `IsPopped` says.
@@ -87,7 +88,8 @@ pub record Sets (old new : ℕ) (p : PacketValue) (edited : EditedValue) : Type 
 -- A packet is unchanged: it is not a frame, or its frame is refused.
 pub data Stays (Refuses : (frame : List ℕ) → List Header → Type 0) (p : PacketValue) : Type 0 where
   no_frame : ((next : Next) (frame : List ℕ) → content_of p ≢ Frame next frame) → Stays Refuses p
-  refused : (next : Next) (frame : List ℕ) (hs : List Header) (e : Ending) → IsFrame p next frame hs e → Refuses frame hs
+  refused : (next : Next) (frame : List ℕ) (hs : List Header) (e : Ending) → IsFrame p next frame hs e
+      → Refuses frame hs
       → Stays Refuses p
 
 -- what an edit makes of a packet; None if the packet is unchanged
@@ -122,7 +124,8 @@ EditsAreSome =
 
 -- An edit makes a packet longer by at most its growth.
 abbrev pub EditsGrow : Type 0
-EditsGrow = (edit : EditValue) (p : PacketValue) (e : EditedValue) → Edits edit p (Some e) → length e.packet ≤ length p.packet + growth edit
+EditsGrow = (edit : EditValue) (p : PacketValue) (e : EditedValue) → Edits edit p (Some e) → length e.packet
+    ≤ length p.packet + growth edit
 
 -- An edit makes at most one thing of a packet.
 abbrev pub EditsAreOne : Type 0
@@ -134,12 +137,14 @@ unedited p = record { original_len = p.original_len; packet = p.packet }
 
 -- this edit of the edited packet restores the packet
 abbrev pub Undoes : EditValue → PacketValue → EditedValue → Type 0
-Undoes edit p e = Edits edit (edited_packet e p) (Some (unedited p)) × (edited_packet (unedited p) (edited_packet e p) ≡ p)
+Undoes edit p e =
+    Edits edit (edited_packet e p) (Some (unedited p)) × (edited_packet (unedited p) (edited_packet e p) ≡ p)
 
 -- Taking off the VLAN tag that was just put into a packet restores the packet.
 abbrev pub PoppedAfterPushed : Type 0
 PoppedAfterPushed =
-    (tpid id : ℕ) (p : PacketValue) (e : EditedValue) → IsBytes p.packet → Edits (PushVlan tpid id) p (Some e) → Undoes PopVlan p e
+    (tpid id : ℕ) (p : PacketValue) (e : EditedValue) → IsBytes p.packet → Edits (PushVlan tpid id) p (Some e)
+    → Undoes PopVlan p e
 
 -- no more bytes were captured than the original length, or the file gives no frame check sequence
 abbrev pub IsWithinOriginal : PacketValue → Type 0
@@ -160,5 +165,6 @@ LacksBefore id other p =
 -- Changing the identifier of a VLAN tag back restores the packet, if no tag before it has the new identifier.
 abbrev pub SetBack : Type 0
 SetBack =
-    (old new : ℕ) (p : PacketValue) (e : EditedValue) → IsBytes p.packet → LacksBefore old new p → Edits (SetVlan old new) p (Some e)
+    (old new : ℕ) (p : PacketValue) (e : EditedValue) → IsBytes p.packet → LacksBefore old new p
+    → Edits (SetVlan old new) p (Some e)
     → Undoes (SetVlan new old) p e

@@ -22,10 +22,12 @@ pub record Reaches (next : Next) (frame : List ℕ) (n : ℕ) : Type 0 where
 -- its payload; in v2 its header, if that is accepted, and the headers of the payload that an ether type announces.
 pub data HeadersTake : ContentValue → ℕ → Type 0 where
   frame : (next : Next) (bytes : List ℕ) (n : ℕ) → Reaches next bytes n → HeadersTake (Frame next bytes) n
-  cooked : (s : LinuxSllValue) (payload : List ℕ) (n : ℕ) → Reaches (EtherType s.protocol) payload n → HeadersTake (LinuxSll s payload) (16 + n)
+  cooked : (s : LinuxSllValue) (payload : List ℕ) (n : ℕ) → Reaches (EtherType s.protocol) payload n
+      → HeadersTake (LinuxSll s payload) (16 + n)
   payload : (next : Next) (bytes frame : List ℕ) (n : ℕ) → IsWalked (LinuxSll2 bytes) next frame → Reaches next frame n
       → HeadersTake (LinuxSll2 bytes) (20 + n)
-  header : (bytes : List ℕ) → AcceptsLinuxSll2 bytes → told_ether_type (protocol_of_header bytes) ≡ None → HeadersTake (LinuxSll2 bytes) 20
+  header : (bytes : List ℕ) → AcceptsLinuxSll2 bytes → told_ether_type (protocol_of_header bytes) ≡ None
+      → HeadersTake (LinuxSll2 bytes) 20
   no_header : (bytes : List ℕ) → ¬ (AcceptsLinuxSll2 bytes) → HeadersTake (LinuxSll2 bytes) 0
   unknown : HeadersTake Unknown 0
 

@@ -19,7 +19,13 @@ pub record HoldsOf (x : Expression) (next : Next) (frame : List ℕ) (captured o
   pub headers : List Header
   pub ending : Ending
   pub walk : Walk (record { next = next; limit = None }) frame headers ending
-  pub holds : Holds x (record { start = next; headers = headers; ending = ending; captured = captured; original = original })
+  pub holds : Holds x (record {
+    start = next;
+    headers = headers;
+    ending = ending;
+    captured = captured;
+    original = original;
+  })
 
 -- .. for the part of a packet that is walked
 pub record Selects (x : Expression) (p : PacketValue) : Type 0 where

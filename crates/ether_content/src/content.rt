@@ -82,7 +82,8 @@ impl<'a> Content<'a> {
     /// payload; else `None`.
     pub fn frame(self) -> Option<(Start, &'a [u8])>
         ensures some { IfSome result (λ frame. IsWalked (content_view self.entry) (next_of frame.0) frame.1.now) }
-        ensures none { result ≡ None → (next : Next) (bytes : List ℕ) → IsWalked (content_view self.entry) next bytes → ⊥ }
+        ensures none { result ≡ None → (next : Next) (bytes : List ℕ) → IsWalked (content_view self.entry) next bytes
+            → ⊥ }
     {
         match self {
             Content::Frame(start, bytes) => Some((start, bytes)),

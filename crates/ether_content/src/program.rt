@@ -16,7 +16,8 @@ use ether_sll2::LinuxSll2Header;
 ///
 /// If the instructions are not those of a filter, nothing is claimed of the result.
 pub fn selects(instructions: &[Instruction], packet: &CapturedPacket<'_>) -> bool
-    ensures { (x : Expression) → IsProgramOf instructions.now x → IsTrue result ↔ Selects x (captured_packet_view packet.now) }
+    ensures { (x : Expression) → IsProgramOf instructions.now x → IsTrue result
+        ↔ Selects x (captured_packet_view packet.now) }
 {
     match Content::of(packet).frame() {
         Some((start, frame)) => holds(instructions, start, frame, packet),
@@ -51,7 +52,8 @@ fn holds(
 /// If the instructions are not those of a filter, nothing is claimed of the result.
 #[inline(always)]
 pub fn is_undecided(instructions: &[Instruction], packet: &CapturedPacket<'_>) -> bool
-    ensures { (x : Expression) → IsProgramOf instructions.now x → IsTrue result ↔ IsUndecided x (captured_packet_view packet.now) }
+    ensures { (x : Expression) → IsProgramOf instructions.now x → IsTrue result
+        ↔ IsUndecided x (captured_packet_view packet.now) }
 {
     is_cut(packet) && leaves_open(instructions, packet)
 }
@@ -59,7 +61,8 @@ pub fn is_undecided(instructions: &[Instruction], packet: &CapturedPacket<'_>) -
 /// Does as `is_undecided`, for a packet that was cut.
 #[inline(never)]
 fn leaves_open(instructions: &[Instruction], packet: &CapturedPacket<'_>) -> bool
-    ensures { (x : Expression) → IsProgramOf instructions.now x → IsTrue result ↔ IsUndecided x (captured_packet_view packet.now) }
+    ensures { (x : Expression) → IsProgramOf instructions.now x → IsTrue result
+        ↔ IsUndecided x (captured_packet_view packet.now) }
 {
     let content = Content::of(packet);
     if let Content::LinuxSll2(bytes) = content {

@@ -91,7 +91,8 @@ short_same packet more hs ks v y f required len source layer false is cut free f
     ]
 
 settled_same : (packet : Packet) (more : List ℕ) (hs ks : List Header) (v : Window) (y : Expectation) (f : Ending)
-    (r : Refusal) → has_fcs (start_of packet.start) ≡ false → Walk (start_of packet.start) packet.frame.now hs (Fault v y r)
+    (r : Refusal) → has_fcs (start_of packet.start) ≡ false → Walk (start_of packet.start) packet.frame.now hs
+    (Fault v y r)
     → Walk (start_of packet.start) (packet.frame.now ++ more) ks f → IsContent r → AreSame hs (Fault v y r) ks f
 settled_same packet more hs ks v y f r free s t content =
     let all = extensions_keep (start_of packet.start) packet.frame.now hs (Fault v y r) free s more ks f t in
@@ -232,7 +233,8 @@ agrees packet more hs ks e f ok c s t p (deciding.whole never) =
     subst (λ (l : List Header). Matches p (walked packet hs e) ↔ Matches p (walked packet l f)) (sym same.headers)
     (one_more p packet hs e f same.refused same.accepted)
 agrees packet more hs ks e f ok c s t p (deciding.told free is) =
-    let m = common (start_of packet.start) packet.frame.now more ks hs f e (IsBytes-append packet.frame.now more ok c.bytes)
+    let m = common (start_of packet.start) packet.frame.now more ks hs f e
+    (IsBytes-append packet.frame.now more ok c.bytes)
     free t s in
     subst (λ (l : List Header). Matches p (walked packet hs e) ↔ Matches p (walked packet l f)) (sym m.headers)
     (told_same p packet hs m.rest e f is)

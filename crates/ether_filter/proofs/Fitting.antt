@@ -44,7 +44,8 @@ pub all_run : (s : ExpressionState) (ts us : List Token) → all_from s (ts ++ u
 all_run s [] us = refl
 all_run s (t ∷ ts) us = going_all (taken s t) ts us (λ u. all_run u ts us)
 
-going_run : (o : Outcome) (ts us : List Token) → ((s : ExpressionState) → run s (ts ++ us) ≡ going (run s ts) (λ u. run u us))
+going_run : (o : Outcome) (ts us : List Token)
+    → ((s : ExpressionState) → run s (ts ++ us) ≡ going (run s ts) (λ u. run u us))
     → going o (λ s. run s (ts ++ us)) ≡ going (going o (λ s. run s ts)) (λ u. run u us)
 going_run (Ok s) ts us each = each s
 going_run (Err kind) ts us each = refl
@@ -64,7 +65,8 @@ run_more ts s t reaches = run-append begun ts (t ∷ []) ∙ ap (λ (o : Outcome
 
 -- ---- a state that is reached, and the tokens that were read
 
-going_goes : (o : Outcome) (ts us : List Token) → Goes o ts → ((s : ExpressionState) → Was s ts → Goes (run s us) (ts ++ us))
+going_goes : (o : Outcome) (ts us : List Token) → Goes o ts
+    → ((s : ExpressionState) → Was s ts → Goes (run s us) (ts ++ us))
     → Goes (going o (λ s. run s us)) (ts ++ us)
 going_goes (Ok s) ts us goes each = each s goes
 going_goes (Err kind) ts us goes each = tt
@@ -233,7 +235,8 @@ reached_begins ts s reaches = read_begins s.awaited s.pending s.nodes ts (reache
 
 -- ---- both ways
 
-pub going_ok : {A : Type 0} (o : Outcome) (rest : ExpressionState → Result A FilterErrorKind) (a : A) → going o rest ≡ Ok a
+pub going_ok : {A : Type 0} (o : Outcome) (rest : ExpressionState → Result A FilterErrorKind) (a : A) → going o rest
+    ≡ Ok a
     → (s : ExpressionState) × (o ≡ Ok s)
 going_ok (Ok s) rest a is = (s, refl)
 going_ok (Err kind) rest a is = absurd cc
@@ -242,7 +245,8 @@ pub begins_reached : (ts : List Token) → Begins ts → (s : ExpressionState) �
 begins_reached ts b = going_ok (run begun ts) (λ u. all_from u b.rest) (postfix b.x)
     (sym (all_run begun ts b.rest) ∙ expression_read (ts ++ b.rest) b.x b.is)
 
-pub fits_taken : (ts : List Token) (s : ExpressionState) (t : Token) → Reaches ts s → Fits ts t → (u : ExpressionState) × (taken s t ≡ Ok u)
+pub fits_taken : (ts : List Token) (s : ExpressionState) (t : Token) → Reaches ts s → Fits ts t → (u : ExpressionState)
+    × (taken s t ≡ Ok u)
 fits_taken ts s t reaches fits = let next = begins_reached (ts ++ t ∷ []) fits
     in (next.0, sym (run_more ts s t reaches) ∙ next.1)
 

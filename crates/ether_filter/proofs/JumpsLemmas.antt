@@ -73,7 +73,8 @@ jumps_kept old new (Join operator x y) at j same are =
       jumps_kept old new y right j (λ i le. same i (omega (arith, le))) are.1,
     )
 
-pub filled_test : (x : Expression) (ns front : List Node) (old : List Jump) (end : ℕ) (d : Node) (p : Primitive) (j : Jump)
+pub filled_test : (x : Expression) (ns front : List Node) (old : List Jump) (end : ℕ) (d : Node) (p : Primitive)
+    (j : Jump)
     → 0 < end → end ≤ length ns → end ≤ length old → get_or ns (end - 1) d ≡ nodes.Test p
     → take end ns ≡ front ++ postfix x → AreFilled old (set old (end - 1) j) (length front) end x j (end - 1)
 filled_test (Test q) ns front old end d p j some inside room is all =
@@ -197,11 +198,13 @@ reaches (Join operator x y) ns front rest js t at j is place are above below =
     is ∙ ap (λ l. front ++ l) (append_assoc (px ++ py) last rest ∙ append_assoc px py (last ++ rest)) in
     let right_is : ns ≡ (front ++ px) ++ (py ++ (last ++ rest)) =
     left_is ∙ sym (append_assoc front px (py ++ (last ++ rest))) in
-    let bounds = before_above operator right right j (omega arith) (omega (arith, above, len)) (omega (arith, below, len)) in
+    let bounds =
+    before_above operator right right j (omega arith) (omega (arith, above, len)) (omega (arith, below, len)) in
     joined_reaches ns js t at right operator (truth t x) (truth t y) j
     (reaches x ns front (py ++ (last ++ rest)) js t at (before operator right j) left_is place are.0
     bounds.0 bounds.1)
-    (reaches y ns (front ++ px) (last ++ rest) js t right j right_is (omega (arith, place, length-append front px)) are.1
+    (reaches y ns (front ++ px) (last ++ rest) js t right j right_is (omega (arith, place, length-append front px))
+    are.1
     (omega (arith, above, len)) (omega (arith, below, len)))
 
 -- ---- a step
@@ -219,7 +222,8 @@ pub reaches_test : (ns : List Node) (js : List Jump) (t : Primitive → Bool) (a
     → at < length ns → length ns ≤ end → get_or ns at d ≡ n → ((p : Primitive) → n ≡ nodes.Test p → ⊥)
     → Reaches ns js t at end → ⊥
 reaches_test ns js t at end d n inside past is never (here _) = omega (arith, inside, past)
-reaches_test ns js t at end d n inside past is never (step _ _ p within is_test forward r) = never p (sym is ∙ is_test d)
+reaches_test ns js t at end d n inside past is never (step _ _ p within is_test forward r) =
+    never p (sym is ∙ is_test d)
 
 pub reaches_end : (ns : List Node) (js : List Jump) (t : Primitive → Bool) (at end : ℕ) → length ns ≤ at
     → Reaches ns js t at end → at ≡ end

@@ -49,7 +49,8 @@ kind_at a next = kind_of a
 
 -- ---- .. is that of the word that is refused
 
-stepped_kind : (s : ExpressionState) (step : Step) (kind : FilterErrorKind) → stepped s step ≡ Err kind → kind ≡ kind_of s.awaited
+stepped_kind : (s : ExpressionState) (step : Step) (kind : FilterErrorKind) → stepped s step ≡ Err kind → kind
+    ≡ kind_of s.awaited
 stepped_kind s (Done p) kind is = absurd cc
 stepped_kind s (More a) kind is = absurd cc
 stepped_kind s Fails kind is = cc
@@ -89,7 +90,8 @@ operand_kind s tokens.Not kind is = absurd cc
 operand_kind s tokens.Open kind is = absurd cc
 operand_kind s t kind is = stepped_kind s (first_step t) kind is
 
-id_kind : (s : ExpressionState) (t : Token) (kind : FilterErrorKind) → s.awaited ≡ awaits.VlanId → id_taken s t ≡ Err kind
+id_kind : (s : ExpressionState) (t : Token) (kind : FilterErrorKind) → s.awaited ≡ awaits.VlanId → id_taken s t
+    ≡ Err kind
     → kind ≡ kind_after_vlan (Some t)
 id_kind s (tokens.Number n) kind a is = stepped_kind s (next_step (awaits.Number numbers.VlanId) (tokens.Number n))
     kind is ∙ ap kind_of a
@@ -123,7 +125,8 @@ whole_kind ns (pendings.Join operator ∷ p) a kind is = open_kind (ns ++ nodes.
 whole_kind ns (pendings.Open ∷ p) a kind is = cc
 whole_kind ns (pendings.Not ∷ p) a kind is = cc
 
-ended_kind_at : (a : Awaited) (s : ExpressionState) (kind : FilterErrorKind) → ended_where a s ≡ Err kind → kind ≡ kind_at a None
+ended_kind_at : (a : Awaited) (s : ExpressionState) (kind : FilterErrorKind) → ended_where a s ≡ Err kind → kind
+    ≡ kind_at a None
 ended_kind_at awaits.Operator s kind is = whole_kind s.nodes s.pending s.awaited kind is
 ended_kind_at awaits.VlanId s kind is = let t = completed s primitives.Vlan
     in whole_kind t.nodes t.pending t.awaited kind is
@@ -134,7 +137,8 @@ ended_kind s kind is = ended_kind_at s.awaited s kind is
 
 -- ---- a row says it
 
-joins : (ns : List Node) (p : List Pending) → (operator : Operator) × (u : ExpressionState) × (joined_by operator ns p ≡ Ok u)
+joins : (ns : List Node) (p : List Pending) → (operator : Operator) × (u : ExpressionState)
+    × (joined_by operator ns p ≡ Ok u)
 joins ns [] = (And, _, refl)
 joins ns (pendings.Open ∷ p) = (And, _, refl)
 joins ns (pendings.Not ∷ p) = (And, _, refl)
@@ -240,14 +244,16 @@ proto_at awaits.VlanId s (u, is) = absurd cc
 proto_at a s (u, is) = absurd cc
 
 -- by what kind of thing is awaited
-vlan_at : (a : Awaited) (s : ExpressionState) → Takes a s tokens.Vlan → (a ≡ awaits.Operand) ⊎ (kind_of a ≡ kinds.ExpectedVlan)
+vlan_at : (a : Awaited) (s : ExpressionState) → Takes a s tokens.Vlan → (a ≡ awaits.Operand)
+    ⊎ (kind_of a ≡ kinds.ExpectedVlan)
 vlan_at awaits.Operand s (u, is) = inl refl
 vlan_at (awaits.Vlan of) s (u, is) = inr refl
 vlan_at awaits.Operator s (u, is) = absurd cc
 vlan_at awaits.VlanId s (u, is) = absurd cc
 vlan_at a s (u, is) = absurd cc
 
-join_at : (a : Awaited) (s : ExpressionState) (operator : Operator) → Takes a s (tokens.Join operator) → (a ≡ awaits.Operator)
+join_at : (a : Awaited) (s : ExpressionState) (operator : Operator) → Takes a s (tokens.Join operator)
+    → (a ≡ awaits.Operator)
     ⊎ (a ≡ awaits.VlanId)
 join_at awaits.Operator s operator (u, is) = inl refl
 join_at awaits.VlanId s operator (u, is) = inr refl
@@ -258,7 +264,8 @@ vlan_row : (a : Awaited) (next : Option Token) → kind_of a ≡ kinds.ExpectedV
 vlan_row (awaits.Vlan of) next is = refl
 vlan_row a next is = absurd cc
 
-address_row : (a : Awaited) (s : ExpressionState) (next : Option Token) → Takes a s (tokens.Address 0) → kinds.ExpectedAddress
+address_row : (a : Awaited) (s : ExpressionState) (next : Option Token) → Takes a s (tokens.Address 0)
+    → kinds.ExpectedAddress
     ≡ kind_at a next
 address_row (awaits.Address of) s next (u, is) = refl
 address_row awaits.Operand s next (u, is) = absurd cc
@@ -285,7 +292,8 @@ greatest of s most next at above = elim (cases_lt most (most_of of)) [
       in ap kinds.ExpectedNumber same)
 ]
 
-number_row : (a : Awaited) (s : ExpressionState) (most : ℕ) (next : Option Token) → Takes a s (tokens.Number (Some most))
+number_row : (a : Awaited) (s : ExpressionState) (most : ℕ) (next : Option Token)
+    → Takes a s (tokens.Number (Some most))
     → (Takes a s (tokens.Number (Some (most + 1))) → ⊥) → (a ≡ awaits.VlanId → ⊥)
     → kinds.ExpectedNumber most ≡ kind_at a next
 number_row (awaits.Number of) s most next at above vlan = greatest of s most next at above
@@ -295,7 +303,8 @@ number_row awaits.Operator s most next (u, is) above vlan = absurd cc
 number_row a s most next (u, is) above vlan = absurd cc
 
 -- after an operand, by whether a number fits
-after_row : (a : Awaited) (s : ExpressionState) (operator : Operator) (next : Option Token) → Takes a s (tokens.Join operator)
+after_row : (a : Awaited) (s : ExpressionState) (operator : Operator) (next : Option Token)
+    → Takes a s (tokens.Join operator)
     → (Takes a s (tokens.Number (Some 4095)) → ⊥) → kind_after next ≡ kind_at a next
 after_row awaits.Operator s operator next at none = refl
 after_row awaits.VlanId s operator next at none = absurd (none (completed s (primitives.VlanId 4095), refl))

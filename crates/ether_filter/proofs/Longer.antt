@@ -34,7 +34,8 @@ or_left false b t = absurd cc
 
 any_front : {X : Type 0} (test : X → Bool) (xs ys : List X) → IsTrue (list_any test xs)
     → IsTrue (list_any test (xs ++ ys))
-any_front test xs ys t = subst IsTrue (sym (list_any-append test xs ys)) (or_left (list_any test xs) (list_any test ys) t)
+any_front test xs ys t =
+    subst IsTrue (sym (list_any-append test xs ys)) (or_left (list_any test xs) (list_any test ys) t)
 
 any_same : {X : Type 0} (test : X → Bool) (xs ys : List X) → list_any test ys ≡ false
     → list_any test xs ≡ list_any test (xs ++ ys)
@@ -197,7 +198,8 @@ quiet_same (primitives.InnerVlan id) packet hs rest e f is q =
 quiet_same primitives.Macsec packet hs rest e f is q = same_truth (any_same is_sec_tag hs rest q.sec_tags)
 quiet_same (primitives.EtherType u) packet hs rest e f is q =
     same_truth (ap (list_any (nat_eq u)) (same_types (walked packet hs e).start hs rest q))
-quiet_same (primitives.Source a) packet hs rest e f is q = link_same (primitives.Source a) packet hs rest e f refl q.links
+quiet_same (primitives.Source a) packet hs rest e f is q =
+    link_same (primitives.Source a) packet hs rest e f refl q.links
 quiet_same (primitives.Destination a) packet hs rest e f is q =
     link_same (primitives.Destination a) packet hs rest e f refl q.links
 quiet_same (primitives.Host a) packet hs rest e f is q = link_same (primitives.Host a) packet hs rest e f refl q.links
@@ -220,7 +222,8 @@ pub arp_quiet : (list : List ℕ) (x : Expectation) (w : Window) (hs : List Head
     → announced x ≡ Some kinds.Arp → Stack list x w hs e → IsQuiet hs
 arp_quiet list x w [] e is s = record { tags = refl; sec_tags = refl; ids = refl; types = refl; links = refl }
 arp_quiet list x w (headers.Arp a ∷ hs) e is s =
-    subst (λ (l : List Header). IsQuiet (headers.Arp a ∷ l)) (sym (after_arp list x (payload w (headers.Arp a)) a hs e s.1))
+    subst (λ (l : List Header). IsQuiet (headers.Arp a ∷ l))
+    (sym (after_arp list x (payload w (headers.Arp a)) a hs e s.1))
     (record { tags = refl; sec_tags = refl; ids = refl; types = refl; links = refl })
 arp_quiet list x w (h ∷ hs) e is s =
     let both : Some kinds.Arp ≡ Some (kind_of h) = sym is ∙ s.0.announced in absurd cc

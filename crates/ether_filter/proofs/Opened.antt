@@ -26,7 +26,8 @@ use Rattle.ether_filter.proofs.Completions.{one_required}
 
 -- ---- the fault
 
-pub fault_is : (start : Expectation) (list : List ℕ) (s : Summary) (hs : List Header) (e : Ending) → IsSummary start list s
+pub fault_is : (start : Expectation) (list : List ℕ) (s : Summary) (hs : List Header) (e : Ending)
+    → IsSummary start list s
     → Walk start list hs e → s.fault ≡ fault_of e
 fault_is start list s hs e is walk =
     ap (λ (s : Summary). s.fault) is.is ∙ ap fault_of (sym (is.one hs e walk).1)
@@ -48,7 +49,13 @@ misses start list hs (Fault v y r) fault walk is o =
       o.required - o.len,
       subst (λ (f : PeelFault). Misses f (o.required - o.len)) fault_same (record {
         is_open = o.is_open;
-        error = record { required_len = o.required; len = o.len; len_source = o.source; layer = o.layer; layer_start_offset = v.start };
+        error = record {
+          required_len = o.required;
+          len = o.len;
+          len_source = o.source;
+          layer = o.layer;
+          layer_start_offset = v.start;
+        };
         of_length = refl;
         short = lt;
         missing = omega arith;
@@ -79,8 +86,10 @@ open_refusal (Fault v y (UnsupportedHardwareType p)) fault n error is m of = abs
 open_refusal (Fault v y UnexpectedVersion) fault n error is m of = absurd cc
 open_refusal (Fault v y InvalidShortLen) fault n error is m of = absurd cc
 
-open_fault : (start : Expectation) (list : List ℕ) (hs : List Header) (v : Window) (y : Expectation) (r : Refusal) (n : ℕ) (error : LenError)
-    → has_fcs start ≡ false → Walk start list hs (Fault v y r) → Misses (fault_in v r) n → (fault_in v r).error ≡ errors.Len error
+open_fault : (start : Expectation) (list : List ℕ) (hs : List Header) (v : Window) (y : Expectation) (r : Refusal)
+    (n : ℕ) (error : LenError)
+    → has_fcs start ≡ false → Walk start list hs (Fault v y r) → Misses (fault_in v r) n → (fault_in v r).error
+    ≡ errors.Len error
     → IsOpenFault list (Fault v y r) n error
 open_fault start list hs v y (Length required len source layer) n error free walk m is =
     let e = Fault v y (Length required len source layer) in
@@ -103,8 +112,10 @@ open_fault start list hs v y (UnsupportedHardwareType p) n error free walk m is 
 open_fault start list hs v y UnexpectedVersion n error free walk m is = absurd cc
 open_fault start list hs v y InvalidShortLen n error free walk m is = absurd cc
 
-pub is_open_fault : (start : Expectation) (list : List ℕ) (hs : List Header) (e : Ending) (fault : PeelFault) (n : ℕ) (error : LenError)
-    → has_fcs start ≡ false → Walk start list hs e → fault_of e ≡ Some fault → Misses fault n → fault.error ≡ errors.Len error
+pub is_open_fault : (start : Expectation) (list : List ℕ) (hs : List Header) (e : Ending) (fault : PeelFault) (n : ℕ)
+    (error : LenError)
+    → has_fcs start ≡ false → Walk start list hs e → fault_of e ≡ Some fault → Misses fault n → fault.error
+    ≡ errors.Len error
     → IsOpenFault list e n error
 is_open_fault start list hs (Accepted v y) fault n error free walk is m of = absurd cc
 is_open_fault start list hs (Fault v y r) fault n error free walk is m of =

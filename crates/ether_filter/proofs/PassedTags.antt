@@ -14,7 +14,8 @@ passes_more ns js at next past d is inside asks on =
     more at past (rw is inside)
     (λ e. rw is (ap asks_tags (get_or_default ns next e d inside) ∙ asks)) (rw is on)
 
-pub passes_last : (ns : List Node) (js : List Jump) (at next : ℕ) → (jump_at js at).if_false ≡ next → Passes ns js at next
+pub passes_last : (ns : List Node) (js : List Jump) (at next : ℕ) → (jump_at js at).if_false ≡ next
+    → Passes ns js at next
 passes_last ns js at next is = rw (sym is) (last at)
 
 pub passed_set : (ns : List Node) (js : List Jump) (past : List ℕ) (at next : ℕ) → at < length past

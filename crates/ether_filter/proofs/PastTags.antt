@@ -55,7 +55,8 @@ untagged packet hs e s walk seen is p of =
     false_from_ne_true (matching w p) (λ t. fails_untagged w none p of ((are p).0 t))
 
 others : (packet : Packet) (hs : List Header) (e : Ending) (s : Seen) (ids : List ℕ)
-    → IsSeen (next_of packet.start) hs e (Some s) → s.ids.items ≡ ids → Misses (tags_of ids) (matching (walked packet hs e))
+    → IsSeen (next_of packet.start) hs e (Some s) → s.ids.items ≡ ids
+    → Misses (tags_of ids) (matching (walked packet hs e))
 others packet hs e s [] seen is = tt
 others packet hs e s (id ∷ []) seen is =
     λ n not. sym (seen (primitives.VlanId n)) ∙ ap (list_any (λ m. nat_eq m n)) is
@@ -117,14 +118,16 @@ passes ns js t at past end d p fails (last _) inside few is of r =
 passes ns js t at past end d p fails (more _ _ within asks on) inside few is of r =
     let n = rw (fails p of) at (reaches_next ns js t at end d p inside few is r) in
     let test = tag_test (get_or ns (jump_at js at).if_false d) (asks d) in
-    let later = passes ns js t (jump_at js at).if_false past end d test.primitive fails on within few test.is test.of n.1 in
+    let later =
+    passes ns js t (jump_at js at).if_false past end d test.primitive fails on within few test.is test.of n.1 in
     (omega (arith, n.0, later.0), later.1)
 
 -- ---- the instructions
 
 -- past one that asks for VLAN tags, where there are none
 pub past_tag : (is : List Instruction) (x : Expression) (p : IsProgramOf is x) (t : Primitive → Bool) (at next end : ℕ)
-    → at < length is → is_tag_test (primitive_numbered (get_or is at no_instruction).kind (get_or is at no_instruction).operand) ≡ true
+    → at < length is
+    → is_tag_test (primitive_numbered (get_or is at no_instruction).kind (get_or is at no_instruction).operand) ≡ true
     → next ≡ (get_or is at no_instruction).past_tags → Misses tags.Untagged t → length (postfix x) ≤ end
     → Reaches (postfix x) p.jumps t at end → (at < next) × Reaches (postfix x) p.jumps t next end
 past_tag is x p t at next end inside asks to fails few r =
@@ -138,12 +141,15 @@ past_tag is x p t at next end inside asks to fails few r =
 -- past one that asks for an identifier, where the only tag has another one
 pub past_other : (is : List Instruction) (x : Expression) (p : IsProgramOf is x) (t : Primitive → Bool)
     (id at next end : ℕ) → at < length is
-    → is_other_id id (primitive_numbered (get_or is at no_instruction).kind (get_or is at no_instruction).operand) ≡ true
+    → is_other_id id (primitive_numbered (get_or is at no_instruction).kind (get_or is at no_instruction).operand)
+    ≡ true
     → next ≡ (get_or is at no_instruction).jump.if_false → Misses (tags.One id) t → length (postfix x) ≤ end
     → Reaches (postfix x) p.jumps t at end → (at < next) × Reaches (postfix x) p.jumps t next end
 past_other is x p t id at next end inside asks to fails few r =
     let i = get_or is at no_instruction in
     let each = p.each at inside nodes.Not no_instruction in
     let q = other id (primitive_numbered i.kind i.operand) asks in
-    rw (to, each.jump) (rw (fails q.asked q.not) at (reaches_next (postfix x) p.jumps t at end nodes.Not (primitives.VlanId q.asked) (omega (arith, inside, p.count)) few
+    rw (to, each.jump)
+    (rw (fails q.asked q.not) at (reaches_next (postfix x) p.jumps t at end nodes.Not (primitives.VlanId q.asked)
+    (omega (arith, inside, p.count)) few
     (is_test i.kind i.operand _ (primitives.VlanId q.asked) each.node (sym q.is)) r))

@@ -24,11 +24,13 @@ no_instruction = record { operand = 0; kind = 0; jump = no_jump; past_tags = 0 }
 pub is_test : (kind operand : ℕ) (n : Node) (p : Primitive) → node_numbered kind operand ≡ Some n
     → Some p ≡ primitive_numbered kind operand → n ≡ nodes.Test p
 is_test kind operand n p node is =
-    let all : test_or (Some p) (operator_numbered kind) ≡ Some n = subst (λ q. test_or q (operator_numbered kind) ≡ Some n) (sym is) node in
+    let all : test_or (Some p) (operator_numbered kind) ≡ Some n =
+    subst (λ q. test_or q (operator_numbered kind) ≡ Some n) (sym is) node in
     cc
 
 no_operator : (a b c : Bool) (p : Primitive)
-    → (if a then Some nodes.Not else (if b then Some (nodes.Join operators.And) else (if c then Some (nodes.Join operators.Or) else None)))
+    → (if a then Some nodes.Not
+    else (if b then Some (nodes.Join operators.And) else (if c then Some (nodes.Join operators.Or) else None)))
     ≡ Some (nodes.Test p) → ⊥
 no_operator true b c p is = cc
 no_operator false true c p is = cc
@@ -43,10 +45,12 @@ never_test kind operand n node none p is =
 
 -- ---- the instructions of nodes
 
-pub instructed : (ns : List Node) (js : List Jump) (past : List ℕ) (old new : List Instruction) (at : ℕ) (d n : Node) (s : Instruction)
+pub instructed : (ns : List Node) (js : List Jump) (past : List ℕ) (old new : List Instruction) (at : ℕ) (d n : Node)
+    (s : Instruction)
     → length old ≡ at → at < length ns → get_or ns at d ≡ n → new ≡ old ++ s ∷ []
     → IsInstruction n (jump_at js at) (get_or past at 0) s
-    → ((i : ℕ) → i < at → (d : Node) (e : Instruction) → IsInstruction (get_or ns i d) (jump_at js i) (get_or past i 0) (get_or old i e))
+    → ((i : ℕ) → i < at → (d : Node) (e : Instruction) → IsInstruction (get_or ns i d) (jump_at js i) (get_or past i 0)
+    (get_or old i e))
     → (i : ℕ) → i < at + 1 → (d : Node) (e : Instruction)
     → IsInstruction (get_or ns i d) (jump_at js i) (get_or past i 0) (get_or new i e)
 instructed ns js past old new at d n s len inside is more instruction instructions i lt f e = elim (cases_lt i at) [
@@ -66,15 +70,18 @@ instructed ns js past old new at d n s len inside is more instruction instructio
 
 nodes_same : (instructions : List Instruction) (ns : List Node) → length instructions ≡ length ns
     → ((i : ℕ) → i < length instructions → (d : Node) (e : Instruction)
-    → node_numbered (get_or instructions i e).kind (get_or instructions i e).operand ≡ Some (get_or ns i d)) → nodes_of instructions ≡ ns
+    → node_numbered (get_or instructions i e).kind (get_or instructions i e).operand ≡ Some (get_or ns i d))
+    → nodes_of instructions ≡ ns
 nodes_same [] [] len are = refl
 nodes_same [] (n ∷ ns) len are = absurd (omega (arith, len))
 nodes_same (s ∷ instructions) [] len are = absurd (omega (arith, len))
 nodes_same (s ∷ instructions) (n ∷ ns) len are =
     ap (λ m. with_node m (nodes_of instructions)) (are 0 (omega arith) n s)
-    ∙ ap (λ l. n ∷ l) (nodes_same instructions ns (omega (arith, len)) (λ i lt d e. are (suc i) (omega (arith, lt)) d e))
+    ∙ ap (λ l. n ∷ l)
+    (nodes_same instructions ns (omega (arith, len)) (λ i lt d e. are (suc i) (omega (arith, lt)) d e))
 
-pub nodes_are : (instructions : List Instruction) (x : Expression) → IsProgramOf instructions x → nodes_of instructions ≡ postfix x
+pub nodes_are : (instructions : List Instruction) (x : Expression) → IsProgramOf instructions x → nodes_of instructions
+    ≡ postfix x
 nodes_are instructions x p = nodes_same instructions (postfix x) p.count (λ i lt d e. (p.each i lt d e).node)
 
 only : (ns : List Node) (p : Primitive) → length ns ≡ 1 → get_or ns 0 nodes.Not ≡ nodes.Test p → ns ≡ nodes.Test p ∷ []
@@ -87,8 +94,10 @@ only_node : (x : Expression) (p : Primitive) → length (postfix x) ≡ 1 → ge
     → x ≡ Test p
 only_node x p one is = sym (expression_of-postfix x) ∙ ap expression_of (only (postfix x) p one is)
 
-pub only_primitive : (instructions : List Instruction) (x : Expression) (p : Primitive) → IsProgramOf instructions x → length instructions ≡ 1
-    → Some p ≡ primitive_numbered (get_or instructions 0 no_instruction).kind (get_or instructions 0 no_instruction).operand → x ≡ Test p
+pub only_primitive : (instructions : List Instruction) (x : Expression) (p : Primitive) → IsProgramOf instructions x
+    → length instructions ≡ 1
+    → Some p ≡ primitive_numbered (get_or instructions 0 no_instruction).kind
+    (get_or instructions 0 no_instruction).operand → x ≡ Test p
 only_primitive instructions x p program one is =
     let s = get_or instructions 0 no_instruction in
     let each = program.each 0 (omega (arith, one)) nodes.Not no_instruction in

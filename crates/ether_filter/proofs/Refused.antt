@@ -27,7 +27,8 @@ tokens-more : (front : List Word) (w : Word) → tokens_of (front ++ w ∷ []) �
 tokens-more [] w = refl
 tokens-more (v ∷ front) w = ap (λ (l : List Token). token_of v.bytes ∷ l) (tokens-more front w)
 
-reached_more : (front : List Word) (w : Word) (s u : ExpressionState) → Reaches (tokens_of front) s → taken s (token_of w.bytes)
+reached_more : (front : List Word) (w : Word) (s u : ExpressionState) → Reaches (tokens_of front) s
+    → taken s (token_of w.bytes)
     ≡ Ok u → Reaches (tokens_of (front ++ w ∷ [])) u
 reached_more front w s u reaches is = rw (tokens-more front w)
     (run_more (tokens_of front) s (token_of w.bytes) reaches ∙ is)
@@ -37,7 +38,8 @@ ends_as : (ts : List Token) (s : ExpressionState) → Reaches ts s → all_from 
 ends_as ts s reaches = ap (all_from begun) (sym (append-nil ts)) ∙ all_run begun ts []
     ∙ ap (λ (o : Outcome). going o (λ u. all_from u [])) reaches
 
-no_expression_here : (ts : List Token) (s : ExpressionState) (kind : FilterErrorKind) → Reaches ts s → ended s ≡ Err kind
+no_expression_here : (ts : List Token) (s : ExpressionState) (kind : FilterErrorKind) → Reaches ts s → ended s
+    ≡ Err kind
     → (x : Expression) → IsExpression ts x → ⊥
 no_expression_here ts s kind reaches is x of = let read = sym (expression_read ts x of) ∙ ends_as ts s reaches ∙ is
     in cc
@@ -57,7 +59,8 @@ going_refused (Ok s) at rest error A is goes stops = goes s refl is
 going_refused (Err kind) at rest error A is goes stops = stops kind refl
     (let same : error ≡ record { offset = at; kind = kind } = cc in same)
 
-refuses_from : (front ws : List Word) (s : ExpressionState) (count end : ℕ) (error : FilterError) → Reaches (tokens_of front) s
+refuses_from : (front ws : List Word) (s : ExpressionState) (count end : ℕ) (error : FilterError)
+    → Reaches (tokens_of front) s
     → count ≡ length front → count ≤ most_words
     → read_from s count ws end ≡ Err error → RefusesExpression (front ++ ws) end error
 refuses_from front [] s count end error reaches len le is =
@@ -75,7 +78,8 @@ refuses_from front (w ∷ ws) s count end error reaches len le is = elim (decide
   | inr below ↦ (let told = rw below at is in
       let t = token_of w.bytes in
       let few : count ≢ most_words = eqb-false count most_words below in
-      going_refused (taken s t) w.at (λ u. read_from u (count + 1) ws end) error (RefusesExpression (front ++ w ∷ ws) end error)
+      going_refused (taken s t) w.at (λ u. read_from u (count + 1) ws end) error
+      (RefusesExpression (front ++ w ∷ ws) end error)
       told
       (λ u now rest. subst (λ (l : List Word). RefusesExpression l end error) (append_assoc front (w ∷ []) ws)
       (refuses_from (front ++ w ∷ []) ws u (count + 1) end error (reached_more front w s u reaches now)
@@ -106,7 +110,8 @@ skipped (w ∷ front) us s t count end is le =
     let len : count + length (w ∷ front) ≡ count + 1 + length front = omega arith in
     rw (ne_eqb count most_words few, next.1, len) (skipped front us next.0 t (count + 1) end rest (omega arith))
 
-skipped_text : (ws front us : List Word) (s : ExpressionState) (end : ℕ) → ws ≡ front ++ us → Reaches (tokens_of front) s
+skipped_text : (ws front us : List Word) (s : ExpressionState) (end : ℕ) → ws ≡ front ++ us
+    → Reaches (tokens_of front) s
     → length front ≤ most_words → read_from begun 0 ws end ≡ read_from s (length front) us end
 skipped_text ws front us s end is reaches le =
     let none : 0 + length front ≡ length front = omega arith in
@@ -124,14 +129,16 @@ ended_badly : (r : Result (List Node) FilterErrorKind) (at : ℕ) (kind : Filter
 ended_badly (Ok ns) at kind goes same = absurd (goes ns refl)
 ended_badly (Err k) at kind goes same = rw (same k refl) refl
 
-found_here : (ts : List Token) (s : ExpressionState) (ns : List Node) → Reaches ts s → ended s ≡ Ok ns → (x : Expression)
+found_here : (ts : List Token) (s : ExpressionState) (ns : List Node) → Reaches ts s → ended s ≡ Ok ns
+    → (x : Expression)
     × IsExpression ts x
 found_here ts s ns reaches is =
     let found = subst (λ (o : Result (List Node) FilterErrorKind). Found o ts) (ends_as ts s reaches ∙ is)
     (all_was begun [] ts begun_was_read) in
     (found.x, found.is)
 
-refused : (ws : List Word) (end : ℕ) (error : FilterError) → RefusesExpression ws end error → read_from begun 0 ws end ≡ Err error
+refused : (ws : List Word) (end : ℕ) (error : FilterError) → RefusesExpression ws end error → read_from begun 0 ws end
+    ≡ Err error
 refused ws end error (rows.word front rest w kind is lt begins none lacks) =
     let reaches = begins_reached (tokens_of front) begins in
     let s = reaches.0 in

@@ -41,7 +41,8 @@ stepped_room ns p a (Done q) = let room = closed_room (ns ++ nodes.Test q ∷ []
 stepped_room ns p a (More next) = let one = begun_room next in omega arith
 stepped_room ns p a Fails = tt
 
-chosen : (b : Bool) (s : ExpressionState) (n : ℕ) → size_of s ≤ n → TakesAtMost (if b then Err kinds.MixedOperators else Ok s) n
+chosen : (b : Bool) (s : ExpressionState) (n : ℕ) → size_of s ≤ n
+    → TakesAtMost (if b then Err kinds.MixedOperators else Ok s) n
 chosen true s n le = tt
 chosen false s n le = le
 
@@ -76,7 +77,8 @@ closing_room ns (pendings.Open ∷ p) a = group_room ns (pendings.Open ∷ p) (l
     (omega arith)
 closing_room ns (pendings.Not ∷ p) a = tt
 
-operator_room : (s : ExpressionState) (t : Token) → TakesAtMost (operator_taken s t) (length s.nodes + length s.pending + 1)
+operator_room : (s : ExpressionState) (t : Token) → TakesAtMost (operator_taken s t) (length s.nodes + length s.pending
+    + 1)
 operator_room s (tokens.Join operator) = joined_room operator s.nodes s.pending
 operator_room s tokens.Close = closing_room s.nodes s.pending s.awaited
 operator_room s t = tt

@@ -419,7 +419,8 @@ ended_was awaits.VlanId p ns ts was = follows_whole (closed (ns ++ nodes.Test pr
 ended_was a p ns ts was = tt
 
 going_was : (o : Outcome) (ts us : List Token) → Goes o ts
-    → ((s : ExpressionState) → Was s ts → Found (all_from s us) (ts ++ us)) → Found (going o (λ s. all_from s us)) (ts ++ us)
+    → ((s : ExpressionState) → Was s ts → Found (all_from s us) (ts ++ us))
+    → Found (going o (λ s. all_from s us)) (ts ++ us)
 going_was (Ok s) ts us was rest = rest s was
 going_was (Err kind) ts us was rest = tt
 

@@ -14,12 +14,14 @@ use Rattle.ether_filter.specs.Texts.{words_of, tokens_of, IsExpressionOf, most_w
 use Rattle.ether_filter.proofs.ReadingLemmas.{going, all_from, expression_read}
 use Rattle.ether_filter.proofs.Sound.{Found, decided, all_was, begun_was_read}
 
-pub word_read : (s u : ExpressionState) (count end : ℕ) (w : Word) (ws us : List Word) → ws ≡ w ∷ us → nat_eq count most_words
+pub word_read : (s u : ExpressionState) (count end : ℕ) (w : Word) (ws us : List Word) → ws ≡ w ∷ us
+    → nat_eq count most_words
     ≡ false → taken s (token_of w.bytes) ≡ Ok u
     → read_from s count ws end ≡ read_from u (count + 1) us end
 word_read s u count end w ws us words below is = rw (words, below, is) refl
 
-pub word_refused : (s : ExpressionState) (count end : ℕ) (w : Word) (ws us : List Word) (kind : FilterErrorKind) → ws ≡ w ∷ us
+pub word_refused : (s : ExpressionState) (count end : ℕ) (w : Word) (ws us : List Word) (kind : FilterErrorKind) → ws
+    ≡ w ∷ us
     → nat_eq count most_words ≡ false → taken s (token_of w.bytes) ≡ Err kind
     → read_from s count ws end ≡ Err (record { offset = w.at; kind = kind })
 word_refused s count end w ws us kind words below is = rw (words, below, is) refl

@@ -33,7 +33,8 @@ matching w (primitives.Less n) = nat_le w.original n
 matching w (primitives.Greater n) = nat_le n w.original
 matching w p = found_at_end p (found_first p (ether_type_of w.start)) false w.headers w.ending
 
-pub matching_is : (w : Walked) (list : List ℕ) (x : Expectation) (window : Window) → Stack list x window w.headers w.ending
+pub matching_is : (w : Walked) (list : List ℕ) (x : Expectation) (window : Window)
+    → Stack list x window w.headers w.ending
     → (p : Primitive) → IsTruth w (matching w p) (Test p)
 matching_is w list x window stack primitives.Cut = (ltb-true w.captured w.original, lt-ltb w.captured w.original)
 matching_is w list x window stack (primitives.Less n) = (leb-true w.original n, le-leb w.original n)

@@ -35,7 +35,8 @@ alike : (packet longer : Packet) (hs ks : List Header) (e f : Ending) (o : OpenR
     → length longer.frame.now < named_len e o → IsAlike hs e o ks f
 alike packet longer hs ks e f o is s t lt =
     let start = start_of packet.start in
-    let t : Walk start longer.frame.now ks f = subst (λ (b : Start). Walk (start_of b) longer.frame.now ks f) is.start t in
+    let t : Walk start longer.frame.now ks f =
+    subst (λ (b : Start). Walk (start_of b) longer.frame.now ks f) is.start t in
     let t : Walk start (packet.frame.now ++ is.more) ks f = subst (λ (l : List ℕ). Walk start l ks f) is.frame t in
     let lt = subst (λ (l : List ℕ). length l < named_len e o) is.frame lt in
     let free = no_fcs start packet.frame.now hs e s o in
@@ -204,5 +205,6 @@ needs_all packet longer hs ks e f n x s t is lt (fcs has cut all) u =
     let at : IsOpenAt longer f n = fcs has still (omega arith) in (
       at,
       still_unknown packet longer hs ks e f x
-          (λ p k. of_lengths p packet longer hs ks e f is.original cut still (only_lengths longer ks f n p t has at k)) u,
+          (λ p k. of_lengths p packet longer hs ks e f is.original cut still (only_lengths longer ks f n p t has at k))
+          u,
     )

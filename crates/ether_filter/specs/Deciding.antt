@@ -39,10 +39,12 @@ AtCompletions packet Is =
 -- headers.
 pub data IsOpenAt (packet : Packet) (e : Ending) (n : ℕ) : Type 0 where
   -- the walk ends in an open refusal that names n, and the packet had at least n bytes on the wire
-  refused : (o : OpenRefusal e) → packet.captured_len < packet.original_len → named_len e o ≡ n → n ≤ length packet.frame.now + lost packet
+  refused : (o : OpenRefusal e) → packet.captured_len < packet.original_len → named_len e o ≡ n → n
+      ≤ length packet.frame.now + lost packet
       → IsOpenAt packet e n
   -- the packet has a frame check sequence, whose place is known only in the whole frame
-  fcs : has_fcs (start_of packet.start) ≡ true → packet.captured_len < packet.original_len → n ≡ length packet.frame.now + lost packet
+  fcs : has_fcs (start_of packet.start) ≡ true → packet.captured_len < packet.original_len → n ≡ length packet.frame.now
+      + lost packet
       → IsOpenAt packet e n
 
 -- ---- a primitive
@@ -128,7 +130,8 @@ abbrev pub WaitsUntil : Packet → ℕ → Type 0
 WaitsUntil packet n =
     (hs ks : List Header) (e f : Ending) (more : List ℕ)
     → has_fcs (start_of packet.start) ≡ false → length (packet.frame.now ++ more) < n
-    → Walk (start_of packet.start) packet.frame.now hs e → Walk (start_of packet.start) (packet.frame.now ++ more) ks f → Waits hs e n ks f
+    → Walk (start_of packet.start) packet.frame.now hs e → Walk (start_of packet.start) (packet.frame.now ++ more) ks f
+    → Waits hs e n ks f
 
 -- the packet with further bytes captured
 pub record IsLonger (packet longer : Packet) : Type 0 where
@@ -142,4 +145,5 @@ pub record IsLonger (packet longer : Packet) : Type 0 where
 abbrev pub StaysUnknown : Packet → ℕ → Expression → Type 0
 StaysUnknown packet n x =
     (longer : Packet) (hs : List Header) (e : Ending)
-    → IsLonger packet longer → length longer.frame.now < n → Walk (start_of longer.start) longer.frame.now hs e → Says longer hs e x (decisions.Needs n)
+    → IsLonger packet longer → length longer.frame.now < n → Walk (start_of longer.start) longer.frame.now hs e
+    → Says longer hs e x (decisions.Needs n)

@@ -49,7 +49,8 @@ completed s primitive = closed (s.nodes ++ nodes.Test primitive ∷ []) s.pendin
 
 -- the operator before an operand is complete
 abbrev pub settled : List Node → List Pending → Awaited → ExpressionState
-settled ns (pendings.Join operator ∷ p) awaited = record { nodes = ns ++ nodes.Join operator ∷ []; pending = p; awaited = awaited }
+settled ns (pendings.Join operator ∷ p) awaited =
+    record { nodes = ns ++ nodes.Join operator ∷ []; pending = p; awaited = awaited }
 settled ns p awaited = record { nodes = ns; pending = p; awaited = awaited }
 
 abbrev pub differ : Operator → Operator → Bool
@@ -61,7 +62,11 @@ differ _ _ = false
 abbrev pub joined_by : Operator → List Node → List Pending → Outcome
 joined_by operator ns (pendings.Join last ∷ p) =
     if differ last operator then Err kinds.MixedOperators
-    else Ok (record { nodes = ns ++ nodes.Join last ∷ []; pending = pendings.Join operator ∷ p; awaited = awaits.Operand })
+    else Ok (record {
+      nodes = ns ++ nodes.Join last ∷ [];
+      pending = pendings.Join operator ∷ p;
+      awaited = awaits.Operand;
+    })
 joined_by operator ns p = Ok (record { nodes = ns; pending = pendings.Join operator ∷ p; awaited = awaits.Operand })
 
 -- after a closing parenthesis that follows an operand
@@ -123,7 +128,8 @@ abbrev pub placed : ℕ → Result (List Node) FilterErrorKind → Result (List 
 placed at (Ok ns) = Ok ns
 placed at (Err kind) = Err (record { offset = at; kind = kind })
 
-abbrev pub going_on : Outcome → (at : ℕ) → (ExpressionState → Result (List Node) FilterError) → Result (List Node) FilterError
+abbrev pub going_on : Outcome → (at : ℕ) → (ExpressionState → Result (List Node) FilterError)
+    → Result (List Node) FilterError
 going_on (Ok s) at rest = rest s
 going_on (Err kind) at rest = Err (record { offset = at; kind = kind })
 

@@ -70,7 +70,8 @@ abbrev pub found_at_end : Primitive → (found tagged : Bool) → List Header �
 found_at_end primitive found tagged [] (Accepted v y) = found
 found_at_end primitive found tagged [] (Fault v y r) = found_at_fault primitive found
 found_at_end primitive found tagged (h ∷ hs) e =
-    found_at_end primitive (found_after primitive found tagged (fields_of h) (ether_type_of (next_after h))) (tagged || is_tagged (fields_of h)) hs e
+    found_at_end primitive (found_after primitive found tagged (fields_of h) (ether_type_of (next_after h)))
+    (tagged || is_tagged (fields_of h)) hs e
 
 -- .. before the first header, by the ether type that is announced there
 abbrev pub found_first : Primitive → Option ℕ → Bool

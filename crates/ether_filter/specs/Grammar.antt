@@ -11,13 +11,16 @@ use Rattle.ether_filter.specs.Expressions.{Expression, Test, Not, Join}
 pub data NamesPrimitive : List Token → Primitive → Type 0 where
   vlan : NamesPrimitive (tokens.Vlan ∷ []) primitives.Vlan
   vlan_id : (n : ℕ) → n < 4096 → NamesPrimitive (tokens.Vlan ∷ tokens.Number (Some n) ∷ []) (primitives.VlanId n)
-  outer_vlan : (n : ℕ) → n < 4096 → NamesPrimitive (tokens.Outer ∷ tokens.Vlan ∷ tokens.Number (Some n) ∷ []) (primitives.OuterVlan n)
-  inner_vlan : (n : ℕ) → n < 4096 → NamesPrimitive (tokens.Inner ∷ tokens.Vlan ∷ tokens.Number (Some n) ∷ []) (primitives.InnerVlan n)
+  outer_vlan : (n : ℕ) → n < 4096 → NamesPrimitive (tokens.Outer ∷ tokens.Vlan ∷ tokens.Number (Some n) ∷ [])
+      (primitives.OuterVlan n)
+  inner_vlan : (n : ℕ) → n < 4096 → NamesPrimitive (tokens.Inner ∷ tokens.Vlan ∷ tokens.Number (Some n) ∷ [])
+      (primitives.InnerVlan n)
   macsec : NamesPrimitive (tokens.Macsec ∷ []) primitives.Macsec
   arp : NamesPrimitive (tokens.Arp ∷ []) (primitives.EtherType 0x0806)
   ip : NamesPrimitive (tokens.Ip ∷ []) (primitives.EtherType 0x0800)
   ip6 : NamesPrimitive (tokens.Ip6 ∷ []) (primitives.EtherType 0x86DD)
-  proto : (n : ℕ) → n < 65536 → NamesPrimitive (tokens.Ether ∷ tokens.Proto ∷ tokens.Number (Some n) ∷ []) (primitives.EtherType n)
+  proto : (n : ℕ) → n < 65536 → NamesPrimitive (tokens.Ether ∷ tokens.Proto ∷ tokens.Number (Some n) ∷ [])
+      (primitives.EtherType n)
   src : (a : ℕ) → NamesPrimitive (tokens.Ether ∷ tokens.Src ∷ tokens.Address a ∷ []) (primitives.Source a)
   dst : (a : ℕ) → NamesPrimitive (tokens.Ether ∷ tokens.Dst ∷ tokens.Address a ∷ []) (primitives.Destination a)
   host : (a : ℕ) → NamesPrimitive (tokens.Ether ∷ tokens.Host ∷ tokens.Address a ∷ []) (primitives.Host a)
@@ -26,7 +29,8 @@ pub data NamesPrimitive : List Token → Primitive → Type 0 where
   refused : NamesPrimitive (tokens.Refused ∷ []) primitives.Refused
   cut : NamesPrimitive (tokens.Cut ∷ []) primitives.Cut
   less : (n : ℕ) → n < 4294967296 → NamesPrimitive (tokens.Less ∷ tokens.Number (Some n) ∷ []) (primitives.Less n)
-  greater : (n : ℕ) → n < 4294967296 → NamesPrimitive (tokens.Greater ∷ tokens.Number (Some n) ∷ []) (primitives.Greater n)
+  greater : (n : ℕ) → n < 4294967296 → NamesPrimitive (tokens.Greater ∷ tokens.Number (Some n) ∷ [])
+      (primitives.Greater n)
 
 -- one operand, or two or more operands that one operator joins
 pub data Shape : Type 0 where
@@ -43,8 +47,10 @@ pub data Leads (operator : Operator) : Shape → Type 0 where
 pub data Means : Shape → List Token → Expression → Type 0 where
   primitive : (ts : List Token) (p : Primitive) → NamesPrimitive ts p → Means Operand ts (Test p)
   negation : (ts : List Token) (x : Expression) → Means Operand ts x → Means Operand (tokens.Not ∷ ts) (Not x)
-  group : (shape : Shape) (ts : List Token) (x : Expression) → Means shape ts x → Means Operand (tokens.Open ∷ (ts ++ tokens.Close ∷ [])) x
-  join : (operator : Operator) (shape : Shape) (ts us : List Token) (x y : Expression) → Leads operator shape → Means shape ts x → Means Operand us y
+  group : (shape : Shape) (ts : List Token) (x : Expression) → Means shape ts x
+      → Means Operand (tokens.Open ∷ (ts ++ tokens.Close ∷ [])) x
+  join : (operator : Operator) (shape : Shape) (ts us : List Token) (x y : Expression) → Leads operator shape
+      → Means shape ts x → Means Operand us y
       → Means (Chain operator) (ts ++ tokens.Join operator ∷ us) (Join operator x y)
 
 -- all of these words mean an expression

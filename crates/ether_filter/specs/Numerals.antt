@@ -6,7 +6,9 @@ use Rattle.std.specs.Str.Parse.{digits_value}
 
 -- the number that digits write; none if there are no digits, or other characters
 abbrev pub digits_in : (radix : ℕ) → List ℕ → Option ℕ
-digits_in radix ds = if nat_lt 0 (length ds) && list_all (λ c. nat_lt (digit_value c) radix) ds then Some (digits_value radix ds) else None
+digits_in radix ds =
+    if nat_lt 0 (length ds) && list_all (λ c. nat_lt (digit_value c) radix) ds then Some (digits_value radix ds)
+    else None
 
 -- a number that fits in 32 bits
 abbrev pub within_32_bits : ℕ → Option ℕ

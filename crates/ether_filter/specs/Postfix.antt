@@ -41,11 +41,14 @@ abbrev pub expression_of : List Node → Expression
 expression_of ns = first (trees [] ns)
 
 -- reading a list of nodes that begins with those of an expression
-pub trees-postfix : (x : Expression) (xs : List Expression) (ns : List Node) → trees xs (postfix x ++ ns) ≡ trees (x ∷ xs) ns
+pub trees-postfix : (x : Expression) (xs : List Expression) (ns : List Node) → trees xs (postfix x ++ ns)
+    ≡ trees (x ∷ xs) ns
 trees-postfix (Test p) xs ns = refl
-trees-postfix (Not x) xs ns = ap (trees xs) (append_assoc (postfix x) (nodes.Not ∷ []) ns) ∙ trees-postfix x xs (nodes.Not ∷ ns)
+trees-postfix (Not x) xs ns =
+    ap (trees xs) (append_assoc (postfix x) (nodes.Not ∷ []) ns) ∙ trees-postfix x xs (nodes.Not ∷ ns)
 trees-postfix (Join operator x y) xs ns =
-    ap (trees xs) (append_assoc (postfix x ++ postfix y) (nodes.Join operator ∷ []) ns ∙ append_assoc (postfix x) (postfix y) (nodes.Join operator ∷ ns))
+    ap (trees xs) (append_assoc (postfix x ++ postfix y) (nodes.Join operator ∷ []) ns
+    ∙ append_assoc (postfix x) (postfix y) (nodes.Join operator ∷ ns))
     ∙ trees-postfix x xs (postfix y ++ nodes.Join operator ∷ ns) ∙ trees-postfix y (x ∷ xs) (nodes.Join operator ∷ ns)
 
 -- the nodes of an expression are read back as it

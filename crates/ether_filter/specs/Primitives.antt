@@ -76,14 +76,22 @@ pub record Walked : Type 0 where
 
 -- a packet with these headers and this ending
 abbrev pub walked : Packet → List Header → Ending → Walked
-walked packet hs e = record { start = next_of packet.start; headers = hs; ending = e; captured = packet.captured_len; original = packet.original_len }
+walked packet hs e =
+    record {
+      start = next_of packet.start;
+      headers = hs;
+      ending = e;
+      captured = packet.captured_len;
+      original = packet.original_len;
+    }
 
 -- what each primitive says of it
 abbrev pub Matches : Primitive → Walked → Type 0
 Matches primitives.Vlan p = IsTrue (list_any is_tag p.headers)
 Matches (primitives.VlanId id) p = IsTrue (list_any (nat_eq id) (vlan_ids p.headers))
 Matches (primitives.OuterVlan id) p = (inner : List ℕ) × (vlan_ids p.headers ≡ id ∷ inner)
-Matches (primitives.InnerVlan id) p = (outer : ℕ) × (between : List ℕ) × (vlan_ids p.headers ≡ outer ∷ (between ++ id ∷ []))
+Matches (primitives.InnerVlan id) p =
+    (outer : ℕ) × (between : List ℕ) × (vlan_ids p.headers ≡ outer ∷ (between ++ id ∷ []))
 Matches primitives.Macsec p = IsTrue (list_any is_sec_tag p.headers)
 Matches (primitives.EtherType t) p = IsTrue (list_any (nat_eq t) (ether_types p.start p.headers))
 Matches (primitives.Source address) p = IsTrue (list_any (is_from address) p.headers)

@@ -41,12 +41,17 @@ pub data Lacks (ts : List Token) : Option Token → FilterErrorKind → Type 0 w
   vlan : (next : Option Token) → Fits ts tokens.Vlan → (Fits ts tokens.Not → ⊥) → Lacks ts next kinds.ExpectedVlan
   ether_word : (next : Option Token) → Fits ts tokens.Proto → Lacks ts next kinds.ExpectedEtherWord
   address : (next : Option Token) → Fits ts (tokens.Address 0) → Lacks ts next kinds.ExpectedAddress
-  number : (next : Option Token) (most : ℕ) → Fits ts (tokens.Number (Some most)) → (Fits ts (tokens.Number (Some (most + 1))) → ⊥) → (IsAfterOperand ts → ⊥)
+  number : (next : Option Token) (most : ℕ) → Fits ts (tokens.Number (Some most))
+      → (Fits ts (tokens.Number (Some (most + 1))) → ⊥) → (IsAfterOperand ts → ⊥)
       → Lacks ts next (kinds.ExpectedNumber most)
-  vlan_id : (n : Option ℕ) → IsAfterOperand ts → Fits ts (tokens.Number (Some 4095)) → Lacks ts (Some (tokens.Number n)) (kinds.ExpectedNumber 4095)
-  no_number : (n : Option ℕ) → IsAfterOperand ts → (Fits ts (tokens.Number (Some 4095)) → ⊥) → Lacks ts (Some (tokens.Number n)) kinds.ExpectedOperator
-  operator : (t : Token) → IsAfterOperand ts → (Fits ts (tokens.Number (Some 4095)) → ⊥) → IsOther t → Lacks ts (Some t) kinds.ExpectedOperator
-  id_or_operator : (t : Token) → IsAfterOperand ts → Fits ts (tokens.Number (Some 4095)) → IsOther t → Lacks ts (Some t) kinds.ExpectedVlanIdOrOperator
+  vlan_id : (n : Option ℕ) → IsAfterOperand ts → Fits ts (tokens.Number (Some 4095))
+      → Lacks ts (Some (tokens.Number n)) (kinds.ExpectedNumber 4095)
+  no_number : (n : Option ℕ) → IsAfterOperand ts → (Fits ts (tokens.Number (Some 4095)) → ⊥)
+      → Lacks ts (Some (tokens.Number n)) kinds.ExpectedOperator
+  operator : (t : Token) → IsAfterOperand ts → (Fits ts (tokens.Number (Some 4095)) → ⊥) → IsOther t
+      → Lacks ts (Some t) kinds.ExpectedOperator
+  id_or_operator : (t : Token) → IsAfterOperand ts → Fits ts (tokens.Number (Some 4095)) → IsOther t
+      → Lacks ts (Some t) kinds.ExpectedVlanIdOrOperator
   mixed : (operator : Operator) → IsAfterOperand ts → Lacks ts (Some (tokens.Join operator)) kinds.MixedOperators
   unopened : IsAfterOperand ts → Lacks ts (Some tokens.Close) kinds.Unopened
   unclosed : IsAfterOperand ts → Lacks ts None kinds.Unclosed
@@ -54,15 +59,18 @@ pub data Lacks (ts : List Token) : Option Token → FilterErrorKind → Type 0 w
 -- the rows, for the words of a text of length `end`
 pub data RefusesExpression (ws : List Word) (end : ℕ) : FilterError → Type 0 where
   -- the first word that does not fit
-  word : (front rest : List Word) (w : Word) (kind : FilterErrorKind) → ws ≡ front ++ w ∷ rest → length front < most_words
-      → Begins (tokens_of front) → (Fits (tokens_of front) (token_of w.bytes) → ⊥) → Lacks (tokens_of front) (Some (token_of w.bytes)) kind
+  word : (front rest : List Word) (w : Word) (kind : FilterErrorKind) → ws ≡ front ++ w ∷ rest → length front
+      < most_words
+      → Begins (tokens_of front) → (Fits (tokens_of front) (token_of w.bytes) → ⊥)
+      → Lacks (tokens_of front) (Some (token_of w.bytes)) kind
       → RefusesExpression ws end (record { offset = w.at; kind = kind })
   -- the end, where words are missing
   ending : (kind : FilterErrorKind) → length ws ≤ most_words
       → Begins (tokens_of ws) → ((x : Expression) → IsExpression (tokens_of ws) x → ⊥) → Lacks (tokens_of ws) None kind
       → RefusesExpression ws end (record { offset = end; kind = kind })
   -- the first word above the maximum number, if all words before it fit
-  long : (front rest : List Word) (w : Word) → ws ≡ front ++ w ∷ rest → length front ≡ most_words → Begins (tokens_of front)
+  long : (front rest : List Word) (w : Word) → ws ≡ front ++ w ∷ rest → length front ≡ most_words
+      → Begins (tokens_of front)
       → RefusesExpression ws end (record { offset = w.at; kind = kinds.TooLong })
 
 abbrev pub RefusesText : List ℕ → FilterError → Type 0

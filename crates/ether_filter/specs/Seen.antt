@@ -63,7 +63,8 @@ has_room count (Some number) = nat_lt count 8
 
 abbrev pub takes : Seen → Fields → Option ℕ → Bool
 takes s fields announced =
-    fits s.told.link fields && (has_room (length s.ids.items) (tag_id fields) && has_room (length s.types.items) announced)
+    fits s.told.link fields
+    && (has_room (length s.ids.items) (tag_id fields) && has_room (length s.types.items) announced)
 
 pub record IsTaken (s : Seen) (fields : Fields) (announced : Option ℕ) (t : Seen) : Type 0 where
   pub fitting : fits s.told.link fields ≡ true
@@ -102,7 +103,8 @@ matches_seen p captured original s = seen p s.told s.ids.items s.types.items
 abbrev pub IsSeen : Next → List Header → Ending → Option Seen → Type 0
 IsSeen start hs e None = Unit {0}
 IsSeen start hs e (Some s) =
-    (p : Primitive) → seen p s.told s.ids.items s.types.items ≡ found_at_end p (found_first p (ether_type_of start)) false hs e
+    (p : Primitive) → seen p s.told s.ids.items s.types.items
+    ≡ found_at_end p (found_first p (ether_type_of start)) false hs e
 
 -- the primitive asks about headers
 abbrev pub asks_headers : Primitive → Bool

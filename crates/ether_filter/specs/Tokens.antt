@@ -10,17 +10,22 @@ use Rattle.ether_filter.specs.declared.token.Token.TheVariants as tokens
 abbrev pub keywords : List (List ℕ × Token)
 keywords =
     (codes "(", tokens.Open) ∷ (codes ")", tokens.Close) ∷ (codes "not", tokens.Not) ∷ (codes "!", tokens.Not) ∷
-    (codes "and", tokens.Join And) ∷ (codes "&&", tokens.Join And) ∷ (codes "or", tokens.Join Or) ∷ (codes "||", tokens.Join Or) ∷
-    (codes "vlan", tokens.Vlan) ∷ (codes "outer", tokens.Outer) ∷ (codes "inner", tokens.Inner) ∷ (codes "macsec", tokens.Macsec) ∷
+    (codes "and", tokens.Join And) ∷ (codes "&&", tokens.Join And) ∷ (codes "or", tokens.Join Or)
+    ∷ (codes "||", tokens.Join Or) ∷
+    (codes "vlan", tokens.Vlan) ∷ (codes "outer", tokens.Outer) ∷ (codes "inner", tokens.Inner)
+    ∷ (codes "macsec", tokens.Macsec) ∷
     (codes "arp", tokens.Arp) ∷ (codes "ip", tokens.Ip) ∷ (codes "ip6", tokens.Ip6) ∷
-    (codes "ether", tokens.Ether) ∷ (codes "proto", tokens.Proto) ∷ (codes "src", tokens.Src) ∷ (codes "dst", tokens.Dst) ∷ (codes "host", tokens.Host) ∷
+    (codes "ether", tokens.Ether) ∷ (codes "proto", tokens.Proto) ∷ (codes "src", tokens.Src)
+    ∷ (codes "dst", tokens.Dst) ∷ (codes "host", tokens.Host) ∷
     (codes "broadcast", tokens.Broadcast) ∷ (codes "multicast", tokens.Multicast) ∷
-    (codes "refused", tokens.Refused) ∷ (codes "cut", tokens.Cut) ∷ (codes "less", tokens.Less) ∷ (codes "greater", tokens.Greater) ∷ []
+    (codes "refused", tokens.Refused) ∷ (codes "cut", tokens.Cut) ∷ (codes "less", tokens.Less)
+    ∷ (codes "greater", tokens.Greater) ∷ []
 
 -- what a word means, if it is among these
 abbrev pub meaning_among : List (List ℕ × Token) → List ℕ → Option Token
 meaning_among [] word = None
-meaning_among (entry ∷ entries) word = if pointwise nat_eq entry.0 word then Some entry.1 else meaning_among entries word
+meaning_among (entry ∷ entries) word =
+    if pointwise nat_eq entry.0 word then Some entry.1 else meaning_among entries word
 
 abbrev pub number_token : Option (Option ℕ) → Token
 number_token None = tokens.Unknown

@@ -9,7 +9,8 @@ use Rattle.ether_filter.specs.declared.text_words.Class.TheVariants.{Blank, Sign
 abbrev pub class_of : ℕ → Class
 class_of c =
     if list_any (nat_eq c) (32 ∷ 9 ∷ 10 ∷ 13 ∷ []) then Blank
-    else (if list_any (nat_eq c) (codes "()!") then Sign else (if list_any (nat_eq c) (codes "&|") then Connective else Letter))
+    else (if list_any (nat_eq c) (codes "()!") then Sign
+    else (if list_any (nat_eq c) (codes "&|") then Connective else Letter))
 
 abbrev pub is_blank : Class → Bool
 is_blank Blank = true
@@ -40,7 +41,8 @@ abbrev pub words_at : ℕ → List ℕ → List Word
 words_at at [] = []
 words_at at (c ∷ cs) =
     if is_blank (class_of c) then words_at (at + 1) cs
-    else (if goes_on c cs then grown c at (words_at (at + 1) cs) else (record { at = at; bytes = c ∷ [] } ∷ words_at (at + 1) cs))
+    else (if goes_on c cs then grown c at (words_at (at + 1) cs)
+    else (record { at = at; bytes = c ∷ [] } ∷ words_at (at + 1) cs))
 
 -- the words of a text from an offset on
 abbrev pub words_from : List ℕ → ℕ → List Word
@@ -51,4 +53,5 @@ pub record IsNextWord (text : List ℕ) (from : ℕ) (word : Span) : Type 0 wher
   pub after : from ≤ word.start
   pub nonempty : word.start < word.end
   pub inside : word.end ≤ length text
-  pub words : words_from text from ≡ record { at = word.start; bytes = slice_range text word.start word.end } ∷ words_from text word.end
+  pub words : words_from text from ≡ record { at = word.start; bytes = slice_range text word.start word.end }
+      ∷ words_from text word.end

@@ -41,8 +41,10 @@ pub(crate) const MAX_WORDS: usize = 192;
 /// | `macsec` | it has a MACsec SecTag |
 /// | `ether proto N` | the ether type `N` is announced, at its start or by one of its headers |
 /// | `arp`, `ip`, `ip6` | the same for 0x0806, 0x0800, 0x86DD |
-/// | `ether src A`, `ether dst A`, `ether host A` | its Ethernet II header has the address `A` as source, destination, or either |
-/// | `ether broadcast`, `ether multicast` | its Ethernet II header has the broadcast address, or any group address, as destination |
+/// | `ether src A`, `ether dst A`, `ether host A` | its Ethernet II header has the address `A` as source, destination,
+/// or either |
+/// | `ether broadcast`, `ether multicast` | its Ethernet II header has the broadcast address, or any group address, as
+/// destination |
 /// | `refused` | one of its headers is refused: cut short or malformed |
 /// | `cut` | fewer bytes were captured than were on the wire |
 /// | `less N`, `greater N` | it had at most, or at least, `N` bytes on the wire |

@@ -48,7 +48,8 @@ use ether_peel::Start;
 /// ```
 pub fn matches(instructions: &[Instruction], packet: &Packet<'_>) -> bool
     ensures { (x : Expression) → IsProgramOf instructions.now x → (hs : List Header) (e : Ending)
-        → Walk (start_of packet.now.start) packet.now.frame.now hs e → IsTrue result ↔ Holds x (walked packet.now hs e) }
+        → Walk (start_of packet.now.start) packet.now.frame.now hs e → IsTrue result
+        ↔ Holds x (walked packet.now hs e) }
 {
     if let [instruction] = instructions {
         if let Some(primitive) = instruction.primitive() {
@@ -61,7 +62,8 @@ pub fn matches(instructions: &[Instruction], packet: &Packet<'_>) -> bool
 /// Whether a packet matches, by what one walk shows for all primitives.
 fn matches_by_jumps(instructions: &[Instruction], packet: &Packet<'_>) -> bool
     ensures { (x : Expression) → IsProgramOf instructions.now x → (hs : List Header) (e : Ending)
-        → Walk (start_of packet.now.start) packet.now.frame.now hs e → IsTrue result ↔ Holds x (walked packet.now hs e) }
+        → Walk (start_of packet.now.start) packet.now.frame.now hs e → IsTrue result
+        ↔ Holds x (walked packet.now hs e) }
 {
     let seen = look_for(instructions, packet.start, packet.frame);
     let tags = tags_seen(&seen);
@@ -98,7 +100,8 @@ fn past_misses(instructions: &[Instruction], begin: usize, tags: Tags) -> usize
 /// .. past primitives that ask for VLAN tags, if there are none.
 fn past_all(instructions: &[Instruction], begin: usize) -> usize
     ensures forward { begin ≤ result }
-    ensures reaches { (x : Expression) (p : IsProgramOf instructions.now x) → LeadsOn x p.jumps Tags.Untagged begin result }
+    ensures reaches { (x : Expression) (p : IsProgramOf instructions.now x)
+        → LeadsOn x p.jumps Tags.Untagged begin result }
 {
     let mut at = begin;
     while at < instructions.len() && instructions[at].asks_tags() {
@@ -114,7 +117,8 @@ fn past_all(instructions: &[Instruction], begin: usize) -> usize
 /// .. past primitives that ask for another identifier than that of the only VLAN tag.
 fn past_others(instructions: &[Instruction], begin: usize, id: u16) -> usize
     ensures forward { begin ≤ result }
-    ensures reaches { (x : Expression) (p : IsProgramOf instructions.now x) → LeadsOn x p.jumps (Tags.One id) begin result }
+    ensures reaches { (x : Expression) (p : IsProgramOf instructions.now x)
+        → LeadsOn x p.jumps (Tags.One id) begin result }
 {
     let mut at = begin;
     while at < instructions.len() && instructions[at].asks_other_id(id) {
@@ -171,7 +175,8 @@ pub(crate) fn instructions_of(nodes: &[Node]) -> ArrayVec<Instruction, MAX_WORDS
 #[inline]
 fn look_for(instructions: &[Instruction], start: Start, frame: &[u8]) -> Option<Seen>
     ensures bytes { IsBytes frame.now }
-    ensures seen { (hs : List Header) (e : Ending) → Walk (start_of start) frame.now hs e → IsSeen (next_of start) hs e result }
+    ensures seen { (hs : List Header) (e : Ending) → Walk (start_of start) frame.now hs e
+        → IsSeen (next_of start) hs e result }
 {
     for instruction in instructions {
         if let Some(primitive) = instruction.primitive() {
@@ -195,7 +200,8 @@ fn asks_headers(primitive: Primitive) -> bool
 
 /// The decision on an expression with this value, where `None` is unknown.
 fn decision(value: Option<bool>, opening: Option<Opening>) -> Decision
-    ensures { (packet : Packet) (hs : List Header) (e : Ending) (x : Expression) → IsOpening packet e opening → IsValue packet hs e value x
+    ensures { (packet : Packet) (hs : List Header) (e : Ending) (x : Expression) → IsOpening packet e opening
+        → IsValue packet hs e value x
         → Says packet hs e x result }
 {
     match (value, opening) {

@@ -65,7 +65,8 @@ pub(crate) fn past_tags(nodes: &[Node], jumps: &[Jump; MAX_WORDS]) -> [u8; MAX_W
 fn past_next(nodes: &[Node], past: &[u8; MAX_WORDS], at: usize, next: u8) -> u8
     requires { length nodes.now ≤ MAX_WORDS }
     ensures { (js : List Jump) → (jump_at js at).if_false ≡ next
-        → ((i : ℕ) → at < i → i < length nodes.now → Passes nodes.now js i (get_or past.now i 0)) → Passes nodes.now js at result }
+        → ((i : ℕ) → at < i → i < length nodes.now → Passes nodes.now js i (get_or past.now i 0))
+        → Passes nodes.now js at result }
 {
     let index = usize::from(next);
     if at < index && index < nodes.len() && asks_tags(nodes[index]) {

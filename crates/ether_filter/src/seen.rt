@@ -47,7 +47,8 @@ pub(crate) struct Seen {
 
 /// Walks through a packet, and returns what its headers show. `None` if there is no room for that.
 pub(crate) fn look(start: Start, frame: &[u8]) -> Option<Seen>
-    ensures { (hs : List Header) (e : Ending) → Walk (start_of start) frame.now hs e → IsSeen (next_of start) hs e result }
+    ensures { (hs : List Header) (e : Ending) → Walk (start_of start) frame.now hs e
+        → IsSeen (next_of start) hs e result }
 {
     let mut peel = Peel::new(start, frame);
     let mut seen = begin(announced_type(peel.kind()));

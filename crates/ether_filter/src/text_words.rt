@@ -60,7 +60,8 @@ fn word_end(text: &[u8], start: usize) -> usize
     requires word { is_blank (class_of_byte (slice_index text.now start)) ≡ false }
     ensures after { start < result }
     ensures inside { result ≤ length text.now }
-    ensures word { words_from text.now start ≡ record { at = start; bytes = slice_range text.now start result } ∷ words_from text.now result }
+    ensures word { words_from text.now start ≡ record { at = start; bytes = slice_range text.now start result }
+        ∷ words_from text.now result }
 {
     let mut end = start + 1;
     while end < text.len() && are_joined(class_of(text[end - 1]), class_of(text[end])) {

@@ -8,7 +8,8 @@ use Rattle.ether_pcap.specs.Block as block_rows
 use Rattle.ether_pcap.specs.Section as section_rows
 use Rattle.ether_pcap.specs.Capture.{CaptureInterfaceValue, PacketValue, CaptureExpectation, BlockKind, CaptureRefusal, Section, Block, RefusesBody, interface, Begins, file_header, file_record, first_section, section, block, RefusesCapture, file_header_refused, file_record_refused, first_section_refused, section_refused, block_refused, body_refused, required_len}
 
-pub unit_within : (bytes : List ℕ) (x y : CaptureExpectation) (len : ℕ) (p : Option PacketValue) → Begins bytes x len p y
+pub unit_within : (bytes : List ℕ) (x y : CaptureExpectation) (len : ℕ) (p : Option PacketValue)
+    → Begins bytes x len p y
     → len ≤ length bytes
 unit_within bytes x y len p (file_header m h other is) = is.len
 unit_within bytes x y len p (file_record h r is) = is.whole

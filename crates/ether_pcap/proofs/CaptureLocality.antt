@@ -101,12 +101,14 @@ pub block_local : (order : Order) (bytes more : List ℕ) (b : BlockValue) → B
     → BeginsBlock order (bytes ++ more) b
 block_local order bytes more b is = search (rules, block_kept, longer, part-append)
 
-pub unit_local : (bytes more : List ℕ) (x y : CaptureExpectation) (len : ℕ) (p : Option PacketValue) → Begins bytes x len p y
+pub unit_local : (bytes more : List ℕ) (x y : CaptureExpectation) (len : ℕ) (p : Option PacketValue)
+    → Begins bytes x len p y
     → Begins (bytes ++ more) x len p y
 unit_local bytes more x y len p is = search (rules, unit_kept, longer, part-append, unit_within)
 
 -- .. or don't
-pub unit_alone : (bytes more : List ℕ) (x y : CaptureExpectation) (len : ℕ) (p : Option PacketValue) → len ≤ length bytes
+pub unit_alone : (bytes more : List ℕ) (x y : CaptureExpectation) (len : ℕ) (p : Option PacketValue) → len
+    ≤ length bytes
     → Begins (bytes ++ more) x len p y → Begins bytes x len p y
 unit_alone bytes more x y len p le is = search (rules, unit_kept, part-append)
 

@@ -83,7 +83,8 @@ section_unit most (progress.Section old) interfaces bytes order b len none is e 
 pub section_not_read : (most : ℕ) (p : Progress) (interfaces : List CaptureInterface) (bytes : List ℕ)
     (r : SectionRefusal)
     → ((h : FileHeader) → p ≡ progress.Classic h → ⊥)
-    → HasSectionType bytes → RefusesSection bytes r → RefusesCapture bytes (expectation_of most p interfaces) (Section r)
+    → HasSectionType bytes → RefusesSection bytes r → RefusesCapture bytes (expectation_of most p interfaces)
+    (Section r)
 section_not_read most progress.Nothing interfaces bytes r none has is = first_section_refused most r has is
 section_not_read most (progress.Classic h) interfaces bytes r none has is = absurd (none h refl)
 section_not_read most (progress.Section old) interfaces bytes r none has is =

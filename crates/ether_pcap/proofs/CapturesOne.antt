@@ -175,7 +175,8 @@ unit_apart bytes x y len p r ok (block m order interfaces after packet b other b
     (subst (λ (v : BlockValue). RefusesBody m order interfaces v.body (kind_of_block v.block_type) s) (sym e) refused)
     is
 
-pub unit_refusal_one : (bytes : List ℕ) (x : CaptureExpectation) (r s : CaptureRefusal) → IsBytes bytes → RefusesCapture bytes x r
+pub unit_refusal_one : (bytes : List ℕ) (x : CaptureExpectation) (r s : CaptureRefusal) → IsBytes bytes
+    → RefusesCapture bytes x r
     → RefusesCapture bytes x s → r ≡ s
 unit_refusal_one bytes x r s ok (file_header_refused m a other refused) (file_header_refused m2 b other2 refused2) =
     ap File (refused_once bytes a b ok refused refused2)

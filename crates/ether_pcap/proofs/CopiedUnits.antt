@@ -74,7 +74,8 @@ module _ (raise : ℕ) where
 
   section_unit : (bytes : List ℕ) (x z : CaptureExpectation) (m n : ℕ) (order : Order) (b : BlockValue)
       → n ≡ length bytes → n ≡ 12 + length b.body → IsSection bytes order b
-      → ((new : List ℕ) (c : BlockValue) → IsSection new order c → Begins new z (12 + length c.body) None (Blocks m order []))
+      → ((new : List ℕ) (c : BlockValue) → IsSection new order c
+      → Begins new z (12 + length c.body) None (Blocks m order []))
       → Begins (changed_unit raise (Blocks m order []) bytes) z
       (length (changed_unit raise (Blocks m order []) bytes)) None (Blocks m order [])
   section_unit bytes x z m n order b e f is unit =
@@ -105,7 +106,8 @@ module _ (raise : ℕ) where
       let type_same : slice_range new 0 4 ≡ slice_range bytes 0 4 =
       with_bytes-before 12 (bytes_of order 4 n) bytes
       (raised_room order raise (field order bytes 12 16) 12 bytes room) 0 4 (omega arith) (omega arith) in
-      let not_section : HasSectionType new → ⊥ = λ (has : HasSectionType new). other (sym (ap number type_same) ∙ has) in
+      let not_section : HasSectionType new → ⊥ =
+      λ (has : HasSectionType new). other (sym (ap number type_same) ∙ has) in
       let in_after = ap raised is_after ∙ map-append (raised_interface raise) before (v ∷ []) in
       let few : length (raised before) < m = omega (arith, lt, length-map before (raised_interface raise)) in
       let described = interface_described raise order bytes b begins v d in
@@ -163,9 +165,12 @@ module _ (raise : ℕ) where
       one =
           elim (type_of b.block_type) [
             | is_interface is ↦ is
-            | is_obsolete is ↦ let bad : EnhancedPacket 2 ≡ InterfaceDescription = ap kind_of_block (sym is) ∙ kind in absurd cc
-            | is_simple is ↦ let bad : SimplePacket ≡ InterfaceDescription = ap kind_of_block (sym is) ∙ kind in absurd cc
-            | is_enhanced is ↦ let bad : EnhancedPacket 4 ≡ InterfaceDescription = ap kind_of_block (sym is) ∙ kind in absurd cc
+            | is_obsolete is ↦ let bad : EnhancedPacket 2 ≡ InterfaceDescription =
+                ap kind_of_block (sym is) ∙ kind in absurd cc
+            | is_simple is ↦ let bad : SimplePacket ≡ InterfaceDescription =
+                ap kind_of_block (sym is) ∙ kind in absurd cc
+            | is_enhanced is ↦ let bad : EnhancedPacket 4 ≡ InterfaceDescription =
+                ap kind_of_block (sym is) ∙ kind in absurd cc
             | is_other is ↦ let bad : Other ≡ InterfaceDescription = sym is ∙ kind in absurd cc
           ]
   by_kind bytes m order before after b SimplePacket p e len other begins kind (i, q, at, is, f, g) =
@@ -238,7 +243,8 @@ module _ (raise : ℕ) where
       let same : p ≡ simple_packet_on i v = same_packet p (simple_packet_on i v) e in
       let len = eqb-true (captured_by (raised_len raise p.snap_len) p.original_len) (length p.packet) kept in
       let here : captured_by (raised_len raise i.snap_len) v.original_len ≡ length v.packet =
-      subst (λ (q : PacketValue). captured_by (raised_len raise q.snap_len) q.original_len ≡ length q.packet) same len in
+      subst (λ (q : PacketValue). captured_by (raised_len raise q.snap_len) q.original_len ≡ length q.packet) same
+      len in
       let fits : IsSimplePacket order (raised_len raise i.snap_len) body v = record {
         original_len = is.original_len;
         captured_len = ap (captured_by (raised_len raise i.snap_len)) is.original_len ∙ here;
@@ -304,7 +310,8 @@ module _ (raise : ℕ) where
   edited_unit_kept (Blocks m order interfaces) u new p e is = search rules
 
 -- the unit of a packet is one of the copy
-pub packet_in_copy : (mode : ModeValue) (x : CaptureExpectation) (u new : List ℕ) (p : PacketValue) (o : Option EditedValue)
+pub packet_in_copy : (mode : ModeValue) (x : CaptureExpectation) (u new : List ℕ) (p : PacketValue)
+    (o : Option EditedValue)
     → Begins u x (length u) (Some p) x → unit_after mode x p o u ≡ Some new
     → Begins new (expected_in mode x) (length new) (Some (packet_after mode p o)) (expected_in mode x)
 packet_in_copy Exact x u new p None begins is =
@@ -316,7 +323,8 @@ packet_in_copy (Changed raise) x u new p None begins is =
     (expected_in (Changed raise) x)) same
     (raised_unit raise x u p begins (is ∙ ap (λ (l : List ℕ). Some l) (sym same)))
   where
-    same_unit : (x : CaptureExpectation) (p : PacketValue) (u new : List ℕ) → packet_unit (Changed raise) x p u ≡ Some new
+    same_unit : (x : CaptureExpectation) (p : PacketValue) (u new : List ℕ) → packet_unit (Changed raise) x p u
+        ≡ Some new
         → u ≡ new
     same_unit (Beginning m) p u new is = ap (λ (s : Option (List ℕ)). unwrap_or s u) is
     same_unit (Records h) p u new is = ap (λ (s : Option (List ℕ)). unwrap_or s u) is

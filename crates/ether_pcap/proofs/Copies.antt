@@ -33,12 +33,14 @@ pub other_taken : (bytes : List ℕ) (x y : CaptureExpectation) (len : ℕ) → 
 other_taken bytes x y len begins = search (rules, unit_taken)
 
 -- the unit of a packet, by its own bytes
-pub packet_taken : (bytes : List ℕ) (x y : CaptureExpectation) (len : ℕ) (p : PacketValue) → Begins bytes x len (Some p) y
+pub packet_taken : (bytes : List ℕ) (x y : CaptureExpectation) (len : ℕ) (p : PacketValue)
+    → Begins bytes x len (Some p) y
     → Begins (take len bytes) x (length (take len bytes)) (Some p) x
 packet_taken bytes x y len p begins = search (rules, unit_taken, same_after)
 
 -- a packet that is copied
-pub packet_copied : (mode : ModeValue) (bytes front copy : List ℕ) (x y : CaptureExpectation) (len : ℕ) (p : PacketValue)
+pub packet_copied : (mode : ModeValue) (bytes front copy : List ℕ) (x y : CaptureExpectation) (len : ℕ)
+    (p : PacketValue)
     (o : Option EditedValue)
     → Begins bytes x len (Some p) y → unit_after mode x p o (take len bytes) ≡ Some front
     → Begins (front ++ copy) (expected_in mode x) (length front) (Some (packet_after mode p o)) (expected_in mode y)
@@ -55,7 +57,8 @@ to_unit x y bytes len ps rest (Some (Refused r)) begins has = packets.unit x y b
 to_unit x y bytes len ps rest (Some (NotEdited q)) begins (more, left, fault, has) =
     (more, left, fault, packets.unit x y bytes len (ps ++ q ∷ more) left fault begins has)
 
-to_packet : (x y : CaptureExpectation) (bytes : List ℕ) (len : ℕ) (p : PacketValue) (ps : List PacketValue) (rest : List ℕ)
+to_packet : (x y : CaptureExpectation) (bytes : List ℕ) (len : ℕ) (p : PacketValue) (ps : List PacketValue)
+    (rest : List ℕ)
     (fault : Option CopyFault)
     → Begins bytes x len (Some p) y → HasPacketsTo y (drop len bytes) ps rest fault
     → HasPacketsTo x bytes (p ∷ ps) rest fault
@@ -99,7 +102,8 @@ module _ (mode : ModeValue) (Keeps : PacketValue → Type 0) (Edits : PacketValu
   begun_in (Changed raise) (packets.Blocks most order interfaces) is = tt
 
   pub copy_read : (x : CaptureExpectation) (bytes copy : List ℕ) (kept edited : List PacketValue) (rest : List ℕ)
-      (fault : Option CopyFault) → Copies mode Keeps Edits x bytes copy kept edited rest fault → IsRead mode x copy edited
+      (fault : Option CopyFault) → Copies mode Keeps Edits x bytes copy kept edited rest fault
+      → IsRead mode x copy edited
   copy_read x bytes copy kept edited rest fault (ended _ _ end) some =
       packets.ended (expected_in mode x) [] (begun_in mode x end.0, refl)
   copy_read x bytes copy kept edited rest fault (refused _ _ r more is) (inl later) =
@@ -110,7 +114,8 @@ module _ (mode : ModeValue) (Keeps : PacketValue → Type 0) (Edits : PacketValu
   copy_read x bytes copy kept edited rest fault (unit _ y _ others len _ _ _ _ begins copies) some =
       unit_read x y bytes others len edited begins
       (copy_read y (drop len bytes) others kept edited rest fault copies (inl (begun bytes x y len None begins)))
-  copy_read x bytes copy kept edited rest fault (keeps _ y _ front others len p o ps qs _ _ begins is edits fits copies) some =
+  copy_read x bytes copy kept edited rest fault (keeps _ y _ front others len p o ps qs _ _ begins is edits fits copies)
+  some =
       packets.packet (expected_in mode x) (expected_in mode y) (front ++ others) (length front) (packet_after mode p o)
       qs [] None
       (packet_copied mode bytes front others x y len p o begins fits)
@@ -130,7 +135,8 @@ module _ (mode : ModeValue) (Keeps : PacketValue → Type 0) (Edits : PacketValu
   copy_edits x bytes copy kept edited rest fault (not_edited _ y _ len p o begins is edits no_front) = none_edited
   copy_edits x bytes copy kept edited rest fault (unit _ y _ others len _ _ _ _ begins copies) =
       copy_edits y (drop len bytes) others kept edited rest fault copies
-  copy_edits x bytes copy kept edited rest fault (keeps _ y _ front others len p o ps qs _ _ begins is edits fits copies) =
+  copy_edits x bytes copy kept edited rest fault
+  (keeps _ y _ front others len p o ps qs _ _ begins is edits fits copies) =
       one_edited p o ps qs edits (copy_edits y (drop len bytes) others ps qs rest fault copies)
   copy_edits x bytes copy kept edited rest fault (leaves _ y _ _ len p _ _ _ _ begins not_kept copies) =
       copy_edits y (drop len bytes) copy kept edited rest fault copies
@@ -151,7 +157,8 @@ module _ (mode : ModeValue) (Keeps : PacketValue → Type 0) (Edits : PacketValu
         has = to_unit x y bytes len s.packets rest fault begins s.has;
         selected = s.selected;
       }
-  copy_source x bytes copy kept edited rest fault (keeps _ y _ front others len p o ps qs _ _ begins is edits fits copies) =
+  copy_source x bytes copy kept edited rest fault
+  (keeps _ y _ front others len p o ps qs _ _ begins is edits fits copies) =
       let s = copy_source y (drop len bytes) others ps qs rest fault copies in
       record {
         packets = p ∷ s.packets;
@@ -183,7 +190,8 @@ module _ (mode : ModeValue) (Keeps : PacketValue → Type 0) (Edits : PacketValu
       no_front : (l m : List ℕ) → l ++ m ≡ [] → l ≡ []
       no_front [] m e = refl
       no_front (b ∷ l) m e = absurd cc
-  copy_nothing x bytes copy kept edited rest fault (keeps _ y _ front others len p o ps qs _ _ begins is edits fits copies) first empty =
+  copy_nothing x bytes copy kept edited rest fault
+  (keeps _ y _ front others len p o ps qs _ _ begins is edits fits copies) first empty =
       absurd (first (begun_before bytes x y len p begins))
   copy_nothing x bytes copy kept edited rest fault (leaves _ y _ _ len p _ _ _ _ begins not_kept copies) first empty =
       absurd (first (begun_before bytes x y len p begins))
@@ -191,19 +199,22 @@ module _ (mode : ModeValue) (Keeps : PacketValue → Type 0) (Edits : PacketValu
   -- where a packet can't be edited
   stopped_at : (x : CaptureExpectation) (bytes copy : List ℕ) (kept edited : List PacketValue) (rest : List ℕ)
       (fault : Option CopyFault) (q : PacketValue)
-      → Copies mode Keeps Edits x bytes copy kept edited rest fault → fault ≡ Some (NotEdited q) → IsNotEdited mode Keeps Edits rest q
+      → Copies mode Keeps Edits x bytes copy kept edited rest fault → fault ≡ Some (NotEdited q)
+      → IsNotEdited mode Keeps Edits rest q
   stopped_at x bytes copy kept edited rest fault q (ended _ _ end) e = absurd cc
   stopped_at x bytes copy kept edited rest fault q (refused _ _ r more is) e = absurd cc
   stopped_at x bytes copy kept edited rest fault q (not_edited _ y _ len p o begins is edits no_front) e =
       search (rules, same_after, why_not_copied, packet_taken)
   stopped_at x bytes copy kept edited rest fault q (unit _ y _ others len _ _ _ _ begins copies) e =
       stopped_at y (drop len bytes) others kept edited rest fault q copies e
-  stopped_at x bytes copy kept edited rest fault q (keeps _ y _ front others len p o ps qs _ _ begins is edits fits copies) e =
+  stopped_at x bytes copy kept edited rest fault q
+  (keeps _ y _ front others len p o ps qs _ _ begins is edits fits copies) e =
       stopped_at y (drop len bytes) others ps qs rest fault q copies e
   stopped_at x bytes copy kept edited rest fault q (leaves _ y _ _ len p _ _ _ _ begins not_kept copies) e =
       stopped_at y (drop len bytes) copy kept edited rest fault q copies e
 
-  pub copy_stopped : (x : CaptureExpectation) (bytes copy : List ℕ) (kept edited : List PacketValue) (rest : List ℕ) (p : PacketValue)
+  pub copy_stopped : (x : CaptureExpectation) (bytes copy : List ℕ) (kept edited : List PacketValue) (rest : List ℕ)
+    (p : PacketValue)
       → Copies mode Keeps Edits x bytes copy kept edited rest (Some (NotEdited p)) → IsNotEdited mode Keeps Edits rest p
   copy_stopped x bytes copy kept edited rest p copies =
       stopped_at x bytes copy kept edited rest (Some (NotEdited p)) p copies refl
@@ -228,7 +239,8 @@ module _ (raise : ℕ) (Keeps : PacketValue → Type 0) (Edits : PacketValue →
   copy_within x bytes copy kept edited rest fault (not_edited _ y _ len p o begins is edits no_front) few all = all
   copy_within x bytes copy kept edited rest fault (unit _ y _ others len _ _ _ _ begins copies) few all =
       copy_within y (drop len bytes) others kept edited rest fault copies few all
-  copy_within x bytes copy kept edited rest fault (keeps _ y _ front others len p o ps qs _ _ begins is edits fits copies) few all =
+  copy_within x bytes copy kept edited rest fault
+  (keeps _ y _ front others len p o ps qs _ _ begins is edits fits copies) few all =
       let q = packet_after (Changed raise) p o in
       let here =
       packet_in_copy (Changed raise) x (take len bytes) front p o (packet_taken bytes x y len p begins) fits in
@@ -259,13 +271,15 @@ module _ (Edits : PacketValue → Option EditedValue → Type 0) (stays : EditsN
 
   -- with all packets, it is the file itself
   pub copy_all : (x : CaptureExpectation) (bytes copy : List ℕ) (kept edited : List PacketValue) (rest : List ℕ)
-      (fault : Option CopyFault) → Copies Exact (λ p. ⊤) Edits x bytes copy kept edited rest fault → copy ++ rest ≡ bytes
+      (fault : Option CopyFault) → Copies Exact (λ p. ⊤) Edits x bytes copy kept edited rest fault → copy ++ rest
+      ≡ bytes
   copy_all x bytes copy kept edited rest fault (ended _ _ end) = sym end.1
   copy_all x bytes copy kept edited rest fault (refused _ _ r more is) = refl
   copy_all x bytes copy kept edited rest fault (not_edited _ y _ len p o begins is edits no_front) = refl
   copy_all x bytes copy kept edited rest fault (unit _ y _ others len _ _ _ _ begins copies) =
       joined bytes others rest len (copy_all y (drop len bytes) others kept edited rest fault copies)
-  copy_all x bytes copy kept edited rest fault (keeps _ y _ front others len p o ps qs _ _ begins is edits fits copies) =
+  copy_all x bytes copy kept edited rest fault (keeps _ y _ front others len p o ps qs _ _ begins is edits fits copies)
+  =
       let more = copy_all y (drop len bytes) others ps qs rest fault copies in
       search (rules, unit_unedited, joined)
   copy_all x bytes copy kept edited rest fault (leaves _ y _ _ len p _ _ _ _ begins not_kept copies) =

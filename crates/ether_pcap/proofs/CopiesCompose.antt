@@ -60,9 +60,11 @@ module _ (most : ℕ) (order : Order) (interfaces : List CaptureInterfaceValue) 
       ap (λ (b : Bool). if b then with_bytes 12 (bytes_of order 4 (raised_len 0 (field order l 12 16))) l else rest l)
       (eq-eqb (field order l 0 4) 1 k) in
       let once : changed bytes ≡ new = other_changed 0 most order interfaces bytes other ∙ is_new bytes one in
-      let type_same = with_bytes-before 12 s bytes (raised_room order 0 n 12 bytes room) 0 4 (omega arith) (omega arith) in
+      let type_same =
+      with_bytes-before 12 s bytes (raised_room order 0 n 12 bytes room) 0 4 (omega arith) (omega arith) in
       let type_one : field order new 0 4 ≡ 1 = ap (number_in order) type_same ∙ one in
-      let not_section : HasSectionType new → ⊥ = λ (has : HasSectionType new). other (sym (ap number type_same) ∙ has) in
+      let not_section : HasSectionType new → ⊥ =
+      λ (has : HasSectionType new). other (sym (ap number type_same) ∙ has) in
       let again = ap (raised_len 0) (raised_field order 0 n 12 bytes room) ∙ raised_twice n in
       ap changed once ∙ other_changed 0 most order interfaces new not_section ∙ is_new new type_one
       ∙ ap (λ (k : ℕ). with_bytes 12 (bytes_of order 4 k) new) again
@@ -175,7 +177,8 @@ body_range h most order before after body p ok k all = search rules
 range_after : (bytes : List ℕ) (x y : CaptureExpectation) (len : ℕ) (p : Option PacketValue) → IsBytes bytes
     → Begins bytes x len p y → InRange x → InRange y
 range_after bytes x y len p ok (file_header m h other is) range =
-    subst IsFour is.snap_len (four_field h.order bytes 16 ok (let long : 24 ≤ length bytes = is.len in omega (arith, long)))
+    subst IsFour is.snap_len
+    (four_field h.order bytes 16 ok (let long : 24 ≤ length bytes = is.len in omega (arith, long)))
 range_after bytes x y len p ok (file_record h r is) range = range
 range_after bytes x y len p ok (block m order interfaces after q b other begins body) range =
     body_range (kind_of_block b.block_type) m order interfaces after b.body q
@@ -210,8 +213,10 @@ part_of_take bytes n j le =
     (part_of_front bytes n 0 j (omega arith) le)
 
 -- a packet has a snap length of four bytes, and its unit is kept
-range_packet : (bytes : List ℕ) (x y : CaptureExpectation) (len : ℕ) (o : Option PacketValue) (p : PacketValue) → o ≡ Some p
-    → Begins bytes x len o y → InRange x → IsFour p.snap_len × (packet_unit (Changed 0) x p (take len bytes) ≡ Some (take len bytes))
+range_packet : (bytes : List ℕ) (x y : CaptureExpectation) (len : ℕ) (o : Option PacketValue) (p : PacketValue) → o
+    ≡ Some p
+    → Begins bytes x len o y → InRange x → IsFour p.snap_len
+    × (packet_unit (Changed 0) x p (take len bytes) ≡ Some (take len bytes))
 range_packet bytes x y len o p some (file_record h r is) range =
     let same = same_packet (packet_of_record h r) p some in
     (subst (λ (v : PacketValue). IsFour v.snap_len) same range, refl)
@@ -230,34 +235,42 @@ take_front [] others = refl
 take_front (b ∷ u) others = let more = take_front u others in λ i. b ∷ more i
 
 -- what is kept by a test is kept by one that says the same
-pub copies_alike : (mode : ModeValue) (Keeps Also : PacketValue → Type 0) (Edits : PacketValue → Option EditedValue → Type 0)
+pub copies_alike : (mode : ModeValue) (Keeps Also : PacketValue → Type 0) (Edits : PacketValue → Option EditedValue
+    → Type 0)
     → ((p : PacketValue) → Keeps p ↔ Also p)
-    → (x : CaptureExpectation) (bytes copy : List ℕ) (kept edited : List PacketValue) (rest : List ℕ) (fault : Option CopyFault)
+    → (x : CaptureExpectation) (bytes copy : List ℕ) (kept edited : List PacketValue) (rest : List ℕ)
+    (fault : Option CopyFault)
     → Copies mode Keeps Edits x bytes copy kept edited rest fault
     → Copies mode Also Edits x bytes copy kept edited rest fault
 copies_alike mode Keeps Also Edits same x bytes copy kept edited rest fault (ended _ _ end) = ended x bytes end
-copies_alike mode Keeps Also Edits same x bytes copy kept edited rest fault (refused _ _ r more is) = refused x bytes r more is
-copies_alike mode Keeps Also Edits same x bytes copy kept edited rest fault (not_edited _ y _ len p o begins is edits no_front) =
+copies_alike mode Keeps Also Edits same x bytes copy kept edited rest fault (refused _ _ r more is) =
+    refused x bytes r more is
+copies_alike mode Keeps Also Edits same x bytes copy kept edited rest fault
+    (not_edited _ y _ len p o begins is edits no_front) =
     not_edited x y bytes len p o begins ((same p).0 is) edits no_front
-copies_alike mode Keeps Also Edits same x bytes copy kept edited rest fault (unit _ y _ others len _ _ _ _ begins copies) =
+copies_alike mode Keeps Also Edits same x bytes copy kept edited rest fault
+    (unit _ y _ others len _ _ _ _ begins copies) =
     unit x y bytes others len kept edited rest fault begins
     (copies_alike mode Keeps Also Edits same y (drop len bytes) others kept edited rest fault copies)
 copies_alike mode Keeps Also Edits same x bytes copy kept edited rest fault
     (keeps _ y _ front others len p o ps qs _ _ begins is edits fits copies) =
     keeps x y bytes front others len p o ps qs rest fault begins ((same p).0 is) edits fits
     (copies_alike mode Keeps Also Edits same y (drop len bytes) others ps qs rest fault copies)
-copies_alike mode Keeps Also Edits same x bytes copy kept edited rest fault (leaves _ y _ _ len p _ _ _ _ begins not copies) =
+copies_alike mode Keeps Also Edits same x bytes copy kept edited rest fault
+    (leaves _ y _ _ len p _ _ _ _ begins not copies) =
     leaves x y bytes copy len p kept edited rest fault begins (λ is. not ((same p).1 is))
     (copies_alike mode Keeps Also Edits same y (drop len bytes) copy kept edited rest fault copies)
 
-module _ (Edits : PacketValue → Option EditedValue → Type 0) (unedited : EditsNone Edits) (one_edit : EditsOnce Edits) where
+module _ (Edits : PacketValue → Option EditedValue → Type 0) (unedited : EditsNone Edits)
+    (one_edit : EditsOnce Edits) where
   -- a packet that is not edited can be copied
   never_stuck : (x y : CaptureExpectation) (bytes : List ℕ) (len : ℕ) (p : PacketValue) (o : Option EditedValue)
       → Begins bytes x len (Some p) y → InRange x → Edits p o → unit_after (Changed 0) x p o (take len bytes) ≡ None → ⊥
   never_stuck x y bytes len p o begins range edits no_front =
       let found = range_packet bytes x y len (Some p) p refl begins range in
       let plain : packet_unit (Changed 0) x p (take len bytes) ≡ None =
-      subst (λ (q : Option EditedValue). unit_after (Changed 0) x p q (take len bytes) ≡ None) (unedited p o edits) no_front in
+      subst (λ (q : Option EditedValue). unit_after (Changed 0) x p q (take len bytes) ≡ None)
+      (unedited p o edits) no_front in
       let bad : Some (take len bytes) ≡ None = sym found.1 ∙ plain in absurd cc
 
   -- so no copy ends at one, and each that is kept stays
@@ -278,7 +291,8 @@ module _ (Edits : PacketValue → Option EditedValue → Type 0) (unedited : Edi
     stay x bytes copy kept edited rest fault ok range (leaves _ y _ _ len p _ _ _ _ begins not_kept copies) =
         stay y (drop len bytes) copy kept edited rest fault (IsBytes-drop len bytes ok)
         (range_after bytes x y len (Some p) ok begins range) copies
-    stay x bytes copy kept edited rest fault ok range (keeps _ y _ front others len p o ps qs _ _ begins is edits fits copies) =
+    stay x bytes copy kept edited rest fault ok range
+    (keeps _ y _ front others len p o ps qs _ _ begins is edits fits copies) =
         let more =
         stay y (drop len bytes) others ps qs rest fault (IsBytes-drop len bytes ok)
         (range_after bytes x y len (Some p) ok begins range) copies in
@@ -294,7 +308,8 @@ module _ (Edits : PacketValue → Option EditedValue → Type 0) (unedited : Edi
     first_chosen p packets (chosen, one_left _ _ _ not others) = (inr not, (chosen, others))
 
   module _ (First Second : PacketValue → Type 0) where
-    abbrev Selects : (PacketValue → Type 0) → CaptureExpectation → (bytes copy : List ℕ) → List PacketValue → (rest : List ℕ)
+    abbrev Selects : (PacketValue → Type 0) → CaptureExpectation → (bytes copy : List ℕ) → List PacketValue
+    → (rest : List ℕ)
         → Option CopyFault → Type 0
     Selects Keeps x bytes copy chosen rest fault = Copies (Changed 0) Keeps Edits x bytes copy chosen chosen rest fault
 
@@ -317,7 +332,8 @@ module _ (Edits : PacketValue → Option EditedValue → Type 0) (unedited : Edi
         let is : other_unit (Changed 0) y (take (length u) (u ++ others)) ≡ u = ap (changed_unit 0 y) front ∙ same in
         subst (λ (l : List ℕ). Selects Second x (u ++ others) (l ++ copy) chosen [] None) is
         (unit x y (u ++ others) copy (length u) chosen chosen [] None (unit_local u others x y (length u) None begins)
-        (subst (λ (l : List ℕ). Selects Second y l copy chosen [] None) (sym (drop_at u others (length u) refl)) selects))
+        (subst (λ (l : List ℕ). Selects Second y l copy chosen [] None) (sym (drop_at u others (length u) refl))
+        selects))
 
     -- a packet before a copy
     after_packet : (x y : CaptureExpectation) (u others copy : List ℕ) (p : PacketValue) (chosen : List PacketValue)
@@ -326,11 +342,13 @@ module _ (Edits : PacketValue → Option EditedValue → Type 0) (unedited : Edi
         → Selects Second x (u ++ others) (u ++ copy) (p ∷ chosen) [] None
     after_packet x y u others copy p chosen begins four fits is stays selects =
         let front : take (length u) (u ++ others) ≡ u = take_front u others in
-        subst (λ (q : PacketValue). Copies (Changed 0) Second Edits x (u ++ others) (u ++ copy) (p ∷ chosen) (q ∷ chosen) [] None)
+        subst (λ (q : PacketValue). Copies (Changed 0) Second Edits x (u ++ others) (u ++ copy) (p ∷ chosen)
+        (q ∷ chosen) [] None)
         (same_packet_in p four)
         (keeps x y (u ++ others) u copy (length u) p None chosen chosen [] None begins is stays
         (ap (packet_unit (Changed 0) x p) front ∙ fits)
-        (subst (λ (l : List ℕ). Selects Second y l copy chosen [] None) (sym (drop_at u others (length u) refl)) selects))
+        (subst (λ (l : List ℕ). Selects Second y l copy chosen [] None) (sym (drop_at u others (length u) refl))
+        selects))
 
     -- what is copied first, and then what is composed
     on_unit : (x y : CaptureExpectation) (bytes others : List ℕ) (len : ℕ) (rest : List ℕ) (fault : Option CopyFault)
@@ -352,7 +370,8 @@ module _ (Edits : PacketValue → Option EditedValue → Type 0) (unedited : Edi
             | inr is ↦
                 let from : Begins u x (length u) None y =
                 subst (λ (z : CaptureExpectation). Begins u z (length u) None y) (same_expected x ok)
-                (subst (λ (z : CaptureExpectation). Begins u (expected_in (Changed 0) x) (length u) None z) (same_expected y ok_after) is) in
+                (subst (λ (z : CaptureExpectation). Begins u (expected_in (Changed 0) x) (length u) None z)
+                (same_expected y ok_after) is) in
                 let some_bytes = unit_some u x y (length u) None from in
                 let twice : changed_unit 0 y u ≡ u =
                 elim (changed_twice y b (unit_room b x y (length b) here)) [
@@ -364,7 +383,8 @@ module _ (Edits : PacketValue → Option EditedValue → Type 0) (unedited : Edi
           whole = unit x y bytes r.copy len r.chosen r.chosen rest fault begins r.whole;
         }
 
-    on_packet : (x y : CaptureExpectation) (bytes front others : List ℕ) (len : ℕ) (p : PacketValue) (o : Option EditedValue)
+    on_packet : (x y : CaptureExpectation) (bytes front others : List ℕ) (len : ℕ) (p : PacketValue)
+      (o : Option EditedValue)
         (rest : List ℕ) (fault : Option CopyFault)
         → Begins bytes x len (Some p) y → InRange x → InRange y → First p → Second p ⊎ ¬ (Second p) → Edits p o
         → unit_after (Changed 0) x p o (take len bytes) ≡ Some front
@@ -381,8 +401,10 @@ module _ (Edits : PacketValue → Option EditedValue → Type 0) (unedited : Edi
         let copied = packet_copied (Changed 0) bytes front others x y len p None begins plain in
         let at : Begins (front ++ others) x (length front) (Some p) y =
         subst (λ (q : PacketValue). Begins (front ++ others) x (length front) (Some q) y) (same_packet_in p found.0)
-        (subst (λ (z : CaptureExpectation). Begins (front ++ others) z (length front) (Some (packet_in (Changed 0) p)) y) (same_expected x ok)
-        (subst (λ (z : CaptureExpectation). Begins (front ++ others) (expected_in (Changed 0) x) (length front) (Some (packet_in (Changed 0) p)) z)
+        (subst (λ (z : CaptureExpectation). Begins (front ++ others) z (length front) (Some (packet_in (Changed 0) p))
+        y) (same_expected x ok)
+        (subst (λ (z : CaptureExpectation). Begins (front ++ others) (expected_in (Changed 0) x) (length front)
+        (Some (packet_in (Changed 0) p)) z)
         (same_expected y ok_after) copied)) in
         let later = r.again (inl (begun bytes x y len (Some p) begins)) in
         let stays = subst (Edits p) (unedited p o edits) edits in
@@ -393,7 +415,8 @@ module _ (Edits : PacketValue → Option EditedValue → Type 0) (unedited : Edi
             again = λ some. after_packet x y front others r.copy p r.chosen at found.0 kept chosen stays later;
             whole =
                 subst
-                (λ (q : PacketValue). Copies (Changed 0) Both Edits x bytes (front ++ r.copy) (p ∷ r.chosen) (q ∷ r.chosen) rest fault)
+                (λ (q : PacketValue). Copies (Changed 0) Both Edits x bytes (front ++ r.copy) (p ∷ r.chosen)
+                (q ∷ r.chosen) rest fault)
                 (same_packet_in p found.0)
                 (keeps x y bytes front r.copy len p None r.chosen r.chosen rest fault begins
                 (is, chosen) stays plain r.whole);
@@ -403,7 +426,8 @@ module _ (Edits : PacketValue → Option EditedValue → Type 0) (unedited : Edi
             chosen = r.chosen;
             again = λ some.
                 leaves x y (front ++ others) r.copy (length front) p r.chosen r.chosen [] None at left
-                (subst (λ (l : List ℕ). Selects Second y l r.copy r.chosen [] None) (sym (drop_at front others (length front) refl)) later);
+                (subst (λ (l : List ℕ). Selects Second y l r.copy r.chosen [] None)
+                (sym (drop_at front others (length front) refl)) later);
             whole =
                 leaves x y bytes r.copy len p r.chosen r.chosen rest fault begins (λ both. left both.1) r.whole;
           }
@@ -434,19 +458,23 @@ module _ (Edits : PacketValue → Option EditedValue → Type 0) (unedited : Edi
         let after = range_after bytes x y len None ok begins range in
         on_unit x y bytes others len rest fault begins range after
         (compose y (drop len bytes) others kept edited rest fault (IsBytes-drop len bytes ok) after chosen copies)
-    compose x bytes between kept edited rest fault ok range chosen (keeps _ y _ front others len p o ps qs _ _ begins is edits fits copies) =
+    compose x bytes between kept edited rest fault ok range chosen
+    (keeps _ y _ front others len p o ps qs _ _ begins is edits fits copies) =
         let after = range_after bytes x y len (Some p) ok begins range in
         let split = first_chosen Second p ps chosen in
         on_packet x y bytes front others len p o rest fault begins range after is split.0 edits fits
         (compose y (drop len bytes) others ps qs rest fault (IsBytes-drop len bytes ok) after split.1 copies)
-    compose x bytes between kept edited rest fault ok range chosen (leaves _ y _ _ len p _ _ _ _ begins not_kept copies) =
+    compose x bytes between kept edited rest fault ok range chosen (leaves _ y _ _ len p _ _ _ _ begins not_kept copies)
+    =
         let after = range_after bytes x y len (Some p) ok begins range in
-        let r = compose y (drop len bytes) between kept edited rest fault (IsBytes-drop len bytes ok) after chosen copies in
+        let r = compose y (drop len bytes) between kept edited rest fault (IsBytes-drop len bytes ok) after chosen
+        copies in
         record {
           copy = r.copy;
           chosen = r.chosen;
           again = λ some.
-              subst (λ (z : CaptureExpectation). Selects Second z between r.copy r.chosen [] None) (same_after bytes x y len p begins)
+              subst (λ (z : CaptureExpectation). Selects Second z between r.copy r.chosen [] None)
+              (same_after bytes x y len p begins)
               (r.again (inl (begun bytes x y len (Some p) begins)));
           whole =
               leaves x y bytes r.copy len p r.chosen r.chosen rest fault begins
@@ -454,7 +482,8 @@ module _ (Edits : PacketValue → Option EditedValue → Type 0) (unedited : Edi
         }
 
   -- of the packets of a capture each is kept or not
-  chosen_of : (Keeps : PacketValue → Type 0) (x : CaptureExpectation) (bytes : List ℕ) (packets chosen : List PacketValue)
+  chosen_of : (Keeps : PacketValue → Type 0) (x : CaptureExpectation) (bytes : List ℕ)
+    (packets chosen : List PacketValue)
       (left : List ℕ) (other : Option CopyFault) → IsBytes bytes → ((q : PacketValue) → other ≡ Some (NotEdited q) → ⊥)
       → HasPackets x bytes packets [] None → HasSource Keeps x bytes chosen left other → Chosen Keeps packets
   chosen_of Keeps x bytes packets chosen left None ok never has source = search (rules, packets_one)
@@ -470,7 +499,8 @@ module _ (Edits : PacketValue → Option EditedValue → Type 0) (unedited : Edi
       → IsBytes bytes → IsBytes between → between ≢ []
       → Kept most First bytes between kept edited rest fault → Kept most Second between copy chosen last left other
       → Kept most (λ p. First p × Second p) bytes copy chosen last rest fault × (left ≡ []) × (other ≡ None)
-  composed most First Second bytes between copy kept edited chosen last rest left fault other ok ok_between some once twice =
+  composed most First Second bytes between copy kept edited chosen last rest left fault other ok ok_between some once
+  twice =
       let start = Beginning most in
       let stays = stay First start bytes between kept edited rest fault ok tt once in
       let has : HasPackets start between kept [] None =
@@ -491,7 +521,8 @@ module _ (Edits : PacketValue → Option EditedValue → Type 0) (unedited : Edi
       → IsBytes bytes → IsBytes between → between ≢ []
       → Kept most Keeps bytes between kept edited rest fault → Kept most Keeps between copy chosen last left other
       → copy ≡ between
-  composed_twice most Keeps bytes between copy kept edited chosen last rest left fault other ok ok_between some once twice =
+  composed_twice most Keeps bytes between copy kept edited chosen last rest left fault other ok ok_between some once
+  twice =
       let c =
       composed most Keeps Keeps bytes between copy kept edited chosen last rest left fault other ok ok_between some once
       twice in
@@ -521,7 +552,8 @@ pub composed_tests : (most : ℕ) (first second : PacketValue → Bool) (bytes b
     → CopiesBy (Changed 0) second edits_none (Beginning most) between copy chosen last left other
     → CopiesBy (Changed 0) (λ p. first p && second p) edits_none (Beginning most) bytes copy chosen last rest fault
     × (left ≡ []) × (other ≡ None)
-composed_tests most first second bytes between copy kept edited chosen last rest left fault other ok ok_between some once twice =
+composed_tests most first second bytes between copy kept edited chosen last rest left fault other ok ok_between some
+    once twice =
     let Edits = λ (p : PacketValue) (o : Option EditedValue). IsTrue (edits_none p o) in
     let First = λ (p : PacketValue). IsTrue (first p) in
     let Second = λ (p : PacketValue). IsTrue (second p) in

@@ -176,7 +176,8 @@ module _ (most : ℕ) (order : Order) (interfaces : List CaptureInterfaceValue) 
 
 -- ---- units
 
-unit_begins : (x : CaptureExpectation) (u new : List ℕ) (p : PacketValue) (e : EditedValue) → Begins u x (length u) (Some p) x
+unit_begins : (x : CaptureExpectation) (u new : List ℕ) (p : PacketValue) (e : EditedValue)
+    → Begins u x (length u) (Some p) x
     → Fits x (length p.packet) e u new → Begins new x (length new) (Some (edited_packet e p)) x
 unit_begins (Beginning m) u new p e begins room = let bad : None ≡ Some new = room.is in absurd cc
 unit_begins (Records h) u new p e begins room = record_begins h u new p e begins room

@@ -79,7 +79,8 @@ module _ (raise : ℕ) where
       → HasInterfaces (changed y) copy (raised interfaces) []
       → HasInterfaces (changed x) copy (raised (described_between x y ++ interfaces)) []
   left_out x y copy interfaces same has =
-      subst (λ (z : CaptureExpectation). HasInterfaces (changed x) copy (raised (described_between x z ++ interfaces)) [])
+      subst (λ (z : CaptureExpectation). HasInterfaces (changed x) copy (raised (described_between x z ++ interfaces))
+      [])
       (sym same)
       (subst (λ (l : List CaptureInterfaceValue). HasInterfaces (changed x) copy (raised (l ++ interfaces)) [])
       (sym (none_between x))
@@ -121,14 +122,16 @@ module _ (raise : ℕ) where
           unit x y bytes len None s.0 rest begins s.1,
           elim (unit_in_copy (Changed raise) (take len bytes) x y (other_taken bytes x y len begins)) [
             | inl left ↦
-                subst (λ (l : List ℕ). HasInterfaces (changed x) (l ++ others) (raised (described_between x y ++ s.0)) [])
+                subst (λ (l : List ℕ). HasInterfaces (changed x) (l ++ others) (raised (described_between x y ++ s.0))
+                [])
                 (sym left.0) (left_out x y others s.0 left.1 s.2)
             | inr is ↦
                 copied_unit x y new others None s.0
                 (unit_local new others (changed x) (changed y) (length new) None is) s.2
           ],
         )
-    kept_interfaces x bytes copy kept edited rest fault (keeps _ y _ front others len p o ps qs _ _ begins is edits fits more) =
+    kept_interfaces x bytes copy kept edited rest fault
+    (keeps _ y _ front others len p o ps qs _ _ begins is edits fits more) =
         let s = kept_interfaces y (drop len bytes) others ps qs rest fault more in (
           described_between x y ++ s.0,
           unit x y bytes len (Some p) s.0 rest begins s.1,
@@ -142,7 +145,8 @@ module _ (raise : ℕ) where
           left_out x y copy s.0 (same_after bytes x y len p begins) s.2,
         )
 
-    pub copy_interfaces : (x : CaptureExpectation) (bytes copy : List ℕ) (kept edited : List PacketValue) (rest : List ℕ)
+    pub copy_interfaces : (x : CaptureExpectation) (bytes copy : List ℕ) (kept edited : List PacketValue)
+      (rest : List ℕ)
         (fault : Option CopyFault) → Copies (Changed raise) Keeps Edits x bytes copy kept edited rest fault
         → KeepsInterfaces raise x bytes copy rest
     copy_interfaces x bytes copy kept edited rest fault is =

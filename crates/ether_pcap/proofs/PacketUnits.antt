@@ -84,7 +84,8 @@ pub begun_before : (bytes : List ℕ) (x y : CaptureExpectation) (len : ℕ) (p 
 begun_before bytes x y len p begins =
     subst HasBegun (same_after bytes x y len p begins) (begun bytes x y len (Some p) begins)
 
-block_if : (bytes : List ℕ) (x y : CaptureExpectation) (len : ℕ) (packet : Option PacketValue) (most : ℕ) (order : Order)
+block_if : (bytes : List ℕ) (x y : CaptureExpectation) (len : ℕ) (packet : Option PacketValue) (most : ℕ)
+    (order : Order)
     (interfaces : List CaptureInterfaceValue) (p : PacketValue)
     → x ≡ Blocks most order interfaces → packet ≡ Some p → Begins bytes x len packet y
     → (b : PacketBlock most order interfaces bytes p) × (len ≡ 12 + length b.value.body)

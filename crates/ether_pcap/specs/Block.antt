@@ -33,7 +33,10 @@ pub data BlockRefusal : Type 0 where
 
 pub data RefusesBlock (order : Order) (bytes : List ℕ) : BlockRefusal → Type 0 where
   front : length bytes < 12 → RefusesBlock order bytes (Short 12 (length bytes))
-  total_len : 12 ≤ length bytes → (IsTotalLen (field order bytes 4 8) → ⊥) → RefusesBlock order bytes (TotalLen (field order bytes 4 8))
-  body : (n : ℕ) → 12 ≤ length bytes → field order bytes 4 8 ≡ n → IsTotalLen n → length bytes < n → RefusesBlock order bytes (Short n (length bytes))
-  trailer : (n m : ℕ) → 12 ≤ length bytes → field order bytes 4 8 ≡ n → IsTotalLen n → n ≤ length bytes → field order bytes (n - 4) n ≡ m → m ≢ n
+  total_len : 12 ≤ length bytes → (IsTotalLen (field order bytes 4 8) → ⊥)
+      → RefusesBlock order bytes (TotalLen (field order bytes 4 8))
+  body : (n : ℕ) → 12 ≤ length bytes → field order bytes 4 8 ≡ n → IsTotalLen n → length bytes < n
+      → RefusesBlock order bytes (Short n (length bytes))
+  trailer : (n m : ℕ) → 12 ≤ length bytes → field order bytes 4 8 ≡ n → IsTotalLen n → n ≤ length bytes
+      → field order bytes (n - 4) n ≡ m → m ≢ n
       → RefusesBlock order bytes (Trailer n m)

@@ -49,8 +49,10 @@ pub record IsEnhancedPacket (number_len : ℕ) (order : Order) (body : List ℕ)
 
 pub data RefusesEnhancedPacket (order : Order) (body : List ℕ) : BodyRefusal → Type 0 where
   enhanced : length body < 20 → RefusesEnhancedPacket order body (Short 20 (length body))
-  enhanced_too_long : 20 ≤ length body → max_captured_len < field order body 12 16 → RefusesEnhancedPacket order body (TooLong (field order body 12 16))
-  enhanced_packet : 20 ≤ length body → field order body 12 16 ≤ max_captured_len → length body < 20 + field order body 12 16
+  enhanced_too_long : 20 ≤ length body → max_captured_len < field order body 12 16
+      → RefusesEnhancedPacket order body (TooLong (field order body 12 16))
+  enhanced_packet : 20 ≤ length body → field order body 12 16 ≤ max_captured_len → length body < 20
+      + field order body 12 16
       → RefusesEnhancedPacket order body (Short (20 + field order body 12 16) (length body))
 
 -- ---- simple packet (4.4): original length 4 bytes, packet; its interface is the section's first, whose snap length
@@ -75,5 +77,6 @@ pub data RefusesSimplePacket (order : Order) (snap_len : ℕ) (body : List ℕ) 
   simple : length body < 4 → RefusesSimplePacket order snap_len body (Short 4 (length body))
   simple_too_long : (n : ℕ) → 4 ≤ length body → captured_by snap_len (field order body 0 4) ≡ n → max_captured_len < n
       → RefusesSimplePacket order snap_len body (TooLong n)
-  simple_packet : (n : ℕ) → 4 ≤ length body → captured_by snap_len (field order body 0 4) ≡ n → n ≤ max_captured_len → length body < 4 + n
+  simple_packet : (n : ℕ) → 4 ≤ length body → captured_by snap_len (field order body 0 4) ≡ n → n ≤ max_captured_len
+      → length body < 4 + n
       → RefusesSimplePacket order snap_len body (Short (4 + n) (length body))

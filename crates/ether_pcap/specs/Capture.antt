@@ -144,7 +144,16 @@ packet_on order i p options = record {
 
 -- what a simple packet's block, which has no time, and the first interface say of it (4.4)
 abbrev pub simple_packet_on : CaptureInterfaceValue → SimplePacketValue → PacketValue
-simple_packet_on i p = record { time = None; interface = Some 0; original_len = p.original_len; link_type = i.link_type; snap_len = i.snap_len; fcs_len = i.fcs_len; packet = p.packet }
+simple_packet_on i p =
+    record {
+      time = None;
+      interface = Some 0;
+      original_len = p.original_len;
+      link_type = i.link_type;
+      snap_len = i.snap_len;
+      fcs_len = i.fcs_len;
+      packet = p.packet;
+    }
 
 -- How the body of a block is read, by its type. EnhancedPacket has the number of bytes of its interface: 4, or 2 in
 -- the obsolete packet block.
@@ -157,13 +166,16 @@ pub data BlockKind : Type 0 where
 abbrev pub kind_of_block : ℕ → BlockKind
 kind_of_block n =
     if nat_eq n 1 then InterfaceDescription
-    else (if nat_eq n 2 then EnhancedPacket 2 else (if nat_eq n 3 then SimplePacket else (if nat_eq n 6 then EnhancedPacket 4 else Other)))
+    else (if nat_eq n 2 then EnhancedPacket 2
+    else (if nat_eq n 3 then SimplePacket else (if nat_eq n 6 then EnhancedPacket 4 else Other)))
 
 -- the body of a block in a section that has described the interfaces before: the packet if there is one, and the
 -- interfaces after the block
-abbrev pub IsBody : BlockKind → (most : ℕ) → Order → (before : List CaptureInterfaceValue) → (body : List ℕ) → Option PacketValue → (after : List CaptureInterfaceValue) → Type 0
+abbrev pub IsBody : BlockKind → (most : ℕ) → Order → (before : List CaptureInterfaceValue) → (body : List ℕ)
+    → Option PacketValue → (after : List CaptureInterfaceValue) → Type 0
 IsBody InterfaceDescription most order before body packet after =
-    (i : CaptureInterfaceValue) × Describes order body i × (length before < most) × (packet ≡ None) × (after ≡ before ++ i ∷ [])
+    (i : CaptureInterfaceValue) × Describes order body i × (length before < most) × (packet ≡ None)
+    × (after ≡ before ++ i ∷ [])
 IsBody SimplePacket most order before body packet after =
     (i : CaptureInterfaceValue) × (p : SimplePacketValue) × IsAt before 0 i × IsSimplePacket order i.snap_len body p
     × (packet ≡ Some (simple_packet_on i p)) × (after ≡ before)
@@ -187,34 +199,55 @@ pub data CaptureRefusal : Type 0 where
 abbrev pub HasNoInterface : List CaptureInterfaceValue → ℕ → Type 0
 HasNoInterface interfaces n = length interfaces ≤ n
 
-pub data RefusesBody (most : ℕ) (order : Order) (before : List CaptureInterfaceValue) (body : List ℕ) : BlockKind → CaptureRefusal → Type 0 where
-  interface : (r : BodyRefusal) → RefusesInterface body r → RefusesBody most order before body InterfaceDescription (Body r)
-  too_many : (i : CaptureInterfaceValue) → Describes order body i → most ≤ length before → RefusesBody most order before body InterfaceDescription TooManyInterfaces
+pub data RefusesBody (most : ℕ) (order : Order) (before : List CaptureInterfaceValue) (body : List ℕ) : BlockKind
+    → CaptureRefusal → Type 0 where
+  interface : (r : BodyRefusal) → RefusesInterface body r → RefusesBody most order before body InterfaceDescription
+      (Body r)
+  too_many : (i : CaptureInterfaceValue) → Describes order body i → most ≤ length before
+      → RefusesBody most order before body InterfaceDescription TooManyInterfaces
   simple_alone : HasNoInterface before 0 → RefusesBody most order before body SimplePacket (NoInterface 0)
-  simple : (i : CaptureInterfaceValue) (r : BodyRefusal) → IsAt before 0 i → RefusesSimplePacket order i.snap_len body r → RefusesBody most order before body SimplePacket (Body r)
-  enhanced : (n : ℕ) (r : BodyRefusal) → RefusesEnhancedPacket order body r → RefusesBody most order before body (EnhancedPacket n) (Body r)
-  enhanced_alone : (n : ℕ) (p : EnhancedPacketValue) → IsEnhancedPacket n order body p → HasNoInterface before p.interface
+  simple : (i : CaptureInterfaceValue) (r : BodyRefusal) → IsAt before 0 i → RefusesSimplePacket order i.snap_len body r
+      → RefusesBody most order before body SimplePacket (Body r)
+  enhanced : (n : ℕ) (r : BodyRefusal) → RefusesEnhancedPacket order body r
+      → RefusesBody most order before body (EnhancedPacket n) (Body r)
+  enhanced_alone : (n : ℕ) (p : EnhancedPacketValue) → IsEnhancedPacket n order body p
+      → HasNoInterface before p.interface
       → RefusesBody most order before body (EnhancedPacket n) (NoInterface p.interface)
 
 -- Bytes begin with a unit of len bytes: it has this packet, or none, and the second expectation holds after it.
-pub data Begins (bytes : List ℕ) : CaptureExpectation → (len : ℕ) → Option PacketValue → CaptureExpectation → Type 0 where
-  file_header : (most : ℕ) (h : FileHeaderValue) → ¬ (HasSectionType bytes) → IsFileHeader bytes h → Begins bytes (Beginning most) 24 None (Records h)
-  file_record : (h : FileHeaderValue) (r : RecordValue) → BeginsRecord h.order bytes r → Begins bytes (Records h) (record_len r) (Some (packet_of_record h r)) (Records h)
-  first_section : (most : ℕ) (order : Order) (b : BlockValue) → IsSection bytes order b → Begins bytes (Beginning most) (12 + length b.body) None (Blocks most order [])
-  section : (most : ℕ) (order next : Order) (interfaces : List CaptureInterfaceValue) (b : BlockValue) → IsSection bytes next b
+pub data Begins (bytes : List ℕ) : CaptureExpectation → (len : ℕ) → Option PacketValue → CaptureExpectation
+    → Type 0 where
+  file_header : (most : ℕ) (h : FileHeaderValue) → ¬ (HasSectionType bytes) → IsFileHeader bytes h
+      → Begins bytes (Beginning most) 24 None (Records h)
+  file_record : (h : FileHeaderValue) (r : RecordValue) → BeginsRecord h.order bytes r
+      → Begins bytes (Records h) (record_len r) (Some (packet_of_record h r)) (Records h)
+  first_section : (most : ℕ) (order : Order) (b : BlockValue) → IsSection bytes order b
+      → Begins bytes (Beginning most) (12 + length b.body) None (Blocks most order [])
+  section : (most : ℕ) (order next : Order) (interfaces : List CaptureInterfaceValue) (b : BlockValue)
+      → IsSection bytes next b
       → Begins bytes (Blocks most order interfaces) (12 + length b.body) None (Blocks most next [])
-  block : (most : ℕ) (order : Order) (interfaces after : List CaptureInterfaceValue) (packet : Option PacketValue) (b : BlockValue) → ¬ (HasSectionType bytes) → BeginsBlock order bytes b
-      → IsBody (kind_of_block b.block_type) most order interfaces b.body packet after → Begins bytes (Blocks most order interfaces) (12 + length b.body) packet (Blocks most order after)
+  block : (most : ℕ) (order : Order) (interfaces after : List CaptureInterfaceValue) (packet : Option PacketValue)
+      (b : BlockValue) → ¬ (HasSectionType bytes) → BeginsBlock order bytes b
+      → IsBody (kind_of_block b.block_type) most order interfaces b.body packet after
+      → Begins bytes (Blocks most order interfaces) (12 + length b.body) packet (Blocks most order after)
 
 -- Bytes do not begin with a unit that is expected.
 pub data RefusesCapture (bytes : List ℕ) : CaptureExpectation → CaptureRefusal → Type 0 where
-  file_header_refused : (most : ℕ) (r : FileRefusal) → ¬ (HasSectionType bytes) → RefusesFile bytes r → RefusesCapture bytes (Beginning most) (File r)
-  file_record_refused : (h : FileHeaderValue) (r : RecordRefusal) → RefusesRecord h.order bytes r → RefusesCapture bytes (Records h) (Record r)
-  first_section_refused : (most : ℕ) (r : SectionRefusal) → HasSectionType bytes → RefusesSection bytes r → RefusesCapture bytes (Beginning most) (Section r)
-  section_refused : (most : ℕ) (order : Order) (interfaces : List CaptureInterfaceValue) (r : SectionRefusal) → HasSectionType bytes → RefusesSection bytes r → RefusesCapture bytes (Blocks most order interfaces) (Section r)
-  block_refused : (most : ℕ) (order : Order) (interfaces : List CaptureInterfaceValue) (r : BlockRefusal) → ¬ (HasSectionType bytes) → RefusesBlock order bytes r → RefusesCapture bytes (Blocks most order interfaces) (Block r)
-  body_refused : (most : ℕ) (order : Order) (interfaces : List CaptureInterfaceValue) (b : BlockValue) (r : CaptureRefusal) → ¬ (HasSectionType bytes) → BeginsBlock order bytes b
-      → RefusesBody most order interfaces b.body (kind_of_block b.block_type) r → RefusesCapture bytes (Blocks most order interfaces) r
+  file_header_refused : (most : ℕ) (r : FileRefusal) → ¬ (HasSectionType bytes) → RefusesFile bytes r
+      → RefusesCapture bytes (Beginning most) (File r)
+  file_record_refused : (h : FileHeaderValue) (r : RecordRefusal) → RefusesRecord h.order bytes r
+      → RefusesCapture bytes (Records h) (Record r)
+  first_section_refused : (most : ℕ) (r : SectionRefusal) → HasSectionType bytes → RefusesSection bytes r
+      → RefusesCapture bytes (Beginning most) (Section r)
+  section_refused : (most : ℕ) (order : Order) (interfaces : List CaptureInterfaceValue) (r : SectionRefusal)
+      → HasSectionType bytes → RefusesSection bytes r → RefusesCapture bytes (Blocks most order interfaces) (Section r)
+  block_refused : (most : ℕ) (order : Order) (interfaces : List CaptureInterfaceValue) (r : BlockRefusal)
+      → ¬ (HasSectionType bytes) → RefusesBlock order bytes r → RefusesCapture bytes (Blocks most order interfaces)
+      (Block r)
+  body_refused : (most : ℕ) (order : Order) (interfaces : List CaptureInterfaceValue) (b : BlockValue)
+      (r : CaptureRefusal) → ¬ (HasSectionType bytes) → BeginsBlock order bytes b
+      → RefusesBody most order interfaces b.body (kind_of_block b.block_type) r
+      → RefusesCapture bytes (Blocks most order interfaces) r
 
 -- the number of bytes that a unit needs, if it was refused because the bytes end within it
 abbrev pub required_len : CaptureRefusal → Option ℕ
@@ -237,10 +270,14 @@ abbrev pub IsEnd : CaptureExpectation → List ℕ → Type 0
 IsEnd x bytes = HasBegun x × (bytes ≡ [])
 
 -- The packets of the bytes from a place where this is expected. The rest after them is empty, or refused.
-pub data HasPackets : CaptureExpectation → List ℕ → List PacketValue → (rest : List ℕ) → Option CaptureRefusal → Type 0 where
+pub data HasPackets : CaptureExpectation → List ℕ → List PacketValue → (rest : List ℕ) → Option CaptureRefusal
+    → Type 0 where
   ended : (x : CaptureExpectation) (bytes : List ℕ) → IsEnd x bytes → HasPackets x bytes [] [] None
-  refused : (x : CaptureExpectation) (bytes : List ℕ) (r : CaptureRefusal) → ¬ (IsEnd x bytes) → RefusesCapture bytes x r → HasPackets x bytes [] bytes (Some r)
-  unit : (x y : CaptureExpectation) (bytes : List ℕ) (len : ℕ) (packets : List PacketValue) (rest : List ℕ) (fault : Option CaptureRefusal) → Begins bytes x len None y
+  refused : (x : CaptureExpectation) (bytes : List ℕ) (r : CaptureRefusal) → ¬ (IsEnd x bytes)
+      → RefusesCapture bytes x r → HasPackets x bytes [] bytes (Some r)
+  unit : (x y : CaptureExpectation) (bytes : List ℕ) (len : ℕ) (packets : List PacketValue) (rest : List ℕ)
+      (fault : Option CaptureRefusal) → Begins bytes x len None y
       → HasPackets y (drop len bytes) packets rest fault → HasPackets x bytes packets rest fault
-  packet : (x y : CaptureExpectation) (bytes : List ℕ) (len : ℕ) (p : PacketValue) (packets : List PacketValue) (rest : List ℕ) (fault : Option CaptureRefusal) → Begins bytes x len (Some p) y
+  packet : (x y : CaptureExpectation) (bytes : List ℕ) (len : ℕ) (p : PacketValue) (packets : List PacketValue)
+      (rest : List ℕ) (fault : Option CaptureRefusal) → Begins bytes x len (Some p) y
       → HasPackets y (drop len bytes) packets rest fault → HasPackets x bytes (p ∷ packets) rest fault

@@ -24,24 +24,30 @@ start bytes = record { expected = Beginning max_interfaces; rest = bytes; offset
 
 -- The first packet of the bytes is in the unit that ends after len bytes. No unit before it has a packet, and the last
 -- expectation holds after it.
-pub data FirstPacket : CaptureExpectation → (bytes : List ℕ) → PacketValue → (len : ℕ) → CaptureExpectation → Type 0 where
-  here : (x y : CaptureExpectation) (bytes : List ℕ) (p : PacketValue) (len : ℕ) → Begins bytes x len (Some p) y → FirstPacket x bytes p len y
+pub data FirstPacket : CaptureExpectation → (bytes : List ℕ) → PacketValue → (len : ℕ) → CaptureExpectation
+    → Type 0 where
+  here : (x y : CaptureExpectation) (bytes : List ℕ) (p : PacketValue) (len : ℕ) → Begins bytes x len (Some p) y
+      → FirstPacket x bytes p len y
   later : (x y z : CaptureExpectation) (bytes : List ℕ) (p : PacketValue) (len more : ℕ) → Begins bytes x len None y
       → FirstPacket y (drop len bytes) p more z → FirstPacket x bytes p (len + more) z
 
 -- What next returns if these packets, the bytes left after them and this refusal are still to be read: None at the end
 -- of the file; the refusal with its offset, after which the iterator is over; the first packet, and then the others
 -- are left.
-abbrev pub GivesNextPacket : List PacketValue → (left : List ℕ) → Option CaptureRefusal → CaptureState → Option (Result CapturedPacket CaptureFault) → CaptureState → Type 0
+abbrev pub GivesNextPacket : List PacketValue → (left : List ℕ) → Option CaptureRefusal → CaptureState
+    → Option (Result CapturedPacket CaptureFault) → CaptureState → Type 0
 GivesNextPacket [] left None s result t = (result ≡ None) × IsEnd t.expected t.rest × (t.over ≡ false)
 GivesNextPacket [] left (Some refusal) s result t =
-    (f : CaptureFault) × (result ≡ Some (Err f)) × (capture_refusal_view f.error ≡ refusal) × (f.offset ≡ t.offset) × (t.rest ≡ left) × (t.over ≡ true)
+    (f : CaptureFault) × (result ≡ Some (Err f)) × (capture_refusal_view f.error ≡ refusal) × (f.offset ≡ t.offset)
+    × (t.rest ≡ left) × (t.over ≡ true)
 GivesNextPacket (p ∷ packets) left fault s result t =
-    (q : CapturedPacket) × (len : ℕ) × (result ≡ Some (Ok q)) × (captured_packet_view q ≡ p) × FirstPacket s.expected s.rest p len t.expected
+    (q : CapturedPacket) × (len : ℕ) × (result ≡ Some (Ok q)) × (captured_packet_view q ≡ p)
+    × FirstPacket s.expected s.rest p len t.expected
     × (t.rest ≡ drop len s.rest) × HasPackets t.expected t.rest packets left fault × (t.over ≡ false)
 
 -- a call of next
-pub record CaptureGives (s : CaptureState) (result : Option (Result CapturedPacket CaptureFault)) (t : CaptureState) : Type 0 where
+pub record CaptureGives (s : CaptureState) (result : Option (Result CapturedPacket CaptureFault))
+    (t : CaptureState) : Type 0 where
   pub over : s.over ≡ true → (result ≡ None) × (t ≡ s)
   pub next : s.over ≡ false → (packets : List PacketValue) (left : List ℕ) (fault : Option CaptureRefusal)
       → HasPackets s.expected s.rest packets left fault → GivesNextPacket packets left fault s result t

@@ -14,8 +14,10 @@ capture_error_text (errors.Section error) = section_error_text error
 capture_error_text (errors.Block error) = block_error_text error
 capture_error_text (errors.Body error) = body_error_text error
 capture_error_text (errors.NoInterface number) =
-    codes "A packet of a pcapng file names interface " ++ (decimal number ++ codes ", which its section does not describe.")
-capture_error_text errors.TooManyInterfaces = codes "A section of a pcapng file describes more interfaces than this reader keeps."
+    codes "A packet of a pcapng file names interface "
+    ++ (decimal number ++ codes ", which its section does not describe.")
+capture_error_text errors.TooManyInterfaces =
+    codes "A section of a pcapng file describes more interfaces than this reader keeps."
 
 abbrev pub capture_fault_text : CaptureFault → List ℕ
 capture_fault_text fault = codes "At byte " ++ (decimal fault.offset ++ (codes ": " ++ capture_error_text fault.error))

@@ -58,7 +58,8 @@ no_section_len = 255 ∷ 255 ∷ 255 ∷ 255 ∷ 255 ∷ 255 ∷ 255 ∷ 255 ∷
 -- another capture is left out.
 abbrev pub changed_block : ℕ → Order → (block : List ℕ) → List ℕ
 changed_block raise order block =
-    if nat_eq (field order block 0 4) 1 then with_bytes 12 (bytes_of order 4 (raised_len raise (field order block 12 16))) block
+    if nat_eq (field order block 0 4) 1
+    then with_bytes 12 (bytes_of order 4 (raised_len raise (field order block 12 16))) block
     else (if nat_eq (field order block 0 4) 0x40000BAD then [] else block)
 
 -- A unit after which this is expected. The snap length of a file header is raised, too, and a section header gives no
@@ -67,7 +68,8 @@ abbrev pub changed_unit : ℕ → (after : CaptureExpectation) → (unit : List 
 changed_unit raise (Beginning most) unit = unit
 changed_unit raise (Records h) unit = with_bytes 16 (bytes_of h.order 4 (raised_len raise h.snap_len)) unit
 changed_unit raise (Blocks most order interfaces) unit =
-    if nat_eq (number (slice_range unit 0 4)) section_type then with_bytes 16 no_section_len unit else changed_block raise order unit
+    if nat_eq (number (slice_range unit 0 4)) section_type then with_bytes 16 no_section_len unit
+    else changed_block raise order unit
 
 abbrev pub other_unit : ModeValue → (after : CaptureExpectation) → (unit : List ℕ) → List ℕ
 other_unit Exact after unit = unit

@@ -78,10 +78,12 @@ padding_of (units.Block header packet padding_len options trailer) = padding_len
 -- if the bytes are the unit of a packet, the result is the unit of the edited packet
 abbrev pub EditsUnit : CaptureExpectation → (unit : List ℕ) → EditedValue → Option EditedUnit → Type 0
 EditsUnit x unit e result =
-    (p : PacketValue) → Begins unit x (length unit) (Some p) x → option_map unit_bytes result ≡ edited_unit x (length p.packet) e unit
+    (p : PacketValue) → Begins unit x (length unit) (Some p) x → option_map unit_bytes result
+    ≡ edited_unit x (length p.packet) e unit
 
 -- .. which is read as the edited packet, whatever follows it
 abbrev pub HasEditedPacket : CaptureExpectation → (unit : List ℕ) → EditedValue → Option EditedUnit → Type 0
 HasEditedPacket x unit e result =
     (p : PacketValue) → Begins unit x (length unit) (Some p) x
-    → IfSome result (λ u. (more : List ℕ) → Begins (unit_bytes u ++ more) x (length (unit_bytes u)) (Some (edited_packet e p)) x)
+    → IfSome result (λ u. (more : List ℕ) → Begins (unit_bytes u ++ more) x (length (unit_bytes u))
+    (Some (edited_packet e p)) x)

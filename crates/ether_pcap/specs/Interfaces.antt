@@ -1,5 +1,6 @@
 -- What libpcap asks of the interfaces of a pcapng file: all have one link type and, as it adjusts them, one snap length
--- (pcap_ng_next_packet of sf-pcapng.c, pcap_adjust_snapshot of pcap-common.c). It does not read the packets of another file.
+-- (pcap_ng_next_packet of sf-pcapng.c, pcap_adjust_snapshot of pcap-common.c). It does not read the packets of another
+-- file.
 use Rattle.std.specs.Prelude.{◌≡◌, ⊤, ℕ, ◌-◌, ◌^◌, ◌≤◌, List, [], ◌∷◌, ◌++◌, length, drop, map, Option, All, nat_eq, nat_lt, if◌then◌else◌}
 use Rattle.ether_pcap.specs.Capture.{PacketValue, CaptureInterfaceValue, CaptureExpectation, Blocks, Begins}
 use Rattle.ether_pcap.specs.CopiedUnits.{ModeValue, Changed, raised_interface, expected_in}
@@ -12,9 +13,11 @@ described_between (Blocks most order interfaces) (Blocks next_most next all) = d
 described_between _ _ = []
 
 -- all interfaces that are described from a place where this is expected up to a rest, in each section
-pub data HasInterfaces : CaptureExpectation → (bytes : List ℕ) → List CaptureInterfaceValue → (rest : List ℕ) → Type 0 where
+pub data HasInterfaces : CaptureExpectation → (bytes : List ℕ) → List CaptureInterfaceValue → (rest : List ℕ)
+    → Type 0 where
   here : (x : CaptureExpectation) (bytes : List ℕ) → HasInterfaces x bytes [] bytes
-  unit : (x y : CaptureExpectation) (bytes : List ℕ) (len : ℕ) (p : Option PacketValue) (interfaces : List CaptureInterfaceValue) (rest : List ℕ)
+  unit : (x y : CaptureExpectation) (bytes : List ℕ) (len : ℕ) (p : Option PacketValue)
+      (interfaces : List CaptureInterfaceValue) (rest : List ℕ)
       → Begins bytes x len p y → HasInterfaces y (drop len bytes) interfaces rest
       → HasInterfaces x bytes (described_between x y ++ interfaces) rest
 
@@ -42,4 +45,5 @@ pub record KeepsInterfaces (raise : ℕ) (x : CaptureExpectation) (bytes copy re
   pub interfaces : List CaptureInterfaceValue
   pub has : HasInterfaces x bytes interfaces rest
   pub copied : HasInterfaces (expected_in (Changed raise) x) copy (map (raised_interface raise) interfaces) []
-  pub alike : (most : ℕ) → 262144 ≤ most → AreAlike most interfaces → AreAlike most (map (raised_interface raise) interfaces)
+  pub alike : (most : ℕ) → 262144 ≤ most → AreAlike most interfaces
+      → AreAlike most (map (raised_interface raise) interfaces)

@@ -21,7 +21,8 @@ pub record BeginsOption (order : Order) (bytes : List ℕ) (o : OptionValue) : T
 -- the options of bytes, one after the other, up to bytes that do not begin with an option
 abbrev pub HasOptions : Order → List ℕ → List OptionValue → Type 0
 HasOptions order bytes [] = (o : OptionValue) → BeginsOption order bytes o → ⊥
-HasOptions order bytes (o ∷ options) = BeginsOption order bytes o × HasOptions order (drop (4 + padded (length o.value)) bytes) options
+HasOptions order bytes (o ∷ options) =
+    BeginsOption order bytes o × HasOptions order (drop (4 + padded (length o.value)) bytes) options
 
 -- the value of the first option with this code
 abbrev pub value_of : ℕ → List OptionValue → Option (List ℕ)

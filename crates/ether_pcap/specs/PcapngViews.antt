@@ -33,7 +33,14 @@ abbrev pub option_view : PcapngOption → OptionValue
 option_view o = record { code = o.code; value = o.value.now }
 
 abbrev pub enhanced_packet_view : EnhancedPacket → EnhancedPacketValue
-enhanced_packet_view p = record { interface = p.interface; time = p.time; original_len = p.original_len; packet = p.packet.now; options = p.options.now }
+enhanced_packet_view p =
+    record {
+      interface = p.interface;
+      time = p.time;
+      original_len = p.original_len;
+      packet = p.packet.now;
+      options = p.options.now;
+    }
 
 abbrev pub simple_packet_view : SimplePacket → SimplePacketValue
 simple_packet_view p = record { original_len = p.original_len; packet = p.packet.now }

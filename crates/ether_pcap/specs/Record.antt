@@ -33,7 +33,8 @@ pub data RecordRefusal : Type 0 where
 
 pub data RefusesRecord (order : Order) (bytes : List ℕ) : RecordRefusal → Type 0 where
   header : length bytes < 16 → RefusesRecord order bytes (Short 16 (length bytes))
-  too_long : 16 ≤ length bytes → max_captured_len < field order bytes 8 12 → RefusesRecord order bytes (TooLong (field order bytes 8 12))
+  too_long : 16 ≤ length bytes → max_captured_len < field order bytes 8 12
+      → RefusesRecord order bytes (TooLong (field order bytes 8 12))
   packet : 16 ≤ length bytes → field order bytes 8 12 ≤ max_captured_len → length bytes < 16 + field order bytes 8 12
       → RefusesRecord order bytes (Short (16 + field order bytes 8 12) (length bytes))
 
@@ -53,4 +54,5 @@ record_len r = 16 + length r.packet
 abbrev pub HasRecords : Order → List ℕ → List RecordValue → List ℕ → Option RecordRefusal → Type 0
 HasRecords order bytes [] rest None = (bytes ≡ []) × (rest ≡ [])
 HasRecords order bytes [] rest (Some refusal) = (bytes ≢ []) × (rest ≡ bytes) × RefusesRecord order bytes refusal
-HasRecords order bytes (r ∷ records) rest fault = BeginsRecord order bytes r × HasRecords order (drop (record_len r) bytes) records rest fault
+HasRecords order bytes (r ∷ records) rest fault =
+    BeginsRecord order bytes r × HasRecords order (drop (record_len r) bytes) records rest fault

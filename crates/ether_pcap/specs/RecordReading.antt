@@ -18,15 +18,19 @@ pub record RecordState : Type 0 where
 -- What next returns if these records and this refusal are still to be read: None, and nothing changes; the refusal
 -- with the offset of its record, after which the iterator is over; the first record, and then the bytes after it are
 -- left.
-abbrev pub GivesNextRecord : List RecordValue → Option RecordRefusal → RecordState → Option (Result PcapRecord RecordFault) → RecordState → Type 0
+abbrev pub GivesNextRecord : List RecordValue → Option RecordRefusal → RecordState
+    → Option (Result PcapRecord RecordFault) → RecordState → Type 0
 GivesNextRecord [] None s result t = (result ≡ None) × (t ≡ s)
 GivesNextRecord [] (Some refusal) s result t =
-    (f : RecordFault) × (result ≡ Some (Err f)) × (f.offset ≡ s.offset) × (record_refusal_view f.error ≡ refusal) × (t ≡ record s { over = true })
+    (f : RecordFault) × (result ≡ Some (Err f)) × (f.offset ≡ s.offset) × (record_refusal_view f.error ≡ refusal)
+    × (t ≡ record s { over = true })
 GivesNextRecord (r ∷ records) fault s result t =
-    (p : PcapRecord) × (result ≡ Some (Ok p)) × (record_view p ≡ r) × (t ≡ record s { rest = drop (record_len r) s.rest; offset = s.offset + record_len r })
+    (p : PcapRecord) × (result ≡ Some (Ok p)) × (record_view p ≡ r)
+    × (t ≡ record s { rest = drop (record_len r) s.rest; offset = s.offset + record_len r })
 
 -- a call of next
-pub record RecordGives (s : RecordState) (result : Option (Result PcapRecord RecordFault)) (t : RecordState) : Type 0 where
+pub record RecordGives (s : RecordState) (result : Option (Result PcapRecord RecordFault))
+    (t : RecordState) : Type 0 where
   pub over : s.over ≡ true → (result ≡ None) × (t ≡ s)
   pub next : s.over ≡ false → (records : List RecordValue) (rest : List ℕ) (fault : Option RecordRefusal)
       → HasRecords (order_of s.header.byte_order) s.rest records rest fault → GivesNextRecord records fault s result t

@@ -41,12 +41,18 @@ pub data SectionRefusal : Type 0 where
 
 pub data RefusesSection (bytes : List ℕ) : SectionRefusal → Type 0 where
   short : length bytes < 12 → RefusesSection bytes (Short 12 (length bytes))
-  block_type : (n : ℕ) → 12 ≤ length bytes → number (slice_range bytes 0 4) ≡ n → n ≢ section_type → RefusesSection bytes (BlockType n)
-  magic : (n : ℕ) → 12 ≤ length bytes → HasSectionType bytes → number (slice_range bytes 8 12) ≡ n → ((order : Order) → HasOrder bytes order → ⊥)
+  block_type : (n : ℕ) → 12 ≤ length bytes → number (slice_range bytes 0 4) ≡ n → n ≢ section_type
+      → RefusesSection bytes (BlockType n)
+  magic : (n : ℕ) → 12 ≤ length bytes → HasSectionType bytes → number (slice_range bytes 8 12) ≡ n
+      → ((order : Order) → HasOrder bytes order → ⊥)
       → RefusesSection bytes (Magic n)
-  block : (order : Order) (r : BlockRefusal) → 12 ≤ length bytes → HasSectionType bytes → HasOrder bytes order → RefusesBlock order bytes r
+  block : (order : Order) (r : BlockRefusal) → 12 ≤ length bytes → HasSectionType bytes → HasOrder bytes order
+      → RefusesBlock order bytes r
       → RefusesSection bytes (Block r)
-  body : (order : Order) (b : BlockValue) → HasSectionType bytes → HasOrder bytes order → BeginsBlock order bytes b → length b.body < 16
+  body : (order : Order) (b : BlockValue) → HasSectionType bytes → HasOrder bytes order → BeginsBlock order bytes b
+      → length b.body < 16
       → RefusesSection bytes (Body 16 (length b.body))
-  version : (order : Order) (b : BlockValue) (major minor : ℕ) → HasSectionType bytes → HasOrder bytes order → BeginsBlock order bytes b → 16 ≤ length b.body
-      → field order bytes 12 14 ≡ major → field order bytes 14 16 ≡ minor → (IsVersion major minor → ⊥) → RefusesSection bytes (Version major minor)
+  version : (order : Order) (b : BlockValue) (major minor : ℕ) → HasSectionType bytes → HasOrder bytes order
+      → BeginsBlock order bytes b → 16 ≤ length b.body
+      → field order bytes 12 14 ≡ major → field order bytes 14 16 ≡ minor → (IsVersion major minor → ⊥)
+      → RefusesSection bytes (Version major minor)

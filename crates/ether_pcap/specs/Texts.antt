@@ -16,15 +16,18 @@ eight_digits n =
 
 abbrev pub file_header_error_text : FileHeaderError → List ℕ
 file_header_error_text (file_errors.Len required len) =
-    codes "The header of a pcap file needs " ++ (decimal required ++ (codes " byte(s); only " ++ (decimal len ++ codes " are available.")))
+    codes "The header of a pcap file needs "
+    ++ (decimal required ++ (codes " byte(s); only " ++ (decimal len ++ codes " are available.")))
 file_header_error_text (file_errors.Magic number) =
     codes "The magic number 0x" ++ (eight_digits number ++ codes " is not that of a pcap file.")
 file_header_error_text (file_errors.Version major minor) =
-    codes "Version " ++ (decimal major ++ (codes "." ++ (decimal minor ++ codes " of the pcap format is not supported, only 2.4.")))
+    codes "Version "
+    ++ (decimal major ++ (codes "." ++ (decimal minor ++ codes " of the pcap format is not supported, only 2.4.")))
 
 abbrev pub record_error_text : RecordError → List ℕ
 record_error_text (record_errors.Len required len) =
-    codes "A record of a pcap file needs " ++ (decimal required ++ (codes " byte(s); only " ++ (decimal len ++ codes " are available.")))
+    codes "A record of a pcap file needs "
+    ++ (decimal required ++ (codes " byte(s); only " ++ (decimal len ++ codes " are available.")))
 record_error_text (record_errors.CapturedLen len) =
     codes "A record of a pcap file cannot have " ++ (decimal len ++ codes " captured byte(s), the maximum is 262144.")
 

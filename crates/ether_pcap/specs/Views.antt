@@ -38,7 +38,8 @@ file_refusal_view (file_errors.Magic number) = file.Magic number
 file_refusal_view (file_errors.Version major minor) = file.Version major minor
 
 abbrev pub record_view : PcapRecord → RecordValue
-record_view r = record { seconds = r.seconds; fraction = r.fraction; original_len = r.original_len; packet = r.packet.now }
+record_view r =
+    record { seconds = r.seconds; fraction = r.fraction; original_len = r.original_len; packet = r.packet.now }
 
 abbrev pub record_refusal_view : RecordError → RecordRefusal
 record_refusal_view (record_errors.Len required len) = record_rows.Short required len

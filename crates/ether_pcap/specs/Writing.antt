@@ -47,12 +47,15 @@ pub record WritesRecordHeader (order : Order) (bytes : List ℕ) (r : RecordValu
 -- records one after the other, each as the bytes of its header and its packet
 pub data WritesRecords (order : Order) : List ℕ → List RecordValue → Type 0 where
   none : WritesRecords order [] []
-  more : (header bytes : List ℕ) (r : RecordValue) (records : List RecordValue) → length header ≡ 16 → WritesRecordHeader order header r
-      → length r.packet ≤ max_captured_len → WritesRecords order bytes records → WritesRecords order (header ++ r.packet ++ bytes) (r ∷ records)
+  more : (header bytes : List ℕ) (r : RecordValue) (records : List RecordValue) → length header ≡ 16
+      → WritesRecordHeader order header r
+      → length r.packet ≤ max_captured_len → WritesRecords order bytes records
+      → WritesRecords order (header ++ r.packet ++ bytes) (r ∷ records)
 
 -- A file that is written as a header and records has exactly the packets of these records, and nothing is left over.
 abbrev pub WrittenFilesAreRead : Type 0
 WrittenFilesAreRead =
-    (most : ℕ) (header bytes : List ℕ) (h : FileHeaderValue) (records : List RecordValue) → IsBytes header → length header ≡ 24 → h.link_type < 2 ^ 16
+    (most : ℕ) (header bytes : List ℕ) (h : FileHeaderValue) (records : List RecordValue) → IsBytes header
+    → length header ≡ 24 → h.link_type < 2 ^ 16
     → HasFcsLen h.fcs_len → WritesFileHeader header h → WritesRecords h.order bytes records
     → HasPackets (Beginning most) (header ++ bytes) (map (packet_of_record h) records) [] None

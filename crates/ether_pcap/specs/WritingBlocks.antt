@@ -14,7 +14,8 @@ use Rattle.ether_pcap.specs.Capture.{CaptureInterfaceValue, PacketValue, describ
 -- byte-order magic, version 1.0, and the section length -1, which means that none is given (4.1)
 abbrev pub section_body : Order → List ℕ
 section_body order =
-    bytes_of order 4 0x1A2B3C4D ++ (bytes_of order 2 1 ++ bytes_of order 2 0) ++ bytes_of order 4 0xFFFFFFFF ++ bytes_of order 4 0xFFFFFFFF
+    bytes_of order 4 0x1A2B3C4D ++ (bytes_of order 2 1 ++ bytes_of order 2 0) ++ bytes_of order 4 0xFFFFFFFF
+    ++ bytes_of order 4 0xFFFFFFFF
 
 -- link type, 0, snap length; options (4.2)
 abbrev pub interface_head : Order → InterfaceValue → List ℕ
@@ -52,13 +53,15 @@ packet_block_len p = 32 + padded (length p.packet) + length p.options
 abbrev pub InterfaceIsRead : Order → (header : List ℕ) → InterfaceValue → Type 0
 InterfaceIsRead order header i =
     IsTotalLen (interface_block_len i) → (rest : List ℕ)
-    → BeginsBlock order (header ++ i.options ++ bytes_of order 4 (interface_block_len i) ++ rest) (record { block_type = 1; body = interface_body order i })
+    → BeginsBlock order (header ++ i.options ++ bytes_of order 4 (interface_block_len i) ++ rest)
+    (record { block_type = 1; body = interface_body order i })
     × IsInterface order (interface_body order i) i
 
 abbrev pub PacketIsRead : Order → (header : List ℕ) → EnhancedPacketValue → Type 0
 PacketIsRead order header p =
     length p.packet ≤ max_captured_len → IsTotalLen (packet_block_len p) → (rest : List ℕ)
-    → BeginsBlock order (header ++ p.packet ++ packet_padding p ++ p.options ++ bytes_of order 4 (packet_block_len p) ++ rest)
+    → BeginsBlock order (header ++ p.packet ++ packet_padding p ++ p.options ++ bytes_of order 4 (packet_block_len p)
+    ++ rest)
     (record { block_type = 6; body = packet_body order p })
     × IsEnhancedPacket 4 order (packet_body order p) p
 
@@ -69,7 +72,8 @@ section_bytes order = block_bytes order (bytes_of order 4 section_type) (section
 
 abbrev pub interface_bytes : Order → InterfaceValue → List ℕ
 interface_bytes order i =
-    let len = bytes_of order 4 (interface_block_len i) in bytes_of order 4 1 ++ len ++ interface_head order i ++ i.options ++ len
+    let len = bytes_of order 4 (interface_block_len i) in bytes_of order 4 1 ++ len ++ interface_head order i
+    ++ i.options ++ len
 
 abbrev pub packet_bytes : Order → EnhancedPacketValue → List ℕ
 packet_bytes order p =
@@ -92,16 +96,21 @@ pub record FitsPacket (p : EnhancedPacketValue) : Type 0 where
 -- What follows a section header in a section that has described the interfaces `before`: further interfaces, up to
 -- `most` in all; packets of interfaces that are described before them; and further sections. The packets are those of
 -- the blocks.
-pub data WritesBlocks (most : ℕ) : Order → (before : List CaptureInterfaceValue) → (bytes : List ℕ) → List PacketValue → Type 0 where
+pub data WritesBlocks (most : ℕ) : Order → (before : List CaptureInterfaceValue) → (bytes : List ℕ) → List PacketValue
+    → Type 0 where
   end : (order : Order) (before : List CaptureInterfaceValue) → WritesBlocks most order before [] []
   section : (order next : Order) (before : List CaptureInterfaceValue) (bytes : List ℕ) (packets : List PacketValue)
       → WritesBlocks most next [] bytes packets → WritesBlocks most order before (section_bytes next ++ bytes) packets
-  interface : (order : Order) (before : List CaptureInterfaceValue) (bytes : List ℕ) (packets : List PacketValue) (i : InterfaceValue) (options : List OptionValue)
+  interface : (order : Order) (before : List CaptureInterfaceValue) (bytes : List ℕ) (packets : List PacketValue)
+      (i : InterfaceValue) (options : List OptionValue)
       → FitsInterface i → HasOptions order i.options options → length before < most
-      → WritesBlocks most order (before ++ described_by order i options ∷ []) bytes packets → WritesBlocks most order before (interface_bytes order i ++ bytes) packets
-  packet : (order : Order) (before : List CaptureInterfaceValue) (bytes : List ℕ) (packets : List PacketValue) (p : EnhancedPacketValue) (options : List OptionValue)
+      → WritesBlocks most order (before ++ described_by order i options ∷ []) bytes packets
+      → WritesBlocks most order before (interface_bytes order i ++ bytes) packets
+  packet : (order : Order) (before : List CaptureInterfaceValue) (bytes : List ℕ) (packets : List PacketValue)
+      (p : EnhancedPacketValue) (options : List OptionValue)
       (i : CaptureInterfaceValue) → FitsPacket p → HasOptions order p.options options → IsAt before p.interface i
-      → WritesBlocks most order before bytes packets → WritesBlocks most order before (packet_bytes order p ++ bytes) (packet_on order i p options ∷ packets)
+      → WritesBlocks most order before bytes packets → WritesBlocks most order before (packet_bytes order p ++ bytes)
+      (packet_on order i p options ∷ packets)
 
 -- A file that is written as a section header and blocks has exactly their packets, and nothing is left over.
 abbrev pub WrittenSectionsAreRead : Type 0

@@ -151,8 +151,10 @@ impl<T: InterfaceTable> CaptureReader<T> {
         packet: &'a [u8],
         original_len: u64,
     ) -> Option<EditedUnit<'a>>
-        ensures edited { EditsUnit self.now unit.now (record { original_len = original_len; packet = packet.now }) result }
-        ensures packet { HasEditedPacket self.now unit.now (record { original_len = original_len; packet = packet.now }) result }
+        ensures edited { EditsUnit self.now unit.now (record { original_len = original_len; packet = packet.now })
+            result }
+        ensures packet { HasEditedPacket self.now unit.now (record { original_len = original_len; packet = packet.now })
+            result }
         ensures padding { IfSome result (λ u. padding_of u ≤ 3) }
     {
         if packet.len() > PcapRecord::MAX_CAPTURED_LEN as usize

@@ -20,7 +20,8 @@ pub(crate) fn edited_record<'a>(
 ) -> Option<EditedUnit<'a>>
     ensures padding { IfSome result (λ u. padding_of u ≤ 3) }
     ensures unit { (p : PacketValue)
-        → Begins unit.now (Records (file_header_view header.now)) (length unit.now) (Some p) (Records (file_header_view header.now))
+        → Begins unit.now (Records (file_header_view header.now)) (length unit.now) (Some p)
+        (Records (file_header_view header.now))
         → option_map unit_bytes result ≡ unit_with (Records (file_header_view header.now)) (length p.packet)
         (record { original_len = original_len; packet = packet.now }) unit.now }
 {
@@ -50,7 +51,8 @@ pub(crate) fn edited_block<'a>(
     requires { length packet.now ≤ 262144 }
     ensures padding { IfSome result (λ u. padding_of u ≤ 3) }
     ensures unit { (most : ℕ) (interfaces : List CaptureInterfaceValue) (p : PacketValue)
-        → Begins block.now (Blocks most (order_of order) interfaces) (length block.now) (Some p) (Blocks most (order_of order) interfaces)
+        → Begins block.now (Blocks most (order_of order) interfaces) (length block.now) (Some p)
+        (Blocks most (order_of order) interfaces)
         → option_map unit_bytes result ≡ unit_with (Blocks most (order_of order) interfaces) (length p.packet)
         (record { original_len = original_len; packet = packet.now }) block.now }
 {

@@ -95,7 +95,8 @@ impl FileHeader {
     pub fn to_bytes(&self) -> [u8; 24]
         ensures value { WritesFileHeader result (file_header_view self.now) }
         ensures len { length result ≡ 24 }
-        ensures read_back { HasFcsLen self.now.fcs_len → (rest : List ℕ) → IsFileHeader (result ++ rest) (file_header_view self.now) }
+        ensures read_back { HasFcsLen self.now.fcs_len → (rest : List ℕ)
+            → IsFileHeader (result ++ rest) (file_header_view self.now) }
     {
         let order = self.byte_order;
         joined(

@@ -19,7 +19,8 @@ pub enum TimestampResolution {
 impl TimestampResolution {
     /// The resolution of a file with this magic number. `None` if the format does not have that magic number.
     pub fn of_magic(magic: u32) -> Option<TimestampResolution>
-        ensures { MatchOption result ((r : Resolution) → magic ≢ magic_of r) (λ resolution. magic ≡ magic_of (resolution_of resolution)) }
+        ensures { MatchOption result ((r : Resolution) → magic ≢ magic_of r) (λ resolution. magic
+            ≡ magic_of (resolution_of resolution)) }
     {
         match magic {
             0xA1B2_C3D4 => Some(TimestampResolution::Microseconds),

@@ -176,7 +176,8 @@ impl<'a> InterfaceDescription<'a> {
 
 /// The value of the first option with this code, if it has one byte.
 fn byte_option(byte_order: ByteOrder, options: &[u8], code: u16) -> Option<u8>
-    ensures { (all : List OptionValue) → HasOptions (order_of byte_order) options.now all → result ≡ byte_of (value_of code all) }
+    ensures { (all : List OptionValue) → HasOptions (order_of byte_order) options.now all → result
+        ≡ byte_of (value_of code all) }
 {
     let value = option_value(byte_order, options, code)?;
     if value.len() == 1 {

@@ -95,7 +95,8 @@ impl<'a> Content<'a> {
     ///
     /// ```text
     /// ensures some { IfSome result (λ frame. IsWalked (content_view self.entry) (next_of frame.0) frame.1.now) }
-    /// ensures none { result ≡ None → (next : Next) (bytes : List ℕ) → IsWalked (content_view self.entry) next bytes → ⊥ }
+    /// ensures none { result ≡ None → (next : Next) (bytes : List ℕ) → IsWalked (content_view self.entry) next bytes
+    ///     → ⊥ }
     /// ```
     ///
     /// </details>

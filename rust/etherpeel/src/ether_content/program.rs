@@ -13,7 +13,8 @@ use crate::ether_sll2::LinuxSll2Header;
 /// <details><summary>Contract</summary>
 ///
 /// ```text
-/// ensures { (x : Expression) → IsProgramOf instructions.now x → IsTrue result ↔ Selects x (captured_packet_view packet.now) }
+/// ensures { (x : Expression) → IsProgramOf instructions.now x → IsTrue result
+///     ↔ Selects x (captured_packet_view packet.now) }
 /// ```
 ///
 /// </details>
@@ -52,7 +53,8 @@ fn holds(
 /// <details><summary>Contract</summary>
 ///
 /// ```text
-/// ensures { (x : Expression) → IsProgramOf instructions.now x → IsTrue result ↔ IsUndecided x (captured_packet_view packet.now) }
+/// ensures { (x : Expression) → IsProgramOf instructions.now x → IsTrue result
+///     ↔ IsUndecided x (captured_packet_view packet.now) }
 /// ```
 ///
 /// </details>

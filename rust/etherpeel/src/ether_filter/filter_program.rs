@@ -46,7 +46,8 @@ use crate::ether_peel::Start;
 ///
 /// ```text
 /// ensures { (x : Expression) → IsProgramOf instructions.now x → (hs : List Header) (e : Ending)
-///     → Walk (start_of packet.now.start) packet.now.frame.now hs e → IsTrue result ↔ Holds x (walked packet.now hs e) }
+///     → Walk (start_of packet.now.start) packet.now.frame.now hs e → IsTrue result
+///     ↔ Holds x (walked packet.now hs e) }
 /// ```
 ///
 /// </details>

@@ -10,7 +10,9 @@ pub returns-clause-some : goal.returns-clause-some
 returns-clause-some c =
     let bytes = c.args.bytes.now in
     let part = slice_range bytes 6 14 in
-    let below = number_within part 8 (IsBytes-part 6 14 bytes (λ i. omega (arith, c.type_inv.bytes i))) (length-part_min bytes 6 14) in
+    let below =
+    number_within part 8 (IsBytes-part 6 14 bytes (λ i. omega (arith, c.type_inv.bytes i)))
+    (length-part_min bytes 6 14) in
     let address : number c.sender_address_full.result ≡ number part =
     ap number c.sender_address_full.ensures ∙ number-spelled 8 (number part) below in
     search (rules, address)

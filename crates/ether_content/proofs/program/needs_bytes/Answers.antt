@@ -6,7 +6,8 @@ use Rattle.ether_content.proofs.program.needs_bytes.Goals as goal
 pub returns-in-Needs : goal.returns-in-Needs
 returns-in-Needs c x program =
     needed x (asked_of c.args.start c.args.frame c.args.packet.now) c.in-Needs.field-0
-    (λ i. omega (arith, c.type_inv.frame i)) (λ hs e walk. (c.decide-decision.ensures.says x program hs e walk _).0 c.in-Needs.is)
+    (λ i. omega (arith, c.type_inv.frame i))
+    (λ hs e walk. (c.decide-decision.ensures.says x program hs e walk _).0 c.in-Needs.is)
 
 pub returns-in_default : goal.returns-in_default
 returns-in_default c x program =

@@ -20,7 +20,8 @@ loop-instruction-init c = (
 
 pub returns-then-is_full-clause-says : goal.returns-then-is_full-clause-says
 returns-then-is_full-clause-says c x p hs e walk d =
-    let full = eqb-true (array_vec_len c.loop-instruction.values) 192 (sym c.is_full.ensures.value ∙ c.if-is_full.true) in
+    let full =
+    eqb-true (array_vec_len c.loop-instruction.values) 192 (sym c.is_full.ensures.value ∙ c.if-is_full.true) in
     absurd (omega (arith, full, c.loop-instruction.invariant.0, c.loop-instruction-test.true, p.few))
 
 pub returns-in_default-clause-says : goal.returns-in_default-clause-says
@@ -35,10 +36,12 @@ loop-instruction-preserved c = (
       let s = p.each c.loop-instruction.instruction-index c.loop-instruction-test.true Not no_instruction in
       let some = sym c.in-Some.is ∙ c.node.ensures ∙ s.node in
       let node : c.in-Some.node ≡ get_or (postfix x) c.loop-instruction.instruction-index Not = cc in
-      evaluates_next (IsValue c.args.packet.now hs e) c.loop-instruction.values.items c.decide_node.new.values.items (postfix x)
+      evaluates_next (IsValue c.args.packet.now hs e) c.loop-instruction.values.items c.decide_node.new.values.items
+      (postfix x)
       c.loop-instruction.instruction-index Not (omega (arith, c.loop-instruction-test.true, p.count))
       (c.loop-instruction.invariant.1 x p hs e walk seen at)
-      (λ xs are. subst (λ (n : Node). AreValues (IsValue c.args.packet.now hs e) (reverse c.decide_node.new.values.items)
+      (λ xs are. subst
+      (λ (n : Node). AreValues (IsValue c.args.packet.now hs e) (reverse c.decide_node.new.values.items)
       (pushed xs n)) node (c.decide_node.ensures.values hs e walk seen at xs are)),
 )
 
@@ -48,7 +51,8 @@ returns-clause-says c x p hs e walk d =
     let at = c.find_opening-opening.ensures hs e walk in
     let value = c.unwrap_or.ensures ∙ ap (λ (o : Option (Option Bool)). unwrap_or o None) c.pop.ensures.value in
     let is = subst (λ (y : Expression). IsValue packet hs e c.unwrap_or.result y) (expression_of-postfix x)
-    (evaluated (IsValue packet hs e) x c.loop-instruction.values.items (postfix x) c.loop-instruction.instruction-index c.unwrap_or.result None
+    (evaluated (IsValue packet hs e) x c.loop-instruction.values.items (postfix x) c.loop-instruction.instruction-index
+    c.unwrap_or.result None
     refl (omega (arith, c.loop-instruction-test.false, p.count))
     (c.loop-instruction.invariant.1 x p hs e walk (c.look_for-seen.ensures.seen hs e walk) at) value) in
     says_one packet hs e x c.decision.result d walk (c.decision.ensures packet hs e x at is)

@@ -8,7 +8,8 @@ loop-at-preserved c = (
   c.push.ensures.len ∙ ap (λ n. n + 1) c.loop-at.invariant.0,
   omega (arith, c.loop-at-test.true),
   instructed c.args.nodes.now c.jumps_of-jumps.result c.past_tags-past_tags.result c.loop-at.instructions.items
-      c.push.new.self.items c.loop-at.at _ _ c.of.result c.loop-at.invariant.0 c.loop-at-test.true refl c.push.ensures.items
+      c.push.new.self.items c.loop-at.at _ _ c.of.result c.loop-at.invariant.0 c.loop-at-test.true refl
+      c.push.ensures.items
       c.of.ensures c.loop-at.invariant.2,
 )
 
@@ -20,7 +21,8 @@ returns c x is =
       jumps = c.jumps_of-jumps.result;
       past = c.past_tags-past_tags.result;
       are_jumps = c.jumps_of-jumps.ensures x is;
-      are_passed = subst (λ ns. ArePassed ns c.jumps_of-jumps.result c.past_tags-past_tags.result) is c.past_tags-past_tags.ensures;
+      are_passed =
+          subst (λ ns. ArePassed ns c.jumps_of-jumps.result c.past_tags-past_tags.result) is c.past_tags-past_tags.ensures;
       few = omega (arith, count, c.requires);
       count = count ∙ ap length is;
       each = λ i lt d e. rw (sym is) (c.loop-at.invariant.2 i (omega (arith, lt, c.loop-at.invariant.0)) d e);

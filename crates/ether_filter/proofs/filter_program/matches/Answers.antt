@@ -4,5 +4,6 @@ use Rattle.ether_filter.proofs.filter_program.matches.Goals as goal
 
 pub returns-in-Some : goal.returns-in-Some
 returns-in-Some c x p hs e walk =
-    rw (only_primitive c.args.instructions.now x c.in-Some.primitive p (omega (arith, c.in-len1.len_at_least, c.in-len1.len_below))
+    rw (only_primitive c.args.instructions.now x c.in-Some.primitive p
+    (omega (arith, c.in-len1.len_at_least, c.in-len1.len_below))
     (sym c.in-Some.is ∙ c.primitive.ensures)) (c.matches_walked.ensures hs e walk)

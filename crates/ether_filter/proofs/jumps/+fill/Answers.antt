@@ -9,7 +9,8 @@ returns-then-end-eq0-clause-filled t c x front all =
 pub returns-in-Test-clause-filled : goal.returns-in-Test-clause-filled
 returns-in-Test-clause-filled t c x front all =
     filled_test x c.args.nodes.now front c.args.jumps.now c.args.end _ c.in-Test.field-0 c.args.jump
-    (omega (arith, c.if-end-eq0.false)) c.requires.nodes (omega (arith, c.requires.nodes, c.requires.room)) c.in-Test.is all
+    (omega (arith, c.if-end-eq0.false)) c.requires.nodes (omega (arith, c.requires.nodes, c.requires.room)) c.in-Test.is
+    all
 
 pub returns-in-Not-clause-filled : goal.returns-in-Not-clause-filled
 returns-in-Not-clause-filled t c x front all =

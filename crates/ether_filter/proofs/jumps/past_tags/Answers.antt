@@ -12,7 +12,8 @@ loop-at-preserved c =
     let inside = c.loop-at.invariant.0 in (
       omega (arith, inside),
       length-set c.loop-at.past at c.past_next.result ∙ c.loop-at.invariant.1,
-      passed_set ns js c.loop-at.past at c.past_next.result (omega (arith, inside, c.requires, some, c.loop-at.invariant.1))
+      passed_set ns js c.loop-at.past at c.past_next.result
+          (omega (arith, inside, c.requires, some, c.loop-at.invariant.1))
           (c.past_next.ensures js refl (λ i above lt. c.loop-at.invariant.2 i (omega (arith, above, some)) lt))
           (λ i above lt. c.loop-at.invariant.2 i (omega (arith, above, some)) lt),
     )

@@ -12,7 +12,8 @@ returns-then-word-eq12 c =
 
 pub returns-then-word-ne17 : goal.returns-then-word-ne17
 returns-then-word-ne17 c =
-    rw (ne_eqb (length c.args.word.now) 12 c.if-word-eq12.false, ne_eqb (length c.args.word.now) 17 c.if-word-ne17.true) refl
+    rw (ne_eqb (length c.args.word.now) 12 c.if-word-eq12.false, ne_eqb (length c.args.word.now) 17 c.if-word-ne17.true)
+    refl
 
 pub returns-then-not-has_colons : goal.returns-then-not-has_colons
 returns-then-not-has_colons c =

@@ -10,4 +10,15 @@ Is test p = IsTrue (test p)
 
 pub returns : goal.returns
 returns c =
-    search (rules, copy_read, copy_edits, copy_source, copy_nothing, copy_stopped, copy_within, copy_interfaces, all_unedited, copy_all)
+    search (
+      rules,
+      copy_read,
+      copy_edits,
+      copy_source,
+      copy_nothing,
+      copy_stopped,
+      copy_within,
+      copy_interfaces,
+      all_unedited,
+      copy_all,
+    )

@@ -168,8 +168,10 @@ impl<T: InterfaceTable> CaptureReader<T> {
     /// <details><summary>Contract</summary>
     ///
     /// ```text
-    /// ensures edited { EditsUnit self.now unit.now (record { original_len = original_len; packet = packet.now }) result }
-    /// ensures packet { HasEditedPacket self.now unit.now (record { original_len = original_len; packet = packet.now }) result }
+    /// ensures edited { EditsUnit self.now unit.now (record { original_len = original_len; packet = packet.now })
+    ///     result }
+    /// ensures packet { HasEditedPacket self.now unit.now (record { original_len = original_len; packet = packet.now })
+    ///     result }
     /// ensures padding { IfSome result (λ u. padding_of u ≤ 3) }
     /// ```
     ///

@@ -110,7 +110,8 @@ impl FileHeader {
     /// ```text
     /// ensures value { WritesFileHeader result (file_header_view self.now) }
     /// ensures len { length result ≡ 24 }
-    /// ensures read_back { HasFcsLen self.now.fcs_len → (rest : List ℕ) → IsFileHeader (result ++ rest) (file_header_view self.now) }
+    /// ensures read_back { HasFcsLen self.now.fcs_len → (rest : List ℕ)
+    ///     → IsFileHeader (result ++ rest) (file_header_view self.now) }
     /// ```
     ///
     /// </details>

@@ -26,7 +26,8 @@ impl TimestampResolution {
     /// <details><summary>Contract</summary>
     ///
     /// ```text
-    /// ensures { MatchOption result ((r : Resolution) → magic ≢ magic_of r) (λ resolution. magic ≡ magic_of (resolution_of resolution)) }
+    /// ensures { MatchOption result ((r : Resolution) → magic ≢ magic_of r) (λ resolution. magic
+    ///     ≡ magic_of (resolution_of resolution)) }
     /// ```
     ///
     /// </details>

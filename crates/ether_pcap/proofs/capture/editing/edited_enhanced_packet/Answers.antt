@@ -6,7 +6,8 @@ use Rattle.ether_pcap.specs.Views.{order_of}
 use Rattle.ether_pcap.proofs.EditedBlocks.{captured_at, padded_within, too_long_block, written_block}
 use Rattle.ether_pcap.proofs.capture.editing.edited_enhanced_packet.Goals as goal
 
-pub returns-then-captured_len-gt-MAX_CAPTURED_LEN-clause-unit : goal.returns-then-captured_len-gt-MAX_CAPTURED_LEN-clause-unit
+pub returns-then-captured_len-gt-MAX_CAPTURED_LEN-clause-unit :
+    goal.returns-then-captured_len-gt-MAX_CAPTURED_LEN-clause-unit
 returns-then-captured_len-gt-MAX_CAPTURED_LEN-clause-unit c number_len v sound is =
     let order = order_of c.args.order in
     let e : EditedValue = record { original_len = c.args.original_len; packet = c.args.packet.now } in
@@ -19,7 +20,8 @@ returns-then-end-options_at-clause-unit c number_len v sound is =
     let u = c.args.block.now in
     let e : EditedValue = record { original_len = c.args.original_len; packet = c.args.packet.now } in
     let at : c.padded_len-options_at.result ≡ padded (length v.packet) =
-    c.padded_len-options_at.ensures ∙ ap padded (c.u32_at-captured_len.ensures ∙ captured_at order number_len u v e sound is) in
+    c.padded_len-options_at.ensures
+    ∙ ap padded (c.u32_at-captured_len.ensures ∙ captured_at order number_len u v e sound is) in
     absurd (omega (arith, at, c.if-end-options_at.true, padded_within order number_len u v e sound is))
 
 pub returns-then-total_len-clause-unit : goal.returns-then-total_len-clause-unit
@@ -28,7 +30,8 @@ returns-then-total_len-clause-unit c number_len v sound is =
     let u = c.args.block.now in
     let e : EditedValue = record { original_len = c.args.original_len; packet = c.args.packet.now } in
     let at : c.padded_len-options_at.result ≡ padded (length v.packet) =
-    c.padded_len-options_at.ensures ∙ ap padded (c.u32_at-captured_len.ensures ∙ captured_at order number_len u v e sound is) in
+    c.padded_len-options_at.ensures
+    ∙ ap padded (c.u32_at-captured_len.ensures ∙ captured_at order number_len u v e sound is) in
     too_long_block order number_len u v e sound is
     (omega (arith, at, c.padded_len-padded.ensures, c.if-total_len.true))
 
@@ -38,7 +41,8 @@ returns-clause-unit c number_len v sound is =
     let u = c.args.block.now in
     let e : EditedValue = record { original_len = c.args.original_len; packet = c.args.packet.now } in
     let at : c.padded_len-options_at.result ≡ padded (length v.packet) =
-    c.padded_len-options_at.ensures ∙ ap padded (c.u32_at-captured_len.ensures ∙ captured_at order number_len u v e sound is) in
+    c.padded_len-options_at.ensures
+    ∙ ap padded (c.u32_at-captured_len.ensures ∙ captured_at order number_len u v e sound is) in
     let to = c.padded_len-padded.ensures in
     written_block order number_len u v e sound is c.block_header.result _ c.len_word.result _ _ c.block_header.ensures
     (ap (λ (k : ℕ). k - length e.packet) to)
