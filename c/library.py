@@ -20,9 +20,11 @@ def crates():
     return found
 
 
-def words(kit, name, archive, target):
-    """The words of the compiler for a static library."""
+def words(kit, name, archive, target, below=None):
+    """The words of the compiler for a static library, over the libraries that crates.txt names for it, or over those of `below`."""
     listed = crates()
+    if below is not None:
+        listed[name] = below
     rlib = lambda it: f"{TOP}/crates/{it}/out/rlib/{it}.rlib" if it in listed else f"{kit}/rlibs/{it}.rlib"
     said = ["--crate-name", name, "src/lib.rt", "-L", f"dependency={kit}/rlibs"]
     for it in ["std", *listed[name]]:

@@ -1,12 +1,11 @@
 /* The calls from C over made frames, beside a C function that fills the same struct.
  *
  *   calls compare     compares the structs of etherpeel_summary, etherpeel_walk and etherpeel_packet with those of the
- * functions by hand calls SET CALL    one call for each frame of a set, for callgrind: 0 the summary by hand, 1
- * etherpeel_summary, 2 etherpeel_walk, 3 etherpeel_write_back, 4 etherpeel_feed, 5 etherpeel_packet, 6 the walk by
- * hand, 7 the packet by hand */
+ *                     functions by hand
+ *   calls SET         each call for each frame of a set, for callgrind */
 #include "by_hand.h"
 
-enum { COUNT = 4096, SETS = 6 };
+enum { COUNT = 4096, SETS = 6, CALLS = 8 };
 
 static u8 bytes[COUNT * 512], target[512];
 static u32 ends[COUNT];
@@ -93,7 +92,7 @@ static int compare(void) {
 int main(int argc, char **argv) {
   size_t start = 0;
   if (argc == 2 && !strcmp(argv[1], "compare")) return compare();
-  if (argc != 3) return 2;
+  if (argc != 2) return 2;
   for (int set = 0; set <= atoi(argv[1]); set++) {
     size_t len = 0;
     for (int i = 0; i < COUNT; i++) {
@@ -102,7 +101,7 @@ int main(int argc, char **argv) {
     }
   }
   for (int i = 0; i < COUNT; i++) {
-    call(atoi(argv[2]), bytes + start, ends[i] - start);
+    for (int which = 0; which < CALLS; which++) call(which, bytes + start, ends[i] - start);
     start = ends[i];
   }
   return 0;

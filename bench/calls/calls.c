@@ -1,4 +1,4 @@
-/* Calls each loop of calls.rt.txt and walks.rt.txt once over its frames; callgrind counts. run.sh makes `rows.h` of rows.txt. */
+/* Calls each loop of calls.rt.txt and walks.rt.txt once over its frames; callgrind counts. bench/counting/calls.py makes `rows.h` of rows.txt. */
 #include "../walk/frames.h"
 #include <stdio.h>
 #include <stdlib.h>

@@ -1,7 +1,7 @@
 #!/bin/sh
 # sh bench/captures/run.sh PROGRAM [MEGABYTES] [ROUNDS]: ether_capture (lines and copies), `cat`, tcpdump and a program over libpcap, in
 # turns, over captures that are made here: processor time, time, and the ratio of the processor time to that of `tcpdump -w`. What is not installed
-# (tcpdump, gcc with libpcap's header) is left out. With valgrind it also counts instructions per packet, of 10 MB.
+# (tcpdump, gcc with libpcap's header) is left out.
 set -eu
 here=$(cd "$(dirname "$0")" && pwd)
 program=$(realpath "${1:?the built program}")
@@ -43,17 +43,3 @@ if command -v tcpdump > /dev/null 2>&1; then
     set -- "$@" "copy=$(command -v tcpdump) -r - -w /dev/null"
 fi
 python3 "$here/pieces.py" "$@"
-
-if command -v valgrind > /dev/null 2>&1; then
-    python3 "$here/make.py" "$work" 10 > "$work/counts"
-    for file in mixed small; do
-        packets=$(sed -n "s/.*$file.pcap: \([0-9]*\) packets/\1/p" "$work/counts")
-        for words in --plain '' '--format brief' '--format json' '--fields vlan.vid' '--fields vlan.vid,eth.src' \
-            '--fields frame.number,vlan.vid,eth.src' '--fields eth.dst,eth.src,eth.type,vlan.vid' \
-            '--fields frame.number,frame.time,eth.src,eth.dst,eth.type,vlan.vid,arp.spa,rest.type' \
-            '--stats' '--stats --fields vlan.vid'; do
-            valgrind --tool=callgrind --callgrind-out-file=/dev/null "$program" $words < "$work/$file.pcap" 2>&1 > /dev/null |
-                awk -v packets="$packets" -v name="$file $words" '/Collected/ { printf "%s: %.0f instructions a packet\n", name, $4 / packets }'
-        done
-    done
-fi

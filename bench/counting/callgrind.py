@@ -26,8 +26,9 @@ def total(command, stdin=None):
     return int(re.search(r"Collected : (\d+)", ran(command, stdin, "--callgrind-out-file=/dev/null"))[1])
 
 
-def of_functions(command, names):
-    """The instructions of each of these functions in a run of a program, with those that they call."""
+def of_functions(command, names, may_miss=False):
+    """The instructions of each of these functions in a run of a program, with those that they call; `may_miss` says that some may have
+    another name, whose code is the same."""
     with tempfile.TemporaryDirectory() as folder:
         ran(command, None, f"--callgrind-out-file={folder}/out")
         words = ["callgrind_annotate", "--inclusive=yes", "--threshold=100", "--auto=no", f"{folder}/out"]
@@ -37,4 +38,7 @@ def of_functions(command, names):
         function = re.sub(r" \[[^]]*\]$", "", place).partition(":")[2]
         if function in most:
             most[function] = max(most[function], int(count.replace(",", "")))
+    none = [name for name, instructions in most.items() if not instructions]
+    if none and not may_miss:
+        sys.exit(f"{' '.join(command)}: callgrind did not see {', '.join(none)}")
     return most

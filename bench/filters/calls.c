@@ -1,19 +1,17 @@
-/* Times etherpeel_filter_matches next to the compiled filter of libpcap (pcap_offline_filter), one packet a call.
+/* Calls etherpeel_filter_matches and the compiled filter of libpcap (pcap_offline_filter), one packet a call, for callgrind.
  *
- *     calls TERMS tagged|untagged own|libpcap|both
+ *     calls TERMS tagged|untagged
  *
- * The packets are 4,096 of 64 bytes, with a VLAN tag or none; the filter selects those that one of some VLAN identifiers has. With
- * `both`, the two are asked in turn, must agree on each packet, and the nanoseconds of a packet are printed, the least of 25 turns. With one
- * of them, each packet is asked once, for callgrind. */
+ * The packets are 4,096 of 64 bytes, with a VLAN tag or none; the filter selects those that one of some VLAN identifiers has. The two
+ * must agree on each packet. */
 #include <pcap/pcap.h>
 #include <stdio.h>
 #include <stdlib.h>
 #include <string.h>
-#include <time.h>
 
 #include "../../c/etherpeel.h"
 
-enum { PACKETS = 4096, LEN = 64, TURNS = 25 };
+enum { PACKETS = 4096, LEN = 64 };
 
 static uint8_t bytes[PACKETS][LEN];
 static etherpeel_captured packets[PACKETS];
@@ -77,26 +75,12 @@ __attribute__((noinline)) static void ask_libpcap(void) {
         other_marks[i] = pcap_offline_filter(&program, &header, bytes[i]) != 0;
 }
 
-static double nanoseconds(void (*ask)(void)) {
-    struct timespec begun, ended;
-    clock_gettime(CLOCK_PROCESS_CPUTIME_ID, &begun);
-    ask();
-    clock_gettime(CLOCK_PROCESS_CPUTIME_ID, &ended);
-    return ((double)(ended.tv_sec - begun.tv_sec) * 1e9 + (double)(ended.tv_nsec - begun.tv_nsec)) / PACKETS;
-}
-
 int main(int argc, char **argv) {
-    if (argc != 4) fail("calls TERMS tagged|untagged own|libpcap|both");
+    if (argc != 3) fail("calls TERMS tagged|untagged");
     make_packets(strcmp(argv[2], "tagged") == 0);
     make_filters(atoi(argv[1]));
-    if (strcmp(argv[3], "own") == 0) return ask_own(), 0;
-    if (strcmp(argv[3], "libpcap") == 0) return ask_libpcap(), 0;
-    double own = 1e9, other = 1e9;
-    for (int i = 0; i < TURNS; i++) {
-        double a = nanoseconds(ask_own), b = nanoseconds(ask_libpcap);
-        own = a < own ? a : own, other = b < other ? b : other;
-    }
+    ask_own();
+    ask_libpcap();
     if (memcmp(own_marks, other_marks, PACKETS) != 0) fail("the two do not agree");
-    printf("%.1f %.1f %.2f\n", own, other, own / other);
     return 0;
 }

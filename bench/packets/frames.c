@@ -1,12 +1,10 @@
 /* Made frames, and the functions of packets.rt.txt over them: the loop alone, the walk, and the form that FORM names, over
- * the cooked captures if IS_COOKED is 1, else over the other sets. `frames` compares
- * the sums of the walk and the form, `frames SET N` calls the function of this number once over one set, for counting, and
- * `frames time TURNS` prints nanoseconds per frame, the least of the turns. */
+ * the cooked captures if IS_COOKED is 1, else over the other sets. `frames` compares the sums of the walk and the form, and
+ * `frames SET` calls each of the functions once over one set, for callgrind. */
 #include <stdint.h>
 #include <stdio.h>
 #include <stdlib.h>
 #include <string.h>
-#include <time.h>
 
 typedef uint64_t u64;
 typedef uint32_t u32;
@@ -97,12 +95,6 @@ static void make(int set) {
 
 static u64 call(int form) { return forms[form](bytes, len, ends, COUNT); }
 
-static double now(void) {
-  struct timespec t;
-  clock_gettime(CLOCK_MONOTONIC, &t);
-  return (double)t.tv_sec * 1e9 + (double)t.tv_nsec;
-}
-
 static int compare(void) {
   int failed = 0;
   for (int set = 0; set < SETS; set++) {
@@ -116,37 +108,12 @@ static int compare(void) {
   return failed;
 }
 
-static void measure(int turns) {
-  for (int set = 0; set < SETS; set++) {
-    double best[FORMS];
-    make(set);
-    if ((set == COOKED) != IS_COOKED) continue;
-    for (int form = 0; form < FORMS; form++) best[form] = 1e18;
-    for (int turn = 0; turn < turns; turn++) {
-      for (int form = 0; form < FORMS; form++) {
-        volatile u64 sum;
-        double begun = now();
-        for (int i = 0; i < 16; i++) sum = call(form);
-        double took = (now() - begun) / (16.0 * COUNT);
-        (void)sum;
-        if (took < best[form]) best[form] = took;
-      }
-    }
-    printf(" %.1f/%.1f %.2f", best[2], best[1], best[2] / best[1]);
-  }
-}
-
 int main(int argc, char **argv) {
-  if (argc == 3 && strcmp(argv[1], "time") == 0) {
-    measure(atoi(argv[2]));
-    printf("\n");
-    return 0;
-  }
-  if (argc == 3) {
+  if (argc == 2) {
     int set = atoi(argv[1]);
     volatile u64 sum;
     for (int i = 0; i <= set; i++) make(i);
-    sum = call(atoi(argv[2]));
+    for (int form = 0; form < FORMS; form++) sum = call(form);
     (void)sum;
     return 0;
   }

@@ -53,4 +53,3 @@ static size_t frame(u8 *p, int set) {
   return set == CUT || (set == MIXED && dice >= 96) ? below((u32)n) : n;
 }
 
-static u64 now(void) { struct timespec t; clock_gettime(CLOCK_MONOTONIC, &t); return (u64)t.tv_sec * 1000000000u + t.tv_nsec; }

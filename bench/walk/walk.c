@@ -1,11 +1,9 @@
 /* A walk of Ethernet II, VLAN, MACsec and ARP by hand in C, with each test that the table of refusals asks for and nothing else,
  * beside the library's.
  *
- *   walk time ROUNDS   a line for each set: nanoseconds a frame of both, the least of ROUNDS turns, and their ratio
- *   walk SET CALL      one call over a set, for callgrind: 0 walk, 1 with a limit of 1,000, 2 summary, 3 walk by hand, 4 summary by hand,
- *                   5 feed
+ *   walk SET           each of the calls over a set once, for callgrind
  *
- * All sum up every unit's fields and payload length and the fault, and the sums are compared before anything is timed. */
+ * All sum up every unit's fields and payload length and the fault, and the sums are compared. */
 #include "frames.h"
 
 /* the library, from libwalk_bench.a; a slice is a pointer and a length */
@@ -76,7 +74,7 @@ static inline __attribute__((always_inline)) struct walked walk(const u8 *list, 
 }
 
 #define OVER(name, value)                                                              \
-  __attribute__((noinline)) static u64 name(const u8 *bytes, size_t len, const u32 *ends, size_t count) { \
+  __attribute__((noipa)) static u64 name(const u8 *bytes, size_t len, const u32 *ends, size_t count) { \
     u64 sum = 0;                                                                       \
     size_t start = 0;                                                                  \
     for (size_t i = 0; i < count; i++) {                                               \
@@ -91,44 +89,22 @@ static inline __attribute__((always_inline)) struct walked walk(const u8 *list, 
 OVER(hand_walks, w.sum)
 OVER(hand_summaries, w.units * 3 + w.rest * 5 + w.fault * 7)
 
-typedef u64 (*over)(const u8 *, size_t, const u32 *, size_t);
-
-static int race(const char *name, over port, over hand, const u8 *bytes, size_t len, const u32 *ends, size_t count, int rounds) {
-  double best[2] = {1e18, 1e18};
-  volatile u64 sink;
-  u64 a = port(bytes, len, ends, count), b = hand(bytes, len, ends, count);
-  if (a != b) { printf("%-24s the sums differ: %llu and %llu\n", name, (unsigned long long)a, (unsigned long long)b); return 1; }
-  for (int r = 0; r < rounds; r++)
-    for (int which = 0; which < 2; which++) {
-      u64 begun = now();
-      for (int i = 0; i < 16; i++) sink = (which ? hand : port)(bytes, len, ends, count);
-      double t = (double)(now() - begun) / (16.0 * count);
-      if (t < best[which]) best[which] = t;
-    }
-  (void)sink;
-  printf("%-24s library %6.2f ns  by hand %6.2f ns  ratio %5.2f\n", name, best[0], best[1], best[0] / best[1]);
-  return 0;
-}
-
 int main(int argc, char **argv) {
-  static const char *names[] = {"mixed", "plain", "one to three tags", "one or two SecTags", "ARP", "cut short", "500 tags"};
-  static const over calls[] = {port_walks, port_limited_walks, port_summaries, hand_walks, hand_summaries, port_feeds};
-  int timed = argc > 2 && !strcmp(argv[1], "time"), bad = 0;
   enum { COUNT = 4096, STACK_COUNT = 64 }; /* a walk through 500 tags takes as long as a hundred others */
   u8 *bytes = malloc(COUNT * (size_t)STACK_LEN);
   u32 *ends = malloc(COUNT * sizeof *ends);
-  if (argc < 3) return 2;
-  for (int set = MIXED; set <= STACKS; set++) {
-    char name[64];
-    size_t len = 0, count = set == STACKS ? STACK_COUNT : COUNT;
+  size_t len = 0, count = 0;
+  if (argc != 2) return 2;
+  for (int set = MIXED; set <= atoi(argv[1]); set++) {
+    len = 0;
+    count = set == STACKS ? STACK_COUNT : COUNT;
     for (size_t i = 0; i < count; i++) { len += frame(bytes + len, set); ends[i] = (u32)len; }
-    if (!timed && set == atoi(argv[1])) return calls[atoi(argv[2])](bytes, len, ends, count) == 1;
-    if (!timed) continue;
-    bad += race(names[set], port_walks, hand_walks, bytes, len, ends, count, atoi(argv[2]));
-    snprintf(name, sizeof name, "%s, limit", names[set]);
-    bad += race(name, port_limited_walks, hand_walks, bytes, len, ends, count, atoi(argv[2]));
-    snprintf(name, sizeof name, "%s, summary", names[set]);
-    bad += race(name, port_summaries, hand_summaries, bytes, len, ends, count, atoi(argv[2]));
   }
-  return bad != 0;
+  const u64 walked = hand_walks(bytes, len, ends, count), summed = hand_summaries(bytes, len, ends, count);
+  if (port_walks(bytes, len, ends, count) != walked || port_limited_walks(bytes, len, ends, count) != walked ||
+      port_summaries(bytes, len, ends, count) != summed) {
+    printf("the sums differ\n");
+    return 1;
+  }
+  return port_feeds(bytes, len, ends, count) == 0;
 }

@@ -1,0 +1,13 @@
+"""`etherpeel_filter_matches`, a packet a call, beside the compiled filter of libpcap."""
+from . import builds, callgrind
+
+TERMS, PACKETS = [1, 4, 16, 64], 4096
+
+
+def rows(build, room):
+    """Of each number of terms the name, the instructions of a packet, and those of libpcap."""
+    program = builds.compiled(room, "filter_calls", [f"{builds.TOP}/bench/filters/calls.c", build.calls], "-lpcap")
+    for packets in ("tagged", "untagged"):
+        for terms in TERMS:
+            found = callgrind.of_functions([program, str(terms), packets], ["ask_own", "ask_libpcap"])
+            yield f"{packets}, {terms} terms", found["ask_own"] / PACKETS, found["ask_libpcap"] / PACKETS
