@@ -25,8 +25,8 @@ import time
 
 from bridges import by_number, plain_frames, switched
 from programs import count
+from switch import built
 
-TOP = os.path.dirname(os.path.dirname(os.path.abspath(__file__)))
 SPACES = ["h1", "h2", "h3", "h4", "left", "right"]
 # Each link: two namespaces, and the interface in each.
 LINKS = [("h1", "eth", "left", "p1"), ("h2", "eth", "left", "p2"), ("h3", "eth", "right", "p3"), ("h4", "eth", "right", "p4"),
@@ -221,13 +221,6 @@ def compared(network, switch, example):
     ours, theirs = by_number(sent_by_ports(network, frames)), by_number(switched(example, frames))
     for number, (port, it) in enumerate(frames):
         yield f"frame {number} at port {port}: {it.hex()}", ours[number], theirs[number]
-
-
-def built(library, folder):
-    """The switch, built with a library; None if there is no compiler that does."""
-    path = os.path.join(folder, "switch")
-    warnings = ["-std=c11", "-O2", "-Wall", "-Wextra", "-Werror"]
-    return path if run(os.environ.get("CC", "gcc"), *warnings, f"-I{TOP}/c", "-o", path, f"{TOP}/c/examples/switch.c", library) else None
 
 
 def left_out(why):

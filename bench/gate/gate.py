@@ -31,6 +31,7 @@ COMMANDS = {
     "examples": [sys.executable, "tests/examples.py", *(f"crates/{name}/out/{name}" for name in ("example_switch", "example_vlan_rewriter"))],
     "bridges": [sys.executable, "tests/bridges.py", "crates/example_switch/out/example_switch"],
     "C": ["sh", "c/test.sh", "proved"],
+    "switch": [sys.executable, "tests/switch.py", "crates/ether_c/out/libether_c.a"],
     "network": [sys.executable, "tests/network.py", "crates/ether_c/out/libether_c.a", "crates/example_switch/out/example_switch"],
     "C by cargo": ["sh", "c/test.sh", "cargo"],
     "programs by cargo": [sys.executable, "rust/programs.py"],

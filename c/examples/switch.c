@@ -4,11 +4,13 @@
  *
  * Each word is an interface and its VLANs. Frames of the VLAN `pvid` come and leave without a tag,
  * those of the VLANs `tagged` with one; an interface may have both, as eth0:pvid=1:tagged=5,6.
+ * The status is 2 if a word is wrong, and 1 if an interface can't be used.
  * Numbers of frames are printed on SIGUSR1, and at the end on SIGINT or SIGTERM. An interface that
  * leaves checksums or segments to hardware, as veth does: `ethtool -K NAME tx off gro off`. */
 #define _GNU_SOURCE
 #include <arpa/inet.h>
-#include <errno.h>
+#include <ctype.h>
+#include <err.h>
 #include <etherpeel.h>
 #include <linux/if_ether.h>
 #include <linux/if_packet.h>
@@ -30,7 +32,7 @@ typedef uint8_t frames[BATCH][2 * TAG + ROOM];
 
 typedef struct port {
     const char *name;
-    int socket;
+    int index, socket;
     etherpeel_port config;
     struct iovec iov[BATCH]; /* what leaves by the port */
     struct mmsghdr queue[BATCH];
@@ -43,42 +45,44 @@ static unsigned count;
 static etherpeel_bucket table[BUCKETS];
 static frames came, copies;
 
-static void fail(const char *name, const char *what) {
-    fprintf(stderr, "switch: %s: %s\n", name, what);
-    exit(1);
+/* Adds the VLAN of a number, "5", to the set of members, or to those without a tag as well. */
+static void add_vlan(port *p, const char *number, int untagged) {
+    char *end;
+    const unsigned long vid = strtoul(number, &end, 10);
+    if (!isdigit((unsigned char)*number) || *end || vid < 1 || vid > 4094)
+        errx(2, "%s: '%s' is not the identifier of a VLAN, 1 to 4094", p->name, number);
+    const uint64_t bit = (uint64_t)1 << vid % 64;
+    if (p->config.members[vid / 64] & bit)
+        errx(2, "%s: VLAN %lu is given twice", p->name, vid);
+    p->config.members[vid / 64] |= bit;
+    if (untagged) {
+        p->config.untagged[vid / 64] |= bit;
+        p->config.pvid = (uint16_t)vid;
+    }
 }
 
-/* Reads the VLANs of a word, "5,6", into the set of members, and those without a tag. */
-static void add_vlans(port *p, char *numbers, int untagged) {
-    for (char *number = strtok(numbers, ","); number; number = strtok(NULL, ",")) {
-        char *end;
-        const unsigned long vid = strtoul(number, &end, 10);
-        if (*end || vid < 1 || vid > 4094)
-            fail(number, "is not the identifier of a VLAN, 1 to 4094");
-        p->config.members[vid / 64] |= (uint64_t)1 << vid % 64;
-        if (untagged) {
-            p->config.untagged[vid / 64] |= (uint64_t)1 << vid % 64;
-            p->config.pvid = (uint16_t)vid;
-        }
-    }
+/* Adds the VLANs of "5,6". */
+static void add_tagged(port *p, char *numbers) {
+    while (numbers) add_vlan(p, strsep(&numbers, ","), 0);
 }
 
 /* Reads a word of the command line: the name of an interface, and its VLANs. */
 static void set_up(port *p, char *word) {
-    char *rest;
-    p->name = strtok_r(word, ":", &rest);
+    p->name = strsep(&word, ":");
+    if (!*p->name)
+        errx(2, "the name of an interface is empty");
     p->config.ingress_filtering = 1;
     int has_pvid = 0, has_tagged = 0;
-    for (char *part = strtok_r(NULL, ":", &rest); part; part = strtok_r(NULL, ":", &rest)) {
-        if (!strncmp(part, "pvid=", 5) && !strchr(part, ',') && !has_pvid++)
-            add_vlans(p, part + 5, 1);
+    for (char *part; (part = strsep(&word, ":"));) {
+        if (!strncmp(part, "pvid=", 5) && !has_pvid++)
+            add_vlan(p, part + 5, 1);
         else if (!strncmp(part, "tagged=", 7) && !has_tagged++)
-            add_vlans(p, part + 7, 0);
+            add_tagged(p, part + 7);
         else
-            fail(part, "is neither pvid=N nor tagged=N,N");
+            errx(2, "%s: '%s' is neither pvid=N nor tagged=N,N, once each", p->name, part);
     }
     if (!has_pvid && !has_tagged)
-        fail(p->name ? p->name : "a word", "needs VLANs: NAME:pvid=N, NAME:tagged=N,N or both");
+        errx(2, "%s: needs VLANs: NAME:pvid=N, NAME:tagged=N,N or both", p->name);
     if (!has_pvid) {
         p->config.pvid = 1; /* of no use: frames without a VLAN are not taken */
         p->config.frame_types = ETHERPEEL_FRAMES_VLAN_TAGGED;
@@ -87,21 +91,31 @@ static void set_up(port *p, char *word) {
     }
 }
 
+/* Looks the interface of a port up, which no port before it may have. */
+static void look_up(port *p) {
+    p->index = (int)if_nametoindex(p->name);
+    if (!p->index)
+        err(1, "%s", p->name);
+    for (const port *other = ports; other < p; other++)
+        if (other->index == p->index)
+            errx(2, "%s: the interface is given twice", p->name);
+}
+
 /* Opens a socket for the frames that come in, whose outer tag is in PACKET_AUXDATA. */
 static void open_socket(port *p) {
-    const int one = 1, bytes = 8 << 20, index = (int)if_nametoindex(p->name);
-    const struct packet_mreq all = {.mr_ifindex = index, .mr_type = PACKET_MR_PROMISC};
+    const int one = 1, bytes = 8 << 20;
+    const struct packet_mreq all = {.mr_ifindex = p->index, .mr_type = PACKET_MR_PROMISC};
     const struct sockaddr_ll address = {
-        .sll_family = AF_PACKET, .sll_protocol = htons(ETH_P_ALL), .sll_ifindex = index};
-    if (!index || (p->socket = socket(AF_PACKET, SOCK_RAW, 0)) < 0)
-        fail(p->name, strerror(errno));
+        .sll_family = AF_PACKET, .sll_protocol = htons(ETH_P_ALL), .sll_ifindex = p->index};
+    if ((p->socket = socket(AF_PACKET, SOCK_RAW, 0)) < 0)
+        err(1, "%s", p->name);
     setsockopt(p->socket, SOL_SOCKET, SO_RCVBUFFORCE, &bytes, sizeof bytes);
     setsockopt(p->socket, SOL_SOCKET, SO_SNDBUFFORCE, &bytes, sizeof bytes);
     if (setsockopt(p->socket, SOL_PACKET, PACKET_AUXDATA, &one, sizeof one) ||
         setsockopt(p->socket, SOL_PACKET, PACKET_IGNORE_OUTGOING, &one, sizeof one) ||
         setsockopt(p->socket, SOL_PACKET, PACKET_ADD_MEMBERSHIP, &all, sizeof all) ||
         bind(p->socket, (const struct sockaddr *)&address, sizeof address))
-        fail(p->name, strerror(errno));
+        err(1, "%s", p->name);
 }
 
 /* The frame as it came, and its length: 4 bytes earlier, if the kernel took its tag off. */
@@ -125,6 +139,12 @@ static uint8_t *with_tag(struct msghdr *message, uint8_t *frame, size_t *len) {
     return frame;
 }
 
+/* No call fails: the words have been checked, and a frame that is passed on has its header. */
+static void done(uint32_t status) {
+    if (status != ETHERPEEL_DONE)
+        errx(1, "a call returned the status %u", (unsigned)status);
+}
+
 static void queue(port *p, uint8_t *frame, size_t len) {
     struct iovec *iov = &p->iov[p->queued];
     *iov = (struct iovec){frame, len};
@@ -138,7 +158,7 @@ static void pass_on(const etherpeel_received *received, uint8_t *frame, size_t l
     uint8_t *buffers[3] = {NULL, frame - TAG, frame - TAG};
     size_t begins[3] = {0};
     for (unsigned to = 0; to < count; to++) {
-        etherpeel_switch_form(received, (uint16_t)to, &ports[to].config, &forms[to]);
+        done(etherpeel_switch_form(received, (uint16_t)to, &ports[to].config, &forms[to]));
         wanted[forms[to]]++;
     }
     if (wanted[ETHERPEEL_FORM_UNTAGGED] && wanted[ETHERPEEL_FORM_TAGGED])
@@ -149,8 +169,8 @@ static void pass_on(const etherpeel_received *received, uint8_t *frame, size_t l
         if (form == ETHERPEEL_FORM_NONE)
             continue;
         if (!ready[form]++)
-            etherpeel_switch_send(received, (uint16_t)to, &ports[to].config, buffers[form],
-                                  TAG + len, &begins[form]);
+            done(etherpeel_switch_send(received, (uint16_t)to, &ports[to].config, buffers[form],
+                                       TAG + len, &begins[form]));
         queue(&ports[to], buffers[form] + begins[form], TAG + len - begins[form]);
     }
 }
@@ -191,8 +211,8 @@ static void serve(unsigned from, uint64_t now) {
             p->cut++;
             continue;
         }
-        etherpeel_switch_receive(ETHERPEEL_BRIDGE_CUSTOMER, AGEING_TIME, table, BUCKETS, now,
-                                 (uint16_t)from, &p->config, frame, len, &received);
+        done(etherpeel_switch_receive(ETHERPEEL_BRIDGE_CUSTOMER, AGEING_TIME, table, BUCKETS, now,
+                                      (uint16_t)from, &p->config, frame, len, &received));
         if (received.discarded)
             p->discarded[received.discarded]++;
         else
@@ -221,10 +241,15 @@ int main(int argc, char **argv) {
     struct pollfd waits[PORTS + 1];
     struct signalfd_siginfo came_in = {0};
     sigset_t signals;
-    if (argc < 2 || argc - 1 > PORTS || !etherpeel_fits())
-        fail("usage", "switch NAME:pvid=N .. NAME:tagged=N,N .., at most 64");
+    if (!etherpeel_fits())
+        errx(1, "the library is not of the version of etherpeel.h");
+    if (argc < 2 || argc - 1 > PORTS)
+        errx(2, "usage: switch NAME:pvid=N .. NAME:tagged=N,N .., at most %d", PORTS);
+    for (int i = 1; i < argc; i++) {
+        set_up(&ports[i - 1], argv[i]);
+        look_up(&ports[i - 1]);
+    }
     for (; count < (unsigned)argc - 1; count++) {
-        set_up(&ports[count], argv[count + 1]);
         open_socket(&ports[count]);
         waits[count] = (struct pollfd){.fd = ports[count].socket, .events = POLLIN};
     }
@@ -232,6 +257,8 @@ int main(int argc, char **argv) {
     for (int i = 0; i < 3; i++) sigaddset(&signals, numbers[i]);
     sigprocmask(SIG_BLOCK, &signals, NULL);
     waits[count] = (struct pollfd){.fd = signalfd(-1, &signals, 0), .events = POLLIN};
+    if (waits[count].fd < 0)
+        err(1, "signalfd");
     printf("switch: %u ports\n", count);
     fflush(stdout);
     while (came_in.ssi_signo == 0 || came_in.ssi_signo == SIGUSR1) {

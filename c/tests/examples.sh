@@ -32,6 +32,6 @@ status 1"
 check vlans.c "$("$work/vlans" "$work/cut.pcap" 2>&1 > /dev/null; echo "status $?")" "$cut_text"
 check vlans.py "$(PYTHONPATH=$work/package "$python" examples/vlans.py "$work/cut.pcap" 2>&1 > /dev/null; echo "status $?")" "$cut_text"
 "$cc" -std=c11 -O2 -Wall -Wextra -Werror -I. -o "$work/switch" examples/switch.c "$library"
-check switch.c "$("$work/switch" none:pvid=0 2>&1; echo "status $?")" 'switch: 0: is not the identifier of a VLAN, 1 to 4094
-status 1'
+check switch.c "$("$work/switch" none:pvid=0 2>&1; echo "status $?")" "switch: none: '0' is not the identifier of a VLAN, 1 to 4094
+status 2"
 echo "$passed passed, $failed failed"
