@@ -12,6 +12,7 @@ sys.path.insert(0, sys.argv[1])
 import etherpeel
 from checks import ADDRESSES, ARP, TAGGED, check, counts, raised
 from compared import drawn_frames, drawn_packets, fronts, short_lists
+from nested import nested
 from sources import sources
 from etherpeel import Difference, FaultKind, FieldName, FilterErrorKind, Layer, LenSource, RestKind, Start, Status, _library
 
@@ -398,6 +399,7 @@ tags_in_place()
 headers_in_place()
 building()
 wrong_words()
+nested()
 drawn_frames(10000)
 drawn_packets(3000)
 short_lists()

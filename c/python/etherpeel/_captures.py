@@ -121,23 +121,30 @@ def _content(file):
 
 class _Packets:
     """The packets of a capture, and then the error if they end before the file. Their structs are kept as C wrote them, so one
-    call can apply a filter to many; the view keeps the bytes where they are."""
+    call can apply a filter to many; the view keeps the bytes where they are.
 
-    __slots__ = ("view", "at", "structs", "memory", "end", "next")
+    A signal handler may take packets of the same capture: between a test of `next` and the assignment there is no call, in which
+    a handler could run."""
+
+    __slots__ = ("view", "at", "structs", "memory", "end", "next", "count")
 
     def __init__(self, view, at, structs, end):
-        self.view, self.at, self.structs, self.end, self.next = view, at, structs, end, 0
+        self.view, self.at, self.structs, self.end, self.next, self.count = view, at, structs, end, 0, len(structs)
         self.memory = memoryview(structs).cast("B") if len(structs) else b""
 
     def __iter__(self):
         return self
 
     def __next__(self):
-        if self.next == len(self.structs):
+        index = self.next
+        if index == self.count:
             self._stop()
+        self.next = index + 1
+        return self._packet(index)
+
+    def _packet(self, index):
         (address, packet_len, seconds, nanoseconds, original_len, link_type, has_time, has_fcs_len,
-         fcs_len) = _captured(self.memory, self.next * _SIZE)
-        self.next += 1
+         fcs_len) = _captured(self.memory, index * _SIZE)
         start = address - self.at if packet_len else 0
         return _new(Captured, (self.view[start:start + packet_len], seconds * 10**9 + nanoseconds if has_time else None, link_type,
                                original_len, fcs_len if has_fcs_len else None))
@@ -153,19 +160,22 @@ class _Packets:
 
     def selected(self, read):
         """The remaining packets that a filter selects."""
-        while self.next < len(self.structs):
+        while self.next < self.count:
             first = self.next
-            count = min(_AT_ONCE, len(self.structs) - first)
+            count = min(_AT_ONCE, self.count - first)
             packets = C.cast(C.byref(self.structs, first * _SIZE), C.POINTER(_library.Captured))
             marks = (C.c_uint8 * count)()
             required(lib.etherpeel_filter_select(read, packets, count, marks, count))
             found = bytes(marks)
             at = found.find(1)
             while at >= 0:
-                self.next = first + at
-                yield next(self)
-                at = found.find(1, self.next - first)  # where the caller took others meanwhile, after these
-            self.next = max(self.next, first + count)
+                index = first + at
+                if self.next <= index:  # else others took it meanwhile
+                    self.next = index + 1
+                    yield self._packet(index)
+                at = found.find(1, self.next - first)
+            if self.next < first + count:
+                self.next = first + count
         try:
             self._stop()
         except StopIteration:

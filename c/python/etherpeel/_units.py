@@ -1,10 +1,10 @@
 """The units of a frame, read from the bytes that one call of the library writes.
 
-The memory that the call writes to is kept, one for each thread.
+The memory that the call writes to is kept for a later one. No two calls have the same at a time: neither those of other threads,
+nor one that a signal handler or `__del__` makes while another is being read.
 """
 import ctypes as C
 import struct
-import threading
 
 from . import _library
 from ._library import reader
@@ -15,15 +15,7 @@ _TAGS = 3  # the call reads no more tags
 _SHORT = 9_216  # a jumbo frame of Ethernet
 
 
-class _Room(threading.local):
-    """The struct that is written to, and its bytes."""
-
-    def __init__(self):
-        headers = _library.Headers()
-        self.target, self.bytes = C.byref(headers), memoryview(headers).cast("B")
-
-
-_room = _Room()
+_idle = []  # what no call has: `pop` and `append` are atomic
 _call = _library.CALLS["packet"]
 _head = reader(_library.Unit, ("offset", "header_len", "payload_start", "payload_end", "kind", "closed"))
 _ethernet2, _linux_sll, _vlan, _macsec, _arp = (
@@ -44,11 +36,27 @@ def bytes_of(frame):
     return None
 
 
+def _room():
+    """A struct to write to, and its bytes."""
+    headers = _library.Headers()
+    return C.byref(headers), memoryview(headers).cast("B")
+
+
 def units_of(frame, start, ether_type):
     """The units of a frame in `bytes`; None if one is refused, or if there may be more tags than the call reads."""
-    room = _room
-    memory = room.bytes
-    if _call(start, ether_type, frame, len(frame), room.target) or _fault(memory)[0]:
+    try:
+        room = _idle.pop()
+    except IndexError:
+        room = _room()
+    try:
+        return _units_in(room, frame, start, ether_type)
+    finally:
+        _idle.append(room)
+
+
+def _units_in(room, frame, start, ether_type):
+    target, memory = room
+    if _call(start, ether_type, frame, len(frame), target) or _fault(memory)[0]:
         return None
     units, tags, at = [], 0, 0
     for _ in range(_found(memory)[0]):
