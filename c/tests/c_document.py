@@ -11,6 +11,28 @@ import subprocess
 import sys
 
 TOP = os.path.dirname(os.path.dirname(os.path.dirname(os.path.abspath(__file__))))
+WARNINGS = ["-std=c99", "-D_DEFAULT_SOURCE", "-Wall", "-Wextra", "-Werror", f"-I{TOP}/c", "-x", "c"]
+# What is printed of a frame that is moved to the VLAN 7: tags of IEEE 802.1Q, 9.6, with the drop eligible indicator or without.
+MOVED = {
+    "88a8b005 0800 45": "88a8b007 0800 45",
+    "8100a005 0800 45": "8100a007 0800 45",
+    "9100ffff 8100e005 0800 45": "9100f007 8100e005 0800 45",
+    "8100e000 0800 45": "8100e007 0800 45",
+    "0800 45": "81000007 0800 45",
+    "88e5 0003 00000001 0800 45": "81000007 88e5 0003 00000001 0800 45",
+}
+MOVING = """
+#include <stdio.h>
+int main(int argc, char **argv) {
+    uint8_t buffer[100] = {0};
+    size_t len = 4;
+    for (const char *at = argv[argc - 1]; *at; at += 2, len++)
+        sscanf(at, "%2hhx", &buffer[len]);
+    const uint8_t *moved = move_to_vlan(buffer, len, 7);
+    while (moved && moved < buffer + len) printf("%02x", *moved++);
+    return moved == NULL || move_to_vlan(buffer, len, 4096) != NULL;
+}
+"""
 cc, library, work = sys.argv[1:]
 clone, bin = f"{work}/clone", f"{work}/bin"
 counts = {True: 0, False: 0}
@@ -70,6 +92,17 @@ def run(commands):
     return said
 
 
+def moves(code):
+    """Runs the example that moves a frame to another VLAN."""
+    path, addresses = f"{work}/moves", "ffffffffffff020000000001"
+    done = subprocess.run([cc, *WARNINGS, "-o", path, "-", "-x", "none", library], input=code + MOVING, capture_output=True, text=True)
+    check("move_to_vlan is built", done.returncode == 0, done.stderr)
+    for frame, wanted in MOVED.items() if done.returncode == 0 else ():
+        ran = subprocess.run([path, addresses + frame.replace(" ", "")], stdout=subprocess.PIPE, text=True)
+        found = (ran.stdout, ran.returncode)
+        check(f"{frame} in the VLAN 7", found == (addresses + wanted.replace(" ", ""), 0), found)
+
+
 def main():
     copy()
     program("python3", f'exec "{sys.executable}" "$@"')
@@ -97,9 +130,9 @@ def main():
     for i, text in expected.items():
         check(f"after {commands[i]}", i < len(said) and said[i].endswith(text), said[i] if i < len(said) else "")
     for code in codes:
-        done = subprocess.run([cc, "-std=c99", "-D_DEFAULT_SOURCE", "-Wall", "-Wextra", "-Werror", f"-I{TOP}/c", "-x", "c", "-c",
-                               "-o", os.devnull, "-"], input=code, capture_output=True, text=True)
+        done = subprocess.run([cc, *WARNINGS, "-c", "-o", os.devnull, "-"], input=code, capture_output=True, text=True)
         check("an example in C", done.returncode == 0, done.stderr)
+    moves(*(code for code in codes if "move_to_vlan" in code))
     print(f"{counts[True]} passed, {counts[False]} failed")
 
 
