@@ -56,6 +56,17 @@ def cargo_version():
     return tuple(int(it) for it in re.search(r"(\d+)\.(\d+)", text).groups()), text
 
 
+def oldest_rustc():
+    """A compiler of the oldest version that the crates are for, as Debian's rustc-web is; None if there is none."""
+    for folder in [*os.get_exec_path(), "/usr/bin"]:
+        path = os.path.join(folder, "rustc")
+        if os.access(path, os.X_OK):
+            text = subprocess.run([path, "--version"], stdout=subprocess.PIPE, stderr=subprocess.DEVNULL, text=True).stdout
+            if text.startswith("rustc {}.{}.".format(*OLDEST)):
+                return path
+    return None
+
+
 def has_clippy():
     return subprocess.run(["cargo", "clippy", "--version"], capture_output=True).returncode == 0
 

@@ -4,8 +4,9 @@
 
 The script refuses each source of cases/refused.txt, and makes of each source of cases/taken.txt what stands there.
 What is committed is what it makes. With cargo the crate is built, its tests and examples are run, lints and
-documentation have no warning, and drawn frames are compared with a second walk (drawn.py). What is left out is said,
-and why. The last line is 'N passed, M failed'.
+documentation have no warning, and drawn frames are compared with a second walk (drawn.py). With a compiler of the oldest
+version that the crates are for, all targets are checked by it. What is left out is said, and why. The last line is
+'N passed, M failed'.
 """
 import os
 import re
@@ -72,11 +73,16 @@ def steps():
     """The calls of cargo: the folder, the words and the environment of each. `c/test.sh` tests the calls for C."""
     yield building.CRATE, ["build"], {}
     yield building.CRATE, ["test"], {}
-    folders = {building.CRATE: ["--all-targets"], building.CALLS: [], building.PROGRAMS: []}
+    folders = {building.CRATE: ["--all-targets"], building.CALLS: [], building.PROGRAMS: ["--all-targets"]}
     if why := building.missing(building.PROGRAMS):
         print(f"left out: the lints and the documentation of the programs, since {why}")
         del folders[building.PROGRAMS]
+    oldest, version = building.oldest_rustc(), "{}.{}".format(*building.OLDEST)
+    if not oldest:
+        print(f"left out: what the oldest compiler makes of the crates, since no rustc {version} was found")
     for folder, targets in folders.items():
+        if oldest:
+            yield folder, ["check", *targets, "--target-dir", f"target/{version}"], {"RUSTC": oldest}
         if building.has_clippy():
             yield folder, ["clippy", *targets, "--", "-D", "warnings"], {}
         else:
@@ -96,7 +102,8 @@ def cargo_counts():
         if wrong:
             print(text[-4000:])
         said = f", {well} tests passed, {ill} failed" if counts else ""
-        print(f"{os.path.basename(folder)}: cargo {words[0]}: {'failed' if wrong else 'passed'}{said}", flush=True)
+        by = f" with {environment['RUSTC']}" if "RUSTC" in environment else ""
+        print(f"{os.path.basename(folder)}: cargo {words[0]}{by}: {'failed' if wrong else 'passed'}{said}", flush=True)
         passed, failed = passed + well + (not wrong), failed + ill + wrong
     return passed, failed
 
