@@ -5,6 +5,7 @@ import resource
 import subprocess
 import tempfile
 from dataclasses import dataclass
+from functools import partial
 
 from made_captures import (
     CLASSIC, COOKED, CUT_PACKET, DISK_IS_FULL, ETHERNET, INPUT, LOOPBACK_V1, NO_FILE, OBSOLETE, SECTIONS, SECTION_HEADER, SELECTED, SIX,
@@ -275,45 +276,45 @@ def copied_in_pieces(program, words, capture, step):
 
 def copies(program):
     """Each copy, and each again of what was written; some in pieces, and with options in another order."""
-    tried = []
     for it in COPIES:
         wanted = (it.copy, it.text, it.status)
-        tried.append((f"a copy: {it.name}", copied(program, ["--write", *it.words], it.capture), wanted))
+        yield f"a copy: {it.name}", partial(copied, program, ["--write", *it.words], it.capture), wanted
         if it.words[:1] == ["--select"]:
-            tried.append((f"a copy after its filter: {it.name}", copied(program, [*it.words, "--write"], it.capture), wanted))
+            yield f"a copy after its filter: {it.name}", partial(copied, program, [*it.words, "--write"], it.capture), wanted
         if it.copy:
             words = [] if {POP, PUSH, SET} & set(it.words) else it.words  # with another tag less, or with no match, it is another copy
-            tried.append((f"a copy of it: {it.name}", copied(program, ["--write", *words], it.copy), (it.copy, "", 0)))
+            yield f"a copy of it: {it.name}", partial(copied, program, ["--write", *words], it.copy), (it.copy, "", 0)
         if len(it.capture) < 500 and it.status == 0:
             for step in (1, 7, 59):
-                found = copied_in_pieces(program, ["--write", *it.words], it.capture, step)
-                tried.append((f"a copy in pieces of {step}: {it.name}", found, wanted))
-    return tried
+                yield f"a copy in pieces of {step}: {it.name}", partial(copied_in_pieces, program, ["--write", *it.words], it.capture, step), wanted
+
+
+def copied_twice(program, first, second, capture):
+    """What an expression selects from the copy of what another one selects."""
+    between, _, _ = copied(program, ["--write", "--select", first], capture)
+    return copied(program, ["--write", "--select", second], between)
 
 
 def copies_of_copies(program):
     """Packets that are selected from a copy of selected packets, and those that both expressions select at once."""
-    tried = []
     texts = ["vlan", "not arp", "refused or cut", "greater 46"]
     for number, capture in enumerate((classic(*SIX), SECTIONS, WITH_FCS, CLASSIC)):
         for first in texts:
-            between, _, _ = copied(program, ["--write", "--select", first], capture)
             for second in texts:
-                twice = copied(program, ["--write", "--select", second], between)
-                both = copied(program, ["--write", "--select", f"({first}) and ({second})"], capture)
-                tried.append((f"capture {number}: {second!r} of {first!r}", twice, both))
-                if first == second:
-                    tried.append((f"capture {number}: {first!r} again", twice, (between, "", 0)))
-    return tried
+                twice = partial(copied_twice, program, first, second, capture)
+                both = partial(copied, program, ["--write", "--select", f"({first}) and ({second})"], capture)
+                yield f"capture {number}: {second!r} of {first!r}", twice, both
+            again = partial(copied, program, ["--write", "--select", first], capture)
+            yield f"capture {number}: {first!r} again", partial(copied_twice, program, first, first, capture), again
 
 
 def long_copy_in_pieces(program):
-    """How many seconds of processor time a copy of a block of 15 MiB takes that comes in pieces of 4 KiB, by the second."""
+    """Whether a block of 15 MiB that comes in pieces of 4 KiB is copied, and in less than a second of processor time."""
     large = secrets(15 << 20, 15 << 20)
     before = resource.getrusage(resource.RUSAGE_CHILDREN)
     found = copied_in_pieces(program, ["--write"], large, 4096)
     after = resource.getrusage(resource.RUSAGE_CHILDREN)
-    return [("a block of 15 MiB in pieces of 4 KiB", (found, after.ru_utime - before.ru_utime < 1), ((large, "", 0), True))]
+    return found == (large, "", 0), after.ru_utime - before.ru_utime < 1
 
 
 def copies_that_fail(program):
@@ -326,10 +327,10 @@ def copies_that_fail(program):
     limit = lambda: resource.setrlimit(resource.RLIMIT_AS, (6 << 20, 6 << 20))  # noqa: E731
     large = secrets(16_777_216, 16_777_216)
     return [
-        ("a copy to a full disk", on_a_full_disk(program, ["--write"], CLASSIC), DISK_IS_FULL),
+        ("a copy to a full disk", partial(on_a_full_disk, program, ["--write"], CLASSIC), DISK_IS_FULL),
         ("a copy that nobody reads", (done.stderr.decode(), done.returncode), ("", 4)),
         ("a copy without standard error", (silent.stdout, silent.returncode), (CLASSIC[:59], 3)),
-        ("a copy without memory", copied(program, ["--write"], large, preexec_fn=limit), (large[:96], INPUT + ": out of memory\n", 5)),
-        ("a copy of a reader that fails", run_until_a_fault(program, ["--write", "--select", "arp"], SECTION_HEADER + ETHERNET + CUT_PACKET + CUT_PACKET[:20]),
+        ("a copy without memory", partial(copied, program, ["--write"], large, preexec_fn=limit), (large[:96], INPUT + ": out of memory\n", 5)),
+        ("a copy of a reader that fails", partial(run_until_a_fault, program, ["--write", "--select", "arp"], SECTION_HEADER + ETHERNET + CUT_PACKET + CUT_PACKET[:20]),
          ((SECTION_HEADER + ETHERNET).decode("latin-1"), 4)),
     ]

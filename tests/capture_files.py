@@ -4,6 +4,7 @@ import gzip
 import os
 import subprocess
 import tempfile
+from functools import partial
 
 from made_captures import (
     CLASSIC, CLASSIC_LINES, DISK_IS_FULL, DOUBLE, FCS_LINES, FIRST_LINES, IS_FOLDER, NO_FILE, ONE_LINES, SECTIONS, SECTION_LINES, SIX, TAGGED_V2,
@@ -77,19 +78,18 @@ def several(program):
         here = os.getcwd()
         os.chdir(folder)
         try:
-            tried = [(f"several files: {name}", run_apart(program, words, CLASSIC), (text, "".join(said), status))
-                     for name, words, text, status, *said in SEVERAL_FILES]
-            found = without_memory(program, b"", ["no", "large", "fcs.pcap"])
+            for name, words, text, status, *said in SEVERAL_FILES:
+                yield f"several files: {name}", partial(run_apart, program, words, CLASSIC), (text, "".join(said), status)
+            found = partial(without_memory, program, b"", ["no", "large", "fcs.pcap"])
             wanted = ONE_LINES + part(FCS_LINES, 1) + totals(3, 0), "no" + NO_FILE + "large: out of memory\n", 5
-            tried.append(("several files, no memory for a block", found, wanted))
-            tried.append(("several files, a full disk", on_a_full_disk(program, ["one.pcap", "two.pcapng"], b""), DISK_IS_FULL))
+            yield "several files, no memory for a block", found, wanted
+            yield "several files, a full disk", partial(on_a_full_disk, program, ["one.pcap", "two.pcapng"], b""), DISK_IS_FULL
             said, status = on_a_full_disk(program, ["no", "none.pcap"], b"")
-            tried.append(("no file and one without packets, a full disk", (said, status), ("no" + NO_FILE + DISK_IS_FULL[0], 4)))
+            yield "no file and one without packets, a full disk", (said, status), ("no" + NO_FILE + DISK_IS_FULL[0], 4)
             gone, end = os.pipe()
             os.close(gone)
             with os.fdopen(end, "wb") as out:
                 done = subprocess.run([program, "one.pcap", "two.pcapng", "no"], stdin=subprocess.DEVNULL, stdout=out, stderr=subprocess.PIPE, check=False)
-            tried.append(("several files that nobody reads", (done.stderr.decode(), done.returncode), ("", 4)))
+            yield "several files that nobody reads", (done.stderr.decode(), done.returncode), ("", 4)
         finally:
             os.chdir(here)
-    return tried

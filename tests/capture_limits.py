@@ -4,6 +4,7 @@ import os
 import subprocess
 import tempfile
 import time
+from functools import partial
 
 from made_captures import CLASSIC, CLASSIC_LINES, NO_FILE, ONE_LINES, SECTIONS, SECTION_LINES, SIX, classic, plain
 from capture_files import part, totals
@@ -25,7 +26,7 @@ def selecting(program):
         "a word that is wrong far behind": (LATE, ("", "--select: At byte 2005: expected a number up to 4095.\n", 2)),
         "blanks alone": (" " * 5_000, ("", "--select: At byte 5000: expected a primitive, `not` or `(`.\n", 2)),
     }
-    return [(name, run_apart(program, ["--select", text], CLASSIC), wanted) for name, (text, wanted) in selected.items()]
+    return [(name, partial(run_apart, program, ["--select", text], CLASSIC), wanted) for name, (text, wanted) in selected.items()]
 
 
 def names(program):
@@ -40,18 +41,18 @@ def names(program):
         one, two = paths
         both = part(CLASSIC_LINES, 0) + part(SECTION_LINES, 2) + totals(6, 1)
         many = "".join(part(CLASSIC_LINES, 2 * i) for i in range(300)) + totals(600, 0)
-        return [
-            ("a long name", run(program, [one], b""), (CLASSIC_LINES, 1)),
-            ("another one, longer alike", run(program, [two], b""), (SECTION_LINES, 1)),
-            ("both", run(program, [one, two], b""), (both, 1)),
-            ("a name of 4,000 bytes", run_apart(program, [LONG_NAME], b""), ("", LONG_NAME + NO_FILE, 4)),
-            ("the same before a file", run_apart(program, ["--plain", LONG_NAME, one], b""), (plain(CLASSIC_LINES), LONG_NAME + NO_FILE, 4)),
-            ("300 files", run(program, [one] * 300, b""), (many, 1)),
+        yield from [
+            ("a long name", partial(run, program, [one], b""), (CLASSIC_LINES, 1)),
+            ("another one, longer alike", partial(run, program, [two], b""), (SECTION_LINES, 1)),
+            ("both", partial(run, program, [one, two], b""), (both, 1)),
+            ("a name of 4,000 bytes", partial(run_apart, program, [LONG_NAME], b""), ("", LONG_NAME + NO_FILE, 4)),
+            ("the same before a file", partial(run_apart, program, ["--plain", LONG_NAME, one], b""), (plain(CLASSIC_LINES), LONG_NAME + NO_FILE, 4)),
+            ("300 files", partial(run, program, [one] * 300, b""), (many, 1)),
         ]
 
 
 def reads(program):
-    """How often it reads a mebibyte that comes through a pipe, which has room for 64 KiB."""
+    """Whether it reads a mebibyte that comes through a pipe, which has room for 64 KiB, in few reads."""
     given = classic(*SIX) + classic(*SIX)[24:] * 4_000
     with subprocess.Popen([program, "--plain"], stdin=subprocess.PIPE, stdout=subprocess.DEVNULL, bufsize=0) as child:
         child.stdin.write(given)
@@ -60,8 +61,10 @@ def reads(program):
             counts = dict(line.split(": ") for line in file)
         child.stdin.close()
     few = 10 + 4 * (len(given) >> 12)
-    return [("reads of at least a page", (len(given) > 1 << 20, int(counts["syscr"]) <= few), (True, True))]
+    return len(given) > 1 << 20, int(counts["syscr"]) <= few
 
 
 def limits(program):
-    return selecting(program) + names(program) + reads(program)
+    yield from selecting(program)
+    yield from names(program)
+    yield "reads of at least a page", partial(reads, program), (True, True)

@@ -7,6 +7,7 @@ import signal
 import subprocess
 import tempfile
 import time
+from functools import partial
 from shutil import which
 
 from made_captures import CLASSIC, CLASSIC_LINES, INPUT, IS_FOLDER, NO_FILE, SIX, classic, record_is_cut
@@ -169,27 +170,30 @@ def to_nobody(program, words, given):
     return ran.stderr.decode(), ran.returncode
 
 
+def first_line(program, words):
+    """How many lines are read of one that is wanted, and what is said meanwhile."""
+    ran = subprocess.run(f"'{program}' {words} | head -n 1", shell=True, input=LONG, capture_output=True, check=False)
+    return ran.stdout.count(b"\n"), ran.stderr
+
+
 def closed_pipes(program):
     """Output that nobody reads, from the start or any more."""
-    heads = {}
     for name, words in (("lines", ""), ("walks", "--plain"), ("selected packets", "--select 'not arp or arp'")):
-        heads[name] = subprocess.run(f"'{program}' {words} | head -n 1", shell=True, input=LONG, capture_output=True, check=False)
-    tried = [(f"the first of the {name}", (ran.stdout.count(b"\n"), ran.stderr), (1, b"")) for name, ran in heads.items()]
+        yield f"the first of the {name}", partial(first_line, program, words), (1, b"")
     for words in ([], ["--plain"], ["--write"], ["-w", "-"], ["--help"], ["--version"], ["-r", "-"], ["/dev/stdin", "/dev/stdin"]):
-        tried.append((f"nobody reads {words}", to_nobody(program, words, CLASSIC), ("", 4)))
-    tried.append(("nobody reads, and a file is not there", to_nobody(program, ["no", "/dev/stdin"], CLASSIC), ("no" + NO_FILE, 4)))
-    tried.append(("nobody reads what is not printed", to_nobody(program, ["no"], CLASSIC), ("no" + NO_FILE, 4)))
-    tried.append(("nobody reads lines, and a record is cut", to_nobody(program, [], CLASSIC[:120]), ("", 4)))
-    return tried
+        yield f"nobody reads {words}", partial(to_nobody, program, words, CLASSIC), ("", 4)
+    yield "nobody reads, and a file is not there", partial(to_nobody, program, ["no", "/dev/stdin"], CLASSIC), ("no" + NO_FILE, 4)
+    yield "nobody reads what is not printed", partial(to_nobody, program, ["no"], CLASSIC), ("no" + NO_FILE, 4)
+    yield "nobody reads lines, and a record is cut", partial(to_nobody, program, [], CLASSIC[:120]), ("", 4)
 
 
 def interrupted_calls(program):
     """Reads and writes that signals interrupt. They are tried again, so that the run ends as ever."""
     if not which("strace"):
         print("left out: interrupted calls, since there is no strace")
-        return []
-    wanted = [([], "", 1), (["in"], "", 1), (["-r", "in"], "", 1), (["in", "no"], "no" + NO_FILE, 4)]
-    return [(f"interrupted reads and writes {words}", interrupted(program, words, CLASSIC), (CLASSIC_LINES, said, status)) for words, said, status in wanted]
+        return
+    for words, said, status in (([], "", 1), (["in"], "", 1), (["-r", "in"], "", 1), (["in", "no"], "no" + NO_FILE, 4)):
+        yield f"interrupted reads and writes {words}", partial(interrupted, program, words, CLASSIC), (CLASSIC_LINES, said, status)
 
 
 def shown(said):
@@ -203,7 +207,6 @@ def shown(said):
 def progress(program):
     """What is shown of reading, on standard error alone."""
     size = str(len(CLASSIC))
-    tried = []
     with tempfile.TemporaryDirectory() as folder:
         filled(folder, {"one": CLASSIC, "cut": CLASSIC[:120]})
         for words, given, text, status, wanted in (
@@ -212,11 +215,16 @@ def progress(program):
             (["cut", "-w", "new"], b"", "", 3, (1, ("120", "120"), "cut" + record_is_cut(59, 62, 61))),
         ):
             found = run_apart(program, ["--progress", *words], given, cwd=folder)
-            tried.append((f"--progress {words}", (found[0], shown(found[1]), found[2]), (text, wanted, status)))
+            yield f"--progress {words}", (found[0], shown(found[1]), found[2]), (text, wanted, status)
         found = run_apart(program, ["--progress", "--plain", "cut", "no", "one"], b"", cwd=folder)
         lines = [line.rpartition("\r")[2].split(",")[0] for line in found[1].split("\n")]
         said = ["120 of 120 bytes", *("cut" + record_is_cut(59, 62, 61) + "no" + NO_FILE).splitlines(), f"{size} of {size} bytes", ""]
-        tried.append(("--progress of several files", (lines, found[2]), (said, 4)))
+        yield "--progress of several files", (lines, found[2]), (said, 4)
+    yield "--progress of a second", partial(slow_progress, program), (True, ((str(len(LONG)), None), ""))
+
+
+def slow_progress(program):
+    """Whether reading for a second is shown twice to five times a second, and what is shown last."""
     begun = time.monotonic()
     slow = subprocess.Popen([program, "--progress", "--plain"], stdin=subprocess.PIPE, stdout=subprocess.DEVNULL, stderr=subprocess.PIPE, bufsize=0)
     with slow as child:
@@ -226,14 +234,12 @@ def progress(program):
         child.stdin.close()
         said = child.stderr.read().decode()
     most = 5 * (time.monotonic() - begun) + 2
-    tried.append(("--progress of a second", (2 <= said.count("\r") <= most, shown(said)[1:]), (True, ((str(len(LONG)), None), ""))))
-    return tried
+    return 2 <= said.count("\r") <= most, shown(said)[1:]
 
 
 def streams(program):
-    tried = [("a copy to standard output by its name", copied(program, ["-w", "-"], CLASSIC), (CLASSIC, "", 0))]
+    yield "a copy to standard output by its name", partial(copied, program, ["-w", "-"], CLASSIC), (CLASSIC, "", 0)
     for name, words, given, files, text, said, status, changed in COPIES + READS:
-        found = done(program, words, given, files)
-        tried.append((f"-w or -r: {name}", found, (text, said, status, {**files, **changed})))
-    others = (files_too_large, files_of_others, protected_files, links, killed_runs, modes, closed_pipes, interrupted_calls, progress)
-    return [*tried, *(it for tests in others for it in tests(program))]
+        yield f"-w or -r: {name}", partial(done, program, words, given, files), (text, said, status, {**files, **changed})
+    for more in (files_too_large, files_of_others, protected_files, links, killed_runs, modes, closed_pipes, interrupted_calls, progress):
+        yield from more(program)

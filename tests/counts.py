@@ -7,6 +7,7 @@ import json
 import os
 import subprocess
 import tempfile
+from functools import partial
 from shutil import which
 
 from made_captures import CLASSIC, INPUT, classic, joined, record_is_cut
@@ -70,20 +71,24 @@ def as_objects(text):
     return [{"column": column, "value": value, "packets": int(packets), "bytes": int(size)} for column, value, packets, size in rows]
 
 
+def objects(program, words, capture):
+    """The objects of JSON that are counted, what is said, and the status."""
+    out, said, status = run_apart(program, ["--stats", "--format", "json", *words], capture)
+    return [json.loads(line) for line in out.splitlines()], said, status
+
+
 def examples(program):
     """Returns what was tried, as (name, found, expected)."""
-    tried = []
     for name, capture, words, status, text in COUNTS:
-        tried.append((f"counts: {name}", run_apart(program, ["--stats", *words], capture), (text, "", status)))
+        yield f"counts: {name}", partial(run_apart, program, ["--stats", *words], capture), (text, "", status)
         if "--format" not in words:
-            out, err, code = run_apart(program, ["--stats", "--format", "json", *words], capture)
-            tried.append((f"counts as JSON: {name}", ([json.loads(line) for line in out.splitlines()], err, code), (as_objects(text), "", status)))
+            yield f"counts as JSON: {name}", partial(objects, program, words, capture), (as_objects(text), "", status)
     line = '{"column":"vlan.vid","value":"291","packets":1,"bytes":46}\n'
-    found = run_apart(program, ["--stats", "--format", "json", "--fields", "vlan.vid", "--select", "vlan 291"], CLASSIC)
-    tried.append(("counts as JSON, byte for byte", found, ('{"column":"total","value":"","packets":1,"bytes":46}\n' + line, "", 0)))
-    tried.append(("counts up to a cut record", run_apart(program, ["--stats", "--fields", "vlan.vid"], TAGS[:82]),
-                  ("total\t\t1\t24\nvlan.vid\t1,5\t1\t24\n", INPUT + record_is_cut(64, 30, 18), 3)))
-    return tried + files(program)
+    found = partial(run_apart, program, ["--stats", "--format", "json", "--fields", "vlan.vid", "--select", "vlan 291"], CLASSIC)
+    yield "counts as JSON, byte for byte", found, ('{"column":"total","value":"","packets":1,"bytes":46}\n' + line, "", 0)
+    yield ("counts up to a cut record", partial(run_apart, program, ["--stats", "--fields", "vlan.vid"], TAGS[:82]),
+           ("total\t\t1\t24\nvlan.vid\t1,5\t1\t24\n", INPUT + record_is_cut(64, 30, 18), 3))
+    yield from files(program)
 
 
 def files(program):

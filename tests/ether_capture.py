@@ -1,17 +1,20 @@
 """Tests what `ether_capture` prints and how it ends, with nothing but Python.
 
-    python3 tests/ether_capture.py PROGRAM
+    python3 tests/ether_capture.py PROGRAM [WORD]
 
-PROGRAM is the built program. The captures were written by hand and checked with tshark. The last line is 'N passed, M failed'.
+PROGRAM is the built program, WORD one that the names of the cases have which are run, all if it is left out. The captures were written by hand and checked with tshark. The last line is 'N passed, M failed'.
 """
 
+import argparse
 import bz2
 import gzip
+import itertools
 import os
 import subprocess
 import sys
 import tempfile
 from dataclasses import dataclass
+from functools import partial
 
 from made_captures import (
     CLASSIC, CLASSIC_LINES, CUT_PACKET, DISK_IS_FULL, DOUBLE, ENHANCED, FCS_LINES, FIRST_LINES, INNER, INPUT, IS_FOLDER, LOOPBACK_V1, MACS, NO_FILE,
@@ -190,13 +193,15 @@ CASES += [
 
 
 def selections(program):
-    """The packets of the six that each expression selects, by the numbers in their lines."""
-    tried = []
+    """The packets of the six that each expression selects."""
     for text, wanted in SELECTED.items():
-        lines, status = run(program, ["--select", text], classic(*SIX))
-        found = tuple(int(line.split()[1]) for line in lines.splitlines() if line.startswith("frame"))
-        tried.append((f"--select {text!r}", (found, lines.splitlines()[-1:], status), (wanted, ["total frames 6 skipped 0 undecided 0"], 0)))
-    return tried
+        yield f"--select {text!r}", partial(selected, program, text), (wanted, ["total frames 6 skipped 0 undecided 0"], 0)
+
+
+def selected(program, text):
+    """The packets of the six that an expression selects, by the numbers in their lines; the last line, and the status."""
+    lines, status = run(program, ["--select", text], classic(*SIX))
+    return tuple(int(line.split()[1]) for line in lines.splitlines() if line.startswith("frame")), lines.splitlines()[-1:], status
 
 
 CASES += [
@@ -396,7 +401,7 @@ def wrong_words_alone(program):
     """Wrong words if standard output is full, or there is no standard error."""
     silent = subprocess.run([program, "--plane"], stdin=subprocess.DEVNULL, stdout=subprocess.PIPE, preexec_fn=lambda: os.close(2), check=False)
     return [
-        ("wrong words on a full disk", on_a_full_disk(program, ["--plane"], b""), (unknown("--plane"), 2)),
+        ("wrong words on a full disk", partial(on_a_full_disk, program, ["--plane"], b""), (unknown("--plane"), 2)),
         ("wrong words without standard error", (silent.stdout, silent.returncode), (b"", 2)),
     ]
 
@@ -434,54 +439,72 @@ def reasons(program):
     """What standard error says of streams that fail, and of a file that is forbidden."""
     return [
         ("a folder as the input", run_on_a_folder(program).stderr.decode(), "ether_capture: standard input: Is a directory (os error 21)\n"),
-        ("a file that may not be read", run_forbidden(program), ("", "FILE: can't be opened: permission denied\n", 4)),
+        ("a file that may not be read", partial(run_forbidden, program), ("", "FILE: can't be opened: permission denied\n", 4)),
     ]
 
 
-def main():
-    program = os.path.realpath(sys.argv[1])
-    tried = [(case.name, run_apart(program, case.words, case.capture), (case.text, case.said, case.status)) for case in CASES]
-    for cases, steps in ((CASES[:6], (1, 2, 3, 7, 16, 59, 64)), (LONG, (1_000, 65_537))):
-        for case in cases:
-            for step in steps:
-                found = run_apart(program, case.words, case.capture, step)
-                tried.append((f"{case.name} in pieces of {step}", found, (case.text, case.said, case.status)))
-    one = FIRST_LINES + "total frames 1 skipped 0\n", 1
-    tried.append(("one packet of a capture that goes on", before_the_end(program, ["-c", "1"], CLASSIC[:59]), one))
-    tried.append(("a reader that fails", run_until_a_fault(program, [], CLASSIC[:59]), (FIRST_LINES, 4)))
+def in_files(program):
+    """The first captures as files, and filters of files."""
     with tempfile.TemporaryDirectory() as folder:
+        name = os.path.join(folder, "a capture")
         for case in CASES[:6]:
-            name = os.path.join(folder, "a capture")
             with open(name, "wb") as file:
                 file.write(case.capture)
             for words in ([*case.words, name], [name, *case.words], [*case.words, "--", name]):
-                tried.append((f"{case.name} from a file, {words}", run(program, words, b""), (case.text, case.status)))
+                yield f"{case.name} from a file, {words}", partial(run, program, words, b""), (case.text, case.status)
         name = os.path.join(folder, "six")
         with open(name, "wb") as file:
             file.write(classic(*SIX))
         wanted = run(program, ["--plain", "--select", "arp"], classic(*SIX))
-        tried.append(("standard input by its name", run(program, ["--plain", "--select", "arp", "-"], classic(*SIX)), wanted))
-        tried.append(("a filter and a file", run(program, ["--plain", "--select", "arp", name], b""), wanted))
-    tried += [(name, copied(program, words, CLASSIC), (b"", text, 2)) for name, words, text in WRONG]
-    tried += selections(program)
-    tried += several(program)
-    tried += limits(program)
-    tried += reasons(program)
-    tried += streams(program) + examples(program) + counts(program)
-    tried += copies(program)
-    tried += copies_of_copies(program)
-    tried += copies_that_fail(program)
-    tried += long_copy_in_pieces(program)
-    tried += wrong_words_alone(program)
+        yield "standard input by its name", partial(run, program, ["--plain", "--select", "arp", "-"], classic(*SIX)), wanted
+        yield "a filter and a file", partial(run, program, ["--plain", "--select", "arp", name], b""), wanted
+
+
+def helps(program):
+    """The usage and the version, by all words that ask for them."""
     help_text, status = run(program, ["--help"], CLASSIC)
-    tried.append(("the usage", (help_text[: len(USAGE)], status), (USAGE, 0)))
-    tried += [(f"help by {words}", run(program, words, CLASSIC), (help_text, 0)) for words in (["-h"], ["--plain", "--help"], ["one", "-h", "two"])]
-    tried += [(f"the version by {words}", run(program, words, CLASSIC), ("ether_capture 3.0.0\n", 0)) for words in (["-V"], ["one", "--version"])]
-    tried += [(f"one packet by {words}", run(program, words, CLASSIC), one) for words in (["-c1"], ["-c=1"])]
-    tried.append(("no memory for a block", without_memory(program, secrets(16_777_216, 16_777_216)), (ONE_LINES, INPUT + ": out of memory\n", 5)))
+    yield "the usage", (help_text[: len(USAGE)], status), (USAGE, 0)
+    for words in (["-h"], ["--plain", "--help"], ["one", "-h", "two"]):
+        yield f"help by {words}", partial(run, program, words, CLASSIC), (help_text, 0)
+    for words in (["-V"], ["one", "--version"]):
+        yield f"the version by {words}", partial(run, program, words, CLASSIC), ("ether_capture 3.0.0\n", 0)
+
+
+def alone(program):
+    """Single packets, readers that fail, and where there is no memory or no disk."""
+    one = FIRST_LINES + "total frames 1 skipped 0\n", 1
+    yield "one packet of a capture that goes on", partial(before_the_end, program, ["-c", "1"], CLASSIC[:59]), one
+    for words in (["-c1"], ["-c=1"]):
+        yield f"one packet by {words}", partial(run, program, words, CLASSIC), one
+    yield "a reader that fails", partial(run_until_a_fault, program, [], CLASSIC[:59]), (FIRST_LINES, 4)
+    large = secrets(16_777_216, 16_777_216)
+    yield "no memory for a block", partial(without_memory, program, large), (ONE_LINES, INPUT + ": out of memory\n", 5)
     for words in ([], ["--plain"], ["--help"]):
-        tried.append((f"a full disk, {words}", on_a_full_disk(program, words, CLASSIC), DISK_IS_FULL))
-    return count(tried)
+        yield f"a full disk, {words}", partial(on_a_full_disk, program, words, CLASSIC), DISK_IS_FULL
+    yield "a block of 15 MiB in pieces of 4 KiB", partial(long_copy_in_pieces, program), (True, True)
+
+
+def tried(program):
+    """All cases: the name of each, what is found, and what is wanted."""
+    for case in CASES:
+        yield case.name, partial(run_apart, program, case.words, case.capture), (case.text, case.said, case.status)
+    for cases, steps in ((CASES[:6], (1, 2, 3, 7, 16, 59, 64)), (LONG, (1_000, 65_537))):
+        for case, step in itertools.product(cases, steps):
+            found = partial(run_apart, program, case.words, case.capture, step)
+            yield f"{case.name} in pieces of {step}", found, (case.text, case.said, case.status)
+    for name, words, text in WRONG:
+        yield name, partial(copied, program, words, CLASSIC), (b"", text, 2)
+    for more in (in_files, selections, several, limits, reasons, streams, examples, counts, copies, copies_of_copies, copies_that_fail,
+                 wrong_words_alone, helps, alone):
+        yield from more(program)
+
+
+def main():
+    words = argparse.ArgumentParser(description=__doc__, formatter_class=argparse.RawDescriptionHelpFormatter)
+    words.add_argument("program", metavar="PROGRAM")
+    words.add_argument("word", metavar="WORD", nargs="?", default="")
+    given = words.parse_args()
+    return count(tried(os.path.realpath(given.program)), given.word)
 
 
 if __name__ == "__main__":

@@ -1,15 +1,17 @@
 """Tests what `ether_tool` prints and how it ends, with nothing but Python.
 
-    python3 tests/ether_tool.py PROGRAM
+    python3 tests/ether_tool.py PROGRAM [WORD]
 
-PROGRAM is the built program. What is expected was not taken from it: a separate script unpacked the fields in the order of the
+PROGRAM is the built program, WORD one that the names of the cases have which are run, all if it is left out. What is expected was not taken from it: a separate script unpacked the fields in the order of the
 standards, and printed them; lengths that a reader asks for were counted by hand. The captured frames are those of the libraries'
 tests; tshark shows the same fields of them. The last line is 'N passed, M failed'.
 """
 
+import argparse
 import os
 import sys
 from dataclasses import dataclass
+from functools import partial
 
 from programs import count, run, run_in_pieces, run_until_a_fault, on_a_full_disk
 
@@ -462,31 +464,37 @@ LONG = [
 ]
 
 
-def main():
-    program = os.path.realpath(sys.argv[1])
-    tried = []
+def tried(program):
+    """All cases: the name of each, what is found, and what is wanted."""
     for case in FORMATS + FED + LIMITED + LINES + WORDS + LONG:
-        tried.append((case.name, run(program, case.words.split(), case.lines.encode()), (case.text, case.status)))
+        yield case.name, partial(run, program, case.words.split(), case.lines.encode()), (case.text, case.status)
     for cases, steps in ((LINES, (1, 2, 17, 4096, 4097)), (LONG, (4098, 65_537))):
         for case in cases:
             for step in steps if len(case.lines) < 4096 or steps[0] > 1 else steps[3:]:
-                found = run_in_pieces(program, case.words.split(), case.lines.encode(), step)
-                tried.append((f"{case.name} in pieces of {step}", found, (case.text, case.status)))
-    tried.append(("no words", run(program, [], TAGGED.encode()), (TAGGED_TEXT, 0)))
+                found = partial(run_in_pieces, program, case.words.split(), case.lines.encode(), step)
+                yield f"{case.name} in pieces of {step}", found, (case.text, case.status)
+    yield "no words", partial(run, program, [], TAGGED.encode()), (TAGGED_TEXT, 0)
     for words in OTHER_WORDS:
-        tried.append((f"words {words}", run(program, words, TAGGED.encode()), (USAGE, 2)))
-    tried.append(("a word that is no text", run(program, [b"\xff"], TAGGED.encode()), ("", 4)))
+        yield f"words {words}", partial(run, program, words, TAGGED.encode()), (USAGE, 2)
+    yield "a word that is no text", partial(run, program, [b"\xff"], TAGGED.encode()), ("", 4)
     for length in range(len(MIXED.lines)):
-        found = run_until_a_fault(program, ["eth"], MIXED.lines[:length].encode())
-        tried.append((f"a reader that fails after {length} bytes", found, ("".join(whole_lines(length)), 4)))
+        found = partial(run_until_a_fault, program, ["eth"], MIXED.lines[:length].encode())
+        yield f"a reader that fails after {length} bytes", found, ("".join(whole_lines(length)), 4)
     for words in (["eth"], ["feed"], ["ether"]):
-        tried.append((f"a full disk, {words}", on_a_full_disk(program, words, TAGGED.encode()), DISK_IS_FULL))
-    return count(tried)
+        yield f"a full disk, {words}", partial(on_a_full_disk, program, words, TAGGED.encode()), DISK_IS_FULL
 
 
 def whole_lines(length):
     """The texts of the lines of `MIXED` that end within its first bytes."""
     return [TAGGED_TEXT, EMPTY_TEXT][:MIXED.lines[:length].count("\n")]
+
+
+def main():
+    words = argparse.ArgumentParser(description=__doc__, formatter_class=argparse.RawDescriptionHelpFormatter)
+    words.add_argument("program", metavar="PROGRAM")
+    words.add_argument("word", metavar="WORD", nargs="?", default="")
+    given = words.parse_args()
+    return count(tried(os.path.realpath(given.program)), given.word)
 
 
 if __name__ == "__main__":

@@ -9,6 +9,7 @@ import random
 import re
 import subprocess
 import tempfile
+from functools import partial
 from shutil import which
 
 from made_captures import CLASSIC, INPUT, SECTIONS, SIX, WITH_FCS, block, classic, cooked, interface, joined, record_is_cut
@@ -229,53 +230,69 @@ MOMENTS = [
 ]
 
 
+def objects(program, words, capture):
+    """The objects of JSON that are printed, and the status."""
+    text, status = run(program, words, capture)
+    return [json.loads(line) for line in text.splitlines()], status
+
+
+def members(program, words, capture, name):
+    """This member of each object."""
+    return [it[name] for it in objects(program, words, capture)[0]]
+
+
+def found_in_lines(program, words, capture, form):
+    """What the first group of the form is, in each line that has it."""
+    text, _ = run(program, words, capture)
+    return [told[1] for told in (re.search(form, line) for line in text.splitlines()) if told]
+
+
+def second_words(program, words, capture):
+    return [line.split()[1] for line in run(program, words, capture)[0].splitlines()]
+
+
 def examples(program):
     """Whole lines, and their members."""
-    tried = []
     for name, capture, status, packets in PACKETS:
-        text, ended = run(program, JSON, capture)
-        found = [json.loads(line) for line in text.splitlines()]
-        tried.append((f"{name} as JSON", (found, ended), (packets, status)))
+        yield f"{name} as JSON", partial(objects, program, JSON, capture), (packets, status)
         # keys stand in this order, without spaces, and each object on a line of its own
         lines = "".join(json.dumps(it, separators=(",", ":")) + "\n" for it in packets)
-        tried.append((f"{name} as JSON, byte for byte", text, lines))
-        tried.append((f"{name} for the eye", run(program, BRIEF, capture), ("".join(f"{it}\n" for it in BRIEF_LINES[name]), status)))
+        yield f"{name} as JSON, byte for byte", partial(run, program, JSON, capture), (lines, status)
+        yield f"{name} for the eye", partial(run, program, BRIEF, capture), ("".join(f"{it}\n" for it in BRIEF_LINES[name]), status)
     for seconds, date in MOMENTS:
         capture = classic() + seconds.to_bytes(4, "big") + joined("0000002a", "00000001" * 2, "00")
-        tried.append((f"the date of {seconds}", json.loads(run(program, JSON, capture)[0])["time"], f"{date}.000042000Z"))
-        tried.append((f"the date of {seconds} for the eye", run(program, BRIEF, capture)[0].split()[1], f"{date}.000042Z"))
+        yield f"the date of {seconds}", partial(members, program, JSON, capture, "time"), [f"{date}.000042000Z"]
+        yield f"the date of {seconds} for the eye", partial(second_words, program, BRIEF, capture), [f"{date}.000042Z"]
     for words, form, wanted in LATE_TIMES:
-        text, _ = run(program, words, LATE)
-        found = [told[1] for told in (re.search(form, line) for line in text.splitlines()) if told]
-        tried.append((f"late times {words}", found, wanted))
+        yield f"late times {words}", partial(found_in_lines, program, words, LATE, form), wanted
     for words, end in BRIEF_ENDS:
-        text, _ = run(program, BRIEF, classic(joined("ffffffffffff 020000000001", words)))
-        tried.append((f"{words} for the eye", text, f"1 2023-11-14T22:13:20.000000Z 02:00:00:00:00:01 > {BROADCAST} {end}\n"))
+        capture, line = classic(joined("ffffffffffff 020000000001", words)), f"1 2023-11-14T22:13:20.000000Z 02:00:00:00:00:01 > {BROADCAST} {end}\n"
+        yield f"{words} for the eye", lambda given=capture: run(program, BRIEF, given)[0], line
     for name, capture, columns, status, rows in ROWS:
         lines = "".join(f"{it}\n" for it in rows)
-        tried.append((f"{name} in columns", run(program, ["--fields", columns], capture), (lines, status)))
+        yield f"{name} in columns", partial(run, program, ["--fields", columns], capture), (lines, status)
         heading = columns.replace(",", "\t") + "\n"
-        tried.append((f"{name} in columns, with their names", run(program, ["--header", "--fields", columns], capture), (heading + lines, status)))
+        yield f"{name} in columns, with their names", partial(run, program, ["--header", "--fields", columns], capture), (heading + lines, status)
     for name, capture, status, packets in PACKETS:
         found = [columns_of(it) for it in packets]
         names = sorted({column for it in found for column in it})
         for at in range(0, len(names), 32):
             some = names[at:at + 32]
             lines = "".join("\t".join(it.get(column, "") for column in some) + "\n" for it in found)
-            tried.append((f"{name} in all columns, from {some[0]} on", run(program, ["--fields", ",".join(some)], capture), (lines, status)))
-    tried.append(("the example of the documentation", run(program, JSON, DOCUMENTED), (DOCUMENTED_LINE, 0)))
+            yield f"{name} in all columns, from {some[0]} on", partial(run, program, ["--fields", ",".join(some)], capture), (lines, status)
+    yield "the example of the documentation", partial(run, program, JSON, DOCUMENTED), (DOCUMENTED_LINE, 0)
     whole = run(program, JSON, CLASSIC)[0]
     first, second = whole.splitlines(keepends=True)
-    tried += [
-        ("JSON of the lines that --format lines prints", run(program, ["--format", "lines"], CLASSIC), run(program, [], CLASSIC)),
-        ("JSON of a limit", [len(json.loads(it)["headers"]) for it in run(program, [*JSON, "--limit", "0"], CLASSIC)[0].splitlines()], [1, 1]),
-        ("JSON of a filter, with numbers of the capture", run(program, [*JSON, "--select", "not refused"], CLASSIC), (second, 0)),
-        ("JSON of one packet", run(program, [*JSON, "-c", "1"], CLASSIC), (first, 1)),
-        ("JSON of no packet", run(program, JSON, CLASSIC[:24]), ("", 0)),
-        ("names of columns without a packet", run(program, ["--header", "--fields", "vlan.vid,eth.src"], CLASSIC[:24]), ("vlan.vid\teth.src\n", 0)),
-        ("columns of a filter", run(program, ["--fields", "frame.number", "--select", "not refused"], CLASSIC), ("2\n", 0)),
-        ("32 columns", run(program, ["--fields", ",".join(["frame.link"] * 32)], CLASSIC), (("\t".join(["1"] * 32) + "\n") * 2, 1)),
-        ("JSON of six", [json.loads(it)["number"] for it in run(program, JSON, classic(*SIX))[0].splitlines()], [1, 2, 3, 4, 5, 6]),
+    yield from [
+        ("JSON of the lines that --format lines prints", partial(run, program, ["--format", "lines"], CLASSIC), run(program, [], CLASSIC)),
+        ("JSON of a limit", lambda: [len(it) for it in members(program, [*JSON, "--limit", "0"], CLASSIC, "headers")], [1, 1]),
+        ("JSON of a filter, with numbers of the capture", partial(run, program, [*JSON, "--select", "not refused"], CLASSIC), (second, 0)),
+        ("JSON of one packet", partial(run, program, [*JSON, "-c", "1"], CLASSIC), (first, 1)),
+        ("JSON of no packet", partial(run, program, JSON, CLASSIC[:24]), ("", 0)),
+        ("names of columns without a packet", partial(run, program, ["--header", "--fields", "vlan.vid,eth.src"], CLASSIC[:24]), ("vlan.vid\teth.src\n", 0)),
+        ("columns of a filter", partial(run, program, ["--fields", "frame.number", "--select", "not refused"], CLASSIC), ("2\n", 0)),
+        ("32 columns", partial(run, program, ["--fields", ",".join(["frame.link"] * 32)], CLASSIC), (("\t".join(["1"] * 32) + "\n") * 2, 1)),
+        ("JSON of six", partial(members, program, JSON, classic(*SIX), "number"), [1, 2, 3, 4, 5, 6]),
     ]
     # of a capture that is cut, whole lines alone
     for end in range(24, len(CLASSIC)):
@@ -283,8 +300,7 @@ def examples(program):
         at, needed = (24, 35 if end >= 40 else 16) if end < 59 else (59, 62 if end >= 75 else 16)
         said = INPUT + record_is_cut(at, needed, end - at) if end not in (24, 59) else ""
         status = 3 if said else (1 if lines else 0)
-        tried.append((f"JSON of {end} bytes", run_apart(program, JSON, CLASSIC[:end]), (lines, said, status)))
-    return tried
+        yield f"JSON of {end} bytes", partial(run_apart, program, JSON, CLASSIC[:end]), (lines, said, status)
 
 
 # ---- the programs of others
@@ -374,7 +390,8 @@ def readers(program):
         tried = [("20,000 objects of JSON", len(packets), 20_000), ("20,000 rows of columns", ours, theirs)]
         words = [word for it in FIELDS for word in ("-e", it)]
         readers_of = {
-            "tshark": (["tshark", "-n", "-r", pcap.name, "-T", "fields", *words], lambda text: [line.split("\t") for line in text.splitlines()], rows),
+            "tshark": (["tshark", "-n", "-r", pcap.name, "-T", "fields", *words], lambda text: [dict(zip(FIELDS, line.split("\t"))) for line in text.splitlines()],
+                       [dict(zip(FIELDS, row)) for row in rows]),
             "jq": (["jq", "-c", "[.number, [.headers[] | select(.header == \"vlan\").vid]]", file.name],
                    lambda text: [json.loads(line) for line in text.splitlines()],
                    [[it["number"], [h["vid"] for h in it["headers"] if h["header"] == "vlan"]] for it in packets]),

@@ -1,10 +1,21 @@
 """What the tests of the programs share: runs of a built program, and the count of those that end as they should."""
 
+import itertools
 import os
 import resource
 import socket
 import subprocess
 import tempfile
+
+SHOWN, WIDTH = 5, 400  # how many differences of a run are printed, and how many characters of each value
+
+
+class _Nothing:
+    def __repr__(self):
+        return "nothing"
+
+
+NOTHING = _Nothing()  # where one of two values ends
 
 
 def run(program, words, given):
@@ -87,12 +98,41 @@ def without_memory(program, capture, words=()):
     return run_apart(program, words, capture, preexec_fn=lambda: resource.setrlimit(resource.RLIMIT_AS, (6 << 20, 6 << 20)))
 
 
-def count(tried):
-    """Prints each run that ended otherwise than wanted, and how many there are of both kinds. Answers the exit status."""
-    failed = 0
-    for name, found, wanted in tried:
+def places(found, wanted, path=""):
+    """Where two values differ, each with its path, what was found and what is wanted: members of lists, tuples and dictionaries, lines of texts."""
+    if isinstance(found, str) and isinstance(wanted, str) and "\n" in found[:-1] + wanted[:-1]:
+        found, wanted = found.splitlines(keepends=True), wanted.splitlines(keepends=True)
+    if isinstance(found, (list, tuple)) and isinstance(wanted, (list, tuple)):
+        found, wanted = dict(enumerate(found)), dict(enumerate(wanted))
+    if not (isinstance(found, dict) and isinstance(wanted, dict)):
         if found != wanted:
-            failed += 1
-            print(f"{name}: {found}, not {wanted}")
-    print(f"{len(tried) - failed} passed, {failed} failed")
-    return 1 if failed else 0
+            yield path, found, wanted
+        return
+    for key in dict.fromkeys([*wanted, *found]):
+        yield from places(found.get(key, NOTHING), wanted.get(key, NOTHING), f"{path}[{key!r}]")
+
+
+def differences(found, wanted):
+    """The first places where what was found is not what is wanted, each cut to a line that can be read."""
+    first = list(itertools.islice(places(found, wanted), SHOWN + 1)) or [("", found, wanted)]
+    listed = [f"{path}{' ' if path else ''}{shortened(it)}, not {shortened(other)}" for path, it, other in first[:SHOWN]]
+    return "; ".join([*listed, *["and more"] * (len(first) > SHOWN)])
+
+
+def shortened(value):
+    text = repr(value)
+    return text if len(text) <= WIDTH else f"{text[:WIDTH]}.. ({len(text)} characters)"
+
+
+def count(tried, word=""):
+    """Prints each run that ended otherwise than wanted, and how many there are of both kinds, of those whose names have a word. What is
+    found or wanted may be a call, which is made for these alone. Answers the exit status."""
+    counts = {True: 0, False: 0}
+    for name, found, wanted in tried:
+        if word in name:
+            found, wanted = (it() if callable(it) else it for it in (found, wanted))
+            counts[found == wanted] += 1
+            if found != wanted:
+                print(f"{name}: {differences(found, wanted)}")
+    print(f"{counts[True]} passed, {counts[False]} failed")
+    return 1 if counts[False] or word and not counts[True] else 0

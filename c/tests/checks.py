@@ -1,6 +1,16 @@
-"""What the tests of the package in Python are written with: checks that are counted, and frames."""
+"""What the tests of the package in Python are written with: words of the command line, checks that are counted, and frames."""
+import argparse
+import sys
 
 counts = {True: 0, False: 0}
+
+
+def words(*names):
+    """The words of the command line, by their names; one in brackets may be left out. --help prints what the script says of itself."""
+    parser = argparse.ArgumentParser(description=sys.modules["__main__"].__doc__, formatter_class=argparse.RawDescriptionHelpFormatter)
+    for name in names:
+        parser.add_argument(name.strip("[]"), nargs="?" if name.startswith("[") else None)
+    return list(vars(parser.parse_args()).values())
 
 
 def check(what, found, expected):

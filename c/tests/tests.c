@@ -2,6 +2,7 @@
  * "N passed, M failed". */
 #define _DEFAULT_SOURCE
 #include "check.h"
+#include "fields.h"
 #include "switching.h"
 
 /* ---- frames: the two addresses are to all stations, from 02:00:00:00:00:01 ---- */
@@ -806,13 +807,8 @@ static int has_fields(uint32_t start, uint16_t ether_type, const uint8_t *bytes,
     etherpeel_field f[32];
     size_t found = 99;
     memset(f, 0xA5, sizeof f);
-    if (etherpeel_fields(start, ether_type, bytes, len, f, 32, &found) || found != count) return 0;
-    for (size_t i = 0; i < count; i++) {
-        const etherpeel_field *e = &expected[i];
-        if (f[i].bit_offset != e->bit_offset || f[i].bit_len != e->bit_len) return 0;
-        if (f[i].value != e->value || f[i].unit != e->unit || f[i].name != e->name) return 0;
-    }
-    return all_are(&f[count], sizeof f[0] * (32 - count), 0xA5);
+    if (etherpeel_fields(start, ether_type, bytes, len, f, 32, &found)) return 0;
+    return are_fields(f, found, expected, count, 32);
 }
 
 static void fields(void) {
@@ -974,7 +970,7 @@ static void linux_sll2_fields(void) {
     CHECK(etherpeel_linux_sll2_fields(bytes, 20, f, 3, &count) == ETHERPEEL_DONE && count == 7);
     CHECK(memcmp(f, expected, 3 * sizeof f[0]) == 0 && all_are(&f[3], 5 * sizeof f[0], 0xA5));
     CHECK(etherpeel_linux_sll2_fields(bytes, 20, f, 8, &count) == ETHERPEEL_DONE && count == 7);
-    CHECK(memcmp(f, expected, sizeof expected) == 0 && all_are(&f[7], sizeof f[0], 0xA5));
+    CHECK(are_fields(f, count, expected, 7, 8));
 }
 
 /* ---- VLAN tags changed in place ---- */

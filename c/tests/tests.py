@@ -1,4 +1,5 @@
-"""Tests of the Python package: tests.py FOLDER, where FOLDER has the package. The last line is 'N passed, M failed'."""
+"""Tests of the Python package: tests.py FOLDER [WORD], where FOLDER has the package, and WORD is one that the names of the tests have
+which are run, all if it is left out. The last line is 'N passed, M failed'."""
 import array
 import ctypes as C
 import io
@@ -8,9 +9,12 @@ import re
 import sys
 import tempfile
 
-sys.path.insert(0, sys.argv[1])
+from checks import ADDRESSES, ARP, TAGGED, check, counts, raised, words
+
+folder, word = words("FOLDER", "[WORD]")
+word = word or ""
+sys.path.insert(0, folder)
 import etherpeel
-from checks import ADDRESSES, ARP, TAGGED, check, counts, raised
 from compared import drawn_frames, drawn_packets, fronts, short_lists
 from nested import nested
 from sources import sources
@@ -384,24 +388,14 @@ def wrong_words():
     check("not contiguous", raised(etherpeel.walk, memoryview(TAGGED)[::2]), BufferError)
 
 
-layout()
-worked_examples()
-buffers()
-packets()
-captures()
-sources(CLASSIC, [b"\xff", b""])
-frames_of_captures()
-filters()
-late_texts()
-fields()
-cooked_v2()
-tags_in_place()
-headers_in_place()
-building()
-wrong_words()
-nested()
-drawn_frames(10000)
-drawn_packets(3000)
-short_lists()
-fronts()
+TESTS = {
+    "layout": layout, "worked examples": worked_examples, "buffers": buffers, "packets": packets, "captures": captures,
+    "sources": lambda: sources(CLASSIC, [b"\xff", b""]), "frames of captures": frames_of_captures, "filters": filters,
+    "late texts": late_texts, "fields": fields, "cooked v2": cooked_v2, "tags in place": tags_in_place,
+    "headers in place": headers_in_place, "building": building, "wrong words": wrong_words, "nested calls": nested,
+    "drawn frames": lambda: drawn_frames(10000), "drawn packets": lambda: drawn_packets(3000), "short lists": short_lists, "fronts": fronts,
+}
+for name, test in TESTS.items():
+    if word in name:
+        test()
 print(f"{counts[True]} passed, {counts[False]} failed")
