@@ -3,6 +3,10 @@
 # removes them; both if none is named. PREFIX names the folder, /usr/local without it, LIBDIR that of the library, PREFIX/lib without it, and
 # DESTDIR one that comes before either. What `rt` has built is taken, else what cargo builds; PROGRAMS names another folder with the programs,
 # ETHERPEEL_LIBRARY another static library.
+usage() {
+    sed -n '/^#!/d; /^#/!q; s/^# *//p' "$0"
+    exit "$1"
+}
 set -eu
 here=$(cd "$(dirname "$0")" && pwd)
 prefix=${PREFIX:-/usr/local}
@@ -13,10 +17,8 @@ for word in "$@"; do
     case $word in
     uninstall) action=uninstall ;;
     programs | library) parts="$parts $word" ;;
-    *)
-        echo "usage: install.sh [uninstall] [programs] [library]" >&2
-        exit 2
-        ;;
+    --help) usage 0 ;;
+    *) usage 2 >&2 ;;
     esac
 done
 

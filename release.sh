@@ -3,6 +3,15 @@
 # and the source archive of the Python package, packages of Debian with the programs, the library and what is compiled with it, the page and
 # checksums. The page is the file that PAGE names, none if that is empty, or else built by the kit. Cargo builds all the rest; two runs write
 # the same bytes. Needs git, cargo, a C compiler, python3, strip and dpkg-deb; what can't be made is left out, and a line says so.
+usage() {
+    sed -n '/^#!/d; /^#/!q; s/^# *//p' "$0"
+    exit "$1"
+}
+case $#:${1:-} in
+0: | 1:[!-]*) ;;
+*:--help) usage 0 ;;
+*) usage 2 >&2 ;;
+esac
 set -eu
 cd "$(dirname "$0")"
 top=$PWD

@@ -124,28 +124,29 @@ def jobs_of(crate, word=""):
         yield try_program, crate
 
 
+def known():
+    return [TESTS, *sorted(os.listdir(CRATES))]
+
+
 def asked(given):
     """The calls that the words of the command line ask for, or SystemExit."""
-    crates = [TESTS, *sorted(os.listdir(CRATES))]
-    if not given.crate:
-        return sorted((job for crate in crates for job in jobs_of(crate)), key=lambda job: job[0] is try_program)
-    if given.crate not in crates:
-        sys.exit(f"try.py: there is no crate {given.crate}; there are {', '.join(crates)}")
+    if given.crate is None:
+        return sorted((job for crate in known() for job in jobs_of(crate)), key=lambda job: job[0] is try_program)
     return list(jobs_of(given.crate, given.word)) or sys.exit(f"try.py: {given.crate} has no such tests and no program")
 
 
 def main():
     words = argparse.ArgumentParser(description=__doc__, formatter_class=argparse.RawDescriptionHelpFormatter)
-    words.add_argument("crate", metavar="CRATE", nargs="?")
+    words.add_argument("crate", metavar="CRATE", nargs="?", choices=known())
     words.add_argument("word", metavar="WORD", nargs="?", default="")
     words.add_argument("--format", action="store_true", help="lay out tests/library_tests, and run nothing")
     given = words.parse_args()
     if given.format:
         with tempfile.TemporaryDirectory() as room:
             return print(*lay_out(copy_tests(room), True), sep="\n")
-    passed = failed = 0
+    passed, failed, jobs = 0, 0, asked(given)
     with concurrent.futures.ThreadPoolExecutor(len(os.sched_getaffinity(0))) as pool:
-        for run in concurrent.futures.as_completed([pool.submit(*job) for job in asked(given)]):
+        for run in concurrent.futures.as_completed([pool.submit(*job) for job in jobs]):
             text, well, ill = run.result()
             print(text, flush=True)
             passed, failed = passed + well, failed + ill

@@ -1,6 +1,15 @@
 #!/bin/sh
 # Prints the path of the static library: of ETHERPEEL_LIBRARY, else of the one that `rt lib` made in crates/ether_c, else, where there is
 # no kit, of the one that cargo makes without the proofs. Which one it is goes to standard error.
+usage() {
+    sed -n '/^#!/d; /^#/!q; s/^# *//p' "$0"
+    exit "$1"
+}
+case $#:${1:-} in
+0:) ;;
+*:--help) usage 0 ;;
+*) usage 2 >&2 ;;
+esac
 set -eu
 here=$(cd "$(dirname "$0")" && pwd)
 proved=$here/../crates/ether_c/out/libether_c.a

@@ -2,11 +2,16 @@
 # install.sh PREFIX: the header, the static and the shared library, the file for pkg-config and the manual pages, for all programs that
 # look below PREFIX. archive.sh says which library it is. CC names another C compiler than cc, DESTDIR a folder to put it all into, LIBDIR
 # another folder for the libraries than PREFIX/lib.
+usage() {
+    sed -n '/^#!/d; /^#/!q; s/^# *//p' "$0"
+    exit "$1"
+}
+case $#:${1:-} in
+1:[!-]*) ;;
+*:--help) usage 0 ;;
+*) usage 2 >&2 ;;
+esac
 set -eu
-if [ $# -ne 1 ]; then
-    echo "usage: install.sh PREFIX" >&2
-    exit 2
-fi
 case $1 in
 /*) prefix=${1%/} ;;
 *) prefix=$PWD/${1%/} ;;

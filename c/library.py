@@ -1,6 +1,7 @@
 """Builds libether_c.a over the libraries that are proved and left in crates/*/out/rlib, as by `rt ci`, so that only `ether_c` itself is
 proved again; `rt lib` in crates/ether_c proves all that is below it by itself. With the word wasm64 builds the module ether_c.wasm instead.
 What either proves is left in out/incremental, where the other finds it."""
+import argparse
 import os
 import subprocess
 import sys
@@ -41,11 +42,14 @@ def words(kit, name, archive, target, below=None):
 
 
 def main():
+    given = argparse.ArgumentParser(description=__doc__, formatter_class=argparse.RawDescriptionHelpFormatter)
+    given.add_argument("target", metavar="wasm64", nargs="?", choices=["wasm64"])
+    is_wasm = given.parse_args().target is not None
     doc = subprocess.run(["rt", "doc"], stdout=subprocess.PIPE, text=True, check=True).stdout.strip()
     kit = os.path.dirname(doc)
     folder = f"{TOP}/crates/ether_c"
     os.makedirs(f"{folder}/out/incremental", exist_ok=True)
-    target = WASM64 if sys.argv[1:] == ["wasm64"] else []
+    target = WASM64 if is_wasm else []
     archive = "out/libether_c.wasm.a" if target else "out/libether_c.a"
     status = subprocess.run([f"{kit}/bin/rattle", "build", *words(kit, "ether_c", archive, target)], cwd=folder).returncode
     if status or not target:

@@ -2,9 +2,9 @@
 
     python3 c/manual.py FOLDER
 """
+import argparse
 import os
 import re
-import sys
 
 HERE = os.path.dirname(os.path.abspath(__file__))
 # The comment above a group: the page, and what its calls are for.
@@ -72,9 +72,12 @@ def pages():
 
 
 def main():
-    os.makedirs(sys.argv[1], exist_ok=True)
+    words = argparse.ArgumentParser(description=__doc__, formatter_class=argparse.RawDescriptionHelpFormatter)
+    words.add_argument("folder", metavar="FOLDER")
+    folder = words.parse_args().folder
+    os.makedirs(folder, exist_ok=True)
     for name, text in pages():
-        with open(os.path.join(sys.argv[1], f"{name}.3"), "w", encoding="utf-8") as file:
+        with open(os.path.join(folder, f"{name}.3"), "w", encoding="utf-8") as file:
             file.write(text)
 
 

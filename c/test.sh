@@ -5,6 +5,15 @@
 # a C compiler the clang of the kit links the shared library for Python. With the word `proved` both stand on what `rt ci` has just proved
 # and left in the crates' out/, so that nothing below the library is proved once more. With the word `cargo`, or where there is no `rt`,
 # the library is the one that cargo builds.
+usage() {
+    sed -n '/^#!/d; /^#/!q; s/^# *//p' "$0"
+    exit "$1"
+}
+case $#:${1:-} in
+0: | 1:proved | 1:cargo) ;;
+*:--help) usage 0 ;;
+*) usage 2 >&2 ;;
+esac
 set -eu
 cd "$(dirname "$0")"
 export PYTHONDONTWRITEBYTECODE=1

@@ -24,6 +24,7 @@ Known differences from tshark, which are not counted as failures:
   These times are compared with `make.py` alone.
 """
 
+import argparse
 import subprocess
 import sys
 import tempfile
@@ -218,8 +219,12 @@ def compare(program, tool, capture, path):
 
 
 def main():
-    program = str(Path(sys.argv[1]).resolve())
-    tool = str(Path(sys.argv[2]).resolve()) if len(sys.argv) > 2 else None
+    words = argparse.ArgumentParser(description=__doc__, formatter_class=argparse.RawDescriptionHelpFormatter)
+    words.add_argument("program", metavar="PROGRAM")
+    words.add_argument("tool", metavar="TOOL", nargs="?")
+    given = words.parse_args()
+    program = str(Path(given.program).resolve())
+    tool = str(Path(given.tool).resolve()) if given.tool else None
     passed = failed = 0
     with tempfile.TemporaryDirectory() as folder:
         for capture in make.captures():

@@ -20,6 +20,7 @@ Of random classic captures, as `filters.py` makes them, the copy is the file tha
 'N passed, M failed'.
 """
 
+import argparse
 import os
 import random
 import shutil
@@ -206,8 +207,12 @@ def of_tcpdump(program, folder, expressions, packets):
 
 
 def main():
-    program = os.path.realpath(sys.argv[1])
-    expressions, packets = [int(it) for it in sys.argv[2:4]] or (40, 20_000)
+    words = argparse.ArgumentParser(description=__doc__, formatter_class=argparse.RawDescriptionHelpFormatter)
+    words.add_argument("program", metavar="PROGRAM")
+    words.add_argument("expressions", metavar="EXPRESSIONS", nargs="?", type=int, default=40)
+    words.add_argument("packets", metavar="PACKETS", nargs="?", type=int, default=20_000)
+    given = words.parse_args()
+    program, expressions, packets = os.path.realpath(given.program), given.expressions, given.packets
     missing = [it for it in ("tshark", "tcpdump") if not shutil.which(it)]
     if missing:
         print(f"left out: {' and '.join(missing)} not installed\n0 passed, 0 failed")

@@ -6,6 +6,7 @@ PROGRAM is the built program. Expressions and frames are drawn by a fixed seed: 
 `vlan`, with an identifier or without, over frames with at most one tag. The last line is 'N passed, M failed'.
 """
 
+import argparse
 import os
 import random
 import shutil
@@ -91,8 +92,12 @@ def by_tcpdump(words, name):
 
 
 def main():
-    program = os.path.realpath(sys.argv[1])
-    expressions, packets = [int(it) for it in sys.argv[2:4]] or (200, 20_000)
+    words = argparse.ArgumentParser(description=__doc__, formatter_class=argparse.RawDescriptionHelpFormatter)
+    words.add_argument("program", metavar="PROGRAM")
+    words.add_argument("expressions", metavar="EXPRESSIONS", nargs="?", type=int, default=200)
+    words.add_argument("packets", metavar="PACKETS", nargs="?", type=int, default=20_000)
+    given = words.parse_args()
+    program, expressions, packets = os.path.realpath(given.program), given.expressions, given.packets
     if not shutil.which("tcpdump"):
         print("left out: tcpdump is not installed\n0 passed, 0 failed")
         return 0

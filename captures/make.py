@@ -6,9 +6,9 @@ Each capture is built from units, the pieces that a reader takes one after anoth
 file, or the blocks of a pcapng file. `captures()` returns the captures with what is known of their packets, for `compare.py`.
 """
 
+import argparse
 import pathlib
 import struct
-import sys
 from dataclasses import dataclass, field
 
 ETHERNET, RAW_IP, LINUX_SLL, LINUX_SLL2 = 1, 101, 113, 276
@@ -299,7 +299,9 @@ def captures():
 
 
 def main():
-    folder = pathlib.Path(sys.argv[1])
+    words = argparse.ArgumentParser(description=__doc__, formatter_class=argparse.RawDescriptionHelpFormatter)
+    words.add_argument("folder", metavar="FOLDER")
+    folder = pathlib.Path(words.parse_args().folder)
     folder.mkdir(parents=True, exist_ok=True)
     for capture in captures():
         suffix = "pcapng" if capture.name.startswith("ng_") else "pcap"

@@ -9,6 +9,7 @@ times of as many packets as the program has printed: they are the same, but for 
 variant, so these are left out. The last line is 'N passed, M failed'.
 """
 
+import argparse
 import random
 import re
 import shutil
@@ -78,18 +79,21 @@ def fault_of(program, data, against):
 
 
 def main():
+    words = argparse.ArgumentParser(description=__doc__, formatter_class=argparse.RawDescriptionHelpFormatter)
+    words.add_argument("program", metavar="PROGRAM")
+    words.add_argument("count", metavar="COUNT", nargs="?", type=int, default=10_000)
+    given = words.parse_args()
     chance = random.Random(802)
     small = [capture.data() for capture in make.captures() if len(capture.data()) < 3000 and not re.search("custom|resolutions", capture.name)]
-    count = int(sys.argv[2]) if len(sys.argv) > 2 else 10_000
     has_tshark = shutil.which("tshark") is not None
     failed = 0
-    for number in range(count):
+    for number in range(given.count):
         data = changed(chance.choice(small), chance)
-        fault = fault_of(sys.argv[1], data, has_tshark and number % 50 == 0 and data[:4] == b"\n\r\r\n")
+        fault = fault_of(given.program, data, has_tshark and number % 50 == 0 and data[:4] == b"\n\r\r\n")
         if fault:
             failed += 1
             print(f"capture {number}: {fault}")
-    print(f"{count - failed} passed, {failed} failed")
+    print(f"{given.count - failed} passed, {failed} failed")
     return 1 if failed else 0
 
 

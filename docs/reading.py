@@ -6,6 +6,7 @@
 A word is a definition of a file in a crate's specs/ folder; an artefact adds those that none before it reaches. Prints nothing
 if the page has the right figures, and the order below exactly the files of these words; else what is wrong, and ends with status
 1. With the title of a section of the page prints its definitions, in that order, as one text to read."""
+import argparse
 import os
 import re
 import sys
@@ -438,14 +439,13 @@ def check(found):
 
 
 def main():
-    found = modules()
-    if len(sys.argv) == 1:
-        return 1 if check(found) else 0
     titles = {it.replace("`", ""): it for it in ARTEFACTS}
-    if len(sys.argv) > 2 or sys.argv[1] not in titles:
-        print(f"usage: docs/reading.py [ARTEFACT], of: {', '.join(titles)}", file=sys.stderr)
-        return 2
-    title = titles[sys.argv[1]]
+    words = argparse.ArgumentParser(description=__doc__, formatter_class=argparse.RawDescriptionHelpFormatter)
+    words.add_argument("artefact", metavar="ARTEFACT", nargs="?", choices=titles, help=", ".join(titles))
+    given, found = words.parse_args(), modules()
+    if given.artefact is None:
+        return 1 if check(found) else 0
+    title = titles[given.artefact]
     try:
         print_text(title, files_of(title), next(by_file for name, _, by_file in artefacts(found) if name == title))
         sys.stdout.flush()

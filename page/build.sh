@@ -1,6 +1,15 @@
 #!/bin/sh
 # Makes page/out/index.html: the page, its script and the module in one file. The module is the library for C, built
 # for WebAssembly: its crate is proved, and those below it unless the word `proved` says that they are.
+usage() {
+    sed -n '/^#!/d; /^#/!q; s/^# *//p' "$0"
+    exit "$1"
+}
+case $#:${1:-} in
+0: | 1:proved) ;;
+*:--help) usage 0 ;;
+*) usage 2 >&2 ;;
+esac
 set -eu
 cd "$(dirname "$0")"
 [ "${1:-}" = proved ] || (cd ../crates/ether_c && rt lib)

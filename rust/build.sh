@@ -1,11 +1,16 @@
 #!/bin/sh
 # build.sh PACKAGE: builds etherpeel_c or ether_tools by cargo, and prints the folder of what was built. If Debian's packages have the crates
 # that it needs, cargo takes them from there, without a network.
+usage() {
+    sed -n '/^#!/d; /^#/!q; s/^# *//p' "$0"
+    exit "$1"
+}
+case $#:${1:-} in
+[1-9]*:[!-]*) ;;
+*:--help) usage 0 ;;
+*) usage 2 >&2 ;;
+esac
 set -eu
-if [ $# -lt 1 ]; then
-    echo "usage: build.sh PACKAGE" >&2
-    exit 2
-fi
 cd "$(dirname "$0")/$1"
 shift
 registry=/usr/share/cargo/registry

@@ -4,6 +4,7 @@
 
 says why they can't be built here, if they can't.
 """
+import argparse
 import os
 import re
 import shutil
@@ -72,4 +73,5 @@ def has_clippy():
 
 
 if __name__ == "__main__":
+    argparse.ArgumentParser(description=__doc__, formatter_class=argparse.RawDescriptionHelpFormatter).parse_args()
     sys.exit(missing())

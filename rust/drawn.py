@@ -7,6 +7,7 @@ compares all fields of all units, what is left and the fault; the summary, also 
 a feed takes; completions; the identifiers of a packet; and VLAN tags that are pushed, set and popped. The last line is
 'N passed, M failed'.
 """
+import argparse
 import os
 import random
 import subprocess
@@ -225,7 +226,9 @@ def built():
 
 
 def main():
-    found = list(failures(int(sys.argv[1]) if len(sys.argv) > 1 else COUNT, built()))
+    words = argparse.ArgumentParser(description=__doc__, formatter_class=argparse.RawDescriptionHelpFormatter)
+    words.add_argument("count", metavar="COUNT", nargs="?", type=int, default=COUNT)
+    found = list(failures(words.parse_args().count, built()))
     print("\n".join(it for it in found if it))
     print(f"{found.count(None)} passed, {len(found) - found.count(None)} failed")
     return 1 if len(found) > found.count(None) else 0

@@ -7,6 +7,7 @@ reads `crates/*/src` and writes `etherpeel`, the libraries with their tests, and
 FOLDER or beside the script. Each rule deletes, or respells one exact form (`erasing/rules.py`, `calls.py`). What is not
 known (`erasing/known.py`) is refused with its file and line, and then nothing is written.
 """
+import argparse
 import os
 import sys
 
@@ -248,7 +249,9 @@ def stale(folder, files):
 
 
 def main():
-    folder = sys.argv[1] if len(sys.argv) > 1 else HERE
+    words = argparse.ArgumentParser(description=__doc__, formatter_class=argparse.RawDescriptionHelpFormatter)
+    words.add_argument("folder", metavar="FOLDER", nargs="?", default=HERE)
+    folder = words.parse_args().folder
     files = result()
     for path in list(stale(folder, files)):
         os.remove(os.path.join(folder, path))

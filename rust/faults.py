@@ -7,6 +7,7 @@ bytes or a statement is another one, or is gone. Of each copy it runs the tests 
 frames (drawn.py). A fault that is not caught is printed; those of `SAME` change nothing, for the reason that stands
 there. The last line is 'N passed, M failed'. It takes some eleven minutes of processor time: it is no part of the gate.
 """
+import argparse
 import concurrent.futures
 import os
 import random
@@ -113,7 +114,9 @@ def work(faults, folder, wanted):
 
 
 def main():
-    count = int(sys.argv[1]) if len(sys.argv) > 1 else COUNT
+    words = argparse.ArgumentParser(description=__doc__, formatter_class=argparse.RawDescriptionHelpFormatter)
+    words.add_argument("count", metavar="COUNT", nargs="?", type=int, default=COUNT)
+    count = words.parse_args().count
     faults = list(all_places())
     random.Random(1).shuffle(faults)
     with tempfile.TemporaryDirectory() as folder, concurrent.futures.ThreadPoolExecutor(WORKERS) as pool:

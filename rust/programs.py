@@ -4,6 +4,7 @@
 
 What is left out is said, and why. The last line is 'N passed, M failed'.
 """
+import argparse
 import filecmp
 import os
 import re
@@ -46,6 +47,7 @@ def completions():
 
 
 def main():
+    argparse.ArgumentParser(description=__doc__, formatter_class=argparse.RawDescriptionHelpFormatter).parse_args()
     if why := building.missing(building.PROGRAMS):
         print(f"left out: the programs that cargo builds, since {why}")
         print("0 passed, 0 failed")

@@ -8,6 +8,7 @@ documentation have no warning, and drawn frames are compared with a second walk 
 version that the crates are for, all targets are checked by it. What is left out is said, and why. The last line is
 'N passed, M failed'.
 """
+import argparse
 import os
 import re
 import sys
@@ -119,6 +120,7 @@ def count(failures):
 
 
 def main():
+    argparse.ArgumentParser(description=__doc__, formatter_class=argparse.RawDescriptionHelpFormatter).parse_args()
     counts = [count(case_failures()), count(committed_failures())]
     if why := building.missing():
         print(f"left out: what cargo does with the crate, since {why}")

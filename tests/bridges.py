@@ -6,6 +6,7 @@ SWITCH is the built program. Open vSwitch runs in user space, without a network 
 Where it is not installed, nothing is compared. The last line is 'N passed, M failed'.
 """
 
+import argparse
 import collections
 import json
 import os
@@ -178,12 +179,15 @@ def compared(switch, total):
 
 
 def main():
+    words = argparse.ArgumentParser(description=__doc__, formatter_class=argparse.RawDescriptionHelpFormatter)
+    words.add_argument("switch", metavar="SWITCH")
+    switch = os.path.realpath(words.parse_args().switch)
     missing = [name for name in ("ovs-vswitchd", "ovsdb-server", "ovsdb-tool", "ovs-vsctl") if not shutil.which(name)]
     if missing or not os.path.exists(SCHEMA):
         print(f"left out: the frames of another bridge, since Open vSwitch is not installed ({', '.join(missing)})")
         print("0 passed, 0 failed")
         return 0
-    return count(compared(os.path.realpath(sys.argv[1]), 10_000))
+    return count(compared(switch, 10_000))
 
 
 if __name__ == "__main__":

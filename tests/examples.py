@@ -5,6 +5,7 @@
 SWITCH and REWRITER are the built programs. The last line is 'N passed, M failed'.
 """
 
+import argparse
 import os
 import subprocess
 import sys
@@ -115,7 +116,11 @@ def refused(program, words, capture):
 
 
 def main():
-    switch, rewriter = (os.path.realpath(program) for program in sys.argv[1:3])
+    words = argparse.ArgumentParser(description=__doc__, formatter_class=argparse.RawDescriptionHelpFormatter)
+    words.add_argument("switch", metavar="SWITCH")
+    words.add_argument("rewriter", metavar="REWRITER")
+    given = words.parse_args()
+    switch, rewriter = os.path.realpath(given.switch), os.path.realpath(given.rewriter)
     trunks = ["trunk"] * 3
     tried = [*passed(switch, trunks, ON_TRUNKS), *passed(switch, trunks, NOT_SWITCHED), *passed(switch, trunks, FULL_BUCKET)]
     tried += passed(switch, MIXED, ON_MIXED)

@@ -1,5 +1,6 @@
 """Tests the manual pages: groff, if it is there, has no warning; that of ether_capture has each option of its usage, that of ether_tool each
 word of its own, and ether-filter(7) each primitive of docs/FORMAT.md. The last line is 'N passed, M failed'."""
+import argparse
 import glob
 import os
 import re
@@ -45,6 +46,7 @@ def check_form():
 
 
 def main():
+    argparse.ArgumentParser(description=__doc__, formatter_class=argparse.RawDescriptionHelpFormatter).parse_args()
     check_form()
     usage = re.search(r'"(usage: ether_capture .*?)\\n', text("crates/ether_stream/src/outcome.rt"))[1]
     for option in sorted(set(re.findall(r"-[a-zA-Z-]+(?=[ ,|\]])", usage))):

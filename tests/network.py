@@ -10,6 +10,7 @@ or no namespaces can be made, nothing is run. The last line is 'N passed, M fail
     h2 (VLAN 6) ---                                            --- h4 (VLAN 5), to which the station of h1 moves
 """
 
+import argparse
 import ctypes
 import os
 import random
@@ -230,6 +231,10 @@ def left_out(why):
 
 
 def main():
+    words = argparse.ArgumentParser(description=__doc__, formatter_class=argparse.RawDescriptionHelpFormatter)
+    words.add_argument("library", metavar="LIBRARY")
+    words.add_argument("example", metavar="EXAMPLE")
+    given = words.parse_args()
     missing = [name for name in ("ip", "ping", os.environ.get("CC", "gcc")) if not shutil.which(name)]
     if missing:
         return left_out(f"{', '.join(missing)} was not found")
@@ -238,12 +243,12 @@ def main():
         if not network.make():
             return left_out("no network namespaces can be made, which takes root")
         with tempfile.TemporaryDirectory() as folder:
-            switch = built(os.path.realpath(sys.argv[1]), folder)
+            switch = built(os.path.realpath(given.library), folder)
             if not switch:
                 return count([("the switch is built", False, True)])
             started = [(f"the switch {space} starts", network.start(space, switch, WORDS[space]), "switch: 3 ports\n") for space in WORDS]
             tried = [*started, *tried_in(network)]
-            return count([*tried, *compared(network, switch, os.path.realpath(sys.argv[2]))])
+            return count([*tried, *compared(network, switch, os.path.realpath(given.example))])
     finally:
         network.remove()
 

@@ -7,6 +7,7 @@ PROGRAM is the built `ether_capture`. A line says which tests are left out, beca
 'N passed, M failed'.
 """
 
+import argparse
 import os
 import re
 import socket
@@ -172,7 +173,9 @@ def live(program):
 
 
 def main():
-    program = os.path.realpath(sys.argv[1])
+    words = argparse.ArgumentParser(description=__doc__, formatter_class=argparse.RawDescriptionHelpFormatter)
+    words.add_argument("program", metavar="PROGRAM")
+    program = os.path.realpath(words.parse_args().program)
     tried = []
     for needed, tests in (("tcpdump", snap_lengths), ("tcpdump", several_interfaces), ("tshark", sections), ("tshark", cooked_headers),
                           ("tshark", readers), ("tshark", counted_by_tshark), ("dumpcap", live)):

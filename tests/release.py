@@ -3,6 +3,7 @@ into a folder of their own and removed, and what they have runs; the wheel and t
 
 What is left out is said, and why. The last line is 'N passed, M failed'.
 """
+import argparse
 import filecmp
 import glob
 import os
@@ -73,6 +74,7 @@ def check_python(archive, folder):
 
 
 def main():
+    argparse.ArgumentParser(description=__doc__, formatter_class=argparse.RawDescriptionHelpFormatter).parse_args()
     lacking = [it for it in ("cargo", "gcc", "dpkg-deb", "strip", "git") if not shutil.which(it)]
     if lacking or run(sys.executable, "rust/building.py")[0]:
         print(f"left out: the release, since {', '.join(lacking) or 'what cargo needs'} was not found", "0 passed, 0 failed", sep="\n")

@@ -64,8 +64,8 @@ def said(switch, words):
 
 
 def main():
-    words = argparse.ArgumentParser(description=__doc__.split("\n")[0])
-    words.add_argument("library", metavar="LIBRARY", help="the static library")
+    words = argparse.ArgumentParser(description=__doc__, formatter_class=argparse.RawDescriptionHelpFormatter)
+    words.add_argument("library", metavar="LIBRARY")
     library = os.path.realpath(words.parse_args().library)
     if not shutil.which(os.environ.get("CC", "gcc")):
         print("left out: the words of the switch, since no C compiler was found")

@@ -1,4 +1,5 @@
 """Compares what each part says of its version with the file VERSION. The last line is 'N passed, M failed'."""
+import argparse
 import os
 import re
 import sys
@@ -43,6 +44,7 @@ def failures(version):
 
 
 def main():
+    argparse.ArgumentParser(description=__doc__, formatter_class=argparse.RawDescriptionHelpFormatter).parse_args()
     with open(os.path.join(TOP, "VERSION"), encoding="utf-8") as file:
         found = list(failures(file.read().strip()))
     for wrong in filter(None, found):

@@ -4,10 +4,10 @@
 mixed.pcap: one packet of three has tags, a SecTag or ARP, the others are IPv4 frames of 60 to 1,500 bytes. small.pcap: frames of 64 bytes, a fifth
 of them tagged.
 """
+import argparse
 import os
 import random
 import struct
-import sys
 
 BEFORE = bytes.fromhex("ffffffffffff020000000001")
 ARP = bytes.fromhex("08060001080006040001020000000001c0000201000000000000c0000202")
@@ -42,7 +42,11 @@ def write(path, frames, size):
 
 
 def main():
-    folder, size = sys.argv[1], int(float(sys.argv[2]) * 1_000_000)
+    words = argparse.ArgumentParser(description=__doc__, formatter_class=argparse.RawDescriptionHelpFormatter)
+    words.add_argument("folder", metavar="FOLDER")
+    words.add_argument("megabytes", metavar="MEGABYTES", type=float)
+    given = words.parse_args()
+    folder, size = given.folder, int(given.megabytes * 1_000_000)
     os.makedirs(folder, exist_ok=True)
     rng = random.Random(5)
     pool = [tagged(rng) for _ in range(500)] + [ipv4(rng, rng.randrange(60, 1501)) for _ in range(1000)]

@@ -4,10 +4,10 @@
 
 Prints the least processor time of three turns of each.
 """
+import argparse
 import resource
 import shlex
 import subprocess
-import sys
 
 PIECE, ROUNDS = 4096, 3
 
@@ -38,8 +38,10 @@ def seconds(command, given):
 
 
 def main():
-    given = capture()
-    for word in sys.argv[1:]:
+    words = argparse.ArgumentParser(description=__doc__, formatter_class=argparse.RawDescriptionHelpFormatter)
+    words.add_argument("commands", metavar="NAME=COMMAND", nargs="+")
+    commands, given = words.parse_args().commands, capture()
+    for word in commands:
         name, _, command = word.partition("=")
         print(f"{name}: {min(seconds(shlex.split(command), given) for _ in range(ROUNDS)):.3f} s")
 

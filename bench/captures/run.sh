@@ -2,6 +2,15 @@
 # sh bench/captures/run.sh PROGRAM [MEGABYTES] [ROUNDS]: ether_capture (lines and copies), `cat`, tcpdump and a program over libpcap, in
 # turns, over captures that are made here: processor time, time, and the ratio of the processor time to that of `tcpdump -w`. What is not installed
 # (tcpdump, gcc with libpcap's header) is left out.
+usage() {
+    sed -n '/^#!/d; /^#/!q; s/^# *//p' "$0"
+    exit "$1"
+}
+case $#:${1:-} in
+[123]:[!-]*) ;;
+*:--help) usage 0 ;;
+*) usage 2 >&2 ;;
+esac
 set -eu
 here=$(cd "$(dirname "$0")" && pwd)
 program=$(realpath "${1:?the built program}")

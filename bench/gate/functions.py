@@ -6,6 +6,7 @@ With --test their tests are proved, too. The crates below have to be proved (`rt
 function of a crate is left out, since it comes with what is checked before all functions; one that is the first to use a module of another crate
 takes its loading, too.
 """
+import argparse
 import os
 import re
 import subprocess
@@ -55,9 +56,12 @@ def seconds(kit, name, tests):
 
 
 def main():
+    given = argparse.ArgumentParser(description=__doc__, formatter_class=argparse.RawDescriptionHelpFormatter)
+    given.add_argument("--test", action="store_true", help="their tests, too")
+    given.add_argument("crates", metavar="CRATE", nargs="+")
+    asked = given.parse_args()
     doc = subprocess.run(["rt", "doc"], stdout=subprocess.PIPE, text=True, check=True).stdout.strip()
-    tests = "--test" in sys.argv[1:2]
-    took = [it for name in sys.argv[1 + tests:] for it in seconds(os.path.dirname(doc), name, tests)]
+    took = [it for name in asked.crates for it in seconds(os.path.dirname(doc), name, asked.test)]
     for passed, name in sorted(took, reverse=True)[:10]:
         print(f"{passed:5.1f} s  {name}")
     print(f"{len(took)} functions, {sum(passed for passed, _ in took):.0f} s")

@@ -21,6 +21,7 @@ TOP = os.path.dirname(os.path.dirname(os.path.dirname(os.path.abspath(__file__))
 COMMANDS = {
     "documents": [sys.executable, "docs/reading.py"],
     "versions": [sys.executable, "tests/versions.py"],
+    "scripts": [sys.executable, "tests/scripts.py"],
     "manual pages": [sys.executable, "tests/manual_pages.py"],
     "library tests": [sys.executable, "try.py", "library_tests"],
     "rust": [sys.executable, "rust/test.py"],
@@ -147,7 +148,7 @@ def table(clock, ends):
 
 
 def main():
-    words = argparse.ArgumentParser(description=__doc__.split("\n")[0])
+    words = argparse.ArgumentParser(description=__doc__, formatter_class=argparse.RawDescriptionHelpFormatter)
     words.add_argument("--table", metavar="FILE", help="where the table is written")
     words.add_argument("--anew", action="store_true", help="prove and try all, also what an earlier run has kept")
     given = words.parse_args()

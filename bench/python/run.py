@@ -7,10 +7,8 @@ It needs both packages: `pip install ./c/python`, and Debian's python3-dpkt or d
 microseconds of a frame, the least of nine turns over 1,000 frames, and the ratio; one of `select` the packets that are
 selected, and the microseconds of a packet, the least of three turns.
 """
+import argparse
 import time
-
-import dpkt
-import etherpeel
 
 MACS = bytes.fromhex("ffffffffffff 020000000001")
 ARP = bytes.fromhex("0806 0001 0800 06 04 0001 020000000001 0a000001 000000000000 0a000002") + bytes(18)
@@ -40,7 +38,7 @@ def captured(frames):
     return header + b"".join(bytes(8) + len(frame).to_bytes(4, "big") * 2 + frame for frame in frames)
 
 
-def selecting(expression, capture):
+def selecting(etherpeel, expression, capture):
     """How many packets are selected, and the microseconds of a packet, of 100,000."""
     times = []
     for _ in range(3):
@@ -51,6 +49,9 @@ def selecting(expression, capture):
 
 
 def main():
+    argparse.ArgumentParser(description=__doc__, formatter_class=argparse.RawDescriptionHelpFormatter).parse_args()
+    import dpkt
+    import etherpeel
     sets = {name: [frame] * 1000 for name, frame in FRAMES.items()}
     sets["all of these in turn"] = list(FRAMES.values()) * 250
     for name, frames in sets.items():
@@ -58,7 +59,7 @@ def main():
         print(f"{name:21} {ours:5.2f} {others:5.2f} {ours / others:5.2f}")
     capture = captured(list(FRAMES.values()) * 25_000)
     for expression in ("vlan 7", "inner vlan 6", "not arp", "greater 1"):
-        number, microseconds = selecting(expression, capture)
+        number, microseconds = selecting(etherpeel, expression, capture)
         print(f"select {expression!r:14} {number:7,} {microseconds:5.2f}")
 
 

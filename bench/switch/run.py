@@ -10,6 +10,7 @@ The sender has one core, the switch another; each figure is the median of three 
     to a trunk      from an access port to a trunk, which puts a tag in
     from a trunk    from a trunk to an access port, which takes it off
 """
+import argparse
 import os
 import shutil
 import signal
@@ -179,7 +180,9 @@ def measured(kind, folder, row):
 
 
 def main():
-    library = os.path.realpath(sys.argv[1])
+    words = argparse.ArgumentParser(description=__doc__, formatter_class=argparse.RawDescriptionHelpFormatter)
+    words.add_argument("library", metavar="LIBRARY")
+    library = os.path.realpath(words.parse_args().library)
     kinds = [Ours] + [OpenVSwitch] * bool(shutil.which("ovs-vswitchd")) + [Vde] * bool(shutil.which("vde_pcapplug"))
     with tempfile.TemporaryDirectory() as folder:
         run("gcc", "-O2", f"-I{TOP}/c", "-o", f"{folder}/switch", f"{TOP}/c/examples/switch.c", library)

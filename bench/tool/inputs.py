@@ -4,11 +4,13 @@
 example.txt: the 36-digit example line, 1,000,000 times. frames.txt: 100,000 frames of 60 to 1,500 bytes, of them a fifth tagged.
 len_D.txt: frames of D digits, 16 MB each. cut.txt: 100,000 frames cut short.
 """
+import argparse
 import os
 import random
-import sys
 
-out = sys.argv[1]
+words = argparse.ArgumentParser(description=__doc__, formatter_class=argparse.RawDescriptionHelpFormatter)
+words.add_argument("folder", metavar="FOLDER")
+out = words.parse_args().folder
 os.makedirs(out, exist_ok=True)
 rng = random.Random(5)
 

@@ -4,10 +4,10 @@
 Prints the least processor time of each, the least time, the ratio of the processor time to that of the last command, and the most memory of one more
 run (VmHWM, read each millisecond).
 """
+import argparse
 import os
 import re
 import shlex
-import sys
 import time
 
 
@@ -43,9 +43,12 @@ def run(words, file):
 
 
 def main():
-    at = sys.argv.index("--")
-    file, rounds = sys.argv[1], int(sys.argv[2])
-    commands = [word.split("=", 1) for word in sys.argv[at + 1 :]]
+    words = argparse.ArgumentParser(description=__doc__, formatter_class=argparse.RawDescriptionHelpFormatter)
+    words.add_argument("file", metavar="FILE")
+    words.add_argument("rounds", metavar="ROUNDS", type=int)
+    words.add_argument("commands", metavar="NAME=COMMAND", nargs="+")
+    given = words.parse_args()
+    file, rounds, commands = given.file, given.rounds, [word.split("=", 1) for word in given.commands]
     least = {name: [float("inf"), float("inf")] for name, _ in commands}
     for _ in range(rounds):
         for name, command in commands:

@@ -2,6 +2,15 @@
 # sh bench/tool/run.sh PROGRAM [ROUNDS]: the tool beside `cat` and a Go program over gopacket that reads the same lines and prints the same
 # kind of lines, in turns, over inputs that are made here. The Go program needs the Debian packages golang-go and
 # golang-github-google-gopacket-dev; without them it is left out.
+usage() {
+    sed -n '/^#!/d; /^#/!q; s/^# *//p' "$0"
+    exit "$1"
+}
+case $#:${1:-} in
+[12]:[!-]*) ;;
+*:--help) usage 0 ;;
+*) usage 2 >&2 ;;
+esac
 set -eu
 here=$(cd "$(dirname "$0")" && pwd)
 program=$(realpath "${1:?the built program}")

@@ -1,4 +1,13 @@
 # Compiles etherpeel.h with headers of similar names, in both orders: beside.sh CC CXX LIBRARY FOLDER
+usage() {
+    sed -n '/^#!/d; /^#/!q; s/^# *//p' "$0"
+    exit "$1"
+}
+case $#:${1:-} in
+4:[!-]*) ;;
+*:--help) usage 0 ;;
+*) usage 2 >&2 ;;
+esac
 cc=$1 cxx=$2 library=$3 work=$4
 passed=0 failed=0
 pcap=

@@ -1,4 +1,4 @@
-"""Runs docs/C.md by its words alone: c_document.py CC libether_c.a FOLDER. The last line is 'N passed, M failed'.
+"""Runs docs/C.md by its words alone: c_document.py CC LIBRARY FOLDER. The last line is 'N passed, M failed'.
 
 The commands are run in order in a copy of the repository's files, with the library that is given in place of what `rt lib`
 makes, and without a network. What they print last is compared with the text after them; examples in C are compiled, examples in Python
@@ -9,6 +9,8 @@ import re
 import shutil
 import subprocess
 import sys
+
+from checks import words
 
 TOP = os.path.dirname(os.path.dirname(os.path.dirname(os.path.abspath(__file__))))
 WARNINGS = ["-std=c99", "-D_DEFAULT_SOURCE", "-Wall", "-Wextra", "-Werror", f"-I{TOP}/c", "-x", "c"]
@@ -33,7 +35,7 @@ int main(int argc, char **argv) {
     return moved == NULL || move_to_vlan(buffer, len, 4096) != NULL;
 }
 """
-cc, library, work = sys.argv[1:]
+cc, library, work = words("CC", "LIBRARY", "FOLDER")
 clone, bin = f"{work}/clone", f"{work}/bin"
 counts = {True: 0, False: 0}
 

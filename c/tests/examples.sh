@@ -1,4 +1,13 @@
 # Compares what the examples in C and in Python print with what docs/C.md says; FOLDER/package has the package: examples.sh CC LIBRARY PYTHON FOLDER
+usage() {
+    sed -n '/^#!/d; /^#/!q; s/^# *//p' "$0"
+    exit "$1"
+}
+case $#:${1:-} in
+4:[!-]*) ;;
+*:--help) usage 0 ;;
+*) usage 2 >&2 ;;
+esac
 cc=$1 library=$2 python=$3 work=$4
 passed=0 failed=0
 check() {

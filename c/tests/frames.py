@@ -4,10 +4,12 @@ Stacks of VLAN tags, SecTags of all kinds and ARP packets, some with values that
 at random. The seed is fixed.
 """
 import random
-import sys
+
+from checks import words
 
 VLAN, MACSEC, ARP = (0x8100, 0x88A8, 0x9100), 0x88E5, 0x0806
-draw = random.Random(sys.argv[1])
+kind, count = words("START", "COUNT")
+draw = random.Random(kind)
 
 
 def u16(n):
@@ -65,5 +67,5 @@ def frame(mode):
     return whole[:draw.randrange(len(whole) + 1)] if draw.random() < 0.33 else whole[:2048]
 
 
-for _ in range(int(sys.argv[2])):
-    print(frame(sys.argv[1]).hex())
+for _ in range(int(count)):
+    print(frame(kind).hex())

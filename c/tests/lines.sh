@@ -1,5 +1,14 @@
 # Compares the lines that tests/lines.c prints by calls from C with lines of captured frames that are known, and with
 # those of the tool, which has been built, on 10,000 drawn frames for each way in which a frame begins: lines.sh CC LIBRARY PYTHON FOLDER
+usage() {
+    sed -n '/^#!/d; /^#/!q; s/^# *//p' "$0"
+    exit "$1"
+}
+case $#:${1:-} in
+4:[!-]*) ;;
+*:--help) usage 0 ;;
+*) usage 2 >&2 ;;
+esac
 cc=$1 library=$2 python=$3 work=$4
 tool=$PWD/../crates/ether_tool/out/ether_tool
 passed=0 failed=0

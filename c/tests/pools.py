@@ -14,9 +14,12 @@ import subprocess
 import sys
 import tempfile
 
-sys.path[:0] = sys.argv[1:2]  # a server of forks has no words, but PYTHONPATH
+from checks import ADDRESSES, TAGGED, check, counts, words
+
+if __name__ == "__main__":  # a server of forks has no words, but PYTHONPATH
+    folder, other, method = words("FOLDER", "[DASK]", "[METHOD]")
+    sys.path.insert(0, folder)
 import etherpeel
-from checks import ADDRESSES, TAGGED, check, counts
 from etherpeel import Difference, FaultKind, FilterErrorKind, Status
 
 SECONDS = 60
@@ -149,10 +152,10 @@ def results(call):
 POOLS = {"multiprocessing": by_multiprocessing, "futures": by_futures, "dask": by_dask}
 
 
-def in_time(python, *words):
+def in_time(python, *asked):
     """The last line that this file prints with these words, or why there is none."""
     with tempfile.TemporaryFile() as output:
-        ran = subprocess.Popen([python, os.path.abspath(__file__), sys.argv[1], *words], env={**os.environ, "PYTHONPATH": sys.argv[1]},
+        ran = subprocess.Popen([python, os.path.abspath(__file__), folder, *asked], env={**os.environ, "PYTHONPATH": folder},
                                stdin=subprocess.DEVNULL, stdout=output, stderr=subprocess.STDOUT, start_new_session=True)
         try:
             ran.wait(SECONDS)
@@ -171,20 +174,19 @@ def in_time(python, *words):
 def main():
     errors()
     results_of_calls()
-    dask = sys.argv[2:]
     expected = "CaptureError 41 16 [b'\\xff', b'']"
     for method in multiprocessing.get_all_start_methods():
         for pool in ("multiprocessing", "futures"):
             check(f"{pool}, {method}", in_time(sys.executable, pool, method), expected)
-    if dask:
-        check("dask", in_time(*dask, "dask", "-"), expected)
+    if other:
+        check("dask", in_time(other, "dask", "-"), expected)
     else:
         print("left out: the workers of dask, since no Python with dask.distributed was found")
     print(f"{counts[True]} passed, {counts[False]} failed")
 
 
 if __name__ == "__main__":
-    if len(sys.argv) == 4:
-        print(POOLS[sys.argv[2]](sys.argv[3]))
+    if method:  # in a process of its own
+        print(POOLS[other](method))
     else:
         main()

@@ -1,4 +1,4 @@
-"""Runs the recipe for dask of docs/RECIPES.md by its words alone: recipes.py CC libether_c.a FOLDER. The last line is 'N passed, M failed'.
+"""Runs the recipe for dask of docs/RECIPES.md by its words alone: recipes.py CC LIBRARY FOLDER. The last line is 'N passed, M failed'.
 
 The commands are run in a copy of the repository's files, with the library that is given, and without a network: `apt-get` has nothing to
 do. Of workers on several machines there are two, on this one.

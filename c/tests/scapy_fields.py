@@ -9,8 +9,10 @@ import socket
 import sys
 import tempfile
 
+from checks import words
+
 logging.getLogger("scapy").setLevel(logging.ERROR)
-sys.path.insert(0, sys.argv[1])
+sys.path.insert(0, words("FOLDER")[0])
 import etherpeel
 from scapy.contrib.macsec import MACsec
 from scapy.layers.l2 import ARP, CookedLinux, Dot1AD, Dot1Q, Ether

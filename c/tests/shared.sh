@@ -1,5 +1,14 @@
 # The shared library exports what the header declares and nothing else, under its name, and the libraries need what docs/C.md says; and
 # the header is refused elsewhere than on Linux on x86-64: shared.sh CC LIBRARY SHARED FOLDER [cargo]
+usage() {
+    sed -n '/^#!/d; /^#/!q; s/^# *//p' "$0"
+    exit "$1"
+}
+case $#:${1:-} in
+[45]:[!-]*) ;;
+*:--help) usage 0 ;;
+*) usage 2 >&2 ;;
+esac
 cc=$1 library=$2 shared=$3 work=$4 with=${5:-}
 passed=0 failed=0
 check() {

@@ -12,10 +12,10 @@ import subprocess
 import sys
 import tempfile
 
-from checks import check, counts
+from checks import check, counts, words
 
 EXAMPLES = os.path.join(os.path.dirname(os.path.dirname(os.path.abspath(__file__))), "examples")
-vlans, folder, *dask = sys.argv[1:]
+vlans, folder, dask = words("VLANS", "FOLDER", "[DASK]")
 ADDRESS = bytes.fromhex("020000000001")
 # of each link type the identifiers of the VLAN tags of its packets, the outermost first
 PACKETS = {1: [[291], [10, 100], [], [10], [1, 2, 3, 4]], 113: [[7], [], [7, 8]], 276: [[5], [5, 6], [], [4095]]}
@@ -134,7 +134,7 @@ def main():
             whole = [(path, packets) for path, packets, reason in them if not reason]
             for group, expected in ((them, (1, [all_of(*it[:2]) for it in them], told)),
                                     (whole, (0, [all_of(*it) for it in whole], []))):
-                check("vlans_dask.py", ran(*dask, f"{EXAMPLES}/vlans_dask.py", "-", *(it[0] for it in group)), expected)
+                check("vlans_dask.py", ran(dask, f"{EXAMPLES}/vlans_dask.py", "-", *(it[0] for it in group)), expected)
     if not shutil.which("tshark"):
         print("left out: the VLANs of captures compared with tshark, since it was not found")
     if not dask:
