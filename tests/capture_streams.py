@@ -196,6 +196,33 @@ def interrupted_calls(program):
         yield f"interrupted reads and writes {words}", partial(interrupted, program, words, CLASSIC), (CLASSIC_LINES, said, status)
 
 
+def synced(program):
+    """A copy is on the disk before it gets its name: fsync(2) or fdatasync(2) of the file, and then rename(2), as strace sees them."""
+    if not which("strace") or subprocess.run(["strace", "-o", "/dev/null", "true"], stderr=subprocess.DEVNULL, check=False).returncode:
+        print("left out: whether a copy is on the disk before it gets its name, since strace is not there, or may not trace")
+        return
+    with tempfile.TemporaryDirectory() as folder:
+        log = os.path.join(folder, "log")
+        words = ["strace", "-f", "-y", "-e", "trace=fsync,fdatasync,rename,renameat,renameat2", "-o", log, program, "-w", "two"]
+        done = subprocess.run(words, input=CLASSIC, cwd=folder, check=False)
+        with open(log, encoding="utf-8") as file:
+            calls = re.findall(r"(sync|rename)\w*\(.*?([\w.]+)[>\"]", file.read())
+    yield "a copy is on the disk before it gets its name", (done.returncode, calls), (0, [("sync", "two.part"), ("rename", "two.part")])
+
+
+def name_taken(program):
+    """A folder gets the name of the copy while that is written."""
+    with tempfile.TemporaryDirectory() as folder:
+        with subprocess.Popen([program, "-w", "two"], stdin=subprocess.PIPE, stderr=subprocess.PIPE, cwd=folder) as child:
+            child.stdin.write(CLASSIC[:59])
+            child.stdin.flush()
+            has_begun = until(lambda: os.path.exists(os.path.join(folder, "two.part")))
+            os.mkdir(os.path.join(folder, "two"))
+            said = child.communicate(CLASSIC[59:])[1].decode()
+        found = has_begun, said, child.returncode, os.listdir(folder)
+    yield "a folder that takes the name of a copy", found, (True, not_written("two", ": it is a folder"), 4, ["two"])
+
+
 def shown(said):
     """What of the text on standard error is shown of reading: how often, the last bytes and their number in all, and what is said besides."""
     *others, end = said.split("\r")
@@ -220,11 +247,11 @@ def progress(program):
         lines = [line.rpartition("\r")[2].split(",")[0] for line in found[1].split("\n")]
         said = ["120 of 120 bytes", *("cut" + record_is_cut(59, 62, 61) + "no" + NO_FILE).splitlines(), f"{size} of {size} bytes", ""]
         yield "--progress of several files", (lines, found[2]), (said, 4)
-    yield "--progress of a second", partial(slow_progress, program), (True, ((str(len(LONG)), None), ""))
+    yield "--progress of a second", partial(slow_progress, program), (True, True, ((str(len(LONG)), None), ""))
 
 
 def slow_progress(program):
-    """Whether reading for a second is shown twice to five times a second, and what is shown last."""
+    """Whether reading for a second is shown twice to five times a second, whether the last rate is about that, and what is shown last."""
     begun = time.monotonic()
     slow = subprocess.Popen([program, "--progress", "--plain"], stdin=subprocess.PIPE, stdout=subprocess.DEVNULL, stderr=subprocess.PIPE, bufsize=0)
     with slow as child:
@@ -233,13 +260,15 @@ def slow_progress(program):
             time.sleep(0.1)
         child.stdin.close()
         said = child.stderr.read().decode()
-    most = 5 * (time.monotonic() - begun) + 2
-    return 2 <= said.count("\r") <= most, shown(said)[1:]
+    seconds = time.monotonic() - begun
+    rate, wanted = int(re.search(r"(\d+) kB/s *$", said.rstrip("\n"))[1]), len(LONG) / seconds / 1000
+    return 2 <= said.count("\r") <= 5 * seconds + 2, wanted / 2 <= rate <= 2 * wanted, shown(said)[1:]
 
 
 def streams(program):
     yield "a copy to standard output by its name", partial(copied, program, ["-w", "-"], CLASSIC), (CLASSIC, "", 0)
     for name, words, given, files, text, said, status, changed in COPIES + READS:
         yield f"-w or -r: {name}", partial(done, program, words, given, files), (text, said, status, {**files, **changed})
-    for more in (files_too_large, files_of_others, protected_files, links, killed_runs, modes, closed_pipes, interrupted_calls, progress):
+    for more in (files_too_large, files_of_others, protected_files, links, synced, name_taken, killed_runs, modes, closed_pipes, interrupted_calls,
+                 progress):
         yield from more(program)

@@ -14,6 +14,7 @@ import argparse
 import ctypes
 import os
 import random
+import re
 import shutil
 import signal
 import socket
@@ -25,6 +26,7 @@ import threading
 import time
 
 from bridges import by_number, plain_frames, switched
+from forwarding import forwarded
 from programs import count
 from switch import built
 
@@ -91,6 +93,17 @@ class Network:
         words = ["ip", "netns", "exec", self.name(space), switch, *ports]
         self.programs[space] = subprocess.Popen(words, stdout=subprocess.PIPE, text=True)
         return self.programs[space].stdout.readline()
+
+    def link(self, one, first, other, second):
+        """Links two namespaces by interfaces that send nothing of their own, with room for long frames."""
+        run("ip", "link", "add", first, "netns", self.name(one), "type", "veth", "peer", "name", second, "netns", self.name(other))
+        for space, name in ((one, first), (other, second)):
+            self.do(space, "ip", "link", "set", name, "addrgenmode", "none", "mtu", "9500", "up")
+
+    def promiscuity(self, space, link):
+        """How many ask an interface for the frames of all stations."""
+        words = ["ip", "netns", "exec", self.name(space), "ip", "-d", "link", "show", link]
+        return int(re.search(r"promiscuity (\d+)", subprocess.run(words, stdout=subprocess.PIPE, text=True, check=True).stdout)[1])
 
     def ping(self, host, other):
         return self.do(host, "ping", "-c", "1", "-W", "1", f"10.0.0.{DIGITS[other]}")
@@ -213,9 +226,7 @@ def sent_by_ports(network, frames):
 def compared(network, switch, example):
     """For each of the drawn frames what leaves by each port of the switch, and of the example."""
     for port in COMPARED:
-        run("ip", "link", "add", f"q{port}", "netns", network.name("left"), "type", "veth", "peer", "name", f"h{port}", "netns", network.name("right"))
-        for space, link in (("left", f"q{port}"), ("right", f"h{port}")):
-            network.do(space, "ip", "link", "set", link, "addrgenmode", "none", "up")
+        network.link("left", f"q{port}", "right", f"h{port}")
     said = network.start("left", switch, [f"q{port}:{vlans}" for port, vlans in COMPARED.items()])
     yield "the switch with five ports starts", said, "switch: 5 ports\n"
     frames = plain_frames(random.Random(2), FRAMES)
@@ -248,6 +259,7 @@ def main():
                 return count([("the switch is built", False, True)])
             started = [(f"the switch {space} starts", network.start(space, switch, WORDS[space]), "switch: 3 ports\n") for space in WORDS]
             tried = [*started, *tried_in(network)]
+            tried += forwarded(network, switch, sys.modules[__name__])
             return count([*tried, *compared(network, switch, os.path.realpath(given.example))])
     finally:
         network.remove()

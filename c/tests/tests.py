@@ -16,6 +16,7 @@ word = word or ""
 sys.path.insert(0, folder)
 import etherpeel
 from compared import drawn_frames, drawn_packets, fronts, short_lists
+from lending import lending
 from nested import nested
 from sources import sources
 from etherpeel import Difference, FaultKind, FieldName, FilterErrorKind, Layer, LenSource, RestKind, Start, Status, _library
@@ -392,7 +393,7 @@ TESTS = {
     "layout": layout, "worked examples": worked_examples, "buffers": buffers, "packets": packets, "captures": captures,
     "sources": lambda: sources(CLASSIC, [b"\xff", b""]), "frames of captures": frames_of_captures, "filters": filters,
     "late texts": late_texts, "fields": fields, "cooked v2": cooked_v2, "tags in place": tags_in_place,
-    "headers in place": headers_in_place, "building": building, "wrong words": wrong_words, "nested calls": nested,
+    "headers in place": headers_in_place, "building": building, "wrong words": wrong_words, "nested calls": nested, "lent memory": lending,
     "drawn frames": lambda: drawn_frames(10000), "drawn packets": lambda: drawn_packets(3000), "short lists": short_lists, "fronts": fronts,
 }
 for name, test in TESTS.items():

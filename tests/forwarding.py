@@ -1,0 +1,137 @@
+"""What c/examples/switch.c does with frames at ports of each kind, for `network.py`: what leaves, and what it counts."""
+
+import signal
+import socket
+import time
+
+# The ports: two trunks, one of them for one VLAN, an access port, and one with a VLAN of its own beside a tagged one.
+PORTS = {1: "tagged=10", 2: "pvid=20:tagged=10", 3: "pvid=10", 4: "tagged=10,20"}
+ALL, STATION, OTHER = "ffffffffffff", "020000000001", "020000000002"
+BODY = "88b5" + "00" * 46
+# The name of a frame, the port by which it comes in, the frame, what leaves by which port, and what is counted there (IEEE 802.1Q, 6.9, 8.6, 9.6).
+ROWS = [
+    ("a frame of a VLAN", 3, f"{ALL}{STATION}{BODY}", {1: "8100000a", 2: "8100000a", 4: "8100000a"}, ""),
+    ("one with a priority and drop eligible", 1, f"{ALL}{STATION}8100d00a{BODY}", {2: "8100d00a", 3: "", 4: "8100d00a"}, ""),
+    ("one with a priority alone", 2, f"{ALL}{STATION}81006000{BODY}", {4: "81006014"}, ""),
+    ("of the VLAN without a tag", 2, f"{ALL}{STATION}{BODY}", {4: "81000014"}, ""),
+    ("of a VLAN whose frames leave one port without a tag", 4, f"{ALL}{STATION}81000014{BODY}", {2: ""}, ""),
+    ("of a VLAN that the port is not a member of", 1, f"{ALL}{STATION}81000014{BODY}", {}, "not a member"),
+    ("a service tag, which is payload", 2, f"{ALL}{STATION}88a8000a{BODY}", {4: "8100001488a8000a"}, ""),
+    ("a second tag, which is payload", 4, f"{ALL}{STATION}8100000a88a80014{BODY}", {1: "8100000a88a80014", 2: "8100000a88a80014", 3: "88a80014"}, ""),
+    ("without a tag at a port for tagged ones", 1, f"{ALL}{STATION}{BODY}", {}, "frame type"),
+    ("with a tag at a port for untagged ones", 3, f"{ALL}{STATION}8100000a{BODY}", {}, "frame type"),
+    ("the identifier 4095", 4, f"{ALL}{STATION}81000fff{BODY}", {}, "identifier 4095"),
+    ("from a group", 3, f"{ALL}030000000001{BODY}", {}, "source"),
+    ("to a reserved address", 3, f"0180c2000003{STATION}{BODY}", {}, "reserved address"),
+]
+BURST = 1_000
+
+
+def total(counts, words="received"):
+    return sum(it.get(words, 0) for it in counts.values())
+
+
+class Bridge:
+    """A switch with these ports, and the other end of each."""
+
+    def __init__(self, network, switch, tools):
+        self.network, self.tools = network, tools
+        for port in PORTS:
+            network.link("left", f"r{port}", "right", f"e{port}")
+        self.said = network.start("left", switch, [f"r{port}:{vlans}" for port, vlans in PORTS.items()])
+        self.program = network.programs["left"]
+        self.ends = {port: network.socket("right", f"e{port}") for port in PORTS}
+        for one in self.ends.values():
+            one.setsockopt(263, 8, 1)  # SOL_PACKET, PACKET_AUXDATA
+            one.setsockopt(socket.SOL_SOCKET, 33, 8 << 20)  # SO_RCVBUFFORCE
+
+    def numbers(self):
+        """What the switch counts, by the number of a port."""
+        self.program.send_signal(signal.SIGUSR1)
+        found = self.tools.numbers(self.network, "left", len(PORTS))
+        return {int(name[1:]): it for name, it in found.items()}
+
+    def after(self, *frames):
+        """What is counted once these frames, each with its port, are received, besides what was counted before."""
+        before = self.numbers()
+        for port, frame in frames:
+            self.ends[port].send(frame)
+        end = time.monotonic() + 5
+        now = self.numbers()
+        while total(now) < total(before) + len(frames) and time.monotonic() < end:
+            now = self.numbers()
+        return {port: {words: it[words] - before[port].get(words, 0) for words in it if it[words] != before[port].get(words, 0)}
+                for port, it in now.items()}
+
+    def left(self):
+        """The frames that wait at the other ends, as hexadecimal digits."""
+        return {port: found for port, one in self.ends.items() if (found := self.tools.tagged_frames(one))}
+
+
+def rows(bridge):
+    """Of each row what leaves by each port, and what is counted at the first."""
+    for name, port, frame, sent, reason in ROWS:
+        counts = bridge.after((port, bytes.fromhex(frame)))
+        wanted = {"received": 1, **({f"discarded ({reason})": 1} if reason else {})}
+        body = BODY if not reason else ""
+        yield f"{name}: what is counted", counts, {**{it: {"sent": 1} if it in sent else {} for it in PORTS}, port: wanted}
+        yield f"{name}: what leaves", bridge.left(), {it: [frame[:24] + tags + body] for it, tags in sent.items()}
+
+
+def long_frames(bridge):
+    """The longest frame that passes, and one that is longer."""
+    for length, counted in ((9232, {}), (9233, {"too long": 1})):
+        counts = bridge.after((3, bytes.fromhex(ALL + STATION + "88b5").ljust(length, b"\1")))
+        yield f"{length:,} bytes: what is counted", counts[3], {"received": 1, **counted}
+        yield f"{length:,} bytes: what leaves", {port: [len(it) // 2 for it in found] for port, found in bridge.left().items()}, (
+            {port: [length + 4] for port in (1, 2, 4)} if not counted else {})
+
+
+def burst(bridge):
+    """Frames that come in while the switch stands still, more than it takes at once: each leaves, in their order."""
+    bridge.program.send_signal(signal.SIGSTOP)
+    frames = [bytes.fromhex(ALL + STATION + "88b5").ljust(1500, b"\0") + number.to_bytes(4, "big") for number in range(BURST)]
+    for frame in frames:
+        bridge.ends[3].send(frame)
+    bridge.program.send_signal(signal.SIGCONT)
+    end = time.monotonic() + 5
+    found = {1: [], 2: [], 4: []}
+    while any(len(it) < BURST for it in found.values()) and time.monotonic() < end:
+        for port, more in bridge.left().items():
+            found[port] += more
+    for port, they in found.items():
+        yield f"frames of a burst that leave by port {port}", [int(it[-8:], 16) for it in they], list(range(BURST))
+
+
+def stations(bridge):
+    """A frame to a station leaves by its port alone, also seconds after the station was seen."""
+    frame = bytes.fromhex(f"{OTHER}{STATION}{BODY}")
+    bridge.after((3, bytes.fromhex(f"{ALL}{OTHER}{BODY}")))
+    bridge.left()
+    for seconds in (0, 4):
+        time.sleep(seconds)
+        bridge.after((1, frame[:12] + bytes.fromhex("8100000a") + frame[12:]))
+        yield f"to a station that was seen {seconds} seconds ago", bridge.left(), {3: [frame.hex()]}
+    bridge.after((3, frame))
+    yield "to a station at the same port", bridge.left(), {}
+
+
+def interface_down(bridge):
+    """A frame that can't leave by one of its ports."""
+    bridge.network.do("left", "ip", "link", "set", "r1", "down")
+    counts = bridge.after((3, bytes.fromhex(f"{ALL}{STATION}{BODY}")))
+    yield "a port that is down: what is counted", counts, {1: {"not sent": 1}, 2: {"sent": 1}, 3: {"received": 1}, 4: {"sent": 1}}
+    yield "a port that is down: what leaves", sorted(bridge.left()), [2, 4]
+
+
+def forwarded(network, switch, tools):
+    """What is tried; `tools` is the module `network`."""
+    bridge = Bridge(network, switch, tools)
+    yield "the switch with four ports starts", bridge.said, "switch: 4 ports\n"
+    yield "each port hears all stations", [network.promiscuity("left", f"r{port}") for port in PORTS], [1] * len(PORTS)
+    for part in (rows, long_frames, burst, stations, interface_down):
+        yield from part(bridge)
+    for port, one in bridge.ends.items():
+        one.close()
+    bridge.program.send_signal(signal.SIGINT)
+    yield "the status after SIGINT", bridge.program.wait(5), 0
