@@ -175,7 +175,7 @@ ORDER = {
         ether_pcap: Numbers FileHeader Record Block Section Options Bodies Capture CaptureReading Views PcapngViews CaptureViews
     """,
     "Captures written": """
-        ether_pcap: Capture Writing WritingBlocks Editing CopiedUnits Copies Views PcapngViews
+        ether_pcap: Capture Writing WritingBlocks Editing CopiedUnits Interfaces Copies Views PcapngViews
     """,
     "Captured packets": """
         ether_sll2: LinuxSll2

@@ -7,10 +7,10 @@ import tempfile
 from functools import partial
 
 from made_captures import (
-    CLASSIC, CLASSIC_LINES, DISK_IS_FULL, DOUBLE, FCS_LINES, FIRST_LINES, IS_FOLDER, NO_FILE, ONE_LINES, SECTIONS, SECTION_LINES, SIX, TAGGED_V2,
+    CLASSIC, CLASSIC_LINES, DISK_IS_FULL, DOUBLE, FCS_LINES, FIRST_LINES, INPUT, IS_FOLDER, NO_FILE, ONE_LINES, SECTIONS, SECTION_LINES, SIX, TAGGED_V2,
     V2_LINE, WITH_FCS, classic, plain, record_is_cut, secrets,
 )
-from programs import on_a_full_disk, run_apart, without_memory
+from programs import on_a_full_disk, run_apart, run_until_a_fault, without_memory
 
 
 def part(lines, before):
@@ -62,6 +62,11 @@ SEVERAL_FILES = [
     ("the second packet that a filter selects", ["-c", "2", "--select", "not refused and vlan 291", "one.pcap", "two.pcapng", "cut.pcap"],
      part(CLASSIC_LINES, 0).replace(FIRST_LINES, "") + part(SECTION_LINES, 2)[part(SECTION_LINES, 2).index("frame 5"):part(SECTION_LINES, 2).index("frame 6")]
      + totals(5, 0, " undecided 2"), 0),
+    ("standard input first", ["-", "two.pcapng"], ONE_TWO + totals(6, 1), 1),
+    ("standard input last", ["fcs.pcap", "-"], part(FCS_LINES, 0) + part(CLASSIC_LINES, 2) + totals(4, 0), 1),
+    ("standard input among others", ["none.pcap", "-", "two.pcapng"], ONE_TWO + totals(6, 1), 1),
+    ("packets before standard input", ["-c", "2", "fcs.pcap", "-"], FCS_LINES, 0),
+    ("standard input and the rows of columns", ["--fields", "frame.number,vlan.vid", "none.pcap", "-"], "1\t1\n2\t291\n", 1),
     ("a limit", ["--limit", "0", "--plain", "--select", "outer vlan 100", "six.pcap", "six.pcap"], 2 * (plain(DOUBLE) + "rest 14 23 type 0x88A8\n"), 0),
     ("a limit after a header of cooked capture v2", ["--plain", "--limit", "0", "none.pcap", "v2.pcap"], V2_LINE + "rest 20 25 type 0x8100\n", 0),
 ]
@@ -80,6 +85,11 @@ def several(program):
         try:
             for name, words, text, status, *said in SEVERAL_FILES:
                 yield f"several files: {name}", partial(run_apart, program, words, CLASSIC), (text, "".join(said), status)
+            found = partial(run_apart, program, ["--plain", "one.pcap", "-"], CLASSIC[:120])
+            wanted = plain(CLASSIC_LINES) + plain(FIRST_LINES), INPUT + record_is_cut(59, 62, 61), 3
+            yield "several files, a fault of standard input", found, wanted
+            found = partial(run_until_a_fault, program, ["--plain", "one.pcap", "-"], CLASSIC[:59])
+            yield "several files, standard input that can't be read", found, (plain(CLASSIC_LINES) + plain(FIRST_LINES), 4)
             found = partial(without_memory, program, b"", ["no", "large", "fcs.pcap"])
             wanted = ONE_LINES + part(FCS_LINES, 1) + totals(3, 0), "no" + NO_FILE + "large: out of memory\n", 5
             yield "several files, no memory for a block", found, wanted

@@ -10,12 +10,17 @@ import time
 from functools import partial
 from shutil import which
 
-from made_captures import CLASSIC, CLASSIC_LINES, INPUT, IS_FOLDER, NO_FILE, SIX, classic, record_is_cut
+from made_captures import CLASSIC, CLASSIC_LINES, INPUT, IS_FOLDER, NO_FILE, SIX, classic, joined, record_is_cut
 from capture_copies import copied
 from programs import interrupted, run_apart
 
 OLD = b"what the file had before"
+SURPLUS = "ether_capture: one: this is one FILE too many; try --help\n"
 CLASH = "ether_capture: these options do not go together; try --help\n"
+# Both packets with a tag after their first header, and a snap length that is 4 greater.
+PUSHED = (CLASSIC[:16] + (0xFFFF + 4).to_bytes(4, "big") + CLASSIC[20:24]
+          + CLASSIC[24:32] + joined("00000017 00000040") + CLASSIC[40:52] + joined("8100 0005") + CLASSIC[52:59]
+          + CLASSIC[59:67] + joined("00000032 00000032") + CLASSIC[75:87] + joined("8100 0005") + CLASSIC[87:])
 LONG = classic(*SIX) + classic(*SIX)[24:] * 4_000
 
 
@@ -26,6 +31,15 @@ def contents(folder):
         with open(os.path.join(folder, name), "rb") as file:
             found[name] = file.read()
     return found
+
+
+def contents_of(folder, name):
+    """What a file has, or None."""
+    try:
+        with open(os.path.join(folder, name), "rb") as file:
+            return file.read()
+    except FileNotFoundError:
+        return None
 
 
 def filled(folder, files):
@@ -56,6 +70,7 @@ COPIES = [
     ("a full disk", ["-w", "/dev/full", "one"], b"", {"one": CLASSIC}, "", not_written("/dev/full", ": no space is left"), 4, {}),
     ("a folder", ["-w", ".", "one"], b"", {"one": CLASSIC}, "", not_written(".", ": it is a folder"), 4, {}),
     ("a folder that is not there", ["-w", "no/new", "one"], b"", {"one": CLASSIC}, "", not_written("no/new", ": there is no such folder"), 4, {}),
+    ("no name", ["-w", "", "one"], b"", {"one": CLASSIC}, "", not_written("", ": its name is empty"), 4, {}),
     ("a file in place of a folder", ["-w", "one/new", "one"], b"", {"one": CLASSIC}, "", not_written("one/new", ": there is no such folder"), 4, {}),
     ("a capture that is cut", ["-w", "two", "one"], b"", {"one": CLASSIC[:120], "two": OLD}, "", "one" + record_is_cut(59, 62, 61), 3, {}),
     ("standard input that is cut", ["-w", "two"], CLASSIC[:120], {"two": OLD}, "", INPUT + record_is_cut(59, 62, 61), 3, {}),
@@ -65,14 +80,14 @@ COPIES = [
      "--select: At byte 5: expected a number up to 4095, `and`, `or`, `)` or the end.\n", 2, {}),
     ("lines", ["-w", "two", "--plain"], CLASSIC, {"two": OLD}, "", CLASH, 2, {}),
     ("a limit", ["-w", "two", "--limit", "1"], CLASSIC, {"two": OLD}, "", CLASH, 2, {}),
-    ("two captures", ["-w", "two", "one", "one"], b"", {"one": CLASSIC, "two": OLD}, "", CLASH, 2, {}),
+    ("two captures", ["-w", "two", "one", "one"], b"", {"one": CLASSIC, "two": OLD}, "", SURPLUS, 2, {}),
 ]
 READS = [
     ("a file by -r", ["-r", "one"], b"", {"one": CLASSIC}, CLASSIC_LINES, "", 1, {}),
     ("the same in one word", ["-rone"], b"", {"one": CLASSIC}, CLASSIC_LINES, "", 1, {}),
     ("standard input by -r", ["-r", "-"], CLASSIC, {}, CLASSIC_LINES, "", 1, {}),
     ("a file that is not there by -r", ["-r", "one"], CLASSIC, {}, "", "one" + NO_FILE, 4, {}),
-    ("a file by -r and one besides", ["-r", "one", "one"], b"", {"one": CLASSIC}, "", CLASH, 2, {}),
+    ("a file by -r and one besides", ["-r", "one", "one"], b"", {"one": CLASSIC}, "", SURPLUS, 2, {}),
     ("nothing shown of no expression", ["--progress", "--select", "vlan x"], b"", {}, "",
      "--select: At byte 5: expected a number up to 4095, `and`, `or`, `)` or the end.\n", 2, {}),
     ("two files by -r", ["-r", "one", "-r", "one"], b"", {"one": CLASSIC}, "",
@@ -113,14 +128,54 @@ def protected_files(program):
         return [("a copy to a protected file", (found, contents(folder)), wanted)]
 
 
+def in_place(program, words, files, given=None, how=0o555):
+    """What becomes of files that all may write, in a folder of others with this mode; standard input is the file of the name `given`, if there is one."""
+    with tempfile.TemporaryDirectory() as folder:
+        filled(folder, files)
+        for name in files:
+            os.chmod(os.path.join(folder, name), 0o666)
+        os.chmod(folder, how)
+        other = {"user": 65_534} if os.getuid() == 0 else {}
+        with open(os.path.join(folder, given) if given else os.devnull, "rb") as stdin:
+            ran = subprocess.run([program, *words], stdin=stdin, capture_output=True, cwd=folder, check=False, **other)
+        found = contents(folder)
+        os.chmod(folder, 0o755)
+    return (ran.stdout, ran.stderr.decode(), ran.returncode), {name: text for name, text in found.items() if text != files.get(name)}
+
+
+def copies_in_place(program):
+    """Copies to files in a folder where none can be made: they are written in place, unless the copy is of the file itself."""
+    files = {"one": CLASSIC, "two": OLD, "cut": CLASSIC[:120]}
+    denied = not_written("one", ": permission denied")
+    return [(f"in place: {name}", in_place(program, words, files, given), ((b"", said, status), changed)) for name, words, given, said, status, changed in (
+        ("a shorter copy", ["-w", "two", "one", "-c", "1"], None, "", 0, {"two": CLASSIC[:59]}),
+        ("a longer copy", ["-w", "two", "one", "--push-vlan", "0x8100:5"], None, "", 0, {"two": PUSHED}),
+        ("standard input", ["-w", "two"], "one", "", 0, {"two": CLASSIC}),
+        ("a capture that is cut", ["-w", "two", "cut"], None, "cut" + record_is_cut(59, 62, 61), 3, {"two": CLASSIC[:59]}),
+        ("a copy of the file itself", ["-w", "one", "one", "--push-vlan", "0x8100:5"], None, denied, 4, {}),
+        ("the same by another name", ["-w", "one", "./one", "-c", "1"], None, denied, 4, {}),
+        ("the same by standard input", ["-w", "one"], "one", denied, 4, {}),
+        ("a new file", ["-w", "new", "one"], None, not_written("new", ": permission denied"), 4, {}),
+    )]
+
+
 def links(program):
-    """A copy by a symbolic link to a file in another folder."""
+    """Copies by symbolic links: to a file in another folder, to one that is not there, to a link, to a folder that is not there, to itself."""
+    tried = []
     with tempfile.TemporaryDirectory() as folder, tempfile.TemporaryDirectory() as other:
         filled(other, {"two": OLD})
-        os.symlink(os.path.join(other, "two"), os.path.join(folder, "link"))
-        found = run_apart(program, ["-w", "link"], CLASSIC, cwd=folder)
-        is_link = os.path.islink(os.path.join(folder, "link"))
-        return [("a copy by a link", (found, is_link, os.listdir(folder), contents(other)), (("", "", 0), True, ["link"], {"two": CLASSIC}))]
+        leads = {"link": os.path.join(other, "two"), "new": os.path.join(other, "three"), "near": "here", "twice": "near", "far": "gone/new", "round": "round"}
+        for name, to in leads.items():
+            os.symlink(to, os.path.join(folder, name))
+        for name in leads:
+            tried.append((name, run_apart(program, ["-w", name], CLASSIC, cwd=folder)))
+        tried.append(("a fault", run_apart(program, ["-w", "new"], CLASSIC[:120], cwd=folder)))
+        are_links = all(os.path.islink(os.path.join(folder, name)) for name in leads)
+        found = tried, are_links, sorted(os.listdir(folder)), contents(other), contents_of(folder, "here")
+    ends = [(name, ("", "", 0)) for name in ("link", "new", "near", "twice")]
+    ends += [("far", ("", not_written("far", ": there is no such folder"), 4)), ("round", ("", not_written("round"), 4)),
+             ("a fault", ("", INPUT + record_is_cut(59, 62, 61), 3))]
+    return [("copies by links", found, (ends, True, sorted([*leads, "here"]), {"two": CLASSIC, "three": CLASSIC}, CLASSIC))]
 
 
 def until(holds):
@@ -269,6 +324,6 @@ def streams(program):
     yield "a copy to standard output by its name", partial(copied, program, ["-w", "-"], CLASSIC), (CLASSIC, "", 0)
     for name, words, given, files, text, said, status, changed in COPIES + READS:
         yield f"-w or -r: {name}", partial(done, program, words, given, files), (text, said, status, {**files, **changed})
-    for more in (files_too_large, files_of_others, protected_files, links, synced, name_taken, killed_runs, modes, closed_pipes, interrupted_calls,
+    for more in (files_too_large, files_of_others, protected_files, copies_in_place, links, synced, name_taken, killed_runs, modes, closed_pipes, interrupted_calls,
                  progress):
         yield from more(program)

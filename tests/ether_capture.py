@@ -296,6 +296,14 @@ def no_column(name):
     return wrong(f"--fields: there is no column '{name}'")
 
 
+def lacking(option, needed):
+    return wrong(f"{option} needs {needed}")
+
+
+def surplus(name):
+    return wrong(f"{name}: this is one FILE too many")
+
+
 EXPECTED = {
     "-c": "a number from 1 to 4294967295",
     "--limit": "a number up to 4294967295",
@@ -322,8 +330,8 @@ WRONG = [
     ("two limits", ["--limit", "1", "--limit", "1"], TWICE),
     ("a limit of a copy", ["--write", "--limit", "1"], CLASH),
     ("a limit of an edited copy", ["--limit", "0", "--cut-to-headers", "--write"], CLASH),
-    ("a copy of two files", ["--write", "one", "two"], CLASH),
-    ("an edited copy of three files", ["--pop-vlan", "--write", "one", "two", "three"], CLASH),
+    ("a copy of two files", ["--write", "one", "two"], surplus("two")),
+    ("an edited copy of three files", ["--pop-vlan", "--write", "one", "two", "three"], surplus("two")),
     ("a format that is none", ["--format", "xml"], expected("--format", "xml")),
     ("no format", ["--format", ""], expected("--format", "")),
     ("a format in capitals", ["--format", "JSON"], expected("--format", "JSON")),
@@ -343,7 +351,9 @@ WRONG = [
     ("columns in capitals", ["--fields", "VLAN.VID"], no_column("VLAN.VID")),
     ("columns twice", ["--fields", "vlan.vid", "--fields", "eth.src"], TWICE),
     ("columns without their names", ["--fields"], missing("--fields")),
-    ("a line of names without columns", ["--header"], CLASH),
+    ("a line of names without columns", ["--header"], lacking("--header", "--fields")),
+    ("a line of names without columns, of a file", ["--header", "a.pcap"], lacking("--header", "--fields")),
+    ("a line of names without columns, and a copy", ["--header", "--write"], lacking("--header", "--fields")),
     ("columns and JSON", ["--fields", "vlan.vid", "--format", "json"], CLASH),
     ("plain columns", ["--fields", "vlan.vid", "--plain"], CLASH),
     ("columns and a copy", ["--fields", "vlan.vid", "--write"], CLASH),
@@ -367,10 +377,10 @@ WRONG = [
     ("lines and a copy", ["--plain", "--write"], CLASH),
     ("a copy twice", ["--write", "--select", "arp", "--write"], TWICE),
     ("two filters", ["--select", "arp", "--select", "arp"], TWICE),
-    ("headers without a copy", ["--cut-to-headers"], CLASH),
+    ("headers without a copy", ["--cut-to-headers"], lacking("--cut-to-headers", "--write or -w")),
     ("headers twice", ["--write", "--cut-to-headers", "--cut-to-headers"], TWICE),
-    ("a tag less without a copy", ["--pop-vlan"], CLASH),
-    ("a tag more without a copy", ["--push-vlan", "0x8100:5"], CLASH),
+    ("a tag less without a copy", ["--pop-vlan"], lacking("--pop-vlan", "--write or -w")),
+    ("a tag more without a copy", ["--push-vlan", "0x8100:5"], lacking("--push-vlan", "--write or -w")),
     ("no tag to put in", ["--write", "--push-vlan"], missing("--push-vlan")),
     ("a tag without a TPID", ["--write", "--push-vlan", "5"], expected("--push-vlan", "5")),
     ("a TPID of another kind", ["--write", "--push-vlan", "0x8101:5"], expected("--push-vlan", "0x8101:5")),
@@ -379,7 +389,7 @@ WRONG = [
     ("an octal identifier", ["--write", "--push-vlan", "0x8100:05"], expected("--push-vlan", "0x8100:05")),
     ("a number of more than 32 bits", ["--write", "--push-vlan", "0x100008100:5"], expected("--push-vlan", "0x100008100:5")),
     ("two edits", ["--write", "--pop-vlan", "--cut-to-headers"], EDITS),
-    ("another identifier without a copy", ["--set-vlan", "5:6"], CLASH),
+    ("another identifier without a copy", ["--set-vlan", "5:6"], lacking("--set-vlan", "--write or -w")),
     ("no identifiers", ["--write", "--set-vlan"], missing("--set-vlan")),
     ("one identifier", ["--write", "--set-vlan", "5"], expected("--set-vlan", "5")),
     ("no second identifier", ["--write", "--set-vlan", "5:"], expected("--set-vlan", "5:")),
@@ -392,7 +402,12 @@ WRONG = [
     ("another identifier and a tag less", ["--write", "--set-vlan", "5:6", "--pop-vlan"], EDITS),
     ("a tag more and another identifier", ["--write", "--push-vlan", "0x8100:5", "--set-vlan", "5:6"], EDITS),
     ("undecided packets that are neither kept nor dropped", ["--select", "vlan", "--undecided", "maybe"], expected("--undecided", "maybe")),
-    ("undecided packets without a filter", ["--undecided", "keep"], CLASH),
+    ("undecided packets without a filter", ["--undecided", "keep"], lacking("--undecided", "--select")),
+    ("undecided packets of a file without a filter", ["--undecided", "keep", "a.pcap"], lacking("--undecided", "--select")),
+    ("a file beside that of -r", ["-r", "one", "two", "three"], surplus("two")),
+    ("standard input beside the file of -r", ["-r", "one", "-"], surplus("-")),
+    ("standard input twice", ["-", "-"], wrong("-: standard input can be read only once")),
+    ("standard input twice among others", ["-", "one", "-", "two"], wrong("-: standard input can be read only once")),
     ("a filter that is wrong, and an option that is none", ["--select", "vlan 4096", "-c", "0"], expected("-c", "0")),
 ]
 

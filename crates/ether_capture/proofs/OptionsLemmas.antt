@@ -4,9 +4,8 @@ use Rattle.clap.specs.Words.{App, FailsBy, HasKind, HasMatchesOf, IsAmong, Row, 
 use Rattle.clap.specs.declared.error.Error.{Error}
 use Rattle.clap.specs.declared.error.kind.ErrorKind.{ErrorKind}
 use Rattle.clap.specs.declared.parser.matches.ArgMatches.{ArgMatches}
-use Rattle.ether_capture.specs.Options.{AskedValue, Asks, IsRefusedUsage, IsRequestOf, KindNames, MeansNothing, NamesRequest, RefusesAsked, RefusesKind, RefusesRows, RefusesWords, capture_app, clap_refuses, clashing, help, means_nothing, no_expression, no_memory, options, request_view, version}
+use Rattle.ether_capture.specs.Options.{AskedValue, Asks, IsRefusedUsage, IsRequestOf, KindNames, MeansNothing, NamesRequest, RefusesAsked, RefusesKind, RefusesRows, RefusesWords, capture_app, clap_refuses, help, means_nothing, no_expression, no_memory, options, request_view, unfit, version}
 use Rattle.ether_stream.specs.declared.usage.Usage.{Usage}
-use Rattle.ether_stream.specs.declared.usage.Usage.TheVariants as usages
 use Rattle.ether_capture.specs.declared.request.Asked.{Asked}
 use Rattle.ether_capture.specs.declared.request.Request.{Request}
 use Rattle.ether_capture.specs.declared.request.RequestError.{RequestError}
@@ -61,14 +60,8 @@ module _ (words : List Text) (rows : List Row) (taken : fault_of capture_app wor
   pub asked_refused : (a : AskedValue) (r : Result Request RequestError) → Asks rows a → IfErr r (RefusesAsked a)
       → IfErr r (RefusesWords words)
   asked_refused a (Ok request) asks refused = tt
-  asked_refused a (Err (reasons.Usage usages.Clash)) asks clashed =
-      clashing (record { asked = a; taken = taken; asks = subst (λ it. Asks it a) is asks; clash = clashed })
-  asked_refused a (Err (reasons.Usage (usages.Unknown word))) asks never = absurd never
-  asked_refused a (Err (reasons.Usage (usages.NoValue word))) asks never = absurd never
-  asked_refused a (Err (reasons.Usage usages.Words)) asks never = absurd never
-  asked_refused a (Err (reasons.Usage usages.Edits)) asks never = absurd never
-  asked_refused a (Err (reasons.Usage (usages.NoColumn name))) asks never = absurd never
-  asked_refused a (Err (reasons.Usage (usages.Value option text))) asks never = absurd never
+  asked_refused a (Err (reasons.Usage usage)) asks is_fault =
+      unfit usage (record { asked = a; taken = taken; asks = subst (λ it. Asks it a) is asks; is_fault = is_fault })
   asked_refused a (Err (reasons.Filter e)) asks refused =
       no_expression e (record { asked = a; taken = taken; asks = subst (λ it. Asks it a) is asks; no_filter = refused })
   asked_refused a (Err reasons.Memory) asks refused = absurd refused
@@ -119,10 +112,3 @@ pub value_refused : (rows : List Row) (usage : Usage) (r : Result Asked RequestE
     → IsErrAnd r (λ it. it ≡ reasons.Usage usage) → IfErr r (RefusesRows rows)
 value_refused rows usage (Ok asked) means same = tt
 value_refused rows usage (Err e) means same = subst (RefusesRows rows) (sym same) means
-
--- ---- options that clash
-
-pub any_last : (a b c : Bool) → c ≡ true → true ≡ (a || (b || c))
-any_last true b c e = refl
-any_last false true c e = refl
-any_last false false c e = sym e

@@ -1,6 +1,7 @@
 -- What is read of several captures, one after the other.
-use Rattle.std.proofs.Common.{◌≡◌, ◌≢◌, ◌⊎◌, ℕ, ◌+◌, List, [], length, map, Option, Result, Ok, Err, IfErr, refl, sym, subst, ◌∙◌, arith, inl, inr}
-use Rattle.std.specs.Prelude.{max}
+use Rattle.std.proofs.Common.{◌≡◌, ◌≢◌, ◌⊎◌, ℕ, ◌+◌, List, [], ◌∷◌, length, map, codes, Bool, true, false, Option, Some, None, Result, Ok, Err, IfErr, refl, sym, subst, ◌∙◌, arith, inl, inr}
+use Rattle.std.specs.Prelude.{max, if◌then◌else◌}
+use Rattle.std.specs.Str.{bytes_eq}
 use Rattle.std.specs.Borrow.{Bor}
 use Rattle.std.specs.Vec.Iter.{into_iter_items}
 use Rattle.std.specs.declared.vec.IntoIter.{IntoIter}
@@ -8,11 +9,11 @@ use Rattle.ether_pcap.specs.Capture.{PacketValue}
 use Rattle.ether_text.specs.Run.{IsEndless}
 use Rattle.ether_text.specs.declared.verdict.Verdict.{Verdict}
 use Rattle.ether_stream.specs.Counting.{AreCounted, HasCounted, IfFileRead, IfRead}
-use Rattle.ether_capture.specs.SeveralFiles.{HasEnded, ReadsFile, Settles, Tells, next_task}
-use Rattle.ether_capture.specs.Options.{ListingValue}
-use Rattle.ether_stream.specs.Outcome.{status_of_file, text_of_file}
+use Rattle.ether_capture.specs.SeveralFiles.{HasEnded, ReadsFile, Settles, Tells, next_task, text_of_capture}
+use Rattle.ether_capture.specs.Options.{ListingValue, named, names_input}
+use Rattle.ether_stream.specs.Outcome.{status_of_file}
 use Rattle.ether_stream.specs.Packets.{counted, IsLeftOf}
-use Rattle.ether_stream.specs.Run.{HasNoMemory, OnStreamFault}
+use Rattle.ether_stream.specs.Run.{HasNoMemory, HasRunOver, OnStreamFault}
 use Rattle.ether_stream.specs.Task.{TaskValue}
 use Rattle.ether_stream.specs.declared.open_fault.OpenFault.{OpenFault}
 use Rattle.ether_stream.specs.declared.counts.PacketCounts.{PacketCounts}
@@ -36,40 +37,62 @@ settled is_flushed can_fail a b c (inl (inl flushed)) (inl (inr same)) =
     inl (inl (subst is_flushed (sym same) flushed))
 settled is_flushed can_fail a b c (inl (inr same)) (inl (inr again)) = inl (inr (again ∙ same))
 
-module _ (has : List ℕ → Option (List ℕ) → Type 0) (can_refuse : OpenFault → Type 0) (can_read can_write : Type 0) where
-  -- how many packets were read is known of each end but that of a failed output, since lines edit no packet
-  counts_known : (l : ListingValue) (at : Tally) (name : List ℕ) (packets : List PacketValue)
-      (held holds : Option (List ℕ)) (end : FileEnd) {P : Type 0}
-      → HasEnded has can_refuse can_read can_write (next_task l at) name packets held holds end
+-- the names after one that is not that of standard input
+module _ (b : Bool) (word : List ℕ) (others : Bool) where
+  not_input : (if b then true else others) ≡ false → ((if b then None else Some word) ≡ Some word) × (others ≡ false)
+  not_input is = by b is
+    where
+      by : (c : Bool) → (if c then true else others) ≡ false → ((if c then None else Some word) ≡ Some word) × (others ≡ false)
+      by true is = absurd cc
+      by false is = (refl, is)
+
+pub file_names : (word : List ℕ) (names : List (List ℕ)) → names_input (word ∷ names) ≡ false
+    → (named word ≡ Some word) × (names_input names ≡ false)
+file_names word names is = not_input (bytes_eq word (codes "-")) word (names_input names) is
+
+module _ (has : List ℕ → Option (List ℕ) → Type 0) (can_fail : Type 0) (can_refuse : OpenFault → Type 0) (can_read can_write : Type 0) where
+  -- lines edit no packet
+  no_edit : (l : ListingValue) (at : Tally) (packets : List PacketValue) (before after held holds : Option (List ℕ)) (offset : ℕ)
+      → HasRunOver (next_task l at) packets before after held holds (Err (faults.NotEdited offset))
+      ⊎ ((packets ≡ []) × HasNoMemory before after held holds (Err (faults.NotEdited offset))) → ⊥
+  no_edit l at packets before after held holds offset (inl run) = run.stops
+  no_edit l at packets before after held holds offset (inr (none, no_memory)) = let e = no_memory.0 in absurd cc
+
+  -- how many packets were read is known of each end but that of a failed output
+  counts_known : (l : ListingValue) (at : Tally) (name : Option (List ℕ)) (packets : List PacketValue)
+      (before after held holds : Option (List ℕ)) (end : FileEnd) {P : Type 0}
+      → HasEnded has can_fail can_refuse can_read can_write (next_task l at) name packets before after held holds end
       → IfFileRead end P → end ≢ ends.Read (Err faults.Output) → P
-  counts_known l at name packets held holds (ends.NotOpened fault) ended known going = known
-  counts_known l at name packets held holds (ends.Read (Ok verdict)) ended known going = known
-  counts_known l at name packets held holds (ends.Read (Err (faults.Capture fault))) ended known going = known
-  counts_known l at name packets held holds (ends.Read (Err (faults.NotEdited offset)))
-      (before, after, is, inl run, failed) known going = absurd run.stops
-  counts_known l at name packets held holds (ends.Read (Err (faults.NotEdited offset)))
-      (before, after, is, inr (none, no_memory), failed) known going = let e = no_memory.0 in absurd cc
-  counts_known l at name packets held holds (ends.Read (Err faults.Input)) ended known going = known
-  counts_known l at name packets held holds (ends.Read (Err faults.Output)) ended known going = absurd (going refl)
-  counts_known l at name packets held holds (ends.Read (Err faults.Memory)) ended known going = known
+  counts_known l at name packets before after held holds (ends.NotOpened fault) ended known going = known
+  counts_known l at name packets before after held holds (ends.Read (Ok verdict)) ended known going = known
+  counts_known l at name packets before after held holds (ends.Read (Err (faults.Capture fault))) ended known going = known
+  counts_known l at (Some name) packets before after held holds (ends.Read (Err (faults.NotEdited offset)))
+      (same, (first, last, is, run, failed)) known going = absurd (no_edit l at packets first last held holds offset run)
+  counts_known l at None packets before after held holds (ends.Read (Err (faults.NotEdited offset))) (run, failed) known going =
+      absurd (no_edit l at packets before after held holds offset run)
+  counts_known l at name packets before after held holds (ends.Read (Err faults.Input)) ended known going = known
+  counts_known l at name packets before after held holds (ends.Read (Err faults.Output)) ended known going = absurd (going refl)
+  counts_known l at name packets before after held holds (ends.Read (Err faults.Memory)) ended known going = known
 
   -- a capture was read, and why it was not read to its end is told
   pub file_read : (can_tell : Type 0) (l : ListingValue) (task : TaskValue) (name : List ℕ) (at next : Tally)
-      (held holds told tells : Option (List ℕ)) (packets : List PacketValue) (end : FileEnd) (counts : PacketCounts)
+      (before after held holds told tells : Option (List ℕ)) (packets : List PacketValue) (end : FileEnd) (counts : PacketCounts)
       → task ≡ next_task l at
-      → HasEnded has can_refuse can_read can_write task name packets held holds end
+      → HasEnded has can_fail can_refuse can_read can_write task (named name) packets before after held holds end
       → IfFileRead end (AreCounted task packets counts) → end ≢ ends.Read (Err faults.Output)
-      → Tells can_tell (text_of_file name end) told tells
+      → Tells can_tell (text_of_capture (named name) end) told tells
       → next.packets ≡ counts.number → next.skipped ≡ counted (at.skipped + counts.skipped)
       → next.undecided ≡ counted (at.undecided + counts.undecided)
       → next.left ≡ counts.left → next.status ≡ max at.status (status_of_file end)
-      → ReadsFile has can_refuse can_read can_write can_tell l name at held told next holds tells
-  file_read can_tell l task name at next held holds told tells packets end counts same ended known going is_told number
+      → ReadsFile has can_fail can_refuse can_read can_write can_tell l name at before held told next after holds tells
+  file_read can_tell l task name at next before after held holds told tells packets end counts same ended known going is_told number
       skipped undecided left status =
       let ended_so =
-      subst (λ (t : TaskValue). HasEnded has can_refuse can_read can_write t name packets held holds end) same ended in
+      subst
+      (λ (t : TaskValue). HasEnded has can_fail can_refuse can_read can_write t (named name) packets before after held holds end)
+      same ended in
       let known_so = subst (λ (t : TaskValue). IfFileRead end (AreCounted t packets counts)) same known in
-      let are = counts_known l at name packets held holds end ended_so known_so going in
+      let are = counts_known l at (named name) packets before after held holds end ended_so known_so going in
       record {
         packets = packets;
         end = end;
@@ -89,24 +112,19 @@ module _ (has : List ℕ → Option (List ℕ) → Type 0) (can_refuse : OpenFau
         };
       }
 
-  -- a run that was counted, or had no memory, is the end of a capture
-  pub run_ended : (task : TaskValue) (name : List ℕ) (before after held holds : Option (List ℕ))
-      (end : Result Verdict RunFault) (counts : PacketCounts)
-      → has name before
+  -- a run that was counted, or had no memory, is the end of standard input
+  pub input_ended : (task : TaskValue) (before after held holds : Option (List ℕ)) (end : Result Verdict RunFault)
+      (counts : PacketCounts)
       → HasCounted task before after held holds end counts
       ⊎ (HasNoMemory before after held holds end × AreCounted task [] counts)
-      → IfErr end (λ fault. OnStreamFault fault (can_read ⊎ IsEndless before after) can_write)
-      → (packets : List PacketValue) × HasEnded has can_refuse can_read can_write task name packets held holds
-      (ends.Read end)
+      → IfErr end (λ fault. OnStreamFault fault (can_fail ⊎ IsEndless before after) can_write)
+      → (packets : List PacketValue)
+      × HasEnded has can_fail can_refuse can_read can_write task None packets before after held holds (ends.Read end)
       × IfFileRead (ends.Read end) (AreCounted task packets counts)
-  run_ended task name before after held holds end counts is (inl run) failed =
-      (run.packets, (before, after, is, inl run.run, failed), run.counted)
-  run_ended task name before after held holds (Ok verdict) counts is (inr (none, are)) failed = absurd cc
-  run_ended task name before after held holds (Err fault) counts is (inr (none, are)) failed = (
-    [],
-    (before, after, is, inr (refl, none), failed),
-    memory_counted fault,
-  )
+  input_ended task before after held holds end counts (inl run) failed = (run.packets, (inl run.run, failed), run.counted)
+  input_ended task before after held holds (Ok verdict) counts (inr (none, are)) failed = absurd cc
+  input_ended task before after held holds (Err fault) counts (inr (none, are)) failed =
+      ([], (inr (refl, none), failed), memory_counted fault)
     where
       memory_counted : (f : RunFault) → IfRead (Err f) (AreCounted task [] counts)
       memory_counted (faults.Capture fault) = are
@@ -114,3 +132,18 @@ module _ (has : List ℕ → Option (List ℕ) → Type 0) (can_refuse : OpenFau
       memory_counted faults.Input = are
       memory_counted faults.Output = tt
       memory_counted faults.Memory = are
+
+-- .. or of the file of a name
+pub run_ended : (has : List ℕ → Option (List ℕ) → Type 0) (can_fail : Type 0) (can_refuse : OpenFault → Type 0)
+    (can_read can_write : Type 0) (task : TaskValue) (name : List ℕ) (given before after held holds : Option (List ℕ))
+    (end : Result Verdict RunFault) (counts : PacketCounts)
+    → has name before
+    → HasCounted task before after held holds end counts
+    ⊎ (HasNoMemory before after held holds end × AreCounted task [] counts)
+    → IfErr end (λ fault. OnStreamFault fault (can_read ⊎ IsEndless before after) can_write)
+    → (packets : List PacketValue)
+    × HasEnded has can_fail can_refuse can_read can_write task (Some name) packets given given held holds (ends.Read end)
+    × IfFileRead (ends.Read end) (AreCounted task packets counts)
+run_ended has can_fail can_refuse can_read can_write task name given before after held holds end counts is run failed =
+    let s = input_ended has can_read can_refuse can_read can_write task before after held holds end counts run failed in
+    (s.0, (refl, (before, after, is, s.1.0, s.1.1)), s.2)

@@ -10,7 +10,7 @@ use Rattle.clap.specs.declared.error.kind.ErrorKind.TheVariants.{DisplayHelp, Di
 use Rattle.ether_filter.specs.Expressions.{Expression}
 use Rattle.ether_filter.specs.Refusals.{RefusesText}
 use Rattle.ether_filter.specs.declared.filter_error.FilterError.{FilterError}
-use Rattle.ether_content.specs.Editing.{EditValue}
+use Rattle.ether_content.specs.Editing.{EditValue, CutToHeaders, PopVlan, PushVlan, SetVlan}
 use Rattle.ether_content.specs.EditingViews.{edit_view}
 use Rattle.ether_format.specs.declared.format.Format.{Format}
 use Rattle.ether_format.specs.declared.format.Format.TheVariants.{Brief, Fields, Json}
@@ -22,6 +22,8 @@ use Rattle.ether_pcap.specs.CopiedUnits.{ModeValue, Exact, Changed}
 use Rattle.ether_stream.specs.Copying.{growth_if}
 use Rattle.ether_stream.specs.declared.selection.Selection.{Selection}
 use Rattle.ether_stream.specs.declared.selection.Undecided.{Undecided}
+use Rattle.ether_stream.specs.declared.usage.DependentOption.{DependentOption}
+use Rattle.ether_stream.specs.declared.usage.DependentOption.TheVariants as dependent
 use Rattle.ether_stream.specs.declared.usage.Usage.{Usage}
 use Rattle.ether_stream.specs.declared.usage.Usage.TheVariants as usages
 use Rattle.ether_stream.specs.declared.usage.ValueOption.TheVariants as value_options
@@ -218,25 +220,76 @@ abbrev pub is_brief : Option Format → Bool
 is_brief (Some Brief) = true
 is_brief format = false
 
--- names are those of columns, and columns are no other format; counts have no heading and are not brief
+-- columns are no other format; counts have no heading and are not brief, and their columns are 32 at most with the length of the packet
 abbrev pub clashes_in_columns : AskedValue → Bool
 clashes_in_columns a =
     if a.stats then a.header || (not (is_some a.counted) || is_brief a.format)
-    else (a.header && not (is_some a.fields)) || (is_some a.format && is_some a.fields)
+    else is_some a.format && is_some a.fields
 
--- no copy is plain, has a limit or a format, or is of several files; no packet is edited without a copy; lines alone are plain
+-- no copy is plain, or has a limit or a format; lines alone are plain
 abbrev pub clashes_with_copy : AskedValue → Bool
 clashes_with_copy a =
-    if makes_copy a then a.plain || (is_some a.limit || (is_some (format_asked a) || are_several a.files))
-    else is_some a.edit || (a.plain && is_some (format_asked a))
-
--- none is undecided without a filter; with `-r` no other file is named
-abbrev pub clashes_in_names : AskedValue → Bool
-clashes_in_names a = (is_some a.undecided && not (is_some a.text)) || (is_some a.input && is_any a.files)
+    if makes_copy a then a.plain || (is_some a.limit || is_some (format_asked a)) else a.plain && is_some (format_asked a)
 
 -- an option is asked for that does not go with the others
 abbrev pub clashes : AskedValue → Bool
-clashes a = clashes_with_copy a || (clashes_in_names a || clashes_in_columns a)
+clashes a = clashes_with_copy a || clashes_in_columns a
+
+abbrev pub edit_option : EditValue → DependentOption
+edit_option CutToHeaders = dependent.CutToHeaders
+edit_option PopVlan = dependent.PopVlan
+edit_option (PushVlan tpid id) = dependent.PushVlan
+edit_option (SetVlan from to) = dependent.SetVlan
+
+-- an option is there without the one that it needs: no packet is undecided without a filter, names are those of columns, and only a copy is edited
+abbrev pub lacking : AskedValue → Option DependentOption
+lacking a =
+    if is_some a.undecided && not (is_some a.text) then Some dependent.Undecided
+    else (if a.header && (not (is_some a.fields) && not a.stats) then Some dependent.Header
+    else (if makes_copy a then None else option_map edit_option a.edit))
+
+-- the first name
+abbrev pub first_name : List Text → Option Text
+first_name [] = None
+first_name (name ∷ names) = Some name
+
+-- .. after the first
+abbrev pub second_name : List Text → Option Text
+second_name [] = None
+second_name (name ∷ names) = first_name names
+
+-- a name of one file too many: no other is named with `-r`, and a copy is of one file
+abbrev pub surplus : AskedValue → Option Text
+surplus a = if is_some a.input then first_name a.files else (if makes_copy a then second_name a.files else None)
+
+-- the name of a file, unless it is `-`, for a standard stream
+abbrev pub named : Text → Option Text
+named name = if bytes_eq name (codes "-") then None else Some name
+
+-- one of these names is that of standard input
+abbrev pub names_input : List Text → Bool
+names_input [] = false
+names_input (name ∷ names) = if bytes_eq name (codes "-") then true else names_input names
+
+-- .. and another one is, too
+abbrev pub names_input_twice : List Text → Bool
+names_input_twice [] = false
+names_input_twice (name ∷ names) = if bytes_eq name (codes "-") then names_input names else names_input_twice names
+
+-- nothing is wrong with the options and names together
+pub record Fits (a : AskedValue) : Type 0 where
+  pub complete : lacking a ≡ None
+  pub few : surplus a ≡ None
+  pub once : names_input_twice a.files ≡ false
+  pub together : clashes a ≡ false
+
+-- this is wrong with them
+abbrev pub IsFaultOf : AskedValue → Usage → Type 0
+IsFaultOf a (usages.Lacks option) = lacking a ≡ Some option
+IsFaultOf a (usages.Surplus name) = surplus a ≡ Some name.now
+IsFaultOf a usages.InputTwice = names_input_twice a.files ≡ true
+IsFaultOf a usages.Clash = clashes a ≡ true
+IsFaultOf a usage = ⊥
 
 -- which lines are asked for; those of another format have no totals
 abbrev pub options_of : AskedValue → LineOptions
@@ -253,10 +306,6 @@ form_of a = if makes_copy a then Copy (mode_of a) a.edit else Lines (options_of 
 -- which packets are selected by an expression, if there is one
 abbrev pub selection_of : AskedValue → Option Expression → Option Selection
 selection_of a = option_map (λ x. record { filter = x; undecided = a.undecided })
-
--- the name of a file, unless it is `-`, for a standard stream
-abbrev pub named : Text → Option Text
-named name = if bytes_eq name (codes "-") then None else Some name
 
 -- the name of the only file, if one is named, by `-r` or without it
 abbrev pub only_name : (read : Option Text) → (files : List Text) → Option Text
@@ -282,7 +331,7 @@ request_for a s =
 -- this is what is asked for
 pub record IsRequestOf (a : AskedValue) (request : RequestValue) : Type 0 where
   pub expression : Option Expression
-  pub goes : clashes a ≡ false
+  pub goes : Fits a
   pub selects : IsSelection a.text expression
   pub is : request ≡ request_for a (selection_of a expression)
 
@@ -319,17 +368,17 @@ pub data MeansNothing (rows : List Row) : Usage → Type 0 where
   wrong_undecided : (usage : Usage) → ((u : Option Undecided) → ¬ (IsIfAny MeansUndecided (first_of (codes "undecided") rows) u))
       → IsWrongValue value_options.Undecided (first_of (codes "undecided") rows) usage → MeansNothing rows usage
 
--- .. or options do not go together
-pub record NamesClash (words : List Text) : Type 0 where
+-- .. or options and names do not fit together
+pub record NamesFault (words : List Text) (usage : Usage) : Type 0 where
   pub asked : AskedValue
   pub taken : fault_of capture_app words ≡ []
   pub asks : Asks (matches_of capture_app words) asked
-  pub clash : clashes asked ≡ true
+  pub is_fault : IsFaultOf asked usage
 
 -- lines, or a copy, would be asked for, but the text of the filter is refused in this way
 pub record HasNoFilter (a : AskedValue) (e : FilterError) : Type 0 where
   pub text : Text
-  pub goes : clashes a ≡ false
+  pub goes : Fits a
   pub is_text : a.text ≡ Some text
   pub refused : RefusesText text e
 
@@ -339,13 +388,13 @@ pub record NamesNoFilter (words : List Text) (e : FilterError) : Type 0 where
   pub asks : Asks (matches_of capture_app words) asked
   pub no_filter : HasNoFilter asked e
 
--- Why arguments ask for nothing: `clap` refuses them, or takes them, but a value means nothing, or they do not go together, or the filter is no
+-- Why arguments ask for nothing: `clap` refuses them, or takes them, but a value means nothing, or they do not fit together, or the filter is no
 -- expression; or memory for them was refused.
 pub data RefusesWords (words : List Text) : RequestError → Type 0 where
   clap_refuses : (usage : Usage) → IsRefusedUsage words → IsUsageOf words usage → RefusesWords words (reasons.Usage usage)
   means_nothing : (usage : Usage) → fault_of capture_app words ≡ [] → MeansNothing (matches_of capture_app words) usage
       → RefusesWords words (reasons.Usage usage)
-  clashing : NamesClash words → RefusesWords words (reasons.Usage usages.Clash)
+  unfit : (usage : Usage) → NamesFault words usage → RefusesWords words (reasons.Usage usage)
   no_expression : (e : FilterError) → NamesNoFilter words e → RefusesWords words (reasons.Filter e)
   no_memory : RefusesWords words reasons.Memory
 
@@ -389,7 +438,6 @@ RefusesRows rows reasons.Memory = ⊤
 
 -- why what is asked for is not a request
 abbrev pub RefusesAsked : AskedValue → RequestError → Type 0
-RefusesAsked a (reasons.Usage usages.Clash) = clashes a ≡ true
-RefusesAsked a (reasons.Usage usage) = ⊥
+RefusesAsked a (reasons.Usage usage) = IsFaultOf a usage
 RefusesAsked a (reasons.Filter e) = HasNoFilter a e
 RefusesAsked a reasons.Memory = ⊥

@@ -83,7 +83,7 @@ HasAnswered has can_fail can_refuse can_read can_write can_tell can_keep can_cop
     × (tells ≡ told)
 HasAnswered has can_fail can_refuse can_read can_write can_tell can_keep can_copy (Lists l) before after held holds told tells had gets
     (outcomes.Files end) =
-    HasListed has can_refuse can_read can_write can_tell l held holds told tells end × (after ≡ before) × (gets ≡ had)
+    HasListed has can_fail can_refuse can_read can_write can_tell l before after held holds told tells end × (gets ≡ had)
 HasAnswered has can_fail can_refuse can_read can_write can_tell can_keep can_copy Help before after held holds told tells had gets outcomes.Help =
     (after ≡ before) × (holds ≡ held) × (tells ≡ told) × (gets ≡ had)
 HasAnswered has can_fail can_refuse can_read can_write can_tell can_keep can_copy Version before after held holds told tells had gets outcomes.Version =
@@ -109,8 +109,15 @@ pub data HasHeaded (has : List ℕ → Option (List ℕ) → Type 0) (can_fail :
       → HasHeaded has can_fail can_refuse can_read can_write can_tell can_keep can_copy request before after held holds told tells had gets
       (outcomes.Run (Err Output))
 
+-- the writer has failed
+abbrev pub is_unwritten : Outcome → Bool
+is_unwritten (outcomes.Run (Err Output)) = true
+is_unwritten (outcomes.File name (Err Output)) = true
+is_unwritten (outcomes.Files (Err fault)) = true
+is_unwritten outcome = false
+
 -- What is asked for was done, but rows were not written: their texts were counted, as the journal knows them, and the counts were. Or memory
--- for these was refused, or the writer has failed.
+-- for these was refused. Or the writer, which can fail, has failed: this is the outcome for no other reason.
 pub record HasCountedTexts (has : List ℕ → Option (List ℕ) → Type 0) (can_fail : Type 0) (can_refuse : OpenFault → Type 0)
     (can_read can_write can_tell : Type 0) (can_keep : WriteFault → Type 0) (can_copy : Type 0) (is_known : Bool) (format : StatisticsFormat)
     (request : RequestValue) (before after held holds told tells : Option (List ℕ)) (had gets : List ℕ → Option (List ℕ)) (outcome : Outcome)
@@ -119,7 +126,7 @@ pub record HasCountedTexts (has : List ℕ → Option (List ℕ) → Type 0) (ca
   pub end : Outcome
   pub done : HasHeaded has can_fail can_refuse can_read ⊤ can_tell can_keep can_copy request before after (known_if is_known) rows told tells had
       gets end
-  pub shown : ((outcome ≡ end) × Shows is_known rows format held holds)
+  pub shown : ((outcome ≡ end) × (is_unwritten end ≡ false) × Shows is_known rows format held holds)
       ⊎ (((outcome ≡ outcomes.NoMemory) × (holds ≡ held)) ⊎ ((outcome ≡ outcomes.Run (Err Output)) × can_write))
 
 -- what is asked for was done

@@ -10,7 +10,8 @@ use ether_text::Sink;
 /// reports that a copy can't be written has tried it.
 ///
 /// A copy is begun, written and then finished or given up. Only when it is finished does its file get the copy's bytes, all at once; until then,
-/// and for ever if it is given up, the file is as it was.
+/// and for ever if it is given up, the file is as it was. So it is said of files that are known; one in a folder where no other file can be made
+/// gets the bytes as they are written.
 pub trait Copies {
     ghost use Rattle.std.specs.Io.KnownBytes.{IsAtEnd};
     ghost use Rattle.ether_stream.specs.declared.write_fault.WriteFault.{WriteFault};
@@ -24,8 +25,8 @@ pub trait Copies {
     // What holds if a file can't get a copy for this reason.
     ghost can_refuse: { WriteFault → Type 0 };
 
-    /// Begins a copy, which has no byte yet.
-    fn begin(&mut self, name: &str) -> Result<Self::Part, WriteFault>
+    /// Begins a copy of the capture of the name `input`, or of standard input. The copy has no byte yet.
+    fn begin(&mut self, name: &str, input: Option<&str>) -> Result<Self::Part, WriteFault>
         ensures empty { IfOk result (λ part. IsAtEnd (Self.Part.Sink.contents part)) }
         ensures kept { file self.new name.now ≡ file self.old name.now }
         ensures refused { IfErr result can_refuse };

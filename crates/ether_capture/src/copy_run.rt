@@ -22,7 +22,7 @@ pub fn copy_input<'a, K: Copies, R: Source>(
         (R.remaining reader.old) (R.remaining reader.new) (K.file copies.old output.entry.now) (K.file copies.new output.entry.now)
         result }
 {
-    match copy_to(task, output, alloc, copies, reader) {
+    match copy_to(task, None, output, alloc, copies, reader) {
         Ok(end) => Outcome::Run(end),
         Err(fault) => Outcome::NotWritten {
             name: output,
@@ -48,7 +48,7 @@ pub fn copy_file<'a, C: Captures, K: Copies>(
         Ok(input) => input,
         Err(fault) => return Outcome::NotOpened { name, fault },
     };
-    match copy_to(task, output, alloc, copies, &mut input) {
+    match copy_to(task, Some(name), output, alloc, copies, &mut input) {
         Ok(end) => Outcome::File { name, end },
         Err(fault) => Outcome::NotWritten {
             name: output,
@@ -57,9 +57,10 @@ pub fn copy_file<'a, C: Captures, K: Copies>(
     }
 }
 
-/// Copies what a reader reads to the file of a name, which gets the copy only when it is whole.
+/// Copies what a reader reads, the capture of the name `input` or standard input, to the file of a name, which gets the copy only when it is whole.
 fn copy_to<K: Copies, R: Source>(
     task: &Task,
+    input: Option<&str>,
     output: &str,
     alloc: Global,
     copies: &mut K,
@@ -68,7 +69,7 @@ fn copy_to<K: Copies, R: Source>(
     ensures { IsCopied R.can_fail K.Part.Sink.can_fail K.can_refuse (task_view task.now) (R.remaining reader.old)
         (R.remaining reader.new) (K.file copies.old output.now) (K.file copies.new output.now) result }
 {
-    let mut part = copies.begin(output)?;
+    let mut part = copies.begin(output, input)?;
     let end = run_input(task, alloc, reader, &mut part).0;
     match end {
         Ok(verdict) => {

@@ -2,7 +2,7 @@
 ghost use Rattle.std.specs.Prelude.{◌≡◌, ◌≢◌, ◌⊎◌, Bool, true, false, IfErr, Some, map, string_bytes};
 ghost use Rattle.std.specs.Option.{option_map};
 ghost use Rattle.ether_stream.specs.Outcome.{is_message, status_of_program};
-ghost use Rattle.ether_capture.specs.Program.{HasDone, HasHeaded, HasObeyed, HasRunFile, HasRunJob, HasServed, IfGone, heading_if, PrintsApart, PrintsLast, arguments_of};
+ghost use Rattle.ether_capture.specs.Program.{HasDone, HasHeaded, HasObeyed, HasRunFile, HasRunJob, HasServed, IfGone, heading_if, PrintsApart, PrintsLast, arguments_of, is_unwritten};
 ghost use Rattle.ether_capture.specs.SeveralFiles.{Settles};
 ghost use Rattle.ether_capture.specs.Options.{request_view, statistics_asked};
 ghost use Rattle.std.specs.Io.KnownBytes.{Appends};
@@ -124,13 +124,28 @@ fn respond<'a, J: Journal + Drop, C: Captures, K: Copies, R: Source, W: Sink, M:
         &mut counts,
         messages,
     );
-    if counts.has_failed() {
+    if counts.has_failed() || is_unwritten(&outcome) {
         return Outcome::NoMemory;
     }
     match counts.write(format, writer) {
         Ok(()) => outcome,
         Err(OutputFault) => Outcome::Run(Err(RunFault::Output)),
     }
+}
+
+/// Tests that the writer has failed.
+fn is_unwritten(outcome: &Outcome<'_>) -> bool
+    ensures { result ≡ is_unwritten outcome.now }
+{
+    matches!(
+        outcome,
+        Outcome::Run(Err(RunFault::Output))
+            | Outcome::File {
+                end: Err(RunFault::Output),
+                ..
+            }
+            | Outcome::Files(Err(_))
+    )
 }
 
 /// Writes the lines of a capture, or a copy of it, as a request says.
@@ -156,7 +171,7 @@ fn answer<'a, C: Captures, K: Copies, R: Source, W: Sink, M: LineSink>(
             Err(OutputFault) => Outcome::Run(Err(RunFault::Output)),
         },
         Request::List(listing) => match write_heading(&listing.heading.columns(), writer) {
-            Ok(()) => Outcome::Files(run_files(listing, alloc, captures, writer, messages)),
+            Ok(()) => Outcome::Files(run_files(listing, alloc, captures, reader, writer, messages)),
             Err(OutputFault) => Outcome::Run(Err(RunFault::Output)),
         },
         Request::Help => Outcome::Help,

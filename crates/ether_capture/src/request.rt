@@ -1,17 +1,20 @@
 //! What the options together ask for.
-ghost use Rattle.std.specs.Prelude.{◌≡◌, IfOk, IfErr, map};
+ghost use Rattle.std.specs.Prelude.{◌≡◌, IfOk, IfErr, IfSome, IfNone, map};
+ghost use Rattle.ether_content.specs.EditingViews.{edit_view};
 ghost use Rattle.std.specs.Option.{is_some, option_map};
 ghost use Rattle.ether_pcap.specs.CopiedUnits.{copy_mode_view};
 ghost use Rattle.ether_stream.specs.Copying.{growth_if};
 ghost use Rattle.ether_stream.specs.Task.{form_view};
-ghost use Rattle.ether_capture.specs.Options.{AreCountedColumns, IsRequestOf, RefusesAsked, are_several, asked_view, clashes, clashes_in_columns, columns_asked, columns_in, is_brief, line_of, statistics_asked, statistics_in, statistics_of, form_of, format_asked, heading_of, mode_of, options_of, request_view, input_of, makes_copy, named, output_of, selection_of};
+ghost use Rattle.ether_capture.specs.Options.{AreCountedColumns, Fits, IsFaultOf, IsRequestOf, RefusesAsked, are_several, asked_view, edit_option, lacking, names_input, names_input_twice, surplus, clashes, clashes_in_columns, columns_asked, columns_in, is_brief, line_of, statistics_asked, statistics_in, statistics_of, form_of, format_asked, heading_of, mode_of, options_of, request_view, input_of, makes_copy, named, output_of, selection_of};
 
 use crate::statistics_format::StatisticsFormat;
 use ether_content::PacketEdit;
 use ether_filter::{Filter, FilterError};
 use ether_format::{Columns, Format};
 use ether_pcap::CopyMode;
-use ether_stream::{Form, LineOptions, Selection, Task, Undecided, Usage, filter_of};
+use ether_stream::{
+    DependentOption, Form, LineOptions, Selection, Task, Undecided, Usage, filter_of,
+};
 use std::num::NonZeroUsize;
 
 /// Why the arguments ask for nothing.
@@ -128,24 +131,67 @@ impl<'a> Asked<'a> {
         self.is_write || self.output.is_some()
     }
 
+    /// What is wrong with the options and names together, if anything is.
+    fn fault(&self) -> Option<Usage<'a>>
+        ensures none { IfNone result (Fits (asked_view self.now)) }
+        ensures some { IfSome result (IsFaultOf (asked_view self.now)) }
+    {
+        if let Some(option) = self.lacking() {
+            return Some(Usage::Lacks(option));
+        }
+        if let Some(name) = self.surplus() {
+            return Some(Usage::Surplus(name));
+        }
+        if names_input_twice(self.files.as_slice()) {
+            return Some(Usage::InputTwice);
+        }
+        if self.clashes() {
+            return Some(Usage::Clash);
+        }
+        None
+    }
+
+    /// The option that is there without the one that it needs, if there is one.
+    fn lacking(&self) -> Option<DependentOption>
+        ensures { result ≡ lacking (asked_view self.now) }
+    {
+        if self.undecided.is_some() && self.text.is_none() {
+            return Some(DependentOption::Undecided);
+        }
+        if self.has_header && self.fields.is_none() && !self.is_counted {
+            return Some(DependentOption::Header);
+        }
+        if self.is_copy() {
+            return None;
+        }
+        match &self.edit {
+            Some(edit) => Some(option_of(edit)),
+            None => None,
+        }
+    }
+
+    /// The first name of a file after the only one that can be read, if there is one.
+    fn surplus(&self) -> Option<&'a str>
+        ensures { option_map (λ s. s.now) result ≡ surplus (asked_view self.now) }
+    {
+        match (self.input, self.files.as_slice()) {
+            (Some(_), [name, ..]) => Some(*name),
+            (None, [_, name, ..]) if self.is_copy() => Some(*name),
+            _ => None,
+        }
+    }
+
     /// Tests that there is an option that does not go with the others.
     fn clashes(&self) -> bool
         ensures { result ≡ clashes (asked_view self.now) }
     {
-        if self.undecided.is_some() && self.text.is_none() {
-            return true;
-        }
-        if self.input.is_some() && !self.files.is_empty() {
-            return true;
-        }
         if self.clashes_in_columns() {
             return true;
         }
         if self.is_copy() {
-            self.is_plain || self.limit.is_some() || self.has_format() || self.has_several()
-        } else {
-            self.edit.is_some() || self.is_plain && self.has_format()
+            return self.is_plain || self.limit.is_some() || self.has_format();
         }
+        self.is_plain && self.has_format()
     }
 
     /// Tests that there is an option of columns that does not go with the others.
@@ -155,7 +201,7 @@ impl<'a> Asked<'a> {
         if self.is_counted {
             return self.has_header || self.counted.is_none() || self.is_brief();
         }
-        self.has_header && self.fields.is_none() || self.format.is_some() && self.fields.is_some()
+        self.format.is_some() && self.fields.is_some()
     }
 
     /// Tests that lines for the eye are asked for.
@@ -210,8 +256,8 @@ impl<'a> Asked<'a> {
         ensures ok { IfOk result (λ request. IsRequestOf (asked_view self.entry) (request_view request)) }
         ensures err { IfErr result (RefusesAsked (asked_view self.entry)) }
     {
-        if self.clashes() {
-            return Err(RequestError::Usage(Usage::Clash));
+        if let Some(usage) = self.fault() {
+            return Err(RequestError::Usage(usage));
         }
         match filter_of(self.text) {
             Ok(filter) if self.has_several() => Ok(Request::List(Listing {
@@ -321,6 +367,46 @@ impl<'a> Asked<'a> {
     }
 }
 
+/// The option of an edit.
+fn option_of(edit: &PacketEdit) -> DependentOption
+    ensures { result ≡ edit_option (edit_view edit.now) }
+{
+    match edit {
+        PacketEdit::CutToHeaders => DependentOption::CutToHeaders,
+        PacketEdit::PopVlan => DependentOption::PopVlan,
+        PacketEdit::PushVlan { .. } => DependentOption::PushVlan,
+        PacketEdit::SetVlan { .. } => DependentOption::SetVlan,
+    }
+}
+
+/// Tests that standard input is among these names twice.
+fn names_input_twice(names: &[&str]) -> bool
+    ensures { result ≡ names_input_twice (map (λ s. s.now) names.now) }
+{
+    let mut rest = names;
+    while let [name, others @ ..] = rest {
+        if *name == "-" {
+            return names_input(others);
+        }
+        rest = others;
+    }
+    false
+}
+
+/// Tests that standard input is among these names.
+fn names_input(names: &[&str]) -> bool
+    ensures { result ≡ names_input (map (λ s. s.now) names.now) }
+{
+    let mut rest = names;
+    while let [name, others @ ..] = rest {
+        if *name == "-" {
+            return true;
+        }
+        rest = others;
+    }
+    false
+}
+
 /// Counts of the texts of columns, in a format.
 fn statistics_of(format: &Option<Format>, columns: &Option<Columns>) -> Heading
     ensures { result ≡ statistics_of format.now columns.now }
@@ -394,7 +480,7 @@ impl Request<'_> {
 }
 
 /// A name of a file, unless it is that of a standard stream.
-fn named(name: &str) -> Option<&str>
+pub(crate) fn named(name: &str) -> Option<&str>
     ensures { option_map (λ s. s.now) result ≡ named name.entry.now }
 {
     if name == "-" {

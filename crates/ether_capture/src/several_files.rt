@@ -1,27 +1,27 @@
 //! Reads several captures, one after the other.
-ghost use Rattle.std.specs.Prelude.{◌≡◌, ◌≢◌, ◌⊎◌, ◌+◌, ◌↔◌, max, IsTrue, Some, Err, IfOk, OnOk, OnErr, List};
+ghost use Rattle.std.specs.Prelude.{◌≡◌, ◌≢◌, ◌⊎◌, ◌+◌, ◌↔◌, max, IsTrue, false, Some, Err, IfOk, IfSome, OnOk, OnErr, List};
 ghost use Rattle.std.specs.Int.NonZero.{non_zero_usize_get};
 ghost use Rattle.std.specs.Io.KnownBytes.{Appends};
 ghost use Rattle.std.specs.Option.{option_map};
 ghost use Rattle.ether_pcap.specs.Capture.{PacketValue};
 ghost use Rattle.ether_stream.specs.Counting.{AreCounted, IfFileRead};
-ghost use Rattle.ether_capture.specs.SeveralFiles.{HasEnded, HasListed, ReadsFile, ReadsFiles, Settles, Tells, next_task, nothing_read};
+ghost use Rattle.ether_capture.specs.SeveralFiles.{HasEnded, HasListed, ReadsFile, ReadsFiles, Settles, Tells, next_task, nothing_read, text_of_capture};
 ghost use Rattle.ether_stream.specs.FrameLines.{totals_line_if};
-ghost use Rattle.ether_capture.specs.Options.{ListingValue, listing_view};
-ghost use Rattle.ether_stream.specs.Outcome.{status_of_file, text_of_file};
+ghost use Rattle.ether_capture.specs.Options.{ListingValue, listing_view, named, names_input};
+ghost use Rattle.ether_stream.specs.Outcome.{last_line_text, status_of_file};
 ghost use Rattle.ether_stream.specs.Packets.{counted};
 ghost use Rattle.ether_stream.specs.Task.{task_view};
 ghost use Rattle.ether_stream.specs.declared.outcome.FileEnd.TheVariants as ends;
 ghost use Rattle.ether_stream.specs.declared.outcome.RunFault.TheVariants.{Output};
 
 use crate::captures::Captures;
-use crate::request::Listing;
+use crate::request::{Listing, named};
 use crate::run_input::run_input;
 use ether_stream::{
-    FileEnd, Form, LineSink, PacketCounts, RunFault, Task, line_of_file, status_of_file,
-    write_totals,
+    FileEnd, Form, LastLine, LineSink, PacketCounts, RunFault, Task, line_of_file, line_of_input,
+    status_of_file, write_totals,
 };
-use ether_text::{OutputBuffer, OutputFault, Sink};
+use ether_text::{OutputBuffer, OutputFault, Sink, Source};
 use std::alloc::Global;
 use std::num::NonZeroUsize;
 
@@ -90,17 +90,19 @@ impl Tally {
 }
 
 /// Writes the lines of several captures, one after the other, and then the line of the totals of all. If a capture is
-/// not read to its end, writes the reason to `messages`. Returns the greatest exit status of a capture.
-pub fn run_files<C: Captures, W: Sink, M: LineSink>(
+/// not read to its end, writes the reason to `messages`. Returns the greatest exit status of a capture. A name of `-` is
+/// that of standard input, `reader`.
+pub fn run_files<C: Captures, R: Source, W: Sink, M: LineSink>(
     listing: Listing<'_>,
     alloc: Global,
     captures: &C,
+    reader: &mut R,
     writer: &mut W,
     messages: &mut M,
 ) -> Result<u8, OutputFault>
-    ensures listed { HasListed (C.has captures.now) C.can_refuse C.Input.Source.can_fail W.can_fail M.Sink.can_fail
-        (listing_view listing.entry) (W.contents writer.old) (W.contents writer.new) (M.Sink.contents messages.old)
-        (M.Sink.contents messages.new) result }
+    ensures listed { HasListed (C.has captures.now) R.can_fail C.can_refuse C.Input.Source.can_fail W.can_fail M.Sink.can_fail
+        (listing_view listing.entry) (R.remaining reader.old) (R.remaining reader.new) (W.contents writer.old)
+        (W.contents writer.new) (M.Sink.contents messages.old) (M.Sink.contents messages.new) result }
     ensures flushed { OnOk result (W.is_flushed writer.new) }
     ensures told { Settles M.Sink.is_flushed messages.old messages.new ⊎ M.Sink.can_fail }
 {
@@ -109,24 +111,27 @@ pub fn run_files<C: Captures, W: Sink, M: LineSink>(
     }
     let is_plain = listing.options.is_plain;
     let selects = listing.selection.is_some();
-    let tally = read_files(listing, alloc, captures, writer, messages)?;
+    let tally = read_files(listing, alloc, captures, reader, writer, messages)?;
     let undecided = if selects { Some(tally.undecided) } else { None };
     write_last(is_plain, &tally, undecided, writer)?;
     Ok(tally.status)
 }
 
 /// Writes what is made of each capture, until the requested number of packets is reached.
-fn read_files<C: Captures, W: Sink, M: LineSink>(
+fn read_files<C: Captures, R: Source, W: Sink, M: LineSink>(
     listing: Listing<'_>,
     alloc: Global,
     captures: &C,
+    reader: &mut R,
     writer: &mut W,
     messages: &mut M,
 ) -> Result<Tally, OutputFault>
-    ensures ok { IfOk result (λ last. ReadsFiles (C.has captures.now) C.can_refuse C.Input.Source.can_fail W.can_fail M.Sink.can_fail
+    ensures ok { IfOk result (λ last. ReadsFiles (C.has captures.now) R.can_fail C.can_refuse C.Input.Source.can_fail W.can_fail M.Sink.can_fail
         (listing_view listing.entry) (listing_view listing.entry).files (nothing_read (listing_view listing.entry).count)
-        (W.contents writer.old) (M.Sink.contents messages.old) last (W.contents writer.new) (M.Sink.contents messages.new)) }
+        (R.remaining reader.old) (W.contents writer.old) (M.Sink.contents messages.old) last (R.remaining reader.new)
+        (W.contents writer.new) (M.Sink.contents messages.new)) }
     ensures failed { OnErr result W.can_fail }
+    ensures kept { names_input (listing_view listing.entry).files ≡ false → R.remaining reader.new ≡ R.remaining reader.old }
     ensures told { Settles M.Sink.is_flushed messages.old messages.new ⊎ M.Sink.can_fail }
 {
     let options = listing.options;
@@ -143,28 +148,33 @@ fn read_files<C: Captures, W: Sink, M: LineSink>(
         }
         task.count = tally.count();
         task.form = Form::Lines(options.after(tally.packets));
-        tally = read_file(&task, &tally, name, alloc, captures, writer, messages)?;
+        tally = read_file(
+            &task, &tally, name, alloc, captures, reader, writer, messages,
+        )?;
     }
     Ok(tally)
 }
 
 /// Writes what is made of one capture, and to `messages` why it was not read to its end, if it was not.
-fn read_file<C: Captures, W: Sink, M: LineSink>(
+fn read_file<C: Captures, R: Source, W: Sink, M: LineSink>(
     task: &Task,
     tally: &Tally,
     name: &str,
     alloc: Global,
     captures: &C,
+    reader: &mut R,
     writer: &mut W,
     messages: &mut M,
 ) -> Result<Tally, OutputFault>
     ensures ok { (l : ListingValue) → task_view task.now ≡ next_task l tally.now → IfOk result (λ then. ReadsFile (C.has captures.now)
-        C.can_refuse C.Input.Source.can_fail W.can_fail M.Sink.can_fail l name.now tally.now (W.contents writer.old)
-        (M.Sink.contents messages.old) then (W.contents writer.new) (M.Sink.contents messages.new)) }
+        R.can_fail C.can_refuse C.Input.Source.can_fail W.can_fail M.Sink.can_fail l name.now tally.now (R.remaining reader.old)
+        (W.contents writer.old) (M.Sink.contents messages.old) then (R.remaining reader.new) (W.contents writer.new)
+        (M.Sink.contents messages.new)) }
     ensures failed { OnErr result W.can_fail }
+    ensures kept { IfSome (named name.now) (λ _. R.remaining reader.new ≡ R.remaining reader.old) }
     ensures told { Settles M.Sink.is_flushed messages.old messages.new ⊎ M.Sink.can_fail }
 {
-    let (end, counts) = end_of_file(task, name, alloc, captures, writer);
+    let (end, counts) = end_of_file(task, name, alloc, captures, reader, writer);
     if is_output_fault(&end) {
         return Err(OutputFault);
     }
@@ -182,26 +192,43 @@ fn is_output_fault(end: &FileEnd) -> bool
 
 /// Writes to `messages` why a capture was not read to its end, if it was not.
 fn tell_reason<M: LineSink>(name: &str, end: &FileEnd, messages: &mut M)
-    ensures told { Tells M.Sink.can_fail (text_of_file name.now end.now) (M.Sink.contents messages.old) (M.Sink.contents messages.new) }
+    ensures told { Tells M.Sink.can_fail (text_of_capture (named name.now) end.now) (M.Sink.contents messages.old)
+        (M.Sink.contents messages.new) }
     ensures flushed { Settles M.Sink.is_flushed messages.old messages.new ⊎ M.Sink.can_fail }
 {
-    if let Some(line) = line_of_file(name, end) {
+    if let Some(line) = line_of_capture(name, end) {
         let _ = messages.put_line(&line);
     }
 }
 
+/// The line that says why a capture was not read to its end, if it was not.
+fn line_of_capture<'a>(name: &'a str, end: &'a FileEnd) -> Option<LastLine<'a>>
+    ensures { option_map last_line_text result ≡ text_of_capture (named name.now) end.now }
+{
+    match (named(name), end) {
+        (Some(name), _) => line_of_file(name, end),
+        (None, FileEnd::Read(end)) => line_of_input(end),
+        (None, FileEnd::NotOpened(_)) => None,
+    }
+}
+
 /// Writes what is made of one capture, and returns how it ended, and how many packets were read.
-fn end_of_file<C: Captures, W: Sink>(
+fn end_of_file<C: Captures, R: Source, W: Sink>(
     task: &Task,
     name: &str,
     alloc: Global,
     captures: &C,
+    reader: &mut R,
     writer: &mut W,
 ) -> (FileEnd, PacketCounts)
-    ensures { (packets : List PacketValue) × HasEnded (C.has captures.now) C.can_refuse C.Input.Source.can_fail W.can_fail
-        (task_view task.now) name.now packets (W.contents writer.old) (W.contents writer.new) result.0
-        × IfFileRead result.0 (AreCounted (task_view task.now) packets result.1) }
+    ensures { (packets : List PacketValue) × HasEnded (C.has captures.now) R.can_fail C.can_refuse C.Input.Source.can_fail W.can_fail
+        (task_view task.now) (named name.now) packets (R.remaining reader.old) (R.remaining reader.new) (W.contents writer.old)
+        (W.contents writer.new) result.0 × IfFileRead result.0 (AreCounted (task_view task.now) packets result.1) }
 {
+    let Some(name) = named(name) else {
+        let (end, counts) = run_input(task, alloc, reader, writer);
+        return (FileEnd::Read(end), counts);
+    };
     match captures.open_named(name) {
         Ok(mut input) => {
             let (end, counts) = run_input(task, alloc, &mut input, writer);

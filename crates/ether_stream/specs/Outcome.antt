@@ -90,6 +90,7 @@ not_opened_text name fault = name ++ (codes ": can't be opened" ++ open_fault_te
 
 -- why a copy can't be written
 abbrev pub write_fault_text : WriteFault → List ℕ
+write_fault_text write_faults.NoName = codes ": its name is empty"
 write_fault_text write_faults.NotFound = codes ": there is no such folder"
 write_fault_text write_faults.PermissionDenied = codes ": permission denied"
 write_fault_text write_faults.IsADirectory = codes ": it is a folder"

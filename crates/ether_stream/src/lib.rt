@@ -43,10 +43,10 @@ pub use option_values::{
 };
 pub use outcome::{
     FileEnd, HELP, LastLine, Outcome, Reason, RunFault, VERSION, is_message, last_line,
-    line_of_file, program_status, status_of, status_of_file,
+    line_of_file, line_of_input, program_status, status_of, status_of_file,
 };
 pub use section_table::{MAX_INTERFACES, SectionTable};
 pub use selection::{Selection, Undecided};
 pub use task::{Form, LineOptions, Task};
-pub use usage::{Usage, ValueOption};
+pub use usage::{DependentOption, Usage, ValueOption};
 pub use write_fault::WriteFault;

@@ -199,6 +199,7 @@ fn reason_not_written(fault: WriteFault) -> &'static str
     ensures { result.now ≡ write_fault_text fault }
 {
     match fault {
+        WriteFault::NoName => ": its name is empty",
         WriteFault::NotFound => ": there is no such folder",
         WriteFault::PermissionDenied => ": permission denied",
         WriteFault::IsADirectory => ": it is a folder",
@@ -277,7 +278,7 @@ pub fn last_line<'a>(outcome: &'a Outcome<'_>) -> Option<LastLine<'a>>
 
 /// The line that says why standard input was not read to its end, if it was not. There is no such line for
 /// [`RunFault::Input`]: `main` writes the system's reason.
-fn line_of_input(end: &Result<Verdict, RunFault>) -> Option<LastLine<'_>>
+pub fn line_of_input(end: &Result<Verdict, RunFault>) -> Option<LastLine<'_>>
     ensures { option_map last_line_text result ≡ text_of_input end.now }
 {
     match end {

@@ -1,6 +1,6 @@
 //! What is wrong with the words of a request.
 ghost use Rattle.std.specs.Prelude.{◌≡◌};
-ghost use Rattle.ether_stream.specs.Usage.{expected_text, option_text};
+ghost use Rattle.ether_stream.specs.Usage.{expected_text, needing_text, option_text};
 
 use std::fmt;
 
@@ -56,6 +56,39 @@ impl ValueOption {
     }
 }
 
+/// An option that is of no use without another one.
+#[derive(Clone, Copy, PartialEq, Eq, Debug)]
+pub enum DependentOption {
+    /// `--undecided`.
+    Undecided,
+    /// `--header`.
+    Header,
+    /// `--cut-to-headers`.
+    CutToHeaders,
+    /// `--pop-vlan`.
+    PopVlan,
+    /// `--push-vlan`.
+    PushVlan,
+    /// `--set-vlan`.
+    SetVlan,
+}
+
+impl DependentOption {
+    /// The option as it is written, and the one that it needs.
+    fn needing(self) -> &'static str
+        ensures { result.now ≡ needing_text self }
+    {
+        match self {
+            DependentOption::Undecided => "--undecided needs --select",
+            DependentOption::Header => "--header needs --fields",
+            DependentOption::CutToHeaders => "--cut-to-headers needs --write or -w",
+            DependentOption::PopVlan => "--pop-vlan needs --write or -w",
+            DependentOption::PushVlan => "--push-vlan needs --write or -w",
+            DependentOption::SetVlan => "--set-vlan needs --write or -w",
+        }
+    }
+}
+
 /// What is wrong with the words of a request.
 #[derive(Clone, Copy, Debug)]
 pub enum Usage<'a> {
@@ -67,6 +100,12 @@ pub enum Usage<'a> {
     Words,
     /// Options do not go together.
     Clash,
+    /// This option is there without the one that it needs.
+    Lacks(DependentOption),
+    /// One file can be read, and this is another one.
+    Surplus(&'a str),
+    /// Standard input is named twice.
+    InputTwice,
     /// There are several edits.
     Edits,
     /// No column has this name.
@@ -87,6 +126,12 @@ impl fmt::Display for Usage<'_> {
             Usage::NoValue(word) => write!(f, "{word}: its value is missing"),
             Usage::Words => f.write_str("an option occurs twice, or has a value and takes none"),
             Usage::Clash => f.write_str("these options do not go together"),
+            Usage::Lacks(option) => {
+                let needing = option.needing();
+                write!(f, "{needing}")
+            }
+            Usage::Surplus(name) => write!(f, "{name}: this is one FILE too many"),
+            Usage::InputTwice => f.write_str("-: standard input can be read only once"),
             Usage::Edits => f.write_str(
                 "--cut-to-headers, --pop-vlan, --push-vlan and --set-vlan do not go together",
             ),

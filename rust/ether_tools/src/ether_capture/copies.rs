@@ -9,12 +9,13 @@ use crate::ether_text::Sink;
 /// reports that a copy can't be written has tried it.
 ///
 /// A copy is begun, written and then finished or given up. Only when it is finished does its file get the copy's bytes, all at once; until then,
-/// and for ever if it is given up, the file is as it was.
+/// and for ever if it is given up, the file is as it was. So it is said of files that are known; one in a folder where no other file can be made
+/// gets the bytes as they are written.
 pub trait Copies {
     /// A copy that is being written.
     type Part: Sink;
 
-    /// Begins a copy, which has no byte yet.
+    /// Begins a copy of the capture of the name `input`, or of standard input. The copy has no byte yet.
     ///
     /// <details><summary>Contract</summary>
     ///
@@ -25,7 +26,7 @@ pub trait Copies {
     /// ```
     ///
     /// </details>
-    fn begin(&mut self, name: &str) -> Result<Self::Part, WriteFault>;
+    fn begin(&mut self, name: &str, input: Option<&str>) -> Result<Self::Part, WriteFault>;
 
     /// Finishes a copy: the file of this name has its bytes.
     ///

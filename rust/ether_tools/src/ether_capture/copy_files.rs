@@ -1,20 +1,29 @@
 //! Keeps copies in the file system. Written by hand, not proved.
 use crate::ether_capture::copies::Copies;
 use crate::ether_stream::WriteFault;
-use std::fs::{self, File, OpenOptions};
+use std::fs::{self, File, Metadata, OpenOptions};
 use std::io::{self, Error, ErrorKind, Write};
+use std::os::unix::fs::MetadataExt;
+use std::path::PathBuf;
 
 /// How many names are tried for a part: each run that was killed may have left one.
 const MOST_PARTS: usize = 100;
 
+/// How many symbolic links are followed from one to the next, as many as Linux follows.
+const MOST_LINKS: usize = 40;
+
+/// The name of standard input for the system.
+const STANDARD_INPUT: &str = "/dev/stdin";
+
 /// Files that get copies.
 pub struct CopyFiles;
 
-/// A copy that is being written: to a new file in the folder of the file that gets it, or directly to what the name is
-/// of, if that is not a regular file, as `/dev/null`.
+/// A copy that is being written: to a new file in the folder of the file that gets it. Or directly to what the name is
+/// of, if that is not a regular file, as `/dev/null`, or if no file can be made in its folder.
 pub struct PartFile {
     file: File,
-    beside: Option<String>,
+    is_regular: bool,
+    beside: Option<PathBuf>,
     error: Option<Error>,
 }
 
@@ -26,6 +35,18 @@ impl PartFile {
             self.error = Some(error);
             kind.into()
         })
+    }
+
+    /// Waits until a regular file is on the disk.
+    fn sync(&self) -> io::Result<()> {
+        if self.is_regular { self.file.sync_all() } else { Ok(()) }
+    }
+
+    /// Removes the file of a part beside another file, if that can be done.
+    fn remove(&self) {
+        if let Some(beside) = &self.beside {
+            let _ = fs::remove_file(beside);
+        }
     }
 }
 
@@ -44,52 +65,75 @@ impl Write for PartFile {
 impl Copies for CopyFiles {
     type Part = PartFile;
 
-    fn begin(&mut self, name: &str) -> Result<PartFile, WriteFault> {
+    fn begin(&mut self, name: &str, input: Option<&str>) -> Result<PartFile, WriteFault> {
+        if name.is_empty() {
+            return Err(WriteFault::NoName);
+        }
         let Ok(found) = fs::metadata(name) else {
-            return beside(name);
+            return beside(followed(name)?);
         };
         if found.is_dir() {
             return Err(WriteFault::IsADirectory);
         }
         let file = OpenOptions::new().write(true).open(name).map_err(|error| write_fault(&error))?;
         if !found.is_file() {
-            return Ok(PartFile { file, beside: None, error: None });
+            return Ok(PartFile { file, is_regular: false, beside: None, error: None });
         }
-        let part = beside(&followed(name))?;
-        let _ = part.file.set_permissions(found.permissions());
-        Ok(part)
+        match beside(followed(name)?) {
+            Err(WriteFault::PermissionDenied) => in_place(file, &found, input),
+            answer => answer.inspect(|part| {
+                let _ = part.file.set_permissions(found.permissions());
+            }),
+        }
     }
 
     fn finish(&mut self, name: &str, part: PartFile) -> Result<(), WriteFault> {
-        let Some(beside) = &part.beside else {
-            return Ok(());
-        };
-        part.file.sync_all().and_then(|()| fs::rename(beside, followed(name))).map_err(|error| {
-            let _ = fs::remove_file(beside);
+        let moved = part.sync().and_then(|()| match &part.beside {
+            Some(beside) => fs::rename(beside, followed(name).unwrap_or(name.into())),
+            None => Ok(()),
+        });
+        moved.map_err(|error| {
+            part.remove();
             write_fault(&error)
         })
     }
 
     fn give_up(&mut self, _name: &str, part: PartFile) -> WriteFault {
-        if let Some(beside) = &part.beside {
-            let _ = fs::remove_file(beside);
-        }
+        part.remove();
         part.error.as_ref().map_or(WriteFault::Other, write_fault)
     }
 }
 
-/// The name of the file to which a symbolic link leads, or the name as it is.
-fn followed(name: &str) -> String {
-    let path = fs::canonicalize(name).ok().and_then(|path| path.into_os_string().into_string().ok());
-    path.unwrap_or(name.to_owned())
+/// The name of the file to which symbolic links lead, also if that is not there. A name that is no link is returned as it
+/// is.
+fn followed(name: &str) -> Result<PathBuf, WriteFault> {
+    let mut path = PathBuf::from(name);
+    for _ in 0..MOST_LINKS {
+        match fs::read_link(&path) {
+            Ok(next) => path = path.with_file_name(next),
+            Err(_) => return Ok(path),
+        }
+    }
+    Err(WriteFault::Other)
 }
 
-/// Creates a part in the folder of the file of a name.
-fn beside(name: &str) -> Result<PartFile, WriteFault> {
+/// Empties a file that gets a copy, unless that is of the file itself.
+fn in_place(file: File, found: &Metadata, input: Option<&str>) -> Result<PartFile, WriteFault> {
+    match fs::metadata(input.unwrap_or(STANDARD_INPUT)) {
+        Ok(read) if (read.dev(), read.ino()) != (found.dev(), found.ino()) => {}
+        _ => return Err(WriteFault::PermissionDenied),
+    }
+    file.set_len(0).map_err(|error| write_fault(&error))?;
+    Ok(PartFile { file, is_regular: true, beside: None, error: None })
+}
+
+/// Creates a part in the folder of a file.
+fn beside(path: PathBuf) -> Result<PartFile, WriteFault> {
     for number in 0..MOST_PARTS {
-        let part = if number == 0 { format!("{name}.part") } else { format!("{name}.{number}.part") };
+        let mut part = path.clone().into_os_string();
+        part.push(if number == 0 { ".part".to_owned() } else { format!(".{number}.part") });
         match File::create_new(&part) {
-            Ok(file) => return Ok(PartFile { file, beside: Some(part), error: None }),
+            Ok(file) => return Ok(PartFile { file, is_regular: true, beside: Some(part.into()), error: None }),
             Err(error) if error.kind() == ErrorKind::AlreadyExists => (),
             Err(error) => return Err(write_fault(&error)),
         }

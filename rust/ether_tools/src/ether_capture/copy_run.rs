@@ -25,7 +25,7 @@ pub fn copy_input<'a, K: Copies, R: Source>(
     copies: &mut K,
     reader: &mut R,
 ) -> Outcome<'a> {
-    match copy_to(task, output, alloc, copies, reader) {
+    match copy_to(task, None, output, alloc, copies, reader) {
         Ok(end) => Outcome::Run(end),
         Err(fault) => Outcome::NotWritten {
             name: output,
@@ -57,7 +57,7 @@ pub fn copy_file<'a, C: Captures, K: Copies>(
         Ok(input) => input,
         Err(fault) => return Outcome::NotOpened { name, fault },
     };
-    match copy_to(task, output, alloc, copies, &mut input) {
+    match copy_to(task, Some(name), output, alloc, copies, &mut input) {
         Ok(end) => Outcome::File { name, end },
         Err(fault) => Outcome::NotWritten {
             name: output,
@@ -66,15 +66,16 @@ pub fn copy_file<'a, C: Captures, K: Copies>(
     }
 }
 
-/// Copies what a reader reads to the file of a name, which gets the copy only when it is whole.
+/// Copies what a reader reads, the capture of the name `input` or standard input, to the file of a name, which gets the copy only when it is whole.
 fn copy_to<K: Copies, R: Source>(
     task: &Task,
+    input: Option<&str>,
     output: &str,
     alloc: Global,
     copies: &mut K,
     reader: &mut R,
 ) -> Result<Result<Verdict, RunFault>, WriteFault> {
-    let mut part = copies.begin(output)?;
+    let mut part = copies.begin(output, input)?;
     let end = run_input(task, alloc, reader, &mut part).0;
     match end {
         Ok(verdict) => {

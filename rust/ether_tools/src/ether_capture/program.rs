@@ -105,13 +105,26 @@ fn respond<'a, J: Journal, C: Captures, K: Copies, R: Source, W: Sink, M: LineSi
         &mut counts,
         messages,
     );
-    if counts.has_failed() {
+    if counts.has_failed() || is_unwritten(&outcome) {
         return Outcome::NoMemory;
     }
     match counts.write(format, writer) {
         Ok(()) => outcome,
         Err(OutputFault) => Outcome::Run(Err(RunFault::Output)),
     }
+}
+
+/// Tests that the writer has failed.
+fn is_unwritten(outcome: &Outcome<'_>) -> bool {
+    matches!(
+        outcome,
+        Outcome::Run(Err(RunFault::Output))
+            | Outcome::File {
+                end: Err(RunFault::Output),
+                ..
+            }
+            | Outcome::Files(Err(_))
+    )
 }
 
 /// Writes the lines of a capture, or a copy of it, as a request says.
@@ -130,7 +143,7 @@ fn answer<'a, C: Captures, K: Copies, R: Source, W: Sink, M: LineSink>(
             Err(OutputFault) => Outcome::Run(Err(RunFault::Output)),
         },
         Request::List(listing) => match write_heading(&listing.heading.columns(), writer) {
-            Ok(()) => Outcome::Files(run_files(listing, alloc, captures, writer, messages)),
+            Ok(()) => Outcome::Files(run_files(listing, alloc, captures, reader, writer, messages)),
             Err(OutputFault) => Outcome::Run(Err(RunFault::Output)),
         },
         Request::Help => Outcome::Help,

@@ -5,7 +5,9 @@ use etherpeel::ether_content::PacketEdit;
 use etherpeel::ether_filter::{Filter, FilterError};
 use crate::ether_format::{Columns, Format};
 use etherpeel::ether_pcap::CopyMode;
-use crate::ether_stream::{Form, LineOptions, Selection, Task, Undecided, Usage, filter_of};
+use crate::ether_stream::{
+    DependentOption, Form, LineOptions, Selection, Task, Undecided, Usage, filter_of,
+};
 use std::num::NonZeroUsize;
 
 /// Why the arguments ask for nothing.
@@ -113,22 +115,58 @@ impl<'a> Asked<'a> {
         self.is_write || self.output.is_some()
     }
 
+    /// What is wrong with the options and names together, if anything is.
+    fn fault(&self) -> Option<Usage<'a>> {
+        if let Some(option) = self.lacking() {
+            return Some(Usage::Lacks(option));
+        }
+        if let Some(name) = self.surplus() {
+            return Some(Usage::Surplus(name));
+        }
+        if names_input_twice(self.files.as_slice()) {
+            return Some(Usage::InputTwice);
+        }
+        if self.clashes() {
+            return Some(Usage::Clash);
+        }
+        None
+    }
+
+    /// The option that is there without the one that it needs, if there is one.
+    fn lacking(&self) -> Option<DependentOption> {
+        if self.undecided.is_some() && self.text.is_none() {
+            return Some(DependentOption::Undecided);
+        }
+        if self.has_header && self.fields.is_none() && !self.is_counted {
+            return Some(DependentOption::Header);
+        }
+        if self.is_copy() {
+            return None;
+        }
+        match &self.edit {
+            Some(edit) => Some(option_of(edit)),
+            None => None,
+        }
+    }
+
+    /// The first name of a file after the only one that can be read, if there is one.
+    fn surplus(&self) -> Option<&'a str> {
+        match (self.input, self.files.as_slice()) {
+            (Some(_), [name, ..]) => Some(*name),
+            (None, [_, name, ..]) if self.is_copy() => Some(*name),
+            _ => None,
+        }
+    }
+
     /// Tests that there is an option that does not go with the others.
     fn clashes(&self) -> bool {
-        if self.undecided.is_some() && self.text.is_none() {
-            return true;
-        }
-        if self.input.is_some() && !self.files.is_empty() {
-            return true;
-        }
         if self.clashes_in_columns() {
             return true;
         }
         if self.is_copy() {
-            self.is_plain || self.limit.is_some() || self.has_format() || self.has_several()
-        } else {
-            self.edit.is_some() || self.is_plain && self.has_format()
+            return self.is_plain || self.limit.is_some() || self.has_format();
         }
+        self.is_plain && self.has_format()
     }
 
     /// Tests that there is an option of columns that does not go with the others.
@@ -136,7 +174,7 @@ impl<'a> Asked<'a> {
         if self.is_counted {
             return self.has_header || self.counted.is_none() || self.is_brief();
         }
-        self.has_header && self.fields.is_none() || self.format.is_some() && self.fields.is_some()
+        self.format.is_some() && self.fields.is_some()
     }
 
     /// Tests that lines for the eye are asked for.
@@ -178,8 +216,8 @@ impl<'a> Asked<'a> {
 
     /// What all options together ask for.
     pub(crate) fn request(self) -> Result<Request<'a>, RequestError<'a>> {
-        if self.clashes() {
-            return Err(RequestError::Usage(Usage::Clash));
+        if let Some(usage) = self.fault() {
+            return Err(RequestError::Usage(usage));
         }
         match filter_of(self.text) {
             Ok(filter) if self.has_several() => Ok(Request::List(Listing {
@@ -275,6 +313,40 @@ impl<'a> Asked<'a> {
     }
 }
 
+/// The option of an edit.
+fn option_of(edit: &PacketEdit) -> DependentOption {
+    match edit {
+        PacketEdit::CutToHeaders => DependentOption::CutToHeaders,
+        PacketEdit::PopVlan => DependentOption::PopVlan,
+        PacketEdit::PushVlan { .. } => DependentOption::PushVlan,
+        PacketEdit::SetVlan { .. } => DependentOption::SetVlan,
+    }
+}
+
+/// Tests that standard input is among these names twice.
+fn names_input_twice(names: &[&str]) -> bool {
+    let mut rest = names;
+    while let [name, others @ ..] = rest {
+        if *name == "-" {
+            return names_input(others);
+        }
+        rest = others;
+    }
+    false
+}
+
+/// Tests that standard input is among these names.
+fn names_input(names: &[&str]) -> bool {
+    let mut rest = names;
+    while let [name, others @ ..] = rest {
+        if *name == "-" {
+            return true;
+        }
+        rest = others;
+    }
+    false
+}
+
 /// Counts of the texts of columns, in a format.
 fn statistics_of(format: &Option<Format>, columns: &Option<Columns>) -> Heading {
     match (columns, format) {
@@ -336,7 +408,7 @@ impl Request<'_> {
 }
 
 /// A name of a file, unless it is that of a standard stream.
-fn named(name: &str) -> Option<&str> {
+pub(crate) fn named(name: &str) -> Option<&str> {
     if name == "-" {
         return None;
     }

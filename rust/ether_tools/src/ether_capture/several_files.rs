@@ -1,13 +1,13 @@
 //! Reads several captures, one after the other.
 
 use crate::ether_capture::captures::Captures;
-use crate::ether_capture::request::Listing;
+use crate::ether_capture::request::{Listing, named};
 use crate::ether_capture::run_input::run_input;
 use crate::ether_stream::{
-    FileEnd, Form, LineSink, PacketCounts, RunFault, Task, line_of_file, status_of_file,
-    write_totals,
+    FileEnd, Form, LastLine, LineSink, PacketCounts, RunFault, Task, line_of_file, line_of_input,
+    status_of_file, write_totals,
 };
-use crate::ether_text::{OutputBuffer, OutputFault, Sink};
+use crate::ether_text::{OutputBuffer, OutputFault, Sink, Source};
 use crate::ether_capture::memory::Global;
 use std::num::NonZeroUsize;
 
@@ -64,23 +64,25 @@ impl Tally {
 }
 
 /// Writes the lines of several captures, one after the other, and then the line of the totals of all. If a capture is
-/// not read to its end, writes the reason to `messages`. Returns the greatest exit status of a capture.
+/// not read to its end, writes the reason to `messages`. Returns the greatest exit status of a capture. A name of `-` is
+/// that of standard input, `reader`.
 ///
 /// <details><summary>Contract</summary>
 ///
 /// ```text
-/// ensures listed { HasListed (C.has captures.now) C.can_refuse C.Input.Source.can_fail W.can_fail M.Sink.can_fail
-///     (listing_view listing.entry) (W.contents writer.old) (W.contents writer.new) (M.Sink.contents messages.old)
-///     (M.Sink.contents messages.new) result }
+/// ensures listed { HasListed (C.has captures.now) R.can_fail C.can_refuse C.Input.Source.can_fail W.can_fail M.Sink.can_fail
+///     (listing_view listing.entry) (R.remaining reader.old) (R.remaining reader.new) (W.contents writer.old)
+///     (W.contents writer.new) (M.Sink.contents messages.old) (M.Sink.contents messages.new) result }
 /// ensures flushed { OnOk result (W.is_flushed writer.new) }
 /// ensures told { Settles M.Sink.is_flushed messages.old messages.new ⊎ M.Sink.can_fail }
 /// ```
 ///
 /// </details>
-pub fn run_files<C: Captures, W: Sink, M: LineSink>(
+pub fn run_files<C: Captures, R: Source, W: Sink, M: LineSink>(
     listing: Listing<'_>,
     alloc: Global,
     captures: &C,
+    reader: &mut R,
     writer: &mut W,
     messages: &mut M,
 ) -> Result<u8, OutputFault> {
@@ -89,17 +91,18 @@ pub fn run_files<C: Captures, W: Sink, M: LineSink>(
     }
     let is_plain = listing.options.is_plain;
     let selects = listing.selection.is_some();
-    let tally = read_files(listing, alloc, captures, writer, messages)?;
+    let tally = read_files(listing, alloc, captures, reader, writer, messages)?;
     let undecided = if selects { Some(tally.undecided) } else { None };
     write_last(is_plain, &tally, undecided, writer)?;
     Ok(tally.status)
 }
 
 /// Writes what is made of each capture, until the requested number of packets is reached.
-fn read_files<C: Captures, W: Sink, M: LineSink>(
+fn read_files<C: Captures, R: Source, W: Sink, M: LineSink>(
     listing: Listing<'_>,
     alloc: Global,
     captures: &C,
+    reader: &mut R,
     writer: &mut W,
     messages: &mut M,
 ) -> Result<Tally, OutputFault> {
@@ -117,22 +120,25 @@ fn read_files<C: Captures, W: Sink, M: LineSink>(
         }
         task.count = tally.count();
         task.form = Form::Lines(options.after(tally.packets));
-        tally = read_file(&task, &tally, name, alloc, captures, writer, messages)?;
+        tally = read_file(
+            &task, &tally, name, alloc, captures, reader, writer, messages,
+        )?;
     }
     Ok(tally)
 }
 
 /// Writes what is made of one capture, and to `messages` why it was not read to its end, if it was not.
-fn read_file<C: Captures, W: Sink, M: LineSink>(
+fn read_file<C: Captures, R: Source, W: Sink, M: LineSink>(
     task: &Task,
     tally: &Tally,
     name: &str,
     alloc: Global,
     captures: &C,
+    reader: &mut R,
     writer: &mut W,
     messages: &mut M,
 ) -> Result<Tally, OutputFault> {
-    let (end, counts) = end_of_file(task, name, alloc, captures, writer);
+    let (end, counts) = end_of_file(task, name, alloc, captures, reader, writer);
     if is_output_fault(&end) {
         return Err(OutputFault);
     }
@@ -148,19 +154,33 @@ fn is_output_fault(end: &FileEnd) -> bool {
 
 /// Writes to `messages` why a capture was not read to its end, if it was not.
 fn tell_reason<M: LineSink>(name: &str, end: &FileEnd, messages: &mut M) {
-    if let Some(line) = line_of_file(name, end) {
+    if let Some(line) = line_of_capture(name, end) {
         let _ = messages.put_line(&line);
     }
 }
 
+/// The line that says why a capture was not read to its end, if it was not.
+fn line_of_capture<'a>(name: &'a str, end: &'a FileEnd) -> Option<LastLine<'a>> {
+    match (named(name), end) {
+        (Some(name), _) => line_of_file(name, end),
+        (None, FileEnd::Read(end)) => line_of_input(end),
+        (None, FileEnd::NotOpened(_)) => None,
+    }
+}
+
 /// Writes what is made of one capture, and returns how it ended, and how many packets were read.
-fn end_of_file<C: Captures, W: Sink>(
+fn end_of_file<C: Captures, R: Source, W: Sink>(
     task: &Task,
     name: &str,
     alloc: Global,
     captures: &C,
+    reader: &mut R,
     writer: &mut W,
 ) -> (FileEnd, PacketCounts) {
+    let Some(name) = named(name) else {
+        let (end, counts) = run_input(task, alloc, reader, writer);
+        return (FileEnd::Read(end), counts);
+    };
     match captures.open_named(name) {
         Ok(mut input) => {
             let (end, counts) = run_input(task, alloc, &mut input, writer);

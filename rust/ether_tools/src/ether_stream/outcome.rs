@@ -177,6 +177,7 @@ fn reason_not_opened(fault: OpenFault) -> &'static str {
 /// The end of the message that a copy can't be written: why.
 fn reason_not_written(fault: WriteFault) -> &'static str {
     match fault {
+        WriteFault::NoName => ": its name is empty",
         WriteFault::NotFound => ": there is no such folder",
         WriteFault::PermissionDenied => ": permission denied",
         WriteFault::IsADirectory => ": it is a folder",
@@ -256,7 +257,15 @@ pub fn last_line<'a>(outcome: &'a Outcome<'_>) -> Option<LastLine<'a>> {
 
 /// The line that says why standard input was not read to its end, if it was not. There is no such line for
 /// [`RunFault::Input`]: `main` writes the system's reason.
-fn line_of_input(end: &Result<Verdict, RunFault>) -> Option<LastLine<'_>> {
+///
+/// <details><summary>Contract</summary>
+///
+/// ```text
+/// ensures { option_map last_line_text result ≡ text_of_input end.now }
+/// ```
+///
+/// </details>
+pub fn line_of_input(end: &Result<Verdict, RunFault>) -> Option<LastLine<'_>> {
     match end {
         Err(RunFault::Input) => None,
         _ => line_of_run(STANDARD_INPUT, end),

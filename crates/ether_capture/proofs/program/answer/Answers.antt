@@ -28,7 +28,7 @@ returns-in-Ok-write_heading-clause-done g c =
     (λ (h : Option Columns).
     Appends (g.W.Sink.contents c.args.writer.now) (g.W.Sink.contents c.write_heading-in-List.new.writer) (heading_if h))
     c.columns-in-List.ensures c.in-Ok-write_heading.ensures.written)
-    (c.run_files.ensures.listed, refl, refl))
+    (c.run_files.ensures.listed, refl))
 
 pub returns-in-List-clause-done : goal.returns-in-List-clause-done
 returns-in-List-clause-done g c =

@@ -26,7 +26,7 @@ returns-in-Ok-clause-done g c =
       rows = _;
       end = c.answer-outcome.result;
       done = rw c.new-counts.ensures at c.answer-outcome.ensures.done;
-      shown = inl (refl, c.in-Ok.ensures.written (search rules));
+      shown = inl (refl, sym c.is_unwritten.ensures ∙ c.if-is_unwritten.false, c.in-Ok.ensures.written (search rules));
     })
 
 pub returns-clause-done : goal.returns-clause-done

@@ -1,6 +1,6 @@
-use Rattle.std.proofs.Common.{◌≡◌, ◌⊎◌, ℕ, List, Option, length}
+use Rattle.std.proofs.Common.{◌≡◌, ◌⊎◌, ℕ, List, Option, false, length}
 use Rattle.ether_capture.specs.SeveralFiles.{ReadsFiles, Settles, nothing_read}
-use Rattle.ether_capture.specs.Options.{listing_view}
+use Rattle.ether_capture.specs.Options.{listing_view, names_input}
 use Rattle.ether_capture.specs.declared.several_files.Tally.{Tally}
 use Rattle.ether_capture.proofs.SeveralFilesLemmas.{names_in}
 use Rattle.ether_capture.proofs.several_files.read_files.Given as goal
@@ -11,13 +11,16 @@ invariant-loop-name g l =
     record {
       selection : l.task.selection ≡ l.fn.listing.selection;
       options : l.options ≡ l.fn.listing.options;
-      reads : (last : Tally) (holds tells : Option (List ℕ))
-          → ReadsFiles (g.C.Captures.has l.fn.captures) g.C.Captures.can_refuse g.C.Input.Source.can_fail
-          g.W.Sink.can_fail g.M.Sink.can_fail listing (names_in l.files) l.tally (g.W.Sink.contents l.writer)
-          (g.M.Sink.contents l.messages) last holds tells
-          → ReadsFiles (g.C.Captures.has l.fn.captures) g.C.Captures.can_refuse g.C.Input.Source.can_fail
+      reads : (last : Tally) (after holds tells : Option (List ℕ))
+          → ReadsFiles (g.C.Captures.has l.fn.captures) g.R.Source.can_fail g.C.Captures.can_refuse g.C.Input.Source.can_fail
+          g.W.Sink.can_fail g.M.Sink.can_fail listing (names_in l.files) l.tally (g.R.Source.remaining l.reader)
+          (g.W.Sink.contents l.writer) (g.M.Sink.contents l.messages) last after holds tells
+          → ReadsFiles (g.C.Captures.has l.fn.captures) g.R.Source.can_fail g.C.Captures.can_refuse g.C.Input.Source.can_fail
           g.W.Sink.can_fail g.M.Sink.can_fail listing listing.files (nothing_read listing.count)
-          (g.W.Sink.contents l.fn.writer) (g.M.Sink.contents l.fn.messages) last holds tells;
+          (g.R.Source.remaining l.fn.reader) (g.W.Sink.contents l.fn.writer) (g.M.Sink.contents l.fn.messages) last after holds
+          tells;
+      kept : names_input listing.files ≡ false
+          → (g.R.Source.remaining l.reader ≡ g.R.Source.remaining l.fn.reader) × (names_input (names_in l.files) ≡ false);
       settled : Settles g.M.Sink.is_flushed l.fn.messages l.messages ⊎ g.M.Sink.can_fail;
     }
 
