@@ -20,6 +20,7 @@ import time
 TOP = os.path.dirname(os.path.dirname(os.path.dirname(os.path.abspath(__file__))))
 COMMANDS = {
     "documents": [sys.executable, "docs/reading.py"],
+    "clauses": [sys.executable, "tests/clauses.py"],
     "versions": [sys.executable, "tests/versions.py"],
     "scripts": [sys.executable, "tests/scripts.py"],
     "manual pages": [sys.executable, "tests/manual_pages.py"],

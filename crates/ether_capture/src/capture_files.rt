@@ -21,7 +21,10 @@ pub struct CaptureFiles<'a, H, M> {
 
 impl<'a, H, M> CaptureFiles<'a, H, M> {
     /// The captures in all files; `gauge` shows how far they are read.
-    pub fn new(host: &'a H, gauge: &'a Gauge<'a, H, M>) -> Self {
+    pub fn new(host: &'a H, gauge: &'a Gauge<'a, H, M>) -> Self
+        ensures host { result.host.now ≡ host.now }
+        ensures gauge { result.gauge.now ≡ gauge.now }
+    {
         CaptureFiles { host, gauge }
     }
 }

@@ -1,5 +1,5 @@
 //! Memory for the interfaces of a section.
-ghost use Rattle.std.specs.Prelude.{◌≤◌, refl};
+ghost use Rattle.std.specs.Prelude.{◌≡◌, ◌≤◌, [], IfOk, refl};
 ghost use Rattle.std.specs.Vec.{vec_capacity};
 
 use ether_pcap::{CaptureInterface, InterfaceTable};
@@ -15,7 +15,9 @@ pub struct InterfaceBuffer {
 
 impl InterfaceBuffer {
     /// Memory for 65,536 interfaces, with none in it. Returns [`AllocError`] if it is refused.
-    pub fn new(alloc: Global) -> Result<Self, AllocError> {
+    pub fn new(alloc: Global) -> Result<Self, AllocError>
+        ensures { IfOk result (λ buffer. buffer.interfaces.items ≡ []) }
+    {
         let interfaces = Vec::with_capacity(alloc, MAX_INTERFACES)?;
         Ok(InterfaceBuffer { interfaces })
     }

@@ -20,7 +20,10 @@ pub struct Gauge<'a, K, M> {
 
 impl<'a, K: Clock, M: Write + Copy> Gauge<'a, K, M> {
     /// A line that is not shown yet.
-    pub fn new(clock: &'a K, messages: M) -> Self {
+    pub fn new(clock: &'a K, messages: M) -> Self
+        ensures clock { result.clock.now ≡ clock.now }
+        ensures messages { result.messages ≡ messages }
+    {
         Gauge {
             clock,
             messages,
@@ -68,7 +71,11 @@ pub struct Meter<'a, R, K, M> {
 
 impl<'a, R, K: Clock, M: Write + Copy> Meter<'a, R, K, M> {
     /// A reader, with the number of its bytes, if that is known.
-    pub fn new(stream: R, size: Option<u64>, gauge: &'a Gauge<'a, K, M>) -> Self {
+    pub fn new(stream: R, size: Option<u64>, gauge: &'a Gauge<'a, K, M>) -> Self
+        ensures stream { result.stream ≡ stream }
+        ensures size { result.size ≡ size }
+        ensures read { result.read ≡ 0 }
+    {
         Meter {
             stream,
             gauge,

@@ -1,4 +1,5 @@
 //! Memory for a run.
+
 use crate::ether_stream::{EditBuffer, Grow, InputBuffer, NoMemory};
 use etherpeel::ether_pcap::InterfaceTable;
 
@@ -14,6 +15,15 @@ pub struct Buffers<B: Grow, T: InterfaceTable> {
 
 impl<B: Grow, T: InterfaceTable> Buffers<B, T> {
     /// Memory for a run. Returns [`NoMemory`] if one of the first two buffers can't grow to its first size.
+    ///
+    /// <details><summary>Contract</summary>
+    ///
+    /// ```text
+    /// ensures empty { IfOk result (λ buffers. items buffers.input ≡ []) }
+    /// ensures interfaces { IfOk result (λ buffers. buffers.interfaces ≡ interfaces) }
+    /// ```
+    ///
+    /// </details>
     pub fn new(input: B, edits: B, interfaces: T) -> Result<Self, NoMemory> {
         Ok(Buffers {
             input: InputBuffer::new(input)?,
