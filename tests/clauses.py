@@ -4,11 +4,10 @@
 
 A function is `pub fn` of a crate that a program or a library has, or a method of a public trait. A clause is an `ensures`: without one any body is
 proved. The methods of an impl of a trait have the trait's. A constant is pinned if a definition cites it, or a function with a clause uses
-it: then another value breaks a proof. The crates of tests are
-read for such functions, as those that return a constant alone. What has no clause for a reason is in WITHOUT. Prints each of the others, and the
-last line is 'N passed, M failed'.
+it: then another value breaks a proof. What has no clause for a reason is in WITHOUT. Prints each of the others, and the last line is
+'N passed, M failed'.
 """
-
+import argparse
 import glob
 import os
 import re
@@ -24,7 +23,6 @@ WITHOUT = {
     ("ether_capture", "progress_line", "show"): CELL,
     ("ether_capture", "progress_line", "end_line"): CELL,
     ("ether_stream", "edit_buffer", "new"): MODEL,
-    ("ether_text", "tool/digit_table", "new"): MODEL,
 }
 ITEM = re.compile(r"(\s*)(pub )?(?:pub\(\w+\) )?(?:const )?(?:unsafe )?(?:extern \"C\" )?fn (\w+)")
 CONSTANT = re.compile(r"\s*pub const (\w+)\s*:")
@@ -79,6 +77,7 @@ def functions_and_constants(lines):
 
 
 def main():
+    argparse.ArgumentParser(description=__doc__, formatter_class=argparse.RawDescriptionHelpFormatter).parse_args()
     read = [(crate, name, *functions_and_constants(lines)) for crate, name, lines in sources()]
     pinning = [(of, text) for _, _, functions, _ in read for _, _, _, has_clause, of, text in functions if has_clause]
     by_name = {}

@@ -20,7 +20,9 @@ import time
 TOP = os.path.dirname(os.path.dirname(os.path.dirname(os.path.abspath(__file__))))
 COMMANDS = {
     "documents": [sys.executable, "docs/reading.py"],
+    "tables": [sys.executable, "bench/figures.py", "--tables"],
     "clauses": [sys.executable, "tests/clauses.py"],
+    "lines": [sys.executable, "tests/lines.py"],
     "versions": [sys.executable, "tests/versions.py"],
     "scripts": [sys.executable, "tests/scripts.py"],
     "manual pages": [sys.executable, "tests/manual_pages.py"],
@@ -37,6 +39,7 @@ COMMANDS = {
     "network": [sys.executable, "tests/network.py", "crates/ether_c/out/libether_c.a", "crates/example_switch/out/example_switch"],
     "C by cargo": ["sh", "c/test.sh", "cargo"],
     "programs by cargo": [sys.executable, "rust/programs.py"],
+    "figures": [sys.executable, "bench/figures.py"],
     "page": [sys.executable, "page/test.py", "--proved"],
     "release": [sys.executable, "tests/release.py"],
 }
@@ -144,7 +147,10 @@ def table(clock, ends):
     rows.append(["sum", *(f"{it:.1f}" for it in sums)])
     widths = [max(len(row[at]) for row in rows) for at in range(len(rows[0]))]
     lines = ["    " + "  ".join(it.ljust(width) for it, width in zip(row, widths)).rstrip() for row in rows]
-    lines += ["", *(f"{name}: {cpu:.1f} CPU minutes, {wall:.1f} minutes" for name, cpu, wall in ends)]
+    width = max(len(name) for name, _, _ in ends)
+    lines += ["", f"    {'Part'.ljust(width)}  processor time  by the clock"]
+    lines += [f"    {name.ljust(width)}  {cpu:<14.1f}  {wall:.1f}" for name, cpu, wall in ends]
+    lines += [f"    {'sum'.ljust(width)}  {sum(it[1] for it in ends):<14.1f}  {sum(it[2] for it in ends):.1f}"]
     return "\n".join(lines) + "\n"
 
 

@@ -55,7 +55,8 @@ impl CookedHeader {
 /// Reads the header at the front of a packet of cooked capture v1. Returns `None` if the packet is read as a frame
 /// instead.
 pub(crate) fn cooked_header(bytes: &[u8]) -> Option<CookedHeader>
-    ensures some { IfSome result (λ h. (has_other_hardware bytes.now ≡ true) × (cooked_view h ≡ linux_sll_of bytes.now)) }
+    ensures some { IfSome result (λ h. (has_other_hardware bytes.now ≡ true)
+        × (cooked_view h ≡ linux_sll_of bytes.now)) }
     ensures none { result ≡ None → has_other_hardware bytes.now ≡ false }
 {
     if bytes.len() < CookedHeader::LEN {

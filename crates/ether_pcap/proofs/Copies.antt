@@ -115,7 +115,7 @@ module _ (mode : ModeValue) (Keeps : PacketValue → Type 0) (Edits : PacketValu
       unit_read x y bytes others len edited begins
       (copy_read y (drop len bytes) others kept edited rest fault copies (inl (begun bytes x y len None begins)))
   copy_read x bytes copy kept edited rest fault (keeps _ y _ front others len p o ps qs _ _ begins is edits fits copies)
-  some =
+      some =
       packets.packet (expected_in mode x) (expected_in mode y) (front ++ others) (length front) (packet_after mode p o)
       qs [] None
       (packet_copied mode bytes front others x y len p o begins fits)
@@ -136,7 +136,7 @@ module _ (mode : ModeValue) (Keeps : PacketValue → Type 0) (Edits : PacketValu
   copy_edits x bytes copy kept edited rest fault (unit _ y _ others len _ _ _ _ begins copies) =
       copy_edits y (drop len bytes) others kept edited rest fault copies
   copy_edits x bytes copy kept edited rest fault
-  (keeps _ y _ front others len p o ps qs _ _ begins is edits fits copies) =
+      (keeps _ y _ front others len p o ps qs _ _ begins is edits fits copies) =
       one_edited p o ps qs edits (copy_edits y (drop len bytes) others ps qs rest fault copies)
   copy_edits x bytes copy kept edited rest fault (leaves _ y _ _ len p _ _ _ _ begins not_kept copies) =
       copy_edits y (drop len bytes) copy kept edited rest fault copies
@@ -158,7 +158,7 @@ module _ (mode : ModeValue) (Keeps : PacketValue → Type 0) (Edits : PacketValu
         selected = s.selected;
       }
   copy_source x bytes copy kept edited rest fault
-  (keeps _ y _ front others len p o ps qs _ _ begins is edits fits copies) =
+      (keeps _ y _ front others len p o ps qs _ _ begins is edits fits copies) =
       let s = copy_source y (drop len bytes) others ps qs rest fault copies in
       record {
         packets = p ∷ s.packets;
@@ -191,7 +191,7 @@ module _ (mode : ModeValue) (Keeps : PacketValue → Type 0) (Edits : PacketValu
       no_front [] m e = refl
       no_front (b ∷ l) m e = absurd cc
   copy_nothing x bytes copy kept edited rest fault
-  (keeps _ y _ front others len p o ps qs _ _ begins is edits fits copies) first empty =
+      (keeps _ y _ front others len p o ps qs _ _ begins is edits fits copies) first empty =
       absurd (first (begun_before bytes x y len p begins))
   copy_nothing x bytes copy kept edited rest fault (leaves _ y _ _ len p _ _ _ _ begins not_kept copies) first empty =
       absurd (first (begun_before bytes x y len p begins))
@@ -208,13 +208,13 @@ module _ (mode : ModeValue) (Keeps : PacketValue → Type 0) (Edits : PacketValu
   stopped_at x bytes copy kept edited rest fault q (unit _ y _ others len _ _ _ _ begins copies) e =
       stopped_at y (drop len bytes) others kept edited rest fault q copies e
   stopped_at x bytes copy kept edited rest fault q
-  (keeps _ y _ front others len p o ps qs _ _ begins is edits fits copies) e =
+      (keeps _ y _ front others len p o ps qs _ _ begins is edits fits copies) e =
       stopped_at y (drop len bytes) others ps qs rest fault q copies e
   stopped_at x bytes copy kept edited rest fault q (leaves _ y _ _ len p _ _ _ _ begins not_kept copies) e =
       stopped_at y (drop len bytes) copy kept edited rest fault q copies e
 
   pub copy_stopped : (x : CaptureExpectation) (bytes copy : List ℕ) (kept edited : List PacketValue) (rest : List ℕ)
-    (p : PacketValue)
+      (p : PacketValue)
       → Copies mode Keeps Edits x bytes copy kept edited rest (Some (NotEdited p)) → IsNotEdited mode Keeps Edits rest p
   copy_stopped x bytes copy kept edited rest p copies =
       stopped_at x bytes copy kept edited rest (Some (NotEdited p)) p copies refl
@@ -240,7 +240,7 @@ module _ (raise : ℕ) (Keeps : PacketValue → Type 0) (Edits : PacketValue →
   copy_within x bytes copy kept edited rest fault (unit _ y _ others len _ _ _ _ begins copies) few all =
       copy_within y (drop len bytes) others kept edited rest fault copies few all
   copy_within x bytes copy kept edited rest fault
-  (keeps _ y _ front others len p o ps qs _ _ begins is edits fits copies) few all =
+      (keeps _ y _ front others len p o ps qs _ _ begins is edits fits copies) few all =
       let q = packet_after (Changed raise) p o in
       let here =
       packet_in_copy (Changed raise) x (take len bytes) front p o (packet_taken bytes x y len p begins) fits in
@@ -279,7 +279,7 @@ module _ (Edits : PacketValue → Option EditedValue → Type 0) (stays : EditsN
   copy_all x bytes copy kept edited rest fault (unit _ y _ others len _ _ _ _ begins copies) =
       joined bytes others rest len (copy_all y (drop len bytes) others kept edited rest fault copies)
   copy_all x bytes copy kept edited rest fault (keeps _ y _ front others len p o ps qs _ _ begins is edits fits copies)
-  =
+      =
       let more = copy_all y (drop len bytes) others ps qs rest fault copies in
       search (rules, unit_unedited, joined)
   copy_all x bytes copy kept edited rest fault (leaves _ y _ _ len p _ _ _ _ begins not_kept copies) =

@@ -292,7 +292,7 @@ module _ (Edits : PacketValue → Option EditedValue → Type 0) (unedited : Edi
         stay y (drop len bytes) copy kept edited rest fault (IsBytes-drop len bytes ok)
         (range_after bytes x y len (Some p) ok begins range) copies
     stay x bytes copy kept edited rest fault ok range
-    (keeps _ y _ front others len p o ps qs _ _ begins is edits fits copies) =
+        (keeps _ y _ front others len p o ps qs _ _ begins is edits fits copies) =
         let more =
         stay y (drop len bytes) others ps qs rest fault (IsBytes-drop len bytes ok)
         (range_after bytes x y len (Some p) ok begins range) copies in
@@ -309,7 +309,7 @@ module _ (Edits : PacketValue → Option EditedValue → Type 0) (unedited : Edi
 
   module _ (First Second : PacketValue → Type 0) where
     abbrev Selects : (PacketValue → Type 0) → CaptureExpectation → (bytes copy : List ℕ) → List PacketValue
-    → (rest : List ℕ)
+        → (rest : List ℕ)
         → Option CopyFault → Type 0
     Selects Keeps x bytes copy chosen rest fault = Copies (Changed 0) Keeps Edits x bytes copy chosen chosen rest fault
 
@@ -384,7 +384,7 @@ module _ (Edits : PacketValue → Option EditedValue → Type 0) (unedited : Edi
         }
 
     on_packet : (x y : CaptureExpectation) (bytes front others : List ℕ) (len : ℕ) (p : PacketValue)
-      (o : Option EditedValue)
+        (o : Option EditedValue)
         (rest : List ℕ) (fault : Option CopyFault)
         → Begins bytes x len (Some p) y → InRange x → InRange y → First p → Second p ⊎ ¬ (Second p) → Edits p o
         → unit_after (Changed 0) x p o (take len bytes) ≡ Some front
@@ -459,13 +459,13 @@ module _ (Edits : PacketValue → Option EditedValue → Type 0) (unedited : Edi
         on_unit x y bytes others len rest fault begins range after
         (compose y (drop len bytes) others kept edited rest fault (IsBytes-drop len bytes ok) after chosen copies)
     compose x bytes between kept edited rest fault ok range chosen
-    (keeps _ y _ front others len p o ps qs _ _ begins is edits fits copies) =
+        (keeps _ y _ front others len p o ps qs _ _ begins is edits fits copies) =
         let after = range_after bytes x y len (Some p) ok begins range in
         let split = first_chosen Second p ps chosen in
         on_packet x y bytes front others len p o rest fault begins range after is split.0 edits fits
         (compose y (drop len bytes) others ps qs rest fault (IsBytes-drop len bytes ok) after split.1 copies)
     compose x bytes between kept edited rest fault ok range chosen (leaves _ y _ _ len p _ _ _ _ begins not_kept copies)
-    =
+        =
         let after = range_after bytes x y len (Some p) ok begins range in
         let r = compose y (drop len bytes) between kept edited rest fault (IsBytes-drop len bytes ok) after chosen
         copies in
@@ -483,7 +483,7 @@ module _ (Edits : PacketValue → Option EditedValue → Type 0) (unedited : Edi
 
   -- of the packets of a capture each is kept or not
   chosen_of : (Keeps : PacketValue → Type 0) (x : CaptureExpectation) (bytes : List ℕ)
-    (packets chosen : List PacketValue)
+      (packets chosen : List PacketValue)
       (left : List ℕ) (other : Option CopyFault) → IsBytes bytes → ((q : PacketValue) → other ≡ Some (NotEdited q) → ⊥)
       → HasPackets x bytes packets [] None → HasSource Keeps x bytes chosen left other → Chosen Keeps packets
   chosen_of Keeps x bytes packets chosen left None ok never has source = search (rules, packets_one)
@@ -500,7 +500,7 @@ module _ (Edits : PacketValue → Option EditedValue → Type 0) (unedited : Edi
       → Kept most First bytes between kept edited rest fault → Kept most Second between copy chosen last left other
       → Kept most (λ p. First p × Second p) bytes copy chosen last rest fault × (left ≡ []) × (other ≡ None)
   composed most First Second bytes between copy kept edited chosen last rest left fault other ok ok_between some once
-  twice =
+      twice =
       let start = Beginning most in
       let stays = stay First start bytes between kept edited rest fault ok tt once in
       let has : HasPackets start between kept [] None =
@@ -522,7 +522,7 @@ module _ (Edits : PacketValue → Option EditedValue → Type 0) (unedited : Edi
       → Kept most Keeps bytes between kept edited rest fault → Kept most Keeps between copy chosen last left other
       → copy ≡ between
   composed_twice most Keeps bytes between copy kept edited chosen last rest left fault other ok ok_between some once
-  twice =
+      twice =
       let c =
       composed most Keeps Keeps bytes between copy kept edited chosen last rest left fault other ok ok_between some once
       twice in

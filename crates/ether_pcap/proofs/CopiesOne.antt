@@ -25,8 +25,12 @@ module _ (mode : ModeValue) (Keeps : PacketValue → Type 0) (Edits : PacketValu
   Joined x y None front others all = all ≡ record others { copy = other_unit mode y front ++ others.copy }
   Joined x y (Some p) front others all =
       (Keeps p × (o : Option EditedValue) × (u : List ℕ) × Edits p o × (unit_after mode x p o front ≡ Some u)
-      × (all ≡ record { copy = u ++ others.copy; kept = p ∷ others.kept; edited = packet_after mode p o
-      ∷ others.edited }))
+      × (all ≡ record {
+        copy = u ++ others.copy;
+        kept = p ∷ others.kept;
+        edited = packet_after mode p o
+            ∷ others.edited;
+      }))
       ⊎ (¬ (Keeps p) × (all ≡ others))
 
   abbrev Copied : CaptureExpectation → (bytes : List ℕ) → Result → (rest : List ℕ) → Option CopyFault → Type 0
@@ -38,9 +42,9 @@ module _ (mode : ModeValue) (Keeps : PacketValue → Type 0) (Edits : PacketValu
   data Step (x : CaptureExpectation) (bytes : List ℕ) : Result → (rest : List ℕ) → Option CopyFault → Type 0 where
     end : IsEnd x bytes → Step x bytes nothing [] None
     refusal : (r : CaptureRefusal) → ¬ (IsEnd x bytes) → RefusesCapture bytes x r
-      → Step x bytes nothing bytes (Some (Refused r))
+        → Step x bytes nothing bytes (Some (Refused r))
     stuck : (len : ℕ) (p : PacketValue) (o : Option EditedValue) (y : CaptureExpectation)
-      → Begins bytes x len (Some p) y
+        → Begins bytes x len (Some p) y
         → Keeps p → Edits p o → unit_after mode x p o (take len bytes) ≡ None
         → Step x bytes nothing bytes (Some (NotEdited p))
     further : (len : ℕ) (p : Option PacketValue) (y : CaptureExpectation) (others all : Result) (rest : List ℕ)
@@ -61,7 +65,7 @@ module _ (mode : ModeValue) (Keeps : PacketValue → Type 0) (Edits : PacketValu
   first_step x bytes copy kept edited rest fault (unit _ y _ others len _ _ _ _ begins copies) =
       further len None y (result others kept edited) (result _ kept edited) rest fault begins copies refl
   first_step x bytes copy kept edited rest fault
-  (keeps _ y _ front others len p o ps qs _ _ begins is edits fits copies) =
+      (keeps _ y _ front others len p o ps qs _ _ begins is edits fits copies) =
       further len (Some p) y (result others ps qs) (result _ _ _) rest fault begins copies
       (inl (is, o, front, edits, fits, refl))
   first_step x bytes copy kept edited rest fault (leaves _ y _ _ len p _ _ _ _ begins not_kept copies) =

@@ -131,7 +131,7 @@ module _ (raise : ℕ) where
           ],
         )
     kept_interfaces x bytes copy kept edited rest fault
-    (keeps _ y _ front others len p o ps qs _ _ begins is edits fits more) =
+        (keeps _ y _ front others len p o ps qs _ _ begins is edits fits more) =
         let s = kept_interfaces y (drop len bytes) others ps qs rest fault more in (
           described_between x y ++ s.0,
           unit x y bytes len (Some p) s.0 rest begins s.1,
@@ -146,7 +146,7 @@ module _ (raise : ℕ) where
         )
 
     pub copy_interfaces : (x : CaptureExpectation) (bytes copy : List ℕ) (kept edited : List PacketValue)
-      (rest : List ℕ)
+        (rest : List ℕ)
         (fault : Option CopyFault) → Copies (Changed raise) Keeps Edits x bytes copy kept edited rest fault
         → KeepsInterfaces raise x bytes copy rest
     copy_interfaces x bytes copy kept edited rest fault is =

@@ -93,7 +93,8 @@ pub fn tell_failure<M: Write>(
     output: Option<io::Error>,
     messages: &mut M,
 )
-    ensures { IfSome output (λ error. error_kind error ≡ BrokenPipe → M.contents messages.new ≡ M.contents messages.old) }
+    ensures { IfSome output (λ error. error_kind error ≡ BrokenPipe
+        → M.contents messages.new ≡ M.contents messages.old) }
 {
     let told = match (args, input, output) {
         (_, _, Some(error)) if error.kind() == ErrorKind::BrokenPipe => Ok(()),

@@ -111,9 +111,11 @@ fn simple_packet<'a>(
     interfaces: &[CaptureInterface],
     body: &'a [u8],
 ) -> Result<CapturedPacket<'a>, CaptureError>
-    ensures packet { IfOk result (λ p. (most : ℕ) → IsBody Simple most (order_of byte_order) (interfaces_view interfaces.now)
+    ensures packet { IfOk result
+        (λ p. (most : ℕ) → IsBody Simple most (order_of byte_order) (interfaces_view interfaces.now)
         body.now (Some (captured_packet_view p)) (interfaces_view interfaces.now)) }
-    ensures refused { IfErr result (λ e. (most : ℕ) → RefusesBody most (order_of byte_order) (interfaces_view interfaces.now)
+    ensures refused { IfErr result
+        (λ e. (most : ℕ) → RefusesBody most (order_of byte_order) (interfaces_view interfaces.now)
         body.now Simple (capture_refusal_view e)) }
 {
     let Some(interface) = interface_at(interfaces, 0) else {
@@ -142,9 +144,11 @@ fn enhanced_packet<'a>(
     is_enhanced: bool,
     body: &'a [u8],
 ) -> Result<CapturedPacket<'a>, CaptureError>
-    ensures packet { IfOk result (λ p. (most : ℕ) → IsBody (Enhanced (if is_enhanced then 4 else 2)) most (order_of byte_order)
+    ensures packet { IfOk result (λ p. (most : ℕ) → IsBody (Enhanced (if is_enhanced then 4 else 2)) most
+        (order_of byte_order)
         (interfaces_view interfaces.now) body.now (Some (captured_packet_view p)) (interfaces_view interfaces.now)) }
-    ensures refused { IfErr result (λ e. (most : ℕ) → RefusesBody most (order_of byte_order) (interfaces_view interfaces.now)
+    ensures refused { IfErr result
+        (λ e. (most : ℕ) → RefusesBody most (order_of byte_order) (interfaces_view interfaces.now)
         body.now (Enhanced (if is_enhanced then 4 else 2)) (capture_refusal_view e)) }
 {
     let packet = match packet_of_body(byte_order, is_enhanced, body) {

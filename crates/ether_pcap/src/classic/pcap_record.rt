@@ -71,7 +71,8 @@ impl<'a> PcapRecord<'a> {
     #[tactic(auto, using(crate::specs::Record::header, crate::specs::Record::too_long, crate::specs::Record::packet))]
     pub fn from_slice(file: &FileHeader, slice: &'a [u8]) -> Result<PcapRecord<'a>, RecordError>
         ensures record { IfOk result (λ r. BeginsRecord (order_of file.now.byte_order) slice.now (record_view r)) }
-        ensures refused { IfErr result (λ e. RefusesRecord (order_of file.now.byte_order) slice.now (record_refusal_view e)) }
+        ensures refused { IfErr result
+            (λ e. RefusesRecord (order_of file.now.byte_order) slice.now (record_refusal_view e)) }
     {
         let order = file.byte_order;
         if slice.len() < PcapRecord::HEADER_LEN {

@@ -43,8 +43,10 @@ impl<'a> SimplePacket<'a> {
         snap_len: u32,
         body: &'a [u8],
     ) -> Result<SimplePacket<'a>, BodyError>
-        ensures packet { IfOk result (λ p. IsSimplePacket (order_of byte_order) snap_len body.now (simple_packet_view p)) }
-        ensures refused { IfErr result (λ e. RefusesSimplePacket (order_of byte_order) snap_len body.now (body_refusal_view e)) }
+        ensures packet { IfOk result
+            (λ p. IsSimplePacket (order_of byte_order) snap_len body.now (simple_packet_view p)) }
+        ensures refused { IfErr result (λ e. RefusesSimplePacket (order_of byte_order) snap_len body.now
+            (body_refusal_view e)) }
     {
         if body.len() < 4 {
             return Err(BodyError::Len {

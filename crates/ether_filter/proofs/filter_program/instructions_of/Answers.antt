@@ -22,7 +22,8 @@ returns c x is =
       past = c.past_tags-past_tags.result;
       are_jumps = c.jumps_of-jumps.ensures x is;
       are_passed =
-          subst (λ ns. ArePassed ns c.jumps_of-jumps.result c.past_tags-past_tags.result) is c.past_tags-past_tags.ensures;
+          subst (λ ns. ArePassed ns c.jumps_of-jumps.result c.past_tags-past_tags.result) is
+          c.past_tags-past_tags.ensures;
       few = omega (arith, count, c.requires);
       count = count ∙ ap length is;
       each = λ i lt d e. rw (sym is) (c.loop-at.invariant.2 i (omega (arith, lt, c.loop-at.invariant.0)) d e);

@@ -79,7 +79,8 @@ impl<'a> PcapRecord<'a> {
     ///
     /// ```text
     /// ensures record { IfOk result (λ r. BeginsRecord (order_of file.now.byte_order) slice.now (record_view r)) }
-    /// ensures refused { IfErr result (λ e. RefusesRecord (order_of file.now.byte_order) slice.now (record_refusal_view e)) }
+    /// ensures refused { IfErr result
+    ///     (λ e. RefusesRecord (order_of file.now.byte_order) slice.now (record_refusal_view e)) }
     /// ```
     ///
     /// </details>

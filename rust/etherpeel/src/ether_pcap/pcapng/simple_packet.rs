@@ -47,8 +47,10 @@ impl<'a> SimplePacket<'a> {
     /// <details><summary>Contract</summary>
     ///
     /// ```text
-    /// ensures packet { IfOk result (λ p. IsSimplePacket (order_of byte_order) snap_len body.now (simple_packet_view p)) }
-    /// ensures refused { IfErr result (λ e. RefusesSimplePacket (order_of byte_order) snap_len body.now (body_refusal_view e)) }
+    /// ensures packet { IfOk result
+    ///     (λ p. IsSimplePacket (order_of byte_order) snap_len body.now (simple_packet_view p)) }
+    /// ensures refused { IfErr result (λ e. RefusesSimplePacket (order_of byte_order) snap_len body.now
+    ///     (body_refusal_view e)) }
     /// ```
     ///
     /// </details>

@@ -5,9 +5,9 @@ use etherpeel::ether_peel::Start;
 
 /// Returns `true` if a capture with this snap length keeps all headers of a frame that has at most three tags.
 ///
-/// The headers are those of [`PacketSlice::from_slice`], which reads no fourth tag. The capture has the first `snap_len` bytes of the frame, or
-/// the whole frame if it is shorter. If a SecTag gives the length of its payload, that payload must be kept, too,
-/// because the tag is refused without it.
+/// The headers are those of [`PacketSlice::from_slice`], which reads no fourth tag. The capture has the first
+/// `snap_len` bytes of the frame, or the whole frame if it is shorter. If a SecTag gives the length of its payload,
+/// that payload must be kept, too, because the tag is refused without it.
 ///
 /// A captured frame has lost its frame check sequence. All headers are kept if they are read from it as from a frame
 /// without one.
