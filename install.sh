@@ -41,11 +41,11 @@ programs() {
         fi
         put 755 "$program" "bin/$name"
         put 644 "$here/man/$name.1" "share/man/man1/$name.1"
+        put 644 "$here/completions/$name.bash" "share/bash-completion/completions/$name"
+        put 644 "$here/completions/_$name" "share/zsh/site-functions/_$name"
+        put 644 "$here/completions/$name.fish" "share/fish/vendor_completions.d/$name.fish"
     done
     put 644 "$here/man/ether-filter.7" share/man/man7/ether-filter.7
-    put 644 "$here/completions/ether_capture.bash" share/bash-completion/completions/ether_capture
-    put 644 "$here/completions/_ether_capture" share/zsh/site-functions/_ether_capture
-    put 644 "$here/completions/ether_capture.fish" share/fish/vendor_completions.d/ether_capture.fish
 }
 
 library() {

@@ -476,12 +476,23 @@ def tried(program):
     yield "no words", partial(run, program, [], TAGGED.encode()), (TAGGED_TEXT, 0)
     for words in OTHER_WORDS:
         yield f"words {words}", partial(run, program, words, TAGGED.encode()), (USAGE, 2)
+    with open(os.path.join(os.path.dirname(os.path.realpath(__file__)), "..", "VERSION"), encoding="utf-8") as file:
+        yield "--version", partial(run, program, ["--version"], b""), (f"ether_tool {file.read().strip()}\n", 0)
+    yield "--help", partial(words_of_help, program), (USAGE, ["eth", "fcs", "sll", "type", "feed", "limit", "--help", "--version"], 0)
+    yield "--help, a full disk", partial(on_a_full_disk, program, ["--help"], b""), DISK_IS_FULL
     yield "a word that is no text", partial(run, program, [b"\xff"], TAGGED.encode()), ("", 4)
     for length in range(len(MIXED.lines)):
         found = partial(run_until_a_fault, program, ["eth"], MIXED.lines[:length].encode())
         yield f"a reader that fails after {length} bytes", found, ("".join(whole_lines(length)), 4)
     for words in (["eth"], ["feed"], ["ether"]):
         yield f"a full disk, {words}", partial(on_a_full_disk, program, words, TAGGED.encode()), DISK_IS_FULL
+
+
+def words_of_help(program):
+    """The first line of the help, the first word of each line that is indented, and the status."""
+    text, status = run(program, ["--help"], b"")
+    first, *lines = text.splitlines(keepends=True)
+    return first, [line.split()[0] for line in lines if line.startswith("  ")], status
 
 
 def whole_lines(length):

@@ -1,3 +1,4 @@
+pub mod About
 pub mod Mode
 pub mod Command
 pub mod Answer

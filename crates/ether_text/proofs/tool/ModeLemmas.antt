@@ -1,5 +1,5 @@
 -- The words that name a mode, as references.
-use Rattle.std.proofs.Common.{◌≡◌, ℕ, zero, suc, ◌+◌, ◌*◌, ◌<◌, ◌≤◌, List, [], ◌∷◌, length, map, slice_index, slice_index_or, Option, Some, None, Bor, codes, refl, sym, subst, ◌∙◌, arith}
+use Rattle.std.proofs.Common.{◌≡◌, ℕ, zero, suc, ◌+◌, ◌*◌, ◌<◌, ◌≤◌, List, [], ◌∷◌, length, map, slice_index, slice_index_or, Option, Some, None, Bor, codes, refl, sym, ap, subst, ◌∙◌, arith}
 use Rattle.hex.specs.Hex.{hex_digit_value}
 use Rattle.ether_text.specs.Tool.Frame.{IsFrame, IsBadLine, too_long, odd, no_digit}
 use Rattle.ether_text.specs.Tool.Mode.{NamesNumber, NamesType, NamesMode, no_word, ether_type}
@@ -12,14 +12,20 @@ pub NamesMode-none : (words : List (Bor (List ℕ))) → length words < 1 → Na
 NamesMode-none [] few = no_word
 NamesMode-none (word ∷ words) few = absurd (omega arith)
 
+-- the only word of a list
+pub only_word : (words : List (Bor (List ℕ))) (default : Bor (List ℕ)) (text : List ℕ) → 1 ≤ length words
+    → length words < 2
+    → (slice_index_or words 0 default).now ≡ text → map (λ word. word.now) words ≡ text ∷ []
+only_word [] default text some few is = absurd (omega arith)
+only_word (word ∷ []) default text some few is = ap (λ (t : List ℕ). t ∷ []) is
+only_word (word ∷ next ∷ words) default text some few is = absurd (omega arith)
+
 pub NamesMode-word : (words : List (Bor (List ℕ))) (default : Bor (List ℕ)) (text : List ℕ) (mode : Mode)
     → 1 ≤ length words → length words < 2
     → (slice_index_or words 0 default).now ≡ text → NamesMode (text ∷ []) mode
     → NamesMode (map (λ word. word.now) words) mode
-NamesMode-word [] default text mode some few is names = absurd (omega arith)
-NamesMode-word (word ∷ []) default text mode some few is names =
-    subst (λ (t : List ℕ). NamesMode (t ∷ []) mode) (sym is) names
-NamesMode-word (word ∷ next ∷ words) default text mode some few is names = absurd (omega arith)
+NamesMode-word words default text mode some few is names =
+    subst (λ (all : List (List ℕ)). NamesMode all mode) (sym (only_word words default text some few is)) names
 
 pub NamesMode-type : (words : List (Bor (List ℕ))) (default other : Bor (List ℕ)) (n : ℕ) → 2 ≤ length words
     → length words < 3

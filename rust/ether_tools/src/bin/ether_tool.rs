@@ -1,21 +1,42 @@
 //! Reads frames, one line of hexadecimal digits each, and prints the lines of the walk of each.
 //!
 //! Written by hand, not proved: `crates/ether_tool/src/main.rt` takes the streams from the runtime of Rattle.
+use ether_tools::ether_text::tool::about::about;
 use ether_tools::ether_text::tool::program::program;
-use ether_tools::ether_text::{Noted, tell_failure};
+use ether_tools::ether_text::{Noted, OutputBuffer, Sink, tell_failure};
 use ether_tools::streams::{arguments, input, output};
-use std::io;
 use std::process::ExitCode;
+use std::{env, io};
 
 fn main() -> io::Result<ExitCode> {
     let args = arguments();
     let unread = args.as_ref().err().map(|error| error.kind().into());
     let mut input = Noted::new(input()?);
     let mut output = Noted::new(output()?);
-    let status = program(args, &mut input, &mut output);
+    let status = match about_of(arguments()) {
+        Some(text) => tell(text, &mut output),
+        None => program(args, &mut input, &mut output),
+    };
     if status == 4 {
         let (input, output) = (input.error(), output.error());
         tell_failure("ether_tool", unread.as_ref(), input, output, &mut io::stderr());
     }
     Ok(ExitCode::from(status))
+}
+
+/// What the program says of itself, if the arguments ask for that.
+fn about_of(args: io::Result<env::Args>) -> Option<&'static str> {
+    let words: Vec<String> = args.ok()?.skip(1).collect();
+    let [word] = words.as_slice() else {
+        return None;
+    };
+    about(&[word.as_str()])
+}
+
+/// Writes a text and an LF, and returns the exit status.
+fn tell<W: Sink>(text: &str, writer: &mut W) -> u8 {
+    let mut out = OutputBuffer::new(writer);
+    out.append(text.as_bytes());
+    out.append(b"\n");
+    if out.flush().is_ok() { 0 } else { 4 }
 }

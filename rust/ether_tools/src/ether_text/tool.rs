@@ -3,6 +3,7 @@
 //! [`program::program`] is the whole program `ether_tool`, over any arguments. [`run::run`] is a run over any reader
 //! and writer, and [`run::run_slice`] is a run over lines in memory.
 
+pub mod about;
 pub mod command;
 mod digit_table;
 mod line_buffer;

@@ -1,0 +1,2 @@
+complete -c ether_tool -l help -d 'Print help'
+complete -c ether_tool -l version -d 'Print version'
