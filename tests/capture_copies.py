@@ -331,6 +331,7 @@ def copies_that_fail(program):
         ("a copy that nobody reads", (done.stderr.decode(), done.returncode), ("", 4)),
         ("a copy without standard error", (silent.stdout, silent.returncode), (CLASSIC[:59], 3)),
         ("a copy without memory", partial(copied, program, ["--write"], large, preexec_fn=limit), (large[:96], INPUT + ": out of memory\n", 5)),
-        ("a copy of a reader that fails", partial(run_until_a_fault, program, ["--write", "--select", "arp"], SECTION_HEADER + ETHERNET + CUT_PACKET + CUT_PACKET[:20]),
+        ("a copy of a reader that fails",
+         partial(run_until_a_fault, program, ["--write", "--select", "arp"], SECTION_HEADER + ETHERNET + CUT_PACKET + CUT_PACKET[:20]),
          ((SECTION_HEADER + ETHERNET).decode("latin-1"), 4)),
     ]

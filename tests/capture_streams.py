@@ -175,7 +175,15 @@ def links(program):
     ends = [(name, ("", "", 0)) for name in ("link", "new", "near", "twice")]
     ends += [("far", ("", not_written("far", ": there is no such folder"), 4)), ("round", ("", not_written("round"), 4)),
              ("a fault", ("", INPUT + record_is_cut(59, 62, 61), 3))]
-    return [("copies by links", found, (ends, True, sorted([*leads, "here"]), {"two": CLASSIC, "three": CLASSIC}, CLASSIC))]
+    yield "copies by links", found, (ends, True, sorted([*leads, "here"]), {"two": CLASSIC, "three": CLASSIC}, CLASSIC)
+    with tempfile.TemporaryDirectory() as folder, tempfile.TemporaryDirectory() as other:
+        os.symlink(os.path.join(other, "two"), os.path.join(folder, "link"))
+        with subprocess.Popen([program, "-w", "link"], stdin=subprocess.PIPE, cwd=folder) as child:
+            child.stdin.write(CLASSIC[:59])
+            child.stdin.flush()
+            is_there = until(lambda: os.path.exists(os.path.join(other, "two.part")))
+            child.communicate(CLASSIC[59:])
+        yield "a copy by a link is written in the folder of the file", (is_there, os.listdir(folder)), (True, ["link"])
 
 
 def until(holds):
@@ -302,7 +310,14 @@ def progress(program):
         lines = [line.rpartition("\r")[2].split(",")[0] for line in found[1].split("\n")]
         said = ["120 of 120 bytes", *("cut" + record_is_cut(59, 62, 61) + "no" + NO_FILE).splitlines(), f"{size} of {size} bytes", ""]
         yield "--progress of several files", (lines, found[2]), (said, 4)
+    yield "--progress of a pipe with a name", partial(named_pipe, program), (CLASSIC_LINES, (size, None), 1)
     yield "--progress of a second", partial(slow_progress, program), (True, True, ((str(len(LONG)), None), ""))
+
+
+def named_pipe(program):
+    """The lines, what is shown last of a file whose size is not known, and the status."""
+    text, said, status = run_apart(program, ["--progress", "/dev/stdin"], CLASSIC, len(CLASSIC))
+    return text, shown(said)[1], status
 
 
 def slow_progress(program):

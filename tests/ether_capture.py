@@ -2,7 +2,8 @@
 
     python3 tests/ether_capture.py PROGRAM [WORD]
 
-PROGRAM is the built program, WORD one that the names of the cases have which are run, all if it is left out. The captures were written by hand and checked with tshark. The last line is 'N passed, M failed'.
+PROGRAM is the built program, WORD one that the names of the cases have which are run, all if it is left out. The captures were written by
+hand and checked with tshark. The last line is 'N passed, M failed'.
 """
 
 import argparse

@@ -2,9 +2,9 @@
 
     python3 tests/ether_tool.py PROGRAM [WORD]
 
-PROGRAM is the built program, WORD one that the names of the cases have which are run, all if it is left out. What is expected was not taken from it: a separate script unpacked the fields in the order of the
-standards, and printed them; lengths that a reader asks for were counted by hand. The captured frames are those of the libraries'
-tests; tshark shows the same fields of them. The last line is 'N passed, M failed'.
+PROGRAM is the built program, WORD one that the names of the cases have which are run, all if it is left out. What is expected was not taken
+from it: a separate script unpacked the fields in the order of the standards, and printed them; lengths that a reader asks for were counted
+by hand. The captured frames are those of the libraries' tests; tshark shows the same fields of them. The last line is 'N passed, M failed'.
 """
 
 import argparse

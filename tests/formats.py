@@ -289,7 +289,8 @@ def examples(program):
         ("JSON of a filter, with numbers of the capture", partial(run, program, [*JSON, "--select", "not refused"], CLASSIC), (second, 0)),
         ("JSON of one packet", partial(run, program, [*JSON, "-c", "1"], CLASSIC), (first, 1)),
         ("JSON of no packet", partial(run, program, JSON, CLASSIC[:24]), ("", 0)),
-        ("names of columns without a packet", partial(run, program, ["--header", "--fields", "vlan.vid,eth.src"], CLASSIC[:24]), ("vlan.vid\teth.src\n", 0)),
+        ("names of columns without a packet", partial(run, program, ["--header", "--fields", "vlan.vid,eth.src"], CLASSIC[:24]),
+         ("vlan.vid\teth.src\n", 0)),
         ("columns of a filter", partial(run, program, ["--fields", "frame.number", "--select", "not refused"], CLASSIC), ("2\n", 0)),
         ("32 columns", partial(run, program, ["--fields", ",".join(["frame.link"] * 32)], CLASSIC), (("\t".join(["1"] * 32) + "\n") * 2, 1)),
         ("JSON of six", partial(members, program, JSON, classic(*SIX), "number"), [1, 2, 3, 4, 5, 6]),
@@ -390,7 +391,8 @@ def readers(program):
         tried = [("20,000 objects of JSON", len(packets), 20_000), ("20,000 rows of columns", ours, theirs)]
         words = [word for it in FIELDS for word in ("-e", it)]
         readers_of = {
-            "tshark": (["tshark", "-n", "-r", pcap.name, "-T", "fields", *words], lambda text: [dict(zip(FIELDS, line.split("\t"))) for line in text.splitlines()],
+            "tshark": (["tshark", "-n", "-r", pcap.name, "-T", "fields", *words],
+                       lambda text: [dict(zip(FIELDS, line.split("\t"))) for line in text.splitlines()],
                        [dict(zip(FIELDS, row)) for row in rows]),
             "jq": (["jq", "-c", "[.number, [.headers[] | select(.header == \"vlan\").vid]]", file.name],
                    lambda text: [json.loads(line) for line in text.splitlines()],

@@ -57,11 +57,14 @@ class Bridge:
         for port, frame in frames:
             self.ends[port].send(frame)
         end = time.monotonic() + 5
-        now = self.numbers()
-        while total(now) < total(before) + len(frames) and time.monotonic() < end:
-            now = self.numbers()
+        while total(self.numbers()) < total(before) + len(frames) and time.monotonic() < end:
+            pass
+        return self.since(before)
+
+    def since(self, before):
+        """What is counted besides what was counted before."""
         return {port: {words: it[words] - before[port].get(words, 0) for words in it if it[words] != before[port].get(words, 0)}
-                for port, it in now.items()}
+                for port, it in self.numbers().items()}
 
     def left(self):
         """The frames that wait at the other ends, as hexadecimal digits."""
@@ -88,19 +91,21 @@ def long_frames(bridge):
 
 
 def burst(bridge):
-    """Frames that come in while the switch stands still, more than it takes at once: each leaves, in their order."""
+    """Frames that come in while the switch stands still, more than it takes at once: each leaves, in their order, in both forms."""
+    before = bridge.numbers()
     bridge.program.send_signal(signal.SIGSTOP)
-    frames = [bytes.fromhex(ALL + STATION + "88b5").ljust(1500, b"\0") + number.to_bytes(4, "big") for number in range(BURST)]
+    frames = [bytes.fromhex(ALL + STATION + "8100000a 88b5").ljust(1500, b"\0") + number.to_bytes(4, "big") for number in range(BURST)]
     for frame in frames:
-        bridge.ends[3].send(frame)
+        bridge.ends[1].send(frame)
     bridge.program.send_signal(signal.SIGCONT)
     end = time.monotonic() + 5
-    found = {1: [], 2: [], 4: []}
+    found = {2: [], 3: [], 4: []}
     while any(len(it) < BURST for it in found.values()) and time.monotonic() < end:
         for port, more in bridge.left().items():
             found[port] += more
     for port, they in found.items():
         yield f"frames of a burst that leave by port {port}", [int(it[-8:], 16) for it in they], list(range(BURST))
+    yield "what is counted of a burst", bridge.since(before), {1: {"received": BURST}, **{port: {"sent": BURST} for port in found}}
 
 
 def stations(bridge):
@@ -116,6 +121,18 @@ def stations(bridge):
     yield "to a station at the same port", bridge.left(), {}
 
 
+def sent_by_the_host(bridge):
+    """A frame that another program sends by the interface of a port: it does not come in there."""
+    own = bridge.network.socket("left", "r3")
+    before = bridge.numbers()
+    own.send(bytes.fromhex(f"{ALL}{STATION}{BODY}"))
+    own.close()
+    counts = bridge.after((1, bytes.fromhex(f"{ALL}{STATION}8100000a{BODY}")))
+    yield "a frame of the host: what is received", total(bridge.numbers()) - total(before), 1
+    yield "and then another frame", counts[1], {"received": 1}
+    bridge.left()
+
+
 def interface_down(bridge):
     """A frame that can't leave by one of its ports."""
     bridge.network.do("left", "ip", "link", "set", "r1", "down")
@@ -129,7 +146,7 @@ def forwarded(network, switch, tools):
     bridge = Bridge(network, switch, tools)
     yield "the switch with four ports starts", bridge.said, "switch: 4 ports\n"
     yield "each port hears all stations", [network.promiscuity("left", f"r{port}") for port in PORTS], [1] * len(PORTS)
-    for part in (rows, long_frames, burst, stations, interface_down):
+    for part in (rows, long_frames, burst, stations, sent_by_the_host, interface_down):
         yield from part(bridge)
     for port, one in bridge.ends.items():
         one.close()

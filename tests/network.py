@@ -1,5 +1,6 @@
 """Runs the switch c/examples/switch.c on real interfaces: hosts in network namespaces, in two VLANs, and a trunk between two switches. Then
-compares it with the example switch, which reads captures: the same drawn frames leave by the same ports, with the same bytes.
+tries frames at ports of each kind (`forwarding.py`), and compares it with the example switch, which reads captures: the same drawn frames
+leave by the same ports, with the same bytes.
 
     python3 tests/network.py LIBRARY EXAMPLE
 

@@ -1,0 +1,141 @@
+"""The faults that `planted.py` plants: of each the file, a name, the text in whose place it stands, and its own text. The old text occurs
+once in the file, or within a text that does. In C and Rust it is a statement if it ends in a semicolon, else an expression. A fault that no
+test can see says why not."""
+
+from dataclasses import dataclass
+
+
+@dataclass
+class Fault:
+    file: str
+    name: str
+    old: str
+    new: str
+    within: str = ""
+    why: str = ""
+
+
+SWITCH, BY_HAND, PACKAGE, PAGE = "c/examples/switch.c", "rust/etherpeel_c/by_hand.rs", "c/python/etherpeel/", "page/"
+STREAMS, NOTED, FILES, COPIES, PROGRESS, OPTIONS, TABLE, MEMORY, TEXT, INTERFACES, CAPTURE_MAIN, TOOL_MAIN = (
+    f"rust/ether_tools/src/{name}.rs" for name in (
+        "streams", "ether_text/noted", "ether_capture/capture_files", "ether_capture/copy_files", "ether_capture/progress_line",
+        "ether_capture/options", "ether_capture/count_table", "ether_capture/heap_memory", "ether_capture/heap_text",
+        "ether_capture/interface_buffer", "bin/ether_capture", "bin/ether_tool"))
+NUMBER = "*end || vid < 1 || vid > 4094"
+SHARED, MUTABLE = "core::slice::from_raw_parts(first, len)", "core::slice::from_raw_parts_mut(first, len)"
+BUFFERS = "veth takes each frame at once, so that the buffer for sending never fills"
+NO_CALL_FAILS = "no call fails: the words are checked, and a frame that is passed on has its header"
+
+FAULTS = [
+    Fault(SWITCH, "text after a number", NUMBER, "vid < 1 || vid > 4094"),
+    Fault(SWITCH, "0 is accepted", NUMBER, "*end || vid > 4094"),
+    Fault(SWITCH, "4095 is accepted", NUMBER, "*end || vid < 1 || vid > 4095"),
+    Fault(SWITCH, "a sign or a space before a number", "!isdigit((unsigned char)*number)", "0"),
+    Fault(SWITCH, "a VLAN twice", "p->config.members[vid / 64] & bit", "0"),
+    Fault(SWITCH, "an interface twice", "other->index == p->index", "0"),
+    Fault(SWITCH, "an empty name", "!*p->name", "0"),
+    Fault(SWITCH, "no ingress filtering", "p->config.ingress_filtering = 1;", ""),
+    Fault(SWITCH, "untagged frames at a port for tagged ones", "p->config.frame_types = ETHERPEEL_FRAMES_VLAN_TAGGED;", ""),
+    Fault(SWITCH, "tagged frames at a port for untagged ones", "p->config.frame_types = ETHERPEEL_FRAMES_UNTAGGED;", ""),
+    Fault(SWITCH, "tags that stay", "p->config.untagged[vid / 64] |= bit;", ""),
+    Fault(SWITCH, "another port's VLAN", "p->config.pvid = (uint16_t)vid;", "p->config.pvid = 5;"),
+    Fault(SWITCH, "frames of no other station", "PACKET_MR_PROMISC", "PACKET_MR_ALLMULTI"),
+    Fault(SWITCH, "frames that it sent itself", "setsockopt(p->socket, SOL_PACKET, PACKET_IGNORE_OUTGOING, &one, sizeof one)", "0"),
+    Fault(SWITCH, "no tags of the kernel", "setsockopt(p->socket, SOL_PACKET, PACKET_AUXDATA, &one, sizeof one)", "0"),
+    Fault(SWITCH, "a small buffer for receiving", "setsockopt(p->socket, SOL_SOCKET, SO_RCVBUFFORCE, &bytes, sizeof bytes);", ""),
+    Fault(SWITCH, "a small buffer for sending", "setsockopt(p->socket, SOL_SOCKET, SO_SNDBUFFORCE, &bytes, sizeof bytes);", "", why=BUFFERS),
+    Fault(SWITCH, "0x88A8 put back as 0x8100", "!(aux.tp_status & TP_STATUS_VLAN_TPID_VALID)", "1"),
+    Fault(SWITCH, "a tag put back without its length", "*len += TAG;", ""),
+    Fault(SWITCH, "statuses that nobody looks at", "status != ETHERPEEL_DONE", "0", why=NO_CALL_FAILS),
+    Fault(SWITCH, "two forms in one buffer", "wanted[ETHERPEEL_FORM_UNTAGGED] && wanted[ETHERPEEL_FORM_TAGGED]", "0"),
+    Fault(SWITCH, "one buffer for all copies", "copies[i]", "copies[0]"),
+    Fault(SWITCH, "made ready for each port", "!ready[form]++", "1"),
+    Fault(SWITCH, "sent is counted by calls", "p->sent += (unsigned)sent;", "p->sent += 1;"),
+    Fault(SWITCH, "not sent is never counted", "p->unsent++;", ";"),
+    Fault(SWITCH, "without the last frame of 64", "i < found", "i < found && i < BATCH - 1"),
+    Fault(SWITCH, "cut frames forwarded", "messages[i].msg_hdr.msg_flags & MSG_TRUNC", "0"),
+    Fault(SWITCH, "discarded is never counted", "p->discarded[received.discarded]++;", ";"),
+    Fault(SWITCH, "ageing after 3 seconds", "AGEING_TIME", "3", "ETHERPEEL_BRIDGE_CUSTOMER, AGEING_TIME, table"),
+    Fault(SWITCH, "learned at the first port", "(uint16_t)from", "0"),
+    Fault(SWITCH, "no end on SIGTERM", "i < 3", "i < 2"),
+    Fault(SWITCH, "an end on SIGUSR1", "came_in.ssi_signo == SIGUSR1", "0"),
+
+    Fault(BY_HAND, "a slice without its last value", SHARED, SHARED.replace("len", "len.saturating_sub(1)")),
+    Fault(BY_HAND, "a slice from one value before", SHARED, SHARED.replace("first", "first.wrapping_sub(1)")),
+    Fault(BY_HAND, "a target without its last value", MUTABLE, MUTABLE.replace("len", "len.saturating_sub(1)")),
+    Fault(BY_HAND, "a panic that does not end", "abort()", "loop {}", "    abort()\n", why="by the proofs no call panics"),
+
+    Fault(STREAMS, "arguments that are no text", "argument.to_str().is_some()", "true"),
+    Fault(NOTED, "an error that is forgotten", "self.error = Some(error);", "drop(error);"),
+    Fault(NOTED, "a broken pipe is told", "error.kind() == ErrorKind::BrokenPipe", "false"),
+    Fault(NOTED, "an argument that is no text is told otherwise", "error.kind() == ErrorKind::InvalidData", "false"),
+    Fault(FILES, "a folder is opened", "metadata.is_dir()", "false"),
+    Fault(FILES, "the size of a pipe", "metadata.is_file()", "true"),
+    Fault(FILES, "no progress", "self.gauge.show();", ""),
+    Fault(FILES, "no end of the line", "self.gauge.end_line();", ""),
+    Fault(FILES, "a file that is not there is told otherwise", "OpenFault::NotFound", "OpenFault::Other"),
+    Fault(FILES, "a forbidden file is told otherwise", "OpenFault::PermissionDenied", "OpenFault::Other"),
+    Fault(COPIES, "no sync_all", "part.file.sync_all()", "std::io::Result::Ok(())"),
+    Fault(COPIES, "a part that is left after a rename that fails", "fs::remove_file(beside)", "std::io::Result::Ok(())",
+          "            let _ = fs::remove_file(beside);\n            write_fault(&error)"),
+    Fault(COPIES, "a part that is left by a copy that fails", "fs::remove_file(beside)", "std::io::Result::Ok(())",
+          "            let _ = fs::remove_file(beside);\n        }"),
+    Fault(COPIES, "permissions of a new file", "let _ = part.file.set_permissions(found.permissions());", ""),
+    Fault(COPIES, "a link that is replaced", "followed(name)", "name.to_owned()", "fs::rename(beside, followed(name))"),
+    Fault(COPIES, "a part beside the link", "followed(name)", "name.to_owned()", "beside(&followed(name))?"),
+    Fault(COPIES, "one part alone", "MOST_PARTS", "1", "0..MOST_PARTS"),
+    Fault(COPIES, "another's part is written", "File::create_new(&part)", "File::create(&part)"),
+    Fault(COPIES, "a full disk is told otherwise", "WriteFault::StorageFull", "WriteFault::Other"),
+    Fault(PROGRESS, "a rate of a thousand times", "self.read.checked_div(milliseconds)", "(self.read * 1000).checked_div(milliseconds)"),
+    Fault(PROGRESS, "shown at each read", "now - told < PAUSE", "false"),
+    Fault(PROGRESS, "shown at the end alone", "now - told < PAUSE", "true"),
+    Fault(PROGRESS, "the bytes of the last read", "self.read += count as u64;", "self.read = count as u64;"),
+    Fault(PROGRESS, "a line that ends twice", "self.is_shown.replace(false)", "self.is_shown.get()"),
+    Fault(OPTIONS, "progress by another option", '"progress"', '"plain"', 'is_shown: matches.get_flag("progress")'),
+    Fault(OPTIONS, "no limit", 'text_of(matches, words, "limit")', "None"),
+    Fault(TABLE, "bytes are not added", "count.with(bytes)", "count.with(0)"),
+    Fault(TABLE, "the first bytes are not counted", "Count::of_packet(bytes)", "Count::of_packet(0)"),
+    Fault(MEMORY, "no end without memory", "self.bytes.try_reserve(more).is_err()", "{ self.bytes.reserve(more); false }"),
+    Fault(TEXT, "a text that is not emptied", "self.bytes.clear();", ""),
+    Fault(INTERFACES, "an interface too many", "self.interfaces.len() >= MAX_INTERFACES", "self.interfaces.len() > MAX_INTERFACES"),
+    Fault(INTERFACES, "interfaces of the section before", "self.interfaces.clear();", ""),
+    Fault(CAPTURE_MAIN, "no reason of a stream", "status == 4 && is_stream", "false"),
+    Fault(TOOL_MAIN, "no reason of a stream", "status == 4", "false"),
+
+    Fault(PACKAGE + "_units.py", "walks that share memory", "_idle.pop()", "_idle[-1]"),
+    Fault(PACKAGE + "_units.py", "an identifier of 0 as None", "sci if sci_present else None", "sci or None"),
+    Fault(PACKAGE + "_units.py", "three tags as all", "tags < _TAGS", "tags <= _TAGS"),
+    Fault(PACKAGE + "__init__.py", "an identifier of 0 as None", "tag.sci if tag.sci_present else None", "tag.sci or None"),
+    Fault(PACKAGE + "_replacing.py", "an identifier of 0 is not written", "header.sci is not None", "bool(header.sci)"),
+    Fault(PACKAGE + "_captures.py", "times in microseconds", "seconds * 10**9 + nanoseconds", "seconds * 10**9 + nanoseconds // 1000 * 1000"),
+    Fault(PACKAGE + "_captures.py", "a time of 0 as None", "seconds * 10**9 + nanoseconds if has_time else None", "seconds * 10**9 + nanoseconds or None"),
+    Fault(PACKAGE + "_captures.py", "a check sequence of no bytes as None", "fcs_len if has_fcs_len else None", "fcs_len or None"),
+    Fault(PACKAGE + "_captures.py", "a buffer that select keeps", "release_buffer(lends)", "pass"),
+    Fault(PACKAGE + "_captures.py", "a check sequence that was cut off", " and len(self.packet) == self.original_len", ""),
+    Fault(PACKAGE + "_library.py", "a buffer that calls keep", "release_buffer(C.byref(self.memory))", "pass"),
+    Fault(PACKAGE + "_library.py", "an older library", " or lib.etherpeel_version() < VERSION", ""),
+    Fault(PACKAGE + "_library.py", "a library of another kind", "lib.etherpeel_version() >> 16 != MAJOR or ", ""),
+    Fault(PACKAGE + "_library.py", "structs of other sizes", "lib.etherpeel_sizeof(number) != C.sizeof(one)", "False"),
+    Fault(PACKAGE + "_library.py", "a number that is one too great", "0 <= value < 2**bits", "0 <= value <= 2**bits"),
+    Fault(PACKAGE + "__init__.py", "a target before the frame", "at < to + room and to < at + length", "at <= to < at + length"),
+    Fault(PACKAGE + "__init__.py", "a target after the start of the frame", "at < to + room and to < at + length", "to <= at < to + room"),
+    Fault(PACKAGE + "__init__.py", "a target beside the frame", "at < to + room and to < at + length", "at <= to + room and to <= at + length"),
+    Fault(PACKAGE + "__init__.py", "a priority of 8", "0 <= tag.pcp < 8", "0 <= tag.pcp < 9", why="the call for C refuses it with the same status"),
+    Fault(PACKAGE + "__init__.py", "an identifier of 4096", "0 <= tag.vid < 4096", "0 <= tag.vid <= 65536"),
+
+    Fault(PAGE + "decoder.js", "the capture that was open before", "    this.clear();\n    const [count, end]", "    const [count, end]"),
+    Fault(PAGE + "decoder.js", "numbers of two bytes in the other order", "view.getUint16(at, true)", "view.getUint16(at, false)"),
+    Fault(PAGE + "file.js", "no limit of what is decompressed", "len > MOST_UNPACKED", "false",
+          why="the test would need more than 1 GiB of the browser's memory"),
+    Fault(PAGE + "file.js", "compressed by gzip alone", "magic.every((byte, at) => head[at] === byte)", "head[0] === 0x1f"),
+    Fault(PAGE + "list.js", "nanoseconds are cut off", 'fraction.endsWith("000") ? fraction.slice(0, 6) : fraction', "fraction.slice(0, 6)"),
+    Fault(PAGE + "list.js", "one row less", "this.first + seen + 1)", "this.first + seen - 1)"),
+    Fault(PAGE + "list.js", "the end of a long list", "Infinity }", "page }"),
+    Fault(PAGE + "names.js", "addresses without colons", 'const address = pairs(":")', 'const address = pairs("")'),
+    Fault(PAGE + "names.js", "a flag that is not named", 'number ? "1 (set)" : "0"', "String(number)"),
+    Fault(PAGE + "page.js", "an odd number of digits", " || text.length % 2", ""),
+    Fault(PAGE + "page.js", "the last of several files", "const [file] = files;", "const file = files.at(-1);"),
+    Fault(PAGE + "page.js", "the link of a frame of another start", "3: \"sll\"", "3: \"eth\""),
+    Fault(PAGE + "page.js", "a file that is not read anew", '$("file").value = "";', ""),
+    Fault(PAGE + "frame.js", "bytes of a header that are not marked", "Math.ceil(endBit / 8)", "Math.floor(endBit / 8)"),
+]
