@@ -56,6 +56,7 @@ def test_captures(page, folder):
     page.choose("#file", save(folder, "chosen.pcap", classic(PACKETS)))
     page.wait("document.title.startsWith('chosen.pcap')")
     check("a chosen file", page.evaluate(LIST) == ROWS, page.evaluate(LIST))
+    check("it can be chosen again", page.evaluate("document.querySelector('#file').value") == "")
 
 
 CUT_CELLS = """[...document.querySelectorAll('#list th, #list td:not(.line)')]
@@ -105,6 +106,10 @@ def test_links(page, folder):
                 "ARPHRD type": "1 (Ethernet)", "Packet type": "0 (to us)", "Address length": "6",
                 "Address": "02:00:00:00:00:01:00:00"}
     check("cooked capture v2, fields", fields == expected, fields)
+    address = "document.querySelector('#about a').getAttribute('href')"
+    check("cooked capture v2, link", page.evaluate(address) == f"#type-0806:{SLL2[40:]}", page.evaluate(address))
+    drop(page, folder, "cooked.pcap", classic([(1700000000, bytes.fromhex(SLL), len(SLL) // 2)], link=113))
+    check("cooked capture v1, link", page.evaluate(address) == f"#sll:{SLL}", page.evaluate(address))
     page.open(INDEX)
     drop(page, folder, "raw.pcap", classic([(1700000000, b"E", 1)], link=101))
     check("another link", page.evaluate(LIST)[0][3:] == ["", "", "1", "link type 101"], page.evaluate(LIST))
@@ -123,6 +128,8 @@ def test_keys_and_marks(page, folder):
     page.point("#headers details:nth-child(2) li:nth-child(3)")
     check("a field marks its bytes", page.evaluate(marked) == [14, 15], page.evaluate(marked))
     check("a field marks its text", page.evaluate(letters) == [14, 15], page.evaluate(letters))
+    page.point("#headers details:nth-child(2) li:nth-child(1)")
+    check("a field of three bits marks its byte", page.evaluate(marked) == [14], page.evaluate(marked))
     page.point(".hex [data-at='16']")
     names = page.evaluate("[...document.querySelectorAll('#headers li.marked .name')].map(name => name.innerText)")
     check("a byte marks its fields", names == ["Payload", "EtherType"], names)
@@ -352,6 +359,10 @@ def test_many(page, folder):
     check("100,000 packets, selected", text(page, "#selected") == "50,000 of 100,000 packets")
     selected = (time.monotonic() - begin) * 1000
     print(f"page: 100,000 packets: first row after {took:.0f} ms, selected after {selected:.0f} ms")
+    size = "window.page.decoder.calls.memory.buffer.byteLength"
+    before = page.evaluate(size)
+    drop(page, folder, "again.pcap", data)
+    check("100,000 packets again, in the same memory", page.evaluate(size) <= before, (before, page.evaluate(size)))
 
 
 def test_long(page, folder):
