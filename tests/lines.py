@@ -2,8 +2,8 @@
 
     python3 tests/lines.py
 
-A line has at most 120 columns, unless it is an import, an attribute or a text, which can't be broken. Of a clause in a .rt file `rt fmt` joins
-what fits in 123. A file has at most 600 lines. Prints each that has more, and the last line is 'N passed, M failed'.
+A line has at most 120 columns, unless it is an import, an attribute, a ghost field or a text, which can't be broken. Of a clause in a .rt
+file `rt fmt` joins what fits in 123. A file has at most 600 lines. Prints each that has more, and the last line is 'N passed, M failed'.
 """
 import argparse
 import glob
@@ -13,7 +13,7 @@ import sys
 
 TOP = os.path.dirname(os.path.dirname(os.path.abspath(__file__)))
 COLUMNS, LINES = {".antt": 120, ".rt": 123}, 600
-WHOLE = re.compile(r"\s*(pub use|ghost use|use|#\[)\s*|\s*(/// +)?(\w+ = )?(codes )?\"")
+WHOLE = re.compile(r"""\s*(pub use |ghost use |use |ghost \w+: |#\[|(/// +)?(\w+ = )?(codes |b|\\)?")""")
 
 
 def wrong_lines(path):

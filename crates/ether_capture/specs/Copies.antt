@@ -24,15 +24,17 @@ write_fault_of kinds.QuotaExceeded = faults.StorageFull
 write_fault_of kinds.FileTooLarge = faults.StorageFull
 write_fault_of kind = faults.Other
 
--- A capture was read, from before to after, and what is asked for was made of it. Only a stream that can fail has failed, or one that does not
--- end.
-pub record HasRead (can_read can_write : Type 0) (task : TaskValue) (before after held holds : Option (List ℕ)) (end : Result Verdict RunFault)
+-- A capture was read, from before to after, and what is asked for was made of it. Only a stream that can fail has
+-- failed, or one that does not end.
+pub record HasRead (can_read can_write : Type 0) (task : TaskValue) (before after held holds : Option (List ℕ))
+    (end : Result Verdict RunFault)
     : Type 0 where
   pub run : HasRun task before after held holds end ⊎ HasNoMemory before after held holds end
   pub failed : IfErr end (λ fault. OnStreamFault fault (can_read ⊎ IsEndless before after) can_write)
 
 -- .. and a file, which had these bytes, has what was made, if the capture was read to its end; else it is as it was
-pub record HasCopied (can_read can_write : Type 0) (task : TaskValue) (before after had gets : Option (List ℕ)) (end : Result Verdict RunFault)
+pub record HasCopied (can_read can_write : Type 0) (task : TaskValue) (before after had gets : Option (List ℕ))
+    (end : Result Verdict RunFault)
     : Type 0 where
   pub held : Option (List ℕ)
   pub holds : Option (List ℕ)
@@ -42,7 +44,10 @@ pub record HasCopied (can_read can_write : Type 0) (task : TaskValue) (before af
   pub is_file : MatchResult end (λ verdict. gets ≡ holds) (λ fault. gets ≡ had)
 
 -- .. or it can't get it, and is as it was
-abbrev pub IsCopied : (can_read can_write : Type 0) (can_keep : WriteFault → Type 0) → (task : TaskValue) → (before after had gets : Option (List ℕ))
+abbrev pub IsCopied : (can_read can_write : Type 0) (can_keep : WriteFault → Type 0) → (task : TaskValue)
+    → (before after had gets : Option (List ℕ))
     → Result (Result Verdict RunFault) WriteFault → Type 0
-IsCopied can_read can_write can_keep task before after had gets (Ok end) = HasCopied can_read can_write task before after had gets end
-IsCopied can_read can_write can_keep task before after had gets (Err fault) = (can_keep fault ⊎ can_write) × (gets ≡ had)
+IsCopied can_read can_write can_keep task before after had gets (Ok end) =
+    HasCopied can_read can_write task before after had gets end
+IsCopied can_read can_write can_keep task before after had gets (Err fault) =
+    (can_keep fault ⊎ can_write) × (gets ≡ had)

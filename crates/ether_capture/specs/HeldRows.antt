@@ -18,18 +18,22 @@ HoldsRows true false (Some text) rows = Tabulates text rows
 -- ---- in one way at most
 
 count_code : Coded Count
-count_code = code_by (ℕ × ℕ) (coded× coded_ℕ coded_ℕ) (λ c. (c.packets, c.bytes)) (λ p. record { packets = p.0; bytes = p.1 }) (λ c. refl)
+count_code =
+    code_by (ℕ × ℕ) (coded× coded_ℕ coded_ℕ) (λ c. (c.packets, c.bytes)) (λ p. record { packets = p.0; bytes = p.1 })
+    (λ c. refl)
 
 heading-prop : (lines : List (List ℕ)) (rows : Rows) → IsProp (HasHeading lines rows)
 heading-prop [] rows = ×_prop (Coded-set coded_bool _ _) (Coded-set (coded_list coded_ℕ) _ _)
 heading-prop (h ∷ hs) rows = ×_prop (Coded-set coded_bool _ _) (Coded-set (coded_list coded_ℕ) _ _)
 
-pub HoldsRows-prop : (is_known has_failed : Bool) (holds : Option (List ℕ)) (rows : Rows) → IsProp (HoldsRows is_known has_failed holds rows)
+pub HoldsRows-prop : (is_known has_failed : Bool) (holds : Option (List ℕ)) (rows : Rows)
+    → IsProp (HoldsRows is_known has_failed holds rows)
 HoldsRows-prop false has_failed holds rows = Unit-prop
 HoldsRows-prop true true holds rows = Unit-prop
 HoldsRows-prop true false None rows = λ x y. absurd x
 HoldsRows-prop true false (Some text) rows =
     ×_prop
     (×_prop (heading-prop (lines_of text) rows)
-    (Π_prop (λ key. Coded-set (coded_option count_code) (count_at rows.counts key) (count_of (lines_hits (lines_of text)) key))))
+    (Π_prop (λ key. Coded-set (coded_option count_code) (count_at rows.counts key)
+    (count_of (lines_hits (lines_of text)) key))))
     (Coded-set (coded_list coded_ℕ) _ _)

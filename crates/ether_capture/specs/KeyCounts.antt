@@ -23,7 +23,8 @@ AddsHit key bytes old new = (q : List ℕ) → new q ≡ (if bytes_eq key q then
 -- how many these are, if there are any
 abbrev pub sum_of : List Hit → Option Count
 sum_of [] = None
-sum_of (h ∷ hs) = Some (record { packets = counted (length (h ∷ hs)); bytes = counted (sum_by (λ k. k.bytes) (h ∷ hs)) })
+sum_of (h ∷ hs) =
+    Some (record { packets = counted (length (h ∷ hs)); bytes = counted (sum_by (λ k. k.bytes) (h ∷ hs)) })
 
 -- .. with a key
 abbrev pub count_of : List Hit → (key : List ℕ) → Option Count

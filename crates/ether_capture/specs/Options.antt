@@ -58,8 +58,8 @@ listing_view l = record {
   files = map (λ s. s.now) l.files.items;
 }
 
--- this is made of the capture in the file of this name, or of standard input, and goes to the file of that name, or to standard output, with
--- this heading; or lines of several captures; the usage; the version
+-- this is made of the capture in the file of this name, or of standard input, and goes to the file of that name, or to
+-- standard output, with this heading; or lines of several captures; the usage; the version
 pub data RequestValue : Type 0 where
   Run : TaskValue → (heading : Heading) → (input output : Option Text) → RequestValue
   Lists : ListingValue → RequestValue
@@ -117,7 +117,8 @@ capture_rules = map flag_rule flag_names ++ (map option_rule option_names
 
 -- .. with `--help` and `--version`, which `clap` adds
 abbrev pub capture_app : App
-capture_app = let app = new_app (codes "ether_capture") in record app { top = record app.top { rules = capture_rules; has_version = true } }
+capture_app = let app =
+    new_app (codes "ether_capture") in record app { top = record app.top { rules = capture_rules; has_version = true } }
 
 -- ---- what is asked for
 
@@ -145,7 +146,9 @@ is_set name rows = option_map_or (λ text. bytes_eq text (codes "true")) (first_
 
 -- the edit that options ask for, one at most
 abbrev pub IsEdit : List Row → Option EditValue → Type 0
-IsEdit rows = IsOneEdit (is_set (codes "cut-to-headers") rows) (is_set (codes "pop-vlan") rows) (first_of (codes "push-vlan") rows)
+IsEdit rows =
+    IsOneEdit (is_set (codes "cut-to-headers") rows) (is_set (codes "pop-vlan") rows)
+    (first_of (codes "push-vlan") rows)
     (first_of (codes "set-vlan") rows)
 
 -- the columns whose texts are counted, unless others are named
@@ -220,7 +223,8 @@ abbrev pub is_brief : Option Format → Bool
 is_brief (Some Brief) = true
 is_brief format = false
 
--- columns are no other format; counts have no heading and are not brief, and their columns are 32 at most with the length of the packet
+-- columns are no other format; counts have no heading and are not brief, and their columns are 32 at most with the
+-- length of the packet
 abbrev pub clashes_in_columns : AskedValue → Bool
 clashes_in_columns a =
     if a.stats then a.header || (not (is_some a.counted) || is_brief a.format)
@@ -229,7 +233,8 @@ clashes_in_columns a =
 -- no copy is plain, or has a limit or a format; lines alone are plain
 abbrev pub clashes_with_copy : AskedValue → Bool
 clashes_with_copy a =
-    if makes_copy a then a.plain || (is_some a.limit || is_some (format_asked a)) else a.plain && is_some (format_asked a)
+    if makes_copy a then a.plain || (is_some a.limit || is_some (format_asked a)) else a.plain
+    && is_some (format_asked a)
 
 -- an option is asked for that does not go with the others
 abbrev pub clashes : AskedValue → Bool
@@ -241,7 +246,8 @@ edit_option PopVlan = dependent.PopVlan
 edit_option (PushVlan tpid id) = dependent.PushVlan
 edit_option (SetVlan from to) = dependent.SetVlan
 
--- an option is there without the one that it needs: no packet is undecided without a filter, names are those of columns, and only a copy is edited
+-- an option is there without the one that it needs: no packet is undecided without a filter, names are those of
+-- columns, and only a copy is edited
 abbrev pub lacking : AskedValue → Option DependentOption
 lacking a =
     if is_some a.undecided && not (is_some a.text) then Some dependent.Undecided
@@ -293,9 +299,11 @@ IsFaultOf a usage = ⊥
 
 -- which lines are asked for; those of another format have no totals
 abbrev pub options_of : AskedValue → LineOptions
-options_of a = record { is_plain = a.plain || is_some (format_asked a); format = format_asked a; limit = a.limit; before = None }
+options_of a =
+    record { is_plain = a.plain || is_some (format_asked a); format = format_asked a; limit = a.limit; before = None }
 
--- a copy is exact if all packets are copied, and none is edited; else it is another capture, in which packets may have grown
+-- a copy is exact if all packets are copied, and none is edited; else it is another capture, in which packets may have
+-- grown
 abbrev pub mode_of : AskedValue → ModeValue
 mode_of a = if is_some a.text || (is_some a.count || is_some a.edit) then Changed (growth_if a.edit) else Exact
 
@@ -351,12 +359,15 @@ pub record IsRefusedUsage (words : List Text) : Type 0 where
 
 -- several edits are asked for, or the value of one means nothing
 abbrev pub IsWrongEditOf : List Row → Usage → Type 0
-IsWrongEditOf rows = IsWrongEdit (is_set (codes "cut-to-headers") rows) (is_set (codes "pop-vlan") rows) (first_of (codes "push-vlan") rows)
+IsWrongEditOf rows =
+    IsWrongEdit (is_set (codes "cut-to-headers") rows) (is_set (codes "pop-vlan") rows)
+    (first_of (codes "push-vlan") rows)
     (first_of (codes "set-vlan") rows)
 
 -- .. or that of another option
 pub data MeansNothing (rows : List Row) : Usage → Type 0 where
-  wrong_edit : (usage : Usage) → ((e : Option EditValue) → ¬ (IsEdit rows e)) → IsWrongEditOf rows usage → MeansNothing rows usage
+  wrong_edit : (usage : Usage) → ((e : Option EditValue) → ¬ (IsEdit rows e)) → IsWrongEditOf rows usage
+      → MeansNothing rows usage
   wrong_count : (usage : Usage) → ((n : Option ℕ) → ¬ (IsIfAny IsCount (first_of (codes "count") rows) n))
       → IsWrongValue value_options.Count (first_of (codes "count") rows) usage → MeansNothing rows usage
   wrong_limit : (usage : Usage) → ((n : Option ℕ) → ¬ (IsIfAny IsLimit (first_of (codes "limit") rows) n))
@@ -365,7 +376,8 @@ pub data MeansNothing (rows : List Row) : Usage → Type 0 where
       → IsWrongValue value_options.Format (first_of (codes "format") rows) usage → MeansNothing rows usage
   wrong_fields : (usage : Usage) → ((c : Option Columns) → ¬ (IsIfAny AreFields (first_of (codes "fields") rows) c))
       → AreWrongFields (first_of (codes "fields") rows) usage → MeansNothing rows usage
-  wrong_undecided : (usage : Usage) → ((u : Option Undecided) → ¬ (IsIfAny MeansUndecided (first_of (codes "undecided") rows) u))
+  wrong_undecided : (usage : Usage)
+      → ((u : Option Undecided) → ¬ (IsIfAny MeansUndecided (first_of (codes "undecided") rows) u))
       → IsWrongValue value_options.Undecided (first_of (codes "undecided") rows) usage → MeansNothing rows usage
 
 -- .. or options and names do not fit together
@@ -388,10 +400,11 @@ pub record NamesNoFilter (words : List Text) (e : FilterError) : Type 0 where
   pub asks : Asks (matches_of capture_app words) asked
   pub no_filter : HasNoFilter asked e
 
--- Why arguments ask for nothing: `clap` refuses them, or takes them, but a value means nothing, or they do not fit together, or the filter is no
--- expression; or memory for them was refused.
+-- Why arguments ask for nothing: `clap` refuses them, or takes them, but a value means nothing, or they do not fit
+-- together, or the filter is no expression; or memory for them was refused.
 pub data RefusesWords (words : List Text) : RequestError → Type 0 where
-  clap_refuses : (usage : Usage) → IsRefusedUsage words → IsUsageOf words usage → RefusesWords words (reasons.Usage usage)
+  clap_refuses : (usage : Usage) → IsRefusedUsage words → IsUsageOf words usage
+      → RefusesWords words (reasons.Usage usage)
   means_nothing : (usage : Usage) → fault_of capture_app words ≡ [] → MeansNothing (matches_of capture_app words) usage
       → RefusesWords words (reasons.Usage usage)
   unfit : (usage : Usage) → NamesFault words usage → RefusesWords words (reasons.Usage usage)

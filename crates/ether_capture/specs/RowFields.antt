@@ -57,7 +57,8 @@ after_first (f ∷ fs) = fs
 abbrev pub hits_under : (bytes : ℕ) → (keys : List (List ℕ)) → List Hit
 hits_under bytes keys = map (λ k. record { key = k; bytes = bytes }) keys
 
--- The first column is the length of the packet. The packet counts for the total, and for each of the others that has a text.
+-- The first column is the length of the packet. The packet counts for the total, and for each of the others that has a
+-- text.
 abbrev pub fields_hits : (columns fields : List (List ℕ)) → List Hit
 fields_hits columns [] = []
 fields_hits columns (len ∷ fields) =

@@ -25,10 +25,12 @@ nothing_read count = record { packets = 0; skipped = 0; undecided = 0; left = co
 
 -- what is made of the next capture: lines, numbered on, of as many packets as are still asked for
 abbrev pub next_task : ListingValue → (at : Tally) → TaskValue
-next_task l at = record { select = l.select; count = at.left; form = Lines (record l.options { before = Some at.packets }) }
+next_task l at =
+    record { select = l.select; count = at.left; form = Lines (record l.options { before = Some at.packets }) }
 
 -- the tally after another capture, which has these packets and this end
-pub record IsTallied (select : Option Selection) (at : Tally) (packets : List PacketValue) (end : FileEnd) (next : Tally) : Type 0 where
+pub record IsTallied (select : Option Selection) (at : Tally) (packets : List PacketValue) (end : FileEnd)
+    (next : Tally) : Type 0 where
   pub kept : List PacketValue
   pub selected : Selected (IsChosen select) packets kept
   pub is_count : next.packets ≡ counted (at.packets + length packets)
@@ -41,9 +43,11 @@ pub record IsTallied (select : Option Selection) (at : Tally) (packets : List Pa
 
 -- A run over the capture in the file of this name has found these packets. Or it can't be opened, or memory was refused
 -- before anything was read: then none is found, and nothing is written.
-abbrev pub HasEndedFile : (has : List ℕ → Option (List ℕ) → Type 0) (can_refuse : OpenFault → Type 0) (can_read can_write : Type 0) → (task : TaskValue) → (name : List ℕ)
+abbrev pub HasEndedFile : (has : List ℕ → Option (List ℕ) → Type 0) (can_refuse : OpenFault → Type 0)
+    (can_read can_write : Type 0) → (task : TaskValue) → (name : List ℕ)
     → List PacketValue → (held holds : Option (List ℕ)) → FileEnd → Type 0
-HasEndedFile has can_refuse can_read can_write task name packets held holds (ends.NotOpened fault) = can_refuse fault × (packets ≡ []) × (holds ≡ held)
+HasEndedFile has can_refuse can_read can_write task name packets held holds (ends.NotOpened fault) =
+    can_refuse fault × (packets ≡ []) × (holds ≡ held)
 HasEndedFile has can_refuse can_read can_write task name packets held holds (ends.Read end) =
     (before after : Option (List ℕ)) × has name before
     × (HasRunOver task packets before after held holds end ⊎ ((packets ≡ []) × HasNoMemory before after held holds end))
@@ -85,18 +89,21 @@ Tells can_tell (Some text) told tells = Appends told tells (text ++ codes "\n") 
 -- was not, is written to the messages.
 pub record ReadsFile (has : List ℕ → Option (List ℕ) → Type 0) (can_fail : Type 0) (can_refuse : OpenFault → Type 0)
     (can_read can_write can_tell : Type 0) (l : ListingValue) (name : List ℕ)
-    (at : Tally) (before held told : Option (List ℕ)) (next : Tally) (after holds tells : Option (List ℕ)) : Type 0 where
-  pub packets : List PacketValue
-  pub end : FileEnd
-  pub ended : HasEnded has can_fail can_refuse can_read can_write (next_task l at) (named name) packets before after held holds end
-  pub going : end ≢ ends.Read (Err Output)
-  pub is_told : Tells can_tell (text_of_capture (named name) end) told tells
-  pub tallied : IsTallied l.select at packets end next
+    (at : Tally) (before held told : Option (List ℕ)) (next : Tally) (after holds tells : Option (List ℕ)) : Type 0
+  where
+    pub packets : List PacketValue
+    pub end : FileEnd
+    pub ended : HasEnded has can_fail can_refuse can_read can_write (next_task l at) (named name) packets before after
+        held holds end
+    pub going : end ≢ ends.Read (Err Output)
+    pub is_told : Tells can_tell (text_of_capture (named name) end) told tells
+    pub tallied : IsTallied l.select at packets end next
 
 -- Captures were read one after the other, up to the last one or until the requested number of packets was reached.
 pub data ReadsFiles (has : List ℕ → Option (List ℕ) → Type 0) (can_fail : Type 0) (can_refuse : OpenFault → Type 0)
     (can_read can_write can_tell : Type 0) (l : ListingValue)
-    : (names : List (List ℕ)) → (at : Tally) → (before held told : Option (List ℕ)) → (last : Tally) → (after holds tells : Option (List ℕ)) → Type 0 where
+    : (names : List (List ℕ)) → (at : Tally) → (before held told : Option (List ℕ)) → (last : Tally)
+    → (after holds tells : Option (List ℕ)) → Type 0 where
   no_more : (at : Tally) (before held told : Option (List ℕ))
       → ReadsFiles has can_fail can_refuse can_read can_write can_tell l [] at before held told at before held told
   enough : (names : List (List ℕ)) (at : Tally) (before held told : Option (List ℕ)) → at.left ≡ Some 0
@@ -104,17 +111,22 @@ pub data ReadsFiles (has : List ℕ → Option (List ℕ) → Type 0) (can_fail 
   next : (name : List ℕ) (names : List (List ℕ)) (at then last : Tally)
       (before held told given mid between after holds tells : Option (List ℕ)) → at.left ≢ Some 0
       → ReadsFile has can_fail can_refuse can_read can_write can_tell l name at before held told then given mid between
-      → ReadsFiles has can_fail can_refuse can_read can_write can_tell l names then given mid between last after holds tells
-      → ReadsFiles has can_fail can_refuse can_read can_write can_tell l (name ∷ names) at before held told last after holds tells
+      → ReadsFiles has can_fail can_refuse can_read can_write can_tell l names
+      then given mid between last after holds tells
+      → ReadsFiles has can_fail can_refuse can_read can_write can_tell l (name ∷ names) at before held told last after
+      holds tells
 
--- .. and the line of the totals of all of them is written. After a fault of the writer nothing is claimed, but that standard input was read only
--- if it is named.
+-- .. and the line of the totals of all of them is written. After a fault of the writer nothing is claimed, but that
+-- standard input was read only if it is named.
 abbrev pub HasListed : (has : List ℕ → Option (List ℕ) → Type 0) (can_fail : Type 0) (can_refuse : OpenFault → Type 0)
     (can_read can_write can_tell : Type 0) → (l : ListingValue)
     → (before after held holds told tells : Option (List ℕ)) → Result ℕ OutputFault → Type 0
 HasListed has can_fail can_refuse can_read can_write can_tell l before after held holds told tells (Ok status) =
     (last : Tally) × (mid : Option (List ℕ))
-    × ReadsFiles has can_fail can_refuse can_read can_write can_tell l l.files (nothing_read l.count) before held told last after mid tells
-    × Appends mid holds (totals_line_if l.options.is_plain last.packets last.skipped (if_selected l.select last.undecided)) × (status ≡ last.status)
+    × ReadsFiles has can_fail can_refuse can_read can_write can_tell l l.files (nothing_read l.count) before held told
+    last after mid tells
+    × Appends mid holds
+    (totals_line_if l.options.is_plain last.packets last.skipped (if_selected l.select last.undecided))
+    × (status ≡ last.status)
 HasListed has can_fail can_refuse can_read can_write can_tell l before after held holds told tells (Err fault) =
     can_write × (names_input l.files ≡ false → after ≡ before)

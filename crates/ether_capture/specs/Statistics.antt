@@ -26,11 +26,13 @@ first_in (f ∷ fs) = f
 
 -- as four fields; or as an object of JSON, where a key is the name of a column and a text
 abbrev pub statistics_line : StatisticsFormat → StatisticsRow → List ℕ
-statistics_line Text r = r.key ++ (codes "\t" ++ (decimal r.count.packets ++ (codes "\t" ++ (decimal r.count.bytes ++ codes "\n"))))
+statistics_line Text r =
+    r.key ++ (codes "\t" ++ (decimal r.count.packets ++ (codes "\t" ++ (decimal r.count.bytes ++ codes "\n"))))
 statistics_line Json r =
     codes "{\"column\":\"" ++ (first_in (row_fields r.key)
     ++ (codes "\",\"value\":\"" ++ (first_in (after_first (row_fields r.key))
-    ++ (codes "\",\"packets\":" ++ (decimal r.count.packets ++ (codes ",\"bytes\":" ++ (decimal r.count.bytes ++ codes "}\n")))))))
+    ++ (codes "\",\"packets\":"
+    ++ (decimal r.count.packets ++ (codes ",\"bytes\":" ++ (decimal r.count.bytes ++ codes "}\n")))))))
 
 -- these are all keys of a table, each once, in the order of their bytes
 pub record AreRows (table : (key : List ℕ) → Option Count) (rows : List StatisticsRow) : Type 0 where
@@ -38,7 +40,8 @@ pub record AreRows (table : (key : List ℕ) → Option Count) (rows : List Stat
   pub exact : (key : List ℕ) → lookup (bytes_eq key) (map (λ r. (r.key, r.count)) rows) ≡ table key
 
 -- their lines are written
-pub record TakesStatistics {W : Type 0} (contents : W → Option (List ℕ)) (can_fail : Type 0) (format : StatisticsFormat) (table : (key : List ℕ) → Option Count)
+pub record TakesStatistics {W : Type 0} (contents : W → Option (List ℕ)) (can_fail : Type 0) (format : StatisticsFormat)
+    (table : (key : List ℕ) → Option Count)
     (old new : OutputBuffer W) : Type 0 where
   pub rows : List StatisticsRow
   pub are_rows : AreRows table rows
@@ -51,11 +54,14 @@ pub record IsStatistics (format : StatisticsFormat) (text summary : List ℕ) : 
   pub is_text : summary ≡ flat_map (statistics_line format) rows
 
 -- the summary of what is known is appended
-abbrev pub Shows : (is_known : Bool) → (text : Option (List ℕ)) → StatisticsFormat → (held holds : Option (List ℕ)) → Type 0
+abbrev pub Shows : (is_known : Bool) → (text : Option (List ℕ)) → StatisticsFormat → (held holds : Option (List ℕ))
+    → Type 0
 Shows false text format held holds = ⊤
 Shows true None format held holds = ⊥
-Shows true (Some text) format held holds = (summary : List ℕ) × IsStatistics format text summary × Appends held holds summary
+Shows true (Some text) format held holds =
+    (summary : List ℕ) × IsStatistics format text summary × Appends held holds summary
 
 -- the counts of a text are one text
 abbrev pub StatisticsAreOne : Type 0
-StatisticsAreOne = (format : StatisticsFormat) (text a b : List ℕ) → IsStatistics format text a → IsStatistics format text b → a ≡ b
+StatisticsAreOne = (format : StatisticsFormat) (text a b : List ℕ) → IsStatistics format text a
+    → IsStatistics format text b → a ≡ b

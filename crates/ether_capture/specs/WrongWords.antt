@@ -8,15 +8,18 @@ use Rattle.ether_stream.specs.declared.usage.Usage.TheVariants as usages
 
 -- the names of options without a value, and with one
 abbrev pub flag_names : List Text
-flag_names = codes "plain" ∷ codes "write" ∷ codes "cut-to-headers" ∷ codes "pop-vlan" ∷ codes "progress" ∷ codes "header" ∷ codes "stats" ∷ []
+flag_names = codes "plain" ∷ codes "write" ∷ codes "cut-to-headers" ∷ codes "pop-vlan" ∷ codes "progress"
+    ∷ codes "header" ∷ codes "stats" ∷ []
 
 abbrev pub option_names : List Text
-option_names = codes "push-vlan" ∷ codes "set-vlan" ∷ codes "select" ∷ codes "undecided" ∷ codes "limit" ∷ codes "format" ∷ codes "fields" ∷ []
+option_names = codes "push-vlan" ∷ codes "set-vlan" ∷ codes "select" ∷ codes "undecided" ∷ codes "limit"
+    ∷ codes "format" ∷ codes "fields" ∷ []
 
 abbrev pub is_among : (names : List Text) → (name : Text) → Bool
 is_among names name = list_any (λ it. bytes_eq it name) names
 
--- whether the value of an option has to be the next word, if there is such an option; its name is all of the word, or a value follows
+-- whether the value of an option has to be the next word, if there is such an option; its name is all of the word, or a
+-- value follows
 abbrev pub name_need : (name : Text) → (is_all : Bool) → Option Bool
 name_need name is_all =
     if is_among (flag_names ++ codes "help" ∷ codes "version" ∷ []) name then Some false

@@ -144,8 +144,8 @@ impl<F: Files> CopyFiles<'_, F> {
         }
     }
 
-    /// The name of the file to which symbolic links lead, also if that is not there. A name that is no link is returned as
-    /// it is.
+    /// The name of the file to which symbolic links lead, also if that is not there. A name that is no link is returned
+    /// as it is.
     fn followed(&self, name: &str) -> Result<PathBuf, WriteFault> {
         let Ok(mut path) = PathBuf::from_str(self.alloc, name) else {
             return Err(WriteFault::Other);

@@ -19,7 +19,8 @@ pub fn copy_input<'a, K: Copies, R: Source>(
     reader: &mut R,
 ) -> Outcome<'a>
     ensures { HasCopiedInput R.can_fail K.Part.Sink.can_fail K.can_refuse (task_view task.now) output.entry.now
-        (R.remaining reader.old) (R.remaining reader.new) (K.file copies.old output.entry.now) (K.file copies.new output.entry.now)
+        (R.remaining reader.old) (R.remaining reader.new) (K.file copies.old output.entry.now)
+        (K.file copies.new output.entry.now)
         result }
 {
     match copy_to(task, None, output, alloc, copies, reader) {
@@ -41,7 +42,8 @@ pub fn copy_file<'a, C: Captures, K: Copies>(
     copies: &mut K,
 ) -> Outcome<'a>
     ensures { HasCopiedFile (C.has captures.now) C.can_refuse C.Input.Source.can_fail K.Part.Sink.can_fail K.can_refuse
-        (task_view task.now) name.entry.now output.entry.now (K.file copies.old output.entry.now) (K.file copies.new output.entry.now)
+        (task_view task.now) name.entry.now output.entry.now (K.file copies.old output.entry.now)
+        (K.file copies.new output.entry.now)
         result }
 {
     let mut input = match captures.open_named(name) {
@@ -57,7 +59,8 @@ pub fn copy_file<'a, C: Captures, K: Copies>(
     }
 }
 
-/// Copies what a reader reads, the capture of the name `input` or standard input, to the file of a name, which gets the copy only when it is whole.
+/// Copies what a reader reads, the capture of the name `input` or standard input, to the file of a name, which gets the
+/// copy only when it is whole.
 fn copy_to<K: Copies, R: Source>(
     task: &Task,
     input: Option<&str>,

@@ -22,9 +22,11 @@ pub fn statistics_are_one()
 pub fn counts_are_written<J: Journal, C: Captures, K: Copies, R: Source, W: Sink, M: LineSink>(
     _captures: &C,
 )
-    ensures { (format : StatisticsFormat) (request : RequestValue) (before after held holds told tells : Option (List ℕ))
+    ensures { (format : StatisticsFormat) (request : RequestValue)
+        (before after held holds told tells : Option (List ℕ))
         (had gets : List ℕ → Option (List ℕ)) (outcome : Outcome)
-        → HasCountedTexts (C.has _captures.now) R.can_fail C.can_refuse C.Input.Source.can_fail W.can_fail M.Sink.can_fail
+        → HasCountedTexts (C.has _captures.now) R.can_fail C.can_refuse C.Input.Source.can_fail W.can_fail
+        M.Sink.can_fail
         K.can_refuse K.Part.Sink.can_fail J.is_known format request before after held holds told tells had gets outcome
         → is_unwritten outcome ≡ true → W.can_fail }
 {}

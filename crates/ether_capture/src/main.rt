@@ -1,5 +1,5 @@
-//! Reads a capture of the classic pcap format or of pcapng, a file or standard input, and prints the lines of the walk of each
-//! packet, or copies the capture without some of its packets, to standard output or a file.
+//! Reads a capture of the classic pcap format or of pcapng, a file or standard input, and prints the lines of the walk
+//! of each packet, or copies the capture without some of its packets, to standard output or a file.
 //!
 //! `main` calls [`program::program`] on the arguments, the files and the standard streams. Lines and copies go to
 //! standard output, and messages why something was not read or written go to standard error.

@@ -175,7 +175,8 @@ fn is_set(matches: &ArgMatches<'_>, name: &str) -> bool
 
 /// The names of files.
 fn names_of<'a>(matches: &ArgMatches<'a>, alloc: Global) -> Result<Vec<&'a str>, AllocError>
-    ensures { IfOk result (λ names. map (λ s. s.now) names.items ≡ unwrap_or (all_of (codes "file") (rows_of (found_of matches.now))) []) }
+    ensures { IfOk result (λ names. map (λ s. s.now) names.items
+        ≡ unwrap_or (all_of (codes "file") (rows_of (found_of matches.now))) []) }
 {
     let mut names = Vec::new(alloc);
     if let Some(found) = matches.get_strs("file") {

@@ -25,8 +25,8 @@ use ether_text::{OutputBuffer, OutputFault, Sink, Source};
 use std::alloc::Global;
 use std::{env, io};
 
-/// Writes the lines of a capture, or a copy of it, as the arguments say, prints the last line if there is one, and returns the exit status.
-/// Lines go to `writer`, and so does a copy, unless its file is named: then `copies` keeps it.
+/// Writes the lines of a capture, or a copy of it, as the arguments say, prints the last line if there is one, and
+/// returns the exit status. Lines go to `writer`, and so does a copy, unless its file is named: then `copies` keeps it.
 ///
 /// The last line goes to `messages`, so that `writer` has only the lines or the copy; but the usage and the version, if
 /// they are asked for, go to `writer`. If the arguments are wrong or can't be read, nothing is read. Arguments that
@@ -40,9 +40,11 @@ pub fn program<J: Journal + Drop, C: Captures, K: Copies, R: Source, W: LineSink
     writer: &mut W,
     messages: &mut M,
 ) -> u8
-    ensures served { HasServed (C.has captures.now) R.can_fail C.can_refuse C.Input.Source.can_fail W.Sink.can_fail M.Sink.can_fail
+    ensures served { HasServed (C.has captures.now) R.can_fail C.can_refuse C.Input.Source.can_fail W.Sink.can_fail
+        M.Sink.can_fail
         K.can_refuse K.Part.Sink.can_fail J.is_known (arguments_of args) (R.remaining reader.old) (R.remaining reader.new)
-        (W.Sink.contents writer.old) (W.Sink.contents writer.new) (M.Sink.contents messages.old) (M.Sink.contents messages.new)
+        (W.Sink.contents writer.old) (W.Sink.contents writer.new) (M.Sink.contents messages.old)
+        (M.Sink.contents messages.new)
         (K.file copies.old) (K.file copies.new) result }
     ensures flushed { result ≢ 4 → Settles W.Sink.is_flushed writer.old writer.new }
     ensures told { Settles M.Sink.is_flushed messages.old messages.new ⊎ M.Sink.can_fail }
@@ -76,8 +78,10 @@ fn obey<'a, J: Journal + Drop, C: Captures, K: Copies, R: Source, W: Sink, M: Li
     writer: &mut W,
     messages: &mut M,
 ) -> Outcome<'a>
-    ensures obeyed { HasObeyed (C.has captures.now) R.can_fail C.can_refuse C.Input.Source.can_fail W.can_fail M.Sink.can_fail
-        K.can_refuse K.Part.Sink.can_fail J.is_known (Some (map string_bytes words.now)) (R.remaining reader.old) (R.remaining reader.new)
+    ensures obeyed { HasObeyed (C.has captures.now) R.can_fail C.can_refuse C.Input.Source.can_fail W.can_fail
+        M.Sink.can_fail
+        K.can_refuse K.Part.Sink.can_fail J.is_known (Some (map string_bytes words.now)) (R.remaining reader.old)
+        (R.remaining reader.new)
         (W.contents writer.old) (W.contents writer.new) (M.Sink.contents messages.old) (M.Sink.contents messages.new)
         (K.file copies.old) (K.file copies.new) result }
     ensures flushed { IfGone result (Settles W.is_flushed writer.old writer.new) }
@@ -103,8 +107,10 @@ fn respond<'a, J: Journal + Drop, C: Captures, K: Copies, R: Source, W: Sink, M:
     writer: &mut W,
     messages: &mut M,
 ) -> Outcome<'a>
-    ensures done { HasDone (C.has captures.now) R.can_fail C.can_refuse C.Input.Source.can_fail W.can_fail M.Sink.can_fail
-        K.can_refuse K.Part.Sink.can_fail J.is_known (statistics_asked (request_view request.entry)) (request_view request.entry)
+    ensures done { HasDone (C.has captures.now) R.can_fail C.can_refuse C.Input.Source.can_fail W.can_fail
+        M.Sink.can_fail
+        K.can_refuse K.Part.Sink.can_fail J.is_known (statistics_asked (request_view request.entry))
+        (request_view request.entry)
         (R.remaining reader.old) (R.remaining reader.new)
         (W.contents writer.old) (W.contents writer.new) (M.Sink.contents messages.old) (M.Sink.contents messages.new)
         (K.file copies.old) (K.file copies.new) result }
@@ -158,7 +164,8 @@ fn answer<'a, C: Captures, K: Copies, R: Source, W: Sink, M: LineSink>(
     writer: &mut W,
     messages: &mut M,
 ) -> Outcome<'a>
-    ensures done { HasHeaded (C.has captures.now) R.can_fail C.can_refuse C.Input.Source.can_fail W.can_fail M.Sink.can_fail
+    ensures done { HasHeaded (C.has captures.now) R.can_fail C.can_refuse C.Input.Source.can_fail W.can_fail
+        M.Sink.can_fail
         K.can_refuse K.Part.Sink.can_fail (request_view request.entry) (R.remaining reader.old) (R.remaining reader.new)
         (W.contents writer.old) (W.contents writer.new) (M.Sink.contents messages.old) (M.Sink.contents messages.new)
         (K.file copies.old) (K.file copies.new) result }
@@ -204,7 +211,8 @@ fn run_job<'a, C: Captures, K: Copies, R: Source, W: Sink>(
 ) -> Outcome<'a>
     ensures run { HasRunJob (C.has captures.now) R.can_fail C.can_refuse C.Input.Source.can_fail W.can_fail K.can_refuse
         K.Part.Sink.can_fail (task_view job.now.task) (option_map (λ s. s.now) job.now.input)
-        (option_map (λ s. s.now) job.now.output) (R.remaining reader.old) (R.remaining reader.new) (W.contents writer.old)
+        (option_map (λ s. s.now) job.now.output) (R.remaining reader.old) (R.remaining reader.new)
+        (W.contents writer.old)
         (W.contents writer.new) (K.file copies.old) (K.file copies.new) result }
     ensures flushed { IfGone result (Settles W.is_flushed writer.old writer.new) }
 {
@@ -227,7 +235,8 @@ fn run_file<'a, C: Captures, W: Sink>(
     captures: &C,
     writer: &mut W,
 ) -> Outcome<'a>
-    ensures run { HasRunFile (C.has captures.now) C.can_refuse C.Input.Source.can_fail W.can_fail (task_view task.now) name.entry.now
+    ensures run { HasRunFile (C.has captures.now) C.can_refuse C.Input.Source.can_fail W.can_fail
+        (task_view task.now) name.entry.now
         (W.contents writer.old) (W.contents writer.new) result }
     ensures flushed { IfGone result (Settles W.is_flushed writer.old writer.new) }
 {
@@ -242,8 +251,10 @@ fn run_file<'a, C: Captures, W: Sink>(
 
 /// Prints the last line, if there is one, and returns the exit status.
 fn end<W: LineSink, M: LineSink>(outcome: &Outcome<'_>, writer: &mut W, messages: &mut M) -> u8
-    ensures printed { (printed : Bool) × PrintsApart W.Sink.can_fail M.Sink.can_fail (is_message outcome.now) outcome.now
-        (W.Sink.contents writer.old) (W.Sink.contents writer.new) (M.Sink.contents messages.old) (M.Sink.contents messages.new) printed
+    ensures printed { (printed : Bool) × PrintsApart W.Sink.can_fail M.Sink.can_fail
+        (is_message outcome.now) outcome.now
+        (W.Sink.contents writer.old) (W.Sink.contents writer.new) (M.Sink.contents messages.old)
+        (M.Sink.contents messages.new) printed
         × (result ≡ status_of_program outcome.now printed) }
     ensures flushed { result ≢ 4 → IfGone outcome.now (Settles W.Sink.is_flushed writer.old writer.new) }
     ensures told { Settles M.Sink.is_flushed messages.old messages.new ⊎ M.Sink.can_fail }
@@ -258,9 +269,11 @@ fn print_apart<W: LineSink, M: LineSink>(
     writer: &mut W,
     messages: &mut M,
 ) -> bool
-    ensures printed { PrintsApart W.Sink.can_fail M.Sink.can_fail (is_message outcome.now) outcome.now (W.Sink.contents writer.old)
+    ensures printed { PrintsApart W.Sink.can_fail M.Sink.can_fail (is_message outcome.now) outcome.now
+        (W.Sink.contents writer.old)
         (W.Sink.contents writer.new) (M.Sink.contents messages.old) (M.Sink.contents messages.new) result }
-    ensures flushed { Settles W.Sink.is_flushed writer.old writer.new ⊎ ((is_message outcome.now ≡ false) × (result ≡ false)) }
+    ensures flushed { Settles W.Sink.is_flushed writer.old writer.new
+        ⊎ ((is_message outcome.now ≡ false) × (result ≡ false)) }
     ensures told { Settles M.Sink.is_flushed messages.old messages.new ⊎ M.Sink.can_fail }
 {
     if is_message(outcome) {
@@ -271,7 +284,8 @@ fn print_apart<W: LineSink, M: LineSink>(
 
 /// Prints the last line, if there is one, and returns whether the writer took it.
 fn print_last_line<W: LineSink>(outcome: &Outcome<'_>, writer: &mut W) -> bool
-    ensures printed { PrintsLast W.Sink.can_fail outcome.now (W.Sink.contents writer.old) (W.Sink.contents writer.new) result }
+    ensures printed { PrintsLast W.Sink.can_fail outcome.now (W.Sink.contents writer.old)
+        (W.Sink.contents writer.new) result }
     ensures flushed { result ≡ true → Settles W.Sink.is_flushed writer.old writer.new }
 {
     match last_line(outcome) {

@@ -22,10 +22,12 @@ pub fn run_input<R: Source, W: Sink>(
 ) -> (Result<Verdict, RunFault>, PacketCounts)
     ensures run { HasRun (task_view task.now) (R.remaining reader.old) (R.remaining reader.new)
         (W.contents writer.old) (W.contents writer.new) result.0
-        ⊎ HasNoMemory (R.remaining reader.old) (R.remaining reader.new) (W.contents writer.old) (W.contents writer.new) result.0 }
+        ⊎ HasNoMemory (R.remaining reader.old) (R.remaining reader.new) (W.contents writer.old) (W.contents writer.new)
+        result.0 }
     ensures counted { HasCounted (task_view task.now) (R.remaining reader.old) (R.remaining reader.new)
         (W.contents writer.old) (W.contents writer.new) result.0 result.1
-        ⊎ (HasNoMemory (R.remaining reader.old) (R.remaining reader.new) (W.contents writer.old) (W.contents writer.new) result.0
+        ⊎ (HasNoMemory (R.remaining reader.old) (R.remaining reader.new) (W.contents writer.old) (W.contents writer.new)
+        result.0
         × AreCounted (task_view task.now) [] result.1) }
     ensures failed { IfErr result.0 (λ fault. OnStreamFault fault
         (R.can_fail ⊎ IsEndless (R.remaining reader.old) (R.remaining reader.new)) W.can_fail) }

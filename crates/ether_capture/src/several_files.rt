@@ -90,8 +90,8 @@ impl Tally {
 }
 
 /// Writes the lines of several captures, one after the other, and then the line of the totals of all. If a capture is
-/// not read to its end, writes the reason to `messages`. Returns the greatest exit status of a capture. A name of `-` is
-/// that of standard input, `reader`.
+/// not read to its end, writes the reason to `messages`. Returns the greatest exit status of a capture. A name of `-`
+/// is that of standard input, `reader`.
 pub fn run_files<C: Captures, R: Source, W: Sink, M: LineSink>(
     listing: Listing<'_>,
     alloc: Global,
@@ -100,7 +100,8 @@ pub fn run_files<C: Captures, R: Source, W: Sink, M: LineSink>(
     writer: &mut W,
     messages: &mut M,
 ) -> Result<u8, OutputFault>
-    ensures listed { HasListed (C.has captures.now) R.can_fail C.can_refuse C.Input.Source.can_fail W.can_fail M.Sink.can_fail
+    ensures listed { HasListed (C.has captures.now) R.can_fail C.can_refuse C.Input.Source.can_fail W.can_fail
+        M.Sink.can_fail
         (listing_view listing.entry) (R.remaining reader.old) (R.remaining reader.new) (W.contents writer.old)
         (W.contents writer.new) (M.Sink.contents messages.old) (M.Sink.contents messages.new) result }
     ensures flushed { OnOk result (W.is_flushed writer.new) }
@@ -126,12 +127,16 @@ fn read_files<C: Captures, R: Source, W: Sink, M: LineSink>(
     writer: &mut W,
     messages: &mut M,
 ) -> Result<Tally, OutputFault>
-    ensures ok { IfOk result (λ last. ReadsFiles (C.has captures.now) R.can_fail C.can_refuse C.Input.Source.can_fail W.can_fail M.Sink.can_fail
-        (listing_view listing.entry) (listing_view listing.entry).files (nothing_read (listing_view listing.entry).count)
+    ensures ok { IfOk result
+        (λ last. ReadsFiles (C.has captures.now) R.can_fail C.can_refuse C.Input.Source.can_fail W.can_fail
+        M.Sink.can_fail
+        (listing_view listing.entry) (listing_view listing.entry).files
+        (nothing_read (listing_view listing.entry).count)
         (R.remaining reader.old) (W.contents writer.old) (M.Sink.contents messages.old) last (R.remaining reader.new)
         (W.contents writer.new) (M.Sink.contents messages.new)) }
     ensures failed { OnErr result W.can_fail }
-    ensures kept { names_input (listing_view listing.entry).files ≡ false → R.remaining reader.new ≡ R.remaining reader.old }
+    ensures kept { names_input (listing_view listing.entry).files ≡ false → R.remaining reader.new
+        ≡ R.remaining reader.old }
     ensures told { Settles M.Sink.is_flushed messages.old messages.new ⊎ M.Sink.can_fail }
 {
     let options = listing.options;
@@ -166,8 +171,10 @@ fn read_file<C: Captures, R: Source, W: Sink, M: LineSink>(
     writer: &mut W,
     messages: &mut M,
 ) -> Result<Tally, OutputFault>
-    ensures ok { (l : ListingValue) → task_view task.now ≡ next_task l tally.now → IfOk result (λ then. ReadsFile (C.has captures.now)
-        R.can_fail C.can_refuse C.Input.Source.can_fail W.can_fail M.Sink.can_fail l name.now tally.now (R.remaining reader.old)
+    ensures ok { (l : ListingValue) → task_view task.now ≡ next_task l tally.now
+        → IfOk result (λ then. ReadsFile (C.has captures.now)
+        R.can_fail C.can_refuse C.Input.Source.can_fail W.can_fail M.Sink.can_fail l name.now tally.now
+        (R.remaining reader.old)
         (W.contents writer.old) (M.Sink.contents messages.old) then (R.remaining reader.new) (W.contents writer.new)
         (M.Sink.contents messages.new)) }
     ensures failed { OnErr result W.can_fail }
@@ -221,8 +228,10 @@ fn end_of_file<C: Captures, R: Source, W: Sink>(
     reader: &mut R,
     writer: &mut W,
 ) -> (FileEnd, PacketCounts)
-    ensures { (packets : List PacketValue) × HasEnded (C.has captures.now) R.can_fail C.can_refuse C.Input.Source.can_fail W.can_fail
-        (task_view task.now) (named name.now) packets (R.remaining reader.old) (R.remaining reader.new) (W.contents writer.old)
+    ensures { (packets : List PacketValue)
+        × HasEnded (C.has captures.now) R.can_fail C.can_refuse C.Input.Source.can_fail W.can_fail
+        (task_view task.now) (named name.now) packets (R.remaining reader.old) (R.remaining reader.new)
+        (W.contents writer.old)
         (W.contents writer.new) result.0 × IfFileRead result.0 (AreCounted (task_view task.now) packets result.1) }
 {
     let Some(name) = named(name) else {

@@ -24,7 +24,8 @@ pub(crate) fn write_statistic<W: Sink>(
     count: Count,
     out: &mut OutputBuffer<'_, W>,
 )
-    ensures { Takes W.contents W.can_fail out.old (statistics_line format (record { key = key.now; count = count })) out.new }
+    ensures { Takes W.contents W.can_fail out.old (statistics_line format (record { key = key.now; count = count }))
+        out.new }
 {
     match format {
         StatisticsFormat::Text => {

@@ -25,14 +25,16 @@ use Rattle.ether_format.specs.Spelling.{colon_text, column_value, date_text, has
 
 -- the sender, and the station that it sends to
 abbrev pub brief_ethernet2 : Ethernet2Value → List ℕ
-brief_ethernet2 e = codes " " ++ (colon_text (spelled 6 e.source) ++ (codes " > " ++ colon_text (spelled 6 e.destination)))
+brief_ethernet2 e =
+    codes " " ++ (colon_text (spelled 6 e.source) ++ (codes " > " ++ colon_text (spelled 6 e.destination)))
 
 -- a word that is there or not
 abbrev pub word_if : Bool → List ℕ → List ℕ
 word_if holds word = if holds then word else []
 
 abbrev pub brief_vlan : VlanValue → List ℕ
-brief_vlan v = codes " vlan " ++ (decimal v.vid ++ (codes " pcp " ++ (decimal v.pcp ++ word_if (nat_eq v.dei 1) (codes " dei"))))
+brief_vlan v =
+    codes " vlan " ++ (decimal v.vid ++ (codes " pcp " ++ (decimal v.pcp ++ word_if (nat_eq v.dei 1) (codes " dei"))))
 
 abbrev pub brief_macsec : SecTagValue → List ℕ
 brief_macsec t = codes " macsec an " ++ (decimal t.association_number ++ (codes " pn " ++ decimal t.packet_number))
@@ -45,12 +47,14 @@ address_text protocol bytes = column_value (protocol_address protocol bytes)
 abbrev pub arp_request : ArpValue → List ℕ
 arp_request a =
     codes " ARP who-has "
-    ++ (address_text a.protocol_type a.target_protocol ++ (codes " tell " ++ address_text a.protocol_type a.sender_protocol))
+    ++ (address_text a.protocol_type a.target_protocol
+    ++ (codes " tell " ++ address_text a.protocol_type a.sender_protocol))
 
 -- who answers
 abbrev pub arp_reply : ArpValue → List ℕ
 arp_reply a =
-    codes " ARP reply " ++ (address_text a.protocol_type a.sender_protocol ++ (codes " is-at " ++ colon_text a.sender_hardware))
+    codes " ARP reply "
+    ++ (address_text a.protocol_type a.sender_protocol ++ (codes " is-at " ++ colon_text a.sender_hardware))
 
 -- another operation
 abbrev pub arp_other : ArpValue → List ℕ
@@ -62,11 +66,13 @@ arp_other a =
 
 -- ares_op$REQUEST is 1, ares_op$REPLY 2 (RFC 826, "Definitions")
 abbrev pub brief_arp : ArpValue → List ℕ
-brief_arp a = if nat_eq a.operation 1 then arp_request a else (if nat_eq a.operation 2 then arp_reply a else arp_other a)
+brief_arp a =
+    if nat_eq a.operation 1 then arp_request a else (if nat_eq a.operation 2 then arp_reply a else arp_other a)
 
 -- a cooked header: how the packet was sent, and the sender's address
 abbrev pub cooked_text : (packet_type : ℕ) → (address : List ℕ) → List ℕ
-cooked_text packet_type address = codes " cooked type " ++ (decimal packet_type ++ (codes " from " ++ colon_text address))
+cooked_text packet_type address =
+    codes " cooked type " ++ (decimal packet_type ++ (codes " from " ++ colon_text address))
 
 abbrev pub brief_cooked : (packet_type len address : ℕ) → List ℕ
 brief_cooked packet_type len address = cooked_text packet_type (take len (spelled 8 address))
@@ -91,7 +97,8 @@ brief_told (CookedV2 place s) = brief_cooked_v2 s
 -- the protocols of some ether types (the IEEE registry)
 abbrev pub type_names : List (ℕ × List ℕ)
 type_names =
-    (0x0800, codes "IPv4") ∷ (0x86DD, codes "IPv6") ∷ (0x0806, codes "ARP") ∷ (0x8847, codes "MPLS") ∷ (0x8863, codes "PPPoE discovery")
+    (0x0800, codes "IPv4") ∷ (0x86DD, codes "IPv6") ∷ (0x0806, codes "ARP") ∷ (0x8847, codes "MPLS")
+    ∷ (0x8863, codes "PPPoE discovery")
     ∷ (0x8864, codes "PPPoE") ∷ (0x888E, codes "EAPOL") ∷ (0x88CC, codes "LLDP") ∷ (0x88F7, codes "PTP") ∷ []
 
 abbrev pub name_or_number : Option (List ℕ) → ℕ → List ℕ
@@ -142,7 +149,9 @@ brief_time (Some m) = brief_moment m
 
 -- how much of it was captured, if that is not all
 abbrev pub brief_cut : PacketValue → List ℕ
-brief_cut p = if is_cut p then codes " (" ++ (decimal (length p.packet) ++ (codes " of " ++ (decimal p.original_len ++ codes " bytes)"))) else []
+brief_cut p =
+    if is_cut p then codes " ("
+    ++ (decimal (length p.packet) ++ (codes " of " ++ (decimal p.original_len ++ codes " bytes)"))) else []
 
 -- the number and the time
 abbrev pub brief_front : ℕ → Option Moment → List ℕ

@@ -24,7 +24,8 @@ section name members = record { name = name; members = members }
 -- a header is a section with its own name; its name and place are also a section `headers`
 abbrev pub header_sections : Told → List Section
 header_sections h =
-    section (told_name h) (told_members h) ∷ section (codes "headers") (placed_members (told_name h) (told_place h) []) ∷ []
+    section (told_name h) (told_members h) ∷ section (codes "headers") (placed_members (told_name h) (told_place h) [])
+    ∷ []
 
 -- the packet, its headers, and how the walk through them ends
 abbrev pub sections : ℕ → PacketValue → Option Moment → List Told → ToldEnd → List Section
@@ -91,14 +92,17 @@ section_members declared.Sll2 =
 section_members declared.Vlan = after_place (codes "pcp" ∷ codes "dei" ∷ codes "vid" ∷ codes "type" ∷ [])
 section_members declared.Macsec =
     after_place
-    (codes "payload" ∷ codes "es" ∷ codes "scb" ∷ codes "an" ∷ codes "sl" ∷ codes "pn" ∷ codes "sci" ∷ codes "type" ∷ [])
+    (codes "payload" ∷ codes "es" ∷ codes "scb" ∷ codes "an" ∷ codes "sl" ∷ codes "pn" ∷ codes "sci" ∷ codes "type"
+    ∷ [])
 section_members declared.Arp =
     after_place
-    (codes "hrd" ∷ codes "pro" ∷ codes "hln" ∷ codes "pln" ∷ codes "op" ∷ codes "sha" ∷ codes "spa" ∷ codes "tha" ∷ codes "tpa" ∷ [])
+    (codes "hrd" ∷ codes "pro" ∷ codes "hln" ∷ codes "pln" ∷ codes "op" ∷ codes "sha" ∷ codes "spa" ∷ codes "tha"
+    ∷ codes "tpa" ∷ [])
 section_members declared.Headers = after_place []
 section_members declared.Rest = codes "start" ∷ codes "end" ∷ codes "kind" ∷ codes "type" ∷ []
 section_members declared.Fault =
-    codes "start" ∷ codes "closed" ∷ codes "kind" ∷ codes "required" ∷ codes "available" ∷ codes "source" ∷ codes "value" ∷ []
+    codes "start" ∷ codes "closed" ∷ codes "kind" ∷ codes "required" ∷ codes "available" ∷ codes "source"
+    ∷ codes "value" ∷ []
 
 pub record IsColumn (c : ColumnValue) : Type 0 where
   pub of : DeclaredSection
@@ -118,7 +122,8 @@ NamesColumn name = (c : ColumnValue) × IsColumn c × (column_name c ≡ name)
 -- the first of these names that no column has, if there is one
 abbrev pub IsUnknownIn : (names : List (List ℕ)) → (unknown : Option (List ℕ)) → Type 0
 IsUnknownIn [] unknown = unknown ≡ None
-IsUnknownIn (name ∷ names) unknown = ((¬ (NamesColumn name)) × (unknown ≡ Some name)) ⊎ (NamesColumn name × IsUnknownIn names unknown)
+IsUnknownIn (name ∷ names) unknown =
+    ((¬ (NamesColumn name)) × (unknown ≡ Some name)) ⊎ (NamesColumn name × IsUnknownIn names unknown)
 
 -- the length that a packet had (snap lengths aside)
 abbrev pub original_column : ColumnValue
@@ -127,15 +132,19 @@ original_column = record { section = codes "frame"; member = codes "original" }
 -- the columns that a summary counts if none are named
 abbrev pub common_columns : List ColumnValue
 common_columns =
-    record { section = codes "headers"; member = codes "header" } ∷ record { section = codes "vlan"; member = codes "vid" }
+    record { section = codes "headers"; member = codes "header" }
+    ∷ record { section = codes "vlan"; member = codes "vid" }
     ∷ record { section = codes "eth"; member = codes "type" } ∷ record { section = codes "vlan"; member = codes "type" }
-    ∷ record { section = codes "rest"; member = codes "type" } ∷ record { section = codes "fault"; member = codes "kind" }
-    ∷ record { section = codes "arp"; member = codes "sha" } ∷ record { section = codes "arp"; member = codes "spa" } ∷ []
+    ∷ record { section = codes "rest"; member = codes "type" }
+    ∷ record { section = codes "fault"; member = codes "kind" }
+    ∷ record { section = codes "arp"; member = codes "sha" } ∷ record { section = codes "arp"; member = codes "spa" }
+    ∷ []
 
 -- ---- columns as they are declared
 
 abbrev pub column_view : DeclaredColumn → ColumnValue
-column_view c = record { section = section_name c.section; member = slice_index_or (section_members c.section) c.index [] }
+column_view c =
+    record { section = section_name c.section; member = slice_index_or (section_members c.section) c.index [] }
 
 abbrev pub columns_view : DeclaredColumns → List ColumnValue
 columns_view c = column_view c.first ∷ map column_view (take c.count c.others)

@@ -44,22 +44,27 @@ pub record GathersWalk (at : ℕ) (x : Expectation) (frame : List ℕ) (old new 
 
 -- after `others` headers there is no room for all those of the walk
 abbrev pub HasNoRoom : (tells : List Told → ToldEnd → Bool → Type 0) → (others : ℕ) → Type 0
-HasNoRoom tells others = (told : List Told) (end : ToldEnd) (accepted : Bool) → tells told end accepted → 4 < others + length told
+HasNoRoom tells others = (told : List Told) (end : ToldEnd) (accepted : Bool) → tells told end accepted → 4 < others
+    + length told
 
 -- the values of a column in headers
 abbrev pub found_values : ColumnValue → List Found → List Value
 found_values c headers = flat_map (header_values c) (map found_told headers)
 
 -- a column is written of headers that are gathered, whichever the packet's moment is
-abbrev pub TakesGathered : {W : Type 0} → (contents : W → Option (List ℕ)) → (can_fail : Type 0) → DeclaredColumn → ℕ → PacketValue → List Found → End
+abbrev pub TakesGathered : {W : Type 0} → (contents : W → Option (List ℕ)) → (can_fail : Type 0) → DeclaredColumn → ℕ
+    → PacketValue → List Found → End
     → (old new : OutputBuffer W) → Type 0
 TakesGathered contents can_fail c number p headers end old new =
     (moment : Option Moment) → AreMoments p.time moment
-    → Takes contents can_fail old (column_text (column_view c) (sections number p moment (map found_told headers) (end_told end))) new
+    → Takes contents can_fail old
+    (column_text (column_view c) (sections number p moment (map found_told headers) (end_told end))) new
 
 -- .. a row
-abbrev pub TakesGatheredRow : {W : Type 0} → (contents : W → Option (List ℕ)) → (can_fail : Type 0) → List ColumnValue → ℕ → PacketValue → List Found
+abbrev pub TakesGatheredRow : {W : Type 0} → (contents : W → Option (List ℕ)) → (can_fail : Type 0) → List ColumnValue
+    → ℕ → PacketValue → List Found
     → End → (old new : OutputBuffer W) → Type 0
 TakesGatheredRow contents can_fail columns number p headers end old new =
     (moment : Option Moment) → AreMoments p.time moment
-    → Takes contents can_fail old (row_text columns (sections number p moment (map found_told headers) (end_told end))) new
+    → Takes contents can_fail old (row_text columns (sections number p moment (map found_told headers) (end_told end)))
+    new

@@ -14,11 +14,16 @@ use Rattle.ether_format.specs.Texts.{HasText}
 -- A time is one moment at most, and a packet has one text.
 pub record TextsAreOne : Type 0 where
   pub moment : (t : TimeValue) (m n : Moment) → IsMoment t m → IsMoment t n → m ≡ n
-  pub text : (format : Format) (limit : Option ℕ) (number : ℕ) (p : PacketValue) (text other : List ℕ) (accepted also : Bool)
-      → HasText format limit number p text accepted → HasText format limit number p other also → (text ≡ other) × (accepted ≡ also)
+  pub text : (format : Format) (limit : Option ℕ) (number : ℕ) (p : PacketValue) (text other : List ℕ)
+      (accepted also : Bool)
+      → HasText format limit number p text accepted → HasText format limit number p other also → (text ≡ other)
+      × (accepted ≡ also)
 
 -- The members of a packet, of a header and of the end of a walk have the names of the columns of their section.
 pub record ColumnsAreMembers : Type 0 where
-  pub packet : (number : ℕ) (p : PacketValue) (moment : Option Moment) → map (λ m. m.name) (packet_members number p moment) ≡ section_members Frame
-  pub header : (h : Told) (s : Section) → told_name h ≡ section_name s → map (λ m. m.name) (told_members h) ≡ section_members s
-  pub end : (end : ToldEnd) (s : Section) → end_name end ≡ section_name s → map (λ m. m.name) (end_members end) ≡ section_members s
+  pub packet : (number : ℕ) (p : PacketValue) (moment : Option Moment)
+      → map (λ m. m.name) (packet_members number p moment) ≡ section_members Frame
+  pub header : (h : Told) (s : Section) → told_name h ≡ section_name s → map (λ m. m.name) (told_members h)
+      ≡ section_members s
+  pub end : (end : ToldEnd) (s : Section) → end_name end ≡ section_name s → map (λ m. m.name) (end_members end)
+      ≡ section_members s

@@ -74,22 +74,26 @@ macsec_members t =
 
 -- an address of a protocol: of IPv4, or other bytes
 abbrev pub protocol_address : (protocol : ℕ) → List ℕ → Value
-protocol_address protocol bytes = if nat_eq protocol 0x0800 && nat_eq (length bytes) 4 then Dotted bytes else Bytes bytes
+protocol_address protocol bytes =
+    if nat_eq protocol 0x0800 && nat_eq (length bytes) 4 then Dotted bytes else Bytes bytes
 
 -- an ARP packet (RFC 826, "Packet format")
 abbrev pub arp_members : ArpValue → List Member
 arp_members a =
     member (codes "hrd") (Number a.hardware_type) ∷ member (codes "pro") (Protocol a.protocol_type)
-    ∷ member (codes "hln") (Number (length a.sender_hardware)) ∷ member (codes "pln") (Number (length a.sender_protocol))
+    ∷ member (codes "hln") (Number (length a.sender_hardware))
+    ∷ member (codes "pln") (Number (length a.sender_protocol))
     ∷ member (codes "op") (Number a.operation) ∷ member (codes "sha") (Bytes a.sender_hardware)
-    ∷ member (codes "spa") (protocol_address a.protocol_type a.sender_protocol) ∷ member (codes "tha") (Bytes a.target_hardware)
+    ∷ member (codes "spa") (protocol_address a.protocol_type a.sender_protocol)
+    ∷ member (codes "tha") (Bytes a.target_hardware)
     ∷ member (codes "tpa") (protocol_address a.protocol_type a.target_protocol) ∷ []
 
 -- Linux cooked capture v1 (LINKTYPE_LINUX_SLL of the tcpdump group): as much of the address as its length says
 abbrev pub linux_sll_members : LinuxSllValue → List Member
 linux_sll_members s =
     member (codes "packet_type") (Number s.packet_type) ∷ member (codes "hw_type") (Number s.hardware_type)
-    ∷ member (codes "addr_len") (Number s.address_len) ∷ member (codes "addr") (Bytes (take s.address_len (spelled 8 s.address)))
+    ∷ member (codes "addr_len") (Number s.address_len)
+    ∷ member (codes "addr") (Bytes (take s.address_len (spelled 8 s.address)))
     ∷ member (codes "protocol") (Protocol s.protocol) ∷ []
 
 -- Linux cooked capture v2 (LINKTYPE_LINUX_SLL2)
@@ -97,12 +101,14 @@ abbrev pub linux_sll2_members : LinuxSll2Value → List Member
 linux_sll2_members s =
     member (codes "protocol") (Protocol s.protocol) ∷ member (codes "if_index") (Number s.interface_index)
     ∷ member (codes "hw_type") (Number s.hardware_type) ∷ member (codes "packet_type") (Number s.packet_type)
-    ∷ member (codes "addr_len") (Number s.address_len) ∷ member (codes "addr") (Bytes (take s.address_len (spelled 8 s.address))) ∷ []
+    ∷ member (codes "addr_len") (Number s.address_len)
+    ∷ member (codes "addr") (Bytes (take s.address_len (spelled 8 s.address))) ∷ []
 
 -- ---- the members of a packet
 
 -- its number and its time, link type and lengths (pcapng, 4.3)
 abbrev pub packet_members : (number : ℕ) → PacketValue → Option Moment → List Member
 packet_members number p moment =
-    member (codes "number") (Number number) ∷ member (codes "time") (if_some Time moment) ∷ member (codes "link") (Number p.link_type)
+    member (codes "number") (Number number) ∷ member (codes "time") (if_some Time moment)
+    ∷ member (codes "link") (Number p.link_type)
     ∷ member (codes "captured") (Number (length p.packet)) ∷ member (codes "original") (Number p.original_len) ∷ []

@@ -21,7 +21,8 @@ dotted_text (b ∷ bs) = decimal b ++ flat_map (λ c. codes "." ++ decimal c) bs
 -- a number below a thousand million as nine decimal digits
 unfoldable pub nine_digits : ℕ → List ℕ
 nine_digits n =
-    (48 + n / 10 ^ 8 % 10) ∷ (48 + n / 10 ^ 7 % 10) ∷ (48 + n / 10 ^ 6 % 10) ∷ (48 + n / 10 ^ 5 % 10) ∷ (48 + n / 10 ^ 4 % 10)
+    (48 + n / 10 ^ 8 % 10) ∷ (48 + n / 10 ^ 7 % 10) ∷ (48 + n / 10 ^ 6 % 10) ∷ (48 + n / 10 ^ 5 % 10)
+    ∷ (48 + n / 10 ^ 4 % 10)
     ∷ (48 + n / 10 ^ 3 % 10) ∷ (48 + n / 10 ^ 2 % 10) ∷ (48 + n / 10 % 10) ∷ (48 + n % 10) ∷ []
 
 -- the date and the time of day of a moment as in ISO 8601 (RFC 3339, 5.6)

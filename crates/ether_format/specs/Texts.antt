@@ -14,10 +14,12 @@ use Rattle.ether_format.specs.Columns.{columns_view, row_text, sections}
 abbrev pub format_text : Format → ℕ → PacketValue → Option Moment → List Told → ToldEnd → List ℕ
 format_text Json number p moment headers end = json_line number p moment headers end
 format_text Brief number p moment headers end = brief_line number p moment headers end
-format_text (Fields columns) number p moment headers end = row_text (columns_view columns) (sections number p moment headers end)
+format_text (Fields columns) number p moment headers end =
+    row_text (columns_view columns) (sections number p moment headers end)
 
 -- The text of a packet with a number, of what it tells; and whether no header is refused.
-pub record HasText (format : Format) (limit : Option ℕ) (number : ℕ) (p : PacketValue) (text : List ℕ) (accepted : Bool) : Type 0 where
+pub record HasText (format : Format) (limit : Option ℕ) (number : ℕ) (p : PacketValue) (text : List ℕ)
+    (accepted : Bool) : Type 0 where
   pub moment : Option Moment
   pub is_moment : AreMoments p.time moment
   pub headers : List Told

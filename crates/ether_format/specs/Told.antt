@@ -92,7 +92,8 @@ told_end at (endings.Fault w x r) = Fault (at + w.start) w.closed (cause_of r)
 -- ---- a packet
 
 -- a walk tells these headers and this end, and whether its frame is accepted
-pub record TellsWalk (at : ℕ) (start : Expectation) (frame : List ℕ) (told : List Told) (end : ToldEnd) (accepted : Bool) : Type 0 where
+pub record TellsWalk (at : ℕ) (start : Expectation) (frame : List ℕ) (told : List Told) (end : ToldEnd)
+    (accepted : Bool) : Type 0 where
   pub headers : List Header
   pub ending : Ending
   pub walk : Walk start frame headers ending
@@ -105,16 +106,19 @@ abbrev pub cooked_place : (header_len len : ℕ) → Place
 cooked_place header_len len = record { start = 0; header_end = header_len; payload_end = len; closed = false }
 
 -- a cooked header and the walk of its payload
-pub record TellsPayload (at : ℕ) (first : Told) (start : Expectation) (payload : List ℕ) (told : List Told) (end : ToldEnd) (accepted : Bool) : Type
+pub record TellsPayload (at : ℕ) (first : Told) (start : Expectation) (payload : List ℕ) (told : List Told)
+    (end : ToldEnd) (accepted : Bool) : Type
     0 where
   pub later : List Told
   pub walk : TellsWalk at start payload later end accepted
   pub whole : told ≡ first ∷ later
 
 -- of cooked capture v2: the payload is walked if an ether type announces it
-abbrev pub TellsAfter : (limit : Option ℕ) → (ether_type : Option ℕ) → (bytes : List ℕ) → List Told → ToldEnd → (accepted : Bool) → Type 0
+abbrev pub TellsAfter : (limit : Option ℕ) → (ether_type : Option ℕ) → (bytes : List ℕ) → List Told → ToldEnd
+    → (accepted : Bool) → Type 0
 TellsAfter limit (Some n) bytes told end accepted =
-    TellsPayload 20 (CookedV2 (cooked_place 20 (length bytes)) (linux_sll2_of bytes)) (record { next = EtherType n; limit = limit })
+    TellsPayload 20 (CookedV2 (cooked_place 20 (length bytes)) (linux_sll2_of bytes))
+    (record { next = EtherType n; limit = limit })
     (slice_range bytes 20 (length bytes)) told end accepted
 TellsAfter limit None bytes told end accepted =
     (told ≡ CookedV2 (cooked_place 20 (length bytes)) (linux_sll2_of bytes) ∷ [])
@@ -122,12 +126,15 @@ TellsAfter limit None bytes told end accepted =
 
 pub data TellsCookedV2 (limit : Option ℕ) (bytes : List ℕ) : List Told → ToldEnd → (accepted : Bool) → Type 0 where
   read : (told : List Told) (end : ToldEnd) (accepted : Bool) → AcceptsLinuxSll2 bytes
-      → TellsAfter limit (told_ether_type (protocol_of_header bytes)) bytes told end accepted → TellsCookedV2 limit bytes told end accepted
-  refused : (r : LinuxSll2Refusal) → RefusesLinuxSll2 bytes r → TellsCookedV2 limit bytes [] (Fault 0 false (cause_of_v2 r)) false
+      → TellsAfter limit (told_ether_type (protocol_of_header bytes)) bytes told end accepted
+      → TellsCookedV2 limit bytes told end accepted
+  refused : (r : LinuxSll2Refusal) → RefusesLinuxSll2 bytes r
+      → TellsCookedV2 limit bytes [] (Fault 0 false (cause_of_v2 r)) false
 
 -- what a packet of `len` bytes tells, by its content
 abbrev pub Tells : (limit : Option ℕ) → (len : ℕ) → ContentValue → List Told → ToldEnd → (accepted : Bool) → Type 0
-Tells limit len (Frame next bytes) told end accepted = TellsWalk 0 (record { next = next; limit = limit }) bytes told end accepted
+Tells limit len (Frame next bytes) told end accepted =
+    TellsWalk 0 (record { next = next; limit = limit }) bytes told end accepted
 Tells limit len (LinuxSll s payload) told end accepted =
     TellsPayload 16 (Walked (cooked_place 16 (16 + length payload)) (headers.LinuxSll s) None)
     (record { next = EtherType s.protocol; limit = limit }) payload told end accepted
@@ -164,7 +171,8 @@ header_members (headers.Arp a) fcs = arp_members a
 -- a header's name and place, and then its own members
 abbrev pub placed_members : (name : List ℕ) → Place → List Member → List Member
 placed_members name place own =
-    member (codes "header") (Word name) ∷ member (codes "start") (Number place.start) ∷ member (codes "end") (Number place.header_end)
+    member (codes "header") (Word name) ∷ member (codes "start") (Number place.start)
+    ∷ member (codes "end") (Number place.header_end)
     ∷ member (codes "payload_end") (Number place.payload_end) ∷ member (codes "closed") (Flag place.closed) ∷ own
 
 abbrev pub told_members : Told → List Member
@@ -212,7 +220,8 @@ valued_cause kind value =
 -- a fault: bytes that are required and there, and what named the number of those; or a number without a meaning
 abbrev pub cause_members : Cause → List Member
 cause_members (Length required available source) =
-    member (codes "kind") (Word (codes "length")) ∷ member (codes "required") (Number required) ∷ member (codes "available") (Number available)
+    member (codes "kind") (Word (codes "length")) ∷ member (codes "required") (Number required)
+    ∷ member (codes "available") (Number available)
     ∷ member (codes "source") (Word (source_text source)) ∷ member (codes "value") Nothing ∷ []
 cause_members (UnknownPacketType n) = valued_cause (codes "sll_packet_type") (Number n)
 cause_members (UnknownHardwareType n) = valued_cause (codes "sll_hardware_type") (Number n)

@@ -197,7 +197,8 @@ told_text part first [] end = end_text part end
 told_text part first (h ∷ hs) end = header_text part first h ++ told_text part (next_is_first part first h) hs end
 
 -- the text is that of a walk
-pub record AnswersTold (part : Part) (first : Bool) (at : ℕ) (start : Expectation) (frame text : List ℕ) (accepted : Bool) : Type 0 where
+pub record AnswersTold (part : Part) (first : Bool) (at : ℕ) (start : Expectation) (frame text : List ℕ)
+    (accepted : Bool) : Type 0 where
   pub headers : List Told
   pub end : ToldEnd
   pub tells : TellsWalk at start frame headers end accepted
@@ -229,14 +230,16 @@ pub record AnswersCookedV2 (part : Part) (limit : Option ℕ) (bytes text : List
   pub is_text : text ≡ told_text part true headers end
 
 -- .. of any packet
-pub record AnswersContent (part : Part) (limit : Option ℕ) (p : PacketValue) (text : List ℕ) (accepted : Bool) : Type 0 where
+pub record AnswersContent (part : Part) (limit : Option ℕ) (p : PacketValue) (text : List ℕ)
+    (accepted : Bool) : Type 0 where
   pub headers : List Told
   pub end : ToldEnd
   pub tells : Tells limit (length p.packet) (content_of p) headers end accepted
   pub is_text : text ≡ told_text part true headers end
 
 -- a packet's line, or a column of it, at a moment
-pub record AnswersPart (part : Part) (limit : Option ℕ) (number : ℕ) (p : PacketValue) (moment : Option Moment) (text : List ℕ) (accepted : Bool)
+pub record AnswersPart (part : Part) (limit : Option ℕ) (number : ℕ) (p : PacketValue) (moment : Option Moment)
+    (text : List ℕ) (accepted : Bool)
     : Type 0 where
   pub headers : List Told
   pub end : ToldEnd
@@ -244,7 +247,8 @@ pub record AnswersPart (part : Part) (limit : Option ℕ) (number : ℕ) (p : Pa
   pub is_text : text ≡ part_text part number p moment headers end
 
 -- .. its row
-pub record AnswersRow (columns : List ColumnValue) (limit : Option ℕ) (number : ℕ) (p : PacketValue) (moment : Option Moment) (text : List ℕ)
+pub record AnswersRow (columns : List ColumnValue) (limit : Option ℕ) (number : ℕ) (p : PacketValue)
+    (moment : Option Moment) (text : List ℕ)
     (accepted : Bool) : Type 0 where
   pub headers : List Told
   pub end : ToldEnd
@@ -252,8 +256,10 @@ pub record AnswersRow (columns : List ColumnValue) (limit : Option ℕ) (number 
   pub is_text : text ≡ row_text columns (sections number p moment headers end)
 
 -- a column is written of what the packet tells
-abbrev pub TakesColumn : {W : Type 0} → (contents : W → Option (List ℕ)) → (can_fail : Type 0) → DeclaredColumn → (limit : Option ℕ) → ℕ → PacketValue
+abbrev pub TakesColumn : {W : Type 0} → (contents : W → Option (List ℕ)) → (can_fail : Type 0) → DeclaredColumn
+    → (limit : Option ℕ) → ℕ → PacketValue
     → Option Moment → (old new : OutputBuffer W) → Type 0
 TakesColumn contents can_fail c limit number p moment old new =
-    (headers : List Told) (end : ToldEnd) (accepted : Bool) → Tells limit (length p.packet) (content_of p) headers end accepted
+    (headers : List Told) (end : ToldEnd) (accepted : Bool)
+    → Tells limit (length p.packet) (content_of p) headers end accepted
     → Takes contents can_fail old (column_text (column_view c) (sections number p moment headers end)) new

@@ -335,7 +335,8 @@ pub(crate) fn write_brief_front<W: Sink>(
     }
 }
 
-/// Writes a date and a time of day, or without a date the seconds since the beginning of 1970, with six or nine decimals.
+/// Writes a date and a time of day, or without a date the seconds since the beginning of 1970, with six or nine
+/// decimals.
 fn write_brief_moment<W: Sink>(moment: &Moment, out: &mut OutputBuffer<'_, W>)
     ensures { Takes W.contents W.can_fail out.old (brief_moment moment.now) out.new }
 {

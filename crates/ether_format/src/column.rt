@@ -230,7 +230,8 @@ impl Column {
 
 /// The index of a word among words.
 fn index_of(words: &[&str], word: &[u8]) -> Option<usize>
-    ensures some { IfSome result (λ at. (at < length words.now) × (slice_index_or (map (λ s. s.now) words.now) at [] ≡ word.now)) }
+    ensures some { IfSome result (λ at. (at < length words.now)
+        × (slice_index_or (map (λ s. s.now) words.now) at [] ≡ word.now)) }
     ensures none { IfNone result (All (λ it. it.now ≢ word.now) words.now) }
 {
     words.iter().position(|it| it.as_bytes() == word)

@@ -39,7 +39,8 @@ impl Column {
         moment: Option<Moment>,
     ) -> Option<Value<'a>>
         ensures { if_any (option_map value_view result)
-            ≡ values_in (column_view self) (section (codes "frame") (packet_members number (captured_packet_view packet.now) moment)) }
+            ≡ values_in (column_view self)
+            (section (codes "frame") (packet_members number (captured_packet_view packet.now) moment)) }
     {
         if self.section != Section::Frame {
             return None;
@@ -57,7 +58,8 @@ impl Column {
         requires { self.section ≡ parts.Frame }
         ensures { (moment : Option DeclaredMoment) → AreMoments (captured_packet_view packet.now).time moment
             → if_any (option_map value_view result)
-            ≡ values_in (column_view self) (section (codes "frame") (packet_members number (captured_packet_view packet.now) moment)) }
+            ≡ values_in (column_view self)
+            (section (codes "frame") (packet_members number (captured_packet_view packet.now) moment)) }
     {
         packet_value(number, packet, self.index)
     }
@@ -105,7 +107,8 @@ impl Column {
     /// Its value in a header of cooked capture v1 that is not walked.
     pub(crate) fn in_cooked<'a>(self, place: Place, header: &'a CookedHeader) -> Option<Value<'a>>
         ensures { if_any (option_map value_view result)
-            ≡ header_values (column_view self) (Walked (place_view place) (headers.LinuxSll (cooked_view header.now)) None) }
+            ≡ header_values (column_view self)
+            (Walked (place_view place) (headers.LinuxSll (cooked_view header.now)) None) }
     {
         if self.section != Section::Sll {
             return self.in_place(Section::Sll, place);
@@ -135,7 +138,8 @@ impl Column {
     /// Its value in the name and the place of a header, for a column of `headers`.
     #[inline(always)]
     fn in_place<'a>(self, section: Section, place: Place) -> Option<Value<'a>>
-        ensures { if_any (option_map value_view result) ≡ values_placed (column_view self) (section_name section) (place_view place) }
+        ensures { if_any (option_map value_view result) ≡ values_placed (column_view self) (section_name section)
+            (place_view place) }
     {
         if self.section != Section::Headers {
             return None;
@@ -170,7 +174,8 @@ impl Column {
         closed: bool,
         error: &PeelError,
     ) -> Option<Value<'static>>
-        ensures { if_any (option_map value_view result) ≡ end_values (column_view self) (Fault start closed (cause_shown error.now)) }
+        ensures { if_any (option_map value_view result)
+            ≡ end_values (column_view self) (Fault start closed (cause_shown error.now)) }
     {
         if self.section != Section::Fault {
             return None;
@@ -184,7 +189,8 @@ impl Column {
 
     /// Its value in a fault of a header of cooked capture v2.
     pub(crate) fn in_linux_sll2_fault(self, error: &LinuxSll2Error) -> Option<Value<'static>>
-        ensures { if_any (option_map value_view result) ≡ end_values (column_view self) (Fault 0 false (cause_of_v2 (refusal_view error.now))) }
+        ensures { if_any (option_map value_view result)
+            ≡ end_values (column_view self) (Fault 0 false (cause_of_v2 (refusal_view error.now))) }
     {
         if self.section != Section::Fault {
             return None;

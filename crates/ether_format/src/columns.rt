@@ -51,9 +51,10 @@ static COMMON: [Column; 8] = [
 
 /// The columns of a row, 1 to 32.
 ///
-/// The name of a column is that of a section and that of one of its members in [`crate::Format::Json`], with a dot between them:
-/// `frame.number`, `vlan.vid`. The sections are `frame`, the packet itself; `eth`, `sll`, `sll2`, `vlan`, `macsec` and `arp`, its headers;
-/// `headers`, the name and the place of each header; and how the walk through them ends, `rest` or `fault`.
+/// The name of a column is that of a section and that of one of its members in [`crate::Format::Json`], with a dot
+/// between them: `frame.number`, `vlan.vid`. The sections are `frame`, the packet itself; `eth`, `sll`, `sll2`, `vlan`,
+/// `macsec` and `arp`, its headers; `headers`, the name and the place of each header; and how the walk through them
+/// ends, `rest` or `fault`.
 #[derive(Clone, Copy, PartialEq, Eq, Debug)]
 pub struct Columns {
     first: Column,
@@ -65,7 +66,8 @@ pub struct Columns {
 impl Columns {
     /// The columns that a text names, with a comma between two: `vlan.vid,eth.src`.
     ///
-    /// Returns `None` if a name is not that of a column ([`Columns::unknown_name`] gives it), or if there are more than 32.
+    /// Returns `None` if a name is not that of a column ([`Columns::unknown_name`] gives it), or if there are more than
+    /// 32.
     pub fn of_names(text: &str) -> Option<Columns>
         ensures some { IfSome result (λ it. AreColumns text.now (columns_view it)) }
         ensures none { IfNone result ((columns : List ColumnValue) → ¬ (AreColumns text.now columns)) }
@@ -184,7 +186,8 @@ impl Columns {
 
 /// Writes the names of columns, each after a tab.
 fn write_names_after<W: Sink>(columns: &[Column], out: &mut OutputBuffer<'_, W>)
-    ensures { Takes W.contents W.can_fail out.old (flat_map (λ c. codes "\t" ++ column_name (column_view c)) columns.now) out.new }
+    ensures { Takes W.contents W.can_fail out.old
+        (flat_map (λ c. codes "\t" ++ column_name (column_view c)) columns.now) out.new }
 {
     for column in columns {
         out.append(b"\t");

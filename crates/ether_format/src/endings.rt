@@ -92,7 +92,8 @@ fn protocol_value<'a>(protocol: &LinuxSllProtocolType) -> Value<'a>
 
 /// The members of a fault before those of its cause.
 pub(crate) fn fault<'a>(start: usize, closed: bool) -> [Member<'a>; 2]
-    ensures { map keyed_view result ≡ keyed (member (codes "start") (Number start) ∷ member (codes "closed") (Flag closed) ∷ []) }
+    ensures { map keyed_view result
+        ≡ keyed (member (codes "start") (Number start) ∷ member (codes "closed") (Flag closed) ∷ []) }
 {
     [
         number("{\"start\":", start),
@@ -113,7 +114,8 @@ pub(crate) fn cause(error: &PeelError) -> [Member<'static>; 5]
 
 /// The members of a length error.
 fn len_cause(error: &LenError) -> [Member<'static>; 5]
-    ensures { map keyed_view result ≡ others (cause_members (Length error.now.required_len error.now.len error.now.len_source)) }
+    ensures { map keyed_view result
+        ≡ others (cause_members (Length error.now.required_len error.now.len error.now.len_source)) }
 {
     length_cause(error.required_len, error.len, error.len_source)
 }

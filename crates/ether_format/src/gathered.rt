@@ -56,7 +56,8 @@ pub(crate) fn gather<'a>(
 ) -> Option<End>
     ensures some { IfSome result
         (λ end. GathersWalk header_len (start_with start limit) frame.now headers.old.items headers.new.items end) }
-    ensures none { IfNone result (HasNoRoom (TellsWalk header_len (start_with start limit) frame.now) (length headers.old.items)) }
+    ensures none { IfNone result (HasNoRoom (TellsWalk header_len (start_with start limit) frame.now)
+        (length headers.old.items)) }
 {
     let at = usize::from(header_len);
     let mut peel = walker(start, limit, frame);

@@ -35,7 +35,8 @@ pub(crate) fn write_columns<W: Sink>(
     packet: &CapturedPacket<'_>,
     out: &mut OutputBuffer<'_, W>,
 ) -> bool
-    ensures { TakesAnswer W.contents W.can_fail (HasText (Fields columns.now) limit number (captured_packet_view packet.now))
+    ensures { TakesAnswer W.contents W.can_fail
+        (HasText (Fields columns.now) limit number (captured_packet_view packet.now))
         out.old out.new result }
 {
     let mut headers = Headers::new();
@@ -57,10 +58,12 @@ fn gather_packet<'a>(
 ) -> Option<End>
     requires { headers.old.items ≡ [] }
     ensures some { IfSome result
-        (λ end. Tells limit (length (captured_packet_view packet.now).packet) (content_of (captured_packet_view packet.now))
+        (λ end. Tells limit (length (captured_packet_view packet.now).packet)
+        (content_of (captured_packet_view packet.now))
         (map found_told headers.new.items) (end_told end) (is_accepted end)) }
     ensures none { IfNone result
-        (HasNoRoom (Tells limit (length (captured_packet_view packet.now).packet) (content_of (captured_packet_view packet.now))) 0) }
+        (HasNoRoom (Tells limit (length (captured_packet_view packet.now).packet)
+        (content_of (captured_packet_view packet.now))) 0) }
 {
     match Content::of(packet) {
         Content::Frame(start, bytes) => gather(0, start, limit, bytes, headers),
@@ -80,7 +83,8 @@ fn gather_cooked<'a>(
 ) -> Option<End>
     requires { headers.old.items ≡ [] }
     ensures some { IfSome result
-        (λ end. Tells limit 0 (contents.LinuxSll (cooked_view header) payload.now) (map found_told headers.new.items) (end_told end)
+        (λ end. Tells limit 0 (contents.LinuxSll (cooked_view header) payload.now) (map found_told headers.new.items)
+        (end_told end)
         (is_accepted end)) }
     ensures none { IfNone result (HasNoRoom (Tells limit 0 (contents.LinuxSll (cooked_view header) payload.now)) 0) }
 {
@@ -135,7 +139,8 @@ fn write_gathered<W: Sink>(
     end: &End,
     out: &mut OutputBuffer<'_, W>,
 )
-    ensures { TakesGatheredRow W.contents W.can_fail (columns_view columns.now) number (captured_packet_view packet.now) headers.now end.now
+    ensures { TakesGatheredRow W.contents W.can_fail (columns_view columns.now) number (captured_packet_view packet.now)
+        headers.now end.now
         out.old out.new }
 {
     let mut column = columns.first();
@@ -166,7 +171,8 @@ fn write_column<W: Sink>(
     end: &End,
     out: &mut OutputBuffer<'_, W>,
 )
-    ensures { TakesGathered W.contents W.can_fail column number (captured_packet_view packet.now) headers.now end.now out.old out.new }
+    ensures { TakesGathered W.contents W.can_fail column number (captured_packet_view packet.now) headers.now end.now
+        out.old out.new }
 {
     if column.section == Section::Frame {
         write_only(column.in_frame(number, packet), out);
@@ -180,7 +186,8 @@ fn write_column<W: Sink>(
 /// Writes the values of a column in headers.
 #[inline(always)]
 fn write_in_headers<W: Sink>(column: Column, headers: &[Found<'_>], out: &mut OutputBuffer<'_, W>)
-    ensures { Takes W.contents W.can_fail out.old (column_on true (found_values (column_view column) headers.now)) out.new }
+    ensures { Takes W.contents W.can_fail out.old (column_on true (found_values (column_view column) headers.now))
+        out.new }
 {
     let mut is_first = true;
     for found in headers {
@@ -191,7 +198,8 @@ fn write_in_headers<W: Sink>(column: Column, headers: &[Found<'_>], out: &mut Ou
 /// Writes the value of a column in how a walk ends, if there is one.
 #[inline(always)]
 fn write_in_end<W: Sink>(column: Column, end: &End, out: &mut OutputBuffer<'_, W>)
-    ensures { Takes W.contents W.can_fail out.old (column_on true (end_values (column_view column) (end_told end.now))) out.new }
+    ensures { Takes W.contents W.can_fail out.old (column_on true (end_values (column_view column) (end_told end.now)))
+        out.new }
 {
     match end {
         End::Rest(start, end, kind) => write_only(column.in_rest(*start, *end, *kind), out),

@@ -120,7 +120,8 @@ fn write_front<W: Sink>(
     moment: Option<Moment>,
     out: &mut OutputBuffer<'_, W>,
 )
-    ensures { Takes W.contents W.can_fail out.old (front_text part number (captured_packet_view packet.now) moment) out.new }
+    ensures { Takes W.contents W.can_fail out.old (front_text part number (captured_packet_view packet.now) moment)
+        out.new }
 {
     match part {
         Part::Json => write_json_front(number, packet, moment, out),
@@ -160,7 +161,8 @@ fn write_content<W: Sink>(
     packet: &CapturedPacket<'_>,
     out: &mut OutputBuffer<'_, W>,
 ) -> bool
-    ensures { TakesAnswer W.contents W.can_fail (AnswersContent part limit (captured_packet_view packet.now)) out.old out.new result }
+    ensures { TakesAnswer W.contents W.can_fail (AnswersContent part limit (captured_packet_view packet.now)) out.old
+        out.new result }
 {
     match Content::of(packet) {
         Content::Frame(start, bytes) => write_walk(part, true, 0, start, limit, bytes, out),

@@ -27,7 +27,8 @@ pub(crate) fn write_row<W: Sink>(
     out: &mut OutputBuffer<'_, W>,
 ) -> bool
     ensures { TakesAnswer W.contents W.can_fail
-        (AnswersRow (columns_view columns.now) limit number (captured_packet_view packet.now) moment) out.old out.new result }
+        (AnswersRow (columns_view columns.now) limit number (captured_packet_view packet.now) moment) out.old out.new
+        result }
 {
     let accepted = write_part(
         Part::Column(columns.first()),
@@ -54,7 +55,8 @@ fn write_later<W: Sink>(
     moment: Option<Moment>,
     out: &mut OutputBuffer<'_, W>,
 )
-    ensures { TakesColumn W.contents W.can_fail column limit number (captured_packet_view packet.now) moment out.old out.new }
+    ensures { TakesColumn W.contents W.can_fail column limit number (captured_packet_view packet.now) moment out.old
+        out.new }
 {
     if column.section == Section::Frame {
         write_only(column.in_packet(number, packet, moment), out);
@@ -71,7 +73,8 @@ pub(crate) fn write_value<W: Sink>(
     value: Option<Value<'_>>,
     out: &mut OutputBuffer<'_, W>,
 ) -> bool
-    ensures text { Takes W.contents W.can_fail out.old (column_on is_first (if_any (option_map value_view value.entry))) out.new }
+    ensures text { Takes W.contents W.can_fail out.old (column_on is_first (if_any (option_map value_view value.entry)))
+        out.new }
     ensures next { result ≡ still_first is_first (if_any (option_map value_view value.entry)) }
 {
     let Some(value) = value else {

@@ -254,7 +254,8 @@ pub(crate) fn write_date<W: Sink>(moment: &Moment, out: &mut OutputBuffer<'_, W>
 /// What follows the year of a date, up to the second: `-11-14T22:13:20`.
 fn month_to_second(moment: &Moment) -> [u8; 15]
     ensures { result ≡ codes "-" ++ two_digits moment.now.month ++ codes "-" ++ two_digits moment.now.day ++ codes "T"
-        ++ two_digits moment.now.hour ++ codes ":" ++ two_digits moment.now.minute ++ codes ":" ++ two_digits moment.now.second }
+        ++ two_digits moment.now.hour ++ codes ":" ++ two_digits moment.now.minute ++ codes ":"
+        ++ two_digits moment.now.second }
 {
     let m = two_digits(moment.month);
     let d = two_digits(moment.day);

@@ -47,7 +47,8 @@ pub(crate) fn header_value<'a>(header: &'a FoundHeader<'_>, index: u8) -> Option
 /// The value of a member of a header of cooked capture v1 that is not walked.
 #[inline(never)]
 fn cooked_value<'a>(header: &'a CookedHeader, index: u8) -> Option<Value<'a>>
-    ensures { if_any (option_map value_view result) ≡ value_at (member_values (linux_sll_members (cooked_view header.now))) index }
+    ensures { if_any (option_map value_view result)
+        ≡ value_at (member_values (linux_sll_members (cooked_view header.now))) index }
 {
     member_at(&[], &members::cooked(header), index)
 }
@@ -55,7 +56,8 @@ fn cooked_value<'a>(header: &'a CookedHeader, index: u8) -> Option<Value<'a>>
 /// The value of a member of a header of cooked capture v2.
 #[inline(never)]
 fn linux_sll2_value<'a>(packet: &'a LinuxSll2Slice<'_>, index: u8) -> Option<Value<'a>>
-    ensures { if_any (option_map value_view result) ≡ value_at (member_values (linux_sll2_members (linux_sll2_of packet.now))) index }
+    ensures { if_any (option_map value_view result)
+        ≡ value_at (member_values (linux_sll2_members (linux_sll2_of packet.now))) index }
 {
     member_at(&[], &members::linux_sll2(packet), index)
 }
@@ -86,7 +88,8 @@ pub(crate) fn placed_value<'a>(section: Section, place: Place, index: u8) -> Opt
 /// The value of a member of a header of Linux cooked capture v1.
 #[inline(never)]
 fn linux_sll_value<'a>(slice: &'a LinuxSllSlice<'_>, index: u8) -> Option<Value<'a>>
-    ensures { if_any (option_map value_view result) ≡ value_at (member_values (linux_sll_members (linux_sll_of slice.now))) index }
+    ensures { if_any (option_map value_view result)
+        ≡ value_at (member_values (linux_sll_members (linux_sll_of slice.now))) index }
 {
     member_at(&[], &members::linux_sll(slice), index)
 }
@@ -94,7 +97,8 @@ fn linux_sll_value<'a>(slice: &'a LinuxSllSlice<'_>, index: u8) -> Option<Value<
 /// The value of a member of a SecTag.
 #[inline(never)]
 fn macsec_value<'a>(tag: &MacsecHeaderSlice<'_>, index: u8) -> Option<Value<'a>>
-    ensures { if_any (option_map value_view result) ≡ value_at (member_values (macsec_members (sec_tag_of (tag_bytes tag.now)))) index }
+    ensures { if_any (option_map value_view result)
+        ≡ value_at (member_values (macsec_members (sec_tag_of (tag_bytes tag.now)))) index }
 {
     member_at(&[], &members::macsec(tag), index)
 }
@@ -117,7 +121,8 @@ fn ethernet2_value<'a>(slice: &Ethernet2Slice<'_>, index: u8) -> Option<Value<'a
 /// The value of a member of a VLAN tag.
 #[inline(always)]
 fn vlan_value<'a>(slice: &SingleVlanSlice<'_>, index: u8) -> Option<Value<'a>>
-    ensures { if_any (option_map value_view result) ≡ value_at (member_values (vlan_members (vlan_of slice.now))) index }
+    ensures { if_any (option_map value_view result)
+        ≡ value_at (member_values (vlan_members (vlan_of slice.now))) index }
 {
     match index {
         0 => Some(Value::Number(u64::from(slice.priority_code_point().value()))),
@@ -155,7 +160,8 @@ pub(crate) fn packet_value<'a>(
     index: u8,
 ) -> Option<Value<'a>>
     ensures { (moment : Option DeclaredMoment) → AreMoments (option_map timestamp_view packet.now.time) moment
-        → if_any (option_map value_view result) ≡ value_at (member_values (packet_members number (captured_packet_view packet.now) moment)) index }
+        → if_any (option_map value_view result)
+        ≡ value_at (member_values (packet_members number (captured_packet_view packet.now) moment)) index }
 {
     match index {
         0 => Some(Value::Number(number as u64)),

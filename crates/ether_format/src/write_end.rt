@@ -52,7 +52,8 @@ fn write_json_fault<W: Sink>(
 
 /// Writes the fault of a header of cooked capture v2.
 fn write_json_linux_sll2_fault<W: Sink>(error: &LinuxSll2Error, out: &mut OutputBuffer<'_, W>)
-    ensures { Takes W.contents W.can_fail out.old (end_text Json (Fault 0 false (cause_of_v2 (refusal_view error.now)))) out.new }
+    ensures { Takes W.contents W.can_fail out.old (end_text Json (Fault 0 false (cause_of_v2 (refusal_view error.now))))
+        out.new }
 {
     out.append(b"],\"fault\":");
     write_object(
@@ -116,7 +117,8 @@ pub(crate) fn write_linux_sll2_fault<W: Sink>(
     error: &LinuxSll2Error,
     out: &mut OutputBuffer<'_, W>,
 )
-    ensures { Takes W.contents W.can_fail out.old (end_text part (Fault 0 false (cause_of_v2 (refusal_view error.now)))) out.new }
+    ensures { Takes W.contents W.can_fail out.old (end_text part (Fault 0 false (cause_of_v2 (refusal_view error.now))))
+        out.new }
 {
     match part {
         Part::Json => write_json_linux_sll2_fault(error, out),

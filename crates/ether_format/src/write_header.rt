@@ -56,7 +56,8 @@ pub(crate) fn write_cooked<W: Sink>(
 ) -> bool
     ensures text { Takes W.contents W.can_fail out.old
         (header_text part true (Walked (place_view place) (headers.LinuxSll (cooked_view header.now)) None)) out.new }
-    ensures next { result ≡ next_is_first part true (Walked (place_view place) (headers.LinuxSll (cooked_view header.now)) None) }
+    ensures next { result
+        ≡ next_is_first part true (Walked (place_view place) (headers.LinuxSll (cooked_view header.now)) None) }
 {
     match part {
         Part::Json => {
@@ -149,7 +150,8 @@ fn write_json_linux_sll2<W: Sink>(
     packet: &LinuxSll2Slice<'_>,
     out: &mut OutputBuffer<'_, W>,
 )
-    ensures { Takes W.contents W.can_fail out.old (header_text Json true (CookedV2 (place_view place) (linux_sll2_of packet.now))) out.new }
+    ensures { Takes W.contents W.can_fail out.old
+        (header_text Json true (CookedV2 (place_view place) (linux_sll2_of packet.now))) out.new }
 {
     let first = members::placed("sll2", place);
     write_object(&first, &members::linux_sll2(packet), out);

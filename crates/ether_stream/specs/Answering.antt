@@ -11,11 +11,13 @@ use Rattle.ether_stream.specs.Task.{Lines, packets_before}
 use Rattle.ether_stream.specs.declared.task.LineOptions.{LineOptions}
 
 -- this is the text for the packets in order, after `before` others, and `all` says whether each is accepted
-abbrev pub AreAnswered : (select : Option Selection) → (options : LineOptions) → (before : ℕ) → List PacketValue → (text : List ℕ) → (all : Bool) → Type 0
+abbrev pub AreAnswered : (select : Option Selection) → (options : LineOptions) → (before : ℕ) → List PacketValue
+    → (text : List ℕ) → (all : Bool) → Type 0
 AreAnswered select options before [] text all = (text ≡ []) × (all ≡ true)
 AreAnswered select options before (p ∷ packets) text all =
     (first : List ℕ) × (accepted : Bool) × (rest : List ℕ) × (others_accepted : Bool)
-    × AnswersPacket select options (counted (before + 1)) p first accepted × AreAnswered select options (before + 1) packets rest others_accepted
+    × AnswersPacket select options (counted (before + 1)) p first accepted
+    × AreAnswered select options (before + 1) packets rest others_accepted
     × (text ≡ first ++ rest) × (all ≡ (accepted && others_accepted))
 
 -- the line of the totals
@@ -25,11 +27,13 @@ totals_of options packets undecided =
     (counted (sum_by skip_count packets)) undecided
 
 -- this is the text for the packets of a capture, after those of captures before it
-abbrev pub AreListed : (select : Option Selection) → (options : LineOptions) → List PacketValue → (text : List ℕ) → (all : Bool) → Type 0
+abbrev pub AreListed : (select : Option Selection) → (options : LineOptions) → List PacketValue → (text : List ℕ)
+    → (all : Bool) → Type 0
 AreListed select options packets text all = AreAnswered select options (packets_before (Lines options)) packets text all
 
 -- these are all packets of the bytes, to their end, and this is the text for them and for the totals
-pub record AnswersCapture (select : Option Selection) (options : LineOptions) (packets : List PacketValue) (bytes text : List ℕ)
+pub record AnswersCapture (select : Option Selection) (options : LineOptions) (packets : List PacketValue)
+    (bytes text : List ℕ)
     (all_accepted : Bool) : Type 0 where
   pub lines : List ℕ
   pub has : HasPackets capture_start bytes packets [] None
@@ -39,7 +43,8 @@ pub record AnswersCapture (select : Option Selection) (options : LineOptions) (p
   pub is_text : text ≡ lines ++ totals_of options packets (if_selected select undecided)
 
 -- these are the packets of the bytes up to the fault, which is at this place, and this is the text for them
-pub record AnswersToFault (select : Option Selection) (count : Option ℕ) (options : LineOptions) (packets : List PacketValue)
+pub record AnswersToFault (select : Option Selection) (count : Option ℕ) (options : LineOptions)
+    (packets : List PacketValue)
     (fault : CaptureFault) (bytes text : List ℕ) : Type 0 where
   pub front : List ℕ
   pub rest : List ℕ
@@ -50,9 +55,10 @@ pub record AnswersToFault (select : Option Selection) (count : Option ℕ) (opti
   pub fewer : HasFewer select count front
   pub answered : AreListed select options packets text all_accepted
 
--- These are the packets that come first in the bytes, whatever follows, and this is the text for them; what is left is not a whole unit, and
--- more bytes may make it one: this holds of how many it needs at least.
-pub record AnswersToUnit (Needs : Option ℕ → Type 0) (select : Option Selection) (count : Option ℕ) (options : LineOptions)
+-- These are the packets that come first in the bytes, whatever follows, and this is the text for them; what is left is
+-- not a whole unit, and more bytes may make it one: this holds of how many it needs at least.
+pub record AnswersToUnit (Needs : Option ℕ → Type 0) (select : Option Selection) (count : Option ℕ)
+    (options : LineOptions)
     (packets : List PacketValue) (bytes text : List ℕ) : Type 0 where
   pub front : List ℕ
   pub rest : List ℕ

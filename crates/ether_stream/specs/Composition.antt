@@ -11,8 +11,9 @@ use Rattle.ether_stream.specs.Copying.{IsCopy}
 abbrev pub SelectsTo : Expression → (bytes copy rest : List ℕ) → Option CopyFault → Type 0
 SelectsTo x = IsCopy (Changed 0) (Some (record { filter = x; undecided = None })) None
 
--- Packets that one expression selects from a capture, and another one from the copy, are those that both select; the second copy ends where the
--- first does, and what is left is what the first left. The first copy has a packet at least, or the front of a capture: an empty list is none.
+-- Packets that one expression selects from a capture, and another one from the copy, are those that both select; the
+-- second copy ends where the first does, and what is left is what the first left. The first copy has a packet at least,
+-- or the front of a capture: an empty list is none.
 pub record RunsCompose : Type 0 where
   pub selected : (x y : Expression) (bytes between copy rest left : List ℕ) (fault other : Option CopyFault)
       → IsBytes bytes → IsBytes between → between ≢ []

@@ -33,17 +33,20 @@ pub record IsCopy (mode : ModeValue) (select : Option Selection) (asked : Option
   pub copies : Copies mode (IsChosen select) (EditsIf asked) capture_start bytes copy kept edited rest fault
   pub are_edited : AreEdited mode (EditsIf asked) kept edited
   pub is_read : (fault ≡ None) ⊎ (copy ≢ []) → HasPackets capture_start copy edited [] None
-  pub within : (raise : ℕ) → mode ≡ Changed raise → growth_if asked ≤ raise → All IsWithinSnap kept → All IsWithinSnap edited
+  pub within : (raise : ℕ) → mode ≡ Changed raise → growth_if asked ≤ raise → All IsWithinSnap kept
+      → All IsWithinSnap edited
   pub nothing : copy ≡ [] → rest ≡ bytes
   pub all : mode ≡ Exact → select ≡ None → asked ≡ None → copy ++ rest ≡ bytes
 
 -- this is the copy of the bytes to their end; no packet is refused
-pub record CopiesCapture (mode : ModeValue) (select : Option Selection) (asked : Option EditValue) (bytes copy : List ℕ) (all_accepted : Bool) : Type 0 where
+pub record CopiesCapture (mode : ModeValue) (select : Option Selection) (asked : Option EditValue) (bytes copy : List ℕ)
+    (all_accepted : Bool) : Type 0 where
   pub is_copy : IsCopy mode select asked bytes copy [] None
   pub accepted : all_accepted ≡ true
 
 -- this is the copy of the bytes up to a fault, which is at this place
-pub record CopiesToFault (mode : ModeValue) (select : Option Selection) (count : Option ℕ) (asked : Option EditValue) (reason : CopyFault)
+pub record CopiesToFault (mode : ModeValue) (select : Option Selection) (count : Option ℕ) (asked : Option EditValue)
+    (reason : CopyFault)
     (offset : ℕ) (bytes copy : List ℕ) : Type 0 where
   pub front : List ℕ
   pub rest : List ℕ
@@ -53,21 +56,25 @@ pub record CopiesToFault (mode : ModeValue) (select : Option Selection) (count :
   pub fewer : HasFewer select count front
 
 -- .. up to a packet that is to be edited and can't be
-abbrev pub CopiesToPacket : ModeValue → (select : Option Selection) → (count : Option ℕ) → (asked : Option EditValue) → (offset : ℕ) → (bytes copy : List ℕ) → Type 0
-CopiesToPacket mode select count asked offset bytes copy = (p : PacketValue) × CopiesToFault mode select count asked (NotEdited p) offset bytes copy
+abbrev pub CopiesToPacket : ModeValue → (select : Option Selection) → (count : Option ℕ) → (asked : Option EditValue)
+    → (offset : ℕ) → (bytes copy : List ℕ) → Type 0
+CopiesToPacket mode select count asked offset bytes copy =
+    (p : PacketValue) × CopiesToFault mode select count asked (NotEdited p) offset bytes copy
 
--- A copy of a capture that begins with these bytes, whole units, begins with these, and has these packets first, which are edited to those; then
--- follows the copy of what is left, where this is expected.
+-- A copy of a capture that begins with these bytes, whole units, begins with these, and has these packets first, which
+-- are edited to those; then follows the copy of what is left, where this is expected.
 abbrev pub CopiesOn : ModeValue → (select : Option Selection) → (asked : Option EditValue) → (front copy : List ℕ)
     → (kept edited : List PacketValue) → CaptureExpectation → Type 0
 CopiesOn mode select asked front copy kept edited x =
     (later more : List ℕ) (others changed : List PacketValue) (rest : List ℕ) (fault : Option CopyFault)
     → Copies mode (IsChosen select) (EditsIf asked) x later more others changed rest fault
-    → Copies mode (IsChosen select) (EditsIf asked) capture_start (front ++ later) (copy ++ more) (kept ++ others) (edited ++ changed) rest fault
+    → Copies mode (IsChosen select) (EditsIf asked) capture_start (front ++ later) (copy ++ more) (kept ++ others)
+    (edited ++ changed) rest fault
 
--- This is the copy of what comes first in the bytes, whatever follows, and a capture of its own; what is left is not a whole unit, and more
--- bytes may make it one: this holds of how many it needs at least.
-pub record CopiesToUnit (Needs : Option ℕ → Type 0) (mode : ModeValue) (select : Option Selection) (count : Option ℕ) (asked : Option EditValue)
+-- This is the copy of what comes first in the bytes, whatever follows, and a capture of its own; what is left is not a
+-- whole unit, and more bytes may make it one: this holds of how many it needs at least.
+pub record CopiesToUnit (Needs : Option ℕ → Type 0) (mode : ModeValue) (select : Option Selection) (count : Option ℕ)
+    (asked : Option EditValue)
     (bytes copy : List ℕ) : Type 0 where
   pub kept : List PacketValue
   pub edited : List PacketValue

@@ -35,7 +35,8 @@ IfFileRead (ends.NotOpened fault) P = P
 IfFileRead (ends.Read end) P = IfRead end P
 
 -- what a run has read and written, and how many packets it found
-pub record HasCounted (task : TaskValue) (before after held holds : Option (List ℕ)) (outcome : Result Verdict RunFault) (counts : PacketCounts)
+pub record HasCounted (task : TaskValue) (before after held holds : Option (List ℕ)) (outcome : Result Verdict RunFault)
+    (counts : PacketCounts)
     : Type 0 where
   pub packets : List PacketValue
   pub run : HasRunOver task packets before after held holds outcome

@@ -33,7 +33,8 @@ mark false word = []
 
 unfoldable pub packet_line : ℕ → PacketValue → List ℕ
 packet_line number p =
-    spaced (codes "frame" ∷ decimal number ∷ codes "time" ∷ time_text p.time ∷ codes "link" ∷ decimal p.link_type ∷ codes "captured" ∷ decimal (length p.packet) ∷ codes "original" ∷ decimal p.original_len ∷ [])
+    spaced (codes "frame" ∷ decimal number ∷ codes "time" ∷ time_text p.time ∷ codes "link" ∷ decimal p.link_type
+    ∷ codes "captured" ∷ decimal (length p.packet) ∷ codes "original" ∷ decimal p.original_len ∷ [])
     ++ (mark (is_cut p) (codes " cut") ++ (mark (is_skipped p) (codes " skipped") ++ codes "\n"))
 
 -- 1 for a packet that is skipped
@@ -48,26 +49,30 @@ packet_line_if false number p = packet_line number p
 -- ---- all lines of a packet
 
 -- of cooked capture v1 that is not a frame: the line of the header, and those of the walk of the payload
-pub record AnswersLinuxSll (limit : Option ℕ) (s : LinuxSllValue) (payload text : List ℕ) (accepted : Bool) : Type 0 where
+pub record AnswersLinuxSll (limit : Option ℕ) (s : LinuxSllValue) (payload text : List ℕ)
+    (accepted : Bool) : Type 0 where
   pub lines : List ℕ
   pub walk : AnswersWalkAfter 16 (record { next = EtherType s.protocol; limit = limit }) payload lines accepted
   pub whole : text ≡ (linux_sll_text 0 s ++ codes "\n") ++ lines
 
 -- the lines of the walk, with a limit or without; a packet that is skipped has none
 abbrev pub AnswersContent : (limit : Option ℕ) → ContentValue → (text : List ℕ) → (accepted : Bool) → Type 0
-AnswersContent limit (Frame next bytes) text accepted = AnswersWalk (record { next = next; limit = limit }) bytes text accepted
+AnswersContent limit (Frame next bytes) text accepted =
+    AnswersWalk (record { next = next; limit = limit }) bytes text accepted
 AnswersContent limit (LinuxSll s payload) text accepted = AnswersLinuxSll limit s payload text accepted
 AnswersContent limit (LinuxSll2 bytes) text accepted = AnswersLinuxSll2 limit bytes text accepted
 AnswersContent limit Unknown text accepted = (text ≡ []) × (accepted ≡ true)
 
 -- the lines of a packet of this number, as the walk is told
-pub record HasWalkLines (options : LineOptions) (number : ℕ) (p : PacketValue) (text : List ℕ) (accepted : Bool) : Type 0 where
+pub record HasWalkLines (options : LineOptions) (number : ℕ) (p : PacketValue) (text : List ℕ)
+    (accepted : Bool) : Type 0 where
   pub lines : List ℕ
   pub content : AnswersContent options.limit (content_of p) lines accepted
   pub whole : text ≡ packet_line_if options.is_plain number p ++ lines
 
 -- the text for a packet of this number: these lines, or that of another format
-abbrev pub HasLinesIn : Option Format → (options : LineOptions) → ℕ → PacketValue → (text : List ℕ) → (accepted : Bool) → Type 0
+abbrev pub HasLinesIn : Option Format → (options : LineOptions) → ℕ → PacketValue → (text : List ℕ) → (accepted : Bool)
+    → Type 0
 HasLinesIn None options number p text accepted = HasWalkLines options number p text accepted
 HasLinesIn (Some format) options number p text accepted = HasText format options.limit number p text accepted
 
@@ -75,9 +80,11 @@ abbrev pub HasLines : (options : LineOptions) → ℕ → PacketValue → (text 
 HasLines options = HasLinesIn options.format options
 
 -- .. if it is chosen
-abbrev pub AnswersPacket : (select : Option Selection) → (options : LineOptions) → ℕ → PacketValue → (text : List ℕ) → (accepted : Bool) → Type 0
+abbrev pub AnswersPacket : (select : Option Selection) → (options : LineOptions) → ℕ → PacketValue → (text : List ℕ)
+    → (accepted : Bool) → Type 0
 AnswersPacket select options number p text accepted =
-    (IsChosen select p × HasLines options number p text accepted) ⊎ (¬ (IsChosen select p) × (text ≡ []) × (accepted ≡ true))
+    (IsChosen select p × HasLines options number p text accepted)
+    ⊎ (¬ (IsChosen select p) × (text ≡ []) × (accepted ≡ true))
 
 -- ---- the line of the totals
 
@@ -95,13 +102,16 @@ abbrev pub if_selected : (select : Option Selection) → ℕ → Option ℕ
 if_selected None n = None
 if_selected (Some s) n = Some n
 
--- how many packets there are, how many of them were skipped, and how many are undecided, unless only the lines of walks are asked for
+-- how many packets there are, how many of them were skipped, and how many are undecided, unless only the lines of walks
+-- are asked for
 abbrev pub totals_line_if : (plain : Bool) → (frames skipped : ℕ) → (undecided : Option ℕ) → List ℕ
 totals_line_if true frames skipped undecided = []
 totals_line_if false frames skipped undecided =
-    told (codes "total frames ") frames ++ (told (codes " skipped ") skipped ++ (told_if (codes " undecided ") undecided ++ codes "\n"))
+    told (codes "total frames ") frames
+    ++ (told (codes " skipped ") skipped ++ (told_if (codes " undecided ") undecided ++ codes "\n"))
 
 -- .. and unless the capture is one of several
-abbrev pub totals_line_after : (before : Option ℕ) → (plain : Bool) → (frames skipped : ℕ) → (undecided : Option ℕ) → List ℕ
+abbrev pub totals_line_after : (before : Option ℕ) → (plain : Bool) → (frames skipped : ℕ) → (undecided : Option ℕ)
+    → List ℕ
 totals_line_after None plain frames skipped undecided = totals_line_if plain frames skipped undecided
 totals_line_after (Some packets) plain frames skipped undecided = []

@@ -14,29 +14,38 @@ use Rattle.ether_text.specs.WalkText.{AnswersWalkAfter}
 
 unfoldable pub linux_sll2_text : LinuxSll2Value → List ℕ
 linux_sll2_text s =
-    spaced (codes "linux_sll2" ∷ decimal 0 ∷ codes "packet" ∷ decimal s.packet_type ∷ codes "hw" ∷ decimal s.hardware_type
-    ∷ codes "if" ∷ decimal s.interface_index ∷ codes "alen" ∷ decimal s.address_len ∷ codes "addr" ∷ hex_text (spelled 8 s.address)
+    spaced (codes "linux_sll2" ∷ decimal 0 ∷ codes "packet" ∷ decimal s.packet_type ∷ codes "hw"
+    ∷ decimal s.hardware_type
+    ∷ codes "if" ∷ decimal s.interface_index ∷ codes "alen" ∷ decimal s.address_len ∷ codes "addr"
+    ∷ hex_text (spelled 8 s.address)
     ∷ hex_number s.protocol ∷ [])
 
 unfoldable pub linux_sll2_fault_text : LinuxSll2Refusal → List ℕ
 linux_sll2_fault_text (Short required len) =
-    spaced (codes "fault" ∷ decimal 0 ∷ codes "open" ∷ codes "length" ∷ decimal required ∷ decimal len ∷ codes "slice" ∷ [])
-linux_sll2_fault_text (PacketType n) = spaced (codes "fault" ∷ decimal 0 ∷ codes "open" ∷ codes "content" ∷ codes "sll_packet_type" ∷ decimal n ∷ [])
+    spaced (codes "fault" ∷ decimal 0 ∷ codes "open" ∷ codes "length" ∷ decimal required ∷ decimal len ∷ codes "slice"
+    ∷ [])
+linux_sll2_fault_text (PacketType n) =
+    spaced (codes "fault" ∷ decimal 0 ∷ codes "open" ∷ codes "content" ∷ codes "sll_packet_type" ∷ decimal n ∷ [])
 
--- The lines after the header's, which no limit counts: those of the walk of its payload, which begins with what the ether type announces, or what
--- is left.
-abbrev pub AnswersPayload : (limit : Option ℕ) → (ether_type : Option ℕ) → (bytes text : List ℕ) → (accepted : Bool) → Type 0
+-- The lines after the header's, which no limit counts: those of the walk of its payload, which begins with what the
+-- ether type announces, or what is left.
+abbrev pub AnswersPayload : (limit : Option ℕ) → (ether_type : Option ℕ) → (bytes text : List ℕ) → (accepted : Bool)
+    → Type 0
 AnswersPayload limit (Some n) bytes text accepted =
-    AnswersWalkAfter 20 (record { next = EtherType n; limit = limit }) (slice_range bytes 20 (length bytes)) text accepted
+    AnswersWalkAfter 20 (record { next = EtherType n; limit = limit }) (slice_range bytes 20 (length bytes)) text
+    accepted
 AnswersPayload limit None bytes text accepted =
-    (text ≡ spaced (codes "rest" ∷ decimal 20 ∷ decimal (length bytes) ∷ protocol_text (protocol_of_header bytes) ∷ []) ++ codes "\n")
+    (text ≡ spaced (codes "rest" ∷ decimal 20 ∷ decimal (length bytes) ∷ protocol_text (protocol_of_header bytes) ∷ [])
+    ++ codes "\n")
     × (accepted ≡ true)
 
 -- the text for a packet
 pub data AnswersLinuxSll2 (limit : Option ℕ) (bytes : List ℕ) : (text : List ℕ) → (accepted : Bool) → Type 0 where
-  read : (lines : List ℕ) (accepted : Bool) → AcceptsLinuxSll2 bytes → AnswersPayload limit (told_ether_type (protocol_of_header bytes)) bytes lines accepted
+  read : (lines : List ℕ) (accepted : Bool) → AcceptsLinuxSll2 bytes
+      → AnswersPayload limit (told_ether_type (protocol_of_header bytes)) bytes lines accepted
       → AnswersLinuxSll2 limit bytes ((linux_sll2_text (linux_sll2_of bytes) ++ codes "\n") ++ lines) accepted
-  refused : (r : LinuxSll2Refusal) → RefusesLinuxSll2 bytes r → AnswersLinuxSll2 limit bytes (linux_sll2_fault_text r ++ codes "\n") false
+  refused : (r : LinuxSll2Refusal) → RefusesLinuxSll2 bytes r
+      → AnswersLinuxSll2 limit bytes (linux_sll2_fault_text r ++ codes "\n") false
 
 -- ---- how it is written
 

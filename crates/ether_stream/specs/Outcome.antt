@@ -49,7 +49,8 @@ memory_text = codes "out of memory"
 abbrev pub no_memory_text : List ℕ
 no_memory_text = codes "ether_capture: out of memory"
 
--- what reads a file with these first four bytes: gzip (RFC 1952), zstd (RFC 8878), xz, bzip2, lz4, and the variant of pcap with longer records
+-- what reads a file with these first four bytes: gzip (RFC 1952), zstd (RFC 8878), xz, bzip2, lz4, and the variant of
+-- pcap with longer records
 abbrev pub magic_hint_text : ℕ → List ℕ
 magic_hint_text n =
     if nat_eq (n / 2 ^ 16) 8075 then codes " This looks like gzip: zcat unpacks it."
@@ -66,11 +67,15 @@ hint_text (errors.File (file_errors.Version major minor)) = codes " editcap conv
 hint_text _ = []
 
 abbrev pub fault_line_text : CaptureFault → List ℕ
-fault_line_text fault = codes "byte " ++ (decimal fault.offset ++ (codes ": " ++ (capture_error_text fault.error ++ hint_text fault.error)))
+fault_line_text fault =
+    codes "byte " ++ (decimal fault.offset ++ (codes ": " ++ (capture_error_text fault.error ++ hint_text fault.error)))
 
 abbrev pub not_edited_text : (offset : ℕ) → List ℕ
 not_edited_text offset =
-    codes "byte " ++ (decimal offset ++ (codes ": " ++ codes "This packet can't be written: its block has no number of captured bytes, or it would be too long."))
+    codes "byte "
+    ++ (decimal offset
+    ++ (codes ": "
+    ++ codes "This packet can't be written: its block has no number of captured bytes, or it would be too long."))
 
 abbrev pub help_text : List ℕ
 help_text = codes "usage: ether_capture [[--plain | --format lines|brief|json | --fields COLUMNS [--header] | --stats [--fields COLUMNS] [--format json]] [--limit N] | --write [-w COPY] [--cut-to-headers | --pop-vlan | --push-vlan TPID:ID | --set-vlan A:B]] [--select EXPR [--undecided keep|drop]] [-c N] [--progress] [-r FILE | FILE..]\n\nPrints the link-layer headers of each packet of captures, pcap or pcapng: of each FILE, or of standard input, which a FILE of - also names. What can't be read or written is said on standard error.\n\n  -r FILE           read FILE, as if it was named alone\n  --progress        show on standard error how many bytes are read, and how fast\n\nWhich packets:\n  --select EXPR     only packets that match EXPR, as 'vlan 5 or arp'\n  --undecided keep|drop\n                    with --select, keep or drop packets that were cut too short to tell, in place of taking them as they are\n  -c N              end with the N-th of these packets, of all files together\n\nLines:\n  --plain           leave out the lines of packets and the totals\n  --limit N         read N VLAN tags and SecTags of each packet at most\n  --format lines|brief|json\n                    print lines as ever; or each packet on a line of its own, for the eye or as an object of JSON, without totals\n  --fields COLUMNS  print the values of COLUMNS, as frame.number,vlan.vid,eth.src, with tabs; more than one value with commas\n  --header          with --fields, print a line of the names first\n  --stats           count packets and bytes by the values of COLUMNS, or without --fields of headers, VLANs, types, faults and ARP senders\n\nCopies:\n  --write           write the capture itself to standard output, of one FILE at most, without the other packets\n  -w COPY           write it to the file COPY, which changes only once all is written; without --write, too\n  --cut-to-headers  with --write, cut each packet where its link-layer headers end\n  --pop-vlan        with --write, take the VLAN tag after the link's header off each frame\n  --push-vlan TPID:ID\n                    with --write, put a VLAN tag after the link's header, as 0x8100:5\n  --set-vlan A:B    with --write, give the outermost VLAN tag with identifier A identifier B\n\n  -h, --help        print this text\n  -V, --version     print the version\n\nEXPR has these primitives, with not, and, or and parentheses:\n\n  vlan [ID], outer vlan ID, inner vlan ID, macsec, arp, ip, ip6\n  ether proto TYPE, ether src ADDR, ether dst ADDR, ether host ADDR\n  ether broadcast, ether multicast, less N, greater N, cut, refused\n\nEach says something of all headers of a packet: unlike in pcap-filter(7), arp is true after any tags, too.\n\nA column is a member of the objects that --format json prints: of the packet (frame), of its headers (eth, vlan, macsec, arp, sll, sll2, or headers for the place of each), or of its end (rest, fault). ether-capture(1) lists them.\n\nExamples:\n\n  ether_capture --select 'vlan 5 or arp' f.pcap\n  ether_capture --fields frame.time,vlan.vid,eth.src --header f.pcap\n  tcpdump -U --immediate-mode -w - | ether_capture\n  ether_capture -r f.pcap -w tagged.pcap --push-vlan 0x8100:5"
@@ -179,7 +184,8 @@ status_of_outcome outcomes.NoMemory = exit_status (Err Memory)
 
 -- that of the program, by whether its last line was printed: if not, output failed, unless the line is a message
 abbrev pub status_of_program : Outcome → (printed : Bool) → ℕ
-status_of_program outcome printed = if printed || is_message outcome then status_of_outcome outcome else exit_status (Err Output)
+status_of_program outcome printed =
+    if printed || is_message outcome then status_of_outcome outcome else exit_status (Err Output)
 
 abbrev pub last_line_text : LastLine → List ℕ
 last_line_text (last_lines.Stopped name reason) = named_text name.now (reason_text reason)

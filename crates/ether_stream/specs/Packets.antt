@@ -13,7 +13,8 @@ counted n = min n (2 ^ 64 - 1)
 abbrev pub capture_start : CaptureExpectation
 capture_start = Beginning 65536
 
--- A capture that begins with these bytes, whole units, has these packets first, and then those that follow where this is expected.
+-- A capture that begins with these bytes, whole units, has these packets first, and then those that follow where this
+-- is expected.
 abbrev pub GoesOn : (front : List ℕ) → List PacketValue → CaptureExpectation → Type 0
 GoesOn front packets x =
     (later : List ℕ) (others : List PacketValue) (rest : List ℕ) (fault : Option CaptureRefusal)

@@ -28,14 +28,16 @@ use Rattle.ether_stream.specs.declared.task.LineOptions.{LineOptions}
 -- ---- what is made of the front of a capture
 
 -- this is the text for its packets, or its copy, after which this is expected
-abbrev pub Made : (select : Option Selection) → FormValue → (packets kept : List PacketValue) → (front text : List ℕ) → (all : Bool)
+abbrev pub Made : (select : Option Selection) → FormValue → (packets kept : List PacketValue) → (front text : List ℕ)
+    → (all : Bool)
     → CaptureExpectation → Type 0
 Made select (Lines options) packets kept front text all x = AreListed select options packets text all
 Made select (Copy mode edit) packets kept front text all x =
     (edited : List PacketValue) × CopiesOn mode select edit front text kept edited x × (all ≡ true)
 
 -- The units of the input that precede the buffered bytes are taken.
-pub record Reached {W X : Type 0} (task : TaskValue) (contents : W → Option (List ℕ)) (held : Option (List ℕ)) (input buffered : List ℕ)
+pub record Reached {W X : Type 0} (task : TaskValue) (contents : W → Option (List ℕ)) (held : Option (List ℕ))
+    (input buffered : List ℕ)
     (at : Progress X) (out : OutputBuffer W) : Type 0 where
   pub packets : List PacketValue
   pub kept : List PacketValue
@@ -78,7 +80,8 @@ IsUnitOf x unit None = (before : CaptureExpectation) × Begins unit before (leng
 IsUnitOf x unit (Some p) = Begins unit x (length unit) (Some p) x
 
 -- the lines of a packet of this number, if there is a packet
-abbrev pub Answers : (select : Option Selection) → (options : LineOptions) → (number : ℕ) → Option PacketValue → (accepted : Bool) → Option (List ℕ)
+abbrev pub Answers : (select : Option Selection) → (options : LineOptions) → (number : ℕ) → Option PacketValue
+    → (accepted : Bool) → Option (List ℕ)
     → Type 0
 Answers select options number None accepted text = (text ≡ Some []) × (accepted ≡ true)
 Answers select options number (Some p) accepted text =
@@ -86,18 +89,22 @@ Answers select options number (Some p) accepted text =
 
 -- The copy of a unit, by its packet if it has one: empty if that is not chosen, `None` if it is to be edited and
 -- can't be.
-pub data Writes (mode : ModeValue) (select : Option Selection) (edit : Option EditValue) (x : CaptureExpectation) (unit : List ℕ)
+pub data Writes (mode : ModeValue) (select : Option Selection) (edit : Option EditValue) (x : CaptureExpectation)
+    (unit : List ℕ)
     : Option PacketValue → Option (List ℕ) → Type 0 where
   writes_unit : Writes mode select edit x unit None (Some (other_unit mode x unit))
   writes_nothing : (p : PacketValue) → ¬ (IsChosen select p) → Writes mode select edit x unit (Some p) (Some [])
-  writes_packet : (p : PacketValue) (o : Option EditedValue) (text : Option (List ℕ)) → IsChosen select p → EditsIf edit p o
+  writes_packet : (p : PacketValue) (o : Option EditedValue) (text : Option (List ℕ)) → IsChosen select p
+      → EditsIf edit p o
       → unit_after mode x p o unit ≡ text → Writes mode select edit x unit (Some p) text
 
 -- the text that is made of a unit, or none
-abbrev pub Makes : (select : Option Selection) → FormValue → CaptureExpectation → (number : ℕ) → (unit : List ℕ) → Option PacketValue
+abbrev pub Makes : (select : Option Selection) → FormValue → CaptureExpectation → (number : ℕ) → (unit : List ℕ)
+    → Option PacketValue
     → (accepted : Bool) → Option (List ℕ) → Type 0
 Makes select (Lines options) x number unit packet accepted text = Answers select options number packet accepted text
-Makes select (Copy mode edit) x number unit packet accepted text = Writes mode select edit x unit packet text × (accepted ≡ true)
+Makes select (Copy mode edit) x number unit packet accepted text =
+    Writes mode select edit x unit packet text × (accepted ≡ true)
 
 -- what is written for a unit that is not a packet
 abbrev pub other_text : FormValue → CaptureExpectation → (unit : List ℕ) → List ℕ
@@ -127,7 +134,8 @@ Counts select (Some p) old new =
     × CountsOpen select p old.undecided new.undecided × LeavesLess select p old.left new.left
 
 -- a unit is taken, and this is written for it
-pub record TakesUnit {W X : Type 0} (task : TaskValue) (contents : W → Option (List ℕ)) (unit : List ℕ) (packet : Option PacketValue)
+pub record TakesUnit {W X : Type 0} (task : TaskValue) (contents : W → Option (List ℕ)) (unit : List ℕ)
+    (packet : Option PacketValue)
     (old : Progress X) (from : OutputBuffer W) (new : Progress X) (to : OutputBuffer W) : Type 0 where
   pub text : List ℕ
   pub accepted : Bool
@@ -139,7 +147,8 @@ pub record TakesUnit {W X : Type 0} (task : TaskValue) (contents : W → Option 
   pub same_reader : new.reader ≡ old.reader
 
 -- .. or its packet can't be edited, and nothing is written
-pub record StopsUnwritten {W X : Type 0} (task : TaskValue) (unit : List ℕ) (packet : Option PacketValue) (old : Progress X) (from : OutputBuffer W)
+pub record StopsUnwritten {W X : Type 0} (task : TaskValue) (unit : List ℕ) (packet : Option PacketValue)
+    (old : Progress X) (from : OutputBuffer W)
     (offset : ℕ) (to : OutputBuffer W) : Type 0 where
   pub accepted : Bool
   pub not_made : Makes task.select task.form old.reader (counted (old.count + 1)) unit packet accepted None
@@ -147,15 +156,18 @@ pub record StopsUnwritten {W X : Type 0} (task : TaskValue) (unit : List ℕ) (p
   pub same_out : to ≡ from
 
 -- this is appended for a unit
-pub record MakesText {W : Type 0} (select : Option Selection) (form : FormValue) (x : CaptureExpectation) (number : ℕ) (unit : List ℕ)
-    (packet : Option PacketValue) (contents : W → Option (List ℕ)) (can_fail : Type 0) (from : OutputBuffer W) (accepted : Bool)
+pub record MakesText {W : Type 0} (select : Option Selection) (form : FormValue) (x : CaptureExpectation) (number : ℕ)
+    (unit : List ℕ)
+    (packet : Option PacketValue) (contents : W → Option (List ℕ)) (can_fail : Type 0) (from : OutputBuffer W)
+    (accepted : Bool)
     (to : OutputBuffer W) : Type 0 where
   pub text : List ℕ
   pub makes : Makes select form x number unit packet accepted (Some text)
   pub taken : Takes contents can_fail from text to
 
 -- the unit of a packet is appended, edited if there is an edit
-pub record WritesPacket {W : Type 0} (mode : ModeValue) (edit : Option EditValue) (x : CaptureExpectation) (unit : List ℕ) (p : PacketValue)
+pub record WritesPacket {W : Type 0} (mode : ModeValue) (edit : Option EditValue) (x : CaptureExpectation)
+    (unit : List ℕ) (p : PacketValue)
     (contents : W → Option (List ℕ)) (can_fail : Type 0) (from to : OutputBuffer W) : Type 0 where
   pub edited : Option EditedValue
   pub edits : EditsIf edit p edited
@@ -164,11 +176,13 @@ pub record WritesPacket {W : Type 0} (mode : ModeValue) (edit : Option EditValue
   pub taken : Takes contents can_fail from copy to
 
 -- .. or can't be edited
-abbrev pub IsUneditable : ModeValue → (edit : Option EditValue) → CaptureExpectation → (unit : List ℕ) → PacketValue → Type 0
+abbrev pub IsUneditable : ModeValue → (edit : Option EditValue) → CaptureExpectation → (unit : List ℕ) → PacketValue
+    → Type 0
 IsUneditable mode edit x unit p = (o : Option EditedValue) × EditsIf edit p o × (unit_after mode x p o unit ≡ None)
 
 -- the unit of a packet is appended as edited
-abbrev pub AppendsEdited : {W : Type 0} → CaptureExpectation → (unit : List ℕ) → EditedValue → (contents : W → Option (List ℕ)) → (can_fail : Type 0)
+abbrev pub AppendsEdited : {W : Type 0} → CaptureExpectation → (unit : List ℕ) → EditedValue
+    → (contents : W → Option (List ℕ)) → (can_fail : Type 0)
     → (from to : OutputBuffer W) → Type 0
 AppendsEdited x unit e contents can_fail from to =
     (p : PacketValue) → Begins unit x (length unit) (Some p) x
@@ -176,7 +190,8 @@ AppendsEdited x unit e contents can_fail from to =
 
 -- .. or can't be
 abbrev pub AppendsNone : CaptureExpectation → (unit : List ℕ) → EditedValue → Type 0
-AppendsNone x unit e = (p : PacketValue) → Begins unit x (length unit) (Some p) x → edited_unit x (length p.packet) e unit ≡ None
+AppendsNone x unit e =
+    (p : PacketValue) → Begins unit x (length unit) (Some p) x → edited_unit x (length p.packet) e unit ≡ None
 
 -- ---- the units that are buffered
 
@@ -197,7 +212,8 @@ IsTakingFault faults.Output = ⊤
 IsTakingFault _ = ⊥
 
 -- The units of the input before a packet at this offset are taken; the packet is to be edited, and can't be.
-pub record Unedited {W : Type 0} (mode : ModeValue) (select : Option Selection) (count : Option ℕ) (edit : Option EditValue) (contents : W → Option (List ℕ))
+pub record Unedited {W : Type 0} (mode : ModeValue) (select : Option Selection) (count : Option ℕ)
+    (edit : Option EditValue) (contents : W → Option (List ℕ))
     (held : Option (List ℕ)) (input : List ℕ) (offset : ℕ) (out : OutputBuffer W) : Type 0 where
   pub front : List ℕ
   pub copy : List ℕ
@@ -219,13 +235,16 @@ pub record Unedited {W : Type 0} (mode : ModeValue) (select : Option Selection) 
   pub written : Appends held (contents_of contents out) copy
 
 -- .. if a copy is made
-abbrev pub UneditedIn : {W : Type 0} → (select : Option Selection) → (count : Option ℕ) → FormValue → (contents : W → Option (List ℕ)) → (held : Option (List ℕ))
+abbrev pub UneditedIn : {W : Type 0} → (select : Option Selection) → (count : Option ℕ) → FormValue
+    → (contents : W → Option (List ℕ)) → (held : Option (List ℕ))
     → (input : List ℕ) → (offset : ℕ) → (out : OutputBuffer W) → Type 0
 UneditedIn select count (Lines options) contents held input offset out = ⊥
-UneditedIn select count (Copy mode edit) contents held input offset out = Unedited mode select count edit contents held input offset out
+UneditedIn select count (Copy mode edit) contents held input offset out =
+    Unedited mode select count edit contents held input offset out
 
 -- .. after these bytes were buffered
-abbrev pub StopsAfter : {W X : Type 0} → (task : TaskValue) → (contents : W → Option (List ℕ)) → (buffered : List ℕ) → (old : Progress X)
+abbrev pub StopsAfter : {W X : Type 0} → (task : TaskValue) → (contents : W → Option (List ℕ)) → (buffered : List ℕ)
+    → (old : Progress X)
     → (from : OutputBuffer W) → (offset : ℕ) → (to : OutputBuffer W) → Type 0
 StopsAfter task contents buffered old from offset to =
     (held : Option (List ℕ)) (input : List ℕ) → Reached task contents held input buffered old from
@@ -233,8 +252,10 @@ StopsAfter task contents buffered old from offset to =
 
 -- The units at the front of the buffered bytes are taken, and what is left is refused; or the requested number of
 -- packets is reached.
-pub record TakesUnits {W X : Type 0} (task : TaskValue) (contents : W → Option (List ℕ)) (buffered : List ℕ) (old : Progress X)
-    (from : OutputBuffer W) (left : List ℕ) (error : Option CaptureError) (new : Progress X) (to : OutputBuffer W) : Type 0 where
+pub record TakesUnits {W X : Type 0} (task : TaskValue) (contents : W → Option (List ℕ)) (buffered : List ℕ)
+    (old : Progress X)
+    (from : OutputBuffer W) (left : List ℕ) (error : Option CaptureError) (new : Progress X)
+    (to : OutputBuffer W) : Type 0 where
   pub reached : (held : Option (List ℕ)) (input : List ℕ) → Reached task contents held input buffered old from
       → Reached task contents held input left new to
   pub refused : IfSome error (λ e. RefusesCapture left new.reader (capture_refusal_view e) × (new.left ≢ Some 0))
@@ -244,5 +265,6 @@ pub record TakesUnits {W X : Type 0} (task : TaskValue) (contents : W → Option
 
 -- what is written after all units
 abbrev pub last_lines : FormValue → (count skipped : ℕ) → (undecided : Option ℕ) → List ℕ
-last_lines (Lines options) count skipped undecided = totals_line_after options.before options.is_plain count skipped undecided
+last_lines (Lines options) count skipped undecided =
+    totals_line_after options.before options.is_plain count skipped undecided
 last_lines (Copy mode edit) count skipped undecided = []

@@ -18,7 +18,8 @@ use Rattle.ether_stream.specs.declared.outcome.RunFault.{RunFault}
 use Rattle.ether_stream.specs.declared.outcome.RunFault.TheVariants.{Capture, NotEdited, Input, Output, Memory}
 
 -- this is made of a whole capture with these packets, and all says that each is accepted
-abbrev pub Completes : (select : Option Selection) → FormValue → List PacketValue → (bytes text : List ℕ) → (all : Bool) → Type 0
+abbrev pub Completes : (select : Option Selection) → FormValue → List PacketValue → (bytes text : List ℕ) → (all : Bool)
+    → Type 0
 Completes select (Lines options) packets bytes text all = AnswersCapture select options packets bytes text all
 Completes select (Copy mode edit) packets bytes text all = CopiesCapture mode select edit bytes text all
 
@@ -29,7 +30,8 @@ CompletesAll task packets bytes text all =
 
 -- This is made of the units of a capture up to the packet with which the requested number is reached, as if the
 -- capture ended there.
-pub record ReachesCount (task : TaskValue) (packets : List PacketValue) (verdict : Verdict) (bytes text : List ℕ) : Type 0 where
+pub record ReachesCount (task : TaskValue) (packets : List PacketValue) (verdict : Verdict)
+    (bytes text : List ℕ) : Type 0 where
   pub front : List ℕ
   pub rest : List ℕ
   pub all_accepted : Bool
@@ -39,21 +41,26 @@ pub record ReachesCount (task : TaskValue) (packets : List PacketValue) (verdict
   pub is_verdict : verdict ≡ verdict_of all_accepted
 
 -- this is made of a capture up to a fault
-abbrev pub StopsAtFault : (select : Option Selection) → (count : Option ℕ) → FormValue → List PacketValue → CaptureFault → (bytes text : List ℕ)
+abbrev pub StopsAtFault : (select : Option Selection) → (count : Option ℕ) → FormValue → List PacketValue → CaptureFault
+    → (bytes text : List ℕ)
     → Type 0
-StopsAtFault select count (Lines options) packets fault bytes text = AnswersToFault select count options packets fault bytes text
+StopsAtFault select count (Lines options) packets fault bytes text =
+    AnswersToFault select count options packets fault bytes text
 StopsAtFault select count (Copy mode edit) packets fault bytes text =
     CopiesToFault mode select count edit (Refused (capture_refusal_view fault.error)) fault.offset bytes text
 
 -- .. up to a packet at this place that is to be edited, and can't be
-abbrev pub StopsAtPacket : (select : Option Selection) → (count : Option ℕ) → FormValue → (offset : ℕ) → (bytes text : List ℕ) → Type 0
+abbrev pub StopsAtPacket : (select : Option Selection) → (count : Option ℕ) → FormValue → (offset : ℕ)
+    → (bytes text : List ℕ) → Type 0
 StopsAtPacket select count (Lines options) offset bytes text = ⊥
 StopsAtPacket select count (Copy mode edit) offset bytes text = CopiesToPacket mode select count edit offset bytes text
 
 -- .. up to bytes that are not a whole unit; this holds of how many it needs at least
-abbrev pub EndsInUnit : (Needs : Option ℕ → Type 0) → (select : Option Selection) → (count : Option ℕ) → FormValue → List PacketValue
+abbrev pub EndsInUnit : (Needs : Option ℕ → Type 0) → (select : Option Selection) → (count : Option ℕ) → FormValue
+    → List PacketValue
     → (bytes text : List ℕ) → Type 0
-EndsInUnit Needs select count (Lines options) packets bytes text = AnswersToUnit Needs select count options packets bytes text
+EndsInUnit Needs select count (Lines options) packets bytes text =
+    AnswersToUnit Needs select count options packets bytes text
 EndsInUnit Needs select count (Copy mode edit) packets bytes text = CopiesToUnit Needs mode select count edit bytes text
 
 -- this many bytes are needed, and more than there was memory for at first
@@ -63,9 +70,11 @@ NeedsMemory (Some n) = 65536 < n
 
 -- What a run that found these packets has read and written, by its outcome. After a fault of the writer nothing is
 -- claimed.
-abbrev pub HasRunOver : (task : TaskValue) → List PacketValue → (before after held holds : Option (List ℕ)) → Result Verdict RunFault → Type 0
+abbrev pub HasRunOver : (task : TaskValue) → List PacketValue → (before after held holds : Option (List ℕ))
+    → Result Verdict RunFault → Type 0
 HasRunOver task packets before after held holds (Ok verdict) =
-    AnswersAll (CompletesAll task packets) before after held holds verdict ⊎ StopsIn (ReachesCount task packets verdict) before after held holds
+    AnswersAll (CompletesAll task packets) before after held holds verdict
+    ⊎ StopsIn (ReachesCount task packets verdict) before after held holds
 HasRunOver task packets before after held holds (Err (Capture fault)) =
     StopsIn (StopsAtFault task.select task.count task.form packets fault) before after held holds
 HasRunOver task packets before after held holds (Err (NotEdited offset)) =
@@ -78,18 +87,21 @@ HasRunOver task packets before after held holds (Err Memory) =
 
 -- .. of any packets
 abbrev pub HasRun : (task : TaskValue) → (before after held holds : Option (List ℕ)) → Result Verdict RunFault → Type 0
-HasRun task before after held holds outcome = (packets : List PacketValue) × HasRunOver task packets before after held holds outcome
+HasRun task before after held holds outcome =
+    (packets : List PacketValue) × HasRunOver task packets before after held holds outcome
 
 -- memory was refused before anything was read
 abbrev pub HasNoMemory : (before after held holds : Option (List ℕ)) → Result Verdict RunFault → Type 0
 HasNoMemory before after held holds outcome = (outcome ≡ Err Memory) × (after ≡ before) × (holds ≡ held)
 
--- What a run over a slice of these bytes that found these packets has written, by its outcome. There is no fault of the reader, and one of the writer
--- only if that can fail.
-abbrev pub AnswersSliceOver : (task : TaskValue) → List PacketValue → (can_fail : Type 0) → (bytes : List ℕ) → (held holds : Option (List ℕ))
+-- What a run over a slice of these bytes that found these packets has written, by its outcome. There is no fault of the
+-- reader, and one of the writer only if that can fail.
+abbrev pub AnswersSliceOver : (task : TaskValue) → List PacketValue → (can_fail : Type 0) → (bytes : List ℕ)
+    → (held holds : Option (List ℕ))
     → Result Verdict RunFault → Type 0
 AnswersSliceOver task packets can_fail bytes held holds (Ok verdict) =
-    ((text : List ℕ) × (all : Bool) × CompletesAll task packets bytes text all × (verdict ≡ verdict_of all) × Appends held holds text)
+    ((text : List ℕ) × (all : Bool) × CompletesAll task packets bytes text all × (verdict ≡ verdict_of all)
+    × Appends held holds text)
     ⊎ ((text : List ℕ) × ReachesCount task packets verdict bytes text × Appends held holds text)
 AnswersSliceOver task packets can_fail bytes held holds (Err (Capture fault)) =
     (text : List ℕ) × StopsAtFault task.select task.count task.form packets fault bytes text × Appends held holds text
@@ -104,7 +116,8 @@ AnswersSliceOver task packets can_fail bytes held holds (Err Memory) =
 -- .. of any packets
 abbrev pub AnswersSlice : (task : TaskValue) → (can_fail : Type 0) → (bytes : List ℕ) → (held holds : Option (List ℕ))
     → Result Verdict RunFault → Type 0
-AnswersSlice task can_fail bytes held holds outcome = (packets : List PacketValue) × AnswersSliceOver task packets can_fail bytes held holds outcome
+AnswersSlice task can_fail bytes held holds outcome =
+    (packets : List PacketValue) × AnswersSliceOver task packets can_fail bytes held holds outcome
 
 -- ---- what is said of each outcome
 

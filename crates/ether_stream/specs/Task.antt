@@ -31,7 +31,8 @@ form_view (forms.Lines options) = Lines options
 form_view (forms.Copy mode edit) = Copy (copy_mode_view mode) (option_map edit_view edit)
 
 abbrev pub task_view : Task → TaskValue
-task_view task = record { select = task.selection; count = option_map non_zero_usize_get task.count; form = form_view task.form }
+task_view task =
+    record { select = task.selection; count = option_map non_zero_usize_get task.count; form = form_view task.form }
 
 -- how many packets were in captures before this one
 abbrev pub packets_before : FormValue → ℕ
@@ -47,7 +48,8 @@ abbrev pub IsOpen : (select : Option Selection) → PacketValue → Type 0
 IsOpen None p = ⊥
 IsOpen (Some s) p = IsUndecided s.filter p
 
--- these are chosen of those that an expression selects: all, by the captured bytes; those that are undecided, too; or without these
+-- these are chosen of those that an expression selects: all, by the captured bytes; those that are undecided, too; or
+-- without these
 abbrev pub IsChosenOf : (undecided : Option Undecided) → (is_selected is_undecided : Type 0) → Type 0
 IsChosenOf None is_selected is_undecided = is_selected
 IsChosenOf (Some Kept) is_selected is_undecided = is_selected ⊎ is_undecided

@@ -46,7 +46,8 @@ usage_text (usages.Surplus name) = name.now ++ codes ": this is one FILE too man
 usage_text usages.InputTwice = codes "-: standard input can be read only once"
 usage_text usages.Edits = codes "--cut-to-headers, --pop-vlan, --push-vlan and --set-vlan do not go together"
 usage_text (usages.NoColumn name) = codes "--fields: there is no column '" ++ (name.now ++ codes "'")
-usage_text (usages.Value option text) = option_text option ++ (codes " '" ++ (text.now ++ (codes "': expected " ++ expected_text option)))
+usage_text (usages.Value option text) =
+    option_text option ++ (codes " '" ++ (text.now ++ (codes "': expected " ++ expected_text option)))
 
 -- the value of this option, which is there, is wrong
 abbrev pub IsWrongValue : ValueOption → Option (List ℕ) → Usage → Type 0

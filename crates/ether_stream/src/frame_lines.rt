@@ -27,7 +27,8 @@ pub fn write_lines<W: Sink>(
     packet: &CapturedPacket<'_>,
     out: &mut OutputBuffer<'_, W>,
 ) -> bool
-    ensures { TakesAnswer W.contents W.can_fail (HasLines options.now (counted (count.now + 1)) (captured_packet_view packet.now))
+    ensures { TakesAnswer W.contents W.can_fail
+        (HasLines options.now (counted (count.now + 1)) (captured_packet_view packet.now))
         out.old out.new result }
 {
     match &options.format {
@@ -50,7 +51,8 @@ fn write_walk_lines<W: Sink>(
     packet: &CapturedPacket<'_>,
     out: &mut OutputBuffer<'_, W>,
 ) -> bool
-    ensures { TakesAnswer W.contents W.can_fail (HasWalkLines options.now (counted (count.now + 1)) (captured_packet_view packet.now))
+    ensures { TakesAnswer W.contents W.can_fail
+        (HasWalkLines options.now (counted (count.now + 1)) (captured_packet_view packet.now))
         out.old out.new result }
 {
     let content = Content::of(packet);
@@ -82,7 +84,8 @@ pub fn write_totals_of<W: Sink>(
     undecided: Option<usize>,
     out: &mut OutputBuffer<'_, W>,
 )
-    ensures { Takes W.contents W.can_fail out.old (totals_line_after options.now.before options.now.is_plain frames skipped undecided) out.new }
+    ensures { Takes W.contents W.can_fail out.old
+        (totals_line_after options.now.before options.now.is_plain frames skipped undecided) out.new }
 {
     match options.before {
         None => write_totals(options.is_plain, frames, skipped, undecided, out),
@@ -144,7 +147,8 @@ fn write_packet_line<W: Sink>(
     out: &mut OutputBuffer<'_, W>,
 )
     requires { content_view content ≡ content_of (captured_packet_view packet.now) }
-    ensures { Takes W.contents W.can_fail out.old (packet_line_if is_plain (counted (count.now + 1)) (captured_packet_view packet.now)) out.new }
+    ensures { Takes W.contents W.can_fail out.old
+        (packet_line_if is_plain (counted (count.now + 1)) (captured_packet_view packet.now)) out.new }
 {
     if is_plain {
         return;

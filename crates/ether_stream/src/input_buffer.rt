@@ -66,7 +66,8 @@ impl<B: Grow> InputBuffer<B> {
         out: &mut OutputBuffer<'_, W>,
     ) -> Result<Option<CaptureError>, RunFault>
         ensures same_writer { out.new.writer.ghost_name ≡ out.old.writer.ghost_name }
-        ensures ok { IfOk result (λ error. TakesUnits (task_view task.now) W.contents (items self.old) progress.old out.old
+        ensures ok { IfOk result
+            (λ error. TakesUnits (task_view task.now) W.contents (items self.old) progress.old out.old
             (items self.new) error progress.new out.new) }
         ensures stopped { IfErr result (λ fault. OnNotEdited fault (λ offset.
             StopsAfter (task_view task.now) W.contents (items self.old) progress.old out.old offset out.new)) }
@@ -108,7 +109,8 @@ impl<B: Grow> InputBuffer<B> {
         self.end = end - start;
     }
 
-    /// Reads some bytes after those that are there, and returns their number: 0 at the end of the input, and if there is no room.
+    /// Reads some bytes after those that are there, and returns their number: 0 at the end of the input, and if there
+    /// is no room.
     ///
     /// No text may wait in `out`.
     pub(crate) fn read<R: Source, W: Sink>(

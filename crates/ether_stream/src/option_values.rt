@@ -29,10 +29,12 @@ pub fn edit_of_words<'a>(
     push: Option<&'a str>,
     set: Option<&'a str>,
 ) -> Result<Option<PacketEdit>, Usage<'a>>
-    ensures ok { IfOk result (λ it. IsOneEdit cuts pops (option_map (λ s. s.now) push.entry) (option_map (λ s. s.now) set.entry) (option_map edit_view it)) }
+    ensures ok { IfOk result (λ it. IsOneEdit cuts pops (option_map (λ s. s.now) push.entry)
+        (option_map (λ s. s.now) set.entry) (option_map edit_view it)) }
     ensures err { OnErr result ((e : Option EditValue)
         → ¬ (IsOneEdit cuts pops (option_map (λ s. s.now) push.entry) (option_map (λ s. s.now) set.entry) e)) }
-    ensures usage { IfErr result (IsWrongEdit cuts pops (option_map (λ s. s.now) push.entry) (option_map (λ s. s.now) set.entry)) }
+    ensures usage { IfErr result
+        (IsWrongEdit cuts pops (option_map (λ s. s.now) push.entry) (option_map (λ s. s.now) set.entry)) }
 {
     match (cuts, pops, push, set) {
         (false, false, None, None) => Ok(None),
@@ -52,7 +54,8 @@ pub fn edit_of_words<'a>(
 
 /// The value of `-c`, if there is one: a number of packets, 1 at least.
 pub fn count_of<'a>(text: Option<&'a str>) -> Result<Option<NonZeroUsize>, Usage<'a>>
-    ensures ok { IfOk result (λ it. IsIfAny IsCount (option_map (λ s. s.now) text.entry) (option_map non_zero_usize_get it)) }
+    ensures ok { IfOk result
+        (λ it. IsIfAny IsCount (option_map (λ s. s.now) text.entry) (option_map non_zero_usize_get it)) }
     ensures err { OnErr result ((n : Option ℕ) → ¬ (IsIfAny IsCount (option_map (λ s. s.now) text.entry) n)) }
     ensures usage { IfErr result (IsWrongValue ValueOption.Count (option_map (λ s. s.now) text.entry)) }
 {
@@ -86,7 +89,8 @@ pub fn limit_of<'a>(text: Option<&'a str>) -> Result<Option<usize>, Usage<'a>>
 /// The value of `--undecided`, if there is one: `keep` or `drop`.
 pub fn undecided_of<'a>(text: Option<&'a str>) -> Result<Option<Undecided>, Usage<'a>>
     ensures ok { IfOk result (IsIfAny MeansUndecided (option_map (λ s. s.now) text.entry)) }
-    ensures err { OnErr result ((u : Option UndecidedValue) → ¬ (IsIfAny MeansUndecided (option_map (λ s. s.now) text.entry) u)) }
+    ensures err { OnErr result ((u : Option UndecidedValue)
+        → ¬ (IsIfAny MeansUndecided (option_map (λ s. s.now) text.entry) u)) }
     ensures usage { IfErr result (IsWrongValue ValueOption.Undecided (option_map (λ s. s.now) text.entry)) }
 {
     match text {
@@ -101,7 +105,8 @@ pub fn undecided_of<'a>(text: Option<&'a str>) -> Result<Option<Undecided>, Usag
 /// no column has, or [`Usage::Value`] if there are more than 32.
 pub fn fields_of<'a>(text: Option<&'a str>) -> Result<Option<Columns>, Usage<'a>>
     ensures ok { IfOk result (IsIfAny AreFields (option_map (λ s. s.now) text.entry)) }
-    ensures err { OnErr result ((columns : Option ColumnsValue) → ¬ (IsIfAny AreFields (option_map (λ s. s.now) text.entry) columns)) }
+    ensures err { OnErr result ((columns : Option ColumnsValue)
+        → ¬ (IsIfAny AreFields (option_map (λ s. s.now) text.entry) columns)) }
     ensures usage { IfErr result (AreWrongFields (option_map (λ s. s.now) text.entry)) }
 {
     let Some(text) = text else {

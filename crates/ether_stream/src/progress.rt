@@ -113,7 +113,8 @@ impl<T: InterfaceTable> Progress<T> {
         ensures same_writer { out.new.writer.ghost_name ≡ out.old.writer.ghost_name }
         ensures ok { OnOk result (TakesUnit (task_view task.now) W.contents unit.now
             (option_map captured_packet_view packet.now) self.old out.old self.new out.new) }
-        ensures stopped { IfErr result (λ fault. OnNotEdited fault (λ offset. StopsUnwritten (task_view task.now) unit.now
+        ensures stopped { IfErr result
+            (λ fault. OnNotEdited fault (λ offset. StopsUnwritten (task_view task.now) unit.now
             (option_map captured_packet_view packet.now) self.old out.old offset out.new)) }
         ensures fault { IfErr result IsTakingFault }
         ensures failed { IfErr result (λ fault. OnOutput fault (out.new.has_failed ≡ true)) }

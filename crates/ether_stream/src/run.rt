@@ -34,8 +34,8 @@ use ether_text::{InputReader, OutputBuffer, Sink, SliceSource, Source, Verdict};
 ///
 /// If a number of packets is asked for, the run ends after the last of these, as if the capture ended there.
 ///
-/// The memory for bytes that are read grows to what the longest record or block needs, 16 MiB at most. If that is refused, the run stops with
-/// [`RunFault::Memory`].
+/// The memory for bytes that are read grows to what the longest record or block needs, 16 MiB at most. If that is
+/// refused, the run stops with [`RunFault::Memory`].
 pub fn run<B: Grow, T: SectionTable, R: Source, W: Sink>(
     task: &Task,
     buffers: Buffers<B, T>,
@@ -84,15 +84,16 @@ pub fn run_slice<B: Grow, T: SectionTable, W: Sink>(
     capture: &[u8],
     writer: &mut W,
 ) -> Result<Verdict, RunFault>
-    ensures run { AnswersSlice (task_view task.now) W.can_fail capture.now (W.contents writer.old) (W.contents writer.new) result }
+    ensures run { AnswersSlice (task_view task.now) W.can_fail capture.now (W.contents writer.old)
+        (W.contents writer.new) result }
     ensures flushed { IfSettled result (W.is_flushed writer.new) }
 {
     let mut source = SliceSource::new(capture);
     run(task, buffers, &mut source, writer)
 }
 
-/// Reads the capture to its end, and writes the text and flushes it. After a fault of the reader or the writer neither is called
-/// again.
+/// Reads the capture to its end, and writes the text and flushes it. After a fault of the reader or the writer neither
+/// is called again.
 fn answer_capture<B: Grow, T: InterfaceTable, R: Source, W: Sink>(
     task: &Task,
     progress: &mut Progress<T>,

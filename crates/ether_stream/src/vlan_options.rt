@@ -34,7 +34,8 @@ pub(crate) fn tag_edit_of(kind: TagEdit, text: &[u8]) -> Option<PacketEdit>
 
 /// The edit that pushes a VLAN tag, if the TPID announces one and the identifier has at most 12 bits.
 fn push_of(tpid: u32, id: u32) -> Option<PacketEdit>
-    ensures some { IfSome result (λ edit. (edit_view edit ≡ PushVlan tpid id) × (is_vlan_ether_type tpid ≡ true) × (id < 4096)) }
+    ensures some { IfSome result (λ edit. (edit_view edit ≡ PushVlan tpid id) × (is_vlan_ether_type tpid ≡ true)
+        × (id < 4096)) }
     ensures none { IfNone result (is_vlan_ether_type tpid ≡ true → id < 4096 → ⊥) }
 {
     let tpid = EtherType(u16::try_from(tpid).ok()?);

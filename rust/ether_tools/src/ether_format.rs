@@ -1,4 +1,5 @@
-//! The text of a captured packet for other programs and for people, in one of several formats. No call allocates memory.
+//! The text of a captured packet for other programs and for people, in one of several formats. No call allocates
+//! memory.
 
 mod brief;
 mod calendar;

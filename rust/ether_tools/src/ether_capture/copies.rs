@@ -8,9 +8,9 @@ use crate::ether_text::Sink;
 /// What is proved for all of them holds for one whose files are known, and for one that can't fail. So a call that
 /// reports that a copy can't be written has tried it.
 ///
-/// A copy is begun, written and then finished or given up. Only when it is finished does its file get the copy's bytes, all at once; until then,
-/// and for ever if it is given up, the file is as it was. So it is said of files that are known; one in a folder where no other file can be made
-/// gets the bytes as they are written.
+/// A copy is begun, written and then finished or given up. Only when it is finished does its file get the copy's bytes,
+/// all at once; until then, and for ever if it is given up, the file is as it was. So it is said of files that are
+/// known; one in a folder where no other file can be made gets the bytes as they are written.
 pub trait Copies {
     /// A copy that is being written.
     type Part: Sink;

@@ -13,7 +13,8 @@ use crate::ether_capture::memory::Global;
 ///
 /// ```text
 /// ensures { HasCopiedInput R.can_fail K.Part.Sink.can_fail K.can_refuse (task_view task.now) output.entry.now
-///     (R.remaining reader.old) (R.remaining reader.new) (K.file copies.old output.entry.now) (K.file copies.new output.entry.now)
+///     (R.remaining reader.old) (R.remaining reader.new) (K.file copies.old output.entry.now)
+///     (K.file copies.new output.entry.now)
 ///     result }
 /// ```
 ///
@@ -40,7 +41,8 @@ pub fn copy_input<'a, K: Copies, R: Source>(
 ///
 /// ```text
 /// ensures { HasCopiedFile (C.has captures.now) C.can_refuse C.Input.Source.can_fail K.Part.Sink.can_fail K.can_refuse
-///     (task_view task.now) name.entry.now output.entry.now (K.file copies.old output.entry.now) (K.file copies.new output.entry.now)
+///     (task_view task.now) name.entry.now output.entry.now (K.file copies.old output.entry.now)
+///     (K.file copies.new output.entry.now)
 ///     result }
 /// ```
 ///
@@ -66,7 +68,8 @@ pub fn copy_file<'a, C: Captures, K: Copies>(
     }
 }
 
-/// Copies what a reader reads, the capture of the name `input` or standard input, to the file of a name, which gets the copy only when it is whole.
+/// Copies what a reader reads, the capture of the name `input` or standard input, to the file of a name, which gets the
+/// copy only when it is whole.
 fn copy_to<K: Copies, R: Source>(
     task: &Task,
     input: Option<&str>,

@@ -15,8 +15,8 @@ use crate::ether_text::{OutputBuffer, OutputFault, Sink, Source};
 use crate::ether_capture::memory::Global;
 use std::{env, io};
 
-/// Writes the lines of a capture, or a copy of it, as the arguments say, prints the last line if there is one, and returns the exit status.
-/// Lines go to `writer`, and so does a copy, unless its file is named: then `copies` keeps it.
+/// Writes the lines of a capture, or a copy of it, as the arguments say, prints the last line if there is one, and
+/// returns the exit status. Lines go to `writer`, and so does a copy, unless its file is named: then `copies` keeps it.
 ///
 /// The last line goes to `messages`, so that `writer` has only the lines or the copy; but the usage and the version, if
 /// they are asked for, go to `writer`. If the arguments are wrong or can't be read, nothing is read. Arguments that
@@ -25,9 +25,11 @@ use std::{env, io};
 /// <details><summary>Contract</summary>
 ///
 /// ```text
-/// ensures served { HasServed (C.has captures.now) R.can_fail C.can_refuse C.Input.Source.can_fail W.Sink.can_fail M.Sink.can_fail
+/// ensures served { HasServed (C.has captures.now) R.can_fail C.can_refuse C.Input.Source.can_fail W.Sink.can_fail
+///     M.Sink.can_fail
 ///     K.can_refuse K.Part.Sink.can_fail J.is_known (arguments_of args) (R.remaining reader.old) (R.remaining reader.new)
-///     (W.Sink.contents writer.old) (W.Sink.contents writer.new) (M.Sink.contents messages.old) (M.Sink.contents messages.new)
+///     (W.Sink.contents writer.old) (W.Sink.contents writer.new) (M.Sink.contents messages.old)
+///     (M.Sink.contents messages.new)
 ///     (K.file copies.old) (K.file copies.new) result }
 /// ensures flushed { result ≢ 4 → Settles W.Sink.is_flushed writer.old writer.new }
 /// ensures told { Settles M.Sink.is_flushed messages.old messages.new ⊎ M.Sink.can_fail }

@@ -14,10 +14,12 @@ use crate::ether_capture::memory::Global;
 /// ```text
 /// ensures run { HasRun (task_view task.now) (R.remaining reader.old) (R.remaining reader.new)
 ///     (W.contents writer.old) (W.contents writer.new) result.0
-///     ⊎ HasNoMemory (R.remaining reader.old) (R.remaining reader.new) (W.contents writer.old) (W.contents writer.new) result.0 }
+///     ⊎ HasNoMemory (R.remaining reader.old) (R.remaining reader.new) (W.contents writer.old) (W.contents writer.new)
+///     result.0 }
 /// ensures counted { HasCounted (task_view task.now) (R.remaining reader.old) (R.remaining reader.new)
 ///     (W.contents writer.old) (W.contents writer.new) result.0 result.1
-///     ⊎ (HasNoMemory (R.remaining reader.old) (R.remaining reader.new) (W.contents writer.old) (W.contents writer.new) result.0
+///     ⊎ (HasNoMemory (R.remaining reader.old) (R.remaining reader.new) (W.contents writer.old) (W.contents writer.new)
+///     result.0
 ///     × AreCounted (task_view task.now) [] result.1) }
 /// ensures failed { IfErr result.0 (λ fault. OnStreamFault fault
 ///     (R.can_fail ⊎ IsEndless (R.remaining reader.old) (R.remaining reader.new)) W.can_fail) }

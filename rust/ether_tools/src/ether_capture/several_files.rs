@@ -64,13 +64,14 @@ impl Tally {
 }
 
 /// Writes the lines of several captures, one after the other, and then the line of the totals of all. If a capture is
-/// not read to its end, writes the reason to `messages`. Returns the greatest exit status of a capture. A name of `-` is
-/// that of standard input, `reader`.
+/// not read to its end, writes the reason to `messages`. Returns the greatest exit status of a capture. A name of `-`
+/// is that of standard input, `reader`.
 ///
 /// <details><summary>Contract</summary>
 ///
 /// ```text
-/// ensures listed { HasListed (C.has captures.now) R.can_fail C.can_refuse C.Input.Source.can_fail W.can_fail M.Sink.can_fail
+/// ensures listed { HasListed (C.has captures.now) R.can_fail C.can_refuse C.Input.Source.can_fail W.can_fail
+///     M.Sink.can_fail
 ///     (listing_view listing.entry) (R.remaining reader.old) (R.remaining reader.new) (W.contents writer.old)
 ///     (W.contents writer.new) (M.Sink.contents messages.old) (M.Sink.contents messages.new) result }
 /// ensures flushed { OnOk result (W.is_flushed writer.new) }

@@ -50,7 +50,8 @@ impl<J: Journal> Statistics<J> {
     ///
     /// ```text
     /// ensures written { OnOk result (self.now.has_failed ≡ false
-    ///     → Shows J.is_known (J.Sink.contents self.now.journal) format (W.contents writer.old) (W.contents writer.new)) }
+    ///     → Shows J.is_known (J.Sink.contents self.now.journal) format (W.contents writer.old)
+    ///     (W.contents writer.new)) }
     /// ensures flushed { OnOk result (W.is_flushed writer.new) }
     /// ensures failed { OnErr result W.can_fail }
     /// ```

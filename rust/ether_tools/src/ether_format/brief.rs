@@ -266,7 +266,8 @@ pub(crate) fn write_brief_front<W: Sink>(
     }
 }
 
-/// Writes a date and a time of day, or without a date the seconds since the beginning of 1970, with six or nine decimals.
+/// Writes a date and a time of day, or without a date the seconds since the beginning of 1970, with six or nine
+/// decimals.
 fn write_brief_moment<W: Sink>(moment: &Moment, out: &mut OutputBuffer<'_, W>) {
     if !has_date(moment) {
         write_decimal(out, moment.seconds as usize);

@@ -45,9 +45,10 @@ static COMMON: [Column; 8] = [
 
 /// The columns of a row, 1 to 32.
 ///
-/// The name of a column is that of a section and that of one of its members in [`crate::ether_format::Format::Json`], with a dot between them:
-/// `frame.number`, `vlan.vid`. The sections are `frame`, the packet itself; `eth`, `sll`, `sll2`, `vlan`, `macsec` and `arp`, its headers;
-/// `headers`, the name and the place of each header; and how the walk through them ends, `rest` or `fault`.
+/// The name of a column is that of a section and that of one of its members in [`crate::ether_format::Format::Json`], with a dot
+/// between them: `frame.number`, `vlan.vid`. The sections are `frame`, the packet itself; `eth`, `sll`, `sll2`, `vlan`,
+/// `macsec` and `arp`, its headers; `headers`, the name and the place of each header; and how the walk through them
+/// ends, `rest` or `fault`.
 #[derive(Clone, Copy, PartialEq, Eq, Debug)]
 pub struct Columns {
     first: Column,
@@ -59,7 +60,8 @@ pub struct Columns {
 impl Columns {
     /// The columns that a text names, with a comma between two: `vlan.vid,eth.src`.
     ///
-    /// Returns `None` if a name is not that of a column ([`Columns::unknown_name`] gives it), or if there are more than 32.
+    /// Returns `None` if a name is not that of a column ([`Columns::unknown_name`] gives it), or if there are more than
+    /// 32.
     ///
     /// <details><summary>Contract</summary>
     ///

@@ -55,7 +55,8 @@ pub fn write_other<T: InterfaceTable, W: Sink>(
 /// requires { IsUnitOf reader.now unit.now (Some (captured_packet_view packet.now)) }
 /// ensures written { IsTrue result → WritesPacket (copy_mode_view mode) (option_map edit_view edit) reader.now unit.now
 ///     (captured_packet_view packet.now) W.contents W.can_fail out.old out.new }
-/// ensures not_written { IsFalse result → IsUneditable (copy_mode_view mode) (option_map edit_view edit) reader.now unit.now
+/// ensures not_written { IsFalse result → IsUneditable (copy_mode_view mode) (option_map edit_view edit) reader.now
+///     unit.now
 ///     (captured_packet_view packet.now) }
 /// ensures same_out { IsFalse result → out.new ≡ out.old }
 /// ```

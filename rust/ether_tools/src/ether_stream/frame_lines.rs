@@ -17,7 +17,8 @@ use crate::ether_text::{OutputBuffer, Sink, eight_digits, write_decimal, write_w
 /// <details><summary>Contract</summary>
 ///
 /// ```text
-/// ensures { TakesAnswer W.contents W.can_fail (HasLines options.now (counted (count.now + 1)) (captured_packet_view packet.now))
+/// ensures { TakesAnswer W.contents W.can_fail
+///     (HasLines options.now (counted (count.now + 1)) (captured_packet_view packet.now))
 ///     out.old out.new result }
 /// ```
 ///
@@ -74,7 +75,8 @@ fn write_walk_lines<W: Sink>(
 /// <details><summary>Contract</summary>
 ///
 /// ```text
-/// ensures { Takes W.contents W.can_fail out.old (totals_line_after options.now.before options.now.is_plain frames skipped undecided) out.new }
+/// ensures { Takes W.contents W.can_fail out.old
+///     (totals_line_after options.now.before options.now.is_plain frames skipped undecided) out.new }
 /// ```
 ///
 /// </details>

@@ -81,7 +81,8 @@ impl<B: Grow> InputBuffer<B> {
         self.end = end - start;
     }
 
-    /// Reads some bytes after those that are there, and returns their number: 0 at the end of the input, and if there is no room.
+    /// Reads some bytes after those that are there, and returns their number: 0 at the end of the input, and if there
+    /// is no room.
     ///
     /// No text may wait in `out`.
     pub(crate) fn read<R: Source, W: Sink>(

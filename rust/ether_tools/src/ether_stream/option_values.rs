@@ -17,10 +17,12 @@ use std::num::NonZeroUsize;
 /// <details><summary>Contract</summary>
 ///
 /// ```text
-/// ensures ok { IfOk result (λ it. IsOneEdit cuts pops (option_map (λ s. s.now) push.entry) (option_map (λ s. s.now) set.entry) (option_map edit_view it)) }
+/// ensures ok { IfOk result (λ it. IsOneEdit cuts pops (option_map (λ s. s.now) push.entry)
+///     (option_map (λ s. s.now) set.entry) (option_map edit_view it)) }
 /// ensures err { OnErr result ((e : Option EditValue)
 ///     → ¬ (IsOneEdit cuts pops (option_map (λ s. s.now) push.entry) (option_map (λ s. s.now) set.entry) e)) }
-/// ensures usage { IfErr result (IsWrongEdit cuts pops (option_map (λ s. s.now) push.entry) (option_map (λ s. s.now) set.entry)) }
+/// ensures usage { IfErr result
+///     (IsWrongEdit cuts pops (option_map (λ s. s.now) push.entry) (option_map (λ s. s.now) set.entry)) }
 /// ```
 ///
 /// </details>
@@ -51,7 +53,8 @@ pub fn edit_of_words<'a>(
 /// <details><summary>Contract</summary>
 ///
 /// ```text
-/// ensures ok { IfOk result (λ it. IsIfAny IsCount (option_map (λ s. s.now) text.entry) (option_map non_zero_usize_get it)) }
+/// ensures ok { IfOk result
+///     (λ it. IsIfAny IsCount (option_map (λ s. s.now) text.entry) (option_map non_zero_usize_get it)) }
 /// ensures err { OnErr result ((n : Option ℕ) → ¬ (IsIfAny IsCount (option_map (λ s. s.now) text.entry) n)) }
 /// ensures usage { IfErr result (IsWrongValue ValueOption.Count (option_map (λ s. s.now) text.entry)) }
 /// ```
@@ -97,7 +100,8 @@ pub fn limit_of<'a>(text: Option<&'a str>) -> Result<Option<usize>, Usage<'a>> {
 ///
 /// ```text
 /// ensures ok { IfOk result (IsIfAny MeansUndecided (option_map (λ s. s.now) text.entry)) }
-/// ensures err { OnErr result ((u : Option UndecidedValue) → ¬ (IsIfAny MeansUndecided (option_map (λ s. s.now) text.entry) u)) }
+/// ensures err { OnErr result ((u : Option UndecidedValue)
+///     → ¬ (IsIfAny MeansUndecided (option_map (λ s. s.now) text.entry) u)) }
 /// ensures usage { IfErr result (IsWrongValue ValueOption.Undecided (option_map (λ s. s.now) text.entry)) }
 /// ```
 ///
@@ -118,7 +122,8 @@ pub fn undecided_of<'a>(text: Option<&'a str>) -> Result<Option<Undecided>, Usag
 ///
 /// ```text
 /// ensures ok { IfOk result (IsIfAny AreFields (option_map (λ s. s.now) text.entry)) }
-/// ensures err { OnErr result ((columns : Option ColumnsValue) → ¬ (IsIfAny AreFields (option_map (λ s. s.now) text.entry) columns)) }
+/// ensures err { OnErr result ((columns : Option ColumnsValue)
+///     → ¬ (IsIfAny AreFields (option_map (λ s. s.now) text.entry) columns)) }
 /// ensures usage { IfErr result (AreWrongFields (option_map (λ s. s.now) text.entry)) }
 /// ```
 ///

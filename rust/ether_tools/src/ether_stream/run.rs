@@ -24,8 +24,8 @@ use crate::ether_text::{InputReader, OutputBuffer, Sink, SliceSource, Source, Ve
 ///
 /// If a number of packets is asked for, the run ends after the last of these, as if the capture ended there.
 ///
-/// The memory for bytes that are read grows to what the longest record or block needs, 16 MiB at most. If that is refused, the run stops with
-/// [`RunFault::Memory`].
+/// The memory for bytes that are read grows to what the longest record or block needs, 16 MiB at most. If that is
+/// refused, the run stops with [`RunFault::Memory`].
 ///
 /// <details><summary>Contract</summary>
 ///
@@ -84,7 +84,8 @@ pub fn run_counted<B: Grow, T: SectionTable, R: Source, W: Sink>(
 /// <details><summary>Contract</summary>
 ///
 /// ```text
-/// ensures run { AnswersSlice (task_view task.now) W.can_fail capture.now (W.contents writer.old) (W.contents writer.new) result }
+/// ensures run { AnswersSlice (task_view task.now) W.can_fail capture.now (W.contents writer.old)
+///     (W.contents writer.new) result }
 /// ensures flushed { IfSettled result (W.is_flushed writer.new) }
 /// ```
 ///
@@ -99,8 +100,8 @@ pub fn run_slice<B: Grow, T: SectionTable, W: Sink>(
     run(task, buffers, &mut source, writer)
 }
 
-/// Reads the capture to its end, and writes the text and flushes it. After a fault of the reader or the writer neither is called
-/// again.
+/// Reads the capture to its end, and writes the text and flushes it. After a fault of the reader or the writer neither
+/// is called again.
 fn answer_capture<B: Grow, T: InterfaceTable, R: Source, W: Sink>(
     task: &Task,
     progress: &mut Progress<T>,
