@@ -1,9 +1,8 @@
-"""Runs the gate: the checks of the documents and versions, the tests of the libraries, those of the crate for cargo, `rt ci`, the tests of the programs, those of
-the calls from C, both also over what cargo builds, those of the page, and those of the release. Stops at the first that fails.
+"""Runs the gate, the parts that COMMANDS lists, and stops at the first that fails.
 
 Each line of these is passed on. After each proof a line says how many minutes have passed and how many minutes of processor time
 it took; where the wrong bodies of a crate begin, how many have passed. The last line adds up what passed. With --table FILE the
-minutes of each part of each crate are written there as a table. Processor time is sampled each second, so the parts add up to a
+minutes of each part of each crate are written there as a table, and how many tests of each part passed. Processor time is sampled each second, so the parts add up to a
 little less than the total, which the system counts. It is not said of a system without /proc. With --anew nothing is taken from what an
 earlier run on this machine has kept.
 """
@@ -147,10 +146,10 @@ def table(clock, ends):
     rows.append(["sum", *(f"{it:.1f}" for it in sums)])
     widths = [max(len(row[at]) for row in rows) for at in range(len(rows[0]))]
     lines = ["    " + "  ".join(it.ljust(width) for it, width in zip(row, widths)).rstrip() for row in rows]
-    width = max(len(name) for name, _, _ in ends)
-    lines += ["", f"    {'Part'.ljust(width)}  processor time  by the clock"]
-    lines += [f"    {name.ljust(width)}  {cpu:<14.1f}  {wall:.1f}" for name, cpu, wall in ends]
-    lines += [f"    {'sum'.ljust(width)}  {sum(it[1] for it in ends):<14.1f}  {sum(it[2] for it in ends):.1f}"]
+    width = max(len(name) for name, *_ in ends)
+    lines += ["", f"    {'Part'.ljust(width)}  passed  processor time  by the clock"]
+    sums = "sum", *(sum(column) for column in list(zip(*ends))[1:])
+    lines += [f"    {name.ljust(width)}  {passed:<6,}  {cpu:<14.1f}  {wall:.1f}" for name, passed, cpu, wall in [*ends, sums]]
     return "\n".join(lines) + "\n"
 
 
@@ -163,7 +162,7 @@ def main():
     clock, ends, counts, status = Clock(), [], [0, 0], 0
     for name, command in COMMANDS.items():
         command = command + ["--anew"] * (given.anew and name == "crates")
-        cpu, wall = spent(), clock.passed()
+        cpu, wall, before = spent(), clock.passed(), counts[0]
         with subprocess.Popen(command, stdin=subprocess.DEVNULL, stdout=subprocess.PIPE, text=True, errors="replace") as run:
             for line in run.stdout:
                 told = re.match(r"(\d+) passed, (\d+) failed$", line)
@@ -172,8 +171,8 @@ def main():
                 print(f"gate: {line}" if told else line, end="", flush=True)
                 follow(line.rstrip("\n"), clock)
         status = run.returncode
-        ends.append((name, spent() - cpu, clock.passed() - wall))
-        print(f"gate: {clock.passed():.1f} min: {name}: {ends[-1][1]:.1f} CPU min", flush=True)
+        ends.append((name, counts[0] - before, spent() - cpu, clock.passed() - wall))
+        print(f"gate: {clock.passed():.1f} min: {name}: {ends[-1][2]:.1f} CPU min", flush=True)
         if status:
             break
     if given.table:
