@@ -90,7 +90,8 @@ class FrameView {
     const first = this.read.at + Math.floor(field.bit / 8);
     const bytes = this.decoder.bytes(first, Math.ceil(field.bits / 8));
     const isOfBytes = [digits, address, protocolAddress].includes(text);
-    const value = text(isOfBytes ? 0 : Number(field.value), bytes);
+    const type = this.read.fields.find((other) => other.unit === field.unit && other.name === PROTOCOL_TYPE);
+    const value = text(isOfBytes ? 0 : Number(field.value), bytes, type && Number(type.value));
     const label = element("span", { className: "name" }, name);
     if (short) label.append(" ", element("small", { textContent: short }));
     const node = element("li", { tabIndex: 0, title: placeOf(field) },

@@ -3,7 +3,7 @@
 const ETHER_TYPES = {
   0x0800: "IPv4", 0x0806: "ARP", 0x0842: "Wake-on-LAN", 0x8035: "RARP", 0x8100: "VLAN tag", 0x86dd: "IPv6",
   0x8808: "flow control", 0x8809: "slow protocols", 0x8847: "MPLS", 0x8848: "MPLS, multicast",
-  0x8863: "PPPoE discovery", 0x8864: "PPPoE session", 0x888e: "EAPOL", 0x88a8: "service VLAN tag", 0x88cc: "LLDP",
+  0x8863: "PPPoE discovery", 0x8864: "PPPoE", 0x888e: "EAPOL", 0x88a8: "service VLAN tag", 0x88cc: "LLDP",
   0x88e5: "MACsec", 0x88f7: "PTP", 0x8906: "FCoE", 0x9100: "VLAN tag",
 };
 const HARDWARE_TYPES = {
@@ -32,8 +32,9 @@ const pair = (byte) => byte.toString(16).padStart(2, "0");
 const pairs = (separator) => (number, bytes) => Array.from(bytes, pair).join(separator);
 const address = pairs(":");
 const digits = pairs("");
-// an address of four bytes is nearly always one of IPv4
-const protocolAddress = (number, bytes) => bytes.length === 4 ? Array.from(bytes).join(".") : digits(number, bytes);
+const PROTOCOL_TYPE = 26;  // the field of an ARP packet
+const protocolAddress = (number, bytes, type) =>
+  type === 0x0800 && bytes.length === 4 ? Array.from(bytes).join(".") : digits(number, bytes);
 
 // of each field its name, the standard's short name if there is one, and how its value reads
 const FIELDS = {

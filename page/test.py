@@ -13,6 +13,7 @@ import bz2
 import gzip
 import lzma
 import os
+import re
 import subprocess
 import sys
 import tempfile
@@ -113,6 +114,26 @@ def test_links(page, folder):
     page.open(INDEX)
     drop(page, folder, "raw.pcap", classic([(1700000000, b"E", 1)], link=101))
     check("another link", page.evaluate(LIST)[0][3:] == ["", "", "1", "link type 101"], page.evaluate(LIST))
+
+
+def test_arp_addresses(page):
+    """Protocol addresses of four bytes: those of IPv4, and others, which have no dots."""
+    for protocol, wanted in (("0800", ["10.0.0.1", "10.0.0.2"]), ("809b", ["0a000001", "0a000002"])):
+        page.open(f"{INDEX}#eth:ffffffffffff02000000000108060001{protocol}060400010200000000010a0000010000000000000a000002")
+        fields = tree(page)[1][2]
+        found = [value for name, value in fields.items() if "protocol address" in name]
+        check(f"ARP addresses of the protocol type {protocol}", found == wanted, found)
+
+
+def test_names():
+    """The names of ether types are those that `ether_capture --format brief` prints."""
+    with open(os.path.join(TOP, "names.js"), encoding="utf-8") as file:
+        block = re.search(r"ETHER_TYPES = \{(.*?)\}", file.read(), re.S)[1]
+    page = {int(number, 16): name for number, name in re.findall(r'0x(\w+): "(.*?)"', block)}
+    with open(os.path.join(TOP, "..", "crates", "ether_format", "src", "brief.rt"), encoding="utf-8") as file:
+        brief = {int(number, 16): name for number, name in re.findall(r'0x(\w+) => Some\("(.*?)"\)', file.read())}
+    other = {hex(number): (name, page.get(number)) for number, name in brief.items() if page.get(number) != name}
+    check("names of ether types", brief and not other, other)
 
 
 def test_keys_and_marks(page, folder):
@@ -558,12 +579,13 @@ def main():
     else:
         with Page() as page, tempfile.TemporaryDirectory() as folder:
             test_examples(page)
+            test_names()
             for test in [test_captures, test_rows, test_links, test_keys_and_marks, test_selection,
                          test_wrong_selection, test_beside, test_back_to_place, test_beside_selection,
                          test_accessible_list, test_compressed, test_files, test_many, test_long, test_narrow,
                          test_against_tshark]:
                 test(page, folder)
-            for test in [test_bytes, test_accessible, test_input, test_old_browser, test_silence]:
+            for test in [test_bytes, test_arp_addresses, test_accessible, test_input, test_old_browser, test_silence]:
                 test(page)
             if given.pictures:
                 pictures(page, given.pictures, folder)
