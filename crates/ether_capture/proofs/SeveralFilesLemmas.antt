@@ -1,6 +1,6 @@
 -- What is read of several captures, one after the other.
-use Rattle.std.proofs.Common.{◌≡◌, ◌≢◌, ◌⊎◌, ℕ, ◌+◌, List, [], ◌∷◌, length, map, codes, Bool, true, false, Option, Some, None, Result, Ok, Err, IfErr, refl, sym, subst, ◌∙◌, arith, inl, inr}
-use Rattle.std.specs.Prelude.{max, if◌then◌else◌}
+use Rattle.std.proofs.Common.{◌≡◌, ◌≢◌, ◌⊎◌, ℕ, List, [], ◌∷◌, length, map, codes, Bool, true, false, Option, Some, None, Result, Ok, Err, IfErr, refl, sym, subst, ◌∙◌, arith, inl, inr}
+use Rattle.std.specs.Prelude.{if◌then◌else◌}
 use Rattle.std.specs.Str.{bytes_eq}
 use Rattle.std.specs.Borrow.{Bor}
 use Rattle.std.specs.Vec.Iter.{into_iter_items}
@@ -9,10 +9,9 @@ use Rattle.ether_pcap.specs.Capture.{PacketValue}
 use Rattle.ether_text.specs.Run.{IsEndless}
 use Rattle.ether_text.specs.declared.verdict.Verdict.{Verdict}
 use Rattle.ether_stream.specs.Counting.{AreCounted, HasCounted, IfFileRead, IfRead}
-use Rattle.ether_capture.specs.SeveralFiles.{HasEnded, ReadsFile, Settles, Tells, next_task, text_of_capture}
+use Rattle.ether_capture.specs.SeveralFiles.{HasEnded, IsAfter, ReadsFile, Settles, Tells, next_task, text_of_capture}
 use Rattle.ether_capture.specs.Options.{ListingValue, named, names_input}
-use Rattle.ether_stream.specs.Outcome.{status_of_file}
-use Rattle.ether_stream.specs.Packets.{counted, IsLeftOf}
+use Rattle.ether_stream.specs.Packets.{IsLeftOf}
 use Rattle.ether_stream.specs.Run.{HasNoMemory, HasRunOver, OnStreamFault}
 use Rattle.ether_stream.specs.Task.{TaskValue}
 use Rattle.ether_stream.specs.declared.open_fault.OpenFault.{OpenFault}
@@ -42,7 +41,8 @@ module _ (b : Bool) (word : List ℕ) (others : Bool) where
   not_input : (if b then true else others) ≡ false → ((if b then None else Some word) ≡ Some word) × (others ≡ false)
   not_input is = by b is
     where
-      by : (c : Bool) → (if c then true else others) ≡ false → ((if c then None else Some word) ≡ Some word) × (others ≡ false)
+      by : (c : Bool) → (if c then true else others) ≡ false
+          → ((if c then None else Some word) ≡ Some word) × (others ≡ false)
       by true is = absurd cc
       by false is = (refl, is)
 
@@ -50,9 +50,11 @@ pub file_names : (word : List ℕ) (names : List (List ℕ)) → names_input (wo
     → (named word ≡ Some word) × (names_input names ≡ false)
 file_names word names is = not_input (bytes_eq word (codes "-")) word (names_input names) is
 
-module _ (has : List ℕ → Option (List ℕ) → Type 0) (can_fail : Type 0) (can_refuse : OpenFault → Type 0) (can_read can_write : Type 0) where
+module _ (has : List ℕ → Option (List ℕ) → Type 0) (can_fail : Type 0) (can_refuse : OpenFault → Type 0)
+    (can_read can_write : Type 0) where
   -- lines edit no packet
-  no_edit : (l : ListingValue) (at : Tally) (packets : List PacketValue) (before after held holds : Option (List ℕ)) (offset : ℕ)
+  no_edit : (l : ListingValue) (at : Tally) (packets : List PacketValue) (before after held holds : Option (List ℕ))
+      (offset : ℕ)
       → HasRunOver (next_task l at) packets before after held holds (Err (faults.NotEdited offset))
       ⊎ ((packets ≡ []) × HasNoMemory before after held holds (Err (faults.NotEdited offset))) → ⊥
   no_edit l at packets before after held holds offset (inl run) = run.stops
@@ -65,31 +67,37 @@ module _ (has : List ℕ → Option (List ℕ) → Type 0) (can_fail : Type 0) (
       → IfFileRead end P → end ≢ ends.Read (Err faults.Output) → P
   counts_known l at name packets before after held holds (ends.NotOpened fault) ended known going = known
   counts_known l at name packets before after held holds (ends.Read (Ok verdict)) ended known going = known
-  counts_known l at name packets before after held holds (ends.Read (Err (faults.Capture fault))) ended known going = known
+  counts_known l at name packets before after held holds (ends.Read (Err (faults.Capture fault))) ended known going =
+      known
   counts_known l at (Some name) packets before after held holds (ends.Read (Err (faults.NotEdited offset)))
-      (same, (first, last, is, run, failed)) known going = absurd (no_edit l at packets first last held holds offset run)
-  counts_known l at None packets before after held holds (ends.Read (Err (faults.NotEdited offset))) (run, failed) known going =
+      (same, (first, last, is, run, failed)) known going =
+      absurd (no_edit l at packets first last held holds offset run)
+  counts_known l at None packets before after held holds (ends.Read (Err (faults.NotEdited offset)))
+      (run, failed) known going =
       absurd (no_edit l at packets before after held holds offset run)
   counts_known l at name packets before after held holds (ends.Read (Err faults.Input)) ended known going = known
-  counts_known l at name packets before after held holds (ends.Read (Err faults.Output)) ended known going = absurd (going refl)
+  counts_known l at name packets before after held holds (ends.Read (Err faults.Output)) ended known going =
+      absurd (going refl)
   counts_known l at name packets before after held holds (ends.Read (Err faults.Memory)) ended known going = known
 
   -- a capture was read, and why it was not read to its end is told
   pub file_read : (can_tell : Type 0) (l : ListingValue) (task : TaskValue) (name : List ℕ) (at next : Tally)
-      (before after held holds told tells : Option (List ℕ)) (packets : List PacketValue) (end : FileEnd) (counts : PacketCounts)
+      (before after held holds told tells : Option (List ℕ)) (packets : List PacketValue) (end : FileEnd)
+      (counts : PacketCounts)
       → task ≡ next_task l at
       → HasEnded has can_fail can_refuse can_read can_write task (named name) packets before after held holds end
       → IfFileRead end (AreCounted task packets counts) → end ≢ ends.Read (Err faults.Output)
       → Tells can_tell (text_of_capture (named name) end) told tells
-      → next.packets ≡ counts.number → next.skipped ≡ counted (at.skipped + counts.skipped)
-      → next.undecided ≡ counted (at.undecided + counts.undecided)
-      → next.left ≡ counts.left → next.status ≡ max at.status (status_of_file end)
+      → IsAfter at counts end next
       → ReadsFile has can_fail can_refuse can_read can_write can_tell l name at before held told next after holds tells
-  file_read can_tell l task name at next before after held holds told tells packets end counts same ended known going is_told number
-      skipped undecided left status =
+  file_read can_tell l task name at next before after held holds told tells packets end counts same ended known going
+      is_told is_after =
+      let skipped = is_after.skipped in
+      let undecided = is_after.undecided in
       let ended_so =
       subst
-      (λ (t : TaskValue). HasEnded has can_fail can_refuse can_read can_write t (named name) packets before after held holds end)
+      (λ (t : TaskValue). HasEnded has can_fail can_refuse can_read can_write t
+      (named name) packets before after held holds end)
       same ended in
       let known_so = subst (λ (t : TaskValue). IfFileRead end (AreCounted t packets counts)) same known in
       let are = counts_known l at (named name) packets before after held holds end ended_so known_so going in
@@ -102,13 +110,13 @@ module _ (has : List ℕ → Option (List ℕ) → Type 0) (can_fail : Type 0) (
         tallied = record {
           kept = are.kept;
           selected = are.selected;
-          is_count = number ∙ are.is_number;
+          is_count = is_after.packets ∙ are.is_number;
           is_skipped = let a = are.is_skipped in omega (arith, skipped, a);
           undecided = are.undecided.undecided;
           are_undecided = are.undecided.selected;
           is_undecided = let a = are.undecided.is_count in omega (arith, undecided, a);
-          is_left = subst (IsLeftOf at.left (length are.kept)) (sym left) are.is_left;
-          is_status = status;
+          is_left = subst (IsLeftOf at.left (length are.kept)) (sym is_after.left) are.is_left;
+          is_status = is_after.status;
         };
       }
 
@@ -121,7 +129,8 @@ module _ (has : List ℕ → Option (List ℕ) → Type 0) (can_fail : Type 0) (
       → (packets : List PacketValue)
       × HasEnded has can_fail can_refuse can_read can_write task None packets before after held holds (ends.Read end)
       × IfFileRead (ends.Read end) (AreCounted task packets counts)
-  input_ended task before after held holds end counts (inl run) failed = (run.packets, (inl run.run, failed), run.counted)
+  input_ended task before after held holds end counts (inl run) failed =
+      (run.packets, (inl run.run, failed), run.counted)
   input_ended task before after held holds (Ok verdict) counts (inr (none, are)) failed = absurd cc
   input_ended task before after held holds (Err fault) counts (inr (none, are)) failed =
       ([], (inr (refl, none), failed), memory_counted fault)
@@ -142,7 +151,8 @@ pub run_ended : (has : List ℕ → Option (List ℕ) → Type 0) (can_fail : Ty
     ⊎ (HasNoMemory before after held holds end × AreCounted task [] counts)
     → IfErr end (λ fault. OnStreamFault fault (can_read ⊎ IsEndless before after) can_write)
     → (packets : List PacketValue)
-    × HasEnded has can_fail can_refuse can_read can_write task (Some name) packets given given held holds (ends.Read end)
+    × HasEnded has can_fail can_refuse can_read can_write task (Some name) packets given given held holds
+    (ends.Read end)
     × IfFileRead (ends.Read end) (AreCounted task packets counts)
 run_ended has can_fail can_refuse can_read can_write task name given before after held holds end counts is run failed =
     let s = input_ended has can_read can_refuse can_read can_write task before after held holds end counts run failed in

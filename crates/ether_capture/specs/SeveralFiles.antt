@@ -12,6 +12,7 @@ use Rattle.ether_stream.specs.Outcome.{status_of_file, text_of_file, text_of_inp
 use Rattle.ether_stream.specs.Packets.{counted, IsLeftOf}
 use Rattle.ether_stream.specs.Run.{HasRunOver, HasNoMemory, OnStreamFault}
 use Rattle.ether_stream.specs.Task.{TaskValue, Lines, IsChosen, IsOpen}
+use Rattle.ether_stream.specs.declared.counts.PacketCounts.{PacketCounts}
 use Rattle.ether_stream.specs.declared.open_fault.OpenFault.{OpenFault}
 use Rattle.ether_stream.specs.declared.selection.Selection.{Selection}
 use Rattle.ether_capture.specs.declared.several_files.Tally.{Tally}
@@ -40,6 +41,14 @@ pub record IsTallied (select : Option Selection) (at : Tally) (packets : List Pa
   pub is_undecided : next.undecided ≡ counted (at.undecided + length undecided)
   pub is_left : IsLeftOf at.left (length kept) next.left
   pub is_status : next.status ≡ max at.status (status_of_file end)
+
+-- the tally after another capture, by what was counted of that and its end
+pub record IsAfter (at : Tally) (counts : PacketCounts) (end : FileEnd) (next : Tally) : Type 0 where
+  pub packets : next.packets ≡ counts.number
+  pub skipped : next.skipped ≡ counted (at.skipped + counts.skipped)
+  pub undecided : next.undecided ≡ counted (at.undecided + counts.undecided)
+  pub left : next.left ≡ counts.left
+  pub status : next.status ≡ max at.status (status_of_file end)
 
 -- A run over the capture in the file of this name has found these packets. Or it can't be opened, or memory was refused
 -- before anything was read: then none is found, and nothing is written.

@@ -5,12 +5,13 @@ ghost use Rattle.std.specs.Io.KnownBytes.{Appends};
 ghost use Rattle.std.specs.Option.{option_map};
 ghost use Rattle.ether_pcap.specs.Capture.{PacketValue};
 ghost use Rattle.ether_stream.specs.Counting.{AreCounted, IfFileRead};
-ghost use Rattle.ether_capture.specs.SeveralFiles.{HasEnded, HasListed, ReadsFile, ReadsFiles, Settles, Tells, next_task, nothing_read, text_of_capture};
+ghost use Rattle.ether_capture.specs.SeveralFiles.{HasEnded, HasListed, IsAfter, ReadsFile, ReadsFiles, Settles, Tells, next_task, nothing_read, text_of_capture};
 ghost use Rattle.ether_stream.specs.FrameLines.{totals_line_if};
 ghost use Rattle.ether_capture.specs.Options.{ListingValue, listing_view, named, names_input};
 ghost use Rattle.ether_stream.specs.Outcome.{last_line_text, status_of_file};
 ghost use Rattle.ether_stream.specs.Packets.{counted};
 ghost use Rattle.ether_stream.specs.Task.{task_view};
+ghost use Rattle.ether_capture.specs.declared.several_files.Tally.{Tally as TallyValue};
 ghost use Rattle.ether_stream.specs.declared.outcome.FileEnd.TheVariants as ends;
 ghost use Rattle.ether_stream.specs.declared.outcome.RunFault.TheVariants.{Output};
 
@@ -153,30 +154,29 @@ fn read_files<C: Captures, R: Source, W: Sink, M: LineSink>(
         }
         task.count = tally.count();
         task.form = Form::Lines(options.after(tally.packets));
-        tally = read_file(
-            &task, &tally, name, alloc, captures, reader, writer, messages,
-        )?;
+        let (end, counts) = read_file(&task, name, alloc, captures, reader, writer, messages)?;
+        tally = tally.with(counts, &end);
     }
     Ok(tally)
 }
 
-/// Writes what is made of one capture, and to `messages` why it was not read to its end, if it was not.
+/// Writes what is made of one capture, and to `messages` why it was not read to its end, if it was not. Returns how it
+/// ended, and how many packets were read.
 fn read_file<C: Captures, R: Source, W: Sink, M: LineSink>(
     task: &Task,
-    tally: &Tally,
     name: &str,
     alloc: Global,
     captures: &C,
     reader: &mut R,
     writer: &mut W,
     messages: &mut M,
-) -> Result<Tally, OutputFault>
-    ensures ok { (l : ListingValue) → task_view task.now ≡ next_task l tally.now
-        → IfOk result (λ then. ReadsFile (C.has captures.now)
-        R.can_fail C.can_refuse C.Input.Source.can_fail W.can_fail M.Sink.can_fail l name.now tally.now
-        (R.remaining reader.old)
-        (W.contents writer.old) (M.Sink.contents messages.old) then (R.remaining reader.new) (W.contents writer.new)
-        (M.Sink.contents messages.new)) }
+) -> Result<(FileEnd, PacketCounts), OutputFault>
+    ensures ok { (l : ListingValue) (at next : TallyValue) → task_view task.now ≡ next_task l at
+        → IfOk result (λ it. IsAfter at it.1 it.0 next
+        → ReadsFile (C.has captures.now) R.can_fail C.can_refuse C.Input.Source.can_fail W.can_fail M.Sink.can_fail l
+        name.now at
+        (R.remaining reader.old) (W.contents writer.old) (M.Sink.contents messages.old) next (R.remaining reader.new)
+        (W.contents writer.new) (M.Sink.contents messages.new)) }
     ensures failed { OnErr result W.can_fail }
     ensures kept { IfSome (named name.now) (λ _. R.remaining reader.new ≡ R.remaining reader.old) }
     ensures told { Settles M.Sink.is_flushed messages.old messages.new ⊎ M.Sink.can_fail }
@@ -187,7 +187,7 @@ fn read_file<C: Captures, R: Source, W: Sink, M: LineSink>(
     }
     captures.end_line();
     tell_reason(name, &end, messages);
-    Ok(tally.with(counts, &end))
+    Ok((end, counts))
 }
 
 /// Tests that the writer failed.

@@ -3,7 +3,7 @@
 -- file.
 use Rattle.std.specs.Prelude.{◌≡◌, ⊤, ℕ, ◌-◌, ◌^◌, ◌≤◌, List, [], ◌∷◌, ◌++◌, length, drop, map, Option, All, nat_eq, nat_lt, if◌then◌else◌}
 use Rattle.ether_pcap.specs.Capture.{PacketValue, CaptureInterfaceValue, CaptureExpectation, Blocks, Begins}
-use Rattle.ether_pcap.specs.CopiedUnits.{ModeValue, Changed, raised_interface, expected_in}
+use Rattle.ether_pcap.specs.CopiedUnits.{Changed, raised_interface, expected_in}
 
 -- ---- the interfaces of a file
 

@@ -121,31 +121,30 @@ fn read_files<C: Captures, R: Source, W: Sink, M: LineSink>(
         }
         task.count = tally.count();
         task.form = Form::Lines(options.after(tally.packets));
-        tally = read_file(
-            &task, &tally, name, alloc, captures, reader, writer, messages,
-        )?;
+        let (end, counts) = read_file(&task, name, alloc, captures, reader, writer, messages)?;
+        tally = tally.with(counts, &end);
     }
     Ok(tally)
 }
 
-/// Writes what is made of one capture, and to `messages` why it was not read to its end, if it was not.
+/// Writes what is made of one capture, and to `messages` why it was not read to its end, if it was not. Returns how it
+/// ended, and how many packets were read.
 fn read_file<C: Captures, R: Source, W: Sink, M: LineSink>(
     task: &Task,
-    tally: &Tally,
     name: &str,
     alloc: Global,
     captures: &C,
     reader: &mut R,
     writer: &mut W,
     messages: &mut M,
-) -> Result<Tally, OutputFault> {
+) -> Result<(FileEnd, PacketCounts), OutputFault> {
     let (end, counts) = end_of_file(task, name, alloc, captures, reader, writer);
     if is_output_fault(&end) {
         return Err(OutputFault);
     }
     captures.end_line();
     tell_reason(name, &end, messages);
-    Ok(tally.with(counts, &end))
+    Ok((end, counts))
 }
 
 /// Tests that the writer failed.

@@ -1,4 +1,4 @@
-use Rattle.std.proofs.Common.{◌≡◌, ◌∙◌, ap, sym, inl, inr}
+use Rattle.std.proofs.Common.{◌∙◌, ap, sym, inl, inr}
 use Rattle.ether_capture.specs.Program.{is_unwritten}
 use Rattle.ether_capture.proofs.laws.counts_are_written.Goals as goal
 

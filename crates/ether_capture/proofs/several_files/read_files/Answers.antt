@@ -1,8 +1,8 @@
-use Rattle.std.proofs.Common.{◌≡◌, ◌≢◌, ◌∷◌, ◌∙◌, ℕ, List, Option, Some, IfSome, false, map, refl, sym, ap, subst}
+use Rattle.std.proofs.Common.{◌≡◌, ◌≢◌, ◌∷◌, ◌∙◌, ℕ, List, Option, Some, IfSome, map, refl, sym, ap, subst}
 use Rattle.std.specs.Int.NonZero.{non_zero_usize_get}
 use Rattle.std.specs.Option.{option_map, is_some}
 use Rattle.ether_text.proofs.ArgumentsLemmas.{items_end}
-use Rattle.ether_capture.specs.SeveralFiles.{ReadsFiles, no_more, enough, next, next_task}
+use Rattle.ether_capture.specs.SeveralFiles.{IsAfter, ReadsFiles, no_more, enough, next, next_task}
 use Rattle.ether_capture.specs.Options.{listing_view, names_input}
 use Rattle.ether_stream.specs.Task.{Lines}
 use Rattle.ether_capture.proofs.SeveralFilesLemmas.{file_names, names_in, settled}
@@ -39,7 +39,14 @@ loop-name-preserved g c =
       form = Lines c.after.result;
     } ≡ next_task listing at =
     (λ i. record { select = so_far.selection i; count = left i; form = Lines (c.after.ensures i) }) in
-    let here = c.in_ok-tally.ensures.ok listing same in
+    let after : IsAfter at c.in_ok-end.counts c.in_ok-end.end c.with-tally.result = record {
+      packets = c.with-tally.ensures.packets;
+      skipped = c.with-tally.ensures.skipped;
+      undecided = c.with-tally.ensures.undecided;
+      left = c.with-tally.ensures.left;
+      status = c.with-tally.ensures.status;
+    } in
+    let here = c.in_ok-end.ensures.ok listing at c.with-tally.result same after in
     record {
       selection = so_far.selection;
       options = refl;
@@ -48,20 +55,23 @@ loop-name-preserved g c =
           (subst
           (λ (l : List (List ℕ)).
           ReadsFiles (g.C.Captures.has c.args.captures.now) g.R.Source.can_fail g.C.Captures.can_refuse
-          g.C.Input.Source.can_fail g.W.Sink.can_fail g.M.Sink.can_fail listing l at given held told last after holds tells)
+          g.C.Input.Source.can_fail g.W.Sink.can_fail g.M.Sink.can_fail listing l at given held told last after holds
+          tells)
           (sym cons)
-          (next word names at c.in_ok-tally.tally last given held told leaves mid between after holds tells going here others));
+          (next word names at c.with-tally.result last given held told leaves mid between after holds tells going here
+          others));
       kept = λ no_input.
           let before = so_far.kept no_input in
           let file = file_names word names (ap names_input (sym cons) ∙ before.1) in
-          let unread = subst (λ (n : Option (List ℕ)). IfSome n (λ _. leaves ≡ given)) file.0 c.read_file.ensures.kept in
+          let unread = subst (λ (n : Option (List ℕ)). IfSome n (λ _. leaves ≡ given)) file.0
+          c.read_file.ensures.kept in
           (unread ∙ before.0, file.1);
       settled = settled g.M.Sink.is_flushed g.M.Sink.can_fail c.args.messages.now c.loop-name.messages
           c.read_file.new.messages so_far.settled c.read_file.ensures.told;
     }
 
-pub returns-in_err-tally-clause-kept : goal.returns-in_err-tally-clause-kept
-returns-in_err-tally-clause-kept g c = λ no_input.
+pub returns-in_err-end-clause-kept : goal.returns-in_err-end-clause-kept
+returns-in_err-end-clause-kept g c = λ no_input.
     let before = c.loop-name.invariant.kept no_input in
     let names = names_in c.next.new.self in
     let word = c.in-Some.name.now in
@@ -83,6 +93,7 @@ returns-clause-ok g c =
     c.loop-name.invariant.reads tally given held told
     (subst
     (λ (l : List (List ℕ)).
-    ReadsFiles (g.C.Captures.has c.args.captures.now) g.R.Source.can_fail g.C.Captures.can_refuse g.C.Input.Source.can_fail
+    ReadsFiles (g.C.Captures.has c.args.captures.now) g.R.Source.can_fail g.C.Captures.can_refuse
+    g.C.Input.Source.can_fail
     g.W.Sink.can_fail g.M.Sink.can_fail (listing_view c.args.listing) l tally given held told tally given held told)
     (sym none) (no_more tally given held told))

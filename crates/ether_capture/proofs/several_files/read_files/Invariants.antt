@@ -12,15 +12,19 @@ invariant-loop-name g l =
       selection : l.task.selection ≡ l.fn.listing.selection;
       options : l.options ≡ l.fn.listing.options;
       reads : (last : Tally) (after holds tells : Option (List ℕ))
-          → ReadsFiles (g.C.Captures.has l.fn.captures) g.R.Source.can_fail g.C.Captures.can_refuse g.C.Input.Source.can_fail
+          → ReadsFiles (g.C.Captures.has l.fn.captures) g.R.Source.can_fail g.C.Captures.can_refuse
+          g.C.Input.Source.can_fail
           g.W.Sink.can_fail g.M.Sink.can_fail listing (names_in l.files) l.tally (g.R.Source.remaining l.reader)
           (g.W.Sink.contents l.writer) (g.M.Sink.contents l.messages) last after holds tells
-          → ReadsFiles (g.C.Captures.has l.fn.captures) g.R.Source.can_fail g.C.Captures.can_refuse g.C.Input.Source.can_fail
+          → ReadsFiles (g.C.Captures.has l.fn.captures) g.R.Source.can_fail g.C.Captures.can_refuse
+          g.C.Input.Source.can_fail
           g.W.Sink.can_fail g.M.Sink.can_fail listing listing.files (nothing_read listing.count)
-          (g.R.Source.remaining l.fn.reader) (g.W.Sink.contents l.fn.writer) (g.M.Sink.contents l.fn.messages) last after holds
+          (g.R.Source.remaining l.fn.reader) (g.W.Sink.contents l.fn.writer)
+          (g.M.Sink.contents l.fn.messages) last after holds
           tells;
       kept : names_input listing.files ≡ false
-          → (g.R.Source.remaining l.reader ≡ g.R.Source.remaining l.fn.reader) × (names_input (names_in l.files) ≡ false);
+          → (g.R.Source.remaining l.reader ≡ g.R.Source.remaining l.fn.reader)
+          × (names_input (names_in l.files) ≡ false);
       settled : Settles g.M.Sink.is_flushed l.fn.messages l.messages ⊎ g.M.Sink.can_fail;
     }
 
