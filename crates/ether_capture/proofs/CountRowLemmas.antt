@@ -15,32 +15,38 @@ empty (b ∷ bs) zero = absurd (omega (arith, zero))
 
 module _ (heading row : List ℕ) (bytes : ℕ) where
   -- the packet is counted for some keys, and these are left
-  pub record CountsOn (hits : List Hit) (columns fields : Option (List ℕ)) (table : List ℕ → Option Count) : Type 0 where
+  pub record CountsOn (hits : List Hit) (columns fields : Option (List ℕ))
+      (table : List ℕ → Option Count) : Type 0 where
     pub done : List Hit
     pub so_far_counted : CountHits (hits ++ done) table
     pub parts : done ++ hits_under bytes (keys_in (fields_if columns) (fields_if fields)) ≡ row_hits heading row
 
-  pub begins_row : (hits : List Hit) (column len : List ℕ) (columns fields : Option (List ℕ)) (old new : List ℕ → Option Count)
+  pub begins_row : (hits : List Hit) (column len : List ℕ) (columns fields : Option (List ℕ))
+      (old new : List ℕ → Option Count)
       → bytes ≡ counted (decimal_value 0 len)
       → row_fields heading ≡ column ∷ fields_if columns → row_fields row ≡ len ∷ fields_if fields → bytes ≤ 2 ^ 64 - 1
       → CountHits hits old → AddsHit (key_text (codes "total") []) bytes old new → CountsOn hits columns fields new
   begins_row hits column len columns fields old new is of_heading of_row small so_far more = record {
     done = record { key = key_text (codes "total") []; bytes = bytes } ∷ [];
-    so_far_counted = hits_more hits (record { key = key_text (codes "total") []; bytes = bytes }) old new small so_far more;
+    so_far_counted = hits_more hits (record { key = key_text (codes "total") []; bytes = bytes }) old new small so_far
+        more;
     parts =
         sym
         ((λ i. fields_hits (of_heading i) (of_row i))
-        ∙ ap (λ n. hits_under n (key_text (codes "total") [] ∷ keys_in (fields_if columns) (fields_if fields))) (sym is));
+        ∙ ap (λ n. hits_under n (key_text (codes "total") [] ∷ keys_in (fields_if columns) (fields_if fields)))
+        (sym is));
   }
 
-  module _ (hits : List Hit) (names texts column text : List ℕ) (columns fields : Option (List ℕ)) (old : List ℕ → Option Count)
+  module _ (hits : List Hit) (names texts column text : List ℕ) (columns fields : Option (List ℕ))
+      (old : List ℕ → Option Count)
       (of_names : row_fields names ≡ column ∷ fields_if columns) (of_texts : row_fields texts ≡ text ∷ fields_if fields)
       (so_far : CountsOn hits (Some names) (Some texts) old) where
     keys_left : hits_under bytes (keys_in (row_fields names) (row_fields texts))
         ≡ hits_under bytes (key_if column text) ++ hits_under bytes (keys_in (fields_if columns) (fields_if fields))
     keys_left =
         (λ i. hits_under bytes (keys_in (of_names i) (of_texts i)))
-        ∙ map-append (λ k. record { key = k; bytes = bytes }) (key_if column text) (keys_in (fields_if columns) (fields_if fields))
+        ∙ map-append (λ k. record { key = k; bytes = bytes }) (key_if column text)
+        (keys_in (fields_if columns) (fields_if fields))
 
     -- the next column has no text
     pub passes_column : length text ≡ 0 → CountsOn hits columns fields old
@@ -50,12 +56,14 @@ module _ (heading row : List ℕ) (bytes : ℕ) where
       parts =
           sym
           (ap (λ l. so_far.done ++ l)
-          (keys_left ∙ ap (λ t. hits_under bytes (key_if column t) ++ hits_under bytes (keys_in (fields_if columns) (fields_if fields))) none))
+          (keys_left ∙ ap (λ t. hits_under bytes (key_if column t)
+          ++ hits_under bytes (keys_in (fields_if columns) (fields_if fields))) none))
           ∙ so_far.parts;
     }
 
     -- .. or has one, which is counted
-    pub counts_column : (new : List ℕ → Option Count) → bytes ≤ 2 ^ 64 - 1 → text ≢ [] → AddsHit (key_text column text) bytes old new
+    pub counts_column : (new : List ℕ → Option Count) → bytes ≤ 2 ^ 64 - 1 → text ≢ []
+        → AddsHit (key_text column text) bytes old new
         → CountsOn hits columns fields new
     counts_column new small some more =
         let h : Hit = record { key = key_text column text; bytes = bytes } in
@@ -69,7 +77,8 @@ module _ (heading row : List ℕ) (bytes : ℕ) where
               ∙ sym
               (ap (λ l. so_far.done ++ l)
               (keys_left
-              ∙ ap (λ l. hits_under bytes l ++ hits_under bytes (keys_in (fields_if columns) (fields_if fields))) (one text some)))
+              ∙ ap (λ l. hits_under bytes l ++ hits_under bytes (keys_in (fields_if columns) (fields_if fields)))
+              (one text some)))
               ∙ so_far.parts;
         }
       where
@@ -82,13 +91,16 @@ module _ (heading row : List ℕ) (bytes : ℕ) where
       → CountHits (hits ++ row_hits heading row) table
   ends_row hits columns fields table none so_far =
       subst (λ l. CountHits (hits ++ l) table)
-      (sym (append-nil so_far.done) ∙ ap (λ k. so_far.done ++ hits_under bytes k) (sym none) ∙ so_far.parts) so_far.so_far_counted
+      (sym (append-nil so_far.done) ∙ ap (λ k. so_far.done ++ hits_under bytes k) (sym none) ∙ so_far.parts)
+      so_far.so_far_counted
 
   pub ends_names : (hits : List Hit) (columns fields : Option (List ℕ)) (table : List ℕ → Option Count) → columns ≡ None
       → CountsOn hits columns fields table → CountHits (hits ++ row_hits heading row) table
-  ends_names hits columns fields table none = ends_row hits columns fields table (ap (λ c. keys_in (fields_if c) (fields_if fields)) none)
+  ends_names hits columns fields table none =
+      ends_row hits columns fields table (ap (λ c. keys_in (fields_if c) (fields_if fields)) none)
 
   pub ends_texts : (hits : List Hit) (columns fields : Option (List ℕ)) (table : List ℕ → Option Count) → fields ≡ None
       → CountsOn hits columns fields table → CountHits (hits ++ row_hits heading row) table
   ends_texts hits columns fields table none =
-      ends_row hits columns fields table (ap (λ f. keys_in (fields_if columns) (fields_if f)) none ∙ no_keys (fields_if columns))
+      ends_row hits columns fields table (ap (λ f. keys_in (fields_if columns) (fields_if f)) none
+      ∙ no_keys (fields_if columns))

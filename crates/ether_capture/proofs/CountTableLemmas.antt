@@ -13,11 +13,14 @@ use Rattle.std.proofs.lemmas.Map.Text.{is_eq-slice_cmp}
 use Rattle.ether_capture.specs.declared.count.Count.{Count}
 use Rattle.ether_capture.specs.KeyCounts.{AddsHit, plus}
 
-apart : (bs cs ks : List ℕ) → bytes_eq bs cs ≡ false → is_eq (slice_cmp nat_cmp bs ks) ≡ true → is_eq (slice_cmp nat_cmp cs ks) ≡ false
+apart : (bs cs ks : List ℕ) → bytes_eq bs cs ≡ false → is_eq (slice_cmp nat_cmp bs ks) ≡ true
+    → is_eq (slice_cmp nat_cmp cs ks) ≡ false
 apart bs cs ks n y =
-    is_eq-slice_cmp cs ks ∙ nat_list_eq_equiv.symm cs ks ∙ sym (nat_list_eq_equiv.congr bs ks cs (sym (is_eq-slice_cmp bs ks) ∙ y)) ∙ n
+    is_eq-slice_cmp cs ks ∙ nat_list_eq_equiv.symm cs ks
+    ∙ sym (nat_list_eq_equiv.congr bs ks cs (sym (is_eq-slice_cmp bs ks) ∙ y)) ∙ n
 
-other_entries : {K X : Type 0} (eq : K → K → Bool) (test : K → Bool) (old new : List (K × X)) → KeepsOthers eq test old new
+other_entries : {K X : Type 0} (eq : K → K → Bool) (test : K → Bool) (old new : List (K × X))
+    → KeepsOthers eq test old new
     → (other : K → Bool) → IsKeyTest eq other → AreApart test other → lookup other new ≡ lookup other old
 unfolding KeepsOthers
 other_entries eq test old new h = h
@@ -47,7 +50,8 @@ module _ (old new : BTreeMap (Vec ℕ) Count) (key : List ℕ) (bytes : ℕ) (co
       → AddsHit key bytes (at old) (at new)
   with_one_more is sum h q = updates_at old new key (Some next) h q ∙ same (bytes_eq key q) refl
     where
-      same : (b : Bool) → bytes_eq key q ≡ b → (if b then Some next else at old q) ≡ (if b then Some (plus (at old q) bytes) else at old q)
+      same : (b : Bool) → bytes_eq key q ≡ b → (if b then Some next else at old q)
+          ≡ (if b then Some (plus (at old q) bytes) else at old q)
       same false e = refl
       same true e =
           ap Some sum ∙ ap (λ o. Some (plus o bytes)) (sym is ∙ ap (at old) ((bytes_decides key q).0 e))

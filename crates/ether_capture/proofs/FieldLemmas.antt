@@ -23,21 +23,24 @@ last_none k before (b ∷ bs) none =
     (last_none k (before ++ b ∷ []) bs (tail_none k b bs none) ∙ append_assoc before (b ∷ []) bs)
 
 -- .. of a text and then another
-pub pieces_after : (k : ℕ) (before xs ys : List ℕ) → pieces k before (xs ++ ys) ≡ pieces k before xs ++ pieces k (last_piece k before xs) ys
+pub pieces_after : (k : ℕ) (before xs ys : List ℕ)
+    → pieces k before (xs ++ ys) ≡ pieces k before xs ++ pieces k (last_piece k before xs) ys
 pieces_after k before [] ys = refl
 pieces_after k before (b ∷ bs) ys =
     by (b == k) (pieces_after k [] bs ys) (pieces_after k (before ++ b ∷ []) bs ys)
   where
     by : (c : Bool)
         → pieces k [] (bs ++ ys) ≡ pieces k [] bs ++ pieces k (last_piece k [] bs) ys
-        → pieces k (before ++ b ∷ []) (bs ++ ys) ≡ pieces k (before ++ b ∷ []) bs ++ pieces k (last_piece k (before ++ b ∷ []) bs) ys
+        → pieces k (before ++ b ∷ []) (bs ++ ys) ≡ pieces k (before ++ b ∷ []) bs
+        ++ pieces k (last_piece k (before ++ b ∷ []) bs) ys
         → (if c then before ∷ pieces k [] (bs ++ ys) else pieces k (before ++ b ∷ []) (bs ++ ys))
         ≡ (if c then before ∷ pieces k [] bs else pieces k (before ++ b ∷ []) bs)
         ++ pieces k (if c then last_piece k [] bs else last_piece k (before ++ b ∷ []) bs) ys
     by true e f = ap (λ l. before ∷ l) e
     by false e f = f
 
-pub last_after : (k : ℕ) (before xs ys : List ℕ) → last_piece k before (xs ++ ys) ≡ last_piece k (last_piece k before xs) ys
+pub last_after : (k : ℕ) (before xs ys : List ℕ)
+    → last_piece k before (xs ++ ys) ≡ last_piece k (last_piece k before xs) ys
 last_after k before [] ys = refl
 last_after k before (b ∷ bs) ys = by (b == k) (last_after k [] bs ys) (last_after k (before ++ b ∷ []) bs ys)
   where
@@ -66,7 +69,8 @@ next_field text field after is =
 
 -- ---- numbers
 
-pub decimal_more : (before : ℕ) (ds : List ℕ) (d : ℕ) → decimal_value before (ds ++ d ∷ []) ≡ decimal_value before ds * 10 + (d - 48)
+pub decimal_more : (before : ℕ) (ds : List ℕ) (d : ℕ)
+    → decimal_value before (ds ++ d ∷ []) ≡ decimal_value before ds * 10 + (d - 48)
 decimal_more before [] d = refl
 decimal_more before (x ∷ xs) d = decimal_more (before * 10 + (x - 48)) xs d
 
@@ -75,7 +79,8 @@ pub decimal_turn : (ds : List ℕ) (i value : ℕ) → i < length ds → value �
 decimal_turn ds i value lt so_far =
     let one : i + 1 ≡ suc i = omega arith in
     let more : decimal_value 0 (take (i + 1) ds) ≡ decimal_value 0 (take i ds) * 10 + (slice_index_or ds i 0 - 48) =
-    ap (λ n. decimal_value 0 (take n ds)) one ∙ ap (decimal_value 0) (take-suc ds i 0 lt) ∙ decimal_more 0 (take i ds) (slice_index_or ds i 0) in
+    ap (λ n. decimal_value 0 (take n ds)) one ∙ ap (decimal_value 0) (take-suc ds i 0 lt)
+    ∙ decimal_more 0 (take i ds) (slice_index_or ds i 0) in
     omega (arith, more, so_far)
 
 -- ---- keys

@@ -6,12 +6,15 @@ use Rattle.ether_capture.specs.HeldRows.{HoldsRows}
 use Rattle.ether_capture.specs.Tabulating.{Tabulates}
 use Rattle.ether_capture.specs.declared.rows.Rows.{Rows}
 
-pub kept_at_first : (is_known : Bool) (rows : Rows) → Tabulates [] rows → HoldsRows is_known false (known_if is_known) rows
+pub kept_at_first : (is_known : Bool) (rows : Rows) → Tabulates [] rows
+    → HoldsRows is_known false (known_if is_known) rows
 kept_at_first false rows none = tt
 kept_at_first true rows none = none
 
-pub kept_after : (is_known failed : Bool) (held holds : Option (List ℕ)) (bytes : List ℕ) (old new : Rows) → failed ≡ false
-    → HoldsRows is_known failed held old → Appends held holds bytes → ((text : List ℕ) → Tabulates text old → Tabulates (text ++ bytes) new)
+pub kept_after : (is_known failed : Bool) (held holds : Option (List ℕ)) (bytes : List ℕ) (old new : Rows)
+    → failed ≡ false
+    → HoldsRows is_known failed held old → Appends held holds bytes
+    → ((text : List ℕ) → Tabulates text old → Tabulates (text ++ bytes) new)
     → HoldsRows is_known false holds new
 kept_after false failed held holds bytes old new going kept appends takes = tt
 kept_after true true held holds bytes old new going kept appends takes = absurd cc

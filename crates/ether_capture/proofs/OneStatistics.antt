@@ -34,7 +34,8 @@ self_equal k = by (order k k) (nat_list_cmp_total.antisymm k k)
 head_found : (e : List ℕ × Count) (es : List (List ℕ × Count)) → found e.0 (e ∷ es) ≡ Some e.1
 head_found e es = λ i. cond (is_eq (self_equal e.0 i)) (Some e.1) (found e.0 es)
 
-none_above : (q : List ℕ) (es : List (List ℕ × Count)) → AllByRecursion (λ k. order q k ≡ Less) (keys_of es) → found q es ≡ None
+none_above : (q : List ℕ) (es : List (List ℕ × Count)) → AllByRecursion (λ k. order q k ≡ Less) (keys_of es)
+    → found q es ≡ None
 none_above q [] all = refl
 none_above q (e ∷ es) all = (λ i. cond (is_eq (all.0 i)) (Some e.1) (found q es)) ∙ none_above q es all.1
 
@@ -43,7 +44,8 @@ all_less : (a b : List ℕ) → order a b ≡ Less → (ks : List (List ℕ)) �
 all_less a b less [] all = tt
 all_less a b less (k ∷ ks) all = (nat_list_cmp_total.trans a b k less all.0, all_less a b less ks all.1)
 
-not_before : (e f : List ℕ × Count) (es fs : List (List ℕ × Count)) → IsStrictlySortedBy order (keys_of (f ∷ fs)) → order e.0 f.0 ≡ Less
+not_before : (e f : List ℕ × Count) (es fs : List (List ℕ × Count)) → IsStrictlySortedBy order (keys_of (f ∷ fs))
+    → order e.0 f.0 ≡ Less
     → found e.0 (e ∷ es) ≡ found e.0 (f ∷ fs) → ⊥
 not_before e f es fs sorted less same =
     let none : Some e.1 ≡ None = sym (head_found e es) ∙ same
@@ -74,13 +76,15 @@ tails_same e f es fs s t key same q = by (is_eq (order q e.0)) refl
 some_count : (a b : Count) → Some a ≡ Some b → a ≡ b
 some_count a b e = ap (λ (o : Option Count). unwrap_or o a) e
 
-one_list : (es fs : List (List ℕ × Count)) → IsStrictlySortedBy order (keys_of es) → IsStrictlySortedBy order (keys_of fs)
+one_list : (es fs : List (List ℕ × Count)) → IsStrictlySortedBy order (keys_of es)
+    → IsStrictlySortedBy order (keys_of fs)
     → ((q : List ℕ) → found q es ≡ found q fs) → es ≡ fs
 one_list [] [] s t same = refl
 one_list [] (f ∷ fs) s t same = let none : None ≡ Some f.1 = same f.0 ∙ head_found f fs in absurd cc
 one_list (e ∷ es) [] s t same = let none : None ≡ Some e.1 = sym (same e.0) ∙ head_found e es in absurd cc
 one_list (e ∷ es) (f ∷ fs) s t same =
-    by (order e.0 f.0) refl (one_list es fs (sorted_tail order e.0 (keys_of es) s) (sorted_tail order f.0 (keys_of fs) t))
+    by (order e.0 f.0) refl (one_list es fs (sorted_tail order e.0 (keys_of es) s)
+    (sorted_tail order f.0 (keys_of fs) t))
   where
     by : (r : Ordering) → order e.0 f.0 ≡ r → (((q : List ℕ) → found q es ≡ found q fs) → es ≡ fs) → (e ∷ es) ≡ (f ∷ fs)
     by Less is tail = absurd (not_before e f es fs t is (same e.0))
@@ -111,7 +115,8 @@ keys_same (r ∷ rs) = ap (λ l. r.key ∷ l) (keys_same rs)
 found_same : (q : List ℕ) (es : List (List ℕ × Count)) → found q es ≡ lookup (bytes_eq q) es
 found_same q es = λ i. lookup (λ k. is_eq-slice_cmp q k i) es
 
-one_table : (table : List ℕ → Option Count) (rows others : List StatisticsRow) → AreRows table rows → AreRows table others → rows ≡ others
+one_table : (table : List ℕ → Option Count) (rows others : List StatisticsRow) → AreRows table rows
+    → AreRows table others → rows ≡ others
 one_table table rows others a b =
     let same : map entry_of rows ≡ map entry_of others =
     one_list (map entry_of rows) (map entry_of others) (subst (IsStrictlySortedBy order) (keys_same rows) a.sorted)
@@ -119,7 +124,9 @@ one_table table rows others a b =
     (λ q. found_same q (map entry_of rows) ∙ a.exact q ∙ sym (b.exact q) ∙ sym (found_same q (map entry_of others))) in
     sym (rows_back rows) ∙ ap (map row_back) same ∙ rows_back others
 
-pub one_statistics : (format : StatisticsFormat) (text a b : List ℕ) → IsStatistics format text a → IsStatistics format text b → a ≡ b
+pub one_statistics : (format : StatisticsFormat) (text a b : List ℕ) → IsStatistics format text a
+    → IsStatistics format text b → a ≡ b
 one_statistics format text a b s t =
-    s.is_text ∙ ap (flat_map (statistics_line format)) (one_table (count_of (lines_hits (lines_of text))) s.rows t.rows s.are_rows t.are_rows)
+    s.is_text ∙ ap (flat_map (statistics_line format))
+    (one_table (count_of (lines_hits (lines_of text))) s.rows t.rows s.are_rows t.are_rows)
     ∙ sym t.is_text

@@ -1,5 +1,5 @@
 -- What `clap` finds among the arguments.
-use Rattle.std.proofs.Common.{◌≡◌, List, [], Bool, ◌||◌, true, false, Result, Ok, Err, IfOk, IfErr, IsErrAnd, inl, inr, refl, sym, ap, subst, ◌∙◌}
+use Rattle.std.proofs.Common.{◌≡◌, List, [], true, Result, Ok, Err, IfOk, IfErr, IsErrAnd, inl, inr, refl, sym, ap, subst, ◌∙◌}
 use Rattle.clap.specs.Words.{App, FailsBy, HasKind, HasMatchesOf, IsAmong, Row, Text, fault_of, found_of, is_simple, is_simple_and_free, kind_of, matches_of, rows_of}
 use Rattle.clap.specs.declared.error.Error.{Error}
 use Rattle.clap.specs.declared.error.kind.ErrorKind.{ErrorKind}
@@ -90,7 +90,8 @@ module _ (words : List Text) (kind : ErrorKind) (e : Error) (fails : HasKind (fa
   kind_refused (Ok request) means = tt
   kind_refused (Err (reasons.Filter other)) never = absurd never
   kind_refused (Err reasons.Memory) means = no_memory
-  kind_refused (Err (reasons.Usage usage)) ((no_help, no_version, has_memory), means) = clap_refuses usage (by_kind fails) means
+  kind_refused (Err (reasons.Usage usage)) ((no_help, no_version, has_memory), means) =
+      clap_refuses usage (by_kind fails) means
     where
       by_kind : HasKind (fault_of capture_app words) e → IsRefusedUsage words
       by_kind (inl ends) = absurd (has_memory (is ∙ ends))

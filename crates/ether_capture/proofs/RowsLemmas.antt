@@ -19,7 +19,8 @@ first_line [] line old new none so_far is heading counts = (
   (is, heading ∙ ap (λ (l : List ℕ). l ++ line) so_far.0.1),
   subst (λ t. CountHits [] (count_at t)) (sym counts) so_far.1,
 )
-first_line (h ∷ hs) line old new none so_far is heading counts = let e : true ≡ false = sym so_far.0.0 ∙ none in absurd cc
+first_line (h ∷ hs) line old new none so_far is heading counts = let e : true ≡ false = sym so_far.0.0 ∙ none in
+    absurd cc
 
 -- a row
 pub next_row : (lines : List (List ℕ)) (line : List ℕ) (old new : Rows) → old.has_heading ≡ true
@@ -37,7 +38,8 @@ next_row (h ∷ hs) line old new some so_far is heading counts = (
       (counts (lines_hits (h ∷ hs)) so_far.1),
 )
 
-has_same : (l : List (List ℕ)) (old new : Rows) → new.has_heading ≡ old.has_heading → new.heading ≡ old.heading → HasHeading l old → HasHeading l new
+has_same : (l : List (List ℕ)) (old new : Rows) → new.has_heading ≡ old.has_heading → new.heading ≡ old.heading
+    → HasHeading l old → HasHeading l new
 has_same [] old new is heading (a, b) = (is ∙ a, ap (λ t. t.bytes.items) heading ∙ b)
 has_same (h ∷ hs) old new is heading (a, b) = (is ∙ a, ap (λ t. t.bytes.items) heading ∙ b)
 
@@ -49,20 +51,26 @@ line_goes_on text bytes old new none so_far is heading counts line =
     let lines : lines_of (text ++ bytes) ≡ lines_of text =
     pieces_after 10 [] text bytes ∙ ap (λ l. lines_of text ++ l) (pieces_none 10 (last_piece 10 [] text) bytes none)
     ∙ append-nil (lines_of text) in (
-      subst (λ l. TabulatesLines l new) (sym lines)
-          (has_same (lines_of text) old new is heading so_far.0.0, subst (λ t. CountHits (lines_hits (lines_of text)) (count_at t)) (sym counts) so_far.0.1),
-      line ∙ ap (λ l. l ++ bytes) so_far.1 ∙ sym (last_after 10 [] text bytes ∙ last_none 10 (last_piece 10 [] text) bytes none),
+      subst (λ l. TabulatesLines l new) (sym lines) (
+        has_same (lines_of text) old new is heading so_far.0.0,
+        subst
+            (λ t. CountHits (lines_hits (lines_of text)) (count_at t)) (sym counts) so_far.0.1,
+      ),
+      line ∙ ap (λ l. l ++ bytes) so_far.1 ∙ sym
+          (last_after 10 [] text bytes ∙ last_none 10 (last_piece 10 [] text) bytes none),
     )
 
 -- the line ends
-pub line_ends : (text : List ℕ) (old mid new : Rows) → Tabulates text old → TabulatesLines (lines_of text ++ old.line.bytes.items ∷ []) mid
+pub line_ends : (text : List ℕ) (old mid new : Rows) → Tabulates text old
+    → TabulatesLines (lines_of text ++ old.line.bytes.items ∷ []) mid
     → new.has_heading ≡ mid.has_heading → new.heading ≡ mid.heading → new.counts ≡ mid.counts
     → new.line.bytes.items ≡ [] → Tabulates (text ++ 10 ∷ []) new
 line_ends text old mid new so_far taken is heading counts line = (
   subst (λ l. TabulatesLines l new)
       (ap (λ l. lines_of text ++ l ∷ []) so_far.1 ∙ sym (pieces_after 10 [] text (10 ∷ []))) (
         has_same (lines_of text ++ old.line.bytes.items ∷ []) mid new is heading taken.0,
-        subst (λ t. CountHits (lines_hits (lines_of text ++ old.line.bytes.items ∷ [])) (count_at t)) (sym counts) taken.1,
+        subst (λ t. CountHits (lines_hits (lines_of text ++ old.line.bytes.items ∷ [])) (count_at t))
+            (sym counts) taken.1,
       ),
   line ∙ sym (last_after 10 [] text (10 ∷ [])),
 )
@@ -71,4 +79,5 @@ line_ends text old mid new so_far taken is heading counts line = (
 pub next_part : (bytes done rest before after : List ℕ) → bytes ≡ done ++ rest → SplitsAt 10 rest before after
     → bytes ≡ (done ++ (before ++ 10 ∷ [])) ++ after
 next_part bytes done rest before after e is =
-    e ∙ ap (λ l. done ++ l) (is.parts ∙ sym (append_assoc before (10 ∷ []) after)) ∙ sym (append_assoc done (before ++ 10 ∷ []) after)
+    e ∙ ap (λ l. done ++ l) (is.parts ∙ sym (append_assoc before (10 ∷ []) after))
+    ∙ sym (append_assoc done (before ++ 10 ∷ []) after)

@@ -34,13 +34,15 @@ sorted_keys (e ∷ es) sorted = (below es sorted.0, sorted_keys es sorted.1)
     below (f ∷ fs) all = (all.0, below fs all.1)
 
 found_rows : (key : List ℕ) (es : List (Vec ℕ × Count))
-    → lookup (bytes_eq key) (map (λ r. (r.key, r.count)) (map row_of es)) ≡ lookup (λ k. is_eq (slice_cmp nat_cmp key k.items)) es
+    → lookup (bytes_eq key) (map (λ r. (r.key, r.count)) (map row_of es))
+    ≡ lookup (λ k. is_eq (slice_cmp nat_cmp key k.items)) es
 found_rows key [] = refl
 found_rows key (e ∷ es) =
     let same : bytes_eq key e.0.items ≡ is_eq (slice_cmp nat_cmp key e.0.items) = sym (is_eq-slice_cmp key e.0.items) in
     (λ i. cond (same i) (Some e.1) (found_rows key es i))
 
-pub are_rows : (m : BTreeMap (Vec ℕ) Count) → IsStrictlySortedBy (λ x y. slice_cmp nat_cmp x.items y.items) (keys_of m.entries)
+pub are_rows : (m : BTreeMap (Vec ℕ) Count)
+    → IsStrictlySortedBy (λ x y. slice_cmp nat_cmp x.items y.items) (keys_of m.entries)
     → AreRows (at m) (map row_of m.entries)
 are_rows m sorted = record { sorted = sorted_keys m.entries sorted; exact = λ key. found_rows key m.entries }
 

@@ -6,7 +6,8 @@ use Rattle.etherparse.specs.Arp.{ArpValue}
 use Rattle.ether_format.specs.Brief.{arp_other, arp_reply, arp_request, brief_arp}
 
 pub of_request : (a : ArpValue) → a.operation ≡ 1 → brief_arp a ≡ arp_request a
-of_request a is = ap (λ b. if b then arp_request a else (if nat_eq a.operation 2 then arp_reply a else arp_other a)) (eq-eqb _ _ is)
+of_request a is = ap (λ b. if b then arp_request a else (if nat_eq a.operation 2 then arp_reply a else arp_other a))
+    (eq-eqb _ _ is)
 
 pub of_reply : (a : ArpValue) → ¬ (a.operation ≡ 1) → a.operation ≡ 2 → brief_arp a ≡ arp_reply a
 of_reply a not is =

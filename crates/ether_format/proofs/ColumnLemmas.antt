@@ -150,13 +150,17 @@ no_headers_section h same = true_false (sym (ap is_headers same) ∙ a_header h)
 -- a column of a header's section has no value under `headers`, and one of another section none under the header's name
 module _ (c : Column) (h : Told) where
   pub own_value : c.section ≡ section_of h
-      → values_in (column_view c) (section (section_name (section_of h)) (told_members h)) ≡ header_values (column_view c) h
+      → values_in (column_view c) (section (section_name (section_of h)) (told_members h))
+      ≡ header_values (column_view c) h
   own_value same =
-      let none = values_none c parts.Headers (placed_members (told_name h) (told_place h) []) (λ other. no_headers_section h (sym same ∙ other)) in
+      let none = values_none c parts.Headers (placed_members (told_name h) (told_place h) [])
+      (λ other. no_headers_section h (sym same ∙ other)) in
       ap (λ n. values_in (column_view c) (section n (told_members h))) (sym (told_named h))
-      ∙ sym (append-nil _) ∙ ap (λ l. values_in (column_view c) (section (told_name h) (told_members h)) ++ l) (sym none)
+      ∙ sym (append-nil _) ∙ ap (λ l. values_in (column_view c) (section (told_name h) (told_members h)) ++ l)
+      (sym none)
 
-  pub placed_value : (c.section ≡ section_of h → ⊥) → values_placed (column_view c) (section_name (section_of h)) (told_place h)
+  pub placed_value : (c.section ≡ section_of h → ⊥)
+      → values_placed (column_view c) (section_name (section_of h)) (told_place h)
       ≡ header_values (column_view c) h
   placed_value other =
       let none = values_none c (section_of h) (told_members h) other in
@@ -169,7 +173,8 @@ module _ (c : Column) (h : Told) where
 -- the header of a view has these members
 abbrev Ethernet2 : (fcs : Bool) → DeclaredPlace → Frame → Told
 Ethernet2 fcs place f =
-    Walked (place_view place) (if fcs then headers.Ethernet2Fcs (ethernet2_of f.bytes) else headers.Ethernet2 (ethernet2_of f.bytes)) (fcs_of f)
+    Walked (place_view place) (if fcs then headers.Ethernet2Fcs (ethernet2_of f.bytes) else headers.Ethernet2
+    (ethernet2_of f.bytes)) (fcs_of f)
 
 record IsUnit (told : Told) (place : DeclaredPlace) (u : PeelUnit) : Type 0 where
   of : section_of told ≡ unit_section u
@@ -186,17 +191,22 @@ is_unit place (units.Vlan bytes) = record { of = refl; members = refl }
 is_unit place (units.Macsec packet) = record { of = refl; members = refl }
 is_unit place (units.Arp bytes) = record { of = refl; members = refl }
 
-pub in_unit : (c : Column) (place : DeclaredPlace) (u : PeelUnit) (name : List ℕ) (s : Section) (first own : List DeclaredMember) (os : List Member)
-    → map keyed_view first ≡ keyed (placed_members name (place_view place) []) → name ≡ section_name s → s ≡ unit_section u → c.section ≡ s
+pub in_unit : (c : Column) (place : DeclaredPlace) (u : PeelUnit) (name : List ℕ) (s : Section)
+    (first own : List DeclaredMember) (os : List Member)
+    → map keyed_view first ≡ keyed (placed_members name (place_view place) []) → name ≡ section_name s
+    → s ≡ unit_section u → c.section ≡ s
     → map keyed_view own ≡ others os → unit_members u ≡ os
-    → value_at (map (λ m. value_view m.value) first ++ map (λ m. value_view m.value) own) c.index ≡ header_values (column_view c) (told_view place u)
+    → value_at (map (λ m. value_view m.value) first ++ map (λ m. value_view m.value) own) c.index
+    ≡ header_values (column_view c) (told_view place u)
 in_unit c place u name s first own os begins is_name is_section same goes_on is =
     let told = told_view place u in
     let unit = is_unit place u in
     let here : section_of told ≡ s = unit.of ∙ sym is_section in
     let all = placed_members (section_name s) (place_view place) os in
-    let whole : told_members told ≡ all = unit.members ∙ (λ i. placed_members (section_name (sym is_section i)) (place_view place) (is i)) in
-    let names : map (λ m. m.name) all ≡ section_members s = ap (map (λ m. m.name)) (sym whole) ∙ names_told told ∙ ap section_members here in
+    let whole : told_members told ≡ all = unit.members
+    ∙ (λ i. placed_members (section_name (sym is_section i)) (place_view place) (is i)) in
+    let names : map (λ m. m.name) all ≡ section_members s = ap (map (λ m. m.name)) (sym whole) ∙ names_told told
+    ∙ ap section_members here in
     value_is c s first own (placed_members (section_name s) (place_view place) []) os all
     (begins ∙ ap (λ n. keyed (placed_members n (place_view place) [])) is_name) goes_on refl names same
     ∙ (λ i. values_in (column_view c) (section (section_name (sym here i)) (sym whole i)))
@@ -211,7 +221,8 @@ later_at name place os n le =
 
 -- .. and those of the name and the place, whatever comes after them
 first_at : (name : List ℕ) (place : Place) (os : List Member) (n : ℕ) → n < 5
-    → value_at (member_values (placed_members name place [])) n ≡ value_at (member_values (placed_members name place os)) n
+    → value_at (member_values (placed_members name place [])) n
+    ≡ value_at (member_values (placed_members name place os)) n
 first_at name place os zero lt = refl
 first_at name place os (suc zero) lt = refl
 first_at name place os (suc (suc zero)) lt = refl
@@ -224,13 +235,15 @@ record HasMembers (told : Told) (s : Section) (place : Place) (os : List Member)
   of : section_of told ≡ s
   members : told_members told ≡ placed_members (section_name s) place os
 
-has_members : (place : DeclaredPlace) (h : FoundHeader) → HasMembers (header_told place h) (found_section h) (place_view place) (found_members h)
+has_members : (place : DeclaredPlace) (h : FoundHeader)
+    → HasMembers (header_told place h) (found_section h) (place_view place) (found_members h)
 has_members place (found.Walked u) = let unit = is_unit place u in record { of = unit.of; members = unit.members }
 has_members place (found.Cooked header) = record { of = refl; members = refl }
 has_members place (found.CookedV2 packet) = record { of = refl; members = refl }
 
 module _ (c : Column) (place : DeclaredPlace) (h : FoundHeader) (same : c.section ≡ found_section h) where
-  in_all : value_at (member_values (placed_members (section_name (found_section h)) (place_view place) (found_members h))) c.index
+  in_all : value_at (member_values (placed_members (section_name (found_section h)) (place_view place)
+      (found_members h))) c.index
       ≡ header_values (column_view c) (header_told place h)
   in_all =
       let told = header_told place h in
@@ -239,15 +252,18 @@ module _ (c : Column) (place : DeclaredPlace) (h : FoundHeader) (same : c.sectio
       let all = placed_members (section_name s) (place_view place) (found_members h) in
       let names : map (λ m. m.name) all ≡ section_members s =
       ap (map (λ m. m.name)) (sym is.members) ∙ names_told told ∙ ap section_members is.of in
-      sym (values_some c s all same names) ∙ (λ i. values_in (column_view c) (section (section_name (sym is.of i)) (sym is.members i)))
+      sym (values_some c s all same names) ∙ (λ i. values_in (column_view c)
+      (section (section_name (sym is.of i)) (sym is.members i)))
       ∙ own_value c told (same ∙ sym is.of)
 
   -- a member of its own
-  pub in_own : 5 ≤ c.index → value_at (member_values (found_members h)) (c.index - 5) ≡ header_values (column_view c) (header_told place h)
+  pub in_own : 5 ≤ c.index → value_at (member_values (found_members h)) (c.index - 5)
+      ≡ header_values (column_view c) (header_told place h)
   in_own le = later_at (section_name (found_section h)) (place_view place) (found_members h) c.index le ∙ in_all
 
   -- its name, or a member of its place
-  pub in_front : c.index < 5 → value_at (member_values (placed_members (section_name (found_section h)) (place_view place) [])) c.index
+  pub in_front : c.index < 5 → value_at (member_values
+      (placed_members (section_name (found_section h)) (place_view place) [])) c.index
       ≡ header_values (column_view c) (header_told place h)
   in_front lt = first_at (section_name (found_section h)) (place_view place) (found_members h) c.index lt ∙ in_all
 
@@ -258,14 +274,17 @@ module _ (c : Column) where
   abbrev frame_values : ℕ → PacketValue → Option Moment → List Value
   frame_values number p moment = values_in (column_view c) (section (codes "frame") (packet_members number p moment))
 
-  no_frame : (number : ℕ) (p : PacketValue) (moment : Option Moment) → (rank c.section ≡ 0 → ⊥) → frame_values number p moment ≡ []
-  no_frame number p moment other = values_none c parts.Frame (packet_members number p moment) (λ same. other (ap rank same))
+  no_frame : (number : ℕ) (p : PacketValue) (moment : Option Moment) → (rank c.section ≡ 0 → ⊥)
+      → frame_values number p moment ≡ []
+  no_frame number p moment other = values_none c parts.Frame (packet_members number p moment)
+      (λ same. other (ap rank same))
 
   no_header : (h : Told) → (rank c.section ≡ 1 → ⊥) → header_values (column_view c) h ≡ []
   no_header h other =
       let own = subst (λ (n : List ℕ). values_in (column_view c) (section n (told_members h)) ≡ []) (sym (told_named h))
       (values_none c (section_of h) (told_members h) (λ same. other (ap rank same ∙ header_rank h))) in
-      let placed = values_none c parts.Headers (placed_members (told_name h) (told_place h) []) (λ same. other (ap rank same)) in
+      let placed = values_none c parts.Headers (placed_members (told_name h) (told_place h) [])
+      (λ same. other (ap rank same)) in
       λ i. own i ++ placed i
 
   no_end : (end : ToldEnd) → (rank c.section ≡ 2 → ⊥) → end_values (column_view c) end ≡ []
@@ -283,10 +302,12 @@ module _ (c : Column) where
   never [] = refl
   never (v ∷ vs) = refl
 
-  pub more : (first : Bool) (vs ws : List Value) → column_on first (vs ++ ws) ≡ column_on first vs ++ column_on (still_first first vs) ws
+  pub more : (first : Bool) (vs ws : List Value)
+      → column_on first (vs ++ ws) ≡ column_on first vs ++ column_on (still_first first vs) ws
   more first [] ws = refl
   more first (v ∷ vs) ws =
-      ap (λ t. comma_if first ++ (column_value v ++ t)) (more false vs ws ∙ ap (λ (b : Bool). column_on false vs ++ column_on b ws) (never vs))
+      ap (λ t. comma_if first ++ (column_value v ++ t))
+      (more false vs ws ∙ ap (λ (b : Bool). column_on false vs ++ column_on b ws) (never vs))
       ∙ ap (λ t. comma_if first ++ t) (sym (append_assoc (column_value v) (column_on false vs) (column_on false ws)))
       ∙ sym (append_assoc (comma_if first) (column_value v ++ column_on false vs) (column_on false ws))
 
@@ -296,7 +317,8 @@ module _ (c : Column) where
   told_values first [] end = refl
   told_values first (h ∷ hs) end =
       let vs = header_values (column_view c) h in
-      ap (λ t. column_on first vs ++ t) (told_values (still_first first vs) hs end) ∙ sym (append_assoc (column_on first vs) _ _)
+      ap (λ t. column_on first vs ++ t) (told_values (still_first first vs) hs end)
+      ∙ sym (append_assoc (column_on first vs) _ _)
       ∙ ap (λ t. t ++ column_on true (end_values (column_view c) end)) (sym (more first vs _))
 
   joined : (vs : List Value) → column_on true vs ≡ join_by column_value (codes ",") vs
@@ -305,9 +327,11 @@ module _ (c : Column) where
     where
       after : (ws : List Value) → column_on false ws ≡ flat_map (λ w. codes "," ++ column_value w) ws
       after [] = refl
-      after (w ∷ ws) = ap (λ t. codes "," ++ (column_value w ++ t)) (after ws) ∙ sym (append_assoc (codes ",") (column_value w) _)
+      after (w ∷ ws) = ap (λ t. codes "," ++ (column_value w ++ t)) (after ws)
+          ∙ sym (append_assoc (codes ",") (column_value w) _)
 
-  in_sections : (hs : List Told) → flat_map (values_in (column_view c)) (flat_map header_sections hs) ≡ flat_map (header_values (column_view c)) hs
+  in_sections : (hs : List Told) → flat_map (values_in (column_view c)) (flat_map header_sections hs)
+      ≡ flat_map (header_values (column_view c)) hs
   in_sections [] = refl
   in_sections (h ∷ hs) =
       flat_map-append (values_in (column_view c)) (header_sections h) (flat_map header_sections hs)
@@ -327,13 +351,15 @@ module _ (c : Column) where
   -- only one of the three has values
   parted : (number : ℕ) (p : PacketValue) (moment : Option Moment) (hs : List Told) (end : ToldEnd)
       → column_on true (frame_values number p moment)
-      ++ (column_on true (flat_map (header_values (column_view c)) hs) ++ column_on true (end_values (column_view c) end))
+      ++ (column_on true (flat_map (header_values (column_view c)) hs)
+      ++ column_on true (end_values (column_view c) end))
       ≡ column_on true
       (frame_values number p moment ++ (flat_map (header_values (column_view c)) hs ++ end_values (column_view c) end))
   parted number p moment hs end = by_rank (rank c.section) refl
     where
       by_rank : (n : ℕ) → rank c.section ≡ n
-          → Parted (frame_values number p moment) (flat_map (header_values (column_view c)) hs) (end_values (column_view c) end)
+          → Parted (frame_values number p moment) (flat_map (header_values (column_view c)) hs)
+          (end_values (column_view c) end)
       by_rank zero is =
           let ws = no_headers hs (λ e. let never : 0 ≡ 1 = sym is ∙ e in omega (arith, never)) in
           let us = no_end end (λ e. let never : 0 ≡ 2 = sym is ∙ e in omega (arith, never)) in
@@ -357,10 +383,12 @@ module _ (c : Column) where
       ≡ column_text (column_view c) (sections number p moment hs end)
   column_whole number p moment hs end =
       ap (λ t. front_text (written.Column c) number p moment ++ t) (append-nil _ ∙ told_values true hs end)
-      ∙ parted number p moment hs end ∙ joined _ ∙ ap (join_by column_value (codes ",")) (sym (all_values number p moment hs end))
+      ∙ parted number p moment hs end ∙ joined _
+      ∙ ap (join_by column_value (codes ",")) (sym (all_values number p moment hs end))
 
   -- a column of the packet itself, whatever its headers are
-  pub frame_only : c.section ≡ parts.Frame → (number : ℕ) (p : PacketValue) (moment : Option Moment) (hs : List Told) (end : ToldEnd)
+  pub frame_only : c.section ≡ parts.Frame → (number : ℕ) (p : PacketValue) (moment : Option Moment) (hs : List Told)
+      (end : ToldEnd)
       → column_on true (values_in (column_view c) (section (codes "frame") (packet_members number p moment)))
       ≡ column_text (column_view c) (sections number p moment hs end)
   frame_only same number p moment hs end =
@@ -374,7 +402,8 @@ module _ (c : Column) where
   -- a column of headers, whatever the packet and the end are
   pub headers_only : (c.section ≡ parts.Frame → ⊥) → is_end_section c.section ≡ false
       → (number : ℕ) (p : PacketValue) (moment : Option Moment) (hs : List Told) (end : ToldEnd)
-      → column_on true (flat_map (header_values (column_view c)) hs) ≡ column_text (column_view c) (sections number p moment hs end)
+      → column_on true (flat_map (header_values (column_view c)) hs)
+      ≡ column_text (column_view c) (sections number p moment hs end)
   headers_only other none number p moment hs end =
       let vs = no_frame number p moment (λ e. other (first_rank c.section e)) in
       let us = no_end end (λ e. true_false (sym (last_rank c.section e) ∙ none)) in

@@ -92,7 +92,8 @@ members_apart sections.Headers = refl
 members_apart sections.Rest = refl
 members_apart sections.Fault = refl
 
-not_at : (name : List ℕ) (ns : List (List ℕ)) (i : ℕ) → is_apart name ns ≡ true → bytes_eq name (slice_index_or ns i []) ≡ false
+not_at : (name : List ℕ) (ns : List (List ℕ)) (i : ℕ) → is_apart name ns ≡ true
+    → bytes_eq name (slice_index_or ns i []) ≡ false
 not_at name [] i apart = is_false (bytes_eq name []) apart
 not_at name (n ∷ ns) zero apart = is_false (bytes_eq name n) (both _ _ apart).0
 not_at name (n ∷ ns) (suc i) apart = not_at name ns i (both _ _ (both _ _ apart).1).1
@@ -101,14 +102,16 @@ no_other : (name : List ℕ) (ms : List Member) → is_apart name (map (λ m. m.
 no_other name [] apart = refl
 no_other name (m ∷ ms) apart =
     let two = both _ _ (both _ _ apart).1 in
-    ap (λ (b : Bool). if b then m.value ∷ values_named name ms else values_named name ms) (is_false (bytes_eq m.name name) two.0)
+    ap (λ (b : Bool). if b then m.value ∷ values_named name ms else values_named name ms)
+    (is_false (bytes_eq m.name name) two.0)
     ∙ no_other name ms two.1
 
 none_unnamed : (ms : List Member) → are_apart (map (λ m. m.name) ms) ≡ true → values_named [] ms ≡ []
 none_unnamed [] apart = refl
 none_unnamed (m ∷ ms) apart =
     let two = both _ _ apart in
-    ap (λ (b : Bool). if b then m.value ∷ values_named [] ms else values_named [] ms) (no_name m.name (map (λ n. n.name) ms) two.0)
+    ap (λ (b : Bool). if b then m.value ∷ values_named [] ms else values_named [] ms)
+    (no_name m.name (map (λ n. n.name) ms) two.0)
     ∙ none_unnamed ms two.1
   where
     no_name : (name : List ℕ) (ns : List (List ℕ)) → is_apart name ns ≡ true → bytes_eq name [] ≡ false
@@ -133,7 +136,8 @@ value_named (m ∷ ms) (suc i) apart =
 
 module _ (c : Column) (s : Section) where
   -- in another section it has none
-  pub values_none : (ms : List Member) → (c.section ≡ s → ⊥) → values_in (column_view c) (section (section_name s) ms) ≡ []
+  pub values_none : (ms : List Member) → (c.section ≡ s → ⊥)
+      → values_in (column_view c) (section (section_name s) ms) ≡ []
   values_none ms other =
       ap (λ (b : Bool). if b then values_named (column_view c).member ms else [])
       (other_bytes (section_name s) (section_name c.section) (λ same. other (sym (one_section s c.section same))))
@@ -142,17 +146,20 @@ module _ (c : Column) (s : Section) where
       → values_in (column_view c) (section (section_name s) ms) ≡ value_at (map (λ m. m.value) ms) c.index
   values_some ms same names =
       ap (λ (b : Bool). if b then values_named (column_view c).member ms else [])
-      (subst (λ (t : Section). bytes_eq (section_name s) (section_name t) ≡ true) (sym same) (same_bytes (section_name s)))
+      (subst (λ (t : Section). bytes_eq (section_name s) (section_name t) ≡ true) (sym same)
+      (same_bytes (section_name s)))
       ∙ ap (λ (l : List (List ℕ)). values_named (slice_index_or l c.index []) ms) (ap section_members same ∙ sym names)
       ∙ value_named ms c.index (subst (λ (l : List (List ℕ)). are_apart l ≡ true) (sym names) (members_apart s))
 
 -- ---- members as they are declared
 
-declared_values : (l : List DeclaredMember) → map (λ m. value_view m.value) l ≡ map (λ (k : Keyed). k.value) (map keyed_view l)
+declared_values : (l : List DeclaredMember)
+    → map (λ m. value_view m.value) l ≡ map (λ (k : Keyed). k.value) (map keyed_view l)
 declared_values [] = refl
 declared_values (m ∷ l) = ap (λ vs. value_view m.value ∷ vs) (declared_values l)
 
-others_values : (before : List ℕ) (ms : List Member) → map (λ (k : Keyed). k.value) (map (key_of before) ms) ≡ map (λ m. m.value) ms
+others_values : (before : List ℕ) (ms : List Member)
+    → map (λ (k : Keyed). k.value) (map (key_of before) ms) ≡ map (λ m. m.value) ms
 others_values before [] = refl
 others_values before (m ∷ ms) = ap (λ vs. m.value ∷ vs) (others_values before ms)
 
@@ -170,7 +177,8 @@ pub own_values : (own : List DeclaredMember) (os : List Member) → map keyed_vi
 own_values own os are = declared_values own ∙ ap (map (λ (k : Keyed). k.value)) are ∙ others_values (codes ",") os
 
 -- the member at a place of two lists, which together are all of a section, is that of a column
-pub value_is : (c : Column) (s : Section) (first own : List DeclaredMember) (ms os all : List Member) → map keyed_view first ≡ keyed ms
+pub value_is : (c : Column) (s : Section) (first own : List DeclaredMember) (ms os all : List Member)
+    → map keyed_view first ≡ keyed ms
     → map keyed_view own ≡ others os → map (λ m. m.value) all ≡ map (λ m. m.value) ms ++ map (λ m. m.value) os
     → map (λ m. m.name) all ≡ section_members s → c.section ≡ s
     → value_at (map (λ m. value_view m.value) first ++ map (λ m. value_view m.value) own) c.index
@@ -178,7 +186,8 @@ pub value_is : (c : Column) (s : Section) (first own : List DeclaredMember) (ms 
 value_is c s first own ms os all begins goes_on values names same =
     let front = first_values first ms begins in
     let back = own_values own os goes_on in
-    (λ i. value_at (front i ++ back i) c.index) ∙ ap (λ vs. value_at vs c.index) (sym values) ∙ sym (values_some c s all same names)
+    (λ i. value_at (front i ++ back i) c.index) ∙ ap (λ vs. value_at vs c.index) (sym values)
+    ∙ sym (values_some c s all same names)
 
 -- ---- an element of two lists
 
@@ -202,8 +211,10 @@ none_at [] (suc n) le = refl
 none_at (v ∷ vs) zero le = absurd (omega (arith, le))
 none_at (v ∷ vs) (suc n) le = none_at vs n (omega (arith, le))
 
-pub value_later : (first others : List DeclaredMember) (n : ℕ) (d : DeclaredMember) → length first ≤ n → n - length first < length others
+pub value_later : (first others : List DeclaredMember) (n : ℕ) (d : DeclaredMember) → length first ≤ n
+    → n - length first < length others
     → (value_view (slice_index_or others (n - length first) d).value ∷ [])
     ≡ value_at (map (λ m. value_view m.value) first ++ map (λ m. value_view m.value) others) n
 value_later first others n d le lt =
-    value_first others [] (n - length first) d lt ∙ ap (λ l. value_at l (n - length first)) (append-nil _) ∙ sym (past_first first _ n le)
+    value_first others [] (n - length first) d lt ∙ ap (λ l. value_at l (n - length first)) (append-nil _)
+    ∙ sym (past_first first _ n le)

@@ -13,10 +13,12 @@ use Rattle.ether_format.specs.Walking.{front_text, part_text, tail_text, told_te
 use Rattle.ether_format.proofs.JsonLemmas.{json_text}
 use Rattle.ether_format.proofs.ColumnLemmas.{column_whole}
 
-brief_text : (first : Bool) (hs : List Told) (end : ToldEnd) → told_text Brief first hs end ≡ flat_map brief_told hs ++ brief_end end
+brief_text : (first : Bool) (hs : List Told) (end : ToldEnd)
+    → told_text Brief first hs end ≡ flat_map brief_told hs ++ brief_end end
 brief_text first [] end = refl
 brief_text first (h ∷ hs) end =
-    ap (λ t. brief_told h ++ t) (brief_text false hs end) ∙ sym (append_assoc (brief_told h) (flat_map brief_told hs) (brief_end end))
+    ap (λ t. brief_told h ++ t) (brief_text false hs end)
+    ∙ sym (append_assoc (brief_told h) (flat_map brief_told hs) (brief_end end))
 
 pub whole_text : (part : Part) (number : ℕ) (p : PacketValue) (moment : Option Moment) (hs : List Told) (end : ToldEnd)
     → front_text part number p moment ++ (told_text part true hs end ++ tail_text part p)

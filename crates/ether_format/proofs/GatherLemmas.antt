@@ -36,7 +36,8 @@ pub record Gathers (at : ℕ) (x : Expectation) (frame : List ℕ) (s : State) (
   pub added : now ≡ before ++ found
   pub parts : told_stack at frame (whole x frame) all ≡ map found_told found ++ told_stack at frame window left
 
-told_last : (found : List Found) (f : Found) → map found_told (found ++ f ∷ []) ≡ map found_told found ++ found_told f ∷ []
+told_last : (found : List Found) (f : Found)
+    → map found_told (found ++ f ∷ []) ≡ map found_told found ++ found_told f ∷ []
 told_last [] f = refl
 told_last (g ∷ found) f = ap (λ l. found_told g ∷ l) (told_last found f)
 
@@ -56,10 +57,12 @@ module _ (at : ℕ) (x : Expectation) (frame : List ℕ) (before : List Found) w
     parts = refl;
   }
 
-  pub gather_unit : (s t : State) (now : List Found) (f : Found) (u : PeelUnit) → f.header ≡ units.Walked u → IsBytes frame
+  pub gather_unit : (s t : State) (now : List Found) (f : Found) (u : PeelUnit) → f.header ≡ units.Walked u
+      → IsBytes frame
       → Gathers at x frame s before now
       → Gives s (Some (Ok u)) t → f.place.start ≡ at + s.offset → f.place.header_end ≡ at + t.offset
-      → f.place.payload_end ≡ at + (t.offset + length t.rest) → f.place.closed ≡ t.closed → Gathers at x frame t before (now ++ f ∷ [])
+      → f.place.payload_end ≡ at + (t.offset + length t.rest) → f.place.closed ≡ t.closed
+      → Gathers at x frame t before (now ++ f ∷ [])
   gather_unit s t now f u walked ok a gives from to end mark =
       let n = unit_told at frame a.window a.left a.ending s t a.faces a.going u f.place ok gives from to end mark in
       let inner = payload a.window n.header in
@@ -93,21 +96,25 @@ module _ (at : ℕ) (x : Expectation) (frame : List ℕ) (before : List Found) w
       walk = a.walk;
       is_told =
           sym (append-nil (map found_told a.found))
-          ∙ ap (λ (l : List Header). map found_told a.found ++ told_stack at frame a.window l) (sym n.none_left) ∙ sym a.parts;
+          ∙ ap (λ (l : List Header). map found_told a.found ++ told_stack at frame a.window l) (sym n.none_left)
+          ∙ sym a.parts;
       is_end = n.is;
       verdict = n.verdict;
     };
   }
 
   -- .. but if there is no room for another one, there are too many
-  pub gather_full : (s t : State) (now : List Found) (u : PeelUnit) → Gathers at x frame s before now → Gives s (Some (Ok u)) t
+  pub gather_full : (s t : State) (now : List Found) (u : PeelUnit) → Gathers at x frame s before now
+      → Gives s (Some (Ok u)) t
       → length now ≡ 4 → HasNoRoom (TellsWalk at x frame) (length before)
   gather_full s t now u a gives full told end accepted tells =
-      let n = unit_next frame a.window a.left a.ending s t u (gives.next a.going frame a.window a.left a.ending a.faces) in
+      let n = unit_next frame a.window a.left a.ending s t u
+      (gives.next a.going frame a.window a.left a.ending a.faces) in
       let all = told_stack at frame (whole x frame) a.all in
       let walk : TellsWalk at x frame all (told_end at a.ending) (is_accepted_end a.ending) =
       record { headers = a.all; ending = a.ending; walk = a.walk; is_told = refl; is_end = refl; verdict = refl } in
-      let same = (one_walk at x frame all told (told_end at a.ending) end (is_accepted_end a.ending) accepted walk tells).0 in
+      let same = (one_walk at x frame all told (told_end at a.ending) end
+      (is_accepted_end a.ending) accepted walk tells).0 in
       let later = told_stack at frame a.window (n.header ∷ n.later) in
       let is : told ≡ map found_told a.found ++ later =
       sym same ∙ a.parts ∙ ap (λ (l : List Header). map found_told a.found ++ told_stack at frame a.window l) n.parts in
@@ -117,7 +124,8 @@ module _ (at : ℕ) (x : Expectation) (frame : List ℕ) (before : List Found) w
       omega (arith, full, count, found, so_far)
 
 -- a header, and those that were added after it
-pub told_after : (before first now later : List Found) (f : Found) → before ≡ [] → first ≡ before ++ f ∷ [] → now ≡ first ++ later
+pub told_after : (before first now later : List Found) (f : Found) → before ≡ [] → first ≡ before ++ f ∷ []
+    → now ≡ first ++ later
     → map found_told now ≡ found_told f ∷ map found_told later
 told_after before first now later f none pushed added =
     ap (map found_told) (added ∙ ap (λ l. l ++ later) (pushed ∙ ap (λ l. l ++ f ∷ []) none))
@@ -127,7 +135,8 @@ none_then None f p = f p
 none_then (Some x) f p = p
 
 -- an accepted header of cooked capture v2
-pub accepted_v2 : (limit : Option ℕ) (bytes : List ℕ) (told : List Told) (end : ToldEnd) (accepted : Bool) → AcceptsLinuxSll2 bytes
+pub accepted_v2 : (limit : Option ℕ) (bytes : List ℕ) (told : List Told) (end : ToldEnd) (accepted : Bool)
+    → AcceptsLinuxSll2 bytes
     → TellsCookedV2 limit bytes told end accepted
     → TellsAfter limit (told_ether_type (protocol_of_header bytes)) bytes told end accepted
 accepted_v2 limit bytes _ _ _ fine (read told end accepted also after) = after

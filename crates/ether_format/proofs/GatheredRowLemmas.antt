@@ -20,7 +20,8 @@ use Rattle.ether_format.proofs.RowLemmas.{after_tab, row_from, row_is}
 -- ---- the values of a column
 
 next_values : (c : ColumnValue) (headers : List Found) (n : ℕ) (f : Found) → n < length headers
-    → found_values c (drop n headers) ≡ header_values c (found_told (slice_index_or headers n f)) ++ found_values c (drop (suc n) headers)
+    → found_values c (drop n headers) ≡ header_values c (found_told (slice_index_or headers n f))
+    ++ found_values c (drop (suc n) headers)
 next_values c [] n f lt = absurd (omega (arith, lt))
 next_values c (g ∷ headers) zero f lt = refl
 next_values c (g ∷ headers) (suc n) f lt = next_values c headers n f (omega (arith, lt))
@@ -44,7 +45,8 @@ module _ {W : Type 0} (contents : W → Option (List ℕ)) (can_fail : Type 0) (
 
   pub values_next : (n : ℕ) (is_first next : Bool) (f : Found) (old mid new : OutputBuffer W) → n < length headers
       → WritesValues n is_first old mid
-      → Takes contents can_fail mid (column_on is_first (header_values (column_view c) (found_told (slice_index_or headers n f)))) new
+      → Takes contents can_fail mid (column_on is_first
+      (header_values (column_view c) (found_told (slice_index_or headers n f)))) new
       → next ≡ still_first is_first (header_values (column_view c) (found_told (slice_index_or headers n f)))
       → WritesValues (n + 1) next old new
   values_next n is_first next f old mid new lt a taken is =
@@ -57,13 +59,15 @@ module _ {W : Type 0} (contents : W → Option (List ℕ)) (can_fail : Type 0) (
         taken = Takes-then a.taken taken;
         parts =
             ap (λ (k : ℕ). (a.text ++ here) ++ column_on next (found_values (column_view c) (drop k headers))) same
-            ∙ ap (λ (b : Bool). (a.text ++ here) ++ column_on b ws) is ∙ append_assoc a.text here (column_on (still_first is_first vs) ws)
+            ∙ ap (λ (b : Bool). (a.text ++ here) ++ column_on b ws) is
+            ∙ append_assoc a.text here (column_on (still_first is_first vs) ws)
             ∙ ap (λ (l : List ℕ). a.text ++ l)
             (sym (more c is_first vs ws) ∙ ap (column_on is_first) (sym (next_values (column_view c) headers n f lt)))
             ∙ a.parts;
       }
 
-  pub values_end : (n : ℕ) (is_first : Bool) (old new : OutputBuffer W) → length headers ≤ n → WritesValues n is_first old new
+  pub values_end : (n : ℕ) (is_first : Bool) (old new : OutputBuffer W) → length headers ≤ n
+      → WritesValues n is_first old new
       → Takes contents can_fail old (column_on true (found_values (column_view c) headers)) new
   values_end n is_first old new le a =
       Takes-same
@@ -73,7 +77,8 @@ module _ {W : Type 0} (contents : W → Option (List ℕ)) (can_fail : Type 0) (
 
 -- ---- the columns of a row
 
-module _ {W : Type 0} (contents : W → Option (List ℕ)) (can_fail : Type 0) (columns : List ColumnValue) (number : ℕ) (p : PacketValue)
+module _ {W : Type 0} (contents : W → Option (List ℕ)) (can_fail : Type 0) (columns : List ColumnValue) (number : ℕ)
+    (p : PacketValue)
     (headers : List Found) (end : End) where
   abbrev told : Option Moment → List Section
   told moment = sections number p moment (map found_told headers) (end_told end)
@@ -85,7 +90,8 @@ module _ {W : Type 0} (contents : W → Option (List ℕ)) (can_fail : Type 0) (
     pub whole : text ++ row_from parts c others ≡ row_text columns parts
 
   abbrev pub WritesColumns : (c : Column) (others : List Column) (old new : OutputBuffer W) → Type 0
-  WritesColumns c others old new = (moment : Option Moment) → AreMoments p.time moment → Begins (told moment) c others old new
+  WritesColumns c others old new = (moment : Option Moment) → AreMoments p.time moment
+      → Begins (told moment) c others old new
 
   pub columns_start : (first : Column) (others : List Column) (out : OutputBuffer W)
       → columns ≡ column_view first ∷ map column_view others → WritesColumns first others out out
@@ -95,7 +101,8 @@ module _ {W : Type 0} (contents : W → Option (List ℕ)) (can_fail : Type 0) (
     whole = row_is (told moment) columns first others are;
   }
 
-  pub columns_next : (c next : Column) (others rest : List Column) (old mid written new : OutputBuffer W) → others ≡ next ∷ rest
+  pub columns_next : (c next : Column) (others rest : List Column) (old mid written new : OutputBuffer W)
+      → others ≡ next ∷ rest
       → WritesColumns c others old mid → TakesGathered contents can_fail c number p headers end mid written
       → Takes contents can_fail written (codes "\t") new → WritesColumns next rest old new
   columns_next c next others rest old mid written new are a column tab moment is =
@@ -111,7 +118,8 @@ module _ {W : Type 0} (contents : W → Option (List ℕ)) (can_fail : Type 0) (
             ∙ ap (λ (l : List ℕ). before.text ++ l)
             (append_assoc here (codes "\t") later
             ∙ ap (λ (l : List ℕ). here ++ l)
-            (sym (append_assoc (codes "\t") (column_text (column_view next) parts) (flat_map (after_tab parts) rest ++ codes "\n"))
+            (sym (append_assoc (codes "\t") (column_text (column_view next) parts)
+            (flat_map (after_tab parts) rest ++ codes "\n"))
             ∙ sym (append_assoc (after_tab parts next) (flat_map (after_tab parts) rest) (codes "\n")))
             ∙ ap (λ (l : List Column). here ++ (flat_map (after_tab parts) l ++ codes "\n")) (sym are))
             ∙ before.whole;
@@ -119,11 +127,13 @@ module _ {W : Type 0} (contents : W → Option (List ℕ)) (can_fail : Type 0) (
 
   pub columns_end : (c : Column) (others : List Column) (old mid written new : OutputBuffer W) → others ≡ []
       → WritesColumns c others old mid → TakesGathered contents can_fail c number p headers end mid written
-      → Takes contents can_fail written (codes "\n") new → TakesGatheredRow contents can_fail columns number p headers end old new
+      → Takes contents can_fail written (codes "\n") new
+      → TakesGatheredRow contents can_fail columns number p headers end old new
   columns_end c others old mid written new none a column line moment is =
       let parts = told moment in
       let before = a moment is in
       Takes-same
-      (ap (λ (l : List Column). before.text ++ (column_text (column_view c) parts ++ (flat_map (after_tab parts) l ++ codes "\n"))) (sym none)
+      (ap (λ (l : List Column). before.text ++ (column_text (column_view c) parts
+      ++ (flat_map (after_tab parts) l ++ codes "\n"))) (sym none)
       ∙ before.whole)
       (Takes-then before.taken (Takes-then (column moment is) line))

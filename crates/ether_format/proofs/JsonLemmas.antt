@@ -28,14 +28,16 @@ others_text (m ∷ ms) = λ i. keyed_member (codes ",") m i ++ others_text ms i
 
 joined : (a b : List Keyed) → flat_map keyed_text (a ++ b) ≡ flat_map keyed_text a ++ flat_map keyed_text b
 joined [] b = refl
-joined (k ∷ a) b = ap (λ t. keyed_text k ++ t) (joined a b) ∙ sym (append_assoc (keyed_text k) (flat_map keyed_text a) (flat_map keyed_text b))
+joined (k ∷ a) b = ap (λ t. keyed_text k ++ t) (joined a b)
+    ∙ sym (append_assoc (keyed_text k) (flat_map keyed_text a) (flat_map keyed_text b))
 
 others_joined : (a b : List Member) → others a ++ others b ≡ others (a ++ b)
 others_joined [] b = refl
 others_joined (m ∷ a) b = ap (λ l. key_of (codes ",") m ∷ l) (others_joined a b)
 
 -- the members of an object, the first after a brace
-pub members_text : (m : Member) (ms : List Member) → flat_map keyed_text (keyed (m ∷ ms)) ≡ codes "{" ++ json_members (m ∷ ms)
+pub members_text : (m : Member) (ms : List Member)
+    → flat_map keyed_text (keyed (m ∷ ms)) ≡ codes "{" ++ json_members (m ∷ ms)
 members_text m ms =
     (λ i. keyed_member (codes "{") m i ++ others_text ms i)
     ∙ append_assoc (codes "{") (json_member m) (flat_map (λ n. codes "," ++ json_member n) ms)
@@ -54,7 +56,8 @@ written_packet number p moment l is =
     ∷ member (codes "captured") (Number (length p.packet)) ∷ member (codes "original") (Number p.original_len) ∷ []) is
 
 -- .. in two lists, and a closing brace
-pub object_is : (first own : List DeclaredMember) (m : Member) (ms os : List Member) → map keyed_view first ≡ keyed (m ∷ ms)
+pub object_is : (first own : List DeclaredMember) (m : Member) (ms os : List Member)
+    → map keyed_view first ≡ keyed (m ∷ ms)
     → map keyed_view own ≡ others os
     → flat_map member_text first ++ (flat_map member_text own ++ codes "}") ≡ json_object (m ∷ (ms ++ os))
 unfolding json_object
@@ -62,7 +65,8 @@ object_is first own m ms os begins goes_on =
     let a = keyed (m ∷ ms) in
     let b = others os in
     let all : a ++ b ≡ keyed (m ∷ (ms ++ os)) = ap (λ l. key_of (codes "{") m ∷ l) (others_joined ms os) in
-    (λ i. (as_keyed first ∙ ap (flat_map keyed_text) begins) i ++ ((as_keyed own ∙ ap (flat_map keyed_text) goes_on) i ++ codes "}"))
+    (λ i. (as_keyed first ∙ ap (flat_map keyed_text) begins) i
+    ++ ((as_keyed own ∙ ap (flat_map keyed_text) goes_on) i ++ codes "}"))
     ∙ sym (append_assoc (flat_map keyed_text a) (flat_map keyed_text b) (codes "}"))
     ∙ ap (λ t. t ++ codes "}") (sym (joined a b) ∙ ap (flat_map keyed_text) all ∙ members_text m (ms ++ os))
     ∙ append_assoc (codes "{") (json_members (m ∷ (ms ++ os))) (codes "}")
@@ -83,15 +87,18 @@ pub rest_object : (start finish : ℕ) (kind : List ℕ) (announced : Value) (l 
     → flat_map member_text l ++ ([] ++ codes "}") ≡ json_object (rest_members start finish kind announced)
 rest_object start finish kind announced l is =
     object_is l [] (member (codes "start") (Number start))
-    (member (codes "end") (Number finish) ∷ member (codes "kind") (Word kind) ∷ member (codes "type") announced ∷ []) [] is refl
+    (member (codes "end") (Number finish) ∷ member (codes "kind") (Word kind) ∷ member (codes "type") announced ∷ []) []
+    is refl
 
 -- .. of a fault, of which the second list has the cause
 pub fault_object : (start : ℕ) (closed : Bool) (cause : Cause) (first own : List DeclaredMember)
     → map keyed_view first ≡ keyed (member (codes "start") (Number start) ∷ member (codes "closed") (Flag closed) ∷ [])
     → map keyed_view own ≡ others (cause_members cause)
-    → flat_map member_text first ++ (flat_map member_text own ++ codes "}") ≡ json_object (end_members (Fault start closed cause))
+    → flat_map member_text first ++ (flat_map member_text own ++ codes "}")
+    ≡ json_object (end_members (Fault start closed cause))
 fault_object start closed cause first own begins goes_on =
-    object_is first own (member (codes "start") (Number start)) (member (codes "closed") (Flag closed) ∷ []) (cause_members cause) begins
+    object_is first own (member (codes "start") (Number start)) (member (codes "closed") (Flag closed) ∷ [])
+    (cause_members cause) begins
     goes_on
 
 -- ---- all headers

@@ -7,7 +7,8 @@ use Rattle.ether_text.specs.declared.output_buffer.OutputBuffer.{OutputBuffer}
 use Rattle.ether_text.proofs.OutputBufferLemmas.{Takes-none, Takes-then, Takes-same}
 
 -- the text so far is that of the first elements
-pub record WritesFirst {W X : Type 0} (contents : W → Option (List ℕ)) (can_fail : Type 0) (f : X → List ℕ) (list : List X) (count : ℕ)
+pub record WritesFirst {W X : Type 0} (contents : W → Option (List ℕ)) (can_fail : Type 0) (f : X → List ℕ)
+    (list : List X) (count : ℕ)
     (old new : OutputBuffer W) : Type 0 where
   pub text : List ℕ
   pub taken : Takes contents can_fail old text new
@@ -36,7 +37,8 @@ module _ {W X : Type 0} (contents : W → Option (List ℕ)) (can_fail : Type 0)
     text = a.text ++ f (slice_index_or list n x);
     taken = Takes-then a.taken taken;
     parts =
-        (let e : n + 1 ≡ suc n = omega arith in ap (λ (k : ℕ). (a.text ++ f (slice_index_or list n x)) ++ flat_map f (drop k list)) e)
+        (let e : n + 1 ≡ suc n = omega arith in ap
+        (λ (k : ℕ). (a.text ++ f (slice_index_or list n x)) ++ flat_map f (drop k list)) e)
         ∙ append_assoc a.text (f (slice_index_or list n x)) (flat_map f (drop (suc n) list))
         ∙ ap (λ (l : List ℕ). a.text ++ l) (sym (next_text f list n x lt)) ∙ a.parts;
   }
@@ -44,7 +46,8 @@ module _ {W X : Type 0} (contents : W → Option (List ℕ)) (can_fail : Type 0)
   pub first_all : (n : ℕ) (old new : OutputBuffer W) → length list ≤ n → WritesFirst contents can_fail f list n old new
       → Takes contents can_fail old (flat_map f list) new
   first_all n old new le a =
-      Takes-same (sym (append-nil a.text) ∙ ap (λ (l : List ℕ). a.text ++ l) (sym (none_after f list n le)) ∙ a.parts) a.taken
+      Takes-same (sym (append-nil a.text) ∙ ap (λ (l : List ℕ). a.text ++ l) (sym (none_after f list n le)) ∙ a.parts)
+      a.taken
 
 -- ---- the first of a list, and the others
 
@@ -54,7 +57,8 @@ take_all [] (suc n) is = absurd (omega (arith, is))
 take_all (x ∷ l) zero is = absurd (omega (arith, is))
 take_all (x ∷ l) (suc n) is = ap (λ k. x ∷ k) (take_all l n (omega (arith, is)))
 
-pub first_others : {X : Type 0} (l : List X) (d : X) → 1 ≤ length l → l ≡ slice_index_or l 0 d ∷ take (length l - 1) (drop 1 l)
+pub first_others : {X : Type 0} (l : List X) (d : X) → 1 ≤ length l
+    → l ≡ slice_index_or l 0 d ∷ take (length l - 1) (drop 1 l)
 first_others [] d le = absurd (omega (arith, le))
 first_others (x ∷ l) d le = ap (λ k. x ∷ k) (sym (take_all l (length (x ∷ l) - 1) (omega arith)))
 

@@ -35,7 +35,8 @@ within_month : (b : Bool) (m d n : ℕ) → 1 ≤ m → m < n → d ≤ slice_in
 within_month b m d n from lt fits first =
     let next = taken_next (month_lens b) (m - 1) in
     let is : suc (m - 1) ≡ m = omega arith in
-    let after : sum (take m (month_lens b)) ≤ sum (take (n - 1) (month_lens b)) = prefix (month_lens b) m (n - 1) (omega arith) in
+    let after : sum (take m (month_lens b)) ≤ sum (take (n - 1) (month_lens b)) =
+    prefix (month_lens b) m (n - 1) (omega arith) in
     let same = ap (λ k. sum (take k (month_lens b))) is in
     omega (arith, next, same, after, fits, first)
 
@@ -69,7 +70,11 @@ same_year : (days y m d z n e : ℕ) → IsDate days y m d → IsDate days z n e
 same_year days y m d z n e a b =
     elim (cases_lt y z) [
       | inl lt ↦ absurd (not_earlier days y m d z n e a b lt)
-      | inr le ↦ elim (cases_lt z y) [ inl lt ↦ absurd (not_earlier days z n e y m d b a lt) | inr ge ↦ omega (arith, le, ge) ]
+      | inr le ↦ elim (cases_lt z y) [
+        | inl lt ↦ absurd (not_earlier days z n e y m d b a lt)
+        | inr ge ↦ omega
+            (arith, le, ge)
+      ]
     ]
 
 same_month : (b : Bool) (m d n e : ℕ) → 1 ≤ m → 1 ≤ n → 1 ≤ d → 1 ≤ e → d ≤ slice_index (month_lens b) (m - 1)
@@ -77,7 +82,11 @@ same_month : (b : Bool) (m d n e : ℕ) → 1 ≤ m → 1 ≤ n → 1 ≤ d → 
 same_month b m d n e from begin first one fits also same =
     elim (cases_lt m n) [
       | inl lt ↦ absurd (not_before b m d n e from lt fits first same)
-      | inr le ↦ elim (cases_lt n m) [ inl lt ↦ absurd (not_before b n e m d begin lt also one (sym same)) | inr ge ↦ omega (arith, le, ge) ]
+      | inr le ↦ elim (cases_lt n m) [
+        | inl lt ↦ absurd
+            (not_before b n e m d begin lt also one (sym same))
+        | inr ge ↦ omega (arith, le, ge)
+      ]
     ]
 
 one_date : (days y m d z n e : ℕ) → IsDate days y m d → IsDate days z n e → (y ≡ z) × (m ≡ n) × (d ≡ e)
@@ -88,7 +97,8 @@ one_date days y m d z n e a b =
     let two = c.is_sum in
     let leap = is_leap_year y in
     let same : days_before_month leap m + (d - 1) ≡ days_before_month leap n + (e - 1) = omega (arith, one, two) in
-    let month = same_month leap m d n e a.first_month c.first_month a.first_day c.first_day a.last_day c.last_day same in
+    let month = same_month leap m d n e a.first_month c.first_month a.first_day c.first_day a.last_day c.last_day
+    same in
     let before = ap (days_before_month leap) month in
     let first = a.first_day in
     let also = c.first_day in
@@ -108,7 +118,8 @@ one_hour s h m k i n l a b =
 
 pub one_moment : (t : TimeValue) (m n : Moment) → IsMoment t m → IsMoment t n → m ≡ n
 one_moment t m n a b =
-    let date = one_date (days_before_year 1970 + t.seconds / 86400) m.year m.month m.day n.year n.month n.day a.date b.date in
+    let date = one_date (days_before_year 1970 + t.seconds / 86400) m.year m.month m.day n.year n.month n.day a.date
+    b.date in
     let hour = one_hour (t.seconds % 86400) m.hour m.minute m.second n.hour n.minute n.second a.hour b.hour in
     let rest = a.nanoseconds ∙ sym b.nanoseconds in
     let seconds = a.seconds ∙ sym b.seconds in

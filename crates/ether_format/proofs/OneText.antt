@@ -21,8 +21,10 @@ use Rattle.ether_format.proofs.OneMoment.{one_moment}
 abbrev pub Same : (told other : List Told) (end last : ToldEnd) (accepted also : Bool) → Type 0
 Same told other end last accepted also = (told ≡ other) × (end ≡ last) × (accepted ≡ also)
 
-pub one_walk : (at : ℕ) (x : Expectation) (frame : List ℕ) (told other : List Told) (end last : ToldEnd) (accepted also : Bool)
-    → TellsWalk at x frame told end accepted → TellsWalk at x frame other last also → Same told other end last accepted also
+pub one_walk : (at : ℕ) (x : Expectation) (frame : List ℕ) (told other : List Told) (end last : ToldEnd)
+    (accepted also : Bool)
+    → TellsWalk at x frame told end accepted → TellsWalk at x frame other last also
+    → Same told other end last accepted also
 one_walk at x frame told other end last accepted also a b =
     let same = one_stack frame x (whole x frame) a.headers b.headers a.ending b.ending a.walk b.walk in (
       a.is_told ∙ ap (told_stack at frame (whole x frame)) same.0 ∙ sym b.is_told,
@@ -38,14 +40,17 @@ one_payload at first x payload told other end last accepted also a b =
     let same = one_walk at x payload a.later b.later end last accepted also a.walk b.walk in
     (a.whole ∙ ap (λ l. first ∷ l) same.0 ∙ sym b.whole, same.1, same.2)
 
-one_after : (limit ether_type : Option ℕ) (bytes : List ℕ) (told other : List Told) (end last : ToldEnd) (accepted also : Bool)
+one_after : (limit ether_type : Option ℕ) (bytes : List ℕ) (told other : List Told) (end last : ToldEnd)
+    (accepted also : Bool)
     → TellsAfter limit ether_type bytes told end accepted → TellsAfter limit ether_type bytes other last also
     → Same told other end last accepted also
-one_after limit (Some n) bytes told other end last accepted also a b = one_payload 20 _ _ _ told other end last accepted also a b
+one_after limit (Some n) bytes told other end last accepted also a b =
+    one_payload 20 _ _ _ told other end last accepted also a b
 one_after limit None bytes told other end last accepted also a b = (a.0 ∙ sym b.0, a.1 ∙ sym b.1, a.2 ∙ sym b.2)
 
 one_cooked : (limit : Option ℕ) (bytes : List ℕ) (told other : List Told) (end last : ToldEnd) (accepted also : Bool)
-    → TellsCookedV2 limit bytes told end accepted → TellsCookedV2 limit bytes other last also → Same told other end last accepted also
+    → TellsCookedV2 limit bytes told end accepted → TellsCookedV2 limit bytes other last also
+    → Same told other end last accepted also
 one_cooked limit bytes _ _ _ _ _ _ (read told end accepted fine after) (read other last also good later) =
     one_after limit (told_ether_type (protocol_of_header bytes)) bytes told other end last accepted also after later
 one_cooked limit bytes _ _ _ _ _ _ (read told end accepted fine after) (refused r row) = absurd (fine r row)
@@ -53,11 +58,15 @@ one_cooked limit bytes _ _ _ _ _ _ (refused r row) (read told end accepted fine 
 one_cooked limit bytes _ _ _ _ _ _ (refused r row) (refused q also) =
     (refl, ap (λ k. Fault 0 false (cause_of_v2 k)) (rows_apart.one bytes r q row also), refl)
 
-pub one_told : (limit : Option ℕ) (len : ℕ) (f : ContentValue) (told other : List Told) (end last : ToldEnd) (accepted also : Bool)
+pub one_told : (limit : Option ℕ) (len : ℕ) (f : ContentValue) (told other : List Told) (end last : ToldEnd)
+    (accepted also : Bool)
     → Tells limit len f told end accepted → Tells limit len f other last also → Same told other end last accepted also
-one_told limit len (Frame next bytes) told other end last accepted also a b = one_walk 0 _ bytes told other end last accepted also a b
-one_told limit len (LinuxSll s payload) told other end last accepted also a b = one_payload 16 _ _ payload told other end last accepted also a b
-one_told limit len (LinuxSll2 bytes) told other end last accepted also a b = one_cooked limit bytes told other end last accepted also a b
+one_told limit len (Frame next bytes) told other end last accepted also a b =
+    one_walk 0 _ bytes told other end last accepted also a b
+one_told limit len (LinuxSll s payload) told other end last accepted also a b =
+    one_payload 16 _ _ payload told other end last accepted also a b
+one_told limit len (LinuxSll2 bytes) told other end last accepted also a b =
+    one_cooked limit bytes told other end last accepted also a b
 one_told limit len Unknown told other end last accepted also a b = (a.0 ∙ sym b.0, a.1 ∙ sym b.1, a.2 ∙ sym b.2)
 
 pub one_time : (t : Option TimeValue) (m n : Option Moment) → AreMoments t m → AreMoments t n → m ≡ n
@@ -68,10 +77,13 @@ one_time (Some t) None n a b = absurd a
 one_time (Some t) (Some m) None a b = absurd b
 one_time (Some t) (Some m) (Some n) a b = ap Some (one_moment t m n a b)
 
-one_text : (format : Format) (limit : Option ℕ) (number : ℕ) (p : PacketValue) (text other : List ℕ) (accepted also : Bool)
-    → HasText format limit number p text accepted → HasText format limit number p other also → (text ≡ other) × (accepted ≡ also)
+one_text : (format : Format) (limit : Option ℕ) (number : ℕ) (p : PacketValue) (text other : List ℕ)
+    (accepted also : Bool)
+    → HasText format limit number p text accepted → HasText format limit number p other also
+    → (text ≡ other) × (accepted ≡ also)
 one_text format limit number p text other accepted also a b =
-    let same = one_told limit (length p.packet) (content_of p) a.headers b.headers a.end b.end accepted also a.tells b.tells in
+    let same = one_told limit (length p.packet)
+    (content_of p) a.headers b.headers a.end b.end accepted also a.tells b.tells in
     let time = one_time p.time a.moment b.moment a.is_moment b.is_moment in
     (a.is_text ∙ (λ i. format_text format number p (time i) (same.0 i) (same.1 i)) ∙ sym b.is_text, same.2)
 

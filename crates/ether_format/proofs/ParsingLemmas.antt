@@ -36,25 +36,30 @@ named_without sections.Headers = refl
 named_without sections.Rest = refl
 named_without sections.Fault = refl
 
-splits_name : (it : ColumnValue) (name : List ℕ) → IsColumn it → column_name it ≡ name → SplitsAt 46 name it.section it.member
+splits_name : (it : ColumnValue) (name : List ℕ) → IsColumn it → column_name it ≡ name
+    → SplitsAt 46 name it.section it.member
 splits_name it name is same = record {
-  none_before = subst (All (λ b. (b == 46) ≡ false)) (sym is.is_section) (no_dot (section_name is.of) (named_without is.of));
+  none_before = subst (All (λ b. (b == 46) ≡ false)) (sym is.is_section)
+      (no_dot (section_name is.of) (named_without is.of));
   parts = sym same;
 }
 
 -- a text without a dot is no column's name
-pub no_column_plain : (name : List ℕ) → All (λ b. (b == 46) ≡ false) name → (it : ColumnValue) → IsColumn it → column_name it ≢ name
+pub no_column_plain : (name : List ℕ) → All (λ b. (b == 46) ≡ false) name → (it : ColumnValue) → IsColumn it
+    → column_name it ≢ name
 no_column_plain name none it is same = no_split 46 refl name it.section it.member none (splits_name it name is same)
 
 -- .. nor one whose front is not the name of a section
-pub no_column_section : (name before after : List ℕ) → SplitsAt 46 name before after → ((s : Section) → section_name s ≢ before)
+pub no_column_section : (name before after : List ℕ) → SplitsAt 46 name before after
+    → ((s : Section) → section_name s ≢ before)
     → (it : ColumnValue) → IsColumn it → column_name it ≢ name
 no_column_section name before after split none it is same =
     let one = one_split 46 refl name it.section it.member before after (splits_name it name is same) split in
     none is.of (sym is.is_section ∙ one.0)
 
 -- .. nor one whose back is not the name of a member
-pub no_column_member : (name before after : List ℕ) (s : Section) (words : List (Bor (List ℕ))) → SplitsAt 46 name before after
+pub no_column_member : (name before after : List ℕ) (s : Section) (words : List (Bor (List ℕ)))
+    → SplitsAt 46 name before after
     → section_name s ≡ before → map (λ w. w.now) words ≡ section_members s → All (λ w. w.now ≢ after) words
     → (it : ColumnValue) → IsColumn it → column_name it ≢ name
 no_column_member name before after s words split is_name are none it is same =
@@ -83,7 +88,8 @@ abbrev pub left_of : Option (Bor (List ℕ)) → List (List ℕ)
 left_of None = []
 left_of (Some text) = words_of text.now
 
-pub word_first : (text word : List ℕ) (after : Option (Bor (List ℕ))) → SplitsWord text word (option_map (λ t. t.now) after)
+pub word_first : (text word : List ℕ) (after : Option (Bor (List ℕ)))
+    → SplitsWord text word (option_map (λ t. t.now) after)
     → words_of text ≡ word ∷ left_of after
 word_first text word None is = slice_split_none (λ b. b == 44) text is.1 ∙ ap (λ w. w ∷ []) (sym is.0)
 word_first text word (Some after) is = parts_are 44 refl text word after.now is
@@ -94,7 +100,8 @@ pub record TakesNames (text : List ℕ) (columns : List ColumnValue) (left : Lis
   pub known : All IsColumn columns
   pub most : length columns ≤ 32
 
-pub next_word : (text word : List ℕ) (columns : List ColumnValue) (rest after : Option (Bor (List ℕ))) (t : Bor (List ℕ))
+pub next_word : (text word : List ℕ) (columns : List ColumnValue) (rest after : Option (Bor (List ℕ)))
+    (t : Bor (List ℕ))
     → TakesNames text columns (left_of rest) → rest ≡ Some t → SplitsWord t.now word (option_map (λ t. t.now) after)
     → TakesNames text columns (word ∷ left_of after)
 next_word text word columns rest after t taken is split =
@@ -103,14 +110,21 @@ next_word text word columns rest after t taken is split =
 pub fewer : (word : List ℕ) (rest after : Option (Bor (List ℕ))) (t : Bor (List ℕ)) → rest ≡ Some t
     → SplitsWord t.now word (option_map (λ t. t.now) after) → length (left_of after) < length (left_of rest)
 fewer word rest after t is split =
-    let same : length (left_of rest) ≡ length (word ∷ left_of after) = ap length (ap left_of is ∙ word_first t.now word after split) in
+    let same : length (left_of rest) ≡ length (word ∷ left_of after) =
+    ap length (ap left_of is ∙ word_first t.now word after split) in
     omega (arith, same)
 
-pub none_taken : (text word : List ℕ) (after : Option (Bor (List ℕ))) → SplitsWord text word (option_map (λ t. t.now) after)
+pub none_taken : (text word : List ℕ) (after : Option (Bor (List ℕ)))
+    → SplitsWord text word (option_map (λ t. t.now) after)
     → TakesNames text [] (word ∷ left_of after)
-none_taken text word after is = record { names = word_first text word after is; known = All-nil IsColumn; most = omega arith }
+none_taken text word after is = record {
+  names = word_first text word after is;
+  known = All-nil IsColumn;
+  most = omega arith;
+}
 
-pub one_more : (text word : List ℕ) (columns : List ColumnValue) (c : ColumnValue) (left : List (List ℕ)) → TakesNames text columns (word ∷ left)
+pub one_more : (text word : List ℕ) (columns : List ColumnValue) (c : ColumnValue) (left : List (List ℕ))
+    → TakesNames text columns (word ∷ left)
     → IsColumn c → column_name c ≡ word → length columns < 32 → TakesNames text (columns ++ (c ∷ [])) left
 one_more text word columns c left taken is same room = record {
   names =
@@ -124,7 +138,8 @@ one_more text word columns c left taken is same room = record {
 pub all_taken : (text : List ℕ) (columns : List ColumnValue) → TakesNames text columns [] → AreColumns text columns
 all_taken text columns taken = record { names = taken.names ∙ append-nil _; known = taken.known; most = taken.most }
 
-at_next : (ws : List (List ℕ)) (word : List ℕ) (left : List (List ℕ)) (e : List ℕ) → slice_index_or (ws ++ word ∷ left) (length ws) e ≡ word
+at_next : (ws : List (List ℕ)) (word : List ℕ) (left : List (List ℕ)) (e : List ℕ)
+    → slice_index_or (ws ++ word ∷ left) (length ws) e ≡ word
 at_next [] word left e = refl
 at_next (w ∷ ws) word left e = at_next ws word left e
 
@@ -134,7 +149,8 @@ at_map [] n d e lt = absurd (omega (arith, lt))
 at_map (c ∷ cs) zero d e lt = refl
 at_map (c ∷ cs) (suc n) d e lt = at_map cs n d e (omega (arith, lt))
 
-longer : (text word : List ℕ) (columns others : List ColumnValue) (left : List (List ℕ)) → TakesNames text columns (word ∷ left)
+longer : (text word : List ℕ) (columns others : List ColumnValue) (left : List (List ℕ))
+    → TakesNames text columns (word ∷ left)
     → AreColumns text others → length columns < length others
 longer text word columns others left taken are =
     let same : length (map column_name others) ≡ length (map column_name columns ++ (word ∷ left)) =
@@ -145,8 +161,10 @@ longer text word columns others left taken are =
     omega (arith, same, a, b, sum)
 
 -- a word that is no column's name
-pub no_next : (text word : List ℕ) (columns : List ColumnValue) (left : List (List ℕ)) → TakesNames text columns (word ∷ left)
-    → ((it : ColumnValue) → IsColumn it → column_name it ≢ word) → (others : List ColumnValue) → AreColumns text others → ⊥
+pub no_next : (text word : List ℕ) (columns : List ColumnValue) (left : List (List ℕ))
+    → TakesNames text columns (word ∷ left)
+    → ((it : ColumnValue) → IsColumn it → column_name it ≢ word) → (others : List ColumnValue) → AreColumns text others
+    → ⊥
 no_next text word columns left taken none others are =
     let d : ColumnValue = record { section = []; member = [] } in
     let lt = longer text word columns others left taken are in
@@ -157,7 +175,8 @@ no_next text word columns left taken none others are =
     ∙ ap (λ (k : ℕ). slice_index_or (map column_name columns ++ (word ∷ left)) k []) (sym len)
     ∙ at_next (map column_name columns) word left [])
 
-pub too_many : (text word : List ℕ) (columns : List ColumnValue) (left : List (List ℕ)) → TakesNames text columns (word ∷ left)
+pub too_many : (text word : List ℕ) (columns : List ColumnValue) (left : List (List ℕ))
+    → TakesNames text columns (word ∷ left)
     → 32 ≤ length columns → (others : List ColumnValue) → AreColumns text others → ⊥
 too_many text word columns left taken full others are =
     let lt = longer text word columns others left taken are in

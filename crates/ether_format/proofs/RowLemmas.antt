@@ -29,12 +29,15 @@ pub row_is : (parts : List Section) (columns : List ColumnValue) (first : Column
 row_is parts columns first list are =
     let begin = column_text (column_view first) parts in
     sym (append_assoc begin (flat_map (after_tab parts) list) (codes "\n"))
-    ∙ ap (λ t. (begin ++ t) ++ codes "\n") (sym (flat_map-map (λ c. codes "\t" ++ column_text c parts) column_view list))
+    ∙ ap (λ t. (begin ++ t) ++ codes "\n") (sym
+    (flat_map-map (λ c. codes "\t" ++ column_text c parts) column_view list))
     ∙ ap (λ (l : List ColumnValue). row_text l parts) (sym are)
 
-module _ {W : Type 0} (contents : W → Option (List ℕ)) (can_fail : Type 0) (limit : Option ℕ) (number : ℕ) (p : PacketValue) (moment : Option Moment) where
+module _ {W : Type 0} (contents : W → Option (List ℕ)) (can_fail : Type 0) (limit : Option ℕ) (number : ℕ)
+    (p : PacketValue) (moment : Option Moment) where
   -- the first column is written, and so many of the others
-  pub record WritesRow (first : Column) (list : List Column) (count : ℕ) (accepted : Bool) (old new : OutputBuffer W) : Type 0 where
+  pub record WritesRow (first : Column) (list : List Column) (count : ℕ) (accepted : Bool)
+      (old new : OutputBuffer W) : Type 0 where
     pub headers : List Told
     pub end : ToldEnd
     pub tells : Tells limit (length p.packet) (content_of p) headers end accepted
@@ -59,10 +62,13 @@ module _ {W : Type 0} (contents : W → Option (List ℕ)) (can_fail : Type 0) (
       → TakesAnswer contents can_fail (AnswersPart (written.Column c) limit number p moment) old new also
       → TakesColumn contents can_fail c limit number p moment old new
   walked c also old new b headers end accepted tells =
-      let same = one_told limit (length p.packet) (content_of p) b.answers.headers headers b.answers.end end also accepted b.answers.tells tells in
-      Takes-same (b.answers.is_text ∙ (λ i. column_text (column_view c) (sections number p moment (same.0 i) (same.1 i)))) b.taken
+      let same = one_told limit (length p.packet)
+      (content_of p) b.answers.headers headers b.answers.end end also accepted b.answers.tells tells in
+      Takes-same (b.answers.is_text ∙ (λ i. column_text (column_view c)
+      (sections number p moment (same.0 i) (same.1 i)))) b.taken
 
-  pub row_goes_on : (first : Column) (list : List Column) (n : ℕ) (d : Column) (accepted : Bool) (old mid tab new : OutputBuffer W) → n < length list
+  pub row_goes_on : (first : Column) (list : List Column) (n : ℕ) (d : Column) (accepted : Bool)
+      (old mid tab new : OutputBuffer W) → n < length list
       → WritesRow first list n accepted old mid → Takes contents can_fail mid (codes "\t") tab
       → TakesColumn contents can_fail (slice_index_or list n d) limit number p moment tab new
       → WritesRow first list (n + 1) accepted old new
@@ -72,13 +78,16 @@ module _ {W : Type 0} (contents : W → Option (List ℕ)) (can_fail : Type 0) (
     tells = a.tells;
     mid = a.mid;
     begun = a.begun;
-    taken = first_next contents can_fail (after_tab (sections number p moment a.headers a.end)) list n d a.mid mid new lt a.taken
+    taken = first_next contents can_fail (after_tab (sections number p moment a.headers a.end)) list n d a.mid mid new
+        lt a.taken
         (Takes-then taken (column a.headers a.end accepted a.tells));
   }
 
-  pub row_ends : (columns : List ColumnValue) (first : Column) (list : List Column) (n : ℕ) (accepted : Bool) (old mid new : OutputBuffer W)
+  pub row_ends : (columns : List ColumnValue) (first : Column) (list : List Column) (n : ℕ) (accepted : Bool)
+      (old mid new : OutputBuffer W)
       → length list ≤ n → columns ≡ column_view first ∷ map column_view list → WritesRow first list n accepted old mid
-      → Takes contents can_fail mid (codes "\n") new → TakesAnswer contents can_fail (AnswersRow columns limit number p moment) old new accepted
+      → Takes contents can_fail mid (codes "\n") new
+      → TakesAnswer contents can_fail (AnswersRow columns limit number p moment) old new accepted
   row_ends columns first list n accepted old mid new le are a taken =
       let parts = sections number p moment a.headers a.end in
       let text : row_from parts first list ≡ row_text columns parts = row_is parts columns first list are in
@@ -86,5 +95,6 @@ module _ {W : Type 0} (contents : W → Option (List ℕ)) (can_fail : Type 0) (
         text = row_text columns parts;
         answers = record { headers = a.headers; end = a.end; tells = a.tells; is_text = refl };
         taken = Takes-same text
-            (Takes-then a.begun (Takes-then (first_all contents can_fail (after_tab parts) list n a.mid mid le a.taken) taken));
+            (Takes-then a.begun (Takes-then (first_all contents can_fail (after_tab parts) list n a.mid mid le a.taken)
+            taken));
       }

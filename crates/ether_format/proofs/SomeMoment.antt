@@ -34,7 +34,8 @@ day_after days a =
         year = a.year + 1;
         left = 0;
         first = omega arith;
-        is_sum = let e = a.is_sum in let len = len_of a.year a.first in let lt = a.last in omega (arith, e, len, lt, le);
+        is_sum = let e = a.is_sum in let len = len_of a.year a.first in let lt = a.last in
+            omega (arith, e, len, lt, le);
         last = some_days (is_leap_year (a.year + 1));
       }
     ]
@@ -89,7 +90,8 @@ dated days =
     let back : b.month + 1 - 1 ≡ b.month = omega arith in
     let before = ap (λ (k : ℕ). sum (take k lens)) back in
     let len = ap (λ (k : ℕ). slice_index_or lens k 0) back in
-    let month : a.left ≡ days_before_month (is_leap_year a.year) (b.month + 1) + (b.day + 1 - 1) = omega (arith, sum_of_month, before) in
+    let month : a.left ≡ days_before_month (is_leap_year a.year) (b.month + 1) + (b.day + 1 - 1) =
+    omega (arith, sum_of_month, before) in
     record {
       year = a.year;
       month = b.month + 1;

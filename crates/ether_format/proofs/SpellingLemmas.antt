@@ -11,7 +11,8 @@ tail_is : (b : ℕ) (bs : List ℕ) → slice_range (b ∷ bs) 1 (length (b ∷ 
 tail_is b bs = take_all (suc (length bs) - 1) bs (omega arith)
 
 pub colon_parts : (bytes : List ℕ) → 0 < length bytes
-    → hex_byte false (slice_index_or bytes 0 0) ++ flat_map (λ b. codes ":" ++ hex_byte false b) (slice_range bytes 1 (length bytes))
+    → hex_byte false (slice_index_or bytes 0 0)
+    ++ flat_map (λ b. codes ":" ++ hex_byte false b) (slice_range bytes 1 (length bytes))
     ≡ colon_text bytes
 unfolding colon_text
 colon_parts [] lt = absurd (omega (arith, lt))
@@ -36,7 +37,8 @@ dotted_none (b ∷ bs) none = absurd (omega (arith, none))
 
 -- the six bytes of a MAC address
 pub colon_of_six : (l : List ℕ) → length l ≡ 6
-    → hex_byte false (slice_index_or l 0 0) ++ (codes ":" ++ hex_byte false (slice_index_or l 1 0)) ++ (codes ":" ++ hex_byte false (slice_index_or l 2 0))
+    → hex_byte false (slice_index_or l 0 0) ++ (codes ":" ++ hex_byte false (slice_index_or l 1 0))
+    ++ (codes ":" ++ hex_byte false (slice_index_or l 2 0))
     ++ (codes ":" ++ hex_byte false (slice_index_or l 3 0)) ++ (codes ":" ++ hex_byte false (slice_index_or l 4 0))
     ++ (codes ":" ++ hex_byte false (slice_index_or l 5 0))
     ≡ colon_text l

@@ -14,11 +14,13 @@ module _ (byte : ℕ) (same_byte : (byte == byte) ≡ true) where
   pub parts_are : (text before after : List ℕ) → SplitsAt byte text before after
       → slice_split (λ b. b == byte) text ≡ before ∷ slice_split (λ b. b == byte) after
   parts_are text before after is =
-      ap (slice_split (λ b. b == byte)) is.parts ∙ slice_split_at (λ b. b == byte) before byte after is.none_before same_byte
+      ap (slice_split (λ b. b == byte)) is.parts
+      ∙ slice_split_at (λ b. b == byte) before byte after is.none_before same_byte
 
   after_is : (text before after : List ℕ) → SplitsAt byte text before after → drop (length before + 1) text ≡ after
   after_is text before after is =
-      let front : before ++ byte ∷ after ≡ (before ++ byte ∷ []) ++ after = sym (append_assoc before (byte ∷ []) after) in
+      let front : before ++ byte ∷ after ≡ (before ++ byte ∷ []) ++ after =
+      sym (append_assoc before (byte ∷ []) after) in
       let len : length (before ++ byte ∷ []) ≡ length before + 1 = length-append before (byte ∷ []) in
       ap (drop (length before + 1)) (is.parts ∙ front) ∙ drop_at (before ++ byte ∷ []) after (length before + 1) len
 
@@ -27,7 +29,8 @@ module _ (byte : ℕ) (same_byte : (byte == byte) ≡ true) where
       let same : a ≡ c = ap first_of (sym (parts_are text a b s) ∙ parts_are text c d t) in
       (same, sym (after_is text a b s) ∙ ap (λ (l : List ℕ). drop (length l + 1) text) same ∙ after_is text c d t)
 
-  pub no_split : (text before after : List ℕ) → All (λ b. (b == byte) ≡ false) text → SplitsAt byte text before after → ⊥
+  pub no_split : (text before after : List ℕ) → All (λ b. (b == byte) ≡ false) text → SplitsAt byte text before after
+      → ⊥
   no_split text before after none is =
       let one : before ∷ slice_split (λ b. b == byte) after ≡ text ∷ [] =
       sym (parts_are text before after is) ∙ slice_split_none (λ b. b == byte) text none in

@@ -13,19 +13,23 @@ names_of text = slice_split (λ b. b == 44) text
 
 -- a name is that of a column, or not, as its bytes are read
 module _ (bytes name : List ℕ) (column : Option Column) (is : bytes ≡ name) where
-  pub named : IfSome column (λ it. IsColumn (column_view it) × (column_name (column_view it) ≡ bytes)) → is_some column ≡ true
+  pub named : IfSome column (λ it. IsColumn (column_view it) × (column_name (column_view it) ≡ bytes))
+      → is_some column ≡ true
       → NamesColumn name
   named some found = by column some found
     where
-      by : (c : Option Column) → IfSome c (λ it. IsColumn (column_view it) × (column_name (column_view it) ≡ bytes)) → is_some c ≡ true
+      by : (c : Option Column) → IfSome c (λ it. IsColumn (column_view it) × (column_name (column_view it) ≡ bytes))
+          → is_some c ≡ true
           → NamesColumn name
       by (Some it) is_one found = (column_view it, is_one.0, is_one.1 ∙ is)
       by None is_one found = absurd cc
 
-  pub not_named : IfNone column ((it : ColumnValue) → IsColumn it → column_name it ≢ bytes) → is_some column ≡ false → ¬ (NamesColumn name)
+  pub not_named : IfNone column ((it : ColumnValue) → IsColumn it → column_name it ≢ bytes) → is_some column ≡ false
+      → ¬ (NamesColumn name)
   not_named none found = by column none found
     where
-      by : (c : Option Column) → IfNone c ((it : ColumnValue) → IsColumn it → column_name it ≢ bytes) → is_some c ≡ false
+      by : (c : Option Column) → IfNone c ((it : ColumnValue) → IsColumn it → column_name it ≢ bytes)
+          → is_some c ≡ false
           → ¬ (NamesColumn name)
       by None no_column found names = no_column names.0 names.1 (names.2 ∙ sym is)
       by (Some it) no_column found names = absurd cc
@@ -41,7 +45,8 @@ module _ (text : List ℕ) where
     pub first_unknown : ¬ (NamesColumn name) → IsUnknownIn (names_of text) (Some name)
     first_unknown none = subst (λ names. IsUnknownIn names (Some name)) (sym names) (inl (none, refl))
 
-    pub later_unknown : (unknown : Option (List ℕ)) → NamesColumn name → IsUnknownIn (names_of after) unknown → IsUnknownIn (names_of text) unknown
+    pub later_unknown : (unknown : Option (List ℕ)) → NamesColumn name → IsUnknownIn (names_of after) unknown
+        → IsUnknownIn (names_of text) unknown
     later_unknown unknown is later = subst (λ names. IsUnknownIn names unknown) (sym names) (inr (is, later))
 
   module _ (at : position_or_len (λ b. b == 44) text ≡ length text) where

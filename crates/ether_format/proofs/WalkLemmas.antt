@@ -37,19 +37,23 @@ use Rattle.ether_format.specs.Walking.{fcs_shown, place_view, told_view, fault_s
 
 -- a header of Ethernet II is written alike with a frame check sequence and without
 pub ethernet2_object : (place : DeclaredPlace) (f : Frame)
-    → json_object (placed_members (codes "eth") (place_view place) (ethernet2_members (ethernet2_of f.bytes) (fcs_of f)))
+    → json_object (placed_members (codes "eth") (place_view place)
+    (ethernet2_members (ethernet2_of f.bytes) (fcs_of f)))
     ≡ json_object (told_members (told_view place (units.Ethernet2 f)))
 ethernet2_object place f = by_mark f.has_fcs
   where
     by_mark : (b : Bool)
-        → json_object (placed_members (codes "eth") (place_view place) (ethernet2_members (ethernet2_of f.bytes) (fcs_of f)))
+        → json_object (placed_members (codes "eth") (place_view place)
+        (ethernet2_members (ethernet2_of f.bytes) (fcs_of f)))
         ≡ json_object (told_members (Walked (place_view place)
-        (if b then headers.Ethernet2Fcs (ethernet2_of f.bytes) else headers.Ethernet2 (ethernet2_of f.bytes)) (fcs_of f)))
+        (if b then headers.Ethernet2Fcs (ethernet2_of f.bytes) else headers.Ethernet2 (ethernet2_of f.bytes))
+        (fcs_of f)))
     by_mark true = refl
     by_mark false = refl
 
 -- its frame check sequence
-fcs_of_unit : (list rest : List ℕ) (x : Expectation) (w : Window) (h : Header) (u : PeelUnit) → IsIn list w → IsUnit list x w h
+fcs_of_unit : (list rest : List ℕ) (x : Expectation) (w : Window) (h : Header) (u : PeelUnit) → IsIn list w
+    → IsUnit list x w h
     → ShowsUnit (within list w) rest h u → fcs_shown u ≡ fcs_in list w h
 fcs_of_unit list rest x w (headers.Ethernet2 e) u inside unit shows = ap fcs_shown shows
 fcs_of_unit list rest x w (headers.Ethernet2Fcs e) u inside unit shows = ap fcs_shown shows
@@ -78,7 +82,8 @@ fault_is at w x UnexpectedVersion = refl
 fault_is at w x InvalidShortLen = refl
 
 -- a header that a walker gives is the first of those that it faces
-pub record TellsUnit (at : ℕ) (frame : List ℕ) (w : Window) (left : List Header) (e : Ending) (place : DeclaredPlace) (u : PeelUnit) (t : State)
+pub record TellsUnit (at : ℕ) (frame : List ℕ) (w : Window) (left : List Header) (e : Ending) (place : DeclaredPlace)
+    (u : PeelUnit) (t : State)
     : Type 0 where
   pub header : Header
   pub later : List Header
@@ -93,10 +98,12 @@ pub record TellsEnd (at : ℕ) (left : List Header) (e : Ending) (end : ToldEnd)
   pub is : end ≡ told_end at e
   pub verdict : accepted ≡ is_accepted e
 
-module _ (at : ℕ) (frame : List ℕ) (w : Window) (left : List Header) (e : Ending) (s t : State) (facing : Faces frame w s left e)
+module _ (at : ℕ) (frame : List ℕ) (w : Window) (left : List Header) (e : Ending) (s t : State)
+    (facing : Faces frame w s left e)
     (going : s.over ≡ false) where
   pub unit_told : (u : PeelUnit) (place : DeclaredPlace) → IsBytes frame → Gives s (Some (Ok u)) t
-      → place.start ≡ at + s.offset → place.header_end ≡ at + t.offset → place.payload_end ≡ at + (t.offset + length t.rest)
+      → place.start ≡ at + s.offset → place.header_end ≡ at + t.offset
+      → place.payload_end ≡ at + (t.offset + length t.rest)
       → place.closed ≡ t.closed → TellsUnit at frame w left e place u t
   unit_told u place ok gives from to end mark =
       let n = unit_next frame w left e s t u (gives.next going frame w left e facing) in
@@ -110,14 +117,16 @@ module _ (at : ℕ) (frame : List ℕ) (w : Window) (left : List Header) (e : En
       let fcs = fcs_of_unit frame t.rest s.expected w h u faces.inside faces.stack.0 shows in
       let begin : place.start ≡ at + w.start = from ∙ ap (λ (n : ℕ). at + n) faces.offset in
       let middle : place.header_end ≡ at + inner.start = to ∙ ap (λ (n : ℕ). at + n) n.faces.offset in
-      let last : place.payload_end ≡ at + inner.finish = end ∙ ap (λ (n : ℕ). at + n) (same_end frame inner t hs e n.faces) in
+      let last : place.payload_end ≡ at + inner.finish = end
+      ∙ ap (λ (n : ℕ). at + n) (same_end frame inner t hs e n.faces) in
       let closed : place.closed ≡ inner.closed = mark ∙ n.faces.closed in
       record {
         header = h;
         later = hs;
         parts = n.parts;
         is =
-            λ i. Walked (record { start = begin i; header_end = middle i; payload_end = last i; closed = closed i }) (header i) (fcs i);
+            λ i. Walked (record { start = begin i; header_end = middle i; payload_end = last i; closed = closed i })
+            (header i) (fcs i);
         faces = n.faces;
         going = n.going;
       }
@@ -126,38 +135,46 @@ module _ (at : ℕ) (frame : List ℕ) (w : Window) (left : List Header) (e : En
   fault_told f gives =
       let n = fault_next frame w left e s t f (gives.next going frame w left e facing) in
       let stack =
-      (subst (λ (k : Ending). Faces frame w s [] k) n.ending (subst (λ (l : List Header). Faces frame w s l e) n.none_left facing)).stack in
+      (subst (λ (k : Ending). Faces frame w s [] k) n.ending
+      (subst (λ (l : List Header). Faces frame w s l e) n.none_left facing)).stack in
       record {
         none_left = n.none_left;
         is =
             ap (fault_shown at) n.fault ∙ fault_is at w n.expected n.refusal
-            ∙ ap (λ (v : Window). told_end at (endings.Fault v n.expected n.refusal)) (sym stack.0) ∙ ap (told_end at) (sym n.ending);
+            ∙ ap (λ (v : Window). told_end at (endings.Fault v n.expected n.refusal)) (sym stack.0)
+            ∙ ap (told_end at) (sym n.ending);
         verdict = ap is_accepted (sym n.ending);
       }
 
-  pub rest_told : (start end : ℕ) (k : RestKind) → Gives s None t → start ≡ at + s.offset → end ≡ at + (s.offset + length t.rest)
+  pub rest_told : (start end : ℕ) (k : RestKind) → Gives s None t → start ≡ at + s.offset
+      → end ≡ at + (s.offset + length t.rest)
       → k ≡ kind_shown t.expected → TellsEnd at left e (Rest start end k) true
   rest_told start end k gives from to kind =
       let n = none_next frame w left e s t (gives.next going frame w left e facing) in
       let v = n.window in
       let faces =
-      subst (λ (k : Ending). Faces frame w s [] k) n.ending (subst (λ (l : List Header). Faces frame w s l e) n.none_left facing) in
+      subst (λ (k : Ending). Faces frame w s [] k) n.ending
+      (subst (λ (l : List Header). Faces frame w s l e) n.none_left facing) in
       let same : t ≡ s = n.state in
       let begin : start ≡ at + w.start = from ∙ ap (λ (n : ℕ). at + n) faces.offset in
       let until : end ≡ at + w.finish =
-      to ∙ ap (λ (u : State). at + (s.offset + length u.rest)) same ∙ ap (λ (n : ℕ). at + n) (same_end frame w s [] _ faces) in
+      to ∙ ap (λ (u : State). at + (s.offset + length u.rest)) same
+      ∙ ap (λ (n : ℕ). at + n) (same_end frame w s [] _ faces) in
       let shown : k ≡ kind_shown s.expected = kind ∙ ap (λ (u : State). kind_shown u.expected) same in
       record {
         none_left = n.none_left;
         is =
-            (λ i. Rest (begin i) (until i) (shown i)) ∙ ap (λ (w : Window). told_end at (endings.Accepted w s.expected)) (sym faces.stack.0)
-            ∙ ap (λ (y : Expectation). told_end at (endings.Accepted v y)) (sym faces.stack.1) ∙ ap (told_end at) (sym n.ending);
+            (λ i. Rest (begin i) (until i) (shown i))
+            ∙ ap (λ (w : Window). told_end at (endings.Accepted w s.expected)) (sym faces.stack.0)
+            ∙ ap (λ (y : Expectation). told_end at (endings.Accepted v y)) (sym faces.stack.1)
+            ∙ ap (told_end at) (sym n.ending);
         verdict = ap is_accepted (sym n.ending);
       }
 
 -- ---- the text so far, and that which is left
 
-pub record WritesTold {W : Type 0} (contents : W → Option (List ℕ)) (can_fail : Type 0) (part : Part) (first : Bool) (at : ℕ)
+pub record WritesTold {W : Type 0} (contents : W → Option (List ℕ)) (can_fail : Type 0) (part : Part) (first : Bool)
+    (at : ℕ)
     (x : Expectation) (frame : List ℕ) (is_first : Bool) (s : State) (old new : OutputBuffer W) : Type 0 where
   pub all : List Header
   pub ending : Ending
@@ -171,7 +188,8 @@ pub record WritesTold {W : Type 0} (contents : W → Option (List ℕ)) (can_fai
   pub parts : told_text part first (told_stack at frame (whole x frame) all) (told_end at ending)
       ≡ text ++ told_text part is_first (told_stack at frame window left) (told_end at ending)
 
-module _ {W : Type 0} (contents : W → Option (List ℕ)) (can_fail : Type 0) (part : Part) (first : Bool) (at : ℕ) (x : Expectation)
+module _ {W : Type 0} (contents : W → Option (List ℕ)) (can_fail : Type 0) (part : Part) (first : Bool) (at : ℕ)
+    (x : Expectation)
     (frame : List ℕ) where
   pub walk_starts : (s : State) (out : OutputBuffer W) (all : List Header) (ending : Ending) → Walk x frame all ending
       → Faces frame (whole x frame) s all ending → s.over ≡ false
@@ -192,7 +210,8 @@ module _ {W : Type 0} (contents : W → Option (List ℕ)) (can_fail : Type 0) (
   -- a header
   pub walk_unit : (is_first : Bool) (s t : State) (old mid new : OutputBuffer W) (u : PeelUnit) (place : DeclaredPlace)
       → IsBytes frame → WritesTold contents can_fail part first at x frame is_first s old mid → Gives s (Some (Ok u)) t
-      → place.start ≡ at + s.offset → place.header_end ≡ at + t.offset → place.payload_end ≡ at + (t.offset + length t.rest)
+      → place.start ≡ at + s.offset → place.header_end ≡ at + t.offset
+      → place.payload_end ≡ at + (t.offset + length t.rest)
       → place.closed ≡ t.closed
       → Takes contents can_fail mid (header_text part is_first (told_view place u)) new
       → WritesTold contents can_fail part first at x frame (next_is_first part is_first (told_view place u)) t old new
@@ -203,7 +222,8 @@ module _ {W : Type 0} (contents : W → Option (List ℕ)) (can_fail : Type 0) (
       let inner = payload a.window h in
       let is = n.is in
       let later =
-      λ (k : Told). told_text part (next_is_first part is_first k) (told_stack at frame inner hs) (told_end at a.ending) in
+      λ (k : Told). told_text part (next_is_first part is_first k) (told_stack at frame inner hs)
+      (told_end at a.ending) in
       let written = header_text part is_first (told_in at frame a.window h) in
       record {
         all = a.all;
@@ -214,17 +234,20 @@ module _ {W : Type 0} (contents : W → Option (List ℕ)) (can_fail : Type 0) (
         faces = n.faces;
         going = n.going;
         text = a.text ++ written;
-        taken = Takes-then a.taken (subst (λ (k : Told). Takes contents can_fail mid (header_text part is_first k) new) is taken);
+        taken = Takes-then a.taken (subst (λ (k : Told). Takes contents can_fail mid (header_text part is_first k) new)
+            is taken);
         parts =
             a.parts
-            ∙ ap (λ (l : List Header). a.text ++ told_text part is_first (told_stack at frame a.window l) (told_end at a.ending))
+            ∙ ap (λ (l : List Header). a.text ++ told_text part is_first (told_stack at frame a.window l)
+            (told_end at a.ending))
             n.parts
             ∙ sym (append_assoc a.text written (later (told_in at frame a.window h)))
             ∙ ap (λ (k : Told). (a.text ++ written) ++ later k) (sym is);
       }
 
   answered : (is_first : Bool) (s : State) (old mid new : OutputBuffer W) (accepted : Bool) (end : ToldEnd)
-      → (a : WritesTold contents can_fail part first at x frame is_first s old mid) → a.left ≡ [] → end ≡ told_end at a.ending
+      → (a : WritesTold contents can_fail part first at x frame is_first s old mid) → a.left ≡ []
+      → end ≡ told_end at a.ending
       → accepted ≡ is_accepted a.ending
       → Takes contents can_fail mid (end_text part end) new
       → TakesAnswer contents can_fail (AnswersTold part first at x frame) old new accepted
@@ -233,12 +256,20 @@ module _ {W : Type 0} (contents : W → Option (List ℕ)) (can_fail : Type 0) (
     answers = record {
       headers = told_stack at frame (whole x frame) a.all;
       end = told_end at a.ending;
-      tells = record { headers = a.all; ending = a.ending; walk = a.walk; is_told = refl; is_end = refl; verdict = verdict };
+      tells = record {
+        headers = a.all;
+        ending = a.ending;
+        walk = a.walk;
+        is_told = refl;
+        is_end = refl;
+        verdict = verdict;
+      };
       is_text =
           ap (λ (k : ToldEnd). a.text ++ end_text part k) is
           ∙ sym
           (a.parts
-          ∙ ap (λ (l : List Header). a.text ++ told_text part is_first (told_stack at frame a.window l) (told_end at a.ending))
+          ∙ ap (λ (l : List Header). a.text ++ told_text part is_first (told_stack at frame a.window l)
+          (told_end at a.ending))
           none);
     };
     taken = Takes-then a.taken taken;
@@ -265,14 +296,16 @@ module _ {W : Type 0} (contents : W → Option (List ℕ)) (can_fail : Type 0) (
 
 -- ---- a cooked header, and the walk of its payload
 
-pub record AnswersPayload (part : Part) (at : ℕ) (first : Told) (x : Expectation) (payload text : List ℕ) (accepted : Bool) : Type 0
+pub record AnswersPayload (part : Part) (at : ℕ) (first : Told) (x : Expectation) (payload text : List ℕ)
+    (accepted : Bool) : Type 0
   where
     pub headers : List Told
     pub end : ToldEnd
     pub tells : TellsPayload at first x payload headers end accepted
     pub is_text : text ≡ told_text part true headers end
 
-pub payload_told : {W : Type 0} {contents : W → Option (List ℕ)} {can_fail : Type 0} {part : Part} {at : ℕ} {x : Expectation}
+pub payload_told : {W : Type 0} {contents : W → Option (List ℕ)} {can_fail : Type 0} {part : Part} {at : ℕ}
+    {x : Expectation}
     {payload : List ℕ} {old mid new : OutputBuffer W} {accepted : Bool} (first : Told)
     → Takes contents can_fail old (header_text part true first) mid
     → TakesAnswer contents can_fail (AnswersTold part (next_is_first part true first) at x payload) mid new accepted

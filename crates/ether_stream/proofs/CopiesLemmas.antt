@@ -78,7 +78,8 @@ module _ (mode : ModeValue) (select : Option Selection) (asked : Option EditValu
         all = λ exact every whole.
             copy_all Edits (none_edited asked whole) capture_start bytes copy kept edited rest fault
             (subst (λ (m : ModeValue). Copies m (λ p. ⊤) Edits capture_start bytes copy kept edited rest fault) exact
-            (subst (λ (s : Option Selection). Copies mode (IsChosen s) Edits capture_start bytes copy kept edited rest fault)
+            (subst (λ (s : Option Selection). Copies mode
+            (IsChosen s) Edits capture_start bytes copy kept edited rest fault)
             every copies));
       }
     where
@@ -100,14 +101,16 @@ module _ (mode : ModeValue) (select : Option Selection) (asked : Option EditValu
   CopiesOn-start later more others changed rest fault copies = copies
 
   -- a unit that is no packet is copied
-  pub CopiesOn-unit : (front copy : List ℕ) (kept edited : List PacketValue) (x y : CaptureExpectation) (buffered : List ℕ)
+  pub CopiesOn-unit : (front copy : List ℕ) (kept edited : List PacketValue) (x y : CaptureExpectation)
+      (buffered : List ℕ)
       (len : ℕ)
       → len ≤ length buffered → Begins buffered x len None y → Goes front copy kept edited x
       → Goes (front ++ take len buffered) (copy ++ other_unit mode y (take len buffered)) kept edited y
   CopiesOn-unit front copy kept edited x y buffered len within is go later more others changed rest fault copies =
       let own = take len buffered in
       let text = other_unit mode y own in
-      subst (λ (l : List ℕ). Copied capture_start l ((copy ++ text) ++ more) (kept ++ others) (edited ++ changed) rest fault)
+      subst (λ (l : List ℕ). Copied capture_start l ((copy ++ text) ++ more) (kept ++ others)
+      (edited ++ changed) rest fault)
       (sym (append_assoc front own later))
       (subst
       (λ (l : List ℕ). Copied capture_start (front ++ (own ++ later)) l (kept ++ others) (edited ++ changed) rest fault)
@@ -123,13 +126,15 @@ module _ (mode : ModeValue) (select : Option Selection) (asked : Option EditValu
       → len ≤ length buffered → Begins buffered x len (Some p) y → IsChosen select p → EditsIf asked p o
       → unit_after mode x p o (take len buffered) ≡ Some text → Goes front copy kept edited x
       → Goes (front ++ take len buffered) (copy ++ text) (kept ++ p ∷ []) (edited ++ packet_after mode p o ∷ []) y
-  CopiesOn-kept front copy text kept edited p o x y buffered len within is chosen edits fits go later more others changed
+  CopiesOn-kept front copy text kept edited p o x y buffered len within is chosen edits fits go later more others
+      changed
       rest fault copies =
       let own = take len buffered in
       let q = packet_after mode p o in
       subst
       (λ (l : List PacketValue).
-      Copied capture_start ((front ++ own) ++ later) ((copy ++ text) ++ more) l ((edited ++ q ∷ []) ++ changed) rest fault)
+      Copied capture_start ((front ++ own) ++ later) ((copy ++ text) ++ more) l
+      ((edited ++ q ∷ []) ++ changed) rest fault)
       (sym (append_assoc kept (p ∷ []) others))
       (subst
       (λ (l : List PacketValue).
@@ -140,7 +145,8 @@ module _ (mode : ModeValue) (select : Option Selection) (asked : Option EditValu
       Copied capture_start ((front ++ own) ++ later) l (kept ++ p ∷ others) (edited ++ q ∷ changed) rest fault)
       (sym (append_assoc copy text more))
       (subst
-      (λ (l : List ℕ). Copied capture_start l (copy ++ (text ++ more)) (kept ++ p ∷ others) (edited ++ q ∷ changed) rest fault)
+      (λ (l : List ℕ). Copied capture_start l (copy ++ (text ++ more)) (kept ++ p ∷ others)
+      (edited ++ q ∷ changed) rest fault)
       (sym (append_assoc front own later))
       (go (own ++ later) (text ++ more) (p ∷ others) (q ∷ changed) rest fault
       (keeps x y (own ++ later) text more len p o others changed rest fault
@@ -149,7 +155,8 @@ module _ (mode : ModeValue) (select : Option Selection) (asked : Option EditValu
       (left_copied y buffered later more len others changed rest fault within copies))))))
 
   -- a packet is left out
-  pub CopiesOn-left : (front copy : List ℕ) (kept edited : List PacketValue) (p : PacketValue) (x y : CaptureExpectation)
+  pub CopiesOn-left : (front copy : List ℕ) (kept edited : List PacketValue) (p : PacketValue)
+      (x y : CaptureExpectation)
       (buffered : List ℕ) (len : ℕ)
       → len ≤ length buffered → Begins buffered x len (Some p) y → ¬ (IsChosen select p)
       → Goes front copy kept edited x → Goes (front ++ take len buffered) copy kept edited y
@@ -178,7 +185,8 @@ module _ (mode : ModeValue) (select : Option Selection) (asked : Option EditValu
       (ended_copy (front ++ []) copy kept edited [] None (go [] [] [] [] [] None (ended x [] (begun, refl))))
 
   -- .. at a refusal of all that is left
-  pub copied_to_refusal : (front copy : List ℕ) (kept edited : List PacketValue) (x : CaptureExpectation) (left : List ℕ)
+  pub copied_to_refusal : (front copy : List ℕ) (kept edited : List PacketValue) (x : CaptureExpectation)
+      (left : List ℕ)
       (r : CaptureRefusal)
       → ¬ (IsEnd x left) → RefusesCapture left x r → Goes front copy kept edited x
       → Copied capture_start (front ++ left) copy kept edited left (Some (Refused r))
@@ -213,7 +221,8 @@ module _ (mode : ModeValue) (select : Option Selection) (asked : Option EditValu
       ]
 
 -- what is written for a packet, where this is expected and it has these bytes
-pub unit_there : (mode : ModeValue) (x y : CaptureExpectation) (own bytes : List ℕ) (p : PacketValue) (o : Option EditedValue)
+pub unit_there : (mode : ModeValue) (x y : CaptureExpectation) (own bytes : List ℕ) (p : PacketValue)
+    (o : Option EditedValue)
     (text : Option (List ℕ))
     → x ≡ y → own ≡ bytes → unit_after mode x p o own ≡ text → unit_after mode y p o bytes ≡ text
 unit_there mode x y own bytes p o text at unit_is e = search rules

@@ -124,7 +124,8 @@ pub record MadeMore (select : Option Selection) (form : FormValue) (packets old 
 
 -- the lines of a packet that is chosen or not
 answered_more : (select : Option Selection) (options : LineOptions) (packets kept : List PacketValue)
-    (front text : List ℕ) (all : Bool) (x y : CaptureExpectation) (p : PacketValue) (own more : List ℕ) (accepted : Bool)
+    (front text : List ℕ) (all : Bool) (x y : CaptureExpectation) (p : PacketValue) (own more : List ℕ)
+    (accepted : Bool)
     → Selected (IsChosen select) packets kept → Made select (Lines options) packets kept front text all x
     → AnswersPacket select options (counted (packets_before (Lines options) + length packets + 1)) p more accepted
     → MadeMore select (Lines options) packets kept (Some p) (front ++ own) (text ++ more) (all && accepted) y
@@ -145,7 +146,8 @@ answered_more select options packets kept front text all x y p own more accepted
 
 -- the copy of a unit
 copied_more : (mode : ModeValue) (select : Option Selection) (edit : Option EditValue) (packets kept : List PacketValue)
-    (front copy : List ℕ) (all : Bool) (x y : CaptureExpectation) (buffered : List ℕ) (len : ℕ) (packet : Option PacketValue)
+    (front copy : List ℕ) (all : Bool) (x y : CaptureExpectation) (buffered : List ℕ) (len : ℕ)
+    (packet : Option PacketValue)
     (own more : List ℕ) (text : Option (List ℕ))
     → len ≤ length buffered → Begins buffered x len packet y → own ≡ take len buffered
     → Selected (IsChosen select) packets kept → Made select (Copy mode edit) packets kept front copy all x
@@ -229,7 +231,8 @@ made_more select (Lines options) packets kept front text all x y buffered len nu
     answered_more select options packets kept front text all x y p (take len buffered) more accepted selected made
     (subst (λ (n : ℕ). AnswersPacket select options n p more accepted) is
     (subst (λ (l : List ℕ). AnswersPacket select options number p l accepted) same answers))
-made_more select (Copy mode edit) packets kept front text all x y buffered len number packet own more accepted within begins
+made_more select (Copy mode edit) packets kept front text all x y buffered len number packet own more accepted within
+    begins
     unit_is is selected made makes =
     subst
     (λ (b : Bool).

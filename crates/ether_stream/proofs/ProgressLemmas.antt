@@ -42,7 +42,8 @@ goes_more front packets (Some p) x y buffered len within begins go =
     GoesOn-packet front packets p x y buffered len within begins go
 
 -- the counts with a unit more
-counts_more : {X : Type 0} (select : Option Selection) (before : ℕ) (packets : List PacketValue) (packet : Option PacketValue)
+counts_more : {X : Type 0} (select : Option Selection) (before : ℕ) (packets : List PacketValue)
+    (packet : Option PacketValue)
     (old new : Progress X)
     → Counts select packet old new → old.count ≡ counted (before + length packets)
     → old.skipped ≡ counted (sum_by skip_count packets) → HasOpen select packets old.undecided
@@ -282,7 +283,8 @@ module _ {W X : Type 0} (mode : ModeValue) (select : Option Selection) (count : 
         place = so_far.place;
         is_offset = at ∙ so_far.is_offset;
         fewer =
-            Reached-fewer (record { select = select; count = count; form = Copy mode edit }) contents held input buffered old
+            Reached-fewer (record { select = select; count = count; form = Copy mode edit }) contents held input
+            buffered old
             from some so_far;
         written =
             subst (λ (out : OutputBuffer W). Appends held (contents_of contents out) so_far.text) (sym same_out)
@@ -315,7 +317,8 @@ no_lines select options x number own (Some p) accepted makes = some_none makes.0
 
 module _ {W X : Type 0} (select : Option Selection) (count : Option ℕ) (contents : W → Option (List ℕ)) where
   pub Reached-stopped : (form : FormValue) (held : Option (List ℕ)) (input buffered : List ℕ) (old : Progress X)
-      (y : CaptureExpectation) (from to : OutputBuffer W) (len : ℕ) (packet : Option PacketValue) (own : List ℕ) (offset : ℕ)
+      (y : CaptureExpectation) (from to : OutputBuffer W) (len : ℕ) (packet : Option PacketValue) (own : List ℕ)
+      (offset : ℕ)
       → old.left ≢ Some 0
       → Begins buffered old.reader len packet y → own ≡ take len buffered
       → StopsUnwritten (record { select = select; count = count; form = form }) own packet
@@ -327,7 +330,8 @@ module _ {W X : Type 0} (select : Option Selection) (count : Option ℕ) (conten
       no_lines select options y (counted (old.count + 1)) own packet stops.accepted stops.not_made
   Reached-stopped (Copy mode edit) held input buffered old y from to len packet own offset some begins unit_is stops
       so_far =
-      unwritten_unit mode select count edit contents held input buffered old y y from to len packet own offset None begins
+      unwritten_unit mode select count edit contents held input buffered old y y from to len packet own offset None
+      begins
       refl
       unit_is refl stops.not_made.0 stops.is_offset stops.same_out some so_far
 

@@ -68,7 +68,8 @@ no_section h = omega (arith, h)
 nothing_of_blocks : (r : CaptureRefusal) (n : ℕ) → required_len r ≡ Some n → required_len r ≡ None → ⊥
 nothing_of_blocks r n some none = let e : Some n ≡ None = sym some ∙ none in absurd cc
 
-pub refused_nothing : (bytes : List ℕ) (x : CaptureExpectation) (r : CaptureRefusal) → bytes ≡ [] → RefusesCapture bytes x r
+pub refused_nothing : (bytes : List ℕ) (x : CaptureExpectation) (r : CaptureRefusal) → bytes ≡ []
+    → RefusesCapture bytes x r
     → required_len r ≡ None → ⊥
 refused_nothing bytes x r e (file_header_refused most s other (file.short lt)) none = nothing_of_blocks r 24 refl none
 refused_nothing bytes x r e (file_header_refused most s other (file.magic le never)) none = search rules
@@ -320,7 +321,8 @@ module _ {W X : Type 0} (task : TaskValue) (contents : W → Option (List ℕ)) 
     finished input buffered at from to (Err fault) read end some over is written failed so_far = search rules
 
     -- all packets that are asked for are taken
-    pub counted_out : (input buffered : List ℕ) (at : Progress X) (from to : OutputBuffer W) (r : Result Verdict RunFault)
+    pub counted_out : (input buffered : List ℕ) (at : Progress X) (from to : OutputBuffer W)
+        (r : Result Verdict RunFault)
         → Consumes before after input → at.left ≡ Some 0
         → IfOk r (λ verdict. verdict ≡ at.verdict)
         → OnOk r
@@ -351,7 +353,8 @@ module _ {W X : Type 0} (task : TaskValue) (contents : W → Option (List ℕ)) 
                 ends = ends.1;
                 completes =
                     completed task.select so_far.front so_far.front so_far.text so_far.packets so_far.kept
-                    so_far.all_accepted at.reader task.count so_far.parts at.undecided so_far.undecided task.form refl ends.0 so_far.made;
+                    so_far.all_accepted at.reader task.count so_far.parts at.undecided so_far.undecided task.form refl
+                    ends.0 so_far.made;
                 is_verdict = is ∙ so_far.is_verdict;
               };
           written =
@@ -395,7 +398,8 @@ module _ {W X : Type 0} (task : TaskValue) (contents : W → Option (List ℕ)) 
         some refused needed so_far))
 
     -- memory is refused
-    pub without_memory : (r : Result Verdict RunFault) (input buffered : List ℕ) (at : Progress X) (out : OutputBuffer W)
+    pub without_memory : (r : Result Verdict RunFault) (input buffered : List ℕ) (at : Progress X)
+        (out : OutputBuffer W)
         (reason : CaptureRefusal) (n : ℕ)
         → IsErrAnd r (λ fault. fault ≡ faults.Memory) → Consumes before after input → at.left ≢ Some 0
         → RefusesCapture buffered at.reader reason

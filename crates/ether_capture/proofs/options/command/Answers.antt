@@ -8,7 +8,8 @@ with_version = on_top (λ (s : Shape). record s { has_version = true })
 
 pub returns : goal.returns
 returns c =
-    let s0 : app_of c.version.result ≡ with_version (new_app (codes "ether_capture")) = ap app_of_fields c.version.ensures ∙ ap with_version c.new.ensures.app in
+    let s0 : app_of c.version.result ≡ with_version (new_app (codes "ether_capture")) =
+    ap app_of_fields c.version.ensures ∙ ap with_version c.new.ensures.app in
     let s1 = c.in_ok-arg.ensures.shape c.flag.ensures.1 ∙ ap₂ with_rule s0 c.flag.ensures.0 in
     let s2 = c.in_ok-arg-2.ensures.shape c.flag-2.ensures.1 ∙ ap₂ with_rule s1 c.flag-2.ensures.0 in
     let s3 = c.in_ok-arg-3.ensures.shape c.flag-3.ensures.1 ∙ ap₂ with_rule s2 c.flag-3.ensures.0 in

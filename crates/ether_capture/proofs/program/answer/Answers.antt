@@ -11,7 +11,8 @@ returns-in-Ok-clause-done g c =
     rw c.in-Run.is
     (headed _ _
     (subst
-    (λ (h : Option Columns). Appends (g.W.Sink.contents c.args.writer.now) (g.W.Sink.contents c.write_heading.new.writer) (heading_if h))
+    (λ (h : Option Columns). Appends (g.W.Sink.contents c.args.writer.now)
+    (g.W.Sink.contents c.write_heading.new.writer) (heading_if h))
     c.columns.ensures c.in-Ok.ensures.written)
     (c.run_job.ensures.run, refl))
 
@@ -36,7 +37,9 @@ returns-in-List-clause-done g c =
     rw c.in-List.is (failed fault.1.0 (sym c.columns-in-List.ensures ∙ fault.1.1) fault.0 refl refl refl)
 
 pub returns-in-Help-clause-done : goal.returns-in-Help-clause-done
-returns-in-Help-clause-done g c = rw c.in-Help.is (headed outcomes.Help (g.W.Sink.contents c.args.writer.now) (Appends-none _) (refl, refl, refl, refl))
+returns-in-Help-clause-done g c = rw c.in-Help.is
+    (headed outcomes.Help (g.W.Sink.contents c.args.writer.now) (Appends-none _) (refl, refl, refl, refl))
 
 pub returns-clause-done : goal.returns-clause-done
-returns-clause-done g c = rw c.in-Version.is (headed outcomes.Version (g.W.Sink.contents c.args.writer.now) (Appends-none _) (refl, refl, refl, refl))
+returns-clause-done g c = rw c.in-Version.is
+    (headed outcomes.Version (g.W.Sink.contents c.args.writer.now) (Appends-none _) (refl, refl, refl, refl))

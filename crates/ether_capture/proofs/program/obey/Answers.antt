@@ -14,4 +14,5 @@ pub returns-in-Err-Filter-clause-obeyed : goal.returns-in-Err-Filter-clause-obey
 returns-in-Err-Filter-clause-obeyed g c = refused _ (reasons.Filter _) _ _ _ _ (search rules)
 
 pub returns-in-Ok-clause-obeyed : goal.returns-in-Ok-clause-obeyed
-returns-in-Ok-clause-obeyed g c = done _ (request_view c.in-Ok.request) _ _ _ _ _ _ _ _ _ c.in-Ok.ensures.ok c.respond.ensures.done
+returns-in-Ok-clause-obeyed g c = done _ (request_view c.in-Ok.request) _ _ _ _ _ _ _ _ _ c.in-Ok.ensures.ok
+    c.respond.ensures.done

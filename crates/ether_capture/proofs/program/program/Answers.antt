@@ -40,7 +40,8 @@ pub returns-clause-served : goal.returns-clause-served
 returns-clause-served g c =
     let args = c.in-Ok.args in
     let yields = YieldsList-from_vec {s = args} (into_iter_items args) refl args.rest.ok.0 in
-    let collected = subst (λ r. IfOk r (λ w. vec_items w ≡ into_iter_items args)) c.in-Ok-collect.is (items_from_collect c.collect.result c.collect.ensures.ran yields) in
+    let collected = subst (λ r. IfOk r (λ w. vec_items w ≡ into_iter_items args)) c.in-Ok-collect.is
+    (items_from_collect c.collect.result c.collect.ensures.ran yields) in
     let words : map string_bytes c.as_slice.result.now ≡ map string_bytes (into_iter_items args) =
     ap (map string_bytes) (c.as_slice.ensures.value ∙ collected) in
     rw c.in-Ok.is

@@ -9,7 +9,8 @@ returns-in_default-clause-done g c =
 
 pub returns-then-has_failed-clause-done : goal.returns-then-has_failed-clause-done
 returns-then-has_failed-clause-done g c =
-    let some : statistics_asked (request_view c.args.request) ≡ Some c.in-Some.format = sym c.statistics.ensures ∙ c.in-Some.is in
+    let some : statistics_asked (request_view c.args.request) ≡ Some c.in-Some.format = sym c.statistics.ensures
+    ∙ c.in-Some.is in
     rw some
     (record {
       rows = _;
@@ -20,7 +21,8 @@ returns-then-has_failed-clause-done g c =
 
 pub returns-in-Ok-clause-done : goal.returns-in-Ok-clause-done
 returns-in-Ok-clause-done g c =
-    let some : statistics_asked (request_view c.args.request) ≡ Some c.in-Some.format = sym c.statistics.ensures ∙ c.in-Some.is in
+    let some : statistics_asked (request_view c.args.request) ≡ Some c.in-Some.format = sym c.statistics.ensures
+    ∙ c.in-Some.is in
     rw some
     (record {
       rows = _;
@@ -31,7 +33,8 @@ returns-in-Ok-clause-done g c =
 
 pub returns-clause-done : goal.returns-clause-done
 returns-clause-done g c =
-    let some : statistics_asked (request_view c.args.request) ≡ Some c.in-Some.format = sym c.statistics.ensures ∙ c.in-Some.is in
+    let some : statistics_asked (request_view c.args.request) ≡ Some c.in-Some.format = sym c.statistics.ensures
+    ∙ c.in-Some.is in
     rw some
     (record {
       rows = _;

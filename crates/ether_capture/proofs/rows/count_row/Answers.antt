@@ -8,7 +8,8 @@ pub loop-columns-init : goal.loop-columns-init
 loop-columns-init c hits so_far =
     let is = c.decimal_value-bytes.ensures in
     begins_row c.args.heading.now c.args.row.now c.decimal_value-bytes.result hits c.first_field.result.0.now
-    c.first_field-2.result.0.now _ _ (count_at c.args.counts.now) (count_at c.count.new.counts) is c.first_field.ensures c.first_field-2.ensures
+    c.first_field-2.result.0.now _ _ (count_at c.args.counts.now)
+    (count_at c.count.new.counts) is c.first_field.ensures c.first_field-2.ensures
     (omega (arith, is)) so_far c.in_ok-count.ensures
 
 pub loop-columns-preserved-in_ok-count-2 : goal.loop-columns-preserved-in_ok-count-2
@@ -31,11 +32,13 @@ loop-columns-preserved c hits so_far =
 pub returns-in_default : goal.returns-in_default
 returns-in_default c hits so_far =
     ends_texts c.args.heading.now c.args.row.now c.decimal_value-bytes.result hits
-    (option_map (λ s. s.now) c.loop-columns.columns) (option_map (λ s. s.now) c.loop-columns.fields) (count_at c.loop-columns.counts)
+    (option_map (λ s. s.now) c.loop-columns.columns) (option_map (λ s. s.now) c.loop-columns.fields)
+    (count_at c.loop-columns.counts)
     (ap (option_map (λ s. s.now)) c.in_default.is-1) (c.loop-columns.invariant hits so_far)
 
 pub returns-in_default-2 : goal.returns-in_default-2
 returns-in_default-2 c hits so_far =
     ends_names c.args.heading.now c.args.row.now c.decimal_value-bytes.result hits
-    (option_map (λ s. s.now) c.loop-columns.columns) (option_map (λ s. s.now) c.loop-columns.fields) (count_at c.loop-columns.counts)
+    (option_map (λ s. s.now) c.loop-columns.columns) (option_map (λ s. s.now) c.loop-columns.fields)
+    (count_at c.loop-columns.counts)
     (ap (option_map (λ s. s.now)) c.in_default.is-0) (c.loop-columns.invariant hits so_far)

@@ -9,7 +9,8 @@ use Rattle.ether_capture.proofs.rows.count_row.Given as goal
 abbrev pub invariant-loop-columns : goal.invariant-loop-columns
 invariant-loop-columns l =
     (hits : List Hit) → CountHits hits (count_at l.fn.counts)
-    → CountsOn l.heading l.row l.bytes hits (option_map (λ s. s.now) l.columns) (option_map (λ s. s.now) l.fields) (count_at l.counts)
+    → CountsOn l.heading l.row l.bytes hits (option_map (λ s. s.now) l.columns) (option_map (λ s. s.now) l.fields)
+    (count_at l.counts)
 
 abbrev pub decreases-loop-columns : goal.decreases-loop-columns
 decreases-loop-columns l = length (fields_if (option_map (λ s. s.now) l.fields))

@@ -18,4 +18,5 @@ returns-in-Json g c =
     (Takes-then (Takes-same c.parts_of.ensures.text c.append-in-Json-4.ensures)
     (Takes-then c.append-in-Json-5.ensures
     (Takes-then c.write_decimal-in-Json.ensures
-    (Takes-then c.append-in-Json-6.ensures (Takes-then c.write_decimal-in-Json-2.ensures c.append-in-Json-7.ensures))))))))
+    (Takes-then c.append-in-Json-6.ensures (Takes-then c.write_decimal-in-Json-2.ensures
+    c.append-in-Json-7.ensures))))))))

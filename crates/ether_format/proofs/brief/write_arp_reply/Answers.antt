@@ -6,6 +6,7 @@ use Rattle.ether_format.proofs.brief.write_arp_reply.Goals as goal
 
 pub returns : goal.returns
 returns g c =
-    let sender = Takes-same (λ i. address_text (c.proto_addr_type-protocol.ensures i) (c.sender_protocol_addr.ensures i)) c.write_address.ensures in
+    let sender = Takes-same (λ i. address_text (c.proto_addr_type-protocol.ensures i)
+    (c.sender_protocol_addr.ensures i)) c.write_address.ensures in
     let hardware = Takes-same (ap colon_text c.sender_hw_addr.ensures) c.write_colons.ensures in
     Takes-then c.append.ensures (Takes-then sender (Takes-then c.append-2.ensures hardware))

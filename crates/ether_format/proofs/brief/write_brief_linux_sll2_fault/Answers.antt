@@ -9,7 +9,8 @@ use Rattle.ether_format.proofs.brief.write_brief_linux_sll2_fault.Goals as goal
 
 pub returns-in-Len : goal.returns-in-Len
 returns-in-Len g c =
-    let cause = Takes-same (ap (λ e. brief_cause (cause_of_v2 (refusal_view e))) (sym c.in-Len.is)) c.write_lengths.ensures in
+    let cause = Takes-same (ap (λ e. brief_cause (cause_of_v2 (refusal_view e))) (sym c.in-Len.is))
+    c.write_lengths.ensures in
     Takes-then c.write_number.ensures (Takes-then c.append.ensures cause)
 
 pub returns-in-PacketType : goal.returns-in-PacketType

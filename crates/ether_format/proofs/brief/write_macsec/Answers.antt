@@ -6,6 +6,7 @@ use Rattle.ether_format.proofs.brief.write_macsec.Goals as goal
 
 pub returns : goal.returns
 returns g c =
-    let association = Takes-same (ap (λ n. codes " macsec an " ++ decimal n) (c.from.ensures ∙ c.value.ensures.value ∙ c.an.ensures)) c.write_number.ensures in
+    let association = Takes-same (ap (λ n. codes " macsec an " ++ decimal n)
+    (c.from.ensures ∙ c.value.ensures.value ∙ c.an.ensures)) c.write_number.ensures in
     let packet = Takes-same (ap (λ n. codes " pn " ++ decimal n) c.packet_nr.ensures) c.write_number-2.ensures in
     Takes-then association packet

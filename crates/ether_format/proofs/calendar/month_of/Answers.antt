@@ -11,7 +11,8 @@ loop-left-preserved c =
     let tested = c.from.ensures ∙ at in
     let taken = c.from-left.ensures ∙ at in
     let after : suc c.loop-left.month ≡ c.loop-left.month + 1 = omega arith in
-    let next = sum_next lens c.loop-left.month ∙ ap (λ n. slice_index_or lens c.loop-left.month 0 + sum (drop n lens)) after in
+    let next = sum_next lens c.loop-left.month
+    ∙ ap (λ n. slice_index_or lens c.loop-left.month 0 + sum (drop n lens)) after in
     let (same, total, few) = c.loop-left.invariant in
     let enough = c.loop-left-test.true in
     (c.month_lens-lens.ensures, omega arith, omega arith)

@@ -13,10 +13,13 @@ loop-column-init g c = first_none g.W.Sink.contents g.W.Sink.can_fail text c.arg
 
 pub loop-column-preserved : goal.loop-column-preserved
 loop-column-preserved g c =
-    first_next g.W.Sink.contents g.W.Sink.can_fail text c.args.columns.now c.loop-column.column-index _ c.args.out.now c.loop-column.out
-    c.write_name.new.out c.loop-column-test.true c.loop-column.invariant (Takes-then c.append.ensures c.write_name.ensures)
+    first_next g.W.Sink.contents g.W.Sink.can_fail text c.args.columns.now c.loop-column.column-index _ c.args.out.now
+    c.loop-column.out
+    c.write_name.new.out c.loop-column-test.true c.loop-column.invariant
+    (Takes-then c.append.ensures c.write_name.ensures)
 
 pub returns : goal.returns
 returns g c =
-    first_all g.W.Sink.contents g.W.Sink.can_fail text c.args.columns.now c.loop-column.column-index c.args.out.now c.loop-column.out
+    first_all g.W.Sink.contents g.W.Sink.can_fail text c.args.columns.now c.loop-column.column-index c.args.out.now
+    c.loop-column.out
     c.loop-column-test.false c.loop-column.invariant

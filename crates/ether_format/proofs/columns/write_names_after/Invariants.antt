@@ -5,4 +5,5 @@ use Rattle.ether_format.proofs.columns.write_names_after.Given as goal
 
 abbrev pub invariant-loop-column : goal.invariant-loop-column
 invariant-loop-column g l =
-    WritesFirst g.W.Sink.contents g.W.Sink.can_fail (λ c. codes "\t" ++ column_name (column_view c)) l.columns l.column-index l.fn.out l.out
+    WritesFirst g.W.Sink.contents g.W.Sink.can_fail
+    (λ c. codes "\t" ++ column_name (column_view c)) l.columns l.column-index l.fn.out l.out

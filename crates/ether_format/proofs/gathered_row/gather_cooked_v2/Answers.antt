@@ -18,7 +18,8 @@ pub returns-in-Some-clause-some : goal.returns-in-Some-clause-some
 returns-in-Some-clause-some c =
     let packet = c.in-Ok.packet in
     let same = c.in-Ok.ensures.bytes in
-    let found = started (told_ether_type (protocol_of_header packet)) c.in-Some.start (sym c.start-start.ensures ∙ c.in-Some.is) in
+    let found = started (told_ether_type (protocol_of_header packet)) c.in-Some.start
+    (sym c.start-start.ensures ∙ c.in-Some.is) in
     let first = c.push.new.self.items in
     let now = c.gather.new.headers.items in
     let payload = slice_range packet 20 (length packet) in
@@ -26,12 +27,16 @@ returns-in-Some-clause-some c =
     IfSome_then c.gather.result c.gather.ensures.some
     (λ end g.
     let walk = subst (λ (s : Start). GathersWalk 20 (start_with s c.args.limit) payload first now end) found.2
-    (subst (λ (l : List ℕ). GathersWalk 20 (start_with c.in-Some.start c.args.limit) l first now end) c.payload_slice-payload.ensures g) in
+    (subst (λ (l : List ℕ). GathersWalk 20 (start_with c.in-Some.start c.args.limit) l first now end)
+    c.payload_slice-payload.ensures g) in
     let whole = told_after c.args.headers.now.items first now walk.later _ c.requires c.push.ensures.items walk.whole
     ∙ ap (λ (q : Place). CookedV2 q (linux_sll2_of packet) ∷ map found_told walk.later) place in
-    subst (λ (bytes : List ℕ). TellsCookedV2 c.args.limit bytes (map found_told now) (end_told end) (is_accepted end)) same
-    (read (map found_told now) (end_told end) (is_accepted end) (subst AcceptsLinuxSll2 (sym same) c.in-Ok.ensures.accepted)
-    (subst (λ (o : Option ℕ). TellsAfter c.args.limit o packet (map found_told now) (end_told end) (is_accepted end)) (sym found.1)
+    subst (λ (bytes : List ℕ). TellsCookedV2 c.args.limit bytes (map found_told now) (end_told end) (is_accepted end))
+    same
+    (read (map found_told now) (end_told end) (is_accepted end)
+    (subst AcceptsLinuxSll2 (sym same) c.in-Ok.ensures.accepted)
+    (subst (λ (o : Option ℕ). TellsAfter c.args.limit o packet (map found_told now) (end_told end) (is_accepted end))
+    (sym found.1)
     (record { later = map found_told walk.later; walk = walk.tells; whole = whole }))))
 
 pub returns-in-None-clause-some : goal.returns-in-None-clause-some
@@ -53,17 +58,20 @@ pub returns-in-Some-clause-none : goal.returns-in-Some-clause-none
 returns-in-Some-clause-none c =
     let packet = c.in-Ok.packet in
     let same = c.in-Ok.ensures.bytes in
-    let found = started (told_ether_type (protocol_of_header packet)) c.in-Some.start (sym c.start-start.ensures ∙ c.in-Some.is) in
+    let found = started (told_ether_type (protocol_of_header packet)) c.in-Some.start
+    (sym c.start-start.ensures ∙ c.in-Some.is) in
     let pushed = c.push.ensures.len in
     let empty = ap length c.requires in
     none_then c.gather.result
     (λ none told end accepted tells.
     let of_packet = subst (λ (bytes : List ℕ). TellsCookedV2 c.args.limit bytes told end accepted) (sym same) tells in
     let after = subst (λ (o : Option ℕ). TellsAfter c.args.limit o packet told end accepted) found.1
-    (accepted_v2 c.args.limit packet told end accepted (subst AcceptsLinuxSll2 (sym same) c.in-Ok.ensures.accepted) of_packet) in
+    (accepted_v2 c.args.limit packet told end accepted
+    (subst AcceptsLinuxSll2 (sym same) c.in-Ok.ensures.accepted) of_packet) in
     let walk = subst (λ (l : List ℕ). TellsWalk 20 (start_with c.in-Some.start c.args.limit) l after.later end accepted)
     (sym c.payload_slice-payload.ensures)
-    (subst (λ (s : Start). TellsWalk 20 (start_with s c.args.limit) (slice_range packet 20 (length packet)) after.later end accepted)
+    (subst (λ (s : Start). TellsWalk 20 (start_with s c.args.limit)
+    (slice_range packet 20 (length packet)) after.later end accepted)
     (sym found.2) after.walk) in
     let more = none after.later end accepted walk in
     let whole = ap length after.whole in
@@ -73,5 +81,6 @@ returns-in-Some-clause-none c =
 pub returns-in-Err-clause-some : goal.returns-in-Err-clause-some
 returns-in-Err-clause-some c =
     let r = refusal_view c.in-Err.error in
-    subst (λ (l : List Found). TellsCookedV2 c.args.limit c.args.bytes.now (map found_told l) (Fault 0 false (cause_of_v2 r)) false)
+    subst (λ (l : List Found). TellsCookedV2 c.args.limit c.args.bytes.now (map found_told l)
+    (Fault 0 false (cause_of_v2 r)) false)
     (sym c.requires) (refused r c.in-Err.ensures.refused)

@@ -12,7 +12,8 @@ returns-then-eq g c moment is =
     let same : c.args.column.section ≡ parts.Frame = search rules in
     Takes-same
     (ap (column_on true) (c.in_frame.ensures moment is)
-    ∙ frame_only c.args.column same c.args.number (captured_packet_view c.args.packet.now) moment (map found_told c.args.headers.now)
+    ∙ frame_only c.args.column same c.args.number (captured_packet_view c.args.packet.now) moment
+    (map found_told c.args.headers.now)
     (end_told c.args.end.now))
     c.write_only.ensures
 
@@ -20,7 +21,8 @@ pub returns-then-is_end : goal.returns-then-is_end
 returns-then-is_end g c moment is =
     let last : is_end_section c.args.column.section ≡ true = search rules in
     Takes-same
-    (end_only c.args.column last c.args.number (captured_packet_view c.args.packet.now) moment (map found_told c.args.headers.now)
+    (end_only c.args.column last c.args.number (captured_packet_view c.args.packet.now) moment
+    (map found_told c.args.headers.now)
     (end_told c.args.end.now))
     c.write_in_end.ensures
 
@@ -29,6 +31,7 @@ returns-else-is_end g c moment is =
     let other : c.args.column.section ≡ parts.Frame → ⊥ = search rules in
     let none : is_end_section c.args.column.section ≡ false = search rules in
     Takes-same
-    (headers_only c.args.column other none c.args.number (captured_packet_view c.args.packet.now) moment (map found_told c.args.headers.now)
+    (headers_only c.args.column other none c.args.number (captured_packet_view c.args.packet.now) moment
+    (map found_told c.args.headers.now)
     (end_told c.args.end.now))
     c.write_in_headers.ensures

@@ -14,7 +14,8 @@ returns-in-Some g c =
     let found = c.as_slice.result.now in
     let moment = some_moments p.time in
     let gathered = subst
-    (λ (l : List Found). Tells c.args.limit (length p.packet) (content_of p) (map found_told l) (end_told end) (is_accepted end))
+    (λ (l : List Found). Tells c.args.limit (length p.packet) (content_of p) (map found_told l) (end_told end)
+    (is_accepted end))
     (sym c.as_slice.ensures.value) c.in-Some.ensures.some in
     record {
       text = _;
@@ -23,7 +24,8 @@ returns-in-Some g c =
         is_moment = moment.1;
         headers = map found_told found;
         end = end_told end;
-        tells = subst (λ (b : Bool). Tells c.args.limit (length p.packet) (content_of p) (map found_told found) (end_told end) b)
+        tells = subst (λ (b : Bool). Tells c.args.limit (length p.packet) (content_of p) (map found_told found)
+            (end_told end) b)
             (sym c.is_accepted.ensures) gathered;
         is_text = refl;
       };

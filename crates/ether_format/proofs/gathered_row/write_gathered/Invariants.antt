@@ -6,7 +6,8 @@ use Rattle.ether_format.proofs.gathered_row.write_gathered.Given as goal
 
 abbrev pub invariant-loop-others : goal.invariant-loop-others
 invariant-loop-others g l =
-    WritesColumns g.W.Sink.contents g.W.Sink.can_fail (columns_view l.columns) l.number (captured_packet_view l.packet) l.headers l.end
+    WritesColumns g.W.Sink.contents g.W.Sink.can_fail (columns_view l.columns) l.number
+    (captured_packet_view l.packet) l.headers l.end
     l.column l.others l.fn.out l.out
 
 abbrev pub decreases-loop-others : goal.decreases-loop-others

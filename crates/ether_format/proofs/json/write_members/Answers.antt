@@ -8,11 +8,13 @@ loop-member-init g c = first_none g.W.Sink.contents g.W.Sink.can_fail member_tex
 
 pub loop-member-preserved : goal.loop-member-preserved
 loop-member-preserved g c =
-    first_next g.W.Sink.contents g.W.Sink.can_fail member_text c.args.members.now c.loop-member.member-index _ c.args.out.now
+    first_next g.W.Sink.contents g.W.Sink.can_fail member_text c.args.members.now c.loop-member.member-index _
+    c.args.out.now
     c.loop-member.out c.write_json_value.new.out c.loop-member-test.true c.loop-member.invariant
     (Takes-then (Takes-same c.as_bytes.ensures.value c.append.ensures) c.write_json_value.ensures)
 
 pub returns : goal.returns
 returns g c =
-    first_all g.W.Sink.contents g.W.Sink.can_fail member_text c.args.members.now c.loop-member.member-index c.args.out.now
+    first_all g.W.Sink.contents g.W.Sink.can_fail member_text c.args.members.now c.loop-member.member-index
+    c.args.out.now
     c.loop-member.out c.loop-member-test.false c.loop-member.invariant

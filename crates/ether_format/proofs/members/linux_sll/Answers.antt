@@ -10,11 +10,14 @@ named name value = key_of (codes ",") (member name value)
 pub returns : goal.returns
 returns c =
     let packet_type =
-    c.number.ensures ∙ ap (λ n. named (codes "packet_type") (Number n)) (c.from.ensures ∙ c.packet_type_number.ensures) in
+    c.number.ensures ∙ ap (λ n. named (codes "packet_type") (Number n))
+    (c.from.ensures ∙ c.packet_type_number.ensures) in
     let hardware =
-    c.number-2.ensures ∙ ap (λ n. named (codes "hw_type") (Number n)) (c.from-2.ensures ∙ c.arp_hardware_type.ensures) in
+    c.number-2.ensures ∙ ap (λ n. named (codes "hw_type") (Number n))
+    (c.from-2.ensures ∙ c.arp_hardware_type.ensures) in
     let len =
-    c.number-3.ensures ∙ ap (λ n. named (codes "addr_len") (Number n)) (c.from-3.ensures ∙ c.sender_address_valid_length.ensures)
+    c.number-3.ensures ∙ ap (λ n. named (codes "addr_len") (Number n))
+    (c.from-3.ensures ∙ c.sender_address_valid_length.ensures)
     in
     let used = c.from-4.ensures ∙ c.sender_address_valid_length-2.ensures in
     let address =

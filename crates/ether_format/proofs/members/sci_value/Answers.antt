@@ -6,4 +6,5 @@ use Rattle.ether_format.proofs.members.sci_value.Goals as goal
 
 pub returns-in-Some : goal.returns-in-Some
 returns-in-Some c =
-    ap Bytes (c.to_be_bytes.ensures ∙ spelled-high 8 c.in-Some.sci) ∙ ap (if_some (λ n. Bytes (spelled 8 n))) (sym c.in-Some.is)
+    ap Bytes (c.to_be_bytes.ensures ∙ spelled-high 8 c.in-Some.sci)
+    ∙ ap (if_some (λ n. Bytes (spelled 8 n))) (sym c.in-Some.is)

@@ -18,16 +18,19 @@ returns-in-LinuxSll g c =
     let is = rw c.in-LinuxSll.is at c.of.ensures in
     let first = Walked (cooked_place 16 (16 + length c.in-LinuxSll.payload.now)) (headers.LinuxSll s) None in
     let header =
-    Takes-same (ap (λ (q : Place). header_text c.args.part true (Walked q (headers.LinuxSll s) None)) c.cooked_place-place.ensures)
+    Takes-same (ap (λ (q : Place). header_text c.args.part true (Walked q (headers.LinuxSll s) None))
+    c.cooked_place-place.ensures)
     c.write_cooked-is_first.ensures.text in
     let next =
     c.write_cooked-is_first.ensures.next
-    ∙ ap (λ (q : Place). next_is_first c.args.part true (Walked q (headers.LinuxSll s) None)) c.cooked_place-place.ensures in
+    ∙ ap (λ (q : Place). next_is_first c.args.part true (Walked q (headers.LinuxSll s) None))
+    c.cooked_place-place.ensures in
     let told =
     payload_told first header
     (subst
     (λ (b : Bool). TakesAnswer g.W.Sink.contents g.W.Sink.can_fail
-    (AnswersTold c.args.part b 16 (record { next = EtherType s.protocol; limit = c.args.limit }) c.in-LinuxSll.payload.now)
+    (AnswersTold c.args.part b 16 (record { next = EtherType s.protocol; limit = c.args.limit })
+    c.in-LinuxSll.payload.now)
     c.write_cooked-is_first.new.out c.write_walk-in-LinuxSll.new.out c.write_walk-in-LinuxSll.result)
     next c.write_walk-in-LinuxSll.ensures) in
     record {
@@ -35,7 +38,8 @@ returns-in-LinuxSll g c =
       answers = record {
         headers = told.answers.headers;
         end = told.answers.end;
-        tells = subst (λ (f : ContentValue). Tells c.args.limit (length p.packet) f told.answers.headers told.answers.end
+        tells = subst (λ (f : ContentValue). Tells c.args.limit
+            (length p.packet) f told.answers.headers told.answers.end
             c.write_walk-in-LinuxSll.result) is told.answers.tells;
         is_text = told.answers.is_text;
       };
@@ -51,7 +55,8 @@ returns-in-Unknown g c =
       answers = record {
         headers = [];
         end = Skipped (length p.packet);
-        tells = subst (λ (f : ContentValue). Tells c.args.limit (length p.packet) f [] (Skipped (length p.packet)) true) is
+        tells = subst (λ (f : ContentValue). Tells c.args.limit (length p.packet) f [] (Skipped (length p.packet)) true)
+            is
             (refl, refl, refl);
         is_text = refl;
       };

@@ -12,4 +12,5 @@ returns g c =
     let p = captured_packet_view c.args.packet.now in
     let members = packet_members c.args.number p c.args.moment in
     Takes-same (append_assoc (codes "{") (json_members members) (codes ",\"headers\":["))
-    (Takes-then (Takes-same (written_packet c.args.number p c.args.moment c.packet.result c.packet.ensures) c.write_members.ensures) c.append.ensures)
+    (Takes-then (Takes-same (written_packet c.args.number p c.args.moment c.packet.result c.packet.ensures)
+    c.write_members.ensures) c.append.ensures)

@@ -17,5 +17,6 @@ returns-then-eq g c headers end accepted tells =
 
 pub returns-else-eq : goal.returns-else-eq
 returns-else-eq g c =
-    walked g.W.Sink.contents g.W.Sink.can_fail c.args.limit c.args.number (captured_packet_view c.args.packet.now) c.args.moment
+    walked g.W.Sink.contents g.W.Sink.can_fail c.args.limit c.args.number
+    (captured_packet_view c.args.packet.now) c.args.moment
     c.args.column c.write_part.result c.args.out.now c.write_part.new.out c.write_part.ensures

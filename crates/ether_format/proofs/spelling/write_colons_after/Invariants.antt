@@ -5,4 +5,5 @@ use Rattle.ether_format.proofs.spelling.write_colons_after.Given as goal
 
 abbrev pub invariant-loop-byte : goal.invariant-loop-byte
 invariant-loop-byte g l =
-    WritesFirst g.W.Sink.contents g.W.Sink.can_fail (λ b. codes ":" ++ hex_byte false b) l.bytes l.byte-index l.fn.out l.out
+    WritesFirst g.W.Sink.contents g.W.Sink.can_fail
+    (λ b. codes ":" ++ hex_byte false b) l.bytes l.byte-index l.fn.out l.out

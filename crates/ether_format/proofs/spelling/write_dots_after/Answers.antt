@@ -12,11 +12,13 @@ loop-byte-init g c = first_none g.W.Sink.contents g.W.Sink.can_fail text c.args.
 
 pub loop-byte-preserved : goal.loop-byte-preserved
 loop-byte-preserved g c =
-    first_next g.W.Sink.contents g.W.Sink.can_fail text c.args.bytes.now c.loop-byte.byte-index 0 c.args.out.now c.loop-byte.out
+    first_next g.W.Sink.contents g.W.Sink.can_fail text c.args.bytes.now c.loop-byte.byte-index 0 c.args.out.now
+    c.loop-byte.out
     c.write_decimal.new.out c.loop-byte-test.true c.loop-byte.invariant
     (Takes-then c.append.ensures (Takes-same (ap decimal c.from.ensures) c.write_decimal.ensures))
 
 pub returns : goal.returns
 returns g c =
-    first_all g.W.Sink.contents g.W.Sink.can_fail text c.args.bytes.now c.loop-byte.byte-index c.args.out.now c.loop-byte.out
+    first_all g.W.Sink.contents g.W.Sink.can_fail text c.args.bytes.now c.loop-byte.byte-index c.args.out.now
+    c.loop-byte.out
     c.loop-byte-test.false c.loop-byte.invariant

@@ -12,5 +12,6 @@ returns-then-is_empty g c =
 
 pub returns : goal.returns
 returns g c =
-    Takes-same (dotted_parts c.args.bytes.now (some_are c.args.bytes.now (sym c.is_empty.ensures ∙ c.if-is_empty.false)))
+    Takes-same (dotted_parts c.args.bytes.now
+    (some_are c.args.bytes.now (sym c.is_empty.ensures ∙ c.if-is_empty.false)))
     (Takes-then (Takes-same (ap decimal c.from.ensures) c.write_decimal.ensures) c.write_dots_after.ensures)

@@ -8,4 +8,5 @@ use Rattle.ether_format.proofs.unit_value.cooked_value.Goals as goal
 pub returns : goal.returns
 returns c =
     c.member_at.ensures
-    ∙ ap (λ l. value_at l c.args.index) (own_values c.cooked.result (linux_sll_members (cooked_view c.args.header.now)) c.cooked.ensures)
+    ∙ ap (λ l. value_at l c.args.index) (own_values c.cooked.result
+    (linux_sll_members (cooked_view c.args.header.now)) c.cooked.ensures)

@@ -8,4 +8,5 @@ use Rattle.ether_format.proofs.unit_value.linux_sll_value.Goals as goal
 pub returns : goal.returns
 returns c =
     c.member_at.ensures
-    ∙ ap (λ l. value_at l c.args.index) (own_values c.linux_sll.result (linux_sll_members (linux_sll_of c.args.slice.now)) c.linux_sll.ensures)
+    ∙ ap (λ l. value_at l c.args.index) (own_values c.linux_sll.result
+    (linux_sll_members (linux_sll_of c.args.slice.now)) c.linux_sll.ensures)

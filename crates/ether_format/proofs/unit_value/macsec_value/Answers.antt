@@ -8,4 +8,5 @@ use Rattle.ether_format.proofs.unit_value.macsec_value.Goals as goal
 pub returns : goal.returns
 returns c =
     c.member_at.ensures
-    ∙ ap (λ l. value_at l c.args.index) (own_values c.macsec.result (macsec_members (sec_tag_of (tag_bytes c.args.tag.now))) c.macsec.ensures)
+    ∙ ap (λ l. value_at l c.args.index) (own_values c.macsec.result
+    (macsec_members (sec_tag_of (tag_bytes c.args.tag.now))) c.macsec.ensures)

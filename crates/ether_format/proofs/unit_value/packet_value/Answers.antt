@@ -10,5 +10,7 @@ pub returns-in-1 : goal.returns-in-1
 returns-in-1 c moment is =
     ap (λ v. v ∷ [])
     (c.time_value.ensures
-    ∙ ap (if_some Time) (one_time (option_map timestamp_view c.args.packet.now.time) c.moment_if.result moment c.moment_if.ensures is))
-    ∙ ap (value_at (member_values (packet_members c.args.number (captured_packet_view c.args.packet.now) moment))) (sym c.in-1.is)
+    ∙ ap (if_some Time) (one_time (option_map timestamp_view c.args.packet.now.time) c.moment_if.result moment
+    c.moment_if.ensures is))
+    ∙ ap (value_at (member_values (packet_members c.args.number (captured_packet_view c.args.packet.now) moment)))
+    (sym c.in-1.is)

@@ -23,7 +23,8 @@ of_unit place u = json_object (told_members (told_view place u))
 pub returns-in-Ethernet2 : goal.returns-in-Ethernet2
 returns-in-Ethernet2 g c =
     Takes-same
-    (placed_object (codes "eth") (place_view c.args.place) c.placed-first.result c.ethernet2.result (ethernet2_members (ethernet2_of c.in-Ethernet2.slice.bytes) (fcs_of c.in-Ethernet2.slice))
+    (placed_object (codes "eth") (place_view c.args.place) c.placed-first.result c.ethernet2.result
+    (ethernet2_members (ethernet2_of c.in-Ethernet2.slice.bytes) (fcs_of c.in-Ethernet2.slice))
     c.placed-first.ensures c.ethernet2.ensures
     ∙ ethernet2_object c.args.place c.in-Ethernet2.slice ∙ ap (of_unit c.args.place) (sym c.in-Ethernet2.is))
     c.write_object.ensures
@@ -31,7 +32,8 @@ returns-in-Ethernet2 g c =
 pub returns-in-LinuxSll : goal.returns-in-LinuxSll
 returns-in-LinuxSll g c =
     Takes-same
-    (placed_object (codes "sll") (place_view c.args.place) c.placed-first-in-LinuxSll.result c.linux_sll.result (linux_sll_members (linux_sll_of c.in-LinuxSll.slice))
+    (placed_object (codes "sll") (place_view c.args.place) c.placed-first-in-LinuxSll.result c.linux_sll.result
+    (linux_sll_members (linux_sll_of c.in-LinuxSll.slice))
     c.placed-first-in-LinuxSll.ensures c.linux_sll.ensures
     ∙ ap (of_unit c.args.place) (sym c.in-LinuxSll.is))
     c.write_object-in-LinuxSll.ensures
@@ -39,7 +41,8 @@ returns-in-LinuxSll g c =
 pub returns-in-Vlan : goal.returns-in-Vlan
 returns-in-Vlan g c =
     Takes-same
-    (placed_object (codes "vlan") (place_view c.args.place) c.placed-first-in-Vlan.result c.vlan.result (vlan_members (vlan_of c.in-Vlan.slice))
+    (placed_object (codes "vlan") (place_view c.args.place) c.placed-first-in-Vlan.result c.vlan.result
+    (vlan_members (vlan_of c.in-Vlan.slice))
     c.placed-first-in-Vlan.ensures c.vlan.ensures
     ∙ ap (of_unit c.args.place) (sym c.in-Vlan.is))
     c.write_object-in-Vlan.ensures
@@ -55,7 +58,8 @@ returns-in-Macsec g c =
 pub returns-in-Arp : goal.returns-in-Arp
 returns-in-Arp g c =
     Takes-same
-    (placed_object (codes "arp") (place_view c.args.place) c.placed-first-in-Arp.result c.arp.result (arp_members (arp_of c.in-Arp.slice))
+    (placed_object (codes "arp") (place_view c.args.place) c.placed-first-in-Arp.result c.arp.result
+    (arp_members (arp_of c.in-Arp.slice))
     c.placed-first-in-Arp.ensures c.arp.ensures
     ∙ ap (of_unit c.args.place) (sym c.in-Arp.is))
     c.write_object-in-Arp.ensures

@@ -9,6 +9,7 @@ use Rattle.ether_format.proofs.write_header.write_json_linux_sll2.Goals as goal
 pub returns : goal.returns
 returns g c =
     Takes-same
-    (placed_object (codes "sll2") (place_view c.args.place) c.placed-first.result c.linux_sll2.result (linux_sll2_members (linux_sll2_of c.args.packet.now))
+    (placed_object (codes "sll2") (place_view c.args.place) c.placed-first.result c.linux_sll2.result
+    (linux_sll2_members (linux_sll2_of c.args.packet.now))
     c.placed-first.ensures c.linux_sll2.ensures)
     c.write_object.ensures

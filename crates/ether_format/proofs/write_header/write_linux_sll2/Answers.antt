@@ -9,4 +9,5 @@ use Rattle.ether_format.proofs.write_header.write_linux_sll2.Goals as goal
 pub returns-in-Column-clause-text : goal.returns-in-Column-clause-text
 returns-in-Column-clause-text g c =
     let told = CookedV2 (place_view c.args.place) (linux_sll2_of c.args.packet.now) in
-    Takes-same (ap (column_on true) c.in_linux_sll2.ensures ∙ ap (λ (p : Part). header_text p true told) (sym c.in-Column.is)) c.write_value.ensures.text
+    Takes-same (ap (column_on true) c.in_linux_sll2.ensures
+    ∙ ap (λ (p : Part). header_text p true told) (sym c.in-Column.is)) c.write_value.ensures.text

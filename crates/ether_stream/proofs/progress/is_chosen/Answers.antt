@@ -8,5 +8,6 @@ use Rattle.ether_stream.proofs.progress.is_chosen.Goals as goal
 pub returns-in-Some : goal.returns-in-Some
 returns-in-Some c =
     subst
-    (λ (o : Option CapturedPacket). IsChoice c.args.task.now.selection (option_map captured_packet_view o) c.chooses.result)
+    (λ (o : Option CapturedPacket). IsChoice c.args.task.now.selection
+    (option_map captured_packet_view o) c.chooses.result)
     (sym c.in-Some.is) c.chooses.ensures

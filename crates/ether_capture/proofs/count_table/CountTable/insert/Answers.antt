@@ -11,8 +11,10 @@ returns c = elim c.match-insert.branch [
       rw w.result-is
       (λ q.
       subst
-      (λ (l : List ℕ). at c.insert.new.self q ≡ (if bytes_eq l q then Some c.args.count else at c.args.self.now.counts q))
+      (λ (l : List ℕ). at c.insert.new.self q ≡
+      (if bytes_eq l q then Some c.args.count else at c.args.self.now.counts q))
       c.in-Ok.ensures.items
-      (updates_at c.args.self.now.counts c.insert.new.self c.in-Ok.key.items (Some c.args.count) w.in-Ok-insert.ensures.updates q))
+      (updates_at c.args.self.now.counts c.insert.new.self c.in-Ok.key.items
+      (Some c.args.count) w.in-Ok-insert.ensures.updates q))
   | in-Err w ↦ search rules
 ]

@@ -10,7 +10,8 @@ pub loop-key-init : goal.loop-key-init
 loop-key-init g c = (
   [],
   Takes-none g.W.Sink.contents g.W.Sink.can_fail c.args.out.now,
-  ap (flat_map (entry_line c.args.format)) (c.into_iter-key-iterator.ensures.into_iter_gives ∙ c.iter-key-items.ensures.rest),
+  ap (flat_map (entry_line c.args.format)) (c.into_iter-key-iterator.ensures.into_iter_gives
+      ∙ c.iter-key-items.ensures.rest),
 )
 
 pub loop-key-preserved : goal.loop-key-preserved
@@ -19,7 +20,8 @@ loop-key-preserved g c =
     let taken =
     subst
     (λ (k : List ℕ).
-    Takes g.W.Sink.contents g.W.Sink.can_fail c.loop-key.out (statistics_line c.args.format (record { key = k; count = c.in-Some.count.now })) c.write_statistic.new.out)
+    Takes g.W.Sink.contents g.W.Sink.can_fail c.loop-key.out
+    (statistics_line c.args.format (record { key = k; count = c.in-Some.count.now })) c.write_statistic.new.out)
     c.as_slice.ensures.value c.write_statistic.ensures in (
       so_far.0 ++ entry_line c.args.format (c.in-Some.key.now, c.in-Some.count.now),
       Takes-then so_far.1 taken,
@@ -33,5 +35,6 @@ returns g c =
     record {
       rows = _;
       are_rows = are_rows c.args.self.now.counts c.iter-key-items.ensures.ordered;
-      taken = Takes-same (all_lines c.args.format so_far.0 c.args.self.now.counts.entries c.loop-key.key-iterator so_far.2 c.in-None.ensures.steps.0) so_far.1;
+      taken = Takes-same (all_lines c.args.format so_far.0 c.args.self.now.counts.entries c.loop-key.key-iterator
+          so_far.2 c.in-None.ensures.steps.0) so_far.1;
     }

@@ -5,7 +5,8 @@ use Rattle.ether_capture.proofs.request.Asked.of.Goals as goal
 
 pub returns-in_err-edit-clause-err : goal.returns-in_err-edit-clause-err
 returns-in_err-edit-clause-err c =
-    value_refused _ c.in_err-edit.field-0.0 c.from_residual.result (wrong_edit _ c.in_err-edit.ensures.err c.in_err-edit.ensures.usage) (search rules)
+    value_refused _ c.in_err-edit.field-0.0 c.from_residual.result
+    (wrong_edit _ c.in_err-edit.ensures.err c.in_err-edit.ensures.usage) (search rules)
 
 pub returns-in_err-count-clause-err : goal.returns-in_err-count-clause-err
 returns-in_err-count-clause-err c =
@@ -35,4 +36,5 @@ pub returns-in_err-undecided-clause-err : goal.returns-in_err-undecided-clause-e
 returns-in_err-undecided-clause-err c =
     let is = c.text_of-5.ensures in
     value_refused _ c.in_err-undecided.field-0.0 c.from_residual-in_err-undecided.result
-    (wrong_undecided _ (rw is at c.in_err-undecided.ensures.err) (rw is at c.in_err-undecided.ensures.usage)) (search rules)
+    (wrong_undecided _ (rw is at c.in_err-undecided.ensures.err) (rw is at c.in_err-undecided.ensures.usage))
+    (search rules)

@@ -17,7 +17,8 @@ returns c lines so_far =
     next_row lines c.args.self.now.line.bytes.items c.args.self.now _ some so_far refl refl
     (λ hits counts.
     subst
-    (λ (l : List ℕ). CountHits (hits ++ row_hits c.args.self.now.heading.bytes.items l) (count_at c.count_row.new.counts))
+    (λ (l : List ℕ). CountHits (hits ++ row_hits c.args.self.now.heading.bytes.items l)
+    (count_at c.count_row.new.counts))
     c.as_slice-3.ensures
     (subst
     (λ (l : List ℕ). CountHits (hits ++ row_hits l c.as_slice-3.result.now) (count_at c.count_row.new.counts))

@@ -14,6 +14,8 @@ returns c =
     let told = Walked (place_view c.args.place) (headers.LinuxSll (cooked_view c.args.header.now)) None in
     let same : c.args.self.section ≡ sections.Sll = search rules in
     c.member_at.ensures
-    ∙ value_is c.args.self sections.Sll c.placed.result c.cooked.result (placed_members (codes "sll") (place_view c.args.place) [])
-    (linux_sll_members (cooked_view c.args.header.now)) (told_members told) c.placed.ensures c.cooked.ensures refl refl same
+    ∙ value_is c.args.self sections.Sll c.placed.result c.cooked.result
+    (placed_members (codes "sll") (place_view c.args.place) [])
+    (linux_sll_members (cooked_view c.args.header.now))
+    (told_members told) c.placed.ensures c.cooked.ensures refl refl same
     ∙ own_value c.args.self told same

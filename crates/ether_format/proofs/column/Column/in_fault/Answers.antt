@@ -14,4 +14,5 @@ returns c =
     let same : c.args.self.section ≡ sections.Fault = search rules in
     c.member_at.ensures
     ∙ value_is c.args.self sections.Fault c.fault.result c.cause.result begins (cause_members cause)
-    (end_members (Fault c.args.start c.args.closed cause)) c.fault.ensures c.cause.ensures refl (names_fault c.args.start c.args.closed cause) same
+    (end_members (Fault c.args.start c.args.closed cause)) c.fault.ensures c.cause.ensures refl
+    (names_fault c.args.start c.args.closed cause) same

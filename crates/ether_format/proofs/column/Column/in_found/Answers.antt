@@ -12,7 +12,8 @@ returns-then-self-lt-MEMBERS_OF_PLACE c =
     let same : c.args.self.section ≡ found.section = search rules in
     let few : c.args.self.index < 5 = c.if-self-lt-MEMBERS_OF_PLACE.true in
     c.placed_value-then-self-lt-MEMBERS_OF_PLACE.ensures
-    ∙ ap (λ (s : Section). value_at (member_values (placed_members (section_name s) (place_view found.place) [])) c.args.self.index) found.own
+    ∙ ap (λ (s : Section). value_at (member_values (placed_members (section_name s) (place_view found.place) []))
+    c.args.self.index) found.own
     ∙ in_front c.args.self found.place found.header (same ∙ found.own) few
 
 pub returns : goal.returns

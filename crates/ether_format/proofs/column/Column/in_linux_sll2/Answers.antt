@@ -13,6 +13,8 @@ returns c =
     let told = CookedV2 (place_view c.args.place) (linux_sll2_of c.args.packet.now) in
     let same : c.args.self.section ≡ sections.Sll2 = search rules in
     c.member_at.ensures
-    ∙ value_is c.args.self sections.Sll2 c.placed.result c.linux_sll2.result (placed_members (codes "sll2") (place_view c.args.place) [])
-    (linux_sll2_members (linux_sll2_of c.args.packet.now)) (told_members told) c.placed.ensures c.linux_sll2.ensures refl refl same
+    ∙ value_is c.args.self sections.Sll2 c.placed.result c.linux_sll2.result
+    (placed_members (codes "sll2") (place_view c.args.place) [])
+    (linux_sll2_members (linux_sll2_of c.args.packet.now))
+    (told_members told) c.placed.ensures c.linux_sll2.ensures refl refl same
     ∙ own_value c.args.self told same

@@ -9,4 +9,5 @@ pub returns : goal.returns
 returns c =
     let all = packet_members c.args.number (captured_packet_view c.args.packet.now) c.args.moment in
     let same : c.args.self.section ≡ sections.Frame = search rules in
-    c.member_at.ensures ∙ value_is c.args.self sections.Frame c.packet.result [] all [] all c.packet.ensures refl refl refl same
+    c.member_at.ensures ∙ value_is c.args.self sections.Frame c.packet.result [] all [] all c.packet.ensures refl refl
+    refl same

@@ -8,4 +8,5 @@ pub returns : goal.returns
 returns c =
     let all = end_members (Rest c.args.start c.args.end c.args.kind) in
     let same : c.args.self.section ≡ sections.Rest = search rules in
-    c.member_at.ensures ∙ value_is c.args.self sections.Rest c.rest.result [] all [] all c.rest.ensures refl refl refl same
+    c.member_at.ensures ∙ value_is c.args.self sections.Rest c.rest.result [] all [] all c.rest.ensures refl refl refl
+    same

@@ -8,4 +8,5 @@ pub returns : goal.returns
 returns c =
     let all = end_members (Skipped c.args.len) in
     let same : c.args.self.section ≡ sections.Rest = search rules in
-    c.member_at.ensures ∙ value_is c.args.self sections.Rest c.skipped.result [] all [] all c.skipped.ensures refl refl refl same
+    c.member_at.ensures ∙ value_is c.args.self sections.Rest c.skipped.result [] all [] all c.skipped.ensures refl refl
+    refl same

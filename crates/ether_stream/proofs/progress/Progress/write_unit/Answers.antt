@@ -27,7 +27,8 @@ returns-then-not-is_chosen-clause-some g c =
     let task = c.args.task.now in
     let unit = c.args.unit.now in
     let form = form_view task.form in
-    let choice = choice_of c.args.packet.now c.in-Some.packet task.selection c.args.is_chosen c.in-Some.is c.requires.choice in
+    let choice = choice_of c.args.packet.now c.in-Some.packet task.selection c.args.is_chosen c.in-Some.is
+    c.requires.choice in
     let left : ¬ (IsChosen task.selection (captured_packet_view c.in-Some.packet)) =
     λ is. let e : true ≡ false = sym (choice.1 is) ∙ c.if-not-is_chosen.true in absurd cc in
     subst
@@ -50,7 +51,8 @@ returns-then-write_packet-clause-some g c =
     let unit = c.args.unit.now in
     let w = c.write_packet.ensures.written c.if-write_packet.true in
     let p = captured_packet_view c.in-Some.packet in
-    let choice = choice_of c.args.packet.now c.in-Some.packet task.selection c.args.is_chosen c.in-Some.is c.requires.choice in
+    let choice = choice_of c.args.packet.now c.in-Some.packet task.selection c.args.is_chosen c.in-Some.is
+    c.requires.choice in
     let chosen = choice.0 c.if-not-is_chosen.false in
     subst
     (λ (o : Option CapturedPacket).
@@ -75,7 +77,8 @@ returns-else-write_packet-clause-none g c =
     let unit = c.args.unit.now in
     let w = c.write_packet.ensures.not_written c.if-write_packet.false in
     let p = captured_packet_view c.in-Some.packet in
-    let choice = choice_of c.args.packet.now c.in-Some.packet task.selection c.args.is_chosen c.in-Some.is c.requires.choice in
+    let choice = choice_of c.args.packet.now c.in-Some.packet task.selection c.args.is_chosen c.in-Some.is
+    c.requires.choice in
     let chosen = choice.0 c.if-not-is_chosen.false in
     subst
     (λ (o : Option CapturedPacket).

@@ -22,5 +22,6 @@ pub returns-in-Some : goal.returns-in-Some
 returns-in-Some c =
     rw c.in-Some.is
     (rw c.chooses.ensures
-    (chosen_alike c.in-Some.undecided _ _ c.selects-is_selected.result c.leaves_open.result c.selects-is_selected.ensures
+    (chosen_alike c.in-Some.undecided _ _ c.selects-is_selected.result c.leaves_open.result
+    c.selects-is_selected.ensures
     c.leaves_open.ensures))
