@@ -25,7 +25,7 @@ from planted_faults import FAULTS
 
 TOP = os.path.dirname(os.path.dirname(os.path.abspath(__file__)))
 SECONDS = 300  # for one test
-WORKERS = 2
+WORKERS = 3
 C_SWITCH = '#define _GNU_SOURCE\n#include <stdlib.h>\nstatic int planted(int number) { return getenv("PLANTED") && atoi(getenv("PLANTED")) == number; }\n'
 RUST_SWITCH = """
 /// Whether the fault of a number is planted.

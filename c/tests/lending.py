@@ -67,6 +67,8 @@ def numbers_of_zero():
     check("the identifier 0, built", etherpeel.build([u.header for u in etherpeel.walk(SEC_TAG)], b"E", 0x0800)[:30].hex(),
           (ADDRESSES + bytes.fromhex("88e5 2003 00000001 0000000000000000 0800")).hex())
     check("VLAN 0", etherpeel.walk(ADDRESSES + bytes.fromhex("8100 0000 0000"))[1].header, etherpeel.Vlan(0, 0, False, 0))
+    for vid in (4096, 65536, 65541, -1):
+        check(f"the identifier {vid}", raised(etherpeel.push_vlan, bytearray(4) + TAGGED, etherpeel.Vlan(vid)), etherpeel.TagError)
     check("nanoseconds", [it.time_ns for it in etherpeel.capture(CAPTURE)], [1_000_000_007])
     check("the time 0", [it.time_ns for it in etherpeel.capture(CAPTURE[:24] + bytes(8) + CAPTURE[32:])], [0])
     without_fcs = CAPTURE[:20] + bytes.fromhex("04000001") + CAPTURE[24:]  # f is 1, and the length 0 (the draft of pcap, 4)
