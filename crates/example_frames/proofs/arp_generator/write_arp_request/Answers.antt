@@ -6,7 +6,7 @@ use Rattle.example_frames.proofs.arp_generator.write_arp_request.Goals as goal
 
 pub returns-in-Ok-clause-request : goal.returns-in-Ok-clause-request
 returns-in-Ok-clause-request c =
-    let w = rw c.to_arp_packet.ensures.value at c.in-Ok.ensures.ok.walk in
+    let w = rw c.to_arp_packet-arp_packet.ensures.value at c.in-Ok.ensures.ok.walk in
     record { window = _; walk = w.walk [] (Accepted _ _) (refl, refl, refl); left = w.payload }
 
 pub returns-in-Err-Space-clause-refused : goal.returns-in-Err-Space-clause-refused

@@ -78,10 +78,11 @@ pub fn write_arp_request(
         target_mac: [0; 6],
         target_ipv4,
     };
+    let arp_packet = request.to_arp_packet();
     let packet = PacketBuilder {
         link: LinkHeader::Ethernet2(link),
         link_exts: &[LinkExtHeader::Vlan(tag)],
-        content: PacketContent::Arp(&request.to_arp_packet()),
+        content: PacketContent::Arp(&arp_packet),
     };
     match packet.write(target) {
         Ok(len) => Ok(len),
