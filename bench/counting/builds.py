@@ -66,7 +66,6 @@ class Proved:
         folder = f"{room}/{self.name}/{name}"
         write(folder, {f"src/{path}.rt": text for path, text in sources.items()})
         os.makedirs(f"{folder}/out/incremental", exist_ok=True)
-        run("rt", "fmt", name, cwd=folder)
         kit = os.path.dirname(run("rt", "doc").strip())
         run(f"{kit}/bin/rattle", "build", *library.words(kit, name, "out/made.a", [], crates), cwd=folder)
         return f"{folder}/out/made.a"
