@@ -7,7 +7,7 @@ import tempfile
 
 # The C library picks its functions by the processor's features, so these are the same on all machines that have them.
 FEATURES = "glibc.cpu.hwcaps=-AVX512F,-AVX512VL,-AVX512BW,-ERMS,-FSRM"
-ENVIRONMENT = {**os.environ, "LC_ALL": "C", "GLIBC_TUNABLES": FEATURES}
+ENVIRONMENT = {**os.environ, "LC_ALL": "C", "GLIBC_TUNABLES": FEATURES, "PYTHONHASHSEED": "0"}
 
 
 def ran(command, stdin, *options):
