@@ -3,8 +3,8 @@
 
     python3 rust/erase.py [FOLDER]
 
-reads `crates/*/src` and writes `etherpeel`, the libraries with their tests, and `etherpeel_c`, the calls for C, below
-FOLDER or beside the script. Each rule deletes, or respells one exact form (`erasing/rules.py`, `calls.py`). What is not
+reads `crates/*/src` and `tests/library_tests`, and writes `etherpeel`, the libraries with their tests, `etherpeel_c`, the
+calls for C, and `ether_tools`, the programs, below FOLDER or beside the script. Each rule deletes, or respells one exact form (`erasing/rules.py`, `calls.py`). What is not
 known (`erasing/known.py`) is refused with its file and line, and then nothing is written.
 """
 import argparse
