@@ -1,4 +1,9 @@
-"""Compares what each part says of its version with the file VERSION. The last line is 'N passed, M failed'."""
+"""Compares what each part says of its version with the file VERSION. The last line is 'N passed, M failed'.
+
+    python3 tests/versions.py --set 3.1.0
+
+writes another version to all these places, and to VERSION; `python3 rust/erase.py` then writes what cargo builds.
+"""
 import argparse
 import os
 import re
@@ -6,7 +11,7 @@ import sys
 
 TOP = os.path.dirname(os.path.dirname(os.path.abspath(__file__)))
 MANIFEST = r'^version = "(.*)"'
-# Where a version is stated. A group is the whole version, or else there is a group for each of its numbers.
+# Where a version is stated, perhaps several times. A group is the whole version, or else there is a group for each of its numbers.
 PLACES = {
     "rust/etherpeel/Cargo.toml": MANIFEST,
     "rust/etherpeel_c/Cargo.toml": MANIFEST,
@@ -29,7 +34,10 @@ PLACES = {
     "rust/ether_tools/src/ether_capture/options.rs": r'\.version\("(.*)"\)',
     "page/page.html": r'content="etherpeel (.*)">',
     "CITATION.cff": r"^version: (.*)",
-    "CHANGELOG.md": r"^## (\d.*?)(?:$| )",
+    "release.sh": r"libetherpeel\.so\.(\d+\.\d+\.\d+)",
+    "crates/ether_stream/specs/Outcome.antt": r'^version_text = codes "ether_capture (.*)"',
+    "tests/ether_capture.py": r'"ether_capture (\d.*?)\\n"',
+    "CHANGELOG.md": r"\A(?:(?!## ).*\n)*## (\d.*?)(?:$| )",
 }
 
 
@@ -38,16 +46,41 @@ def failures(version):
     numbers = version.split(".")
     for path, pattern in PLACES.items():
         with open(os.path.join(TOP, path), encoding="utf-8") as file:
-            found = re.search(pattern, file.read(), re.M)
-        told = list(found.groups()) if found else []
-        same = told == [version] or bool(told) and told == numbers[:len(told)]
-        yield None if same else f"{path} says {'.'.join(told) or 'nothing'}, and VERSION {version}"
+            found = [list(it.groups()) for it in re.finditer(pattern, file.read(), re.M)]
+        other = [told for told in found if told not in ([version], numbers[:len(told)])]
+        yield None if found and not other else f"{path} says {'.'.join(other[0]) if other else 'nothing'}, and VERSION {version}"
+
+
+def with_version(text, pattern, old, new):
+    """The text of a place with another version: the whole one, or each of its numbers."""
+    for found in reversed(list(re.finditer(pattern, text, re.M))):
+        numbers = [new] if list(found.groups()) == [old] else new.split(".")
+        for group in range(len(found.groups()), 0, -1):
+            start, end = found.span(group)
+            text = text[:start] + numbers[group - 1] + text[end:]
+    return text
+
+
+def set_version(old, new):
+    for path, pattern in {"VERSION": r"^(.+)$", **PLACES}.items():
+        with open(os.path.join(TOP, path), encoding="utf-8") as file:
+            text = file.read()
+        with open(os.path.join(TOP, path), "w", encoding="utf-8") as file:
+            file.write(with_version(text, pattern, old, new))
 
 
 def main():
-    argparse.ArgumentParser(description=__doc__, formatter_class=argparse.RawDescriptionHelpFormatter).parse_args()
+    words = argparse.ArgumentParser(description=__doc__, formatter_class=argparse.RawDescriptionHelpFormatter)
+    words.add_argument("--set", metavar="VERSION", help="the version to write")
+    given = words.parse_args()
     with open(os.path.join(TOP, "VERSION"), encoding="utf-8") as file:
-        found = list(failures(file.read().strip()))
+        version = file.read().strip()
+    if given.set:
+        if not re.fullmatch(r"\d+\.\d+\.\d+", given.set):
+            words.error(f"{given.set} is not a version of three numbers")
+        set_version(version, given.set)
+        version = given.set
+    found = list(failures(version))
     for wrong in filter(None, found):
         print(wrong)
     failed = sum(it is not None for it in found)
