@@ -10,13 +10,13 @@ of cargo's build, and those of what it is compared with, which are counted in th
 which says what its rows are. The last line is 'N passed, M failed'. Needs the kit, cargo, gcc, valgrind, libpcap and tcpdump.
 """
 import argparse
+import concurrent.futures
 import importlib
 import os
 import re
 import shutil
 import sys
 import tempfile
-import time
 
 sys.dont_write_bytecode = True
 from counting import builds  # noqa: E402
@@ -59,19 +59,25 @@ def write(rows):
 
 
 def count(groups, room, wanted):
-    """The rows of these groups, counted in each build that is there."""
+    """The rows of these groups, counted in each build that is there, as many at a time as there are processors."""
+    jobs = [(build, group) for build in wanted for group in groups]
+    with concurrent.futures.ThreadPoolExecutor(len(os.sched_getaffinity(0))) as pool:
+        counted = list(pool.map(lambda job: counted_in(*job, f"{room}/{job[0].name}/{job[1]}"), jobs))
     rows = {}
-    for at, build in enumerate(wanted):
-        for group in groups:
-            begun = time.process_time() + sum(os.times()[2:4])
-            module = importlib.import_module(f"counting.{group}")
-            for name, here, beside in module.rows(build, room):
-                row = rows.setdefault(f"{group}/{name}", [None, None, None])
-                row[builds.BUILDS.index(build)] = here
-                row[2] = beside if row[2] is None else row[2]
-            spent = time.process_time() + sum(os.times()[2:4]) - begun
-            print(f"{group}, {build.name}: {spent:.0f} s of processor time", flush=True)
+    for (build, group), found in zip(jobs, counted):
+        for name, here, beside in found:
+            row = rows.setdefault(f"{group}/{name}", [None, None, None])
+            row[builds.BUILDS.index(build)] = here
+            row[2] = beside if row[2] is None else row[2]
     return rows
+
+
+def counted_in(build, group, room):
+    """The rows of a group in a build, which are made in the folder `room`."""
+    os.makedirs(room)
+    found = list(importlib.import_module(f"counting.{group}").rows(build, room))
+    print(f"{group}, {build.name}: {len(found)} rows", flush=True)
+    return found
 
 
 def differences(rows, known, whole):

@@ -63,7 +63,7 @@ class Proved:
 
     def library(self, room, name, crates, sources):
         """The static library of a crate with these sources, over the libraries of these crates."""
-        folder = f"{room}/{self.name}/{name}"
+        folder = f"{room}/crates/{name}"
         write(folder, {f"src/{path}.rt": text for path, text in sources.items()})
         os.makedirs(f"{folder}/out/incremental", exist_ok=True)
         kit = os.path.dirname(run("rt", "doc").strip())
@@ -89,14 +89,14 @@ class Cargo:
 
     def library(self, room, name, crates, sources):
         """The static library of a crate with these sources."""
-        folder = f"{room}/{self.name}/{name}"
+        folder, target = f"{room}/crates/{name}", f"{os.path.dirname(room)}/target"  # where the crate is compiled once for all
         write(folder, {"Cargo.toml": MANIFEST.format(name=name, crate=building.CRATE)})
         write(folder, {f"src/{path}.rs": erased(text) for path, text in sources.items()})
         text, status = building.cargo("build", "--release", folder=folder, RUSTFLAGS="-C target-cpu=x86-64-v2 -A warnings",
-                                      CARGO_TARGET_DIR=f"{room}/target")
+                                      CARGO_TARGET_DIR=target)
         if status:
             sys.exit(text)
-        return f"{room}/target/release/lib{name}.a"
+        return f"{target}/release/lib{name}.a"
 
 
 def write(folder, files):
