@@ -138,11 +138,12 @@ def table(clock, ends):
     minutes = clock.minutes()
     with open(f"{TOP}/crates.txt", encoding="utf-8") as file:
         crates = [line.split(":")[0].split()[0] for line in file if line.strip() and not line.startswith("#")]
-    rows = [["Crate", *PARTS]]
+    parts = [part for part in PARTS if any(minutes[crate, part] for crate in crates)]
+    rows = [["Crate", *parts]]
     for crate in crates:
-        row = [minutes[crate, part] for part in PARTS]
+        row = [minutes[crate, part] for part in parts]
         rows.append([crate, *(f"{it:.1f}" if it else "" for it in row)])
-    sums = [sum(minutes[crate, part] for crate in crates) for part in PARTS]
+    sums = [sum(minutes[crate, part] for crate in crates) for part in parts]
     rows.append(["sum", *(f"{it:.1f}" for it in sums)])
     widths = [max(len(row[at]) for row in rows) for at in range(len(rows[0]))]
     lines = ["    " + "  ".join(it.ljust(width) for it, width in zip(row, widths)).rstrip() for row in rows]
