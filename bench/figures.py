@@ -133,9 +133,13 @@ def take(rows, groups):
 
 
 def tables():
-    """Whether the tables of the document are those of the figures."""
+    """Whether the document has the minutes of the gate and a table of each group, and these are those of the figures."""
     with open(MEASURED, encoding="utf-8") as file:
-        same = file.read() == measured(read())
+        text = file.read()
+    missing = [name for name in ["minutes", *(f"figures: {group}" for group in GROUPS)] if not re.search(f"<!-- {name} .*-->", text)]
+    for name in missing:
+        print(f"docs/MEASURED.md: it has no table <!-- {name} -->")
+    same = not missing and text == measured(read())
     if not same:
         print("docs/MEASURED.md: its tables are not those of bench/figures.txt; python3 bench/figures.py --take")
     print(f"{int(same)} passed, {int(not same)} failed")
