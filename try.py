@@ -5,7 +5,7 @@
     python3 try.py CRATE WORD    the tests of one crate whose names have WORD
 
 The crate `library_tests` is the folder tests/library_tests. It needs no proof, so it is not in crates.txt, and its files
-end in .rt.txt. Here they are copied to a crate beside the others; with --format they are written back as `rt fmt` lays
+end in .rt.txt. Here they are copied to a crate next to the others; with --format they are written back as `rt fmt` lays
 them out. A failed test is followed by what it printed. The last line is 'N passed, M failed'.
 """
 import argparse

@@ -4,8 +4,9 @@
     python3 rust/erase.py [FOLDER]
 
 reads `crates/*/src` and `tests/library_tests`, and writes `etherpeel`, the libraries with their tests, `etherpeel_c`, the
-calls for C, and `ether_tools`, the programs, below FOLDER or beside the script. Each rule deletes, or respells one exact form (`erasing/rules.py`, `calls.py`). What is not
-known (`erasing/known.py`) is refused with its file and line, and then nothing is written.
+calls for C, and `ether_tools`, the programs, below FOLDER or in the script's own folder. Each rule deletes, or respells
+one exact form (`erasing/rules.py`, `calls.py`). What is not known (`erasing/known.py`) is refused with its file and line,
+and then nothing is written.
 """
 import argparse
 import os

@@ -1,4 +1,4 @@
-"""`PacketBuilder::write`, beside a function that writes the same headers one by one."""
+"""`PacketBuilder::write`, compared with a function that writes the same headers one by one."""
 from . import builds, callgrind
 
 KINDS = ["VLAN tags", "SecTags with an SCI"]

@@ -1,4 +1,4 @@
-"""The calls from C, beside functions by hand that fill the same structs (bench/c/by_hand.h)."""
+"""The calls from C, compared with functions by hand that fill the same structs (bench/c/by_hand.h)."""
 from . import builds, callgrind
 
 CALLS = {"etherpeel_summary": "by_hand", "etherpeel_walk": "walk_by_hand", "etherpeel_packet": "packet_by_hand",

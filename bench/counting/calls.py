@@ -1,4 +1,4 @@
-"""79 loops over public calls, beside counts of the original crate that bench/calls/rows.txt keeps."""
+"""79 loops over public calls, compared with counts of the original crate that bench/calls/rows.txt keeps."""
 import re
 
 from . import builds, callgrind

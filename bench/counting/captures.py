@@ -1,4 +1,4 @@
-"""Each output of `ether_capture`, over captures of bench/captures/make.py, beside its lines."""
+"""Each output of `ether_capture`, over captures of bench/captures/make.py, compared with its lines."""
 import re
 import sys
 

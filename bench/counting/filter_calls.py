@@ -1,4 +1,4 @@
-"""`etherpeel_filter_matches`, a packet a call, beside the compiled filter of libpcap."""
+"""`etherpeel_filter_matches`, a packet a call, compared with the compiled filter of libpcap."""
 from . import builds, callgrind
 
 TERMS, PACKETS = [1, 4, 16, 64], 4096

@@ -1,4 +1,4 @@
-"""`ether_capture --write --select`, beside `tcpdump -w` with a filter that selects the same packets."""
+"""`ether_capture --write --select`, compared with `tcpdump -w` with a filter that selects the same packets."""
 import random
 import struct
 

@@ -1,5 +1,5 @@
-"""`PacketSlice` and its getters, beside the walk that sums up the same fields. Each form is compiled on its own, since a function
-with several callers is inlined less."""
+"""`PacketSlice` and its getters, compared with the walk that sums up the same fields. Each form is compiled on
+its own, since a function with several callers is inlined less."""
 import re
 
 from . import builds, callgrind

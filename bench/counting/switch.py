@@ -1,4 +1,5 @@
-"""A frame through a switch by the calls from C, as c/examples/switch.c uses them, beside a switch by hand (bench/switch/calls.c)."""
+"""A frame through a switch by the calls from C, as c/examples/switch.c uses them, compared with a switch by
+hand (bench/switch/calls.c)."""
 from . import builds, callgrind
 
 PORTS, FRAMES = [2, 64], 4096

@@ -1,4 +1,4 @@
-"""`pop_vlan` and `push_vlan`, beside functions in C that make the same tests and move the same bytes."""
+"""`pop_vlan` and `push_vlan`, compared with functions in C that make the same tests and move the same bytes."""
 from . import builds, callgrind
 
 LINKS = ["Ethernet II", "with a check sequence", "cooked capture"]

@@ -1,4 +1,5 @@
-"""The walk by `Peel`, `Peel::with_limit`, `summary` and `feed`, beside walks by hand in C with the same tests and sums."""
+"""The walk by `Peel`, `Peel::with_limit`, `summary` and `feed`, compared with walks by hand in C with the same
+tests and sums."""
 from . import builds, callgrind
 
 NAMES = ["walk", "limited", "summary", "feed"]
