@@ -29,8 +29,8 @@
  *   Memory   No call allocates, blocks, or stores anything between calls, so each is thread-safe.
  *            etherpeel_completion and etherpeel_fault_text take some 2.5 KB of stack,
  *            etherpeel_fields 5 KB, etherpeel_replace_arp 14 KB, etherpeel_build 18 KB, the calls
- *            for filters 40 KB, those for capture files 300 KB, those for a switch 3 KB, and all
- *            others less than 1 KB.
+ *            for filters 40 KB, etherpeel_format 70 KB, the calls for capture files 300 KB, those
+ *            for a switch 3 KB, and all others less than 1 KB.
  *   Time     Linear in the number of headers, at most len / 4 in a frame, or of units in a capture
  *            file. etherpeel_write_back also copies the frame, etherpeel_build the payload.
  *   Limits   Most calls have a form `.._limited`, which reads at most `limit` VLAN tags and
@@ -66,8 +66,8 @@ enum etherpeel_status {
     ETHERPEEL_UNKNOWN_START = 1,
     /* The target is too short. */
     ETHERPEEL_NO_ROOM = 2,
-    /* A text can't be made; only the calls for texts, etherpeel_fault_text and others, could return
-     * it. */
+    /* A text can't be made, or there is none; only the calls for texts, etherpeel_fault_text and
+     * others, could return it. */
     ETHERPEEL_NO_TEXT = 3,
 
     /* Why a VLAN tag is not taken off, put in or changed: */
@@ -123,7 +123,10 @@ enum etherpeel_status {
     ETHERPEEL_SEALED = 20,
 
     /* The frame does not leave by the port; only etherpeel_switch_send returns it. */
-    ETHERPEEL_STAYS = 21
+    ETHERPEEL_STAYS = 21,
+
+    /* The text names no format of a packet. */
+    ETHERPEEL_BAD_FORMAT = 22
 };
 
 /* What a frame begins with: the parameter `start` of each call. The parameter `ether_type` is read
@@ -275,55 +278,18 @@ enum etherpeel_decision {
 
 /* The name of a field, in the words of the standard of its header. */
 enum etherpeel_field_name {
-    /* Ethernet II (IEEE 802.3, 3.2). */
+    /* Ethernet II (IEEE 802.3, 3.2), and the frame check sequence after the payload (3.2.9). */
     ETHERPEEL_FIELD_ETHERNET2_DESTINATION = 1,
     ETHERPEEL_FIELD_ETHERNET2_SOURCE = 2,
     ETHERPEEL_FIELD_ETHERNET2_ETHER_TYPE = 3,
+    ETHERPEEL_FIELD_FCS = 34,
 
-    /* Linux cooked capture v1 (LINKTYPE_LINUX_SLL). */
+    /* Linux cooked capture v1 (LINKTYPE_LINUX_SLL of the tcpdump group). */
     ETHERPEEL_FIELD_LINUX_SLL_PACKET_TYPE = 4,
     ETHERPEEL_FIELD_LINUX_SLL_HARDWARE_TYPE = 5,
     ETHERPEEL_FIELD_LINUX_SLL_ADDRESS_LEN = 6,
     ETHERPEEL_FIELD_LINUX_SLL_ADDRESS = 7,
     ETHERPEEL_FIELD_LINUX_SLL_PROTOCOL = 8,
-
-    /* A VLAN tag (IEEE 802.1Q, 9.6). */
-    ETHERPEEL_FIELD_VLAN_PCP = 9,
-    ETHERPEEL_FIELD_VLAN_DEI = 10,
-    ETHERPEEL_FIELD_VLAN_VID = 11,
-    /* The ether type after the tag. */
-    ETHERPEEL_FIELD_VLAN_ETHER_TYPE = 12,
-
-    /* A SecTag (IEEE 802.1AE, 9.3 to 9.9). */
-    ETHERPEEL_FIELD_MACSEC_V = 13,
-    ETHERPEEL_FIELD_MACSEC_ES = 14,
-    ETHERPEEL_FIELD_MACSEC_SC = 15,
-    ETHERPEEL_FIELD_MACSEC_SCB = 16,
-    ETHERPEEL_FIELD_MACSEC_E = 17,
-    ETHERPEEL_FIELD_MACSEC_C = 18,
-    ETHERPEEL_FIELD_MACSEC_AN = 19,
-    /* The two bits before SL. */
-    ETHERPEEL_FIELD_MACSEC_RESERVED = 20,
-    ETHERPEEL_FIELD_MACSEC_SL = 21,
-    ETHERPEEL_FIELD_MACSEC_PN = 22,
-    /* If SC is 1. */
-    ETHERPEEL_FIELD_MACSEC_SCI = 23,
-    /* The ether type after the tag, if E and C are 0. */
-    ETHERPEEL_FIELD_MACSEC_ETHER_TYPE = 24,
-
-    /* ARP (RFC 826, "Packet format"). */
-    ETHERPEEL_FIELD_ARP_HARDWARE_TYPE = 25,
-    ETHERPEEL_FIELD_ARP_PROTOCOL_TYPE = 26,
-    ETHERPEEL_FIELD_ARP_HARDWARE_SIZE = 27,
-    ETHERPEEL_FIELD_ARP_PROTOCOL_SIZE = 28,
-    ETHERPEEL_FIELD_ARP_OPERATION = 29,
-    ETHERPEEL_FIELD_ARP_SENDER_HARDWARE = 30,
-    ETHERPEEL_FIELD_ARP_SENDER_PROTOCOL = 31,
-    ETHERPEEL_FIELD_ARP_TARGET_HARDWARE = 32,
-    ETHERPEEL_FIELD_ARP_TARGET_PROTOCOL = 33,
-
-    /* The frame check sequence of Ethernet (IEEE 802.3, 3.2.9). */
-    ETHERPEEL_FIELD_FCS = 34,
 
     /* Linux cooked capture v2 (LINKTYPE_LINUX_SLL2). */
     ETHERPEEL_FIELD_LINUX_SLL2_PROTOCOL = 35,
@@ -332,7 +298,76 @@ enum etherpeel_field_name {
     ETHERPEEL_FIELD_LINUX_SLL2_HARDWARE_TYPE = 38,
     ETHERPEEL_FIELD_LINUX_SLL2_PACKET_TYPE = 39,
     ETHERPEEL_FIELD_LINUX_SLL2_ADDRESS_LEN = 40,
-    ETHERPEEL_FIELD_LINUX_SLL2_ADDRESS = 41
+    ETHERPEEL_FIELD_LINUX_SLL2_ADDRESS = 41,
+
+    /* A VLAN tag: its control information (IEEE 802.1Q, 9.6), and the ether type after it. */
+    ETHERPEEL_FIELD_VLAN_PCP = 9,
+    ETHERPEEL_FIELD_VLAN_DEI = 10,
+    ETHERPEEL_FIELD_VLAN_VID = 11,
+    ETHERPEEL_FIELD_VLAN_ETHER_TYPE = 12,
+
+    /* The SecTag of MACsec (IEEE 802.1AE, 9.3 to 9.9), and the ether type after it. */
+    ETHERPEEL_FIELD_MACSEC_V = 13,
+    ETHERPEEL_FIELD_MACSEC_ES = 14,
+    ETHERPEEL_FIELD_MACSEC_SC = 15,
+    ETHERPEEL_FIELD_MACSEC_SCB = 16,
+    ETHERPEEL_FIELD_MACSEC_E = 17,
+    ETHERPEEL_FIELD_MACSEC_C = 18,
+    ETHERPEEL_FIELD_MACSEC_AN = 19,
+    ETHERPEEL_FIELD_MACSEC_RESERVED = 20,
+    ETHERPEEL_FIELD_MACSEC_SL = 21,
+    ETHERPEEL_FIELD_MACSEC_PN = 22,
+    ETHERPEEL_FIELD_MACSEC_SCI = 23,
+    ETHERPEEL_FIELD_MACSEC_ETHER_TYPE = 24,
+
+    /* An ARP packet (RFC 826, "Packet format"). */
+    ETHERPEEL_FIELD_ARP_HARDWARE_TYPE = 25,
+    ETHERPEEL_FIELD_ARP_PROTOCOL_TYPE = 26,
+    ETHERPEEL_FIELD_ARP_HARDWARE_SIZE = 27,
+    ETHERPEEL_FIELD_ARP_PROTOCOL_SIZE = 28,
+    ETHERPEEL_FIELD_ARP_OPERATION = 29,
+    ETHERPEEL_FIELD_ARP_SENDER_HARDWARE = 30,
+    ETHERPEEL_FIELD_ARP_SENDER_PROTOCOL = 31,
+    ETHERPEEL_FIELD_ARP_TARGET_HARDWARE = 32,
+    ETHERPEEL_FIELD_ARP_TARGET_PROTOCOL = 33
+};
+
+/* A text about a field. */
+enum etherpeel_field_part {
+    /* Its name as a column: vlan.vid. */
+    ETHERPEEL_PART_COLUMN = 1,
+    /* What its standard calls it: VLAN identifier. */
+    ETHERPEEL_PART_TITLE = 2,
+    /* The abbreviation of its standard: VID. */
+    ETHERPEEL_PART_ABBREVIATION = 3
+};
+
+/* What the value of a field is. */
+enum etherpeel_field_kind {
+    /* A number. */
+    ETHERPEEL_KIND_NUMBER = 1,
+    /* A bit, 1 if it is set. */
+    ETHERPEEL_KIND_FLAG = 2,
+    /* Whether something holds; no field has it, but columns do. */
+    ETHERPEEL_KIND_TRUTH = 3,
+    /* An ether type, or another protocol number in its place. */
+    ETHERPEEL_KIND_ETHER_TYPE = 4,
+    /* A hardware type of ARP, or the ARPHRD_ number of a cooked capture. */
+    ETHERPEEL_KIND_HARDWARE_TYPE = 5,
+    /* How a packet of a cooked capture was sent. */
+    ETHERPEEL_KIND_PACKET_TYPE = 6,
+    /* An operation of ARP. */
+    ETHERPEEL_KIND_OPERATION = 7,
+    /* A link type of captures; no field has it, but a column does. */
+    ETHERPEEL_KIND_LINK_TYPE = 8,
+    /* Bytes, as those of an address. */
+    ETHERPEEL_KIND_BYTES = 9,
+    /* An address of the protocol of an ARP packet: of IPv4, or another one. */
+    ETHERPEEL_KIND_PROTOCOL_ADDRESS = 10,
+    /* One of some words; no field has it, but columns do. */
+    ETHERPEEL_KIND_WORD = 11,
+    /* A time; no field has it, but a column does. */
+    ETHERPEEL_KIND_TIME = 12
 };
 
 /* The kind of a bridge: the tags that it reads and writes. A tag of the other kind is payload. */
@@ -1057,6 +1092,73 @@ uint32_t etherpeel_capture_fault_text(const uint8_t *file, size_t len, char *tex
  * host byte order. Thread-safe; takes no memory.
  */
 uint32_t etherpeel_captured_frame(const etherpeel_captured *packet, etherpeel_frame *frame);
+
+/* ---- Packets on one line ---- */
+
+/* etherpeel_format - a packet on one line, as ether_capture prints it
+ *
+ * Writes the line of a packet to the front of `text`, in ASCII, with a line feed and no 0 byte at
+ * its end. *text_len is its length. `format` points to `format_len` bytes of text:
+ *
+ *   json               an object of JSON, as --format json
+ *   brief              a line for the eye, as --format brief
+ *   vlan.vid,eth.src   columns, 1 to 32, as --fields
+ *
+ * `number` is that of the packet in the line. The packet is one that etherpeel_capture wrote, or one
+ * that the caller has filled in: a frame has link_type 1, original_len its length, and has_time 0.
+ * Returns ETHERPEEL_DONE; or ETHERPEEL_NO_ROOM if `room` is smaller than *text_len; or
+ * ETHERPEEL_BAD_FORMAT if the text names no format, or ETHERPEEL_NO_TEXT if the line has more than
+ * 65,536 bytes, as one with hundreds of headers may have, and then *text_len is 0. In all but the
+ * first case `text` is unchanged.
+ * Overlap: neither `text` nor *text_len may overlap `format`, *packet, its bytes, or one another.
+ * Every number is in host byte order. Thread-safe; takes no memory, and some 70 KB of stack.
+ */
+uint32_t etherpeel_format(const char *format, size_t format_len, size_t number,
+                          const etherpeel_captured *packet, char *text, size_t room,
+                          size_t *text_len);
+uint32_t etherpeel_format_limited(const char *format, size_t format_len, size_t number,
+                                  const etherpeel_captured *packet, size_t limit, char *text,
+                                  size_t room, size_t *text_len);
+
+/* ---- Names ---- */
+
+/* etherpeel_field_text - what a field is called, in English
+ *
+ * Writes a text about the field with this number of enum etherpeel_field_name to the front of
+ * `text`, in ASCII with no 0 byte at its end. `part` is a number of enum etherpeel_field_part.
+ * *text_len is the length of the text, fewer than 64 bytes; it is 0 if the standard has no
+ * abbreviation for the field.
+ * Returns ETHERPEEL_DONE; or ETHERPEEL_NO_ROOM if `room` is smaller than *text_len; or
+ * ETHERPEEL_NO_TEXT if there is no such field or no such part, and then *text_len is 0. In all but
+ * the first case `text` is unchanged.
+ * Overlap: text and *text_len must not overlap. Every number is in host byte order. Thread-safe;
+ * takes no memory.
+ */
+uint32_t etherpeel_field_text(uint32_t name, uint32_t part, char *text, size_t room,
+                              size_t *text_len);
+
+/* etherpeel_field_kind - what the value of a field is, as a number of enum etherpeel_field_kind; 0
+ * if no field has the number
+ *
+ * `name` is a number of enum etherpeel_field_name. Both are in host byte order. Thread-safe; takes
+ * no memory.
+ */
+uint32_t etherpeel_field_kind(uint32_t name);
+
+/* etherpeel_number_name - what a number is called, in English
+ *
+ * Writes the name of a number, such as "IPv4" for the ether type 0x0800, to the front of `text`, in
+ * ASCII with no 0 byte at its end. `kind` is a number of enum etherpeel_field_kind; those of ether
+ * types, hardware types, packet types, operations and link types have names, but not for every
+ * number. *text_len is the length of the name, fewer than 64 bytes.
+ * Returns ETHERPEEL_DONE; or ETHERPEEL_NO_ROOM if `room` is smaller than *text_len; or
+ * ETHERPEEL_NO_TEXT if the number has no name, and then *text_len is 0. In all but the first case
+ * `text` is unchanged.
+ * Overlap: text and *text_len must not overlap. Every number is in host byte order. Thread-safe;
+ * takes no memory.
+ */
+uint32_t etherpeel_number_name(uint32_t kind, uint64_t number, char *text, size_t room,
+                               size_t *text_len);
 
 /* ---- Linux cooked capture v2 ----
  *

@@ -19,17 +19,13 @@ _ether_capture() {
 
     case "${cmd}" in
         ether_capture)
-            opts="-c -r -w -h -V --plain --write --cut-to-headers --pop-vlan --progress --header --stats --push-vlan --set-vlan --select --undecided --limit --format --fields --help --version [file]..."
+            opts="-r -c -w -h -V --progress --select --undecided --plain --limit --format --fields --header --stats --write --cut-to-headers --pop-vlan --push-vlan --set-vlan --help --version [file]..."
             if [[ ${cur} == -* || ${COMP_CWORD} -eq 1 ]] ; then
                 COMPREPLY=( $(compgen -W "${opts}" -- "${cur}") )
                 return 0
             fi
             case "${prev}" in
-                --push-vlan)
-                    COMPREPLY=($(compgen -f "${cur}"))
-                    return 0
-                    ;;
-                --set-vlan)
+                -r)
                     COMPREPLY=($(compgen -f "${cur}"))
                     return 0
                     ;;
@@ -38,6 +34,10 @@ _ether_capture() {
                     return 0
                     ;;
                 --undecided)
+                    COMPREPLY=($(compgen -f "${cur}"))
+                    return 0
+                    ;;
+                -c)
                     COMPREPLY=($(compgen -f "${cur}"))
                     return 0
                     ;;
@@ -53,15 +53,15 @@ _ether_capture() {
                     COMPREPLY=($(compgen -f "${cur}"))
                     return 0
                     ;;
-                -c)
-                    COMPREPLY=($(compgen -f "${cur}"))
-                    return 0
-                    ;;
-                -r)
-                    COMPREPLY=($(compgen -f "${cur}"))
-                    return 0
-                    ;;
                 -w)
+                    COMPREPLY=($(compgen -f "${cur}"))
+                    return 0
+                    ;;
+                --push-vlan)
+                    COMPREPLY=($(compgen -f "${cur}"))
+                    return 0
+                    ;;
+                --set-vlan)
                     COMPREPLY=($(compgen -f "${cur}"))
                     return 0
                     ;;

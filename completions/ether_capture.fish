@@ -1,19 +1,19 @@
-complete -c ether_capture -l push-vlan -d 'put a VLAN tag after the link\'s header, as 0x8100:5' -r
-complete -c ether_capture -l set-vlan -d 'give the outermost VLAN tag with identifier A identifier B, as A:B' -r
-complete -c ether_capture -l select -d 'only packets that match an expression' -r
-complete -c ether_capture -l undecided -d 'keep or drop packets that were cut too short to tell' -r
-complete -c ether_capture -l limit -d 'read so many VLAN tags and SecTags of each packet at most' -r
-complete -c ether_capture -l format -d 'print lines, or each packet on one line: lines, brief or json' -r
-complete -c ether_capture -l fields -d 'print these columns of each packet, as vlan.vid,eth.src' -r
-complete -c ether_capture -s c -d 'end with so many of these packets' -r
-complete -c ether_capture -s r -d 'read this file alone' -r -F
-complete -c ether_capture -s w -d 'write a copy to this file' -r -F
+complete -c ether_capture -s r -d 'read FILE, as if it was named alone' -r -F
+complete -c ether_capture -l select -d 'only packets that match EXPR, as \'vlan 5 or arp\'' -r
+complete -c ether_capture -l undecided -d 'with --select, keep or drop packets that were cut too short to tell, in place of taking them as they are' -r
+complete -c ether_capture -s c -d 'end with the N-th of these packets, of all files together' -r
+complete -c ether_capture -l limit -d 'read N VLAN tags and SecTags of each packet at most' -r
+complete -c ether_capture -l format -d 'print lines as ever; or each packet on a line of its own, for the eye or as an object of JSON, without totals' -r
+complete -c ether_capture -l fields -d 'print the values of COLUMNS, as frame.number,vlan.vid,eth.src, with tabs; more than one value with commas' -r
+complete -c ether_capture -s w -d 'write it to the file COPY, which changes only once all is written; without --write, too' -r -F
+complete -c ether_capture -l push-vlan -d 'with --write, put a VLAN tag after the link\'s header, as 0x8100:5' -r
+complete -c ether_capture -l set-vlan -d 'with --write, give the outermost VLAN tag with identifier A identifier B' -r
+complete -c ether_capture -l progress -d 'show on standard error how many bytes are read, and how fast'
 complete -c ether_capture -l plain -d 'leave out the lines of packets and the totals'
-complete -c ether_capture -l write -d 'write the capture itself'
-complete -c ether_capture -l cut-to-headers -d 'cut each packet where its link-layer headers end'
-complete -c ether_capture -l pop-vlan -d 'take the VLAN tag after the link\'s header off each frame'
-complete -c ether_capture -l progress -d 'show how many bytes are read'
 complete -c ether_capture -l header -d 'with --fields, print a line of the names first'
-complete -c ether_capture -l stats -d 'count packets and bytes by the values of columns'
+complete -c ether_capture -l stats -d 'count packets and bytes by the values of COLUMNS, or without --fields of headers, VLANs, types, faults and ARP senders'
+complete -c ether_capture -l write -d 'write the capture itself to standard output, of one FILE at most, without the other packets'
+complete -c ether_capture -l cut-to-headers -d 'with --write, cut each packet where its link-layer headers end'
+complete -c ether_capture -l pop-vlan -d 'with --write, take the VLAN tag after the link\'s header off each frame'
 complete -c ether_capture -s h -l help -d 'Print help information'
 complete -c ether_capture -s V -l version -d 'Print version information'

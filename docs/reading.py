@@ -1,11 +1,12 @@
 #!/usr/bin/env python3
 """Finds the definitions that the contracts of the calls below rest on, by artefact, and compares them with docs/READING.md.
 
-    python3 docs/reading.py [ARTEFACT]
+    python3 docs/reading.py [--set | ARTEFACT]
 
 A word is a definition of a file in a crate's specs/ folder; an artefact adds those that none before it reaches. Prints nothing
-if the page has the right figures, and the order below exactly the files of these words; else what is wrong, and ends with status
-1. With the title of a section of the page prints its definitions, in that order, as one text to read."""
+if the page has the right figures, and the order below exactly the files of these words; else what is wrong, and ends with status 1.
+With --set it first writes the figures to the page. With the title of a section of the page it prints its definitions, in that order, as
+one text to read."""
 import argparse
 import os
 import re
@@ -32,7 +33,7 @@ ARTEFACTS = {
     },
     "The tool": {
         "ether_text/src/tool/run.rt": ["run", "run_limited"],
-        "ether_text/src/tool/program.rt": ["program"],
+        "ether_text/src/tool/program.rt": ["run_program"],
     },
     "Filters": {
         "ether_filter/src/filter.rt": ["parse", "matches", "decide"],
@@ -86,12 +87,13 @@ ARTEFACTS = {
     "Packets on one line": {
         "ether_format/src/packet.rt": ["write_packet"],
         "ether_format/src/columns.rt": ["of_names", "write_heading"],
+        "ether_format/src/format.rt": ["of_text"],
         "ether_format/src/laws.rt": ["columns_are_members", "texts_are_one"],
     },
     "Captures": {
         "ether_stream/src/run.rt": ["run"],
         "ether_stream/src/laws.rt": ["runs_compose"],
-        "ether_capture/src/program.rt": ["program"],
+        "ether_capture/src/program.rt": ["run_program"],
         "ether_capture/src/laws.rt": ["statistics_are_one"],
     },
     "Bridges": {
@@ -122,8 +124,10 @@ ARTEFACTS = {
         "ether_c/src/selecting.rt": ["etherpeel_select"],
         "ether_c/src/filtering.rt": ["etherpeel_filter_parse", "etherpeel_filter_matches", "etherpeel_filter_decide", "etherpeel_filter_select"],
         "ether_c/src/filter_error_text.rt": ["etherpeel_filter_error_text"],
+        "ether_c/src/formatting.rt": ["etherpeel_format", "etherpeel_format_limited"],
         "ether_c/src/captured_frame.rt": ["etherpeel_captured_frame"],
         "ether_c/src/fields.rt": ["etherpeel_fields"],
+        "ether_c/src/field_texts.rt": ["etherpeel_field_text", "etherpeel_field_kind", "etherpeel_number_name"],
         "ether_c/src/cooked_v2.rt": ["etherpeel_linux_sll2", "etherpeel_linux_sll2_fields"],
         "ether_c/src/replacing.rt": ["etherpeel_replace_link", "etherpeel_replace_link_ext", "etherpeel_replace_arp"],
         "ether_c/src/building.rt": ["etherpeel_build"],
@@ -153,7 +157,8 @@ ORDER = {
     "The tool": """
         ether_text: Tool/Frame
         ether_base: Texts/NumberText
-        ether_text: HexText Lines WalkText Verdict Tool/Mode Tool/Command Tool/Answer Run Tool/Run Tool/Outcome Arguments Tool/Program
+        ether_output: Words HexText
+        ether_text: Lines WalkText Verdict Tool/Mode Tool/Command Tool/Answer Run Tool/Run Tool/Outcome Arguments Tool/Program
     """,
     "Filters": """
         ether_filter: Primitives Expressions Deciding Words Numerals Tokens Grammar Texts Refusals
@@ -182,8 +187,9 @@ ORDER = {
         ether_content: Content ContentViews Selecting Headers Editing EditingViews
     """,
     "Packets on one line": """
-        ether_text: OutputBuffer Decimals
-        ether_format: Calendar Members Told Spelling Json Brief Columns Texts Laws
+        ether_output: OutputBuffer Decimals
+        ether_fields: Rows Names Fields Units
+        ether_format: Calendar Members Causes Told Spelling Json Brief Columns Texts Formats Laws
     """,
     "Captures": """
         ether_pcap: Capture
@@ -194,11 +200,11 @@ ORDER = {
         ether_stream: VlanOptions
         ether_format: Columns
         ether_stream: Usage OptionValues
-        ether_capture: WrongWords Options
+        ether_capture: OptionTable WrongWords Options
         ether_pcap: Texts PcapngTexts CaptureTexts
         ether_filter: ErrorTexts
         ether_stream: Outcome
-        ether_capture: Copies SeveralFiles KeyCounts RowFields Statistics Journal Program
+        ether_capture: World Copies SeveralFiles KeyCounts RowFields Statistics Journal Program
     """,
     "Bridges": """
         ether_switch: BridgeKinds VlanSets Arrivals Learning Relaying History Leaving Laws
@@ -210,7 +216,8 @@ ORDER = {
         ether_peel: Walker/Texts
         ether_c: Calls Packet
         ether_pcap: CaptureTexts
-        ether_c: Captured CapturedFrame Tags Library Selection Filters FieldTables Fields CookedV2 Passed Replacing Building Switching
+        ether_fields: Places Units Names Fields
+        ether_c: Captured CapturedFrame Formatting Tags Library Selection Filters FieldTables Fields FieldTexts CookedV2 Passed Replacing Building Switching
     """,
 }
 
@@ -402,6 +409,16 @@ def read_page():
     return dict(re.findall(r"^## (.*)\n\n(Adds .*)$", page, re.M))
 
 
+def set_figures(found):
+    """Writes the figures of each section to the page."""
+    with open(f"{ROOT}/docs/READING.md", encoding="utf-8") as file:
+        page = file.read()
+    for title, figures, _ in artefacts(found):
+        page = re.sub(rf"^(## {re.escape(title)}\n\n)Adds .*$", rf"\g<1>{figures}", page, flags=re.M)
+    with open(f"{ROOT}/docs/READING.md", "w", encoding="utf-8") as file:
+        file.write(page)
+
+
 def begins(paragraph, names):
     """Returns whether a paragraph of a file has a definition with one of these names."""
     heads = re.findall(rf"^(?:(?:pub|abbrev|unfoldable|opaque)\s+)*(?:(?:data|record)\s+)?({NAME})", paragraph, re.M)
@@ -442,7 +459,12 @@ def main():
     titles = {it.replace("`", ""): it for it in ARTEFACTS}
     words = argparse.ArgumentParser(description=__doc__, formatter_class=argparse.RawDescriptionHelpFormatter)
     words.add_argument("artefact", metavar="ARTEFACT", nargs="?", choices=titles, help=", ".join(titles))
+    words.add_argument("--set", action="store_true", help="write the figures to the page")
     given, found = words.parse_args(), modules()
+    if given.set and given.artefact is not None:
+        words.error("--set takes no artefact")
+    if given.set:
+        set_figures(found)
     if given.artefact is None:
         return 1 if check(found) else 0
     title = titles[given.artefact]

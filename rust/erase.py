@@ -20,7 +20,7 @@ HERE = os.path.dirname(os.path.abspath(__file__))
 CRATES = os.path.join(os.path.dirname(HERE), "crates")
 NAME = "etherpeel"
 CALLS, CALLS_NAME = "ether_c", "etherpeel_c"
-PROGRAMS, PROGRAMS_NAME = ["ether_text", "ether_format", "ether_stream", "ether_capture"], "ether_tools"  # what the programs are made of
+PROGRAMS, PROGRAMS_NAME = ["ether_text", "ether_stream", "ether_capture"], "ether_tools"  # what the programs are made of
 # What stands in the place of sources that take the runtime or an allocator.
 BY_HAND = [f"{PROGRAMS_NAME}/src/{path}.rs" for path in (
     "ether_text/noted", *(f"ether_capture/{it}" for it in ("capture_files", "copy_files", "count_table", "heap_memory", "heap_text", "interface_buffer", "memory", "options", "progress_line")),
@@ -32,7 +32,8 @@ FACADE = "etherparse"  # the root of the result
 HIDDEN = ["ether_base"]
 PRIVATE = ["ether_tags", "ether_sll", "ether_arp"]  # private modules: the facade has their public names
 # Public modules.
-OUTER = ["ether_peel", "ether_sll2", "ether_packet", "ether_filter", "ether_pcap", "ether_content", "ether_switch"]
+OUTER = ["ether_peel", "ether_fields", "ether_sll2", "ether_packet", "ether_filter", "ether_pcap", "ether_content", "ether_switch", "ether_output",
+         "ether_format"]
 LIBRARIES = [*HIDDEN, *PRIVATE, FACADE, *OUTER]
 # The crates of tests, which are below `tests/`, each with the examples that it tests.
 TESTS = {"library_tests": ["example_frames"]}
@@ -92,6 +93,11 @@ def library_path(crate, word):
     return "core" if word == "std" else None
 
 
+def std_path(crate, word):
+    """The same in what needs `std`."""
+    return None if word == "std" else library_path(crate, word)
+
+
 def calls_path(crate, word):
     """The same in the calls for C."""
     return {"std": "core", FACADE: NAME}.get(word) or (f"{NAME}::{word}" if word in LIBRARIES else None)
@@ -144,26 +150,30 @@ def imports_of(crate, path, texts):
     return [NAME, *below, *(f"{home}::{crate}::{module}" for module in public_modules(texts, path))]
 
 
-def erase(text, crate, own, imports=(), home=None):
-    """The text of a source without its proofs; `own` are the names of all sources, `home` the program that it is a module of."""
+def erase(text, crate, own, imports=(), home=None, stem=""):
+    """The text of a source without its proofs; `own` are the names of all sources, `home` the program that it is a module of, `stem` its
+    own name in a library."""
     tokens = lex(text)
     in_example = check.Names(own, "example")
     for token in tokens:
         begin = token.line - token.before.count("\n")
         module = "" if crate == FACADE else crate
         token.before = docs.documentation(token.before, begin, module, imports, in_example)
-    kind, own_rules, last_rules, spelled = kind_of(home or crate)
+    kind, own_rules, last_rules, spelled = kind_of(home or crate, stem)
     for rule in own_rules:
         rule(tokens)
     rules.paths(tokens, crate, spelled)
     check.check(tokens, check.Names(own, kind))
     for rule in last_rules:
         rule(tokens)
+    rules.features(tokens)
     return joined(tokens)
 
 
-def kind_of(crate):
+def kind_of(crate, stem):
     """What a crate is made as: its kind, the rules before the check and after it, and how its paths are spelled."""
+    if stem in rules.STD:
+        return "program", rules.RULES, [], std_path
     if crate in LIBRARIES:
         return "library", rules.RULES, [], library_path
     if crate == CALLS:
@@ -198,7 +208,8 @@ def rooted(crate, text):
     lines = text.split("\n")
     end = next(i for i, line in enumerate(lines) if not line.startswith("//!"))
     if crate == FACADE:
-        modules = [f"#[doc(hidden)]\npub mod {name};" for name in HIDDEN] + [f"mod {name};" for name in PRIVATE]
+        modules = ['#[cfg(feature = "std")]\nextern crate std;\n']
+        modules += [f"#[doc(hidden)]\npub mod {name};" for name in HIDDEN] + [f"mod {name};" for name in PRIVATE]
         return ROOT + "\n".join([*lines[:end], "", *modules, *(f"pub mod {name};" for name in OUTER), *lines[end:]])
     if crate == CALLS:
         return "\n".join([*lines[:end], CALLS_ROOT, *lines[end + 1:]])
@@ -214,7 +225,7 @@ def made(crates, known_too, home=None):
     for crate, files in texts.items():
         for path, text in files.items():
             try:
-                erased = erase(text, crate, own, imports_of(crate, path, files), home)
+                erased = erase(text, crate, own, imports_of(crate, path, files), home, path[:-3] if crate in LIBRARIES else "")
                 is_root = path == "lib.rt" and crate in [FACADE, CALLS, *TESTS]
                 yield place(crate, path, home), rooted(crate, erased) if is_root else erased
             except Refused as refused:

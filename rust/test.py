@@ -73,8 +73,8 @@ def committed_failures():
 def steps():
     """The calls of cargo: the folder, the words and the environment of each. `c/test.sh` tests the calls for C."""
     yield building.CRATE, ["build"], {}
-    yield building.CRATE, ["test"], {}
-    folders = {building.CRATE: ["--all-targets"], building.CALLS: [], building.PROGRAMS: ["--all-targets"]}
+    yield building.CRATE, ["test", "--all-features"], {}
+    folders = {building.CRATE: ["--all-targets", "--all-features"], building.CALLS: [], building.PROGRAMS: ["--all-targets"]}
     if why := building.missing(building.PROGRAMS):
         print(f"left out: the lints and the documentation of the programs, since {why}")
         del folders[building.PROGRAMS]
@@ -88,7 +88,7 @@ def steps():
             yield folder, ["clippy", *targets, "--", "-D", "warnings"], {}
         else:
             print("left out: the lints, since cargo has no clippy")
-        yield folder, ["doc", "--no-deps"], {"RUSTDOCFLAGS": "-D warnings"}
+        yield folder, ["doc", "--no-deps", *targets[1:]], {"RUSTDOCFLAGS": "-D warnings"}
     yield building.CRATE, ["package", "--allow-dirty", "--no-metadata"], {}
 
 

@@ -156,7 +156,8 @@ BRIEF_LINES = {
 # The names of protocols (the IEEE registry of ether types), and other operations of ARP.
 BRIEF_ENDS = [
     ("86dd 60", "IPv6 1 bytes"), ("8847", "MPLS 0 bytes"), ("8863", "PPPoE discovery 0 bytes"), ("8864", "PPPoE 0 bytes"), ("888e", "EAPOL 0 bytes"),
-    ("88cc", "LLDP 0 bytes"), ("88f7", "PTP 0 bytes"), ("05dc", "0x05DC 0 bytes"),
+    ("88cc", "LLDP 0 bytes"), ("88f7", "PTP 0 bytes"), ("05dc", "0x05DC 0 bytes"), ("0842", "Wake-on-LAN 0 bytes"),
+    ("8808 0001", "flow control 2 bytes"), ("9000", "0x9000 0 bytes"),
     ("0806 0001 0800 06 04 0003 020000000001 0a000001 000000000000 0a000002", "ARP op 3 from 10.0.0.1 to 10.0.0.2"),
 ]
 

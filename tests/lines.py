@@ -13,16 +13,20 @@ import sys
 
 TOP = os.path.dirname(os.path.dirname(os.path.abspath(__file__)))
 COLUMNS, LINES = {".antt": 120, ".rt": 123}, 600
-WHOLE = re.compile(r"""\s*(pub use |ghost use |use |ghost \w+: |#\[|(/// +)?(\w+ = )?(codes |b|\\)?")""")
+# where a text begins that goes on in the next line
+OPEN = re.compile(r'(?:= |^ +)"(?:[^"\\]|\\.)*$')
+WHOLE = re.compile(r"""\s*(pub use |ghost use |use |ghost \w+: |#\[|(/// +)?(\w+(?: =|:) )?(codes |b|\\)?")""")
 
 
 def wrong_lines(path):
     """What is too long in a file."""
     with open(path, encoding="utf-8") as file:
         lines = file.read().splitlines()
+    is_text = False
     for number, line in enumerate(lines, 1):
-        if len(line) > COLUMNS[os.path.splitext(path)[1]] and not WHOLE.match(line):
+        if len(line) > COLUMNS[os.path.splitext(path)[1]] and not is_text and not WHOLE.match(line):
             yield f"{os.path.relpath(path, TOP)}:{number}: {len(line)} columns"
+        is_text = not line.endswith('";') if is_text else bool(OPEN.search(line))
     if len(lines) > LINES:
         yield f"{os.path.relpath(path, TOP)}: {len(lines)} lines"
 

@@ -1,5 +1,5 @@
-"""Tests the manual pages: groff, if it is there, has no warning; that of ether_capture has each option of its usage, that of ether_tool each
-word of its own, and ether-filter(7) each primitive of docs/FORMAT.md. The last line is 'N passed, M failed'."""
+"""Tests the manual pages: groff, if it is there, has no warning; that of ether_tool has each word of its usage, and ether-filter(7) each
+primitive of docs/FORMAT.md. tests/options.py tests that of ether_capture. The last line is 'N passed, M failed'."""
 import argparse
 import glob
 import os
@@ -48,9 +48,6 @@ def check_form():
 def main():
     argparse.ArgumentParser(description=__doc__, formatter_class=argparse.RawDescriptionHelpFormatter).parse_args()
     check_form()
-    usage = re.search(r'"(usage: ether_capture .*?)\\n', text("crates/ether_stream/src/outcome.rt"))[1]
-    for option in sorted(set(re.findall(r"-[a-zA-Z-]+(?=[ ,|\]])", usage))):
-        check("ether_capture(1)", re.search(rf"(?<![\w-]){option}(?![\w-])", page("man/ether_capture.1")), f"{option} is missing")
     for word in ("eth", "fcs", "sll", "type XXXX", "feed", "limit N"):
         check("ether_tool(1)", word in page("man/ether_tool.1"), f"{word} is missing")
     table = text("docs/FORMAT.md").partition("Primitive | True of a packet\n---|---\n")[2].partition("\n\n")[0]

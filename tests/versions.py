@@ -30,12 +30,11 @@ PLACES = {
     "crates/ether_c/src/library.rt": r"version_number (\d+) (\d+) (\d+) ",
     "crates/ether_capture/src/options.rt": r'\.version\("(.*)"\)',
     "crates/ether_text/src/tool/about.rt": r'VERSION: &str = "ether_tool (.*)"',
-    "crates/ether_stream/src/outcome.rt": r'VERSION: &str = "ether_capture (.*)"',
+    "crates/ether_stream/src/about.rt": r'VERSION: &str = "ether_capture (.*)"',
     "rust/ether_tools/src/ether_capture/options.rs": r'\.version\("(.*)"\)',
     "page/page.html": r'content="etherpeel (.*)">',
     "CITATION.cff": r"^version: (.*)",
     "release.sh": r"libetherpeel\.so\.(\d+\.\d+\.\d+)",
-    "crates/ether_stream/specs/Outcome.antt": r'^version_text = codes "ether_capture (.*)"',
     "tests/ether_capture.py": r'"ether_capture (\d.*?)\\n"',
     "CHANGELOG.md": r"\A(?:(?!## ).*\n)*## (\d.*?)(?:$| )",
 }

@@ -23,6 +23,8 @@ COMMANDS = {
     "clauses": [sys.executable, "tests/clauses.py"],
     "lines": [sys.executable, "tests/lines.py"],
     "versions": [sys.executable, "tests/versions.py"],
+    "fields": [sys.executable, "fields.py", "--check"],
+    "options": [sys.executable, "tests/options.py"],
     "scripts": [sys.executable, "tests/scripts.py"],
     "manual pages": [sys.executable, "tests/manual_pages.py"],
     "library tests": [sys.executable, "try.py", "library_tests"],

@@ -26,7 +26,7 @@ if command -v nm > "$work/shared.log" && command -v readelf > "$work/shared.log"
     check "soname" "$(readelf -d "$shared" | sed -n 's/.*SONAME.*\[\(.*\)\]/\1/p')" libetherpeel.so.3
     needed=$(nm -D -u "$shared" | awk '$1 == "U" { sub(/@.*/, "", $2); printf "%s ", $2 }')
     if [ "$with" = cargo ]; then
-        check "names that the shared one needs" "$needed" 'abort memcpy memset '
+        check "names that the shared one needs" "$needed" 'abort bcmp memcpy memset '
         if command -v objdump > "$work/shared.log"; then
             later=$(objdump -d --no-show-raw-insn "$shared" | awk '{ print $2 }' |
                 grep -E '^(popcnt|lzcnt|tzcnt|crc32|pshufb|palignr|ptest|pmulld|pblend|pextr[bdq]|pinsr[bdq]|pcmp.str.|round[sp][sd]|v[a-z])' | sort -u)

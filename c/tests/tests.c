@@ -3,6 +3,7 @@
 #define _DEFAULT_SOURCE
 #include "check.h"
 #include "fields.h"
+#include "naming.h"
 #include "switching.h"
 
 /* ---- frames: the two addresses are to all stations, from 02:00:00:00:00:01 ---- */
@@ -627,6 +628,80 @@ static void captures_that_end_early(void) {
     CHECK(etherpeel_capture(NULL, 0, NULL, 0, &count, &end) == ETHERPEEL_SHORT && count == 0);
     CHECK(etherpeel_capture(other, sizeof other, NULL, 0, &count, &end) == ETHERPEEL_BAD_CAPTURE);
     CHECK(count == 0 && end.offset == 0 && end.needed == 0);
+}
+
+/* ---- packets on one line ---- */
+
+/* a packet of Ethernet, captured on 2023-11-14 at 22:13:20 UTC */
+static etherpeel_captured packet_of(const uint8_t *bytes, size_t len, uint32_t original) {
+    etherpeel_captured p;
+    memset(&p, 0, sizeof p);
+    p.packet = bytes;
+    p.packet_len = len;
+    p.original_len = original;
+    p.link_type = 1;
+    p.has_time = 1;
+    p.seconds = 1700000000;
+    p.nanoseconds = 1000;
+    return p;
+}
+
+/* whether the seventh packet has this line, into exactly as much room as that needs and no less */
+static int has_line(const char *format, const etherpeel_captured *p, const char *line) {
+    const size_t len = strlen(line);
+    const guarded page = guarded_page();
+    char *text = (char *)last(page, len);
+    size_t needed = 0, written = 0;
+    memset(text, '?', len);
+    int is_right = etherpeel_format(format, strlen(format), 7, p, text, len - 1, &needed) ==
+                       ETHERPEEL_NO_ROOM &&
+                   needed == len && all_are(text, len, '?');
+    is_right &= etherpeel_format(format, strlen(format), 7, p, text, len, &written) ==
+                    ETHERPEEL_DONE &&
+                written == len && memcmp(text, line, len) == 0;
+    release(page);
+    return is_right;
+}
+
+static void packets_on_one_line(void) {
+    const etherpeel_captured p = packet_of(TAGGED, sizeof TAGGED, 64);
+    CHECK(has_line("json", &p,
+                   "{\"number\":7,\"time\":\"2023-11-14T22:13:20.000001000Z\",\"link\":1,"
+                   "\"captured\":19,\"original\":64,\"headers\":[{\"header\":\"eth\",\"start\":0,"
+                   "\"end\":14,\"payload_end\":19,\"closed\":false,\"dst\":\"ff:ff:ff:ff:ff:ff\","
+                   "\"src\":\"02:00:00:00:00:01\",\"type\":33024,\"fcs\":null},{\"header\":\"vlan\","
+                   "\"start\":14,\"end\":18,\"payload_end\":19,\"closed\":false,\"pcp\":5,\"dei\":1,"
+                   "\"vid\":291,\"type\":2048}],\"rest\":{\"start\":18,\"end\":19,"
+                   "\"kind\":\"ether_type\",\"type\":2048}}\n"));
+    CHECK(has_line("brief", &p,
+                   "7 2023-11-14T22:13:20.000001Z 02:00:00:00:00:01 > ff:ff:ff:ff:ff:ff vlan 291 "
+                   "pcp 5 dei IPv4 1 bytes (19 of 64 bytes)\n"));
+    CHECK(has_line("frame.number,vlan.vid,arp.op,rest.type", &p, "7\t291\t\t0x0800\n"));
+}
+
+static void lines_that_are_not_written(void) {
+    static const char *const wrong[] = {"", "jso", "JSON", "vlan", "vlan.", "vlan.vid,", "vlan.tag"};
+    static const char expected[] = "eth\t0x8100\n";
+    static const char columns[] = "headers.header,rest.type";
+    static uint8_t many[12 + 4 * 1000] = {ADDRESSES};
+    const etherpeel_captured p = packet_of(TAGGED, sizeof TAGGED, 64);
+    const etherpeel_captured longest = packet_of(many, sizeof many, sizeof many);
+    char text[64];
+    size_t len;
+    memset(text, '?', sizeof text);
+    for (size_t i = 0; i < COUNT(wrong); i++) {
+        len = 99;
+        CHECK(etherpeel_format(wrong[i], strlen(wrong[i]), 1, &p, text, sizeof text, &len) ==
+              ETHERPEEL_BAD_FORMAT);
+        CHECK(len == 0 && all_are(text, sizeof text, '?'));
+    }
+    /* a line with a thousand headers is longer than 65,536 bytes */
+    for (size_t i = 12; i < sizeof many; i += 4) memcpy(many + i, "\x81\x00\x00\x05", 4);
+    CHECK(etherpeel_format("json", 4, 1, &longest, text, sizeof text, &len) == ETHERPEEL_NO_TEXT);
+    CHECK(len == 0 && all_are(text, sizeof text, '?'));
+    CHECK(etherpeel_format_limited(columns, strlen(columns), 1, &p, 0, text, sizeof text, &len) ==
+          ETHERPEEL_DONE);
+    CHECK(len == strlen(expected) && memcmp(text, expected, len) == 0);
 }
 
 /* ---- packets that a filter selects ---- */
@@ -1562,6 +1637,8 @@ int main(void) {
     packets();
     captures();
     captures_that_end_early();
+    packets_on_one_line();
+    lines_that_are_not_written();
     captured_frames();
     selecting();
     filtering();
@@ -1570,6 +1647,9 @@ int main(void) {
     fields_without_room();
     linux_sll2();
     linux_sll2_fields();
+    texts_of_fields();
+    kinds_of_fields();
+    names_of_numbers();
     popping();
     pushing();
     setting();

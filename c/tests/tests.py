@@ -3,6 +3,7 @@ which are run, all if it is left out. The last line is 'N passed, M failed'."""
 import array
 import ctypes as C
 import io
+import json
 import mmap
 import os
 import re
@@ -19,7 +20,7 @@ from compared import drawn_frames, drawn_packets, fronts, short_lists
 from lending import lending
 from nested import nested
 from sources import sources
-from etherpeel import Difference, FaultKind, FieldName, FilterErrorKind, Layer, LenSource, RestKind, Start, Status, _library
+from etherpeel import Difference, FaultKind, FieldKind, FieldName, FilterErrorKind, Layer, LenSource, RestKind, Start, Status, _library
 
 
 def layout():
@@ -33,9 +34,10 @@ def layout():
     for kind, enum, prefix in ((Status, "status", ""), (Start, "start", "START_"), (RestKind, "rest_kind", "REST_"),
                                (FaultKind, "fault_kind", "FAULT_"), (Layer, "layer", "LAYER_"), (LenSource, "len_source", "LEN_"),
                                (FilterErrorKind, "filter_error_kind", "FILTER_"), (FieldName, "field_name", "FIELD_"),
-                               (Difference, "difference", "DIFFERENCE_")):
+                               (FieldKind, "field_kind", "KIND_"), (Difference, "difference", "DIFFERENCE_")):
         numbers = re.findall(r"ETHERPEEL_" + prefix + r"(\w+) = (\d+)", re.search(f"enum etherpeel_{enum} {{(.*?)}};", header, re.S)[1])
-        check(enum, [(it.name, str(it.value)) for it in kind], [it for it in numbers if enum != "fault_kind" or it[0] != "NONE"])
+        wanted = sorted(((name, int(number)) for name, number in numbers if enum != "fault_kind" or name != "NONE"), key=lambda it: it[1])
+        check(enum, [(it.name, int(it.value)) for it in kind], wanted)
     check("no struct", [_library.lib.etherpeel_sizeof(n) for n in (0, 99, 2**32 - 1)], [0, 0, 0])
 
 
@@ -147,6 +149,26 @@ def captures():
         check("no capture", raised(list, etherpeel.capture(file)), etherpeel.CaptureError)
 
 
+def lines():
+    """The lines of docs/FORMAT.md."""
+    request = ADDRESSES + bytes.fromhex("0806 0001080006040001 020000000001 0a000001 000000000000 0a000002")
+    packet = etherpeel.Captured(request, 1_700_000_000_000_001_000, 1, 42, None)
+    told = packet.as_dict()
+    check("JSON", json.loads(packet.json()), told)
+    check("packet", [told[name] for name in ("number", "time", "link", "captured", "original")],
+          [1, "2023-11-14T22:13:20.000001000Z", 1, 42, 42])
+    check("headers", [(it["header"], it["start"], it["end"]) for it in told["headers"]], [("eth", 0, 14), ("arp", 14, 42)])
+    check("ARP", [told["headers"][1][name] for name in ("op", "sha", "spa", "tpa")], [1, "02:00:00:00:00:01", "10.0.0.1", "10.0.0.2"])
+    check("brief", packet.brief(2), "2 2023-11-14T22:13:20.000001Z 02:00:00:00:00:01 > ff:ff:ff:ff:ff:ff"
+                                    " ARP who-has 10.0.0.2 tell 10.0.0.1")
+    check("columns", packet.columns("frame.number,eth.src,vlan.vid,rest.kind", 3), ["3", "02:00:00:00:00:01", "", "after_arp"])
+    check("no time", etherpeel.Captured(memoryview(TAGGED), None, 1, 64, None).columns("frame.time,vlan.vid"), ["", "291"])
+    many = etherpeel.Captured(ADDRESSES + bytes.fromhex("81000005") * 100, None, 1, 412, None)
+    check("more room", len(json.loads(many.json())["headers"]), 100)
+    for names in ("", "vlan", "vlan.tag", "vlan.vid,"):
+        check(f"{names!r} names no columns", raised(packet.columns, names), etherpeel.Error)
+
+
 # of cooked capture v1 on the loopback device, hardware type 772, with TAGGED's VLAN tag
 COOKED_LOOPBACK = bytes.fromhex("0000 0304 0006 0000000000000000 8100 b1230800 45")
 # of cooked capture v2, from interface 3: sent by us, on Ethernet, with TAGGED's VLAN tag; and of a GRE tunnel
@@ -244,6 +266,29 @@ def fields():
            (FieldName.ARP_TARGET_HARDWARE, 0, 136, 72, None), (FieldName.ARP_TARGET_PROTOCOL, 0, 208, 0, 0)])
     tags = etherpeel.fields(bytes.fromhex("0001 8100" * 100), Start.ETHER_TYPE, ether_type=0x8100)
     check("many fields", (len(tags), tags[-1]), (400, (FieldName.VLAN_ETHER_TYPE, 99, 3184, 16, 0x8100)))
+
+
+def names():
+    def called(name):
+        return name.column, name.title, name.abbreviation, name.kind
+
+    check("VLAN identifier", called(FieldName.VLAN_VID), ("vlan.vid", "VLAN identifier", "VID", FieldKind.NUMBER))
+    check("check sequence", called(FieldName.FCS), ("eth.fcs", "Frame check sequence", "FCS", FieldKind.BYTES))
+    check("destination", called(FieldName(1)), ("eth.dst", "Destination address", "", FieldKind.BYTES))
+    check("operation", called(FieldName.ARP_OPERATION), ("arp.op", "Operation", "ar$op", FieldKind.OPERATION))
+    check("no column of a row", FieldName.MACSEC_V.column, "macsec.v")
+    check("of each its own column", len({name.column for name in FieldName}), 41)
+    check("all fields", all(0 < len(name.title) < 64 and name.abbreviation.isascii() and name.kind for name in FieldName), True)
+    check("names", [etherpeel.number_name(kind, number) for kind, number in (
+        (FieldKind.ETHER_TYPE, 0x0800), (FieldKind.ETHER_TYPE, 0x88CC), (FieldKind.HARDWARE_TYPE, 1), (FieldKind.PACKET_TYPE, 1),
+        (FieldKind.OPERATION, 2), (FieldKind.LINK_TYPE, 113))],
+        ["IPv4", "LLDP", "Ethernet", "broadcast", "reply", "Linux cooked capture v1"])
+    check("no names", [etherpeel.number_name(*words) for words in (
+        (FieldKind.ETHER_TYPE, 65535), (FieldKind.OPERATION, 0), (FieldKind.NUMBER, 1), (FieldKind.LINK_TYPE, 2**64 - 1))], [None] * 4)
+    check("of a frame", [etherpeel.number_name(it.name.kind, it.value) for it in etherpeel.fields(TAGGED)],
+          [None, None, "VLAN tag", None, None, None, "IPv4"])
+    check("no kind", raised(etherpeel.number_name, 13, 1), ValueError)
+    check("no number", [raised(etherpeel.number_name, FieldKind.ETHER_TYPE, it) for it in (-1, 2**64)], [ValueError] * 2)
 
 
 def cooked_v2():
@@ -391,8 +436,8 @@ def wrong_words():
 
 TESTS = {
     "layout": layout, "worked examples": worked_examples, "buffers": buffers, "packets": packets, "captures": captures,
-    "sources": lambda: sources(CLASSIC, [b"\xff", b""]), "frames of captures": frames_of_captures, "filters": filters,
-    "late texts": late_texts, "fields": fields, "cooked v2": cooked_v2, "tags in place": tags_in_place,
+    "sources": lambda: sources(CLASSIC, [b"\xff", b""]), "frames of captures": frames_of_captures, "filters": filters, "lines": lines,
+    "late texts": late_texts, "fields": fields, "names": names, "cooked v2": cooked_v2, "tags in place": tags_in_place,
     "headers in place": headers_in_place, "building": building, "wrong words": wrong_words, "nested calls": nested, "lent memory": lending,
     "drawn frames": lambda: drawn_frames(10000), "drawn packets": lambda: drawn_packets(3000), "short lists": short_lists, "fronts": fronts,
 }

@@ -61,8 +61,8 @@ class Names:
         programs = where in ("program", "example program")
         self.words = {"rt", "macro_rules"} if tests else {"extern"} if calls else set()
         self.texts = (known.PROGRAM_TEXTS,) if programs else ()
-        self.attributes = known.ATTRIBUTES + (known.CALL_ATTRIBUTES if calls else known.PROGRAM_ATTRIBUTES if programs else [])
-        self.marks = known.MARKS | ({"$"} if tests else {"@"} if programs else set())
+        self.attributes = known.ATTRIBUTES + (known.CALL_ATTRIBUTES if calls else [])
+        self.marks = known.MARKS | ({"$"} if tests else set())
         besides = {"test": ["TEST"], "calls": ["CALL"], "program": ["PROGRAM"], "example program": ["PROGRAM", "EXAMPLE"]}.get(where, [])
         names, paths, methods = ({one for it in besides for one in getattr(known, f"{it}_{what}")} for what in ("NAMES", "PATHS", "METHODS"))
         self.own = own | known.NAMES | names

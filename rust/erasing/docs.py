@@ -25,7 +25,8 @@ def runtimes(tokens):
 
 
 def example(code, line, imports, names):
-    """The lines of an example. It imports all public names, and `?` passes on any error."""
+    """The lines of an example. It imports all public names, and `?` passes on any error. One of the crate `etherpeel` that writes to an
+    `OutputBuffer` is run only with the feature `std`, by which the writers of `std` take text."""
     tokens = lex("\n".join(code), line)
     runtimes(tokens)
     clones(tokens)
@@ -33,6 +34,8 @@ def example(code, line, imports, names):
     body = joined(tokens).split("\n")
     head = [f"# use {path}::*;" for path in imports]
     head += ["# use arrayvec::ArrayVec;"] * any(t.text == "ArrayVec" for t in tokens)
+    if any(t.text == "OutputBuffer" for t in tokens) and all(path.startswith("etherpeel") for path in imports):
+        return [*head, '# #[cfg(feature = "std")]', "# {", *body, "# }"]
     if any(t.text in ("?", "return") for t in tokens):
         return [*head, "# fn main() -> Result<(), Box<dyn std::error::Error>> {", *body, "# Ok(())", "# }"]
     return [*head, *body]

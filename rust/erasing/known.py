@@ -13,14 +13,14 @@ REFUSED = set(
     i8 i16 i32 i64 i128 isize f32 f64""".split()
 )
 TYPES = set("u8 u16 u32 u64 u128 usize bool str char".split())
-MARKS = set(", ( ) :: { } : ; . & [ ] < > = => -> # + ! .. ..= * | ? - % /".split())
+MARKS = set(", @ ( ) :: { } : ; . & [ ] < > = => -> # + ! .. ..= * | ? - % /".split())
 # A number with the type that may follow it.
 NUMBER = r"(?:0x[0-9A-Fa-f_]+|0b[01_]+|[0-9][0-9_]*)(?:u8|u16|u32|u64|u128|usize)?"
 
 # A macro, and how its call begins; those of examples and tests; those that tests declare are known there, too.
 MACROS = {"matches": "(", "unreachable": "()", "write": "(f,"}
 EXAMPLE_MACROS = {"assert": "(", "assert_eq": "(", "panic": "(", "format": "("}
-ATTRIBUTES = ["#[inline]", "#[inline(always)]", "#[inline(never)]", "#[repr(C)]", "#[rustfmt::skip]", "#[test]"]
+ATTRIBUTES = ["#[cold]", "#[inline]", "#[inline(always)]", "#[inline(never)]", "#[repr(C)]", "#[rustfmt::skip]", "#[test]"]
 DERIVES = set("Clone Copy PartialEq Eq PartialOrd Ord Hash Debug Default Error".split())
 
 # Names of Rust that need no path.
@@ -40,9 +40,9 @@ PATHS = set(
 # Last segments that a derive or a trait of Rust gives to a type of the sources.
 GIVEN = set("default from try_from".split())
 METHODS = set(
-    """and_then as_mut_slice as_ref as_slice as_str clear clone contains copied copy_from_slice copy_within
+    """and_then as_bytes as_mut_slice as_ref as_slice as_str clear clone contains copied copy_from_slice copy_within
     debug_struct div_ceil enumerate field find finish first_chunk first_chunk_mut fmt get hash insert is_empty is_err is_full
-    is_none is_ok is_some iter last_chunk len map max min next ok or overflowing_add pop pow push retain rev
+    is_none is_ok is_some iter last_chunk len map max min next ok or overflowing_add pop position pow push retain rev
     saturating_add saturating_sub split_at_mut split_first split_last split_once then_some to_be_bytes to_digit to_le_bytes truncate try_extend_from_slice
     unwrap unwrap_or write_str""".split()
 )
@@ -57,7 +57,7 @@ TEST_PATHS = set(
     Ordering::Less Ordering::Equal Ordering::Greater""".split()
 )
 TEST_METHODS = set(
-    """all alloc any as_bytes count err first_mut get_mut into iter_mut last map_err ok_or skip split_at starts_with
+    """all alloc any count err first_mut get_mut into iter_mut last map_err ok_or skip split_at starts_with
     zip""".split()
 )
 
@@ -66,10 +66,9 @@ CALL_ATTRIBUTES = ["#[unsafe(no_mangle)]"]
 CALL_MACROS = {"assert": "(size_of", "write": "(text,"}
 CALL_NAMES = set("ArrayString size_of".split())
 CALL_PATHS = set("arrayvec::ArrayString ArrayString::new u8::from".split())
-CALL_METHODS = set("as_bytes split_at wrapping_add wrapping_mul".split())
+CALL_METHODS = set("split_at wrapping_add wrapping_mul".split())
 
 # What the libraries of the programs use besides.
-PROGRAM_ATTRIBUTES = ["#[cold]"]
 PROGRAM_TEXTS = "#[error("  # the text of an error, by thiserror
 PROGRAM_MACROS = {"write": "(", "writeln": "(", "format": "("}
 PROGRAM_NAMES = {"ErrorKind", "Global", "NonZeroUsize", "Noted", "String", "Vec", "Read", "Write", "tell_failure"}

@@ -28,6 +28,19 @@ def laws(tokens):
         cut(tokens, item_start(tokens, i), end)
 
 
+# Modules of libraries that need `std`.
+STD = {"writers"}
+
+
+def features(tokens):
+    """A module that needs `std` is there with the feature of that name."""
+    for name in STD:
+        for i, _ in places(tokens, f"mod {name};"):
+            new = lex('#[cfg(feature = "std")]')[:-1]
+            new[0].before, tokens[i].before = tokens[i].before, "\n"
+            tokens[i:i] = new
+
+
 def is_public(tokens, start, i):
     """Whether the function at `i`, which begins at `start`, is `pub`, or one of a trait that is."""
     if visible := [k for k in range(start, i) if tokens[k].text == "pub"]:

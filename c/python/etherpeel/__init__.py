@@ -21,20 +21,21 @@ from . import _library
 from ._captures import (CaptureError, Captured, Frame, capture, captured_frame, field, linux_sll2, linux_sll2_fields, select,
                         start_of_link_type)
 from ._library import WRITE, Error, Status, filled, lent, lib, number, required, text
+from ._names import number_name
 from ._replacing import build, replace_arp, replace_link, replace_link_ext
-from ._types import (Arp, Buffer, BuildError, Difference, Ethernet2, Fault, FaultKind, Fed, Field, FieldName, FilterError,
-                     FilterErrorKind, Header, Layer, LenSource, LinuxSll, LinuxSll2, LinuxSll2Error, Macsec, Packet, Refused,
-                     ReplaceError, RestKind, Start, Summary, TagError, Unit, Vlan, WritableBuffer, begun)
+from ._types import (Arp, Buffer, BuildError, Difference, Ethernet2, Fault, FaultKind, Fed, Field, FieldKind, FieldName,
+                     FilterError, FilterErrorKind, Header, Layer, LenSource, LinuxSll, LinuxSll2, LinuxSll2Error, Macsec, Packet,
+                     Refused, ReplaceError, RestKind, Start, Summary, TagError, Unit, Vlan, WritableBuffer, begun)
 from ._units import bytes_of, units_of
 
 __all__ = [
     "Arp", "BuildError", "CaptureError", "Captured", "Difference", "Error", "Ethernet2", "Fault", "FaultKind", "Fed", "Field",
-    "FieldName", "FilterError", "FilterErrorKind", "Frame", "Header", "Layer", "LenSource", "LinuxSll", "LinuxSll2",
-    "LinuxSll2Error", "Macsec", "Packet", "Refused", "ReplaceError", "RestKind", "Start", "Status", "Summary", "TagError",
-    "Unit", "Vlan", "build", "capture", "captured_frame", "completion", "fault_text", "feed", "fields", "linux_sll2",
-    "linux_sll2_fields", "missing", "packet", "pop_vlan", "push_vlan", "replace_arp", "replace_link", "replace_link_ext",
-    "select", "set_tpid", "set_vlan_id", "set_vlan_tag", "start_of_link_type", "summary", "walk", "write_back",
-    "write_back_into",
+    "FieldKind", "FieldName", "FilterError", "FilterErrorKind", "Frame", "Header", "Layer", "LenSource", "LinuxSll",
+    "LinuxSll2", "LinuxSll2Error", "Macsec", "Packet", "Refused", "ReplaceError", "RestKind", "Start", "Status", "Summary",
+    "TagError", "Unit", "Vlan", "build", "capture", "captured_frame", "completion", "fault_text", "feed", "fields",
+    "linux_sll2", "linux_sll2_fields", "missing", "number_name", "packet", "pop_vlan", "push_vlan", "replace_arp",
+    "replace_link", "replace_link_ext", "select", "set_tpid", "set_vlan_id", "set_vlan_tag", "start_of_link_type", "summary",
+    "walk", "write_back", "write_back_into",
 ]
 __version__ = "3.0.0"
 

@@ -3,11 +3,12 @@ from __future__ import annotations
 
 import ctypes as C
 import io
+import json
 import mmap
 import os
 from functools import lru_cache
 from struct import Struct as PackingStruct, error as PackingError
-from typing import Iterable, Iterator, List, NamedTuple, Optional, Protocol, Union
+from typing import Any, Dict, Iterable, Iterator, List, NamedTuple, Optional, Protocol, Union
 
 from . import _library
 from ._library import READ, Error, Status, filled, get_buffer, lent, lib, number, reader, release_buffer, required, text
@@ -42,6 +43,27 @@ class Captured(NamedTuple):
         if start == Start.ETHERNET2 and self.fcs_len == 4 and len(self.packet) == self.original_len:
             return Start.ETHERNET2_FCS
         return start
+
+    def json(self, number: int = 1) -> str:
+        """The packet as an object of JSON, as `ether_capture --format json` prints it."""
+        return _line(self, "json", number)
+
+    def as_dict(self, number: int = 1) -> Dict[str, Any]:
+        """What `json` says, as a dictionary."""
+        return json.loads(self.json(number))
+
+    def brief(self, number: int = 1) -> str:
+        """The packet on one line for the eye, as `ether_capture --format brief` prints it."""
+        return _line(self, "brief", number)
+
+    def columns(self, names: str, number: int = 1) -> List[str]:
+        """The columns of these names, with a comma between two, as `ether_capture --fields` prints them. A column has the values
+        of all headers that have the field, with a comma between two, or is empty.
+
+            source, vids = packet.columns("eth.src,vlan.vid")
+
+        Raises `ValueError` if a name is not that of a column, or if there are more than 32."""
+        return _line(self, names, number).split("\t")
 
     def __copy__(self) -> Captured:
         return self
@@ -227,6 +249,19 @@ def _told(packet, at, length):
     return _library.Captured(at, length, original_len=number("original_len", packet.original_len, 32),
                              link_type=number("link_type", packet.link_type, 16), has_fcs_len=packet.fcs_len is not None,
                              fcs_len=number("fcs_len", packet.fcs_len or 0, 8))
+
+
+# ---- packets on one line
+
+
+def _line(packet, form, count):
+    """The line of a packet in a format, without the line feed at its end."""
+    words = form.encode()
+    with lent(packet.packet) as (at, length):
+        told = _told(packet, at, length)
+        if packet.time_ns is not None:
+            told.has_time, (told.seconds, told.nanoseconds) = 1, divmod(number("time_ns", packet.time_ns, 94), 10**9)
+        return text(lib.etherpeel_format, words, len(words), number("number", count, 64), C.byref(told))[:-1]
 
 
 # ---- filters

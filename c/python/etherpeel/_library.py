@@ -34,6 +34,7 @@ class Status(IntEnum):
     TOO_MANY_TAGS = 19
     SEALED = 20
     STAYS = 21  # of the calls for a switch, which only C has
+    BAD_FORMAT = 22
 
 
 class Error(ValueError):
@@ -125,6 +126,10 @@ def load(path):
     declare(lib, "capture", [C.c_void_p, size, C.POINTER(Captured), size, C.POINTER(size), C.POINTER(CaptureEnd)])
     declare(lib, "capture_fault_text", [C.c_void_p, size, C.c_void_p, size, C.POINTER(size)])
     declare(lib, "captured_frame", [C.POINTER(Captured), C.POINTER(Frame)])
+    declare(lib, "format", [C.c_char_p, size, size, C.POINTER(Captured), C.c_void_p, size, C.POINTER(size)])
+    declare(lib, "field_text", [u32, u32, C.c_void_p, size, C.POINTER(size)])
+    declare(lib, "field_kind", [u32])
+    declare(lib, "number_name", [u32, u64, C.c_void_p, size, C.POINTER(size)])
     declare(lib, "filter_parse", [C.c_char_p, size, C.POINTER(Filter), C.POINTER(FilterError)])
     declare(lib, "filter_matches", [C.POINTER(Filter), C.POINTER(Captured)])
     declare(lib, "filter_select", [C.POINTER(Filter), C.POINTER(Captured), size, C.POINTER(u8), size])
@@ -168,10 +173,13 @@ def required(status):
         raise Error(Status(status).name)
 
 
-def text(call, *words):
-    """The text that a call with these words writes."""
-    target, count = C.create_string_buffer(512), C.c_size_t()
-    required(call(*words, target, len(target), C.byref(count)))
+def text(call, *words, room=512):
+    """The text that a call with these words writes. It is called again if there is not enough room."""
+    target, count = C.create_string_buffer(room), C.c_size_t()
+    status = call(*words, target, room, C.byref(count))
+    if status == Status.NO_ROOM:
+        return text(call, *words, room=count.value)
+    required(status)
     return target.raw[:count.value].decode("ascii")
 
 

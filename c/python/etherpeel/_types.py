@@ -4,7 +4,7 @@ from __future__ import annotations
 from enum import IntEnum
 from typing import List, NamedTuple, Optional, Tuple, Type, TypeVar, Union
 
-from ._library import Error, Status, number
+from ._library import Error, Status, lib, number, text
 
 Buffer = Union[bytes, bytearray, memoryview]
 WritableBuffer = Union[bytearray, memoryview]
@@ -129,9 +129,39 @@ class FilterErrorKind(IntEnum):
     """After `vlan`: a number up to `greatest`, `and`, `or`, `)` or the end of the text is expected."""
 
 
+class FieldKind(IntEnum):
+    """What the value of a field is."""
+
+    NUMBER = 1
+    """A number."""
+    FLAG = 2
+    """A bit, 1 if it is set."""
+    TRUTH = 3
+    """Whether something holds; no field has it, but columns do."""
+    ETHER_TYPE = 4
+    """An ether type, or another protocol number in its place."""
+    HARDWARE_TYPE = 5
+    """A hardware type of ARP, or the ARPHRD_ number of a cooked capture."""
+    PACKET_TYPE = 6
+    """How a packet of a cooked capture was sent."""
+    OPERATION = 7
+    """An operation of ARP."""
+    LINK_TYPE = 8
+    """A link type of captures; no field has it, but a column does."""
+    BYTES = 9
+    """Bytes, as those of an address."""
+    PROTOCOL_ADDRESS = 10
+    """An address of the protocol of an ARP packet: of IPv4, or another one."""
+    WORD = 11
+    """One of some words; no field has it, but columns do."""
+    TIME = 12
+    """A time; no field has it, but a column does."""
+
+
 class FieldName(IntEnum):
     """The name of a field, in the words of the standard of its header."""
 
+    # by number, as fields.py writes them
     ETHERNET2_DESTINATION = 1
     ETHERNET2_SOURCE = 2
     ETHERNET2_ETHER_TYPE = 3
@@ -173,6 +203,26 @@ class FieldName(IntEnum):
     LINUX_SLL2_PACKET_TYPE = 39
     LINUX_SLL2_ADDRESS_LEN = 40
     LINUX_SLL2_ADDRESS = 41
+
+    @property
+    def column(self) -> str:
+        """Its name as a column, as `vlan.vid`."""
+        return text(lib.etherpeel_field_text, self, 1)
+
+    @property
+    def title(self) -> str:
+        """What its standard calls it, as `VLAN identifier`."""
+        return text(lib.etherpeel_field_text, self, 2)
+
+    @property
+    def abbreviation(self) -> str:
+        """The abbreviation of its standard, as `VID`; "" if there is none."""
+        return text(lib.etherpeel_field_text, self, 3)
+
+    @property
+    def kind(self) -> FieldKind:
+        """What its value is."""
+        return FieldKind(lib.etherpeel_field_kind(self))
 
 
 # ---- results

@@ -1,10 +1,11 @@
 //! What callers know of the derived traits, at each type of `ether_text`. These functions are proved and never run.
 ghost use Rattle.std.specs.Prelude.{◌≡◌, ◌↔◌, IsTrue};
 
+use ether_output::OutputFault;
 use ether_text::tool::command::Command;
 use ether_text::tool::mode::{Mode, Usage};
 use ether_text::tool::outcome::{LastLine, ToolFault};
-use ether_text::{InputFault, OutputFault, Verdict};
+use ether_text::{InputFault, Verdict};
 
 /// A clone is `Ok` and equals its source.
 pub fn clones()

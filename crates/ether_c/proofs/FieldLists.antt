@@ -4,7 +4,7 @@ use Rattle.std.proofs.lemmas.List.{append_assoc, append-nil, length-append, leng
 use Rattle.etherparse.specs.Header.{Header, header_len}
 use Rattle.etherparse.specs.Header as headers
 use Rattle.ether_c.specs.declared.ether_field.EtherField.{EtherField}
-use Rattle.ether_c.specs.FieldTables.{header_fields, trailer_fields}
+use Rattle.ether_fields.specs.Units.{header_fields, trailer_fields}
 use Rattle.ether_c.specs.FieldViews.{put_all, c_placed_fields}
 use Rattle.ether_c.proofs.UnitsGiven.{Holds, put_next}
 

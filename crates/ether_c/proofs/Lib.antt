@@ -4,7 +4,6 @@ pub mod Addresses
 pub mod BuiltTags
 pub mod BuiltParts
 pub mod Marks
-pub mod BitNumbers
 pub mod FieldLists
 pub mod FieldsGiven
 pub mod ReceivedGiven

@@ -1,22 +1,20 @@
 -- The units of a walk that is under way, in an array.
 use Rattle.std.proofs.Common.{◌≡◌, ℕ, ◌+◌, ◌-◌, ◌<◌, ◌≤◌, suc, List, [], ◌∷◌, ◌++◌, length, take, drop, set, false, refl, sym, ap, subst, ◌∙◌, arith, rules}
-use Rattle.std.specs.Prelude.{Some, None, Err}
+use Rattle.std.specs.Prelude.{Option, Some, Result, Ok}
 use Rattle.std.proofs.Math.Seq.{take-nil, set_out, set-append_seam}
 use Rattle.std.proofs.lemmas.List.{append_assoc, append-nil, length-append, drop-drop, take_all, drop_all, take-append-le, length-take-le, length-drop}
 use Rattle.std.proofs.lemmas.Bool.{cases_lt}
 use Rattle.etherparse.specs.Bytes.{IsBytes}
 use Rattle.etherparse.specs.Header.{Header, header_len}
-use Rattle.etherparse.proofs.SubLists.{length-part, IsBytes-part}
+use Rattle.etherparse.proofs.SubLists.{length-part}
 use Rattle.ether_peel.specs.Grammar.Window.{Window, within, payload}
 use Rattle.ether_peel.specs.Grammar.Expectation.{Expectation}
 use Rattle.ether_peel.specs.Grammar.Stack.{Ending, whole, Walk}
 use Rattle.ether_peel.specs.Walker.State.{State}
-use Rattle.ether_peel.specs.Walker.Next.{Faces, ShowsUnit, Gives}
+use Rattle.ether_peel.specs.Walker.Next.{Faces, Gives}
 use Rattle.ether_peel.specs.declared.peel_unit.PeelUnit.{PeelUnit}
 use Rattle.ether_peel.specs.declared.peel_fault.PeelFault.{PeelFault}
-use Rattle.ether_peel.proofs.Walker.UnitHeaders.{unit_header-shown}
-use Rattle.ether_peel.proofs.Walker.Summarizing.{UnitNext, fault_next, none_next}
-use Rattle.ether_peel.proofs.Grammar.Stacks.{one_stack}
+use Rattle.ether_peel.proofs.Walker.UnderWay.{UnderWay, under_way_first, Passes, passes, passes_header, passed_headers, under_way_next, only, NoUnit, stops}
 use Rattle.ether_c.specs.declared.ether_unit.EtherUnit.{EtherUnit}
 use Rattle.ether_c.specs.Units.{c_unit, c_units}
 use Rattle.ether_peel.specs.Walker.UnitHeader.{unit_header}
@@ -63,50 +61,48 @@ put_next front old mid u count counted held = search (rules, cases_lt, filled, f
 
 pub record GivesSoFar (start : Expectation) (list : List ℕ) (s : State) (count : ℕ) (old new : List EtherUnit) : Type
     0 where
-  pub headers : List Header
-  pub ending : Ending
-  pub walk : Walk start list headers ending
-  pub window : Window
-  pub left : List Header
-  pub faces : Faces list window s left ending
-  pub going : s.over ≡ false
+  pub way : UnderWay start list s
   pub front : List EtherUnit
-  pub parts : c_units (whole start list) headers ≡ front ++ c_units window left
+  pub parts : c_units (whole start list) (way.done ++ way.left) ≡ front ++ c_units way.window way.left
   pub counted : count ≡ length front
   pub holds : Holds front old new count
 
 pub gives_first : (start : Expectation) (list : List ℕ) (s : State) (old : List EtherUnit) (hs : List Header)
     (e : Ending) → Walk start list hs e → Faces list (whole start list) s hs e → s.over ≡ false
     → GivesSoFar start list s 0 old old
-gives_first start list s old hs e walk faces going = search (rules, take-nil)
+unfolding under_way_first
+gives_first start list s old hs e walk faces going = record {
+  way = under_way_first start list s hs e walk faces going;
+  front = [];
+  parts = refl;
+  counted = refl;
+  holds = search (rules, take-nil);
+}
 
 -- ---- a unit
 
 -- the unit that is given, and its places
-pub record UnitGiven (list : List ℕ) (w : Window) (left : List Header) (e : Ending) (s t : State) (u : PeelUnit) : Type
-    0 where
-  pub next : UnitNext list w left e s t u
+pub record UnitGiven (start : Expectation) (list : List ℕ) (s t : State) (u : PeelUnit) (way : UnderWay start list s)
+    : Type 0 where
+  pub next : Passes start list s t u way
   pub header : unit_header u ≡ next.header
   pub after : s.offset + header_len (unit_header u) ≡ t.offset
-  pub given : c_view u s.offset t.offset (t.offset + length t.rest) t.closed ≡ c_unit w next.header
+  pub given : c_view u s.offset t.offset (t.offset + length t.rest) t.closed ≡ c_unit way.window next.header
 
-same_end : (list : List ℕ) (w : Window) (s : State) (hs : List Header) (e : Ending) → Faces list w s hs e
+pub same_end : (list : List ℕ) (w : Window) (s : State) (hs : List Header) (e : Ending) → Faces list w s hs e
     → s.offset + length s.rest ≡ w.finish
 same_end list w s hs e faces = search (rules, length-part)
 
-pub unit_given : (list : List ℕ) (w : Window) (left : List Header) (e : Ending) (s t : State) (u : PeelUnit)
-    → IsBytes list → Faces list w s left e → UnitNext list w left e s t u → UnitGiven list w left e s t u
-unit_given list w left e s t u ok faces n =
-    let own = subst (λ (l : List Header). Faces list w s l e) n.parts faces in
-    let unit = own.stack.0 in
-    let shows = subst (λ (l : List ℕ). ShowsUnit l t.rest n.header u) own.rest n.shows in
-    let same =
-    unit_header-shown (within list w) t.rest n.header u (IsBytes-part w.start w.finish list ok) unit.means shows
-    in
+pub unit_given : (start : Expectation) (list : List ℕ) (s t : State) (u : PeelUnit) (way : UnderWay start list s)
+    → IsBytes list → Gives s (Some (Ok u)) t → UnitGiven start list s t u way
+unit_given start list s t u way ok gives =
+    let n = passes start list s t u way gives in
+    let w = way.window in
+    let same = passes_header start list s t u way n ok in
     let inner = n.faces in
-    let from = own.offset in
+    let from = way.faces.offset in
     let to = inner.offset in
-    let end = same_end list (payload w n.header) t n.later e inner in
+    let end = same_end list (payload w n.header) t n.later way.ending inner in
     let mark = inner.closed in
     let places : c_view u s.offset t.offset (t.offset + length t.rest) t.closed
     ≡ c_placed n.header w.start (payload w n.header).start (payload w n.header).finish
@@ -123,24 +119,21 @@ unit_given list w left e s t u ok faces n =
 
 pub gives_unit : (start : Expectation) (list : List ℕ) (s t : State) (u : PeelUnit) (count : ℕ)
     (old mid new : List EtherUnit) (given : EtherUnit) (a : GivesSoFar start list s count old mid)
-    (n : UnitGiven list a.window a.left a.ending s t u)
+    (n : UnitGiven start list s t u a.way)
     → given ≡ c_view u s.offset t.offset (t.offset + length t.rest) t.closed → new ≡ set mid count given
     → GivesSoFar start list t (count + 1) old new
+unfolding under_way_next
 gives_unit start list s t u count old mid new given a n is put =
     let h = n.next.header in
-    let unit = c_unit a.window h in
-    let later = c_units (payload a.window h) n.next.later in
+    let w = a.way.window in
+    let unit = c_unit w h in
+    let later = c_units (payload w h) n.next.later in
     let counted = a.counted in
     record {
-      headers = a.headers;
-      ending = a.ending;
-      walk = a.walk;
-      window = payload a.window h;
-      left = n.next.later;
-      faces = n.next.faces;
-      going = n.next.going;
+      way = under_way_next start list s t u a.way n.next;
       front = a.front ++ unit ∷ [];
-      parts = a.parts ∙ ap (λ (l : List Header). a.front ++ c_units a.window l) n.next.parts
+      parts = ap (c_units (whole start list)) (sym (passed_headers start list s t u a.way n.next))
+          ∙ a.parts ∙ ap (λ (l : List Header). a.front ++ c_units w l) n.next.parts
           ∙ sym (append_assoc a.front (unit ∷ []) later);
       counted = let e = length-append a.front (unit ∷ []) in omega arith;
       holds = put ∙ ap (set mid count) (is ∙ n.given) ∙ put_next a.front old mid unit count a.counted a.holds;
@@ -153,20 +146,23 @@ length-given w [] = refl
 length-given w (h ∷ hs) = ap suc (length-given (payload w h) hs)
 
 gives_end : (start : Expectation) (list : List ℕ) (s : State) (count : ℕ) (old new : List EtherUnit)
-    (a : GivesSoFar start list s count old new) → a.left ≡ [] → GivesUnits start list old new count
-gives_end start list s count old new a none = search (rules, append-nil, one_stack, length-given)
+    (a : GivesSoFar start list s count old new) → a.way.left ≡ [] → GivesUnits start list old new count
+gives_end start list s count old new a none =
+    let way = a.way in
+    let all = way.done ++ way.left in
+    let parts =
+    a.parts ∙ ap (λ (l : List Header). a.front ++ c_units way.window l) none ∙ append-nil a.front in
+    record {
+      headers = all;
+      ending = way.ending;
+      walk = way.walk;
+      one = only start list s way;
+      counted = a.counted ∙ ap length (sym parts) ∙ length-given (whole start list) all;
+      units = a.holds ∙ ap (λ (l : List EtherUnit). take (length old) l ++ drop count old) (sym parts);
+    }
 
-pub gives_fault : (start : Expectation) (list : List ℕ) (s t : State) (count : ℕ) (f : PeelFault)
-    (old new : List EtherUnit) → GivesSoFar start list s count old new → Gives s (Some (Err f)) t
-    → GivesUnits start list old new count
-gives_fault start list s t count f old new a gives =
-    gives_end start list s count old new a
-    (fault_next list a.window a.left a.ending s t f
-    (gives.next a.going list a.window a.left a.ending a.faces)).none_left
-
-pub gives_none : (start : Expectation) (list : List ℕ) (s t : State) (count : ℕ) (old new : List EtherUnit)
-    → GivesSoFar start list s count old new → Gives s None t → GivesUnits start list old new count
-gives_none start list s t count old new a gives =
-    gives_end start list s count old new a
-    (none_next list a.window a.left a.ending s t
-    (gives.next a.going list a.window a.left a.ending a.faces)).none_left
+pub gives_last : (start : Expectation) (list : List ℕ) (s t : State) (r : Option (Result PeelUnit PeelFault))
+    (count : ℕ) (old new : List EtherUnit)
+    → GivesSoFar start list s count old new → NoUnit r → Gives s r t → GivesUnits start list old new count
+gives_last start list s t r count old new a none gives =
+    gives_end start list s count old new a (stops start list s t r a.way none gives).none_left

@@ -5,7 +5,7 @@ use Rattle.ether_base.specs.Formats.LinuxSllProtocolType.{told_ether_type}
 use Rattle.ether_sll2.specs.LinuxSll2.{LinuxSll2Value, BeginsLinuxSll2, LinuxSll2Refusal, Short, PacketType, RefusesLinuxSll2, AcceptsLinuxSll2, protocol_on}
 use Rattle.ether_c.specs.declared.ether_field.EtherField.{EtherField}
 use Rattle.ether_c.specs.declared.ether_linux_sll2.EtherLinuxSll2.{EtherLinuxSll2}
-use Rattle.ether_c.specs.FieldTables.{linux_sll2_fields}
+use Rattle.ether_fields.specs.Units.{linux_sll2_fields}
 use Rattle.ether_c.specs.Fields.{c_field, Fronts}
 use Rattle.ether_c.specs.Numbers.{done}
 use Rattle.ether_c.specs.Captured.{short}

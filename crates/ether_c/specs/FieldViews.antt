@@ -2,8 +2,9 @@
 use Rattle.std.specs.Prelude.{ℕ, ◌+◌, ◌*◌, ◌≤◌, List, [], ◌∷◌, ◌++◌, length, map, slice_set}
 use Rattle.etherparse.specs.Header.{Header}
 use Rattle.ether_c.specs.declared.ether_field.EtherField.{EtherField}
-use Rattle.ether_c.specs.declared.field_place.FieldPlace.{FieldPlace}
-use Rattle.ether_c.specs.FieldTables.{moved, header_fields, trailer_fields}
+use Rattle.ether_fields.specs.declared.field_place.FieldPlace.{FieldPlace}
+use Rattle.ether_fields.specs.Units.{header_fields, trailer_fields}
+use Rattle.ether_c.specs.FieldTables.{moved}
 use Rattle.ether_c.specs.Fields.{c_field}
 
 -- an array after elements were written from an index on, as far as it has these indexes

@@ -5,8 +5,9 @@ use Rattle.ether_peel.specs.Grammar.Expectation.{Expectation}
 use Rattle.ether_peel.specs.Grammar.Stack.{Ending, whole, Walk}
 use Rattle.ether_peel.specs.Grammar.Window.{Window, payload}
 use Rattle.ether_c.specs.declared.ether_field.EtherField.{EtherField}
-use Rattle.ether_c.specs.declared.field_place.FieldPlace.{FieldPlace}
-use Rattle.ether_c.specs.FieldTables.{bits_number, unit_fields}
+use Rattle.ether_fields.specs.declared.field_place.FieldPlace.{FieldPlace}
+use Rattle.ether_fields.specs.Places.{bits_number}
+use Rattle.ether_c.specs.FieldTables.{unit_fields}
 use Rattle.ether_c.specs.Numbers.{done}
 
 -- the number in up to 64 bits; 0 for more bits
@@ -21,7 +22,7 @@ c_field list unit f = record {
   bit_len = f.len;
   value = field_value list f.first f.len;
   unit = unit % 2 ^ 32;
-  name = f.name;
+  name = f.number;
 }
 
 -- the fields of the headers of a stack, each in the payload of the header before it; the first header is the unit with

@@ -15,8 +15,10 @@ pub mod CapturedFrame
 pub mod FieldTables
 pub mod Fields
 pub mod FieldViews
+pub mod FieldTexts
 pub mod CookedV2
 pub mod Passed
 pub mod Replacing
 pub mod Building
 pub mod Switching
+pub mod Formatting

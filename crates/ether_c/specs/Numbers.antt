@@ -1,5 +1,6 @@
 -- The numbers that stand for enumerations in C.
-use Rattle.std.specs.Prelude.{ℕ, Option, Some, None, nat_eq, if◌then◌else◌}
+use Rattle.std.specs.Prelude.{ℕ, List, [], ◌∷◌, Option, Some, None, nat_eq, if◌then◌else◌}
+use Rattle.std.specs.List.{find}
 use Rattle.etherparse.specs.Types.LenSource.{LenSource}
 use Rattle.etherparse.specs.Types.LenSource.TheVariants as sources
 use Rattle.etherparse.specs.Types.Layer.{Layer}
@@ -11,6 +12,8 @@ use Rattle.ether_peel.specs.declared.start.Start.{Start}
 use Rattle.ether_peel.specs.declared.start.Start.TheVariants as starts
 use Rattle.ether_peel.specs.declared.rest_kind.RestKind.{RestKind}
 use Rattle.ether_peel.specs.declared.rest_kind.RestKind.TheVariants as rests
+use Rattle.ether_fields.specs.declared.kind.Kind.{Kind}
+use Rattle.ether_fields.specs.declared.kind.Kind.TheVariants as kinds
 
 -- ---- what a call returns
 
@@ -79,3 +82,29 @@ len_source_number sources.Slice = 1
 len_source_number sources.MacsecShortLength = 2
 len_source_number sources.ArpAddrLengths = 3
 len_source_number _ = 0
+
+-- ---- fields
+
+-- what the value of a field is
+abbrev pub field_kind_number : Kind → ℕ
+field_kind_number kinds.Number = 1
+field_kind_number kinds.Flag = 2
+field_kind_number kinds.Truth = 3
+field_kind_number kinds.EtherType = 4
+field_kind_number kinds.HardwareType = 5
+field_kind_number kinds.PacketType = 6
+field_kind_number kinds.Operation = 7
+field_kind_number kinds.LinkType = 8
+field_kind_number kinds.Bytes = 9
+field_kind_number kinds.ProtocolAddress = 10
+field_kind_number kinds.Word = 11
+field_kind_number kinds.Time = 12
+
+abbrev pub field_kinds : List Kind
+field_kinds =
+    kinds.Number ∷ kinds.Flag ∷ kinds.Truth ∷ kinds.EtherType ∷ kinds.HardwareType ∷ kinds.PacketType
+    ∷ kinds.Operation ∷ kinds.LinkType ∷ kinds.Bytes ∷ kinds.ProtocolAddress ∷ kinds.Word ∷ kinds.Time ∷ []
+
+-- the kind with this number, if there is one
+abbrev pub field_kind_numbered : ℕ → Option Kind
+field_kind_numbered number = find (λ k. nat_eq (field_kind_number k) number) field_kinds

@@ -5,7 +5,8 @@ ghost use Rattle.std.specs.Prelude.{◌≡◌};
 
 use crate::field_putting::put_table;
 use crate::statuses::{BAD_PACKET_TYPE, DONE, SHORT};
-use crate::{EtherField, EtherLinuxSll2, field_place};
+use crate::{EtherField, EtherLinuxSll2};
+use ether_fields::{Part, Section, Sizes, places};
 use ether_sll2::{LinuxSll2Error, LinuxSll2Slice};
 
 /// Reads the header of a packet of Linux cooked capture v2, and how the walk of its payload starts.
@@ -37,7 +38,8 @@ pub extern "C" fn etherpeel_linux_sll2_fields(
 {
     match LinuxSll2Slice::from_slice(bytes) {
         Ok(_) => {
-            *count = put_table(bytes, 0, 0, &field_place::linux_sll2(), fields, 0);
+            let table = places(Section::Sll2, &Part::Header(Sizes::NONE));
+            *count = put_table(bytes, 0, 0, table.as_slice(), fields, 0);
             DONE
         }
         Err(error) => refusal_status(&error),

@@ -3,8 +3,8 @@ ghost use Rattle.std.specs.Prelude.{◌≡◌, ◌+◌, ◌*◌, ◌≤◌, leng
 ghost use Rattle.ether_c.specs.FieldTables.{moved};
 ghost use Rattle.ether_c.specs.Fields.{c_field};
 
-use crate::field_place::FieldPlace;
 use crate::field_value::field_value;
+use ether_fields::FieldPlace;
 
 /// A field of a header: `etherpeel_field` in C.
 ///
@@ -38,7 +38,7 @@ impl EtherField {
             bit_len: place.len,
             value: field_value(bytes, start + place.first / 8, place.first % 8, place.len),
             unit: (unit % 0x1_0000_0000) as u32,
-            name: place.name,
+            name: place.number,
         }
     }
 }

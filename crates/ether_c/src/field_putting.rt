@@ -3,7 +3,7 @@ ghost use Rattle.std.specs.Prelude.{◌≡◌, ◌+◌, ◌<◌, ◌^◌, length
 ghost use Rattle.ether_c.specs.FieldViews.{put_all, AreIn, c_table};
 
 use crate::EtherField;
-use crate::field_place::FieldPlace;
+use ether_fields::FieldPlace;
 
 /// Writes the fields of a table, in what starts at a byte of the frame, to an array from an index on, and returns the
 /// index after them.

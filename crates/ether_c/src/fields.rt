@@ -4,14 +4,15 @@ ghost use Rattle.etherparse.specs.Header.{header_len, trailer_len};
 ghost use Rattle.ether_peel.specs.Walker.Start.{start_of as start_meant};
 ghost use Rattle.ether_c.specs.Starts.{IsUnknown, IsUnknownStart, OfStart};
 ghost use Rattle.ether_peel.specs.Walker.UnitHeader.{unit_header};
-ghost use Rattle.ether_c.specs.FieldTables.{header_fields, trailer_fields};
+ghost use Rattle.ether_fields.specs.Units.{header_fields, trailer_fields};
 ghost use Rattle.ether_c.specs.Fields.{GivesFields, HasFields};
 ghost use Rattle.ether_c.specs.FieldViews.{put_all, AreIn, c_table, c_placed_fields};
 
+use crate::EtherField;
 use crate::field_putting::put_table;
 use crate::numbers::start_of;
 use crate::statuses::{DONE, UNKNOWN_START};
-use crate::{EtherField, field_place};
+use ether_fields::{Part, Section, places, section_of, sizes_of};
 use ether_peel::{Peel, PeelUnit, Start};
 
 /// Writes as many fields of a frame's headers as the array has room for, and the number of all its fields. An address
@@ -88,14 +89,17 @@ fn put_unit(
 {
     let next = put_header(bytes, unit, place, fields, at);
     match unit {
-        PeelUnit::Ethernet2(frame) if frame.fcs().is_some() => put_table(
-            bytes,
-            place.index,
-            place.payload_end,
-            &field_place::check_sequence(),
-            fields,
-            next,
-        ),
+        PeelUnit::Ethernet2(frame) if frame.fcs().is_some() => {
+            let table = places(Section::Eth, &Part::Trailer);
+            put_table(
+                bytes,
+                place.index,
+                place.payload_end,
+                table.as_slice(),
+                fields,
+                next,
+            )
+        }
         _ => next,
     }
 }
@@ -114,21 +118,13 @@ fn put_header(
         (c_table bytes.now place.index place.start (header_fields (unit_header unit.now))) }
     ensures next { result ≡ at + length (header_fields (unit_header unit.now)) }
 {
-    let NumberedUnit { index, start, .. } = place;
-    match unit {
-        PeelUnit::Ethernet2(_) => {
-            put_table(bytes, index, start, &field_place::ethernet2(), fields, at)
-        }
-        PeelUnit::LinuxSll(_) => {
-            put_table(bytes, index, start, &field_place::linux_sll(), fields, at)
-        }
-        PeelUnit::Vlan(_) => put_table(bytes, index, start, &field_place::vlan(), fields, at),
-        PeelUnit::Macsec(packet) => {
-            let table = field_place::macsec(&packet.header);
-            put_table(bytes, index, start, table.as_slice(), fields, at)
-        }
-        PeelUnit::Arp(packet) => {
-            put_table(bytes, index, start, &field_place::arp(packet), fields, at)
-        }
-    }
+    let table = places(section_of(unit), &Part::Header(sizes_of(unit)));
+    put_table(
+        bytes,
+        place.index,
+        place.start,
+        table.as_slice(),
+        fields,
+        at,
+    )
 }

@@ -1,7 +1,8 @@
 //! The numbers that stand for enumerations in C.
 ghost use Rattle.std.specs.Prelude.{◌≡◌};
-ghost use Rattle.ether_c.specs.Numbers.{start_numbered, rest_kind_number, rest_protocol_of, layer_number, len_source_number};
+ghost use Rattle.ether_c.specs.Numbers.{start_numbered, rest_kind_number, rest_protocol_of, layer_number, len_source_number, field_kind_number, field_kind_numbered};
 
+use ether_fields::Kind;
 use ether_peel::{RestKind, Start};
 use etherparse::err::Layer;
 use etherparse::{EtherType, LenSource, LinuxSllProtocolType};
@@ -76,5 +77,46 @@ pub(crate) fn len_source(source: LenSource) -> u32
         LenSource::MacsecShortLength => 2,
         LenSource::ArpAddrLengths => 3,
         _ => 0,
+    }
+}
+
+/// The number of what the value of a field is.
+pub(crate) fn field_kind(kind: Kind) -> u32
+    ensures { result ≡ field_kind_number kind }
+{
+    match kind {
+        Kind::Number => 1,
+        Kind::Flag => 2,
+        Kind::Truth => 3,
+        Kind::EtherType => 4,
+        Kind::HardwareType => 5,
+        Kind::PacketType => 6,
+        Kind::Operation => 7,
+        Kind::LinkType => 8,
+        Kind::Bytes => 9,
+        Kind::ProtocolAddress => 10,
+        Kind::Word => 11,
+        Kind::Time => 12,
+    }
+}
+
+/// What the value of a field is, by its number; `None` if there is none.
+pub(crate) fn field_kind_of(number: u32) -> Option<Kind>
+    ensures { result ≡ field_kind_numbered number }
+{
+    match number {
+        1 => Some(Kind::Number),
+        2 => Some(Kind::Flag),
+        3 => Some(Kind::Truth),
+        4 => Some(Kind::EtherType),
+        5 => Some(Kind::HardwareType),
+        6 => Some(Kind::PacketType),
+        7 => Some(Kind::Operation),
+        8 => Some(Kind::LinkType),
+        9 => Some(Kind::Bytes),
+        10 => Some(Kind::ProtocolAddress),
+        11 => Some(Kind::Word),
+        12 => Some(Kind::Time),
+        _ => None,
     }
 }

@@ -13,7 +13,7 @@ pub(crate) const UNKNOWN_START: u32 = 1;
 /// The target is too short. It was not written to.
 pub(crate) const NO_ROOM: u32 = 2;
 
-/// The text can't be made. Nothing was written.
+/// The text can't be made, or there is none. Nothing was written.
 pub(crate) const NO_TEXT: u32 = 3;
 
 /// The frame does not begin with a link's header that can be read.
@@ -57,6 +57,9 @@ pub(crate) const SEALED: u32 = 20;
 
 /// The frame does not leave by the port.
 pub(crate) const STAYS: u32 = 21;
+
+/// The text names no format.
+pub(crate) const BAD_FORMAT: u32 = 22;
 
 /// The status for a VLAN tag that is not taken off, put in or changed.
 pub(crate) fn tag_error(error: &TagError) -> u32

@@ -1,4 +1,5 @@
 pub mod WrongWordLemmas
+pub mod OptionTableLemmas
 pub mod OptionsLemmas
 pub mod SeveralFilesLemmas
 pub mod CountTableLemmas

@@ -4,6 +4,7 @@ use Rattle.clap.specs.Words.{App, FailsBy, HasKind, HasMatchesOf, IsAmong, Row, 
 use Rattle.clap.specs.declared.error.Error.{Error}
 use Rattle.clap.specs.declared.error.kind.ErrorKind.{ErrorKind}
 use Rattle.clap.specs.declared.parser.matches.ArgMatches.{ArgMatches}
+use Rattle.ether_capture.specs.OptionTable.{all_options}
 use Rattle.ether_capture.specs.Options.{AskedValue, Asks, IsRefusedUsage, IsRequestOf, KindNames, MeansNothing, NamesRequest, RefusesAsked, RefusesKind, RefusesRows, RefusesWords, capture_app, clap_refuses, help, means_nothing, no_expression, no_memory, options, request_view, unfit, version}
 use Rattle.ether_stream.specs.declared.usage.Usage.{Usage}
 use Rattle.ether_capture.specs.declared.request.Asked.{Asked}
@@ -13,9 +14,11 @@ use Rattle.ether_capture.specs.declared.request.RequestError.TheVariants as reas
 
 -- the command is simple: `clap` says exactly what it finds, or how it fails
 free_app : is_simple_and_free capture_app ≡ true
+unfolding all_options
 free_app = refl
 
 simple_app : is_simple capture_app ≡ true
+unfolding all_options
 simple_app = refl
 
 -- what it finds

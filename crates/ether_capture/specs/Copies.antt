@@ -5,6 +5,7 @@ use Rattle.std.specs.declared.io.ErrorKind.{ErrorKind}
 use Rattle.std.specs.declared.io.ErrorKind.TheVariants as kinds
 use Rattle.ether_text.specs.Run.{IsEndless}
 use Rattle.ether_text.specs.declared.verdict.Verdict.{Verdict}
+use Rattle.ether_capture.specs.World.{Kept}
 use Rattle.ether_stream.specs.Run.{HasRun, HasNoMemory, OnStreamFault}
 use Rattle.ether_stream.specs.Task.{TaskValue}
 use Rattle.ether_stream.specs.declared.outcome.RunFault.{RunFault}
@@ -44,10 +45,8 @@ pub record HasCopied (can_read can_write : Type 0) (task : TaskValue) (before af
   pub is_file : MatchResult end (λ verdict. gets ≡ holds) (λ fault. gets ≡ had)
 
 -- .. or it can't get it, and is as it was
-abbrev pub IsCopied : (can_read can_write : Type 0) (can_keep : WriteFault → Type 0) → (task : TaskValue)
-    → (before after had gets : Option (List ℕ))
+abbrev pub IsCopied : (can_read : Type 0) → Kept → (task : TaskValue) → (before after had gets : Option (List ℕ))
     → Result (Result Verdict RunFault) WriteFault → Type 0
-IsCopied can_read can_write can_keep task before after had gets (Ok end) =
-    HasCopied can_read can_write task before after had gets end
-IsCopied can_read can_write can_keep task before after had gets (Err fault) =
-    (can_keep fault ⊎ can_write) × (gets ≡ had)
+IsCopied can_read k task before after had gets (Ok end) =
+    HasCopied can_read k.can_copy task before after had gets end
+IsCopied can_read k task before after had gets (Err fault) = (k.can_keep fault ⊎ k.can_copy) × (gets ≡ had)

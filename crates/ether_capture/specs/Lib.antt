@@ -1,5 +1,7 @@
 pub mod Captures
+pub mod World
 pub mod Copies
+pub mod OptionTable
 pub mod WrongWords
 pub mod Options
 pub mod Program

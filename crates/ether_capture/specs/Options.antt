@@ -1,10 +1,11 @@
 -- What the arguments ask for. `clap` defines which options words are, and which values these have.
 use Rattle.std.specs.Prelude.{◌≡◌, ◌≢◌, ◌⊎◌, ◌≤◌, ℕ, List, [], ◌∷◌, ◌++◌, length, map, codes, Bool, true, false, if◌then◌else◌, ◌&&◌, ◌||◌, not, Option, Some, None, unwrap_or, ⊤}
 use Rattle.std.specs.Int.NonZero.{non_zero_usize_get}
+use Rattle.std.specs.List.{filter}
 use Rattle.std.specs.Option.{option_and_then, option_map, option_map_or, is_some}
 use Rattle.std.specs.Str.{bytes_eq}
 use Rattle.clap.specs.Words.{App, IsAmong, Row, Rule, Text, all_of, fault_of, first_of, matches_of, new_app, new_rule}
-use Rattle.clap.specs.declared.builder.action.ArgAction.TheVariants.{Append, Set, SetTrue}
+use Rattle.clap.specs.declared.builder.action.ArgAction.TheVariants.{Append}
 use Rattle.clap.specs.declared.error.kind.ErrorKind.{ErrorKind}
 use Rattle.clap.specs.declared.error.kind.ErrorKind.TheVariants.{DisplayHelp, DisplayVersion, OutOfMemory}
 use Rattle.ether_filter.specs.Expressions.{Expression}
@@ -28,7 +29,8 @@ use Rattle.ether_stream.specs.declared.usage.Usage.{Usage}
 use Rattle.ether_stream.specs.declared.usage.Usage.TheVariants as usages
 use Rattle.ether_stream.specs.declared.usage.ValueOption.TheVariants as value_options
 use Rattle.ether_stream.specs.Task.{TaskValue, FormValue, Lines, Copy, task_view}
-use Rattle.ether_capture.specs.WrongWords.{IsUsageOf, flag_names, option_names}
+use Rattle.ether_capture.specs.OptionTable.{all_options, is_added, option_rule}
+use Rattle.ether_capture.specs.WrongWords.{IsUsageOf}
 use Rattle.ether_capture.specs.declared.request.Asked.{Asked}
 use Rattle.ether_capture.specs.declared.request.Heading.{Heading}
 use Rattle.ether_capture.specs.declared.request.Heading.TheVariants.{Absent, Line, Statistics}
@@ -94,28 +96,14 @@ statistics_asked request = statistics_in (heading_in request)
 
 -- ---- the program's options
 
--- an option without a value
-abbrev pub flag_rule : (name : Text) → Rule
-flag_rule name = record (new_rule name) { long = Some name; action = Some SetTrue }
-
--- .. with a value
-abbrev pub option_rule : (name : Text) → Rule
-option_rule name = record (new_rule name) { long = Some name; action = Some Set }
-
--- an option that is one letter, with a value
-abbrev pub letter_rule : (name : Text) → (letter : ℕ) → Rule
-letter_rule name letter = record (new_rule name) { short = Some letter; action = Some Set }
-
 -- names of files
 abbrev pub file_rule : Rule
 file_rule = record (new_rule (codes "file")) { action = Some Append }
 
+-- the options of the table, but for `--help` and `--version`, which `clap` adds, and then names
 abbrev pub capture_rules : List Rule
-capture_rules = map flag_rule flag_names ++ (map option_rule option_names
-    ++ letter_rule (codes "count") 99 ∷ letter_rule (codes "read") 114 ∷ letter_rule (codes "output") 119
-    ∷ file_rule ∷ [])  -- the letters are c, r and w
+capture_rules = map option_rule (filter (λ o. not (is_added o.spelling)) all_options) ++ file_rule ∷ []
 
--- .. with `--help` and `--version`, which `clap` adds
 abbrev pub capture_app : App
 capture_app = let app =
     new_app (codes "ether_capture") in record app { top = record app.top { rules = capture_rules; has_version = true } }

@@ -5,19 +5,21 @@ use Rattle.std.specs.Io.KnownBytes.{Appends}
 use Rattle.ether_pcap.specs.Capture.{PacketValue}
 use Rattle.ether_pcap.specs.Copies.{Selected}
 use Rattle.ether_text.specs.Run.{IsEndless}
-use Rattle.ether_text.specs.declared.output_fault.OutputFault.{OutputFault}
+use Rattle.ether_output.specs.declared.output_fault.OutputFault.{OutputFault}
+use Rattle.ether_text.specs.declared.verdict.Verdict.{Verdict}
 use Rattle.ether_stream.specs.FrameLines.{if_selected, skip_count, totals_line_if}
 use Rattle.ether_capture.specs.Options.{ListingValue, named, names_input}
+use Rattle.ether_capture.specs.World.{Named, Reading, Streams}
 use Rattle.ether_stream.specs.Outcome.{status_of_file, text_of_file, text_of_input}
 use Rattle.ether_stream.specs.Packets.{counted, IsLeftOf}
 use Rattle.ether_stream.specs.Run.{HasRunOver, HasNoMemory, OnStreamFault}
 use Rattle.ether_stream.specs.Task.{TaskValue, Lines, IsChosen, IsOpen}
 use Rattle.ether_stream.specs.declared.counts.PacketCounts.{PacketCounts}
-use Rattle.ether_stream.specs.declared.open_fault.OpenFault.{OpenFault}
 use Rattle.ether_stream.specs.declared.selection.Selection.{Selection}
 use Rattle.ether_capture.specs.declared.several_files.Tally.{Tally}
 use Rattle.ether_stream.specs.declared.outcome.FileEnd.{FileEnd}
 use Rattle.ether_stream.specs.declared.outcome.FileEnd.TheVariants as ends
+use Rattle.ether_stream.specs.declared.outcome.RunFault.{RunFault}
 use Rattle.ether_stream.specs.declared.outcome.RunFault.TheVariants.{Output}
 
 -- before the first capture
@@ -50,34 +52,39 @@ pub record IsAfter (at : Tally) (counts : PacketCounts) (end : FileEnd) (next : 
   pub left : next.left ≡ counts.left
   pub status : next.status ≡ max at.status (status_of_file end)
 
--- A run over the capture in the file of this name has found these packets. Or it can't be opened, or memory was refused
--- before anything was read: then none is found, and nothing is written.
-abbrev pub HasEndedFile : (has : List ℕ → Option (List ℕ) → Type 0) (can_refuse : OpenFault → Type 0)
-    (can_read can_write : Type 0) → (task : TaskValue) → (name : List ℕ)
-    → List PacketValue → (held holds : Option (List ℕ)) → FileEnd → Type 0
-HasEndedFile has can_refuse can_read can_write task name packets held holds (ends.NotOpened fault) =
-    can_refuse fault × (packets ≡ []) × (holds ≡ held)
-HasEndedFile has can_refuse can_read can_write task name packets held holds (ends.Read end) =
-    (before after : Option (List ℕ)) × has name before
-    × (HasRunOver task packets before after held holds end ⊎ ((packets ≡ []) × HasNoMemory before after held holds end))
+-- A run over a capture, which had these bytes before and has those after, has found these packets. Or memory was
+-- refused before anything was read: then none is found, and nothing is written.
+abbrev pub HasFound : (can_read can_write : Type 0) → (task : TaskValue) → List PacketValue
+    → (before after held holds : Option (List ℕ)) → Result Verdict RunFault → Type 0
+HasFound can_read can_write task packets before after held holds end =
+    (HasRunOver task packets before after held holds end ⊎ ((packets ≡ []) × HasNoMemory before after held holds end))
     × IfErr end (λ fault. OnStreamFault fault (can_read ⊎ IsEndless before after) can_write)
 
--- .. over standard input, which had these bytes before and has those after
+-- .. over the capture in the file of this name; or that can't be opened, and nothing is written
+abbrev pub HasEndedFile : Named → (can_write : Type 0) → (task : TaskValue) → (name : List ℕ) → List PacketValue
+    → (held holds : Option (List ℕ)) → FileEnd → Type 0
+HasEndedFile n can_write task name packets held holds (ends.NotOpened fault) =
+    n.can_refuse fault × (packets ≡ []) × (holds ≡ held)
+HasEndedFile n can_write task name packets held holds (ends.Read end) =
+    (before after : Option (List ℕ)) × n.has name before
+    × HasFound n.can_read can_write task packets before after held holds end
+
+-- .. over standard input
 abbrev pub HasEndedInput : (can_fail can_write : Type 0) → (task : TaskValue) → List PacketValue
     → (before after held holds : Option (List ℕ)) → FileEnd → Type 0
 HasEndedInput can_fail can_write task packets before after held holds (ends.NotOpened fault) = ⊥
 HasEndedInput can_fail can_write task packets before after held holds (ends.Read end) =
-    (HasRunOver task packets before after held holds end ⊎ ((packets ≡ []) × HasNoMemory before after held holds end))
-    × IfErr end (λ fault. OnStreamFault fault (can_fail ⊎ IsEndless before after) can_write)
+    HasFound can_fail can_write task packets before after held holds end
 
--- .. over a file that is named, which leaves standard input as it was, or over standard input
-abbrev pub HasEnded : (has : List ℕ → Option (List ℕ) → Type 0) (can_fail : Type 0) (can_refuse : OpenFault → Type 0)
-    (can_read can_write : Type 0) → (task : TaskValue) → (name : Option (List ℕ)) → List PacketValue
-    → (before after held holds : Option (List ℕ)) → FileEnd → Type 0
-HasEnded has can_fail can_refuse can_read can_write task (Some name) packets before after held holds end =
-    (after ≡ before) × HasEndedFile has can_refuse can_read can_write task name packets held holds end
-HasEnded has can_fail can_refuse can_read can_write task None packets before after held holds end =
-    HasEndedInput can_fail can_write task packets before after held holds end
+-- .. over a file that is named, which leaves standard input as it was, or over standard input. No message is written.
+abbrev pub HasEnded : Reading → (task : TaskValue) → (name : Option (List ℕ)) → List PacketValue
+    → (before after : Streams) → FileEnd → Type 0
+HasEnded r task (Some name) packets before after end =
+    (after ≡ record before { output = after.output })
+    × HasEndedFile r.named r.can_write task name packets before.output after.output end
+HasEnded r task None packets before after end =
+    (after ≡ record before { input = after.input; output = after.output })
+    × HasEndedInput r.can_fail r.can_write task packets before.input after.input before.output after.output end
 
 -- why a capture was not read to its end
 abbrev pub text_of_capture : (name : Option (List ℕ)) → FileEnd → Option (List ℕ)
@@ -96,46 +103,39 @@ Tells can_tell (Some text) told tells = Appends told tells (text ++ codes "\n") 
 
 -- A capture was read: its lines are written, and nothing else. The line that says why it was not read to its end, if it
 -- was not, is written to the messages.
-pub record ReadsFile (has : List ℕ → Option (List ℕ) → Type 0) (can_fail : Type 0) (can_refuse : OpenFault → Type 0)
-    (can_read can_write can_tell : Type 0) (l : ListingValue) (name : List ℕ)
-    (at : Tally) (before held told : Option (List ℕ)) (next : Tally) (after holds tells : Option (List ℕ)) : Type 0
+pub record ReadsFile (r : Reading) (can_tell : Type 0) (l : ListingValue) (name : List ℕ) (at : Tally)
+    (before : Streams) (next : Tally) (after : Streams) : Type 0
   where
     pub packets : List PacketValue
     pub end : FileEnd
-    pub ended : HasEnded has can_fail can_refuse can_read can_write (next_task l at) (named name) packets before after
-        held holds end
+    pub mid : Streams
+    pub ended : HasEnded r (next_task l at) (named name) packets before mid end
     pub going : end ≢ ends.Read (Err Output)
-    pub is_told : Tells can_tell (text_of_capture (named name) end) told tells
+    pub is_told : Tells can_tell (text_of_capture (named name) end) mid.messages after.messages
+    pub kept : after ≡ record mid { messages = after.messages }
     pub tallied : IsTallied l.select at packets end next
 
 -- Captures were read one after the other, up to the last one or until the requested number of packets was reached.
-pub data ReadsFiles (has : List ℕ → Option (List ℕ) → Type 0) (can_fail : Type 0) (can_refuse : OpenFault → Type 0)
-    (can_read can_write can_tell : Type 0) (l : ListingValue)
-    : (names : List (List ℕ)) → (at : Tally) → (before held told : Option (List ℕ)) → (last : Tally)
-    → (after holds tells : Option (List ℕ)) → Type 0 where
-  no_more : (at : Tally) (before held told : Option (List ℕ))
-      → ReadsFiles has can_fail can_refuse can_read can_write can_tell l [] at before held told at before held told
-  enough : (names : List (List ℕ)) (at : Tally) (before held told : Option (List ℕ)) → at.left ≡ Some 0
-      → ReadsFiles has can_fail can_refuse can_read can_write can_tell l names at before held told at before held told
-  next : (name : List ℕ) (names : List (List ℕ)) (at then last : Tally)
-      (before held told given mid between after holds tells : Option (List ℕ)) → at.left ≢ Some 0
-      → ReadsFile has can_fail can_refuse can_read can_write can_tell l name at before held told then given mid between
-      → ReadsFiles has can_fail can_refuse can_read can_write can_tell l names
-      then given mid between last after holds tells
-      → ReadsFiles has can_fail can_refuse can_read can_write can_tell l (name ∷ names) at before held told last after
-      holds tells
+pub data ReadsFiles (r : Reading) (can_tell : Type 0) (l : ListingValue)
+    : (names : List (List ℕ)) → (at : Tally) → (before : Streams) → (last : Tally) → (after : Streams) → Type 0 where
+  no_more : (at : Tally) (before : Streams) → ReadsFiles r can_tell l [] at before at before
+  enough : (names : List (List ℕ)) (at : Tally) (before : Streams) → at.left ≡ Some 0
+      → ReadsFiles r can_tell l names at before at before
+  next : (name : List ℕ) (names : List (List ℕ)) (at then last : Tally) (before mid after : Streams)
+      → at.left ≢ Some 0 → ReadsFile r can_tell l name at before then mid
+      → ReadsFiles r can_tell l names then mid last after
+      → ReadsFiles r can_tell l (name ∷ names) at before last after
 
 -- .. and the line of the totals of all of them is written. After a fault of the writer nothing is claimed, but that
--- standard input was read only if it is named.
-abbrev pub HasListed : (has : List ℕ → Option (List ℕ) → Type 0) (can_fail : Type 0) (can_refuse : OpenFault → Type 0)
-    (can_read can_write can_tell : Type 0) → (l : ListingValue)
-    → (before after held holds told tells : Option (List ℕ)) → Result ℕ OutputFault → Type 0
-HasListed has can_fail can_refuse can_read can_write can_tell l before after held holds told tells (Ok status) =
-    (last : Tally) × (mid : Option (List ℕ))
-    × ReadsFiles has can_fail can_refuse can_read can_write can_tell l l.files (nothing_read l.count) before held told
-    last after mid tells
-    × Appends mid holds
+-- standard input was read only if it is named, and that no file has changed.
+abbrev pub HasListed : Reading → (can_tell : Type 0) → (l : ListingValue) → (before after : Streams)
+    → Result ℕ OutputFault → Type 0
+HasListed r can_tell l before after (Ok status) =
+    (last : Tally) × (mid : Streams)
+    × ReadsFiles r can_tell l l.files (nothing_read l.count) before last mid
+    × Appends mid.output after.output
     (totals_line_if l.options.is_plain last.packets last.skipped (if_selected l.select last.undecided))
+    × (after ≡ record mid { output = after.output })
     × (status ≡ last.status)
-HasListed has can_fail can_refuse can_read can_write can_tell l before after held holds told tells (Err fault) =
-    can_write × (names_input l.files ≡ false → after ≡ before)
+HasListed r can_tell l before after (Err fault) =
+    r.can_write × (names_input l.files ≡ false → after.input ≡ before.input) × (after.files ≡ before.files)

@@ -9,11 +9,11 @@ use Rattle.std.specs.Map.{lookup}
 use Rattle.std.specs.Str.{bytes_eq}
 use Rattle.ether_capture.specs.KeyCounts.{count_of}
 use Rattle.ether_capture.specs.RowFields.{after_first, row_fields, lines_hits, lines_of}
-use Rattle.ether_text.specs.OutputBuffer.{Takes}
+use Rattle.ether_output.specs.OutputBuffer.{Takes}
 use Rattle.ether_capture.specs.declared.count.Count.{Count}
 use Rattle.ether_capture.specs.declared.statistics_format.StatisticsFormat.{StatisticsFormat}
 use Rattle.ether_capture.specs.declared.statistics_format.StatisticsFormat.TheVariants.{Text, Json}
-use Rattle.ether_text.specs.declared.output_buffer.OutputBuffer.{OutputBuffer}
+use Rattle.ether_output.specs.declared.output_buffer.OutputBuffer.{OutputBuffer}
 
 -- a key and its count
 pub record StatisticsRow : Type 0 where

@@ -1,35 +1,31 @@
 -- What is wrong with words that `clap` refuses.
-use Rattle.std.specs.Prelude.{◌≡◌, ◌==◌, ℕ, List, [], ◌∷◌, ◌++◌, ◌&&◌, ◌||◌, codes, Bool, true, false, not, Option, Some, None, if◌then◌else◌, is_some, length}
-use Rattle.std.specs.List.{list_any, slice_split}
+use Rattle.std.specs.Prelude.{◌≡◌, ◌==◌, ℕ, List, [], ◌∷◌, ◌&&◌, codes, Bool, true, false, not, Option, Some, None, if◌then◌else◌, is_some, length}
+use Rattle.std.specs.List.{find, slice_split}
+use Rattle.std.specs.Option.{option_map}
 use Rattle.std.specs.Str.{bytes_eq}
 use Rattle.clap.specs.Words.{Text}
+use Rattle.ether_capture.specs.OptionTable.{OptionValue, all_options, has_letter, is_word}
 use Rattle.ether_stream.specs.declared.usage.Usage.{Usage}
 use Rattle.ether_stream.specs.declared.usage.Usage.TheVariants as usages
 
--- the names of options without a value, and with one
-abbrev pub flag_names : List Text
-flag_names = codes "plain" ∷ codes "write" ∷ codes "cut-to-headers" ∷ codes "pop-vlan" ∷ codes "progress"
-    ∷ codes "header" ∷ codes "stats" ∷ []
+-- the first of options that is written by this name, or by this letter
+abbrev pub option_named : (name : Text) → List OptionValue → Option OptionValue
+option_named name = find (λ o. is_word o.spelling && bytes_eq o.name name)
 
-abbrev pub option_names : List Text
-option_names = codes "push-vlan" ∷ codes "set-vlan" ∷ codes "select" ∷ codes "undecided" ∷ codes "limit"
-    ∷ codes "format" ∷ codes "fields" ∷ []
-
-abbrev pub is_among : (names : List Text) → (name : Text) → Bool
-is_among names name = list_any (λ it. bytes_eq it name) names
+abbrev pub option_lettered : (letter : ℕ) → List OptionValue → Option OptionValue
+option_lettered letter = find (λ o. has_letter letter o.spelling)
 
 -- whether the value of an option has to be the next word, if there is such an option; its name is all of the word, or a
 -- value follows
-abbrev pub name_need : (name : Text) → (is_all : Bool) → Option Bool
-name_need name is_all =
-    if is_among (flag_names ++ codes "help" ∷ codes "version" ∷ []) name then Some false
-    else (if is_among option_names name then Some is_all else None)
+abbrev pub need_if : (is_all : Bool) → Option OptionValue → Option Bool
+need_if is_all = option_map (λ o. o.has_value && is_all)
 
--- .. if it is a letter: c, r and w have values, h and V have none
+abbrev pub name_need : (name : Text) → (is_all : Bool) → Option Bool
+name_need name is_all = need_if is_all (option_named name all_options)
+
+-- .. if it is a letter
 abbrev pub letter_need : (letter : ℕ) → (is_all : Bool) → Option Bool
-letter_need letter is_all =
-    if letter == 99 || (letter == 114 || letter == 119) then Some is_all
-    else (if letter == 104 || letter == 86 then Some false else None)
+letter_need letter is_all = need_if is_all (option_lettered letter all_options)
 
 -- .. by the words after `--`: its name, and what `=` (61) divides from it
 abbrev pub pieces_need : List Text → Option Bool

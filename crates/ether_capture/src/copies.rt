@@ -1,8 +1,8 @@
 //! What keeps copies by their names.
 ghost use Rattle.std.specs.Prelude.{◌≡◌, ℕ, List, Option, IfOk, IfErr, OnOk, OnErr};
 
+use ether_output::Sink;
 use ether_stream::WriteFault;
-use ether_text::Sink;
 
 /// What keeps copies by their names, as files do.
 ///

@@ -1,6 +1,7 @@
 //! A run whose copy goes to the file of its name.
 ghost use Rattle.ether_stream.specs.Task.{task_view};
 ghost use Rattle.ether_capture.specs.Copies.{IsCopied};
+ghost use Rattle.ether_capture.specs.World.{keeps, names};
 ghost use Rattle.ether_capture.specs.Program.{HasCopiedFile, HasCopiedInput};
 
 use crate::captures::Captures;
@@ -18,10 +19,9 @@ pub fn copy_input<'a, K: Copies, R: Source>(
     copies: &mut K,
     reader: &mut R,
 ) -> Outcome<'a>
-    ensures { HasCopiedInput R.can_fail K.Part.Sink.can_fail K.can_refuse (task_view task.now) output.entry.now
-        (R.remaining reader.old) (R.remaining reader.new) (K.file copies.old output.entry.now)
-        (K.file copies.new output.entry.now)
-        result }
+    ensures { HasCopiedInput R.can_fail (keeps K.can_refuse K.Part.Sink.can_fail) (task_view task.now)
+        output.entry.now (R.remaining reader.old) (R.remaining reader.new) (K.file copies.old output.entry.now)
+        (K.file copies.new output.entry.now) result }
 {
     match copy_to(task, None, output, alloc, copies, reader) {
         Ok(end) => Outcome::Run(end),
@@ -41,10 +41,9 @@ pub fn copy_file<'a, C: Captures, K: Copies>(
     captures: &C,
     copies: &mut K,
 ) -> Outcome<'a>
-    ensures { HasCopiedFile (C.has captures.now) C.can_refuse C.Input.Source.can_fail K.Part.Sink.can_fail K.can_refuse
-        (task_view task.now) name.entry.now output.entry.now (K.file copies.old output.entry.now)
-        (K.file copies.new output.entry.now)
-        result }
+    ensures { HasCopiedFile (names (C.has captures.now) C.can_refuse C.Input.Source.can_fail)
+        (keeps K.can_refuse K.Part.Sink.can_fail) (task_view task.now) name.entry.now output.entry.now
+        (K.file copies.old output.entry.now) (K.file copies.new output.entry.now) result }
 {
     let mut input = match captures.open_named(name) {
         Ok(input) => input,
@@ -69,8 +68,9 @@ fn copy_to<K: Copies, R: Source>(
     copies: &mut K,
     reader: &mut R,
 ) -> Result<Result<Verdict, RunFault>, WriteFault>
-    ensures { IsCopied R.can_fail K.Part.Sink.can_fail K.can_refuse (task_view task.now) (R.remaining reader.old)
-        (R.remaining reader.new) (K.file copies.old output.now) (K.file copies.new output.now) result }
+    ensures { IsCopied R.can_fail (keeps K.can_refuse K.Part.Sink.can_fail) (task_view task.now)
+        (R.remaining reader.old) (R.remaining reader.new) (K.file copies.old output.now) (K.file copies.new output.now)
+        result }
 {
     let mut part = copies.begin(output, input)?;
     let end = run_input(task, alloc, reader, &mut part).0;

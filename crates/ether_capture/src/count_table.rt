@@ -7,8 +7,8 @@ ghost use Rattle.ether_capture.specs.Statistics.{TakesStatistics};
 
 use crate::count::Count;
 use crate::statistics_format::{StatisticsFormat, write_statistic};
+use ether_output::{OutputBuffer, Sink};
 use ether_stream::NoMemory;
-use ether_text::{OutputBuffer, Sink};
 use std::alloc::Global;
 use std::collections::BTreeMap;
 

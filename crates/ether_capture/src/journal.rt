@@ -2,7 +2,7 @@
 ghost use Rattle.std.specs.Prelude.{◌≡◌, Bool, false, refl};
 ghost use Rattle.ether_capture.specs.Journal.{known_if};
 
-use ether_text::Sink;
+use ether_output::Sink;
 use std::io;
 
 /// A sink for the rows that are counted.

@@ -1,7 +1,8 @@
 //! The laws on counts, and a journal that is known. Neither is part of the program.
-ghost use Rattle.std.specs.Prelude.{◌≡◌, ℕ, List, Option, true};
+ghost use Rattle.std.specs.Prelude.{◌≡◌, true};
 ghost use Rattle.ether_capture.specs.Options.{RequestValue};
 ghost use Rattle.ether_capture.specs.Program.{HasCountedTexts, is_unwritten};
+ghost use Rattle.ether_capture.specs.World.{Streams, keeps, names, reads, world};
 ghost use Rattle.ether_capture.specs.Statistics.{StatisticsAreOne};
 ghost use Rattle.ether_capture.specs.declared.statistics_format.StatisticsFormat.{StatisticsFormat};
 ghost use Rattle.ether_stream.specs.declared.outcome.Outcome.{Outcome};
@@ -10,8 +11,9 @@ use crate::captures::Captures;
 use crate::copies::Copies;
 use crate::journal::Journal;
 use arrayvec::ArrayVec;
+use ether_output::Sink;
 use ether_stream::LineSink;
-use ether_text::{Sink, Source};
+use ether_text::Source;
 
 /// The rows of a text have one text of counts, and no second one.
 pub fn statistics_are_one()
@@ -22,13 +24,10 @@ pub fn statistics_are_one()
 pub fn counts_are_written<J: Journal, C: Captures, K: Copies, R: Source, W: Sink, M: LineSink>(
     _captures: &C,
 )
-    ensures { (format : StatisticsFormat) (request : RequestValue)
-        (before after held holds told tells : Option (List ℕ))
-        (had gets : List ℕ → Option (List ℕ)) (outcome : Outcome)
-        → HasCountedTexts (C.has _captures.now) R.can_fail C.can_refuse C.Input.Source.can_fail W.can_fail
-        M.Sink.can_fail
-        K.can_refuse K.Part.Sink.can_fail J.is_known format request before after held holds told tells had gets outcome
-        → is_unwritten outcome ≡ true → W.can_fail }
+    ensures { (format : StatisticsFormat) (request : RequestValue) (before after : Streams) (outcome : Outcome) →
+        HasCountedTexts (world (reads (names (C.has _captures.now) C.can_refuse C.Input.Source.can_fail) R.can_fail
+        W.can_fail) (keeps K.can_refuse K.Part.Sink.can_fail) M.Sink.can_fail J.is_known) format request before after
+        outcome → is_unwritten outcome ≡ true → W.can_fail }
 {}
 
 /// A journal that keeps all rows, as far as it has room. So what is proved of journals that are known holds for one.

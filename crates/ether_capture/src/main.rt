@@ -1,7 +1,7 @@
 //! Reads a capture of the classic pcap format or of pcapng, a file or standard input, and prints the lines of the walk
 //! of each packet, or copies the capture without some of its packets, to standard output or a file.
 //!
-//! `main` calls [`program::program`] on the arguments, the files and the standard streams. Lines and copies go to
+//! `main` calls [`program::run_program`] on the arguments, the files and the standard streams. Lines and copies go to
 //! standard output, and messages why something was not read or written go to standard error.
 #![tactic(auto)]
 
@@ -17,6 +17,7 @@ pub mod heap_text;
 pub mod interface_buffer;
 pub mod journal;
 pub mod laws;
+pub mod option_table;
 pub mod options;
 pub mod program;
 pub mod progress_line;
@@ -42,7 +43,7 @@ fn main(rt: HostRuntime) -> ExitCode {
     let gauge = Gauge::new(&rt, rt.stderr());
     let mut input = Noted::new(Meter::new(rt.reader(), None, &gauge));
     let mut output = Noted::new(io::writer(&rt));
-    let status = program::program::<io::Sink, _, _, _, _, _>(
+    let status = program::run_program::<io::Sink, _, _, _, _, _>(
         args,
         rt.alloc(),
         &CaptureFiles::new(&rt, &gauge),

@@ -4,8 +4,10 @@ ghost use Rattle.std.specs.Option.{option_map};
 ghost use Rattle.clap.specs.Words.{all_of, app_of, first_of, found_of, rows_of, rule_of};
 ghost use Rattle.ether_content.specs.Editing.{EditValue};
 ghost use Rattle.ether_content.specs.EditingViews.{edit_view};
-ghost use Rattle.ether_capture.specs.Options.{Asks, IsEdit, IsWrongEditOf, KindNames, NamesRequest, RefusesKind, RefusesRows, RefusesWords, asked_view, capture_app, file_rule, flag_rule, is_set, letter_rule, option_rule, request_view};
+ghost use Rattle.ether_capture.specs.Options.{Asks, IsEdit, IsWrongEditOf, KindNames, NamesRequest, RefusesKind, RefusesRows, RefusesWords, asked_view, capture_app, file_rule, is_set, request_view};
+ghost use Rattle.ether_capture.specs.OptionTable.{option_rule, option_view, with_option};
 
+use crate::option_table::{OptionRow, Spelling, all_options};
 use crate::request::{Asked, Request, RequestError, counted_of};
 use crate::wrong_words::usage_of;
 use clap::error::ErrorKind;
@@ -25,25 +27,35 @@ impl<'a> From<AllocError> for RequestError<'a> {
     }
 }
 
-/// An option without a value.
-fn flag<'a>(alloc: Global, name: &'a str) -> Arg<'a>
-    ensures { (rule_of result ≡ flag_rule name.entry.now) × (result.global ≡ false) }
+/// The argument of an option.
+fn argument<'a>(alloc: Global, row: &'static OptionRow<&'static str>) -> Arg<'a>
+    ensures { (rule_of result ≡ option_rule (option_view row.now)) × (result.global ≡ false) }
 {
-    Arg::new(alloc, name).long(name).action(ArgAction::SetTrue)
+    let arg = Arg::new(alloc, row.name);
+    let arg = match row.spelling {
+        Spelling::Name => arg.long(row.name),
+        Spelling::Letter(letter) => arg.short(letter),
+        Spelling::Both(letter) => arg.short(letter).long(row.name),
+    };
+    match row.value {
+        Some(_) => arg.action(ArgAction::Set),
+        None => arg.action(ArgAction::SetTrue),
+    }
 }
 
-/// An option with a value.
-fn option<'a>(alloc: Global, name: &'a str) -> Arg<'a>
-    ensures { (rule_of result ≡ option_rule name.entry.now) × (result.global ≡ false) }
+/// A command with the argument of an option, unless `clap` adds that.
+fn with_option<'a>(
+    command: Command<'a>,
+    alloc: Global,
+    row: &'static OptionRow<&'static str>,
+) -> Result<Command<'a>, AllocError>
+    ensures { IfOk result (λ it. app_of it ≡ with_option (app_of command.entry) (option_view row.now)) }
 {
-    Arg::new(alloc, name).long(name).action(ArgAction::Set)
-}
-
-/// An option that is one letter, with a value.
-fn letter<'a>(alloc: Global, name: &'a str, short: char) -> Arg<'a>
-    ensures { (rule_of result ≡ letter_rule name.entry.now short) × (result.global ≡ false) }
-{
-    Arg::new(alloc, name).short(short).action(ArgAction::Set)
+    if row.spelling.is_added() {
+        return Ok(command);
+    }
+    let command = command.arg(argument(alloc, row))?;
+    Ok(command)
 }
 
 /// The names of files.
@@ -57,40 +69,18 @@ fn files<'a>(alloc: Global) -> Arg<'a>
 fn command<'a>(alloc: Global) -> Result<Command<'a>, AllocError>
     ensures { IfOk result (λ it. app_of it ≡ capture_app) }
 {
-    let command = Command::new(alloc, "ether_capture")
-        .version("3.0.0")
-        .arg(flag(alloc, "plain"))?
-        .arg(flag(alloc, "write"))?
-        .arg(flag(alloc, "cut-to-headers"))?
-        .arg(flag(alloc, "pop-vlan"))?
-        .arg(flag(alloc, "progress"))?
-        .arg(flag(alloc, "header"))?
-        .arg(flag(alloc, "stats"))?
-        .arg(option(alloc, "push-vlan"))?
-        .arg(option(alloc, "set-vlan"))?
-        .arg(option(alloc, "select"))?
-        .arg(option(alloc, "undecided"))?
-        .arg(option(alloc, "limit"))?
-        .arg(option(alloc, "format"))?
-        .arg(option(alloc, "fields"))?
-        .arg(letter(alloc, "count", 'c'))?
-        .arg(letter(alloc, "read", 'r'))?
-        .arg(letter(alloc, "output", 'w'))?
-        .arg(files(alloc))?;
+    let mut command = Command::new(alloc, "ether_capture").version("3.0.0");
+    let mut rows = all_options();
+    while let [row, others @ ..] = rows {
+        command = with_option(command, alloc, row)?;
+        rows = others;
+    }
+    let command = command.arg(files(alloc))?;
     Ok(command)
 }
 
-/// What the program's arguments ask for. The first of them is its own name.
-///
-/// Options go before, between and after the names of files:
-///
-/// - for lines, `--plain`, `--limit` with a number of headers, `--format` with `lines`, `brief` or `json`, `--fields`
-///   with the names of columns, and with it `--header`, and `--stats`
-/// - for a copy, `--write`, or `-w` with the name of the copy, and with it one of `--cut-to-headers`, `--pop-vlan`,
-///   `--push-vlan` with a tag and `--set-vlan` with two identifiers
-/// - for both, `--select` with the text of a filter, and with it `--undecided` with `keep` or `drop`, `-c` with a
-///   number of packets, `-r` with the name of the only file, and `--progress`
-/// - `--help` and `--version`, which need no others
+/// What the program's arguments ask for. The first of them is its own name. Options, the rows of
+/// [`OPTIONS`](crate::option_table::OPTIONS), go before, between and after the names of files.
 pub fn request_of_words<'a>(
     words: &'a [String],
     alloc: Global,

@@ -1,10 +1,11 @@
 //! The program, over any arguments, files, reader and writer.
-ghost use Rattle.std.specs.Prelude.{◌≡◌, ◌≢◌, ◌⊎◌, Bool, true, false, IfErr, Some, map, string_bytes};
+ghost use Rattle.std.specs.Prelude.{◌≡◌, ◌≢◌, ◌⊎◌, Bool, true, false, ℕ, List, Option, Some, map, string_bytes};
 ghost use Rattle.std.specs.Option.{option_map};
 ghost use Rattle.ether_stream.specs.Outcome.{is_message, status_of_program};
 ghost use Rattle.ether_capture.specs.Program.{HasDone, HasHeaded, HasObeyed, HasRunFile, HasRunJob, HasServed, IfGone, heading_if, PrintsApart, PrintsLast, arguments_of, is_unwritten};
 ghost use Rattle.ether_capture.specs.SeveralFiles.{Settles};
 ghost use Rattle.ether_capture.specs.Options.{request_view, statistics_asked};
+ghost use Rattle.ether_capture.specs.World.{keeps, names, reads, streams, world};
 ghost use Rattle.std.specs.Io.KnownBytes.{Appends};
 ghost use Rattle.ether_format.specs.declared.columns.Columns.{Columns as ColumnsValue};
 ghost use Rattle.std.specs.Prelude.{OnErr, OnOk};
@@ -20,8 +21,9 @@ use crate::run_input::run_input;
 use crate::several_files::run_files;
 use crate::statistics::Statistics;
 use ether_format::Columns;
+use ether_output::{OutputBuffer, OutputFault, Sink};
 use ether_stream::{LineSink, Outcome, RunFault, Task, is_message, last_line, program_status};
-use ether_text::{OutputBuffer, OutputFault, Sink, Source};
+use ether_text::Source;
 use std::alloc::Global;
 use std::{env, io};
 
@@ -31,7 +33,7 @@ use std::{env, io};
 /// The last line goes to `messages`, so that `writer` has only the lines or the copy; but the usage and the version, if
 /// they are asked for, go to `writer`. If the arguments are wrong or can't be read, nothing is read. Arguments that
 /// can't be read are a fault of the input.
-pub fn program<J: Journal + Drop, C: Captures, K: Copies, R: Source, W: LineSink, M: LineSink>(
+pub fn run_program<J: Journal + Drop, C: Captures, K: Copies, R: Source, W: LineSink, M: LineSink>(
     args: io::Result<env::Args>,
     alloc: Global,
     captures: &C,
@@ -40,22 +42,21 @@ pub fn program<J: Journal + Drop, C: Captures, K: Copies, R: Source, W: LineSink
     writer: &mut W,
     messages: &mut M,
 ) -> u8
-    ensures served { HasServed (C.has captures.now) R.can_fail C.can_refuse C.Input.Source.can_fail W.Sink.can_fail
-        M.Sink.can_fail
-        K.can_refuse K.Part.Sink.can_fail J.is_known (arguments_of args) (R.remaining reader.old) (R.remaining reader.new)
-        (W.Sink.contents writer.old) (W.Sink.contents writer.new) (M.Sink.contents messages.old)
-        (M.Sink.contents messages.new)
-        (K.file copies.old) (K.file copies.new) result }
+    ensures served { HasServed (world (reads (names (C.has captures.now) C.can_refuse C.Input.Source.can_fail)
+        R.can_fail W.Sink.can_fail) (keeps K.can_refuse K.Part.Sink.can_fail) M.Sink.can_fail J.is_known)
+        (arguments_of args) (streams (R.remaining reader.old) (W.Sink.contents writer.old)
+        (M.Sink.contents messages.old) (K.file copies.old)) (streams (R.remaining reader.new)
+        (W.Sink.contents writer.new) (M.Sink.contents messages.new) (K.file copies.new)) result }
     ensures flushed { result ≢ 4 → Settles W.Sink.is_flushed writer.old writer.new }
     ensures told { Settles M.Sink.is_flushed messages.old messages.new ⊎ M.Sink.can_fail }
 {
     let Ok(args) = args else {
-        return end(&Outcome::Run(Err(RunFault::Input)), writer, messages);
+        return finish(&Outcome::Run(Err(RunFault::Input)), writer, messages);
     };
     let Ok(words) = args.collect::<Vec<String>>(alloc) else {
-        return end(&Outcome::NoMemory, writer, messages);
+        return finish(&Outcome::NoMemory, writer, messages);
     };
-    let outcome = obey::<J, C, K, R, W, M>(
+    let outcome = carry_out_words::<J, C, K, R, W, M>(
         words.as_slice(),
         alloc,
         captures,
@@ -65,11 +66,11 @@ pub fn program<J: Journal + Drop, C: Captures, K: Copies, R: Source, W: LineSink
         messages,
     );
     captures.end_line();
-    end(&outcome, writer, messages)
+    finish(&outcome, writer, messages)
 }
 
-/// Does what the arguments say.
-fn obey<'a, J: Journal + Drop, C: Captures, K: Copies, R: Source, W: Sink, M: LineSink>(
+/// Carries out the request that words make, or says what is wrong with them.
+fn carry_out_words<'a, J: Journal + Drop, C: Captures, K: Copies, R: Source, W: Sink, M: LineSink>(
     words: &'a [String],
     alloc: Global,
     captures: &C,
@@ -78,17 +79,16 @@ fn obey<'a, J: Journal + Drop, C: Captures, K: Copies, R: Source, W: Sink, M: Li
     writer: &mut W,
     messages: &mut M,
 ) -> Outcome<'a>
-    ensures obeyed { HasObeyed (C.has captures.now) R.can_fail C.can_refuse C.Input.Source.can_fail W.can_fail
-        M.Sink.can_fail
-        K.can_refuse K.Part.Sink.can_fail J.is_known (Some (map string_bytes words.now)) (R.remaining reader.old)
-        (R.remaining reader.new)
-        (W.contents writer.old) (W.contents writer.new) (M.Sink.contents messages.old) (M.Sink.contents messages.new)
-        (K.file copies.old) (K.file copies.new) result }
+    ensures obeyed { HasObeyed (world (reads (names (C.has captures.now) C.can_refuse C.Input.Source.can_fail)
+        R.can_fail W.can_fail) (keeps K.can_refuse K.Part.Sink.can_fail) M.Sink.can_fail J.is_known)
+        (Some (map string_bytes words.now)) (streams (R.remaining reader.old) (W.contents writer.old)
+        (M.Sink.contents messages.old) (K.file copies.old)) (streams (R.remaining reader.new) (W.contents writer.new)
+        (M.Sink.contents messages.new) (K.file copies.new)) result }
     ensures flushed { IfGone result (Settles W.is_flushed writer.old writer.new) }
     ensures told { Settles M.Sink.is_flushed messages.old messages.new ⊎ M.Sink.can_fail }
 {
     match request_of_words(words, alloc) {
-        Ok(request) => respond::<J, C, K, R, W, M>(
+        Ok(request) => carry_out_request::<J, C, K, R, W, M>(
             request, alloc, captures, copies, reader, writer, messages,
         ),
         Err(RequestError::Usage(usage)) => Outcome::Usage(usage),
@@ -97,8 +97,17 @@ fn obey<'a, J: Journal + Drop, C: Captures, K: Copies, R: Source, W: Sink, M: Li
     }
 }
 
-/// Does what a request says. If counts are asked for, it counts the texts of columns, and writes the counts.
-fn respond<'a, J: Journal + Drop, C: Captures, K: Copies, R: Source, W: Sink, M: LineSink>(
+/// Carries out a request. If counts are asked for, it counts the texts of columns, and writes the counts in place of
+/// rows.
+fn carry_out_request<
+    'a,
+    J: Journal + Drop,
+    C: Captures,
+    K: Copies,
+    R: Source,
+    W: Sink,
+    M: LineSink,
+>(
     request: Request<'a>,
     alloc: Global,
     captures: &C,
@@ -107,21 +116,19 @@ fn respond<'a, J: Journal + Drop, C: Captures, K: Copies, R: Source, W: Sink, M:
     writer: &mut W,
     messages: &mut M,
 ) -> Outcome<'a>
-    ensures done { HasDone (C.has captures.now) R.can_fail C.can_refuse C.Input.Source.can_fail W.can_fail
-        M.Sink.can_fail
-        K.can_refuse K.Part.Sink.can_fail J.is_known (statistics_asked (request_view request.entry))
-        (request_view request.entry)
-        (R.remaining reader.old) (R.remaining reader.new)
-        (W.contents writer.old) (W.contents writer.new) (M.Sink.contents messages.old) (M.Sink.contents messages.new)
-        (K.file copies.old) (K.file copies.new) result }
+    ensures done { HasDone (world (reads (names (C.has captures.now) C.can_refuse C.Input.Source.can_fail) R.can_fail
+        W.can_fail) (keeps K.can_refuse K.Part.Sink.can_fail) M.Sink.can_fail J.is_known)
+        (statistics_asked (request_view request.entry)) (request_view request.entry) (streams (R.remaining reader.old)
+        (W.contents writer.old) (M.Sink.contents messages.old) (K.file copies.old)) (streams (R.remaining reader.new)
+        (W.contents writer.new) (M.Sink.contents messages.new) (K.file copies.new)) result }
     ensures flushed { IfGone result (Settles W.is_flushed writer.old writer.new) }
     ensures told { Settles M.Sink.is_flushed messages.old messages.new ⊎ M.Sink.can_fail }
 {
     let Some(format) = request.statistics() else {
-        return answer(request, alloc, captures, copies, reader, writer, messages);
+        return write_lines_or_copy(request, alloc, captures, copies, reader, writer, messages);
     };
     let mut counts = Statistics::<J>::new(alloc);
-    let outcome = answer(
+    let outcome = write_lines_or_copy(
         request,
         alloc,
         captures,
@@ -154,8 +161,8 @@ fn is_unwritten(outcome: &Outcome<'_>) -> bool
     )
 }
 
-/// Writes the lines of a capture, or a copy of it, as a request says.
-fn answer<'a, C: Captures, K: Copies, R: Source, W: Sink, M: LineSink>(
+/// Writes the lines of captures or a copy of one, after the names of columns, if a line of these is asked for.
+fn write_lines_or_copy<'a, C: Captures, K: Copies, R: Source, W: Sink, M: LineSink>(
     request: Request<'a>,
     alloc: Global,
     captures: &C,
@@ -164,11 +171,11 @@ fn answer<'a, C: Captures, K: Copies, R: Source, W: Sink, M: LineSink>(
     writer: &mut W,
     messages: &mut M,
 ) -> Outcome<'a>
-    ensures done { HasHeaded (C.has captures.now) R.can_fail C.can_refuse C.Input.Source.can_fail W.can_fail
-        M.Sink.can_fail
-        K.can_refuse K.Part.Sink.can_fail (request_view request.entry) (R.remaining reader.old) (R.remaining reader.new)
-        (W.contents writer.old) (W.contents writer.new) (M.Sink.contents messages.old) (M.Sink.contents messages.new)
-        (K.file copies.old) (K.file copies.new) result }
+    ensures done { (is_known : Bool) → HasHeaded (world (reads
+        (names (C.has captures.now) C.can_refuse C.Input.Source.can_fail) R.can_fail W.can_fail)
+        (keeps K.can_refuse K.Part.Sink.can_fail) M.Sink.can_fail is_known) (request_view request.entry) (streams
+        (R.remaining reader.old) (W.contents writer.old) (M.Sink.contents messages.old) (K.file copies.old)) (streams
+        (R.remaining reader.new) (W.contents writer.new) (M.Sink.contents messages.new) (K.file copies.new)) result }
     ensures flushed { IfGone result (Settles W.is_flushed writer.old writer.new) }
     ensures told { Settles M.Sink.is_flushed messages.old messages.new ⊎ M.Sink.can_fail }
 {
@@ -209,11 +216,12 @@ fn run_job<'a, C: Captures, K: Copies, R: Source, W: Sink>(
     reader: &mut R,
     writer: &mut W,
 ) -> Outcome<'a>
-    ensures run { HasRunJob (C.has captures.now) R.can_fail C.can_refuse C.Input.Source.can_fail W.can_fail K.can_refuse
-        K.Part.Sink.can_fail (task_view job.now.task) (option_map (λ s. s.now) job.now.input)
-        (option_map (λ s. s.now) job.now.output) (R.remaining reader.old) (R.remaining reader.new)
-        (W.contents writer.old)
-        (W.contents writer.new) (K.file copies.old) (K.file copies.new) result }
+    ensures run { (told : Option (List ℕ)) → HasRunJob (reads
+        (names (C.has captures.now) C.can_refuse C.Input.Source.can_fail) R.can_fail W.can_fail)
+        (keeps K.can_refuse K.Part.Sink.can_fail) (task_view job.now.task) (option_map (λ s. s.now) job.now.input)
+        (option_map (λ s. s.now) job.now.output) (streams (R.remaining reader.old) (W.contents writer.old) told
+        (K.file copies.old)) (streams (R.remaining reader.new) (W.contents writer.new) told (K.file copies.new))
+        result }
     ensures flushed { IfGone result (Settles W.is_flushed writer.old writer.new) }
 {
     if job.is_shown {
@@ -235,9 +243,8 @@ fn run_file<'a, C: Captures, W: Sink>(
     captures: &C,
     writer: &mut W,
 ) -> Outcome<'a>
-    ensures run { HasRunFile (C.has captures.now) C.can_refuse C.Input.Source.can_fail W.can_fail
-        (task_view task.now) name.entry.now
-        (W.contents writer.old) (W.contents writer.new) result }
+    ensures run { HasRunFile (names (C.has captures.now) C.can_refuse C.Input.Source.can_fail) W.can_fail
+        (task_view task.now) name.entry.now (W.contents writer.old) (W.contents writer.new) result }
     ensures flushed { IfGone result (Settles W.is_flushed writer.old writer.new) }
 {
     match captures.open_named(name) {
@@ -250,12 +257,11 @@ fn run_file<'a, C: Captures, W: Sink>(
 }
 
 /// Prints the last line, if there is one, and returns the exit status.
-fn end<W: LineSink, M: LineSink>(outcome: &Outcome<'_>, writer: &mut W, messages: &mut M) -> u8
-    ensures printed { (printed : Bool) × PrintsApart W.Sink.can_fail M.Sink.can_fail
-        (is_message outcome.now) outcome.now
-        (W.Sink.contents writer.old) (W.Sink.contents writer.new) (M.Sink.contents messages.old)
-        (M.Sink.contents messages.new) printed
-        × (result ≡ status_of_program outcome.now printed) }
+fn finish<W: LineSink, M: LineSink>(outcome: &Outcome<'_>, writer: &mut W, messages: &mut M) -> u8
+    ensures printed { (printed : Bool) × ((input : Option (List ℕ)) (files : List ℕ → Option (List ℕ)) → PrintsApart
+        W.Sink.can_fail M.Sink.can_fail (is_message outcome.now) outcome.now (streams input
+        (W.Sink.contents writer.old) (M.Sink.contents messages.old) files) (streams input (W.Sink.contents writer.new)
+        (M.Sink.contents messages.new) files) printed) × (result ≡ status_of_program outcome.now printed) }
     ensures flushed { result ≢ 4 → IfGone outcome.now (Settles W.Sink.is_flushed writer.old writer.new) }
     ensures told { Settles M.Sink.is_flushed messages.old messages.new ⊎ M.Sink.can_fail }
 {
@@ -269,9 +275,10 @@ fn print_apart<W: LineSink, M: LineSink>(
     writer: &mut W,
     messages: &mut M,
 ) -> bool
-    ensures printed { PrintsApart W.Sink.can_fail M.Sink.can_fail (is_message outcome.now) outcome.now
-        (W.Sink.contents writer.old)
-        (W.Sink.contents writer.new) (M.Sink.contents messages.old) (M.Sink.contents messages.new) result }
+    ensures printed { (input : Option (List ℕ)) (files : List ℕ → Option (List ℕ)) → PrintsApart W.Sink.can_fail
+        M.Sink.can_fail (is_message outcome.now) outcome.now (streams input (W.Sink.contents writer.old)
+        (M.Sink.contents messages.old) files) (streams input (W.Sink.contents writer.new)
+        (M.Sink.contents messages.new) files) result }
     ensures flushed { Settles W.Sink.is_flushed writer.old writer.new
         ⊎ ((is_message outcome.now ≡ false) × (result ≡ false)) }
     ensures told { Settles M.Sink.is_flushed messages.old messages.new ⊎ M.Sink.can_fail }

@@ -14,8 +14,8 @@ use crate::count_table::CountTable;
 use crate::heap_text::HeapText;
 use crate::statistics_format::StatisticsFormat;
 use ether_format::split_at;
+use ether_output::{OutputBuffer, Sink};
 use ether_stream::NoMemory;
-use ether_text::{OutputBuffer, Sink};
 use std::alloc::Global;
 
 /// The counts of the lines so far, and the bytes after the last line feed. The first line names the columns.

@@ -8,9 +8,10 @@ ghost use Rattle.ether_capture.specs.SeveralFiles.{Settles};
 
 use crate::heap_memory::HeapMemory;
 use crate::interface_buffer::InterfaceBuffer;
+use ether_output::Sink;
 use ether_stream::run::run_counted;
 use ether_stream::{Buffers, NoMemory, PacketCounts, RunFault, Task};
-use ether_text::{Sink, Source, Verdict};
+use ether_text::{Source, Verdict};
 use std::alloc::Global;
 
 /// Like [`run_counted`], with memory of the heap that is allocated first.

@@ -1,5 +1,5 @@
 //! Reads several captures, one after the other.
-ghost use Rattle.std.specs.Prelude.{◌≡◌, ◌≢◌, ◌⊎◌, ◌+◌, ◌↔◌, max, IsTrue, false, Some, Err, IfOk, IfSome, OnOk, OnErr, List};
+ghost use Rattle.std.specs.Prelude.{◌≡◌, ◌≢◌, ◌⊎◌, ◌+◌, ◌↔◌, max, IsTrue, false, Some, Err, IfOk, IfSome, OnOk, OnErr, ℕ, List, Option};
 ghost use Rattle.std.specs.Int.NonZero.{non_zero_usize_get};
 ghost use Rattle.std.specs.Io.KnownBytes.{Appends};
 ghost use Rattle.std.specs.Option.{option_map};
@@ -7,6 +7,7 @@ ghost use Rattle.ether_pcap.specs.Capture.{PacketValue};
 ghost use Rattle.ether_stream.specs.Counting.{AreCounted, IfFileRead};
 ghost use Rattle.ether_capture.specs.SeveralFiles.{HasEnded, HasListed, IsAfter, ReadsFile, ReadsFiles, Settles, Tells, next_task, nothing_read, text_of_capture};
 ghost use Rattle.ether_stream.specs.FrameLines.{totals_line_if};
+ghost use Rattle.ether_capture.specs.World.{names, reads, streams};
 ghost use Rattle.ether_capture.specs.Options.{ListingValue, listing_view, named, names_input};
 ghost use Rattle.ether_stream.specs.Outcome.{last_line_text, status_of_file};
 ghost use Rattle.ether_stream.specs.Packets.{counted};
@@ -18,11 +19,12 @@ ghost use Rattle.ether_stream.specs.declared.outcome.RunFault.TheVariants.{Outpu
 use crate::captures::Captures;
 use crate::request::{Listing, named};
 use crate::run_input::run_input;
+use ether_output::{OutputBuffer, OutputFault, Sink};
 use ether_stream::{
     FileEnd, Form, LastLine, LineSink, PacketCounts, RunFault, Task, line_of_file, line_of_input,
     status_of_file, write_totals,
 };
-use ether_text::{OutputBuffer, OutputFault, Sink, Source};
+use ether_text::Source;
 use std::alloc::Global;
 use std::num::NonZeroUsize;
 
@@ -101,10 +103,11 @@ pub fn run_files<C: Captures, R: Source, W: Sink, M: LineSink>(
     writer: &mut W,
     messages: &mut M,
 ) -> Result<u8, OutputFault>
-    ensures listed { HasListed (C.has captures.now) R.can_fail C.can_refuse C.Input.Source.can_fail W.can_fail
-        M.Sink.can_fail
-        (listing_view listing.entry) (R.remaining reader.old) (R.remaining reader.new) (W.contents writer.old)
-        (W.contents writer.new) (M.Sink.contents messages.old) (M.Sink.contents messages.new) result }
+    ensures listed { (files : List ℕ → Option (List ℕ)) → HasListed (reads
+        (names (C.has captures.now) C.can_refuse C.Input.Source.can_fail) R.can_fail W.can_fail) M.Sink.can_fail
+        (listing_view listing.entry) (streams (R.remaining reader.old) (W.contents writer.old)
+        (M.Sink.contents messages.old) files) (streams (R.remaining reader.new) (W.contents writer.new)
+        (M.Sink.contents messages.new) files) result }
     ensures flushed { OnOk result (W.is_flushed writer.new) }
     ensures told { Settles M.Sink.is_flushed messages.old messages.new ⊎ M.Sink.can_fail }
 {
@@ -129,12 +132,12 @@ fn read_files<C: Captures, R: Source, W: Sink, M: LineSink>(
     messages: &mut M,
 ) -> Result<Tally, OutputFault>
     ensures ok { IfOk result
-        (λ last. ReadsFiles (C.has captures.now) R.can_fail C.can_refuse C.Input.Source.can_fail W.can_fail
-        M.Sink.can_fail
+        (λ last. (files : List ℕ → Option (List ℕ)) → ReadsFiles (reads
+        (names (C.has captures.now) C.can_refuse C.Input.Source.can_fail) R.can_fail W.can_fail) M.Sink.can_fail
         (listing_view listing.entry) (listing_view listing.entry).files
-        (nothing_read (listing_view listing.entry).count)
-        (R.remaining reader.old) (W.contents writer.old) (M.Sink.contents messages.old) last (R.remaining reader.new)
-        (W.contents writer.new) (M.Sink.contents messages.new)) }
+        (nothing_read (listing_view listing.entry).count) (streams (R.remaining reader.old) (W.contents writer.old)
+        (M.Sink.contents messages.old) files) last (streams (R.remaining reader.new) (W.contents writer.new)
+        (M.Sink.contents messages.new) files)) }
     ensures failed { OnErr result W.can_fail }
     ensures kept { names_input (listing_view listing.entry).files ≡ false → R.remaining reader.new
         ≡ R.remaining reader.old }
@@ -172,11 +175,10 @@ fn read_file<C: Captures, R: Source, W: Sink, M: LineSink>(
     messages: &mut M,
 ) -> Result<(FileEnd, PacketCounts), OutputFault>
     ensures ok { (l : ListingValue) (at next : TallyValue) → task_view task.now ≡ next_task l at
-        → IfOk result (λ it. IsAfter at it.1 it.0 next
-        → ReadsFile (C.has captures.now) R.can_fail C.can_refuse C.Input.Source.can_fail W.can_fail M.Sink.can_fail l
-        name.now at
-        (R.remaining reader.old) (W.contents writer.old) (M.Sink.contents messages.old) next (R.remaining reader.new)
-        (W.contents writer.new) (M.Sink.contents messages.new)) }
+        → IfOk result (λ it. IsAfter at it.1 it.0 next → (files : List ℕ → Option (List ℕ)) → ReadsFile (reads
+        (names (C.has captures.now) C.can_refuse C.Input.Source.can_fail) R.can_fail W.can_fail) M.Sink.can_fail l
+        name.now at (streams (R.remaining reader.old) (W.contents writer.old) (M.Sink.contents messages.old) files)
+        next (streams (R.remaining reader.new) (W.contents writer.new) (M.Sink.contents messages.new) files)) }
     ensures failed { OnErr result W.can_fail }
     ensures kept { IfSome (named name.now) (λ _. R.remaining reader.new ≡ R.remaining reader.old) }
     ensures told { Settles M.Sink.is_flushed messages.old messages.new ⊎ M.Sink.can_fail }
@@ -228,11 +230,12 @@ fn end_of_file<C: Captures, R: Source, W: Sink>(
     reader: &mut R,
     writer: &mut W,
 ) -> (FileEnd, PacketCounts)
-    ensures { (packets : List PacketValue)
-        × HasEnded (C.has captures.now) R.can_fail C.can_refuse C.Input.Source.can_fail W.can_fail
-        (task_view task.now) (named name.now) packets (R.remaining reader.old) (R.remaining reader.new)
-        (W.contents writer.old)
-        (W.contents writer.new) result.0 × IfFileRead result.0 (AreCounted (task_view task.now) packets result.1) }
+    ensures { (packets : List PacketValue) × ((told : Option (List ℕ)) (files : List ℕ → Option (List ℕ)) → HasEnded
+        (reads (names (C.has captures.now) C.can_refuse C.Input.Source.can_fail) R.can_fail W.can_fail)
+        (task_view task.now) (named name.now) packets
+        (streams (R.remaining reader.old) (W.contents writer.old) told files)
+        (streams (R.remaining reader.new) (W.contents writer.new) told files) result.0) × IfFileRead result.0
+        (AreCounted (task_view task.now) packets result.1) }
 {
     let Some(name) = named(name) else {
         let (end, counts) = run_input(task, alloc, reader, writer);

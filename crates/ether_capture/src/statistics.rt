@@ -7,7 +7,7 @@ ghost use Rattle.ether_capture.specs.Statistics.{Shows};
 use crate::journal::Journal;
 use crate::rows::Rows;
 use crate::statistics_format::StatisticsFormat;
-use ether_text::{OutputBuffer, OutputFault, Sink};
+use ether_output::{OutputBuffer, OutputFault, Sink};
 use std::alloc::Global;
 
 /// A sink of rows, whose texts are counted.

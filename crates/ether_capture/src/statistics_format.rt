@@ -1,12 +1,12 @@
 //! Writes the count of a key.
 ghost use Rattle.std.specs.Prelude.{◌≡◌};
 ghost use Rattle.ether_capture.specs.RowFields.{after_first, row_fields};
-ghost use Rattle.ether_text.specs.OutputBuffer.{Takes};
+ghost use Rattle.ether_output.specs.OutputBuffer.{Takes};
 ghost use Rattle.ether_capture.specs.Statistics.{first_in, statistics_line};
 
 use crate::count::Count;
 use crate::rows::first_field;
-use ether_text::{OutputBuffer, Sink, write_decimal};
+use ether_output::{OutputBuffer, Sink, write_decimal};
 
 /// How counts are written.
 #[derive(Clone, Copy, PartialEq, Eq, Debug)]

@@ -2,35 +2,10 @@
 ghost use Rattle.std.specs.Prelude.{◌≡◌, List, map, string_bytes};
 ghost use Rattle.std.specs.Option.{option_map};
 ghost use Rattle.ether_capture.specs.WrongWords.{IsUsageOf, bare_option, begins_with_value, is_value, letter_need, long_need, name_need, need_of, unknown_option};
-ghost use Rattle.std.specs.List.{list_any};
-ghost use Rattle.std.specs.Str.{bytes_eq};
 
+use crate::option_table::all_options;
 use ether_format::split_at;
 use ether_stream::Usage;
-
-/// The names of options without a value.
-static FLAGS: [&str; 9] = [
-    "plain",
-    "write",
-    "cut-to-headers",
-    "pop-vlan",
-    "progress",
-    "header",
-    "stats",
-    "help",
-    "version",
-];
-
-/// The names of options with a value.
-static OPTIONS: [&str; 7] = [
-    "push-vlan",
-    "set-vlan",
-    "select",
-    "undecided",
-    "limit",
-    "format",
-    "fields",
-];
 
 /// What is wrong with words that `clap` refuses: an option is not known, or else one lacks its value, or else
 /// [`Usage::Words`]. The first of the words is the program's name.
@@ -128,11 +103,12 @@ fn long_need(text: &[u8]) -> Option<bool>
 fn name_need(name: &[u8], is_all: bool) -> Option<bool>
     ensures { result ≡ name_need name.now is_all }
 {
-    if has_name(&FLAGS, name) {
-        return Some(false);
-    }
-    if has_name(&OPTIONS, name) {
-        return Some(is_all);
+    let mut rows = all_options();
+    while let [row, others @ ..] = rows {
+        if row.spelling.is_word() && row.name.as_bytes() == name {
+            return Some(row.value.is_some() && is_all);
+        }
+        rows = others;
     }
     None
 }
@@ -141,20 +117,12 @@ fn name_need(name: &[u8], is_all: bool) -> Option<bool>
 fn letter_need(letter: u8, is_all: bool) -> Option<bool>
     ensures { result ≡ letter_need letter is_all }
 {
-    match letter {
-        b'c' | b'r' | b'w' => Some(is_all),
-        b'h' | b'V' => Some(false),
-        _ => None,
+    let mut rows = all_options();
+    while let [row, others @ ..] = rows {
+        if row.spelling.has_letter(letter) {
+            return Some(row.value.is_some() && is_all);
+        }
+        rows = others;
     }
-}
-
-/// Tests that a name is one of these.
-fn has_name(names: &[&str], name: &[u8]) -> bool
-    ensures { result ≡ list_any (λ it. bytes_eq it.now name.now) names.now }
-{
-    let mut found = false;
-    for it in names {
-        found |= it.as_bytes() == name;
-    }
-    found
+    None
 }

@@ -1,6 +1,8 @@
-pub mod FollowingLemmas
-pub mod Found
+pub mod TagMarksLemmas
+pub mod Identifiers
+pub mod Announced
 pub mod SeenLemmas
+pub mod Looking
 pub mod JumpsLemmas
 pub mod Truth
 pub mod PastTags

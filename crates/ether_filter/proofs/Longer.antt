@@ -24,7 +24,7 @@ use Rattle.ether_filter.specs.declared.primitive.Primitive.{Primitive}
 use Rattle.ether_filter.specs.declared.primitive.Primitive.TheVariants as primitives
 use Rattle.ether_filter.specs.Primitives.{is_tag, is_sec_tag, is_from, is_to, is_to_group, vlan_ids, ether_type_of, listed, ether_types, walked, Matches}
 use Rattle.ether_filter.specs.Deciding.{is_refused, is_of_link, IsTold}
-use Rattle.ether_filter.proofs.Found.{same_truth}
+use Rattle.ether_filter.proofs.Truth.{same_truth}
 
 -- ---- tests of headers
 

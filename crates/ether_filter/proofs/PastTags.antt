@@ -5,25 +5,24 @@ use Rattle.std.specs.List.{list_any}
 use Rattle.std.proofs.lemmas.Bool.{false_from_ne_true, ne_eqb, eq-eqb}
 use Rattle.etherparse.specs.Header.{Header}
 use Rattle.etherparse.specs.Header as headers
-use Rattle.ether_peel.specs.Grammar.Stack.{Ending, whole, Walk}
-use Rattle.ether_peel.specs.Walker.Start.{start_of, next_of}
 use Rattle.ether_filter.specs.declared.jumps.Jump.{Jump}
 use Rattle.ether_filter.specs.declared.node.Node.{Node}
 use Rattle.ether_filter.specs.declared.node.Node.TheVariants as nodes
-use Rattle.ether_filter.specs.declared.packet.Packet.{Packet}
 use Rattle.ether_filter.specs.declared.primitive.Primitive.{Primitive}
 use Rattle.ether_filter.specs.declared.primitive.Primitive.TheVariants as primitives
 use Rattle.ether_filter.specs.declared.seen.Seen.{Seen}
+use Rattle.ether_filter.specs.declared.tag_marks.Tag.{Tag}
 use Rattle.ether_filter.specs.declared.seen.Tags.TheVariants as tags
 use Rattle.ether_filter.specs.declared.instruction.Instruction.{Instruction}
-use Rattle.ether_filter.specs.Primitives.{is_tag, vlan_ids, Walked, walked, Matches}
+use Rattle.ether_filter.specs.Primitives.{is_tag, vlan_ids, Walked, Matches}
 use Rattle.ether_filter.specs.Jumps.{jump_at, is_of_tags, asks_tags, Passes, last, more, Reaches, Misses, tags_of, tags_seen, is_tag_test, is_other_id}
 use Rattle.ether_filter.specs.Expressions.{Expression}
 use Rattle.ether_filter.specs.Postfix.{postfix}
 use Rattle.ether_filter.specs.FilterProgram.{IsProgramOf, primitive_numbered}
-use Rattle.ether_filter.specs.Seen.{IsSeen}
+use Rattle.ether_filter.specs.Seen.{matching, has_further_id, Shows, IsSeen}
+use Rattle.ether_filter.specs.TagMarks.{has_id}
 use Rattle.ether_filter.proofs.JumpsLemmas.{reaches_next}
-use Rattle.ether_filter.proofs.Truth.{matching, matching_is}
+use Rattle.ether_filter.proofs.Truth.{matching_is}
 use Rattle.ether_filter.proofs.ProgramLemmas.{no_instruction, is_test}
 
 no_ids : (hs : List Header) → list_any is_tag hs ≡ false → vlan_ids hs ≡ []
@@ -42,38 +41,31 @@ fails_untagged w none (primitives.InnerVlan id) of (outer, between, is) =
     let ids = no_ids w.headers none in cc
 fails_untagged w none p of m = cc
 
-untagged : (packet : Packet) (hs : List Header) (e : Ending) (s : Seen)
-    → Walk (start_of packet.start) packet.frame.now hs e → IsSeen (next_of packet.start) hs e (Some s)
-    → is_some s.told.outer ≡ false → Misses tags.Untagged (matching (walked packet hs e))
-untagged packet hs e s walk seen is p of =
-    let w = walked packet hs e in
-    let start = start_of packet.start in
-    let are = matching_is w packet.frame.now start (whole start packet.frame.now) walk in
-    let never : matching w primitives.Vlan ≡ false = sym (seen primitives.Vlan) ∙ is in
-    let none : list_any is_tag hs ≡ false =
-    false_from_ne_true (list_any is_tag hs) (λ t. let yes = (are primitives.Vlan).1 t in cc) in
-    false_from_ne_true (matching w p) (λ t. fails_untagged w none p of ((are p).0 t))
+untagged : (w : Walked) (s : Seen) → Shows w s → s.outer ≡ None → Misses tags.Untagged (matching w)
+untagged w s shows none p of =
+    let no_tag : list_any is_tag w.headers ≡ false = sym (shows primitives.Vlan refl) ∙ ap is_some none in
+    false_from_ne_true (matching w p) (λ t. fails_untagged w no_tag p of ((matching_is w p).0 t))
 
-others : (packet : Packet) (hs : List Header) (e : Ending) (s : Seen) (ids : List ℕ)
-    → IsSeen (next_of packet.start) hs e (Some s) → s.ids.items ≡ ids
-    → Misses (tags_of ids) (matching (walked packet hs e))
-others packet hs e s [] seen is = tt
-others packet hs e s (id ∷ []) seen is =
-    λ n not. sym (seen (primitives.VlanId n)) ∙ ap (list_any (λ m. nat_eq m n)) is
-    ∙ ap (λ (b : Bool). b || false) (ne_eqb id n (λ same. not (sym same)))
-others packet hs e s (id ∷ second ∷ ids) seen is = tt
+others : (w : Walked) (s : Seen) (tag : Tag) → Shows w s → s.outer ≡ Some tag → s.inner ≡ None
+    → Misses (tags.One tag.id) (matching w)
+others w s tag shows is none n other =
+    sym (shows (primitives.VlanId n) refl) ∙ (λ i. has_id n (is i) || has_further_id n (none i) s.between)
+    ∙ ap (λ (b : Bool). b || false) (ne_eqb n tag.id other)
 
 -- what is seen of a packet's tags
-pub misses : (packet : Packet) (hs : List Header) (e : Ending) (s : Option Seen)
-    → Walk (start_of packet.start) packet.frame.now hs e → IsSeen (next_of packet.start) hs e s
-    → Misses (tags_seen s) (matching (walked packet hs e))
-misses packet hs e None walk seen = tt
-misses packet hs e (Some s) walk seen = by_outer (is_some s.told.outer) refl
+pub misses : (w : Walked) (s : Seen) → IsSeen w s → Misses (tags_seen s) (matching w)
+misses w s seen = by_walk s.is_walked refl
   where
-    by_outer : (b : Bool) → is_some s.told.outer ≡ b
-        → Misses (if b then tags_of s.ids.items else tags.Untagged) (matching (walked packet hs e))
-    by_outer true is = others packet hs e s s.ids.items seen refl
-    by_outer false is = untagged packet hs e s walk seen is
+    by_tags : (outer inner : Option Tag) → s.outer ≡ outer → s.inner ≡ inner → Shows w s
+        → Misses (tags_of outer inner) (matching w)
+    by_tags None inner out none shows = untagged w s shows out
+    by_tags (Some tag) None out none shows = others w s tag shows out none
+    by_tags (Some tag) (Some inner) out some shows = tt
+
+    by_walk : (b : Bool) → s.is_walked ≡ b
+        → Misses (if b then tags_of s.outer s.inner else tags.Any) (matching w)
+    by_walk true is = by_tags s.outer s.inner refl refl (seen.after is)
+    by_walk false is = tt
 
 -- ---- the jumps
 

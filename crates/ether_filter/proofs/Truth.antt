@@ -1,13 +1,12 @@
 -- The truth of an expression of a packet.
-use Rattle.std.proofs.Common.{◌≡◌, ℕ, ◌≤◌, List, [], length, refl, sym, arith, nat_eq, Bool, true, false, ◌↔◌, IsTrue, inl, inr}
+use Rattle.std.proofs.Common.{◌≡◌, ◌∙◌, ℕ, ◌≤◌, List, [], length, refl, sym, arith, nat_eq, Bool, true, false, ◌↔◌, IsTrue, inl, inr}
 use Rattle.std.proofs.lemmas.List.{append-nil}
-use Rattle.std.specs.Prelude.{Some, not, nat_lt, nat_le}
+use Rattle.std.specs.Prelude.{not, is_some, IsSome}
 use Rattle.std.proofs.lemmas.Bool.{ltb-true, lt-ltb, leb-true, le-leb}
 use Rattle.etherparse.specs.Header.{Header}
-use Rattle.ether_peel.specs.Grammar.Window.{Window}
-use Rattle.ether_peel.specs.Grammar.Expectation.{Expectation}
-use Rattle.ether_peel.specs.Grammar.Stack.{Ending, Stack, Walk}
-use Rattle.ether_peel.specs.Walker.Start.{start_of, next_of}
+use Rattle.ether_peel.specs.Grammar.Stack.{Ending, Accepted, Fault, Walk}
+use Rattle.ether_peel.specs.Grammar.Endings.{refusal_of}
+use Rattle.ether_peel.specs.Walker.Start.{start_of}
 use Rattle.ether_filter.specs.declared.jumps.Jump.{Jump}
 use Rattle.ether_filter.specs.declared.node.Node.{Node}
 use Rattle.ether_filter.specs.declared.packet.Packet.{Packet}
@@ -15,41 +14,31 @@ use Rattle.ether_filter.specs.declared.primitive.Primitive.{Primitive}
 use Rattle.ether_filter.specs.declared.primitive.Primitive.TheVariants as primitives
 use Rattle.ether_filter.specs.declared.node.Operator.{Operator}
 use Rattle.ether_filter.specs.declared.node.Operator.TheVariants as operators
-use Rattle.ether_filter.specs.Primitives.{Walked, walked, ether_type_of}
+use Rattle.ether_filter.specs.Primitives.{Walked, walked, vlan_ids}
 use Rattle.ether_filter.specs.Postfix.{postfix}
 use Rattle.ether_filter.specs.Jumps.{chosen, first_jump, AreJumps, Reaches}
 use Rattle.ether_filter.specs.Expressions.{Expression, Test, Not, Join}
-use Rattle.ether_filter.specs.declared.seen.Seen.{Seen}
-use Rattle.ether_filter.specs.Seen.{IsSeen, matches_seen}
-use Rattle.ether_filter.specs.Following.{found_at_end, found_first}
+use Rattle.ether_filter.specs.Seen.{matching}
 use Rattle.ether_filter.specs.Evaluation.{IsTruth, joined_truth}
-use Rattle.ether_filter.proofs.Found.{found_matches}
+use Rattle.ether_filter.proofs.Identifiers.{first_is, last_other_is}
 use Rattle.ether_filter.proofs.JumpsLemmas.{reaches, truth}
 
--- whether a primitive matches
-abbrev pub matching : Walked → Primitive → Bool
-matching w primitives.Cut = nat_lt w.captured w.original
-matching w (primitives.Less n) = nat_le w.original n
-matching w (primitives.Greater n) = nat_le n w.original
-matching w p = found_at_end p (found_first p (ether_type_of w.start)) false w.headers w.ending
+-- what a truth that is another one says
+pub same_truth : {a b : Bool} → a ≡ b → IsTrue a ↔ IsTrue b
+same_truth is = (λ t. sym is ∙ t, λ t. is ∙ t)
 
-pub matching_is : (w : Walked) (list : List ℕ) (x : Expectation) (window : Window)
-    → Stack list x window w.headers w.ending
-    → (p : Primitive) → IsTruth w (matching w p) (Test p)
-matching_is w list x window stack primitives.Cut = (ltb-true w.captured w.original, lt-ltb w.captured w.original)
-matching_is w list x window stack (primitives.Less n) = (leb-true w.original n, le-leb w.original n)
-matching_is w list x window stack (primitives.Greater n) = (leb-true n w.original, le-leb n w.original)
-matching_is w list x window stack p = found_matches p w list x window
-    (record { not_cut = λ is. cc; not_less = λ n is. cc; not_greater = λ n is. cc }) stack
+refused_is : (e : Ending) → IsTrue (is_some (refusal_of e)) ↔ IsSome (refusal_of e)
+refused_is (Accepted v y) = (λ t. absurd cc, λ some. absurd cc)
+refused_is (Fault v y r) = (λ t. refl, λ some. refl)
 
--- what is seen of each says so too
-pub seen_is : (packet : Packet) (hs : List Header) (e : Ending) (s : Seen)
-    → IsSeen (next_of packet.start) hs e (Some s) → (p : Primitive)
-    → matches_seen p packet.captured_len packet.original_len s ≡ matching (walked packet hs e) p
-seen_is packet hs e s all primitives.Cut = refl
-seen_is packet hs e s all (primitives.Less n) = refl
-seen_is packet hs e s all (primitives.Greater n) = refl
-seen_is packet hs e s all p = all p
+pub matching_is : (w : Walked) (p : Primitive) → IsTruth w (matching w p) (Test p)
+matching_is w primitives.Cut = (ltb-true w.captured w.original, lt-ltb w.captured w.original)
+matching_is w (primitives.Less n) = (leb-true w.original n, le-leb w.original n)
+matching_is w (primitives.Greater n) = (leb-true n w.original, le-leb n w.original)
+matching_is w (primitives.OuterVlan n) = first_is n (vlan_ids w.headers)
+matching_is w (primitives.InnerVlan n) = last_other_is n (vlan_ids w.headers)
+matching_is w primitives.Refused = refused_is w.ending
+matching_is w p = same_truth refl
 
 not_truth : (w : Walked) (b : Bool) (x : Expression) → IsTruth w b x → IsTruth w (not b) (Not x)
 not_truth w true x is = (λ t. absurd cc, λ never. absurd (never (is.0 refl)))
@@ -79,11 +68,8 @@ one_truth true false left right = let t = right.1 (left.0 refl) in absurd cc
 one_truth false true left right = let t = left.1 (right.0 refl) in absurd cc
 one_truth false false left right = refl
 
-pub expression_is : (w : Walked) (list : List ℕ) (x : Expectation) (window : Window)
-    → Stack list x window w.headers w.ending → (expression : Expression)
-    → IsTruth w (truth (matching w) expression) expression
-expression_is w list x window stack expression =
-    truth_is w (matching w) (matching_is w list x window stack) expression
+pub expression_is : (w : Walked) (expression : Expression) → IsTruth w (truth (matching w) expression) expression
+expression_is w expression = truth_is w (matching w) (matching_is w) expression
 
 -- ---- an evaluation
 

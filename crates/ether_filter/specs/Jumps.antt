@@ -1,9 +1,10 @@
 -- Where the evaluation of an expression goes on after each of its primitives, which are tested from left to right.
-use Rattle.std.specs.Prelude.{◌≡◌, ℕ, ◌+◌, ◌<◌, ◌≤◌, List, [], ◌∷◌, length, get_or, nat_eq, Bool, true, false, not, Option, Some, None, is_some, if◌then◌else◌}
+use Rattle.std.specs.Prelude.{◌≡◌, ℕ, ◌+◌, ◌<◌, ◌≤◌, List, length, get_or, nat_eq, Bool, true, false, not, Option, Some, None, if◌then◌else◌}
 use Rattle.ether_filter.specs.declared.jumps.Jump.{Jump}
 use Rattle.ether_filter.specs.declared.primitive.Primitive.{Primitive}
 use Rattle.ether_filter.specs.declared.primitive.Primitive.TheVariants as primitives
 use Rattle.ether_filter.specs.declared.seen.Seen.{Seen}
+use Rattle.ether_filter.specs.declared.tag_marks.Tag.{Tag}
 use Rattle.ether_filter.specs.declared.seen.Tags.{Tags}
 use Rattle.ether_filter.specs.declared.seen.Tags.TheVariants as tags
 use Rattle.ether_filter.specs.declared.node.Node.{Node}
@@ -85,14 +86,14 @@ pub data Reaches (ns : List Node) (js : List Jump) (t : Primitive → Bool) : �
 
 -- ---- past what no VLAN tag matches
 
--- what is known of a packet's VLAN tags, by all identifiers that were seen
-abbrev pub tags_of : List ℕ → Tags
-tags_of (id ∷ []) = tags.One id
-tags_of _ = tags.Any
+-- what is known of a packet's VLAN tags, by the first one, and by the last one if there are two or more
+abbrev pub tags_of : (outer inner : Option Tag) → Tags
+tags_of None inner = tags.Untagged
+tags_of (Some tag) None = tags.One tag.id
+tags_of (Some tag) (Some inner) = tags.Any
 
-abbrev pub tags_seen : Option Seen → Tags
-tags_seen None = tags.Any
-tags_seen (Some seen) = if is_some seen.told.outer then tags_of seen.ids.items else tags.Untagged
+abbrev pub tags_seen : Seen → Tags
+tags_seen seen = if seen.is_walked then tags_of seen.outer seen.inner else tags.Any
 
 -- primitives that ask for other VLAN tags than these do not match
 abbrev pub Misses : Tags → (Primitive → Bool) → Type 0

@@ -1,7 +1,8 @@
 pub mod Expressions
 pub mod Primitives
 pub mod Postfix
-pub mod Following
+pub mod Fields
+pub mod TagMarks
 pub mod Seen
 pub mod Jumps
 pub mod FilterProgram

@@ -1,114 +1,168 @@
--- What one walk shows for all primitives together, as far as there is room for it.
-use Rattle.std.specs.Prelude.{◌≡◌, ℕ, List, ◌++◌, Option, Some, None, Bool, true, false, nat_eq, nat_lt, nat_le, is_some, ◌&&◌, length}
+-- What one walk shows for all primitives together.
+use Rattle.std.specs.Prelude.{◌≡◌, ℕ, ◌-◌, ◌^◌, List, [], ◌∷◌, Option, Some, None, Bool, true, false, nat_eq, nat_lt, nat_le, is_some, ◌||◌}
 use Rattle.std.specs.List.{list_any}
-use Rattle.etherparse.specs.Header.{Header}
-use Rattle.ether_peel.specs.Grammar.Expectation.{Next}
-use Rattle.ether_peel.specs.Grammar.Stack.{Ending}
+use Rattle.etherparse.specs.Bytes.{number}
+use Rattle.etherparse.specs.Kind.{Kind}
+use Rattle.etherparse.specs.Kind as kinds
+use Rattle.ether_peel.specs.Grammar.Expectation.{announced_by}
+use Rattle.ether_peel.specs.Grammar.Endings.{refusal_of}
 use Rattle.ether_filter.specs.declared.fields.Fields.{Fields}
-use Rattle.ether_filter.specs.declared.fields.Fields.TheVariants.{Link, Tag, SecTag}
+use Rattle.ether_filter.specs.declared.fields.Fields.TheVariants as fields
 use Rattle.ether_filter.specs.declared.primitive.Primitive.{Primitive}
 use Rattle.ether_filter.specs.declared.primitive.Primitive.TheVariants as primitives
 use Rattle.ether_filter.specs.declared.seen.Addresses.{Addresses}
-use Rattle.ether_filter.specs.declared.seen.Told.{Told}
 use Rattle.ether_filter.specs.declared.seen.Seen.{Seen}
-use Rattle.ether_filter.specs.Primitives.{ether_type_of, listed}
-use Rattle.ether_filter.specs.Following.{is_some_type, shown_by_link, found_first, found_at_end}
+use Rattle.ether_filter.specs.declared.tag_marks.Tag.{Tag}
+use Rattle.ether_filter.specs.declared.tag_marks.TagMarks.{TagMarks}
+use Rattle.ether_filter.specs.Deciding.{is_of_lengths}
+use Rattle.ether_filter.specs.Fields.{shown_by_link}
+use Rattle.ether_filter.specs.Primitives.{is_tag, is_sec_tag, is_from, is_to, is_to_group, vlan_ids, ether_types, Walked}
+use Rattle.ether_filter.specs.TagMarks.{is_some_type, has_id, has_type, is_marked_id, is_marked_type, IsMarked}
 
--- ---- after one header more with these fields
+-- ---- before the walk
 
-abbrev pub link_after : Option Addresses → Fields → Option Addresses
-link_after link (Link destination source) = Some (record { destination = destination; source = source })
-link_after link _ = link
-
--- the identifier of the first VLAN tag
-abbrev pub outer_after : Option ℕ → Fields → Option ℕ
-outer_after None (Tag id) = Some id
-outer_after outer _ = outer
-
--- .. and of the last one, after a further VLAN tag with this identifier
-abbrev pub inner_at : Option ℕ → ℕ → Option ℕ
-inner_at None id = None
-inner_at (Some first) id = Some id
-
-abbrev pub inner_after : (outer inner : Option ℕ) → Fields → Option ℕ
-inner_after outer inner (Tag id) = inner_at outer id
-inner_after outer inner _ = inner
-
-abbrev pub sec_tag_after : Bool → Fields → Bool
-sec_tag_after found SecTag = true
-sec_tag_after found _ = found
-
-abbrev pub told_after : Told → Fields → Told
-told_after t fields = record {
-  link = link_after t.link fields;
-  outer = outer_after t.outer fields;
-  inner = inner_after t.outer t.inner fields;
-  has_sec_tag = sec_tag_after t.has_sec_tag fields;
-  is_refused = t.is_refused;
+abbrev pub nothing : Seen
+nothing = record {
+  is_walked = false;
+  is_refused = false;
+  has_sec_tag = false;
+  has_arp = false;
+  link = None;
+  last = None;
+  outer = None;
+  inner = None;
+  between = None;
 }
 
-abbrev pub tag_id : Fields → Option ℕ
-tag_id (Tag id) = Some id
-tag_id _ = None
+-- ---- after a further header, with these fields
 
--- these are not the fields of a second link
-abbrev pub fits : Option Addresses → Fields → Bool
-fits (Some link) (Link destination source) = false
-fits link _ = true
+abbrev pub link_after : Option Addresses → Fields → Option Addresses
+link_after link (fields.Link destination source) = Some (record { destination = destination; source = source })
+link_after link _ = link
 
--- at most eight identifiers and eight ether types are kept
-abbrev pub has_room : ℕ → Option ℕ → Bool
-has_room count None = true
-has_room count (Some number) = nat_lt count 8
+abbrev pub sec_tag_after : Bool → Fields → Bool
+sec_tag_after found fields.SecTag = true
+sec_tag_after found _ = found
 
-abbrev pub takes : Seen → Fields → Option ℕ → Bool
-takes s fields announced =
-    fits s.told.link fields
-    && (has_room (length s.ids.items) (tag_id fields) && has_room (length s.types.items) announced)
+abbrev pub arp_after : Bool → Fields → Bool
+arp_after found fields.Arp = true
+arp_after found _ = found
 
-pub record IsTaken (s : Seen) (fields : Fields) (announced : Option ℕ) (t : Seen) : Type 0 where
-  pub fitting : fits s.told.link fields ≡ true
-  pub told : t.told ≡ told_after s.told fields
-  pub ids : t.ids.items ≡ s.ids.items ++ listed (tag_id fields)
-  pub types : t.types.items ≡ s.types.items ++ listed announced
+-- the VLAN tag, if it is one that this ether type announces
+abbrev pub tag_of : Fields → Option ℕ → Option Tag
+tag_of (fields.Tag id) announced = Some (record { ether_type = announced; id = id })
+tag_of _ announced = None
 
--- before the first header
-abbrev pub begun : Told
-begun = record { link = None; outer = None; inner = None; has_sec_tag = false; is_refused = false }
+-- the first tag
+abbrev pub outer_after : (outer tag : Option Tag) → Option Tag
+outer_after None tag = tag
+outer_after (Some first) tag = Some first
+
+-- the last one, if there are two or more
+abbrev pub inner_after : (outer inner tag : Option Tag) → Option Tag
+inner_after (Some first) inner (Some tag) = Some tag
+inner_after outer inner tag = inner
+
+-- the one that is between these from then on
+abbrev pub between_after : (outer inner tag : Option Tag) → Option Tag
+between_after (Some first) inner (Some tag) = inner
+between_after outer inner tag = None
+
+abbrev pub AreMarked : Option TagMarks → Option Tag → Option TagMarks → Type 0
+AreMarked old None new = new ≡ old
+AreMarked old (Some tag) new = IsMarked old tag new
+
+pub record IsTaken (s : Seen) (f : Fields) (announced : Option ℕ) (t : Seen) : Type 0 where
+  pub walked : t.is_walked ≡ s.is_walked
+  pub refused : t.is_refused ≡ s.is_refused
+  pub link : t.link ≡ link_after s.link f
+  pub sec_tag : t.has_sec_tag ≡ sec_tag_after s.has_sec_tag f
+  pub arp : t.has_arp ≡ arp_after s.has_arp f
+  pub outer : t.outer ≡ outer_after s.outer (tag_of f announced)
+  pub inner : t.inner ≡ inner_after s.outer s.inner (tag_of f announced)
+  pub between : AreMarked s.between (between_after s.outer s.inner (tag_of f announced)) t.between
 
 -- ---- of a primitive
 
 abbrev pub seen_in_link : Primitive → Option Addresses → Bool
 seen_in_link primitive None = false
-seen_in_link primitive (Some link) = shown_by_link primitive link.destination link.source
+seen_in_link primitive (Some link) = shown_by_link primitive (number link.destination) (number link.source)
 
-abbrev pub seen : Primitive → Told → (ids types : List ℕ) → Bool
-seen primitives.Vlan t ids types = is_some t.outer
-seen (primitives.VlanId n) t ids types = list_any (λ id. nat_eq id n) ids
-seen (primitives.OuterVlan n) t ids types = is_some_type n t.outer
-seen (primitives.InnerVlan n) t ids types = is_some_type n t.inner
-seen primitives.Macsec t ids types = t.has_sec_tag
-seen (primitives.EtherType n) t ids types = list_any (λ number. nat_eq number n) types
-seen primitives.Refused t ids types = t.is_refused
-seen primitive t ids types = seen_in_link primitive t.link
+-- whether an ether type is announced before a header, by the kind of the header
+abbrev pub announced_before : Option Kind → (tag sec_tag arp : Bool) → Bool
+announced_before (Some kinds.Vlan) tag sec_tag arp = tag
+announced_before (Some kinds.Macsec) tag sec_tag arp = sec_tag
+announced_before (Some kinds.Arp) tag sec_tag arp = arp
+announced_before _ tag sec_tag arp = false
 
--- .. for a packet of these lengths
-abbrev pub matches_seen : Primitive → (captured original : ℕ) → Seen → Bool
-matches_seen primitives.Cut captured original s = nat_lt captured original
-matches_seen (primitives.Less n) captured original s = nat_le original n
-matches_seen (primitives.Greater n) captured original s = nat_le n original
-matches_seen p captured original s = seen p s.told s.ids.items s.types.items
+-- .. before a VLAN tag
+abbrev pub announces_tag : ℕ → Seen → Bool
+announces_tag n s = (has_type n s.outer || has_type n s.inner) || is_marked_type s.between n
 
--- if there was room, what was seen matches each primitive exactly if the end of the walk finds it
-abbrev pub IsSeen : Next → List Header → Ending → Option Seen → Type 0
-IsSeen start hs e None = Unit {0}
-IsSeen start hs e (Some s) =
-    (p : Primitive) → seen p s.told s.ids.items s.types.items
-    ≡ found_at_end p (found_first p (ether_type_of start)) false hs e
+-- .. before a header
+abbrev pub was_announced : ℕ → Seen → Bool
+was_announced n s = announced_before (announced_by n) (announces_tag n s) s.has_sec_tag s.has_arp
 
--- the primitive asks about headers
-abbrev pub asks_headers : Primitive → Bool
-asks_headers primitives.Cut = false
-asks_headers (primitives.Less n) = false
-asks_headers (primitives.Greater n) = false
-asks_headers primitive = true
+abbrev pub is_announced : ℕ → Seen → Bool
+is_announced n s = is_some_type n s.last || was_announced n s
+
+-- whether a VLAN tag after the first one has this identifier
+abbrev pub has_further_id : ℕ → Option Tag → Option TagMarks → Bool
+has_further_id n None between = false
+has_further_id n (Some inner) between = nat_eq n inner.id || is_marked_id between n
+
+-- whether a primitive about headers matches
+abbrev pub seen : Primitive → Seen → Bool
+seen primitives.Vlan s = is_some s.outer
+seen (primitives.VlanId n) s = has_id n s.outer || has_further_id n s.inner s.between
+seen (primitives.OuterVlan n) s = has_id n s.outer
+seen (primitives.InnerVlan n) s = has_id n s.inner
+seen primitives.Macsec s = s.has_sec_tag
+seen (primitives.EtherType n) s = is_announced n s
+seen primitives.Refused s = s.is_refused
+seen primitives.Cut s = false
+seen (primitives.Less n) s = false
+seen (primitives.Greater n) s = false
+seen primitive s = seen_in_link primitive s.link
+
+-- ---- of a packet
+
+abbrev pub first : List ℕ → Option ℕ
+first [] = None
+first (n ∷ ns) = Some n
+
+abbrev pub last_from : ℕ → List ℕ → ℕ
+last_from n [] = n
+last_from n (m ∷ ms) = last_from m ms
+
+-- the last of two or more
+abbrev pub last_other : List ℕ → Option ℕ
+last_other (n ∷ m ∷ ms) = Some (last_from m ms)
+last_other _ = None
+
+-- whether a primitive matches
+abbrev pub matching : Walked → Primitive → Bool
+matching w primitives.Vlan = list_any is_tag w.headers
+matching w (primitives.VlanId n) = list_any (nat_eq n) (vlan_ids w.headers)
+matching w (primitives.OuterVlan n) = is_some_type n (first (vlan_ids w.headers))
+matching w (primitives.InnerVlan n) = is_some_type n (last_other (vlan_ids w.headers))
+matching w primitives.Macsec = list_any is_sec_tag w.headers
+matching w (primitives.EtherType n) = list_any (nat_eq n) (ether_types w.start w.headers)
+matching w (primitives.Source a) = list_any (is_from a) w.headers
+matching w (primitives.Destination a) = list_any (is_to a) w.headers
+matching w (primitives.Host a) = list_any (λ h. is_from a h || is_to a h) w.headers
+matching w primitives.Broadcast = list_any (is_to (2 ^ 48 - 1)) w.headers
+matching w primitives.Multicast = list_any is_to_group w.headers
+matching w primitives.Refused = is_some (refusal_of w.ending)
+matching w primitives.Cut = nat_lt w.captured w.original
+matching w (primitives.Less n) = nat_le w.original n
+matching w (primitives.Greater n) = nat_le n w.original
+
+-- what was seen matches each primitive about headers exactly if the packet does
+abbrev pub Shows : Walked → Seen → Type 0
+Shows w s = (p : Primitive) → is_of_lengths p ≡ false → seen p s ≡ matching w p
+
+-- nothing was seen, or the whole walk
+pub record IsSeen (w : Walked) (s : Seen) : Type 0 where
+  pub before : s.is_walked ≡ false → s ≡ nothing
+  pub after : s.is_walked ≡ true → Shows w s

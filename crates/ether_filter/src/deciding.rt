@@ -1,9 +1,10 @@
 //! What is known of a primitive if not all bytes of a packet were captured.
-ghost use Rattle.std.specs.Prelude.{◌≡◌, ◌↔◌, ◌<◌, ◌≤◌, ◌-◌, ◌^◌, List, Some, IsTrue};
+ghost use Rattle.std.specs.Prelude.{◌≡◌, ◌↔◌, ◌<◌, ◌≤◌, ◌-◌, ◌^◌, List, Some, IsTrue, length};
+ghost use Rattle.etherparse.specs.Bytes.{IsBytes};
 ghost use Rattle.etherparse.specs.Header.{Header};
 ghost use Rattle.ether_peel.specs.Grammar.Expectation.{has_fcs as has_fcs_of};
 ghost use Rattle.ether_peel.specs.Grammar.Stack.{Ending, Walk};
-ghost use Rattle.ether_peel.specs.Walker.Start.{start_of, next_of};
+ghost use Rattle.ether_peel.specs.Walker.Start.{start_of};
 ghost use Rattle.ether_filter.specs.Primitives.{walked, Matches};
 ghost use Rattle.ether_filter.specs.Expressions.{Test};
 ghost use Rattle.ether_filter.specs.Deciding.{lost as lost_of, is_of_lengths as is_of_lengths_of, is_of_link as is_of_link_of, can_tell as can_tell_of, IsTold, IsKnown};
@@ -29,16 +30,18 @@ pub(crate) struct Opening {
 
 /// The length with which a packet might have further headers; `None` if its headers are known.
 pub(crate) fn find_opening(packet: &Packet<'_>) -> Option<Opening>
-    ensures { (hs : List Header) (e : Ending) → Walk (start_of packet.now.start) packet.now.frame.now hs e
+    ensures bytes { IsBytes packet.now.frame.now }
+    ensures opening { (hs : List Header) (e : Ending) → Walk (start_of packet.now.start) packet.now.frame.now hs e
         → IsOpening packet.now e result }
 {
+    let len = frame_len(packet.frame);
     let lost = lost(packet);
     if lost == 0 {
         return None;
     }
     if has_fcs(packet.start) {
         return Some(Opening {
-            needed: packet.frame.len().saturating_add(lost),
+            needed: len.saturating_add(lost),
             layer: None,
         });
     }
@@ -47,9 +50,17 @@ pub(crate) fn find_opening(packet: &Packet<'_>) -> Option<Opening>
         return None;
     }
     Some(Opening {
-        needed: packet.frame.len().saturating_add(missing),
+        needed: len.saturating_add(missing),
         layer: Some(layer),
     })
+}
+
+/// The number of bytes of a frame.
+fn frame_len(frame: &[u8]) -> usize
+    ensures value { result ≡ length frame.now }
+    ensures bytes { IsBytes frame.now }
+{
+    frame.len()
 }
 
 /// The number of bytes that are missing at the end of a frame, and the layer of the unit that needs them. `None` if
@@ -85,11 +96,13 @@ fn lost(packet: &Packet<'_>) -> usize
 pub(crate) fn known(
     primitive: Primitive,
     packet: &Packet<'_>,
-    seen: &Option<Seen>,
+    seen: &mut Seen,
     opening: Option<Opening>,
 ) -> Option<bool>
-    ensures { (hs : List Header) (e : Ending) → Walk (start_of packet.now.start) packet.now.frame.now hs e
-        → IsSeen (next_of packet.now.start) hs e seen.now
+    ensures seen { (hs : List Header) (e : Ending) → Walk (start_of packet.now.start) packet.now.frame.now hs e
+        → IsSeen (walked packet.now hs e) seen.old → IsSeen (walked packet.now hs e) seen.new }
+    ensures value { (hs : List Header) (e : Ending) → Walk (start_of packet.now.start) packet.now.frame.now hs e
+        → IsSeen (walked packet.now hs e) seen.old
         → IsOpening packet.now e opening → IsValue packet.now hs e result (Test primitive) }
 {
     let is_match = matches_primitive(&primitive, packet, seen);
@@ -105,12 +118,14 @@ pub(crate) fn known(
 fn is_known(
     primitive: Primitive,
     packet: &Packet<'_>,
-    seen: &Option<Seen>,
+    seen: &mut Seen,
     is_match: bool,
     opening: Opening,
 ) -> bool
-    ensures { (hs : List Header) (e : Ending) → Walk (start_of packet.now.start) packet.now.frame.now hs e
-        → IsSeen (next_of packet.now.start) hs e seen.now
+    ensures seen { (hs : List Header) (e : Ending) → Walk (start_of packet.now.start) packet.now.frame.now hs e
+        → IsSeen (walked packet.now hs e) seen.old → IsSeen (walked packet.now hs e) seen.new }
+    ensures value { (hs : List Header) (e : Ending) → Walk (start_of packet.now.start) packet.now.frame.now hs e
+        → IsSeen (walked packet.now hs e) seen.old
         → IsTrue is_match ↔ Matches primitive (walked packet.now hs e) → IsOpening packet.now e (Some opening)
         → IsTrue result ↔ IsKnown packet.now hs e primitive }
 {
@@ -160,9 +175,11 @@ fn is_of_link(primitive: Primitive) -> bool
 
 /// Whether the headers so far decide a primitive, whatever headers follow. `is_match` says whether it matches these
 /// headers.
-fn is_told(primitive: Primitive, packet: &Packet<'_>, seen: &Option<Seen>, is_match: bool) -> bool
-    ensures { (hs : List Header) (e : Ending) → Walk (start_of packet.now.start) packet.now.frame.now hs e
-        → IsSeen (next_of packet.now.start) hs e seen.now
+fn is_told(primitive: Primitive, packet: &Packet<'_>, seen: &mut Seen, is_match: bool) -> bool
+    ensures seen { (hs : List Header) (e : Ending) → Walk (start_of packet.now.start) packet.now.frame.now hs e
+        → IsSeen (walked packet.now hs e) seen.old → IsSeen (walked packet.now hs e) seen.new }
+    ensures value { (hs : List Header) (e : Ending) → Walk (start_of packet.now.start) packet.now.frame.now hs e
+        → IsSeen (walked packet.now hs e) seen.old
         → IsTrue is_match ↔ Matches primitive (walked packet.now hs e)
         → IsTrue result ↔ IsTold primitive (walked packet.now hs e) }
 {

@@ -5,7 +5,7 @@ ghost use Rattle.ether_peel.specs.Grammar.Expectation.{Expectation};
 ghost use Rattle.ether_peel.specs.Walker.Start.{kind_shown};
 ghost use Rattle.ether_peel.specs.Walker.UnitHeader.{unit_header};
 ghost use Rattle.ether_filter.specs.Primitives.{ether_type_of, is_group as is_group_of};
-ghost use Rattle.ether_filter.specs.Following.{fields_of, shown_by_link};
+ghost use Rattle.ether_filter.specs.Fields.{fields_of, shown_by_link};
 
 use crate::primitive::Primitive;
 use ether_base::big_endian::u64_of;
@@ -19,10 +19,14 @@ const BROADCAST: u64 = 0xFFFF_FFFF_FFFF;
 #[derive(Clone, Copy)]
 pub(crate) enum Fields {
     /// The two addresses of an Ethernet II header.
-    Link { destination: u64, source: u64 },
+    Link {
+        destination: [u8; 6],
+        source: [u8; 6],
+    },
     /// The identifier of a VLAN tag.
     Tag(u16),
     SecTag,
+    Arp,
     Other,
 }
 
@@ -32,17 +36,18 @@ pub(crate) fn read_fields(unit: &PeelUnit<'_>) -> Fields
 {
     match unit {
         PeelUnit::Ethernet2(link) => Fields::Link {
-            destination: address(link.destination()),
-            source: address(link.source()),
+            destination: link.destination(),
+            source: link.source(),
         },
         PeelUnit::Vlan(tag) => Fields::Tag(tag.vlan_identifier().value()),
         PeelUnit::Macsec(_) => Fields::SecTag,
+        PeelUnit::Arp(_) => Fields::Arp,
         _ => Fields::Other,
     }
 }
 
 /// An address as one number, its first byte the most significant one.
-fn address(bytes: [u8; 6]) -> u64
+pub(crate) fn address(bytes: [u8; 6]) -> u64
     ensures { result ≡ number bytes }
 {
     let [a, b, c, d, e, f] = bytes;

@@ -4,14 +4,14 @@ ghost use Rattle.arrayvec.specs.ArrayVec.{array_vec_len};
 ghost use Rattle.etherparse.specs.Bytes.{IsBytes};
 ghost use Rattle.etherparse.specs.Header.{Header};
 ghost use Rattle.ether_peel.specs.Grammar.Stack.{Ending, Walk};
-ghost use Rattle.ether_peel.specs.Walker.Start.{start_of, next_of};
+ghost use Rattle.ether_peel.specs.Walker.Start.{start_of};
 ghost use Rattle.ether_filter.specs.Primitives.{walked, Matches};
 ghost use Rattle.ether_filter.specs.Jumps.{LeadsOn};
 ghost use Rattle.ether_filter.specs.Expressions.{Expression, Holds};
 ghost use Rattle.ether_filter.specs.Postfix.{postfix, pushed};
 ghost use Rattle.ether_filter.specs.FilterProgram.{IsProgramOf};
 ghost use Rattle.ether_filter.specs.Evaluation.{AreValues, IsOpening, IsValue};
-ghost use Rattle.ether_filter.specs.Seen.{IsSeen, asks_headers as asks_headers_of};
+ghost use Rattle.ether_filter.specs.Seen.{nothing, IsSeen};
 ghost use Rattle.ether_filter.specs.Deciding.{Says};
 
 use crate::deciding::{Opening, find_opening, joined_value, known};
@@ -19,13 +19,11 @@ use crate::decision::Decision;
 use crate::filter::MAX_WORDS;
 use crate::instruction::Instruction;
 use crate::jumps::{HOLDS, jumps_of, past_tags};
-use crate::matching::{matches_primitive, matches_walked};
+use crate::matching::matches_primitive;
 use crate::node::Node;
 use crate::packet::Packet;
-use crate::primitive::Primitive;
-use crate::seen::{Seen, Tags, look, tags_seen};
+use crate::seen::{Seen, Tags, tags_seen};
 use arrayvec::ArrayVec;
-use ether_peel::Start;
 
 /// Returns `true` if a packet matches the filter of these instructions, as [`Filter::matches`](crate::Filter::matches)
 /// says.
@@ -51,23 +49,23 @@ pub fn matches(instructions: &[Instruction], packet: &Packet<'_>) -> bool
         → Walk (start_of packet.now.start) packet.now.frame.now hs e → IsTrue result
         ↔ Holds x (walked packet.now hs e) }
 {
+    let mut seen = Seen::new();
     if let [instruction] = instructions {
         if let Some(primitive) = instruction.primitive() {
-            return matches_walked(&primitive, packet);
+            return matches_primitive(&primitive, packet, &mut seen);
         }
     }
-    matches_by_jumps(instructions, packet)
+    matches_by_jumps(instructions, packet, &mut seen)
 }
 
-/// Whether a packet matches, by what one walk shows for all primitives.
-fn matches_by_jumps(instructions: &[Instruction], packet: &Packet<'_>) -> bool
-    ensures { (x : Expression) → IsProgramOf instructions.now x → (hs : List Header) (e : Ending)
+/// Whether a packet matches: tests the primitives from left to right that decide this.
+#[inline(always)]
+fn matches_by_jumps(instructions: &[Instruction], packet: &Packet<'_>, seen: &mut Seen) -> bool
+    ensures { seen.old ≡ nothing → (x : Expression) → IsProgramOf instructions.now x → (hs : List Header) (e : Ending)
         → Walk (start_of packet.now.start) packet.now.frame.now hs e → IsTrue result
         ↔ Holds x (walked packet.now hs e) }
 {
-    let seen = look_for(instructions, packet.start, packet.frame);
-    let tags = tags_seen(&seen);
-    let mut at = past_misses(instructions, 0, tags);
+    let mut at = 0;
     while at < instructions.len() {
         let instruction = &instructions[at];
         let Some(primitive) = instruction.primitive() else {
@@ -75,11 +73,11 @@ fn matches_by_jumps(instructions: &[Instruction], packet: &Packet<'_>) -> bool
         };
         let next = instruction
             .jump
-            .after(matches_primitive(&primitive, packet, &seen));
+            .after(matches_primitive(&primitive, packet, seen));
         if next <= at {
             return false; // not reached: each jump leads forward
         }
-        at = past_misses(instructions, next, tags);
+        at = past_misses(instructions, next, tags_seen(seen));
     }
     at == usize::from(HOLDS)
 }
@@ -98,6 +96,7 @@ fn past_misses(instructions: &[Instruction], begin: usize, tags: Tags) -> usize
 }
 
 /// .. past primitives that ask for VLAN tags, if there are none.
+#[inline(never)]
 fn past_all(instructions: &[Instruction], begin: usize) -> usize
     ensures forward { begin ≤ result }
     ensures reaches { (x : Expression) (p : IsProgramOf instructions.now x)
@@ -115,6 +114,7 @@ fn past_all(instructions: &[Instruction], begin: usize) -> usize
 }
 
 /// .. past primitives that ask for another identifier than that of the only VLAN tag.
+#[inline(never)]
 fn past_others(instructions: &[Instruction], begin: usize, id: u16) -> usize
     ensures forward { begin ≤ result }
     ensures reaches { (x : Expression) (p : IsProgramOf instructions.now x)
@@ -142,7 +142,7 @@ pub fn decide(instructions: &[Instruction], packet: &Packet<'_>) -> Decision
     ensures bytes { IsBytes packet.now.frame.now }
 {
     let opening = find_opening(packet);
-    let seen = look_for(instructions, packet.start, packet.frame);
+    let mut seen = Seen::new();
     let mut values = ArrayVec::new();
     for instruction in instructions {
         if values.is_full() {
@@ -151,7 +151,7 @@ pub fn decide(instructions: &[Instruction], packet: &Packet<'_>) -> Decision
         let Some(node) = instruction.node() else {
             return Decision::Fails; // not reached: each instruction has a node
         };
-        decide_node(&mut values, node, packet, &seen, opening);
+        decide_node(&mut values, node, packet, &mut seen, opening);
     }
     decision(values.pop().unwrap_or(None), opening)
 }
@@ -168,34 +168,6 @@ pub(crate) fn instructions_of(nodes: &[Node]) -> ArrayVec<Instruction, MAX_WORDS
         instructions.push(Instruction::of(*node, jumps[at], past_tags[at]));
     }
     instructions
-}
-
-/// What the headers of a packet show. `None` if no instruction asks for headers, or if there is no room for what they
-/// show.
-#[inline]
-fn look_for(instructions: &[Instruction], start: Start, frame: &[u8]) -> Option<Seen>
-    ensures bytes { IsBytes frame.now }
-    ensures seen { (hs : List Header) (e : Ending) → Walk (start_of start) frame.now hs e
-        → IsSeen (next_of start) hs e result }
-{
-    for instruction in instructions {
-        if let Some(primitive) = instruction.primitive() {
-            if asks_headers(primitive) {
-                return look(start, frame);
-            }
-        }
-    }
-    None
-}
-
-/// Whether a primitive asks for headers.
-fn asks_headers(primitive: Primitive) -> bool
-    ensures { result ≡ asks_headers_of primitive }
-{
-    !matches!(
-        primitive,
-        Primitive::Cut | Primitive::Less(_) | Primitive::Greater(_)
-    )
 }
 
 /// The decision on an expression with this value, where `None` is unknown.
@@ -217,13 +189,15 @@ fn decide_node(
     values: &mut ArrayVec<Option<bool>, MAX_WORDS>,
     node: Node,
     packet: &Packet<'_>,
-    seen: &Option<Seen>,
+    seen: &mut Seen,
     opening: Option<Opening>,
 )
     requires { array_vec_len values.old < MAX_WORDS }
     ensures len { array_vec_len values.new ≤ array_vec_len values.old + 1 }
+    ensures seen { (hs : List Header) (e : Ending) → Walk (start_of packet.now.start) packet.now.frame.now hs e
+        → IsSeen (walked packet.now hs e) seen.old → IsSeen (walked packet.now hs e) seen.new }
     ensures values { (hs : List Header) (e : Ending) → Walk (start_of packet.now.start) packet.now.frame.now hs e
-        → IsSeen (next_of packet.now.start) hs e seen.now → IsOpening packet.now e opening
+        → IsSeen (walked packet.now hs e) seen.old → IsOpening packet.now e opening
         → (xs : List Expression) → AreValues (IsValue packet.now hs e) (reverse values.old.items) xs
         → AreValues (IsValue packet.now hs e) (reverse values.new.items) (pushed xs node) }
 {

@@ -19,6 +19,7 @@ mod packet;
 mod primitive;
 mod reading;
 mod seen;
+mod tag_marks;
 mod text_words;
 mod token;
 

@@ -1,215 +1,223 @@
 //! `Seen`: what one walk through a packet shows, for all primitives together.
-ghost use Rattle.std.specs.Prelude.{◌≡◌, ◌++◌, ℕ, List, IsTrue, nat_eq, [], length};
-ghost use Rattle.std.specs.List.{list_any};
-ghost use Rattle.etherparse.specs.Header.{Header};
-ghost use Rattle.ether_peel.specs.Grammar.Stack.{Ending, Walk};
+ghost use Rattle.std.specs.Prelude.{◌≡◌, IsTrue};
+ghost use Rattle.ether_peel.specs.Grammar.Stack.{Walk};
 ghost use Rattle.ether_peel.specs.Walker.Start.{start_of, next_of};
-ghost use Rattle.ether_filter.specs.Primitives.{listed};
+ghost use Rattle.ether_filter.specs.Primitives.{Walked};
 ghost use Rattle.ether_filter.specs.Jumps.{tags_seen as tags_seen_of};
-ghost use Rattle.ether_filter.specs.Seen.{told_after as told_after_of, tag_id as tag_id_of, fits as fits_of, has_room, takes, matches_seen, begun, IsTaken, IsSeen};
+ghost use Rattle.ether_filter.specs.TagMarks.{is_some_type, has_id as has_id_of, has_type as has_type_of};
+ghost use Rattle.ether_filter.specs.Seen.{nothing, Shows, IsTaken, has_further_id, seen as seen_by, is_announced as is_announced_of};
 
-use crate::fields::{Fields, announced_type, is_shown_by_link, read_fields};
+use crate::fields::{Fields, address, announced_type, is_shown_by_link, read_fields};
 use crate::primitive::Primitive;
-use arrayvec::ArrayVec;
+use crate::tag_marks::{Tag, TagMarks, has_id, has_type, mark};
 use ether_peel::{Peel, Start};
-
-/// The most VLAN identifiers, and the most ether types, that are kept.
-const ROOM: usize = 8;
+use etherparse::EtherType;
 
 /// The two addresses of a link.
 #[derive(Clone, Copy)]
 pub(crate) struct Addresses {
-    destination: u64,
-    source: u64,
+    destination: [u8; 6],
+    source: [u8; 6],
 }
 
-/// What headers show, except for the identifiers and ether types, which can be many.
-#[derive(Clone, Copy)]
-pub(crate) struct Told {
-    link: Option<Addresses>,
-    /// The identifier of the first VLAN tag.
-    outer: Option<u16>,
-    /// The identifier of the last VLAN tag, if there are two or more.
-    inner: Option<u16>,
-    has_sec_tag: bool,
-    is_refused: bool,
-}
-
-/// What headers show.
+/// What the headers of a packet show.
 #[derive(Drop)]
 pub(crate) struct Seen {
-    told: Told,
-    /// The identifiers of the VLAN tags.
-    ids: ArrayVec<u16, ROOM>,
-    /// The ether types that are announced.
-    types: ArrayVec<u16, ROOM>,
+    /// Whether the walk was taken.
+    pub is_walked: bool,
+    is_refused: bool,
+    has_sec_tag: bool,
+    has_arp: bool,
+    link: Option<Addresses>,
+    /// The ether type that is announced after the last header.
+    last: Option<u16>,
+    /// The first VLAN tag.
+    outer: Option<Tag>,
+    /// The last VLAN tag, if there are two or more.
+    inner: Option<Tag>,
+    /// The VLAN tags between these.
+    between: Option<TagMarks>,
 }
 
-/// Walks through a packet, and returns what its headers show. `None` if there is no room for that.
-pub(crate) fn look(start: Start, frame: &[u8]) -> Option<Seen>
-    ensures { (hs : List Header) (e : Ending) → Walk (start_of start) frame.now hs e
-        → IsSeen (next_of start) hs e result }
-{
-    let mut peel = Peel::new(start, frame);
-    let mut seen = begin(announced_type(peel.kind()));
-    loop {
-        match peel.next() {
-            Some(Ok(unit)) => {
-                if !take(&mut seen, read_fields(&unit), announced_type(peel.kind())) {
-                    return None;
-                }
-            }
-            Some(Err(_)) => {
-                seen.told.is_refused = true;
-                return Some(seen);
-            }
-            None => return Some(seen),
+impl Seen {
+    /// What is known before the walk.
+    #[inline(always)]
+    pub(crate) fn new() -> Seen
+        ensures { result ≡ nothing }
+    {
+        Seen {
+            is_walked: false,
+            is_refused: false,
+            has_sec_tag: false,
+            has_arp: false,
+            link: None,
+            last: None,
+            outer: None,
+            inner: None,
+            between: None,
         }
     }
 }
 
-/// What is known before the first header: the ether type that is announced, if one is.
-fn begin(announced: Option<u16>) -> Seen
-    ensures told { result.told ≡ begun }
-    ensures ids { result.ids.items ≡ [] }
-    ensures types { result.types.items ≡ listed announced }
+/// Walks through a packet, and keeps what its headers show.
+#[inline(always)]
+pub(crate) fn look(start: Start, frame: &[u8], seen: &mut Seen)
+    ensures walked { IsTrue seen.new.is_walked }
+    ensures shown { seen.old ≡ nothing → (w : Walked) → w.start ≡ next_of start
+        → Walk (start_of start) frame.now w.headers w.ending → Shows w seen.new }
 {
-    let mut types = ArrayVec::new();
-    if let Some(number) = announced {
-        types.push(number);
-    }
-    Seen {
-        told: Told {
-            link: None,
-            outer: None,
-            inner: None,
-            has_sec_tag: false,
-            is_refused: false,
-        },
-        ids: ArrayVec::new(),
-        types,
+    let mut peel = Peel::new(start, frame);
+    seen.is_walked = true;
+    loop {
+        let announced = announced_type(peel.kind());
+        match peel.next() {
+            Some(Ok(unit)) => take(seen, read_fields(&unit), announced),
+            Some(Err(_)) => {
+                seen.last = announced;
+                seen.is_refused = true;
+                return;
+            }
+            None => {
+                seen.last = announced;
+                return;
+            }
+        }
     }
 }
 
-/// Adds what a further header shows. Returns `false` if there is no room for it.
-fn take(seen: &mut Seen, fields: Fields, announced: Option<u16>) -> bool
-    ensures room { result ≡ takes seen.old fields announced }
-    ensures taken { IsTrue result → IsTaken seen.old fields announced seen.new }
-{
-    if !fits(seen.told.link, fields) {
-        return false;
-    }
-    seen.told = told_after(seen.told, fields);
-    keep(&mut seen.ids, tag_id(fields)) && keep(&mut seen.types, announced)
-}
-
-/// Whether these are not the fields of a second link.
-fn fits(link: Option<Addresses>, fields: Fields) -> bool
-    ensures { result ≡ fits_of link fields }
-{
-    !matches!((link, fields), (Some(_), Fields::Link { .. }))
-}
-
-/// What is known after a further header with these fields.
-fn told_after(told: Told, fields: Fields) -> Told
-    ensures { result ≡ told_after_of told fields }
+/// Adds what a further header shows, which this ether type announces.
+#[inline(always)]
+fn take(seen: &mut Seen, fields: Fields, announced: Option<u16>)
+    ensures { IsTaken seen.old fields announced seen.new }
 {
     match fields {
         Fields::Link {
             destination,
             source,
-        } => Told {
-            link: Some(Addresses {
+        } => {
+            seen.link = Some(Addresses {
                 destination,
                 source,
-            }),
-            ..told
-        },
-        Fields::Tag(id) => match told.outer {
-            None => Told {
-                outer: Some(id),
-                inner: None,
-                ..told
-            },
-            Some(_) => Told {
-                inner: Some(id),
-                ..told
-            },
-        },
-        Fields::SecTag => Told {
-            has_sec_tag: true,
-            ..told
-        },
-        Fields::Other => told,
-    }
-}
-
-/// The identifier of a VLAN tag.
-fn tag_id(fields: Fields) -> Option<u16>
-    ensures { result ≡ tag_id_of fields }
-{
-    match fields {
-        Fields::Tag(id) => Some(id),
-        _ => None,
-    }
-}
-
-/// Appends a number, if there is one. Returns `false` if there is no room for it.
-fn keep(numbers: &mut ArrayVec<u16, ROOM>, number: Option<u16>) -> bool
-    ensures room { result ≡ has_room (length numbers.old.items) number }
-    ensures kept { IsTrue result → numbers.new.items ≡ numbers.old.items ++ listed number }
-{
-    if let Some(number) = number {
-        if numbers.is_full() {
-            return false;
+            });
         }
-        numbers.push(number);
+        Fields::Tag(id) => take_tag(
+            seen,
+            Tag {
+                ether_type: announced,
+                id,
+            },
+        ),
+        Fields::SecTag => seen.has_sec_tag = true,
+        Fields::Arp => seen.has_arp = true,
+        Fields::Other => {}
     }
-    true
 }
 
-/// Whether a primitive matches a packet of these lengths in which this was seen.
-#[inline]
-pub(crate) fn is_seen(
-    primitive: &Primitive,
-    captured_len: usize,
-    original_len: u32,
-    seen: &Seen,
-) -> bool
-    ensures { result ≡ matches_seen primitive.now captured_len original_len seen.now }
+/// Adds a further VLAN tag.
+#[inline(always)]
+fn take_tag(seen: &mut Seen, tag: Tag)
+    ensures { IsTaken seen.old (Fields.Tag tag.id) tag.ether_type seen.new }
+{
+    if seen.outer.is_none() {
+        seen.outer = Some(tag);
+        return;
+    }
+    if let Some(former) = seen.inner {
+        mark(&mut seen.between, former);
+    }
+    seen.inner = Some(tag);
+}
+
+/// Whether a primitive about headers matches a packet in which this was seen.
+#[inline(always)]
+pub(crate) fn is_seen(primitive: &Primitive, seen: &Seen) -> bool
+    ensures { result ≡ seen_by primitive.now seen.now }
 {
     match *primitive {
-        Primitive::Vlan => seen.told.outer.is_some(),
-        Primitive::VlanId(id) => has(seen.ids.as_slice(), id),
-        Primitive::OuterVlan(id) => seen.told.outer == Some(id),
-        Primitive::InnerVlan(id) => seen.told.inner == Some(id),
-        Primitive::Macsec => seen.told.has_sec_tag,
-        Primitive::EtherType(number) => has(seen.types.as_slice(), number),
-        Primitive::Refused => seen.told.is_refused,
-        Primitive::Cut => captured_len < original_len as usize,
-        Primitive::Less(len) => original_len <= len,
-        Primitive::Greater(len) => original_len >= len,
+        Primitive::Vlan => seen.outer.is_some(),
+        Primitive::VlanId(id) => is_id(seen.outer, id) || is_further_id(id, seen),
+        Primitive::OuterVlan(id) => is_id(seen.outer, id),
+        Primitive::InnerVlan(id) => is_id(seen.inner, id),
+        Primitive::Macsec => seen.has_sec_tag,
+        Primitive::EtherType(number) => is_announced(number, seen),
+        Primitive::Refused => seen.is_refused,
+        Primitive::Cut | Primitive::Less(_) | Primitive::Greater(_) => false,
         Primitive::Source(_)
         | Primitive::Destination(_)
         | Primitive::Host(_)
         | Primitive::Broadcast
-        | Primitive::Multicast => match seen.told.link {
-            Some(link) => is_shown_by_link(*primitive, link.destination, link.source),
+        | Primitive::Multicast => match seen.link {
+            Some(link) => is_shown_by_link(
+                *primitive,
+                address(link.destination),
+                address(link.source),
+            ),
             None => false,
         },
     }
 }
 
-/// Whether a number is among those that are kept.
-fn has(numbers: &[u16], number: u16) -> bool
-    ensures { result ≡ list_any (λ n. nat_eq n number) numbers.now }
+/// Whether a VLAN tag has this identifier.
+#[inline(always)]
+fn is_id(tag: Option<Tag>, id: u16) -> bool
+    ensures { result ≡ has_id_of id tag }
 {
-    for known in numbers {
-        if *known == number {
-            return true;
-        }
+    match tag {
+        Some(tag) => id == tag.id,
+        None => false,
     }
-    false
+}
+
+/// Whether a VLAN tag after the first one has this identifier.
+#[inline(always)]
+fn is_further_id(id: u16, seen: &Seen) -> bool
+    ensures { result ≡ has_further_id id seen.now.inner seen.now.between }
+{
+    match seen.inner {
+        Some(tag) => id == tag.id || has_id(&seen.between, id),
+        None => false,
+    }
+}
+
+/// Whether a VLAN tag is announced by this ether type.
+#[inline(always)]
+fn is_type(tag: Option<Tag>, number: u16) -> bool
+    ensures { result ≡ has_type_of number tag }
+{
+    match tag {
+        Some(tag) => is_number(tag.ether_type, number),
+        None => false,
+    }
+}
+
+/// Whether there is an ether type, and it is this one.
+#[inline(always)]
+fn is_number(ether_type: Option<u16>, number: u16) -> bool
+    ensures { result ≡ is_some_type number ether_type }
+{
+    match ether_type {
+        Some(ether_type) => number == ether_type,
+        None => false,
+    }
+}
+
+/// Whether an ether type is announced.
+fn is_announced(number: u16, seen: &Seen) -> bool
+    ensures { result ≡ is_announced_of number seen.now }
+{
+    is_number(seen.last, number)
+        || match EtherType(number) {
+            EtherType::VLAN_TAGGED_FRAME
+            | EtherType::PROVIDER_BRIDGING
+            | EtherType::VLAN_DOUBLE_TAGGED_FRAME => {
+                is_type(seen.outer, number)
+                    || is_type(seen.inner, number)
+                    || has_type(&seen.between, number)
+            }
+            EtherType::MACSEC => seen.has_sec_tag,
+            EtherType::ARP => seen.has_arp,
+            _ => false,
+        }
 }
 
 /// What is known of the VLAN tags of a packet.
@@ -224,17 +232,16 @@ pub(crate) enum Tags {
 }
 
 /// What is known of the VLAN tags of a packet, by what was seen in it.
-pub(crate) fn tags_seen(seen: &Option<Seen>) -> Tags
+#[inline(always)]
+pub(crate) fn tags_seen(seen: &Seen) -> Tags
     ensures { result ≡ tags_seen_of seen.now }
 {
-    let Some(seen) = seen else {
+    if !seen.is_walked {
         return Tags::Any;
-    };
-    if seen.told.outer.is_none() {
-        return Tags::Untagged;
     }
-    match seen.ids.as_slice() {
-        [id] => Tags::One(*id),
+    match (seen.outer, seen.inner) {
+        (None, _) => Tags::Untagged,
+        (Some(tag), None) => Tags::One(tag.id),
         _ => Tags::Any,
     }
 }

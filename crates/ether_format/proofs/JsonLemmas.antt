@@ -1,120 +1,139 @@
--- Members as they are written are those of an object.
-use Rattle.std.proofs.Common.{◌≡◌, ℕ, Bool, true, false, List, [], ◌∷◌, ◌++◌, map, length, Option, refl, sym, ap, ◌∙◌, append_assoc}
-use Rattle.std.specs.Prelude.{codes}
+-- Objects, written member by member.
+use Rattle.std.proofs.Common.{◌≡◌, ℕ, List, [], ◌∷◌, ◌++◌, Bool, true, false, refl, sym, ap, ◌∙◌, append_assoc}
+use Rattle.std.specs.Prelude.{codes, if◌then◌else◌, Option, Some, None}
 use Rattle.std.specs.List.{flat_map}
-use Rattle.ether_pcap.specs.Capture.{PacketValue}
-use Rattle.ether_format.specs.declared.moment.Moment.{Moment}
-use Rattle.ether_format.specs.declared.value.Member.{Member as DeclaredMember}
-use Rattle.ether_format.specs.Members.{Member, Value, Number, Flag, Word, Time, if_some, member, packet_members}
-use Rattle.ether_format.specs.Told.{Place, Told, ToldEnd, Cause, told_members, Fault, placed_members, rest_members, cause_members, end_members}
-use Rattle.ether_format.specs.Spelling.{json_value, quoted}
-use Rattle.ether_format.specs.declared.format.Part.TheVariants.{Json}
-use Rattle.ether_format.specs.Json.{json_end, json_member, json_members, json_object, json_objects}
-use Rattle.ether_format.specs.Walking.{Keyed, key_of, keyed, keyed_text, keyed_view, member_text, others, told_text}
+use Rattle.etherparse.specs.Header as headers
+use Rattle.etherparse.specs.Ethernet2.{ethernet2_of}
+use Rattle.ether_peel.specs.declared.peel_unit.PeelUnit.TheVariants as units
+use Rattle.ether_fields.specs.Fields.{section_name, section_rows}
+use Rattle.ether_fields.specs.Rows.{Row, place_rows, ethernet2_rows, linux_sll_rows, linux_sll2_rows, vlan_rows, macsec_rows, arp_rows}
+use Rattle.ether_fields.specs.Units.{header_section}
+use Rattle.ether_fields.specs.declared.section.Section.{Section}
+use Rattle.ether_format.specs.declared.found.Found.{Found}
+use Rattle.ether_format.specs.declared.found_header.FoundHeader.{FoundHeader}
+use Rattle.ether_format.specs.declared.found_header.FoundHeader.TheVariants as found
+use Rattle.ether_format.specs.Found.{found_told}
+use Rattle.ether_format.specs.FoundHeaders.{found_keyed, found_section, found_values}
+use Rattle.ether_format.specs.Json.{json_member, json_object, json_objects}
+use Rattle.ether_format.specs.Lines.{headers_text}
+use Rattle.ether_format.specs.declared.line.Line.TheVariants.{Json, Brief}
+use Rattle.ether_format.specs.Members.{Member, Value, members}
+use Rattle.ether_format.specs.Spelling.{json_value}
+use Rattle.ether_format.specs.Told.{Told, place_values, told_members}
+use Rattle.ether_format.specs.Values.{Keyed, keyed, keyed_after, keyed_text}
+use Rattle.ether_format.specs.Brief.{brief_told}
+use Rattle.ether_format.proofs.ColumnLemmas.{found_own, found_told_section}
+use Rattle.ether_format.proofs.ListLemmas.{flat_map-append}
 
-as_keyed : (l : List DeclaredMember) → flat_map member_text l ≡ flat_map keyed_text (map keyed_view l)
-as_keyed [] = refl
-as_keyed (m ∷ l) = ap (λ t. member_text m ++ t) (as_keyed l)
+-- ---- members
 
--- a key and its value
-keyed_member : (before : List ℕ) (m : Member) → keyed_text (key_of before m) ≡ before ++ json_member m
-keyed_member before m =
-    append_assoc before (quoted m.name ++ codes ":") (json_value m.value)
-    ∙ ap (λ t. before ++ t) (append_assoc (quoted m.name) (codes ":") (json_value m.value))
+abbrev later : Member → List ℕ
+later m = codes "," ++ json_member m
 
-others_text : (ms : List Member) → flat_map keyed_text (others ms) ≡ flat_map (λ n. codes "," ++ json_member n) ms
-others_text [] = refl
-others_text (m ∷ ms) = λ i. keyed_member (codes ",") m i ++ others_text ms i
+-- a name between quotation marks, a colon, and a value
+named : (name value : List ℕ) → (name ++ codes "\":") ++ value ≡ (name ++ codes "\"") ++ (codes ":" ++ value)
+named name value =
+    append_assoc name (codes "\":") value ∙ sym (append_assoc name (codes "\"") (codes ":" ++ value))
 
-joined : (a b : List Keyed) → flat_map keyed_text (a ++ b) ≡ flat_map keyed_text a ++ flat_map keyed_text b
-joined [] b = refl
-joined (k ∷ a) b = ap (λ t. keyed_text k ++ t) (joined a b)
-    ∙ sym (append_assoc (keyed_text k) (flat_map keyed_text a) (flat_map keyed_text b))
+pub after_text : (rs : List Row) (vs : List (Option Value))
+    → flat_map keyed_text (keyed_after rs vs) ≡ flat_map later (members rs vs)
+after_text [] [] = refl
+after_text [] (v ∷ vs) = refl
+after_text (r ∷ rs) [] = refl
+after_text (r ∷ rs) (Some v ∷ vs) =
+    λ i. (codes ",\"" ++ named r.name (json_value v) i) ++ after_text rs vs i
+after_text (r ∷ rs) (None ∷ vs) = after_text rs vs
 
-others_joined : (a b : List Member) → others a ++ others b ≡ others (a ++ b)
-others_joined [] b = refl
-others_joined (m ∷ a) b = ap (λ l. key_of (codes ",") m ∷ l) (others_joined a b)
+-- the first row has a value
+abbrev pub has_first : List Row → List (Option Value) → Bool
+has_first (r ∷ rs) (Some v ∷ vs) = true
+has_first rs vs = false
 
--- the members of an object, the first after a brace
-pub members_text : (m : Member) (ms : List Member)
-    → flat_map keyed_text (keyed (m ∷ ms)) ≡ codes "{" ++ json_members (m ∷ ms)
-members_text m ms =
-    (λ i. keyed_member (codes "{") m i ++ others_text ms i)
-    ∙ append_assoc (codes "{") (json_member m) (flat_map (λ n. codes "," ++ json_member n) ms)
-
-written_members : (l : List DeclaredMember) (m : Member) (ms : List Member) → map keyed_view l ≡ keyed (m ∷ ms)
-    → flat_map member_text l ≡ codes "{" ++ json_members (m ∷ ms)
-written_members l m ms is = as_keyed l ∙ ap (flat_map keyed_text) is ∙ members_text m ms
-
--- .. of a packet
-pub written_packet : (number : ℕ) (p : PacketValue) (moment : Option Moment) (l : List DeclaredMember)
-    → map keyed_view l ≡ keyed (packet_members number p moment)
-    → flat_map member_text l ≡ codes "{" ++ json_members (packet_members number p moment)
-written_packet number p moment l is =
-    written_members l (member (codes "number") (Number number))
-    (member (codes "time") (if_some Time moment) ∷ member (codes "link") (Number p.link_type)
-    ∷ member (codes "captured") (Number (length p.packet)) ∷ member (codes "original") (Number p.original_len) ∷ []) is
-
--- .. in two lists, and a closing brace
-pub object_is : (first own : List DeclaredMember) (m : Member) (ms os : List Member)
-    → map keyed_view first ≡ keyed (m ∷ ms)
-    → map keyed_view own ≡ others os
-    → flat_map member_text first ++ (flat_map member_text own ++ codes "}") ≡ json_object (m ∷ (ms ++ os))
+-- an object from its first member on
+pub whole_object : (rs : List Row) (vs : List (Option Value)) → has_first rs vs ≡ true
+    → flat_map keyed_text (keyed rs vs) ++ codes "}" ≡ json_object (members rs vs)
 unfolding json_object
-object_is first own m ms os begins goes_on =
-    let a = keyed (m ∷ ms) in
-    let b = others os in
-    let all : a ++ b ≡ keyed (m ∷ (ms ++ os)) = ap (λ l. key_of (codes "{") m ∷ l) (others_joined ms os) in
-    (λ i. (as_keyed first ∙ ap (flat_map keyed_text) begins) i
-    ++ ((as_keyed own ∙ ap (flat_map keyed_text) goes_on) i ++ codes "}"))
-    ∙ sym (append_assoc (flat_map keyed_text a) (flat_map keyed_text b) (codes "}"))
-    ∙ ap (λ t. t ++ codes "}") (sym (joined a b) ∙ ap (flat_map keyed_text) all ∙ members_text m (ms ++ os))
-    ∙ append_assoc (codes "{") (json_members (m ∷ (ms ++ os))) (codes "}")
+whole_object (r ∷ rs) (Some v ∷ vs) first =
+    λ i. ((codes "{\"" ++ named r.name (json_value v) i) ++ after_text rs vs i) ++ codes "}"
+whole_object (r ∷ rs) (None ∷ vs) first = absurd cc
+whole_object (r ∷ rs) [] first = absurd cc
+whole_object [] vs first = absurd cc
 
--- .. of a header, of which the first list has the name and the place
-pub placed_object : (name : List ℕ) (place : Place) (first own : List DeclaredMember) (os : List Member)
-    → map keyed_view first ≡ keyed (placed_members name place []) → map keyed_view own ≡ others os
-    → flat_map member_text first ++ (flat_map member_text own ++ codes "}") ≡ json_object (placed_members name place os)
-placed_object name place first own os begins goes_on =
-    object_is first own (member (codes "header") (Word name))
-    (member (codes "start") (Number place.start) ∷ member (codes "end") (Number place.header_end)
-    ∷ member (codes "payload_end") (Number place.payload_end) ∷ member (codes "closed") (Flag place.closed) ∷ [])
-    os begins goes_on
+-- ---- headers
 
--- .. of what is left, in one list
-pub rest_object : (start finish : ℕ) (kind : List ℕ) (announced : Value) (l : List DeclaredMember)
-    → map keyed_view l ≡ keyed (rest_members start finish kind announced)
-    → flat_map member_text l ++ ([] ++ codes "}") ≡ json_object (rest_members start finish kind announced)
-rest_object start finish kind announced l is =
-    object_is l [] (member (codes "start") (Number start))
-    (member (codes "end") (Number finish) ∷ member (codes "kind") (Word kind) ∷ member (codes "type") announced ∷ []) []
-    is refl
+abbrev own_rows : FoundHeader → List Row
+own_rows (found.Walked (units.Ethernet2 f)) = ethernet2_rows
+own_rows (found.Walked (units.LinuxSll bytes)) = linux_sll_rows
+own_rows (found.Walked (units.Vlan bytes)) = vlan_rows
+own_rows (found.Walked (units.Macsec packet)) = macsec_rows
+own_rows (found.Walked (units.Arp bytes)) = arp_rows
+own_rows (found.Cooked header) = linux_sll_rows
+own_rows (found.CookedV2 packet) = linux_sll2_rows
 
--- .. of a fault, of which the second list has the cause
-pub fault_object : (start : ℕ) (closed : Bool) (cause : Cause) (first own : List DeclaredMember)
-    → map keyed_view first ≡ keyed (member (codes "start") (Number start) ∷ member (codes "closed") (Flag closed) ∷ [])
-    → map keyed_view own ≡ others (cause_members cause)
-    → flat_map member_text first ++ (flat_map member_text own ++ codes "}")
-    ≡ json_object (end_members (Fault start closed cause))
-fault_object start closed cause first own begins goes_on =
-    object_is first own (member (codes "start") (Number start)) (member (codes "closed") (Flag closed) ∷ [])
-    (cause_members cause) begins
-    goes_on
+rows_are : (h : FoundHeader) → section_rows (found_section h) ≡ place_rows ++ own_rows h
+rows_are (found.Walked (units.Ethernet2 f)) = by_mark f.has_fcs
+  where
+    by_mark : (b : Bool)
+        → section_rows (header_section
+        (if b then headers.Ethernet2Fcs (ethernet2_of f.bytes) else headers.Ethernet2 (ethernet2_of f.bytes)))
+        ≡ place_rows ++ ethernet2_rows
+    by_mark true = refl
+    by_mark false = refl
+rows_are (found.Walked (units.LinuxSll bytes)) = refl
+rows_are (found.Walked (units.Vlan bytes)) = refl
+rows_are (found.Walked (units.Macsec packet)) = refl
+rows_are (found.Walked (units.Arp bytes)) = refl
+rows_are (found.Cooked header) = refl
+rows_are (found.CookedV2 packet) = refl
 
--- ---- all headers
+keyed_own : (h : FoundHeader) → found_keyed h ≡ keyed_after (own_rows h) (found_values h)
+keyed_own (found.Walked (units.Ethernet2 f)) = refl
+keyed_own (found.Walked (units.LinuxSll bytes)) = refl
+keyed_own (found.Walked (units.Vlan bytes)) = refl
+keyed_own (found.Walked (units.Macsec packet)) = refl
+keyed_own (found.Walked (units.Arp bytes)) = refl
+keyed_own (found.Cooked header) = refl
+keyed_own (found.CookedV2 packet) = refl
 
-later_text : (hs : List Told) (end : ToldEnd)
-    → told_text Json false hs end ≡ flat_map (λ k. codes "," ++ json_object (told_members k)) hs ++ json_end end
-later_text [] end = refl
-later_text (h ∷ hs) end =
-    let object = codes "," ++ json_object (told_members h) in
-    ap (λ t. object ++ t) (later_text hs end)
-    ∙ sym (append_assoc object (flat_map (λ k. codes "," ++ json_object (told_members k)) hs) (json_end end))
+pub found_object : (f : Found) → f.section ≡ found_section f.header
+    → flat_map keyed_text (keyed place_rows (place_values (section_name f.section) f.place))
+    ++ (flat_map keyed_text (found_keyed f.header) ++ codes "}")
+    ≡ json_object (told_members (found_told f))
+found_object f own =
+    let h = f.header in
+    let place = f.place in
+    let name = section_name (found_section h) in
+    let first = keyed place_rows (place_values name place) in
+    ap (λ (s : Section). flat_map keyed_text (keyed place_rows (place_values (section_name s) place))
+    ++ (flat_map keyed_text (found_keyed h) ++ codes "}")) own
+    ∙ sym (append_assoc (flat_map keyed_text first) (flat_map keyed_text (found_keyed h)) (codes "}"))
+    ∙ ap (λ (l : List ℕ). l ++ codes "}") (sym (flat_map-append keyed_text first (found_keyed h)))
+    ∙ ap (λ (l : List Keyed). flat_map keyed_text (first ++ l) ++ codes "}") (keyed_own h)
+    ∙ whole_object (place_rows ++ own_rows h) (place_values name place ++ found_values h) refl
+    ∙ ap (λ (rows : List Row). json_object (members rows (place_values name place ++ found_values h)))
+    (sym (rows_are h))
+    ∙ sym (λ i. json_object (members (section_rows (found_told_section place h i)) (found_own place h i)))
 
--- headers as they are written along a walk are a list of objects
-pub json_text : (hs : List Told) (end : ToldEnd) → told_text Json true hs end ≡ json_objects hs ++ json_end end
-json_text [] end = refl
-json_text (h ∷ hs) end =
-    let object = json_object (told_members h) in
-    ap (λ t. object ++ t) (later_text hs end)
-    ∙ sym (append_assoc object (flat_map (λ k. codes "," ++ json_object (told_members k)) hs) (json_end end))
+-- ---- lists of headers
+
+pub later_objects : (hs : List Told)
+    → headers_text Json false hs ≡ flat_map (λ k. codes "," ++ json_object (told_members k)) hs
+later_objects [] = refl
+later_objects (h ∷ hs) = ap (λ l. (codes "," ++ json_object (told_members h)) ++ l) (later_objects hs)
+
+pub all_objects : (hs : List Told) → headers_text Json true hs ≡ json_objects hs
+all_objects [] = refl
+all_objects (h ∷ hs) = ap (λ l. json_object (told_members h) ++ l) (later_objects hs)
+
+pub brief_headers : (first : Bool) (hs : List Told) → headers_text Brief first hs ≡ flat_map brief_told hs
+brief_headers first [] = refl
+brief_headers first (h ∷ hs) = ap (λ l. brief_told h ++ l) (brief_headers false hs)
+
+-- ---- how a walk ends
+
+pub last_text : (name : List ℕ) (rs : List Row) (vs : List (Option Value)) → has_first rs vs ≡ true
+    → name ++ (flat_map keyed_text (keyed rs vs) ++ codes "}}\n") ≡ name ++ (json_object (members rs vs) ++ codes "}\n")
+last_text name rs vs first =
+    ap (λ (l : List ℕ). name ++ l)
+    (sym (append_assoc (flat_map keyed_text (keyed rs vs)) (codes "}") (codes "}\n"))
+    ∙ ap (λ (l : List ℕ). l ++ codes "}\n") (whole_object rs vs first))

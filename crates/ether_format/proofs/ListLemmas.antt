@@ -1,10 +1,10 @@
 -- Text that is written for each element of a list.
-use Rattle.std.proofs.Common.{◌≡◌, ℕ, zero, suc, ◌+◌, ◌-◌, ◌<◌, ◌≤◌, List, [], ◌∷◌, ◌++◌, length, take, drop, Option, refl, sym, ap, ◌∙◌, append_assoc, append-nil, arith}
+use Rattle.std.proofs.Common.{◌≡◌, ℕ, zero, suc, ◌+◌, ◌-◌, ◌<◌, ◌≤◌, List, [], ◌∷◌, ◌++◌, length, map, take, drop, Option, refl, sym, ap, ◌∙◌, append_assoc, append-nil, arith}
 use Rattle.std.specs.Prelude.{slice_index_or}
 use Rattle.std.specs.List.{flat_map}
-use Rattle.ether_text.specs.OutputBuffer.{Takes}
-use Rattle.ether_text.specs.declared.output_buffer.OutputBuffer.{OutputBuffer}
-use Rattle.ether_text.proofs.OutputBufferLemmas.{Takes-none, Takes-then, Takes-same}
+use Rattle.ether_output.specs.OutputBuffer.{Takes}
+use Rattle.ether_output.specs.declared.output_buffer.OutputBuffer.{OutputBuffer}
+use Rattle.ether_output.proofs.OutputBufferLemmas.{Takes-none, Takes-then, Takes-same}
 
 -- the text so far is that of the first elements
 pub record WritesFirst {W X : Type 0} (contents : W → Option (List ℕ)) (can_fail : Type 0) (f : X → List ℕ)
@@ -65,3 +65,14 @@ first_others (x ∷ l) d le = ap (λ k. x ∷ k) (sym (take_all l (length (x ∷
 pub none_of : {X : Type 0} (l : List X) → length l ≡ 0 → l ≡ []
 none_of [] is = refl
 none_of (x ∷ l) is = absurd (omega (arith, is))
+
+pub flat_map-map : {X Y Z : Type 0} (f : Y → List Z) (g : X → Y) (l : List X)
+    → flat_map f (map g l) ≡ flat_map (λ x. f (g x)) l
+flat_map-map f g [] = refl
+flat_map-map f g (x ∷ l) = ap (λ k. f (g x) ++ k) (flat_map-map f g l)
+
+pub flat_map-append : {X Z : Type 0} (f : X → List Z) (l k : List X)
+    → flat_map f (l ++ k) ≡ flat_map f l ++ flat_map f k
+flat_map-append f [] k = refl
+flat_map-append f (x ∷ l) k =
+    ap (λ m. f x ++ m) (flat_map-append f l k) ∙ sym (append_assoc (f x) (flat_map f l) (flat_map f k))

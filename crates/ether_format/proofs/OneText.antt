@@ -8,20 +8,23 @@ use Rattle.ether_pcap.specs.Capture.{PacketValue, TimeValue}
 use Rattle.ether_content.specs.Content.{ContentValue, Frame, LinuxSll, LinuxSll2, Unknown, content_of}
 use Rattle.ether_sll2.specs.LinuxSll2.{protocol_of_header}
 use Rattle.ether_sll2.proofs.LinuxSll2Laws.{rows_apart}
-use Rattle.ether_text.specs.Lines.{is_accepted}
+use Rattle.ether_output.specs.Words.{is_accepted}
 use Rattle.ether_format.specs.declared.format.Format.{Format}
 use Rattle.ether_format.specs.declared.moment.Moment.{Moment}
+use Rattle.ether_format.specs.declared.end.End.{End}
+use Rattle.ether_format.specs.declared.end.End.TheVariants.{Fault}
 use Rattle.ether_format.specs.Calendar.{AreMoments}
-use Rattle.ether_format.specs.Told.{Told, ToldEnd, Fault, Tells, TellsAfter, TellsCookedV2, TellsPayload, TellsWalk, cause_of_v2, read, refused, told_end, told_stack}
+use Rattle.ether_format.specs.Causes.{cause_of_v2}
+use Rattle.ether_format.specs.Told.{Told, Tells, TellsAfter, TellsCookedV2, TellsPayload, TellsWalk, read, refused, told_end, told_stack}
 use Rattle.ether_format.specs.Texts.{HasText, format_text}
 use Rattle.ether_format.specs.Laws.{TextsAreOne}
 use Rattle.ether_format.proofs.OneMoment.{one_moment}
 
 -- what two tell is the same
-abbrev pub Same : (told other : List Told) (end last : ToldEnd) (accepted also : Bool) → Type 0
+abbrev pub Same : (told other : List Told) (end last : End) (accepted also : Bool) → Type 0
 Same told other end last accepted also = (told ≡ other) × (end ≡ last) × (accepted ≡ also)
 
-pub one_walk : (at : ℕ) (x : Expectation) (frame : List ℕ) (told other : List Told) (end last : ToldEnd)
+pub one_walk : (at : ℕ) (x : Expectation) (frame : List ℕ) (told other : List Told) (end last : End)
     (accepted also : Bool)
     → TellsWalk at x frame told end accepted → TellsWalk at x frame other last also
     → Same told other end last accepted also
@@ -32,7 +35,7 @@ one_walk at x frame told other end last accepted also a b =
       a.verdict ∙ ap is_accepted same.1 ∙ sym b.verdict,
     )
 
-one_payload : (at : ℕ) (first : Told) (x : Expectation) (payload : List ℕ) (told other : List Told) (end last : ToldEnd)
+one_payload : (at : ℕ) (first : Told) (x : Expectation) (payload : List ℕ) (told other : List Told) (end last : End)
     (accepted also : Bool)
     → TellsPayload at first x payload told end accepted → TellsPayload at first x payload other last also
     → Same told other end last accepted also
@@ -40,7 +43,7 @@ one_payload at first x payload told other end last accepted also a b =
     let same = one_walk at x payload a.later b.later end last accepted also a.walk b.walk in
     (a.whole ∙ ap (λ l. first ∷ l) same.0 ∙ sym b.whole, same.1, same.2)
 
-one_after : (limit ether_type : Option ℕ) (bytes : List ℕ) (told other : List Told) (end last : ToldEnd)
+one_after : (limit ether_type : Option ℕ) (bytes : List ℕ) (told other : List Told) (end last : End)
     (accepted also : Bool)
     → TellsAfter limit ether_type bytes told end accepted → TellsAfter limit ether_type bytes other last also
     → Same told other end last accepted also
@@ -48,7 +51,7 @@ one_after limit (Some n) bytes told other end last accepted also a b =
     one_payload 20 _ _ _ told other end last accepted also a b
 one_after limit None bytes told other end last accepted also a b = (a.0 ∙ sym b.0, a.1 ∙ sym b.1, a.2 ∙ sym b.2)
 
-one_cooked : (limit : Option ℕ) (bytes : List ℕ) (told other : List Told) (end last : ToldEnd) (accepted also : Bool)
+one_cooked : (limit : Option ℕ) (bytes : List ℕ) (told other : List Told) (end last : End) (accepted also : Bool)
     → TellsCookedV2 limit bytes told end accepted → TellsCookedV2 limit bytes other last also
     → Same told other end last accepted also
 one_cooked limit bytes _ _ _ _ _ _ (read told end accepted fine after) (read other last also good later) =
@@ -58,7 +61,7 @@ one_cooked limit bytes _ _ _ _ _ _ (refused r row) (read told end accepted fine 
 one_cooked limit bytes _ _ _ _ _ _ (refused r row) (refused q also) =
     (refl, ap (λ k. Fault 0 false (cause_of_v2 k)) (rows_apart.one bytes r q row also), refl)
 
-pub one_told : (limit : Option ℕ) (len : ℕ) (f : ContentValue) (told other : List Told) (end last : ToldEnd)
+pub one_told : (limit : Option ℕ) (len : ℕ) (f : ContentValue) (told other : List Told) (end last : End)
     (accepted also : Bool)
     → Tells limit len f told end accepted → Tells limit len f other last also → Same told other end last accepted also
 one_told limit len (Frame next bytes) told other end last accepted also a b =

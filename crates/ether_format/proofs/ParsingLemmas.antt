@@ -3,15 +3,17 @@ use Rattle.std.proofs.Common.{◌≡◌, ℕ, suc, zero, ◌<◌, ◌≤◌, Lis
 use Rattle.std.specs.Prelude.{◌&&◌, ◌==◌, ◌≢◌, not, slice_index_or, IfNone}
 use Rattle.std.specs.Option.{option_map}
 use Rattle.std.specs.List.{All, IsAmong, slice_split}
-use Rattle.std.proofs.lemmas.List.{get_or-map, length-map, map-append}
+use Rattle.std.proofs.lemmas.List.{length-map, map-append}
 use Rattle.std.proofs.lemmas.List.Elements.{All-nil, All-cons, All-append}
 use Rattle.std.proofs.lemmas.List.Splits.{slice_split_none}
-use Rattle.ether_format.specs.declared.column.Section.{Section}
-use Rattle.ether_format.specs.declared.column.Section.TheVariants as sections
-use Rattle.ether_format.specs.Columns.{AreColumns, ColumnValue, IsColumn, column_name, section_members, section_name}
+use Rattle.ether_fields.specs.Fields.{field_view, member_names, section_name, section_rows}
+use Rattle.ether_fields.specs.declared.field.Field.{Field}
+use Rattle.ether_fields.specs.declared.section.Section.{Section}
+use Rattle.ether_fields.specs.declared.section.Section.TheVariants as sections
+use Rattle.ether_format.specs.Columns.{AreColumns, ColumnValue, IsColumn, column_name}
 use Rattle.ether_format.specs.Splits.{SplitsAt, SplitsWord}
 use Rattle.ether_format.proofs.SplitLemmas.{no_split, one_split, parts_are}
-use Rattle.ether_format.proofs.ColumnNames.{both, is_false, one_section}
+use Rattle.ether_format.proofs.Names.{both, is_false, one_section}
 
 -- ---- the name of a column
 
@@ -58,25 +60,17 @@ no_column_section name before after split none it is same =
     none is.of (sym is.is_section ∙ one.0)
 
 -- .. nor one whose back is not the name of a member
-pub no_column_member : (name before after : List ℕ) (s : Section) (words : List (Bor (List ℕ)))
-    → SplitsAt 46 name before after
-    → section_name s ≡ before → map (λ w. w.now) words ≡ section_members s → All (λ w. w.now ≢ after) words
+pub no_column_member : (name before after : List ℕ) (s : Section) (fields : List Field) → SplitsAt 46 name before after
+    → section_name s ≡ before → map field_view fields ≡ section_rows s
+    → ¬ (IsAmong (member_names (map field_view fields)) after)
     → (it : ColumnValue) → IsColumn it → column_name it ≢ name
-no_column_member name before after s words split is_name are none it is same =
+no_column_member name before after s fields split is_name are none it is same =
     let one = one_split 46 refl name it.section it.member before after (splits_name it name is same) split in
     let here : is.of ≡ s = one_section is.of s (sym is.is_section ∙ one.0 ∙ sym is_name) in
-    let among : IsAmong (map (λ w. w.now) words) after =
-    subst (λ (l : List (List ℕ)). IsAmong l after) (ap section_members here ∙ sym are)
-    (subst (IsAmong (section_members is.of)) one.1 is.is_member) in
-    not_among words among none
-  where
-    not_among : (ws : List (Bor (List ℕ))) → IsAmong (map (λ w. w.now) ws) after → All (λ w. w.now ≢ after) ws → ⊥
-    not_among ws among none =
-        let d : Bor (List ℕ) = record { ref_ptr = (0, 0); now = [] } in
-        let len = length-map ws (λ w. w.now) in
-        let inside = among.1.0 in
-        let lt : among.0 < length ws = omega (arith, len, inside) in
-        none among.0 d lt (sym (get_or-map (λ w. w.now) ws among.0 d after lt) ∙ sym among.1.1)
+    none
+    (subst (λ (l : List (List ℕ)). IsAmong l after)
+    (ap (λ k. member_names (section_rows k)) here ∙ ap member_names (sym are))
+    (subst (IsAmong (member_names (section_rows is.of))) one.1 is.is_member))
 
 -- ---- the words of a text
 

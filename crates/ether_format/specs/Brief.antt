@@ -1,5 +1,5 @@
 -- A packet as a line for the eye.
-use Rattle.std.specs.Prelude.{ℕ, ◌-◌, ◌%◌, nat_eq, List, [], ◌∷◌, ◌++◌, length, take, codes, Bool, Option, Some, None, if◌then◌else◌}
+use Rattle.std.specs.Prelude.{ℕ, ◌-◌, ◌%◌, nat_eq, List, [], ◌++◌, length, take, codes, Bool, Option, Some, None, if◌then◌else◌}
 use Rattle.std.specs.List.{flat_map}
 use Rattle.std.specs.Fmt.{decimal}
 use Rattle.etherparse.specs.Bytes.{spelled}
@@ -11,6 +11,7 @@ use Rattle.etherparse.specs.NumberText.{hex_number}
 use Rattle.etherparse.specs.Header.{Header}
 use Rattle.etherparse.specs.Header as headers
 use Rattle.ether_base.specs.Texts.NumberText.{description_in}
+use Rattle.ether_fields.specs.Names.{ether_type_names}
 use Rattle.ether_sll2.specs.LinuxSll2.{LinuxSll2Value}
 use Rattle.ether_pcap.specs.Capture.{PacketValue}
 use Rattle.ether_content.specs.Content.{is_cut}
@@ -18,7 +19,11 @@ use Rattle.ether_peel.specs.declared.rest_kind.RestKind.{RestKind}
 use Rattle.ether_peel.specs.declared.rest_kind.RestKind.TheVariants as rests
 use Rattle.ether_format.specs.declared.moment.Moment.{Moment}
 use Rattle.ether_format.specs.Members.{protocol_address}
-use Rattle.ether_format.specs.Told.{Told, Walked, CookedV2, Cause, Length, UnknownPacketType, UnknownHardwareType, Version, ShortLength, ToldEnd, Rest, Skipped, Fault, kind_word}
+use Rattle.ether_format.specs.declared.cause.Cause.{Cause}
+use Rattle.ether_format.specs.declared.cause.Cause.TheVariants.{Length, UnknownPacketType, UnknownHardwareType, Version, ShortLength}
+use Rattle.ether_format.specs.declared.end.End.{End}
+use Rattle.ether_format.specs.declared.end.End.TheVariants.{Rest, Skipped, Fault}
+use Rattle.ether_format.specs.Told.{Told, Walked, CookedV2, kind_word}
 use Rattle.ether_format.specs.Spelling.{colon_text, column_value, date_text, has_date, nine_digits}
 
 -- ---- headers, each after a space
@@ -94,19 +99,13 @@ brief_told (CookedV2 place s) = brief_cooked_v2 s
 
 -- ---- the end
 
--- the protocols of some ether types (the IEEE registry)
-abbrev pub type_names : List (ℕ × List ℕ)
-type_names =
-    (0x0800, codes "IPv4") ∷ (0x86DD, codes "IPv6") ∷ (0x0806, codes "ARP") ∷ (0x8847, codes "MPLS")
-    ∷ (0x8863, codes "PPPoE discovery")
-    ∷ (0x8864, codes "PPPoE") ∷ (0x888E, codes "EAPOL") ∷ (0x88CC, codes "LLDP") ∷ (0x88F7, codes "PTP") ∷ []
-
 abbrev pub name_or_number : Option (List ℕ) → ℕ → List ℕ
 name_or_number (Some name) t = name
 name_or_number None t = hex_number t
 
-abbrev pub type_text : ℕ → List ℕ
-type_text t = name_or_number (description_in type_names t) t
+-- an ether type by its name, or as a number
+unfoldable pub type_text : ℕ → List ℕ
+type_text t = name_or_number (description_in ether_type_names t) t
 
 -- what is left, and its length; the padding after an ARP packet is left out
 abbrev pub brief_rest : (len : ℕ) → RestKind → List ℕ
@@ -127,7 +126,7 @@ brief_cause ShortLength = codes "short length 1"
 abbrev pub fault_text : (start : ℕ) → Cause → List ℕ
 fault_text start cause = codes " fault at " ++ (decimal start ++ (codes ": " ++ brief_cause cause))
 
-abbrev pub brief_end : ToldEnd → List ℕ
+abbrev pub brief_end : End → List ℕ
 brief_end (Rest start finish kind) = brief_rest (finish - start) kind
 brief_end (Skipped len) = codes " skipped " ++ (decimal len ++ codes " bytes")
 brief_end (Fault start closed cause) = fault_text start cause
@@ -157,6 +156,6 @@ brief_cut p =
 abbrev pub brief_front : ℕ → Option Moment → List ℕ
 brief_front number moment = decimal number ++ (codes " " ++ brief_time moment)
 
-abbrev pub brief_line : ℕ → PacketValue → Option Moment → List Told → ToldEnd → List ℕ
+abbrev pub brief_line : ℕ → PacketValue → Option Moment → List Told → End → List ℕ
 brief_line number p moment headers end =
     brief_front number moment ++ (flat_map brief_told headers ++ (brief_end end ++ (brief_cut p ++ codes "\n")))

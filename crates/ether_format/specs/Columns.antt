@@ -4,12 +4,14 @@ use Rattle.std.specs.List.{All, IsAmong, flat_map, join_by, slice_split}
 use Rattle.std.specs.Str.{bytes_eq}
 use Rattle.ether_pcap.specs.Capture.{PacketValue}
 use Rattle.ether_format.specs.declared.moment.Moment.{Moment}
-use Rattle.ether_format.specs.declared.column.Section.{Section as DeclaredSection}
-use Rattle.ether_format.specs.declared.column.Section.TheVariants as declared
+use Rattle.ether_fields.specs.Rows.{Row, place_rows}
+use Rattle.ether_fields.specs.Fields.{member_names, section_name, section_rows}
+use Rattle.ether_fields.specs.declared.section.Section.{Section as DeclaredSection}
+use Rattle.ether_format.specs.declared.end.End.{End}
 use Rattle.ether_format.specs.declared.column.Column.{Column as DeclaredColumn}
 use Rattle.ether_format.specs.declared.columns.Columns.{Columns as DeclaredColumns}
-use Rattle.ether_format.specs.Members.{Member, Value, packet_members}
-use Rattle.ether_format.specs.Told.{Told, ToldEnd, end_members, end_name, placed_members, told_members, told_name, told_place}
+use Rattle.ether_format.specs.Members.{Member, Value, members, packet_members}
+use Rattle.ether_format.specs.Told.{Told, end_members, end_section, told_members, told_place_values, told_section}
 use Rattle.ether_format.specs.Spelling.{column_value}
 
 -- ---- what a packet tells, in sections
@@ -24,14 +26,14 @@ section name members = record { name = name; members = members }
 -- a header is a section with its own name; its name and place are also a section `headers`
 abbrev pub header_sections : Told → List Section
 header_sections h =
-    section (told_name h) (told_members h) ∷ section (codes "headers") (placed_members (told_name h) (told_place h) [])
-    ∷ []
+    section (section_name (told_section h)) (told_members h)
+    ∷ section (codes "headers") (members place_rows (told_place_values h)) ∷ []
 
 -- the packet, its headers, and how the walk through them ends
-abbrev pub sections : ℕ → PacketValue → Option Moment → List Told → ToldEnd → List Section
+abbrev pub sections : ℕ → PacketValue → Option Moment → List Told → End → List Section
 sections number p moment headers end =
     section (codes "frame") (packet_members number p moment)
-    ∷ (flat_map header_sections headers ++ (section (end_name end) (end_members end) ∷ []))
+    ∷ (flat_map header_sections headers ++ (section (section_name (end_section end)) (end_members end) ∷ []))
 
 -- ---- a column
 
@@ -65,49 +67,10 @@ heading_text columns = join_by column_name (codes "\t") columns ++ codes "\n"
 
 -- ---- which columns there are
 
-abbrev pub section_name : DeclaredSection → List ℕ
-section_name declared.Frame = codes "frame"
-section_name declared.Eth = codes "eth"
-section_name declared.Sll = codes "sll"
-section_name declared.Sll2 = codes "sll2"
-section_name declared.Vlan = codes "vlan"
-section_name declared.Macsec = codes "macsec"
-section_name declared.Arp = codes "arp"
-section_name declared.Headers = codes "headers"
-section_name declared.Rest = codes "rest"
-section_name declared.Fault = codes "fault"
-
--- the names of a header's members: first those of its name and its place, then those of its own
-abbrev pub after_place : List (List ℕ) → List (List ℕ)
-after_place names = codes "header" ∷ codes "start" ∷ codes "end" ∷ codes "payload_end" ∷ codes "closed" ∷ names
-
-abbrev pub section_members : DeclaredSection → List (List ℕ)
-section_members declared.Frame = codes "number" ∷ codes "time" ∷ codes "link" ∷ codes "captured" ∷ codes "original" ∷ []
-section_members declared.Eth = after_place (codes "dst" ∷ codes "src" ∷ codes "type" ∷ codes "fcs" ∷ [])
-section_members declared.Sll =
-    after_place (codes "packet_type" ∷ codes "hw_type" ∷ codes "addr_len" ∷ codes "addr" ∷ codes "protocol" ∷ [])
-section_members declared.Sll2 =
-    after_place
-    (codes "protocol" ∷ codes "if_index" ∷ codes "hw_type" ∷ codes "packet_type" ∷ codes "addr_len" ∷ codes "addr" ∷ [])
-section_members declared.Vlan = after_place (codes "pcp" ∷ codes "dei" ∷ codes "vid" ∷ codes "type" ∷ [])
-section_members declared.Macsec =
-    after_place
-    (codes "payload" ∷ codes "es" ∷ codes "scb" ∷ codes "an" ∷ codes "sl" ∷ codes "pn" ∷ codes "sci" ∷ codes "type"
-    ∷ [])
-section_members declared.Arp =
-    after_place
-    (codes "hrd" ∷ codes "pro" ∷ codes "hln" ∷ codes "pln" ∷ codes "op" ∷ codes "sha" ∷ codes "spa" ∷ codes "tha"
-    ∷ codes "tpa" ∷ [])
-section_members declared.Headers = after_place []
-section_members declared.Rest = codes "start" ∷ codes "end" ∷ codes "kind" ∷ codes "type" ∷ []
-section_members declared.Fault =
-    codes "start" ∷ codes "closed" ∷ codes "kind" ∷ codes "required" ∷ codes "available" ∷ codes "source"
-    ∷ codes "value" ∷ []
-
 pub record IsColumn (c : ColumnValue) : Type 0 where
   pub of : DeclaredSection
   pub is_section : c.section ≡ section_name of
-  pub is_member : IsAmong (section_members of) c.member
+  pub is_member : IsAmong (member_names (section_rows of)) c.member
 
 -- a text names these columns, at most 32, with a comma (44) between two
 pub record AreColumns (text : List ℕ) (columns : List ColumnValue) : Type 0 where
@@ -142,9 +105,12 @@ common_columns =
 
 -- ---- columns as they are declared
 
+-- the name of the row at an index
+abbrev pub name_at : List Row → ℕ → List ℕ
+name_at rows n = slice_index_or (map (λ r. r.name) rows) n []
+
 abbrev pub column_view : DeclaredColumn → ColumnValue
-column_view c =
-    record { section = section_name c.section; member = slice_index_or (section_members c.section) c.index [] }
+column_view c = record { section = section_name c.section; member = name_at (section_rows c.section) c.index }
 
 abbrev pub columns_view : DeclaredColumns → List ColumnValue
 columns_view c = column_view c.first ∷ map column_view (take c.count c.others)

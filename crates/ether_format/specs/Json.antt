@@ -4,7 +4,9 @@ use Rattle.std.specs.List.{flat_map}
 use Rattle.ether_pcap.specs.Capture.{PacketValue}
 use Rattle.ether_format.specs.declared.moment.Moment.{Moment}
 use Rattle.ether_format.specs.Members.{Member, packet_members}
-use Rattle.ether_format.specs.Told.{Told, ToldEnd, told_members, end_name, end_members}
+use Rattle.ether_fields.specs.Fields.{section_name}
+use Rattle.ether_format.specs.declared.end.End.{End}
+use Rattle.ether_format.specs.Told.{Told, told_members, end_section, end_members}
 use Rattle.ether_format.specs.Spelling.{json_value, quoted}
 
 -- a name and a value
@@ -29,8 +31,9 @@ abbrev pub json_front : ℕ → PacketValue → Option Moment → List ℕ
 json_front number p moment = codes "{" ++ (json_members (packet_members number p moment) ++ codes ",\"headers\":[")
 
 -- the end of that list, and how the walk ends, under its name
-abbrev pub json_end : ToldEnd → List ℕ
-json_end end = codes "]," ++ (quoted (end_name end) ++ (codes ":" ++ (json_object (end_members end) ++ codes "}\n")))
+abbrev pub json_end : End → List ℕ
+json_end end =
+    codes "]," ++ (quoted (section_name (end_section end)) ++ (codes ":" ++ (json_object (end_members end) ++ codes "}\n")))
 
-abbrev pub json_line : ℕ → PacketValue → Option Moment → List Told → ToldEnd → List ℕ
+abbrev pub json_line : ℕ → PacketValue → Option Moment → List Told → End → List ℕ
 json_line number p moment headers end = json_front number p moment ++ (json_objects headers ++ json_end end)

@@ -3,12 +3,12 @@ use Rattle.std.specs.Prelude.{◌≡◌, ℕ, List, Bool, Option, map}
 use Rattle.ether_pcap.specs.Capture.{PacketValue, TimeValue}
 use Rattle.ether_format.specs.declared.format.Format.{Format}
 use Rattle.ether_format.specs.declared.moment.Moment.{Moment}
-use Rattle.ether_format.specs.declared.column.Section.{Section}
-use Rattle.ether_format.specs.declared.column.Section.TheVariants.{Frame}
+use Rattle.ether_fields.specs.Fields.{member_names, section_rows}
+use Rattle.ether_fields.specs.declared.section.Section.TheVariants.{Frame}
+use Rattle.ether_format.specs.declared.end.End.{End}
 use Rattle.ether_format.specs.Calendar.{IsMoment}
-use Rattle.ether_format.specs.Columns.{section_members, section_name}
 use Rattle.ether_format.specs.Members.{packet_members}
-use Rattle.ether_format.specs.Told.{Told, ToldEnd, end_members, end_name, told_members, told_name}
+use Rattle.ether_format.specs.Told.{Told, end_members, end_section, told_members, told_section}
 use Rattle.ether_format.specs.Texts.{HasText}
 
 -- A time is one moment at most, and a packet has one text.
@@ -22,8 +22,6 @@ pub record TextsAreOne : Type 0 where
 -- The members of a packet, of a header and of the end of a walk have the names of the columns of their section.
 pub record ColumnsAreMembers : Type 0 where
   pub packet : (number : ℕ) (p : PacketValue) (moment : Option Moment)
-      → map (λ m. m.name) (packet_members number p moment) ≡ section_members Frame
-  pub header : (h : Told) (s : Section) → told_name h ≡ section_name s → map (λ m. m.name) (told_members h)
-      ≡ section_members s
-  pub end : (end : ToldEnd) (s : Section) → end_name end ≡ section_name s → map (λ m. m.name) (end_members end)
-      ≡ section_members s
+      → map (λ m. m.name) (packet_members number p moment) ≡ member_names (section_rows Frame)
+  pub header : (h : Told) → map (λ m. m.name) (told_members h) ≡ member_names (section_rows (told_section h))
+  pub end : (end : End) → map (λ m. m.name) (end_members end) ≡ member_names (section_rows (end_section end))

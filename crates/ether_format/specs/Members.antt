@@ -1,5 +1,6 @@
 -- What a header says: its members, each with a name and a value. Lines of JSON and columns are spelled from them.
 use Rattle.std.specs.Prelude.{ℕ, ◌&&◌, nat_eq, List, [], ◌∷◌, length, take, codes, Bool, Option, Some, None, if◌then◌else◌}
+use Rattle.ether_fields.specs.Rows.{Row, frame_rows}
 use Rattle.etherparse.specs.Bytes.{spelled}
 use Rattle.etherparse.specs.Ethernet2.{Ethernet2Value}
 use Rattle.etherparse.specs.Vlan.{VlanValue}
@@ -38,19 +39,24 @@ abbrev pub if_some : {X : Type 0} → (X → Value) → Option X → Value
 if_some value None = Nothing
 if_some value (Some x) = value x
 
--- ---- the members of each header
+-- the members of rows with these values; a field that has no value here is no member
+abbrev pub members : List Row → List (Option Value) → List Member
+members (r ∷ rs) (Some v ∷ vs) = member r.name v ∷ members rs vs
+members (r ∷ rs) (None ∷ vs) = members rs vs
+members rows values = []
+
+-- ---- the values of each header's fields, in the order of its rows
 
 -- Ethernet II (IEEE 802.3, 3.2), with its frame check sequence if there is one (3.2.9)
-abbrev pub ethernet2_members : Ethernet2Value → (fcs : Option (List ℕ)) → List Member
-ethernet2_members e fcs =
-    member (codes "dst") (Bytes (spelled 6 e.destination)) ∷ member (codes "src") (Bytes (spelled 6 e.source))
-    ∷ member (codes "type") (Protocol e.ether_type) ∷ member (codes "fcs") (if_some Bytes fcs) ∷ []
+abbrev pub ethernet2_values : Ethernet2Value → (fcs : Option (List ℕ)) → List (Option Value)
+ethernet2_values e fcs =
+    Some (Bytes (spelled 6 e.destination)) ∷ Some (Bytes (spelled 6 e.source)) ∷ Some (Protocol e.ether_type)
+    ∷ Some (if_some Bytes fcs) ∷ []
 
 -- a VLAN tag (IEEE 802.1Q, 9.6)
-abbrev pub vlan_members : VlanValue → List Member
-vlan_members v =
-    member (codes "pcp") (Number v.pcp) ∷ member (codes "dei") (Number v.dei) ∷ member (codes "vid") (Number v.vid)
-    ∷ member (codes "type") (Protocol v.ether_type) ∷ []
+abbrev pub vlan_values : VlanValue → List (Option Value)
+vlan_values v =
+    Some (Number v.pcp) ∷ Some (Number v.dei) ∷ Some (Number v.vid) ∷ Some (Protocol v.ether_type) ∷ []
 
 -- whether the payload of a SecTag was changed or encrypted (IEEE 802.1AE, 9.5)
 abbrev pub payload_word : PayloadType → List ℕ
@@ -63,14 +69,13 @@ abbrev pub payload_type_value : PayloadType → Value
 payload_type_value (payloads.Unmodified ether_type) = Protocol ether_type
 payload_type_value _ = Nothing
 
--- the SecTag of MACsec (IEEE 802.1AE, 9.3 to 9.9)
-abbrev pub macsec_members : SecTagValue → List Member
-macsec_members t =
-    member (codes "payload") (Word (payload_word t.payload_type)) ∷ member (codes "es") (Number t.end_station)
-    ∷ member (codes "scb") (Number t.single_copy_broadcast) ∷ member (codes "an") (Number t.association_number)
-    ∷ member (codes "sl") (Number t.short_len) ∷ member (codes "pn") (Number t.packet_number)
-    ∷ member (codes "sci") (if_some (λ sci. Bytes (spelled 8 sci)) t.sci)
-    ∷ member (codes "type") (payload_type_value t.payload_type) ∷ []
+-- the SecTag of MACsec (IEEE 802.1AE, 9.3 to 9.9): V, SC, E, C and the reserved bits are no members
+abbrev pub macsec_values : SecTagValue → List (Option Value)
+macsec_values t =
+    Some (Word (payload_word t.payload_type)) ∷ None ∷ Some (Number t.end_station) ∷ None
+    ∷ Some (Number t.single_copy_broadcast) ∷ None ∷ None ∷ Some (Number t.association_number) ∷ None
+    ∷ Some (Number t.short_len) ∷ Some (Number t.packet_number)
+    ∷ Some (if_some (λ sci. Bytes (spelled 8 sci)) t.sci) ∷ Some (payload_type_value t.payload_type) ∷ []
 
 -- an address of a protocol: of IPv4, or other bytes
 abbrev pub protocol_address : (protocol : ℕ) → List ℕ → Value
@@ -78,37 +83,38 @@ protocol_address protocol bytes =
     if nat_eq protocol 0x0800 && nat_eq (length bytes) 4 then Dotted bytes else Bytes bytes
 
 -- an ARP packet (RFC 826, "Packet format")
-abbrev pub arp_members : ArpValue → List Member
-arp_members a =
-    member (codes "hrd") (Number a.hardware_type) ∷ member (codes "pro") (Protocol a.protocol_type)
-    ∷ member (codes "hln") (Number (length a.sender_hardware))
-    ∷ member (codes "pln") (Number (length a.sender_protocol))
-    ∷ member (codes "op") (Number a.operation) ∷ member (codes "sha") (Bytes a.sender_hardware)
-    ∷ member (codes "spa") (protocol_address a.protocol_type a.sender_protocol)
-    ∷ member (codes "tha") (Bytes a.target_hardware)
-    ∷ member (codes "tpa") (protocol_address a.protocol_type a.target_protocol) ∷ []
+abbrev pub arp_values : ArpValue → List (Option Value)
+arp_values a =
+    Some (Number a.hardware_type) ∷ Some (Protocol a.protocol_type) ∷ Some (Number (length a.sender_hardware))
+    ∷ Some (Number (length a.sender_protocol)) ∷ Some (Number a.operation) ∷ Some (Bytes a.sender_hardware)
+    ∷ Some (protocol_address a.protocol_type a.sender_protocol) ∷ Some (Bytes a.target_hardware)
+    ∷ Some (protocol_address a.protocol_type a.target_protocol) ∷ []
 
 -- Linux cooked capture v1 (LINKTYPE_LINUX_SLL of the tcpdump group): as much of the address as its length says
-abbrev pub linux_sll_members : LinuxSllValue → List Member
-linux_sll_members s =
-    member (codes "packet_type") (Number s.packet_type) ∷ member (codes "hw_type") (Number s.hardware_type)
-    ∷ member (codes "addr_len") (Number s.address_len)
-    ∷ member (codes "addr") (Bytes (take s.address_len (spelled 8 s.address)))
-    ∷ member (codes "protocol") (Protocol s.protocol) ∷ []
+abbrev pub linux_sll_values : LinuxSllValue → List (Option Value)
+linux_sll_values s =
+    Some (Number s.packet_type) ∷ Some (Number s.hardware_type) ∷ Some (Number s.address_len)
+    ∷ Some (Bytes (take s.address_len (spelled 8 s.address))) ∷ Some (Protocol s.protocol) ∷ []
 
--- Linux cooked capture v2 (LINKTYPE_LINUX_SLL2)
-abbrev pub linux_sll2_members : LinuxSll2Value → List Member
-linux_sll2_members s =
-    member (codes "protocol") (Protocol s.protocol) ∷ member (codes "if_index") (Number s.interface_index)
-    ∷ member (codes "hw_type") (Number s.hardware_type) ∷ member (codes "packet_type") (Number s.packet_type)
-    ∷ member (codes "addr_len") (Number s.address_len)
-    ∷ member (codes "addr") (Bytes (take s.address_len (spelled 8 s.address))) ∷ []
+-- Linux cooked capture v2 (LINKTYPE_LINUX_SLL2): the reserved bits are no member
+abbrev pub linux_sll2_values : LinuxSll2Value → List (Option Value)
+linux_sll2_values s =
+    Some (Protocol s.protocol) ∷ None ∷ Some (Number s.interface_index) ∷ Some (Number s.hardware_type)
+    ∷ Some (Number s.packet_type) ∷ Some (Number s.address_len)
+    ∷ Some (Bytes (take s.address_len (spelled 8 s.address))) ∷ []
 
--- ---- the members of a packet
+-- ---- the values of what else a packet tells
 
--- its number and its time, link type and lengths (pcapng, 4.3)
+-- what is left
+abbrev pub rest_values : (start finish : ℕ) → (kind : List ℕ) → (announced : Value) → List (Option Value)
+rest_values start finish kind announced =
+    Some (Number start) ∷ Some (Number finish) ∷ Some (Word kind) ∷ Some announced ∷ []
+
+-- the packet itself: its number and its time, link type and lengths (pcapng, 4.3)
+abbrev pub packet_values : (number : ℕ) → PacketValue → Option Moment → List (Option Value)
+packet_values number p moment =
+    Some (Number number) ∷ Some (if_some Time moment) ∷ Some (Number p.link_type)
+    ∷ Some (Number (length p.packet)) ∷ Some (Number p.original_len) ∷ []
+
 abbrev pub packet_members : (number : ℕ) → PacketValue → Option Moment → List Member
-packet_members number p moment =
-    member (codes "number") (Number number) ∷ member (codes "time") (if_some Time moment)
-    ∷ member (codes "link") (Number p.link_type)
-    ∷ member (codes "captured") (Number (length p.packet)) ∷ member (codes "original") (Number p.original_len) ∷ []
+packet_members number p moment = members frame_rows (packet_values number p moment)

@@ -4,7 +4,7 @@ use Rattle.std.specs.List.{flat_map}
 use Rattle.std.specs.Fmt.{decimal}
 use Rattle.etherparse.specs.NumberText.{hex_number}
 use Rattle.ether_base.specs.Texts.NumberText.{hex_byte}
-use Rattle.ether_text.specs.Decimals.{two_digits}
+use Rattle.ether_output.specs.Decimals.{two_digits}
 use Rattle.ether_format.specs.declared.moment.Moment.{Moment}
 use Rattle.ether_format.specs.Members.{Value, Nothing, Number, Protocol, Flag, Bytes, Dotted, Word, Time}
 

@@ -6,12 +6,13 @@ use Rattle.ether_format.specs.declared.moment.Moment.{Moment}
 use Rattle.ether_format.specs.declared.format.Format.{Format}
 use Rattle.ether_format.specs.declared.format.Format.TheVariants.{Json, Brief, Fields}
 use Rattle.ether_format.specs.Calendar.{AreMoments}
-use Rattle.ether_format.specs.Told.{Told, ToldEnd, Tells}
+use Rattle.ether_format.specs.declared.end.End.{End}
+use Rattle.ether_format.specs.Told.{Told, Tells}
 use Rattle.ether_format.specs.Json.{json_line}
 use Rattle.ether_format.specs.Brief.{brief_line}
 use Rattle.ether_format.specs.Columns.{columns_view, row_text, sections}
 
-abbrev pub format_text : Format → ℕ → PacketValue → Option Moment → List Told → ToldEnd → List ℕ
+abbrev pub format_text : Format → ℕ → PacketValue → Option Moment → List Told → End → List ℕ
 format_text Json number p moment headers end = json_line number p moment headers end
 format_text Brief number p moment headers end = brief_line number p moment headers end
 format_text (Fields columns) number p moment headers end =
@@ -23,6 +24,6 @@ pub record HasText (format : Format) (limit : Option ℕ) (number : ℕ) (p : Pa
   pub moment : Option Moment
   pub is_moment : AreMoments p.time moment
   pub headers : List Told
-  pub end : ToldEnd
+  pub end : End
   pub tells : Tells limit (length p.packet) (content_of p) headers end accepted
   pub is_text : text ≡ format_text format number p moment headers end

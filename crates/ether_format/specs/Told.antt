@@ -1,13 +1,9 @@
 -- What a captured packet tells: its headers, each with its place, and how the walk through them ends.
-use Rattle.std.specs.Prelude.{◌≡◌, ℕ, ◌+◌, ◌-◌, List, [], ◌∷◌, length, slice_range, codes, Bool, true, false, Option, Some, None}
-use Rattle.etherparse.specs.Types.LenSource.{LenSource}
-use Rattle.etherparse.specs.Types.LenSource.TheVariants as sources
+use Rattle.std.specs.Prelude.{◌≡◌, ℕ, ◌+◌, ◌-◌, List, [], ◌∷◌, ◌++◌, length, slice_range, codes, Bool, true, false, Option, Some, None}
 use Rattle.etherparse.specs.Types.LinuxSllProtocolType.{LinuxSllProtocolType}
 use Rattle.etherparse.specs.Types.LinuxSllProtocolType.TheVariants as protocols
 use Rattle.etherparse.specs.Header.{Header}
 use Rattle.etherparse.specs.Header as headers
-use Rattle.etherparse.specs.Refusal.{Refusal}
-use Rattle.etherparse.specs.Refusal as refusals
 use Rattle.ether_base.specs.Formats.LinuxSllProtocolType.{told_ether_type}
 use Rattle.ether_peel.specs.Grammar.Window.{Window, payload}
 use Rattle.ether_peel.specs.Grammar.Expectation.{Expectation, EtherType}
@@ -16,19 +12,22 @@ use Rattle.ether_peel.specs.Grammar.Stack as endings
 use Rattle.ether_peel.specs.Walker.Start.{kind_shown}
 use Rattle.ether_peel.specs.declared.rest_kind.RestKind.{RestKind}
 use Rattle.ether_peel.specs.declared.rest_kind.RestKind.TheVariants as rests
-use Rattle.ether_sll2.specs.LinuxSll2.{LinuxSll2Value, linux_sll2_of, LinuxSll2Refusal, Short, PacketType, RefusesLinuxSll2, AcceptsLinuxSll2, protocol_of_header}
+use Rattle.ether_sll2.specs.LinuxSll2.{LinuxSll2Value, linux_sll2_of, LinuxSll2Refusal, RefusesLinuxSll2, AcceptsLinuxSll2, protocol_of_header}
 use Rattle.ether_content.specs.Content.{ContentValue, Frame, LinuxSll, LinuxSll2, Unknown}
-use Rattle.ether_text.specs.Lines.{is_accepted, source_text}
-use Rattle.ether_format.specs.Members.{Value, Nothing, Number, Protocol, Flag, Word, Member, member, ethernet2_members, vlan_members, macsec_members, arp_members, linux_sll_members, linux_sll2_members}
+use Rattle.ether_output.specs.Words.{is_accepted, source_text}
+use Rattle.ether_fields.specs.Fields.{section_name, section_rows}
+use Rattle.ether_fields.specs.Units.{header_section}
+use Rattle.ether_fields.specs.declared.section.Section.{Section}
+use Rattle.ether_fields.specs.declared.section.Section.TheVariants as sections
+use Rattle.ether_format.specs.declared.cause.Cause.{Cause}
+use Rattle.ether_format.specs.declared.cause.Cause.TheVariants as causes
+use Rattle.ether_format.specs.declared.end.End.{End}
+use Rattle.ether_format.specs.declared.end.End.TheVariants.{Rest, Skipped, Fault}
+use Rattle.ether_format.specs.declared.place.Place.{Place}
+use Rattle.ether_format.specs.Causes.{cause_of, cause_of_v2}
+use Rattle.ether_format.specs.Members.{Value, Nothing, Number, Protocol, Flag, Word, Member, members, ethernet2_values, vlan_values, macsec_values, arp_values, linux_sll_values, linux_sll2_values, rest_values}
 
 -- ---- a header
-
--- where it starts and ends, where its payload ends, and whether bytes appended to the packet would lie outside that
-pub record Place : Type 0 where
-  pub start : ℕ
-  pub header_end : ℕ
-  pub payload_end : ℕ
-  pub closed : Bool
 
 -- a header of the walk, with the frame check sequence after its payload if there is one; or of cooked capture v2
 pub data Told : Type 0 where
@@ -59,40 +58,14 @@ told_stack at list w (h ∷ hs) = told_in at list w h ∷ told_stack at list (pa
 
 -- ---- the end
 
--- what is wrong with the bytes that should be a header
-pub data Cause : Type 0 where
-  Length : (required available : ℕ) → LenSource → Cause
-  UnknownPacketType : ℕ → Cause
-  UnknownHardwareType : ℕ → Cause
-  Version : Cause
-  ShortLength : Cause
-
-abbrev pub cause_of : Refusal → Cause
-cause_of (refusals.Length required len source layer) = Length required len source
-cause_of (refusals.UnsupportedPacketType n) = UnknownPacketType n
-cause_of (refusals.UnsupportedHardwareType n) = UnknownHardwareType n
-cause_of refusals.UnexpectedVersion = Version
-cause_of refusals.InvalidShortLen = ShortLength
-
--- .. of a header of cooked capture v2
-abbrev pub cause_of_v2 : LinuxSll2Refusal → Cause
-cause_of_v2 (Short required len) = Length required len sources.Slice
-cause_of_v2 (PacketType n) = UnknownPacketType n
-
--- what is left, between two offsets, and what it is announced as; a packet whose link type is unknown; or a fault
-pub data ToldEnd : Type 0 where
-  Rest : (start finish : ℕ) → RestKind → ToldEnd
-  Skipped : (len : ℕ) → ToldEnd
-  Fault : (start : ℕ) → (closed : Bool) → Cause → ToldEnd
-
-abbrev pub told_end : (at : ℕ) → Ending → ToldEnd
+abbrev pub told_end : (at : ℕ) → Ending → End
 told_end at (Accepted w x) = Rest (at + w.start) (at + w.finish) (kind_shown x)
 told_end at (endings.Fault w x r) = Fault (at + w.start) w.closed (cause_of r)
 
 -- ---- a packet
 
 -- a walk tells these headers and this end, and whether its frame is accepted
-pub record TellsWalk (at : ℕ) (start : Expectation) (frame : List ℕ) (told : List Told) (end : ToldEnd)
+pub record TellsWalk (at : ℕ) (start : Expectation) (frame : List ℕ) (told : List Told) (end : End)
     (accepted : Bool) : Type 0 where
   pub headers : List Header
   pub ending : Ending
@@ -107,14 +80,14 @@ cooked_place header_len len = record { start = 0; header_end = header_len; paylo
 
 -- a cooked header and the walk of its payload
 pub record TellsPayload (at : ℕ) (first : Told) (start : Expectation) (payload : List ℕ) (told : List Told)
-    (end : ToldEnd) (accepted : Bool) : Type
+    (end : End) (accepted : Bool) : Type
     0 where
   pub later : List Told
   pub walk : TellsWalk at start payload later end accepted
   pub whole : told ≡ first ∷ later
 
 -- of cooked capture v2: the payload is walked if an ether type announces it
-abbrev pub TellsAfter : (limit : Option ℕ) → (ether_type : Option ℕ) → (bytes : List ℕ) → List Told → ToldEnd
+abbrev pub TellsAfter : (limit : Option ℕ) → (ether_type : Option ℕ) → (bytes : List ℕ) → List Told → End
     → (accepted : Bool) → Type 0
 TellsAfter limit (Some n) bytes told end accepted =
     TellsPayload 20 (CookedV2 (cooked_place 20 (length bytes)) (linux_sll2_of bytes))
@@ -124,15 +97,15 @@ TellsAfter limit None bytes told end accepted =
     (told ≡ CookedV2 (cooked_place 20 (length bytes)) (linux_sll2_of bytes) ∷ [])
     × (end ≡ Rest 20 (length bytes) (rests.Sll (protocol_of_header bytes))) × (accepted ≡ true)
 
-pub data TellsCookedV2 (limit : Option ℕ) (bytes : List ℕ) : List Told → ToldEnd → (accepted : Bool) → Type 0 where
-  read : (told : List Told) (end : ToldEnd) (accepted : Bool) → AcceptsLinuxSll2 bytes
+pub data TellsCookedV2 (limit : Option ℕ) (bytes : List ℕ) : List Told → End → (accepted : Bool) → Type 0 where
+  read : (told : List Told) (end : End) (accepted : Bool) → AcceptsLinuxSll2 bytes
       → TellsAfter limit (told_ether_type (protocol_of_header bytes)) bytes told end accepted
       → TellsCookedV2 limit bytes told end accepted
   refused : (r : LinuxSll2Refusal) → RefusesLinuxSll2 bytes r
       → TellsCookedV2 limit bytes [] (Fault 0 false (cause_of_v2 r)) false
 
 -- what a packet of `len` bytes tells, by its content
-abbrev pub Tells : (limit : Option ℕ) → (len : ℕ) → ContentValue → List Told → ToldEnd → (accepted : Bool) → Type 0
+abbrev pub Tells : (limit : Option ℕ) → (len : ℕ) → ContentValue → List Told → End → (accepted : Bool) → Type 0
 Tells limit len (Frame next bytes) told end accepted =
     TellsWalk 0 (record { next = next; limit = limit }) bytes told end accepted
 Tells limit len (LinuxSll s payload) told end accepted =
@@ -141,43 +114,44 @@ Tells limit len (LinuxSll s payload) told end accepted =
 Tells limit len (LinuxSll2 bytes) told end accepted = TellsCookedV2 limit bytes told end accepted
 Tells limit len Unknown told end accepted = (told ≡ []) × (end ≡ Skipped len) × (accepted ≡ true)
 
--- ---- their members
+-- ---- their fields
 
--- a header's name
-abbrev pub header_name : Header → List ℕ
-header_name (headers.Ethernet2 e) = codes "eth"
-header_name (headers.Ethernet2Fcs e) = codes "eth"
-header_name (headers.LinuxSll s) = codes "sll"
-header_name (headers.Vlan v) = codes "vlan"
-header_name (headers.Macsec t) = codes "macsec"
-header_name (headers.Arp a) = codes "arp"
-
-abbrev pub told_name : Told → List ℕ
-told_name (Walked place h fcs) = header_name h
-told_name (CookedV2 place s) = codes "sll2"
+-- the section of a header
+abbrev pub told_section : Told → Section
+told_section (Walked place h fcs) = header_section h
+told_section (CookedV2 place s) = sections.Sll2
 
 abbrev pub told_place : Told → Place
 told_place (Walked place h fcs) = place
 told_place (CookedV2 place s) = place
 
-abbrev pub header_members : Header → (fcs : Option (List ℕ)) → List Member
-header_members (headers.Ethernet2 e) fcs = ethernet2_members e fcs
-header_members (headers.Ethernet2Fcs e) fcs = ethernet2_members e fcs
-header_members (headers.LinuxSll s) fcs = linux_sll_members s
-header_members (headers.Vlan v) fcs = vlan_members v
-header_members (headers.Macsec t) fcs = macsec_members t
-header_members (headers.Arp a) fcs = arp_members a
+abbrev pub header_values : Header → (fcs : Option (List ℕ)) → List (Option Value)
+header_values (headers.Ethernet2 e) fcs = ethernet2_values e fcs
+header_values (headers.Ethernet2Fcs e) fcs = ethernet2_values e fcs
+header_values (headers.LinuxSll s) fcs = linux_sll_values s
+header_values (headers.Vlan v) fcs = vlan_values v
+header_values (headers.Macsec t) fcs = macsec_values t
+header_values (headers.Arp a) fcs = arp_values a
 
--- a header's name and place, and then its own members
-abbrev pub placed_members : (name : List ℕ) → Place → List Member → List Member
-placed_members name place own =
-    member (codes "header") (Word name) ∷ member (codes "start") (Number place.start)
-    ∷ member (codes "end") (Number place.header_end)
-    ∷ member (codes "payload_end") (Number place.payload_end) ∷ member (codes "closed") (Flag place.closed) ∷ own
+-- its own values, after those of its name and its place
+abbrev pub own_values : Told → List (Option Value)
+own_values (Walked place h fcs) = header_values h fcs
+own_values (CookedV2 place s) = linux_sll2_values s
+
+-- a header's name and place
+abbrev pub place_values : (name : List ℕ) → Place → List (Option Value)
+place_values name place =
+    Some (Word name) ∷ Some (Number place.start) ∷ Some (Number place.header_end) ∷ Some (Number place.payload_end)
+    ∷ Some (Flag place.closed) ∷ []
+
+abbrev pub told_place_values : Told → List (Option Value)
+told_place_values h = place_values (section_name (told_section h)) (told_place h)
+
+abbrev pub told_values : Told → List (Option Value)
+told_values h = told_place_values h ++ own_values h
 
 abbrev pub told_members : Told → List Member
-told_members (Walked place h fcs) = placed_members (header_name h) place (header_members h fcs)
-told_members (CookedV2 place s) = placed_members (codes "sll2") place (linux_sll2_members s)
+told_members h = members (section_rows (told_section h)) (told_values h)
 
 -- what a rest is announced as
 abbrev pub protocol_word : LinuxSllProtocolType → List ℕ
@@ -206,35 +180,53 @@ kind_value (rests.EtherType t) = Protocol t.0
 kind_value (rests.Sll protocol) = protocol_value protocol
 kind_value _ = Nothing
 
-abbrev pub rest_members : (start finish : ℕ) → (kind : List ℕ) → (announced : Value) → List Member
-rest_members start finish kind announced =
-    member (codes "start") (Number start) ∷ member (codes "end") (Number finish) ∷ member (codes "kind") (Word kind)
-    ∷ member (codes "type") announced ∷ []
+-- what is wrong, in a word
+abbrev pub cause_word : Cause → List ℕ
+cause_word (causes.Length required available source) = codes "length"
+cause_word (causes.UnknownPacketType n) = codes "sll_packet_type"
+cause_word (causes.UnknownHardwareType n) = codes "sll_hardware_type"
+cause_word causes.Version = codes "macsec_version"
+cause_word causes.ShortLength = codes "macsec_short_len"
 
--- a fault that names no length
-abbrev pub valued_cause : (kind : List ℕ) → Value → List Member
-valued_cause kind value =
-    member (codes "kind") (Word kind) ∷ member (codes "required") Nothing ∷ member (codes "available") Nothing
-    ∷ member (codes "source") Nothing ∷ member (codes "value") value ∷ []
+-- bytes that are required and available, and what names the number of those that are available
+abbrev pub cause_required : Cause → Value
+cause_required (causes.Length required available source) = Number required
+cause_required _ = Nothing
 
--- a fault: bytes that are required and there, and what named the number of those; or a number without a meaning
-abbrev pub cause_members : Cause → List Member
-cause_members (Length required available source) =
-    member (codes "kind") (Word (codes "length")) ∷ member (codes "required") (Number required)
-    ∷ member (codes "available") (Number available)
-    ∷ member (codes "source") (Word (source_text source)) ∷ member (codes "value") Nothing ∷ []
-cause_members (UnknownPacketType n) = valued_cause (codes "sll_packet_type") (Number n)
-cause_members (UnknownHardwareType n) = valued_cause (codes "sll_hardware_type") (Number n)
-cause_members Version = valued_cause (codes "macsec_version") Nothing
-cause_members ShortLength = valued_cause (codes "macsec_short_len") Nothing
+abbrev pub cause_available : Cause → Value
+cause_available (causes.Length required available source) = Number available
+cause_available _ = Nothing
 
-abbrev pub end_name : ToldEnd → List ℕ
-end_name (Rest start finish kind) = codes "rest"
-end_name (Skipped len) = codes "rest"
-end_name (Fault start closed cause) = codes "fault"
+abbrev pub cause_source : Cause → Value
+cause_source (causes.Length required available source) = Word (source_text source)
+cause_source _ = Nothing
 
-abbrev pub end_members : ToldEnd → List Member
-end_members (Rest start finish kind) = rest_members start finish (kind_word kind) (kind_value kind)
-end_members (Skipped len) = rest_members 0 len (codes "skipped") Nothing
-end_members (Fault start closed cause) =
-    member (codes "start") (Number start) ∷ member (codes "closed") (Flag closed) ∷ cause_members cause
+-- a number that has no meaning
+abbrev pub cause_number : Cause → Value
+cause_number (causes.UnknownPacketType n) = Number n
+cause_number (causes.UnknownHardwareType n) = Number n
+cause_number _ = Nothing
+
+abbrev pub fault_values : (start : ℕ) → (closed : Bool) → Cause → List (Option Value)
+fault_values start closed cause =
+    Some (Number start) ∷ Some (Flag closed) ∷ Some (Word (cause_word cause)) ∷ Some (cause_required cause)
+    ∷ Some (cause_available cause) ∷ Some (cause_source cause) ∷ Some (cause_number cause) ∷ []
+
+abbrev pub end_section : End → Section
+end_section (Rest start finish kind) = sections.Rest
+end_section (Skipped len) = sections.Rest
+end_section (Fault start closed cause) = sections.Fault
+
+abbrev pub end_values : End → List (Option Value)
+end_values (Rest start finish kind) = rest_values start finish (kind_word kind) (kind_value kind)
+end_values (Skipped len) = rest_values 0 len (codes "skipped") Nothing
+end_values (Fault start closed cause) = fault_values start closed cause
+
+abbrev pub end_members : End → List Member
+end_members end = members (section_rows (end_section end)) (end_values end)
+
+-- whether no header is refused
+abbrev pub is_end_accepted : End → Bool
+is_end_accepted (Rest start finish kind) = true
+is_end_accepted (Skipped len) = true
+is_end_accepted (Fault start closed cause) = false

@@ -1,44 +1,55 @@
 //! Writes the parts of a line for the eye: the packet's number and time, its headers, and how the walk ends.
-ghost use Rattle.std.specs.Prelude.{◌≡◌, ◌++◌, ◌-◌, ◌≤◌, codes, take};
-ghost use Rattle.std.specs.Option.{option_map};
+ghost use Rattle.std.specs.Prelude.{◌++◌, ◌-◌, ◌≤◌, codes, take};
 ghost use Rattle.etherparse.specs.Arp.{arp_of};
 ghost use Rattle.etherparse.specs.Ethernet2.{ethernet2_of};
 ghost use Rattle.etherparse.specs.LinuxSll.{linux_sll_of};
 ghost use Rattle.etherparse.specs.Macsec.{sec_tag_of, tag_bytes};
 ghost use Rattle.etherparse.specs.Vlan.{vlan_of};
 ghost use Rattle.std.specs.Fmt.{decimal};
-ghost use Rattle.ether_base.specs.Texts.NumberText.{description_in};
 ghost use Rattle.etherparse.specs.Header as headers;
 ghost use Rattle.ether_content.specs.ContentViews.{cooked_view};
 ghost use Rattle.ether_pcap.specs.CaptureViews.{captured_packet_view};
 ghost use Rattle.ether_sll2.specs.LinuxSll2.{linux_sll2_of};
-ghost use Rattle.ether_sll2.specs.Views.{refusal_view};
-ghost use Rattle.ether_text.specs.OutputBuffer.{Takes};
-ghost use Rattle.ether_format.specs.Brief.{address_text, arp_other, arp_reply, arp_request, brief_arp, brief_cause, brief_cooked_v2, brief_cut, brief_ethernet2, brief_front, brief_header, brief_macsec, brief_moment, brief_rest, brief_vlan, cooked_text, fault_text, fraction_text, lengths_text, type_names, type_text};
-ghost use Rattle.ether_text.specs.Decimals.{two_digits};
+ghost use Rattle.ether_output.specs.OutputBuffer.{Takes};
+ghost use Rattle.ether_format.specs.Brief.{address_text, arp_other, arp_reply, arp_request, brief_arp, brief_cause, brief_cooked_v2, brief_cut, brief_end, brief_ethernet2, brief_front, brief_header, brief_macsec, brief_moment, brief_rest, brief_vlan, cooked_text, fault_text, fraction_text, type_text};
+ghost use Rattle.ether_output.specs.Decimals.{two_digits};
 ghost use Rattle.ether_format.specs.Spelling.{colon_text};
-ghost use Rattle.ether_format.specs.Told.{cause_of_v2};
 ghost use Rattle.ether_peel.specs.Walker.UnitHeader.{unit_header};
-ghost use Rattle.ether_format.specs.Walking.{cause_shown, linux_sll_cause, macsec_cause};
+ghost use Rattle.ether_format.specs.FoundHeaders.{found_brief};
 
 use crate::Moment;
-use crate::endings::kind_word;
-use crate::members::used;
+use crate::cause::Cause;
+use crate::end::End;
+use crate::end_values::kind_word;
+use crate::found_header::FoundHeader;
 use crate::spelling::{
     first_of, has_date, mac_text, nine_digits, write_colons, write_date, write_dotted,
 };
+use crate::values::used;
 use ether_content::{CookedHeader, is_cut};
+use ether_fields::{Kind, name_of};
+use ether_output::{OutputBuffer, Sink, hex_type, write_decimal, write_number};
 use ether_pcap::CapturedPacket;
-use ether_peel::{PeelError, PeelUnit, RestKind};
-use ether_sll2::{LinuxSll2Error, LinuxSll2Slice};
-use ether_text::{OutputBuffer, Sink, hex_type, write_decimal, write_number};
+use ether_peel::{PeelUnit, RestKind};
+use ether_sll2::LinuxSll2Slice;
 use etherparse::{
     ArpPacketSlice, EtherType, Ethernet2Slice, LinuxSllSlice, MacsecHeaderSlice, SingleVlanSlice,
-    err,
 };
 
+/// Writes a header, after a space.
+#[inline(always)]
+pub(crate) fn write_brief_header<W: Sink>(header: &FoundHeader<'_>, out: &mut OutputBuffer<'_, W>)
+    ensures { Takes W.contents W.can_fail out.old (found_brief header.now) out.new }
+{
+    match header {
+        FoundHeader::Walked(unit) => write_unit(unit, out),
+        FoundHeader::Cooked(header) => write_cooked(header, out),
+        FoundHeader::CookedV2(packet) => write_linux_sll2(packet, out),
+    }
+}
+
 /// Writes a header of the walk, after a space.
-pub(crate) fn write_brief_header<W: Sink>(unit: &PeelUnit<'_>, out: &mut OutputBuffer<'_, W>)
+fn write_unit<W: Sink>(unit: &PeelUnit<'_>, out: &mut OutputBuffer<'_, W>)
     ensures { Takes W.contents W.can_fail out.old (brief_header (unit_header unit.now)) out.new }
 {
     match unit {
@@ -152,7 +163,7 @@ fn write_linux_sll<W: Sink>(slice: &LinuxSllSlice<'_>, out: &mut OutputBuffer<'_
 }
 
 /// Writes ` cooked type TYPE from ADDRESS`: how the packet was sent, and the sender's address.
-pub(crate) fn write_sender<W: Sink>(
+fn write_sender<W: Sink>(
     packet_type: usize,
     address: &[u8; 8],
     len: usize,
@@ -166,7 +177,7 @@ pub(crate) fn write_sender<W: Sink>(
 }
 
 /// Writes a header of cooked capture v1 that is not walked.
-pub(crate) fn write_brief_cooked<W: Sink>(header: &CookedHeader, out: &mut OutputBuffer<'_, W>)
+fn write_cooked<W: Sink>(header: &CookedHeader, out: &mut OutputBuffer<'_, W>)
     ensures { Takes W.contents W.can_fail out.old (brief_header (headers.LinuxSll (cooked_view header.now))) out.new }
 {
     write_number(out, b" cooked type ", usize::from(header.packet_type));
@@ -175,10 +186,7 @@ pub(crate) fn write_brief_cooked<W: Sink>(header: &CookedHeader, out: &mut Outpu
 }
 
 /// Writes a header of cooked capture v2.
-pub(crate) fn write_brief_linux_sll2<W: Sink>(
-    packet: &LinuxSll2Slice<'_>,
-    out: &mut OutputBuffer<'_, W>,
-)
+fn write_linux_sll2<W: Sink>(packet: &LinuxSll2Slice<'_>, out: &mut OutputBuffer<'_, W>)
     ensures { Takes W.contents W.can_fail out.old (brief_cooked_v2 (linux_sll2_of packet.now)) out.new }
 {
     let packet_type = usize::from(packet.packet_type_number());
@@ -187,20 +195,31 @@ pub(crate) fn write_brief_linux_sll2<W: Sink>(
     write_sender(packet_type, &packet.sender_address_full(), len, out);
 }
 
+/// Writes how the walk through a packet ends, after a space.
+pub(crate) fn write_brief_end<W: Sink>(end: &End, out: &mut OutputBuffer<'_, W>)
+    ensures { Takes W.contents W.can_fail out.old (brief_end end.now) out.new }
+{
+    match end {
+        End::Rest(start, end, kind) => write_rest(end.saturating_sub(*start), kind, out),
+        End::Skipped(len) => write_skipped(*len, out),
+        End::Fault(start, _, cause) => write_fault(*start, cause, out),
+    }
+}
+
 /// Writes what is left, and its length; nothing for the padding after an ARP packet.
-pub(crate) fn write_brief_rest<W: Sink>(len: usize, kind: RestKind, out: &mut OutputBuffer<'_, W>)
-    ensures { Takes W.contents W.can_fail out.old (brief_rest len kind) out.new }
+fn write_rest<W: Sink>(len: usize, kind: &RestKind, out: &mut OutputBuffer<'_, W>)
+    ensures { Takes W.contents W.can_fail out.old (brief_rest len kind.now) out.new }
 {
     match kind {
         RestKind::AfterArp => {}
         RestKind::EtherType(ether_type) => {
             out.append(b" ");
-            write_type(ether_type, out);
+            write_type(*ether_type, out);
             write_len(len, out);
         }
         _ => {
             out.append(b" ");
-            out.append(kind_word(&kind).as_bytes());
+            out.append(kind_word(kind).as_bytes());
             write_len(len, out);
         }
     }
@@ -215,35 +234,18 @@ fn write_len<W: Sink>(len: usize, out: &mut OutputBuffer<'_, W>)
 }
 
 /// Writes an ether type by its name, or as a hexadecimal number if it has no name here.
+#[tactic(auto, unfolding(crate::specs::Brief::type_text))]
 fn write_type<W: Sink>(ether_type: EtherType, out: &mut OutputBuffer<'_, W>)
     ensures { Takes W.contents W.can_fail out.old (type_text ether_type.0) out.new }
 {
-    match name_of(ether_type.0) {
+    match name_of(Kind::EtherType, u64::from(ether_type.0)) {
         Some(name) => out.append(name.as_bytes()),
         None => out.append(&hex_type(ether_type)),
     }
 }
 
-/// The name of the protocol of an ether type.
-fn name_of(ether_type: u16) -> Option<&'static str>
-    ensures { option_map (λ s. s.now) result ≡ description_in type_names ether_type }
-{
-    match ether_type {
-        0x0800 => Some("IPv4"),
-        0x86DD => Some("IPv6"),
-        0x0806 => Some("ARP"),
-        0x8847 => Some("MPLS"),
-        0x8863 => Some("PPPoE discovery"),
-        0x8864 => Some("PPPoE"),
-        0x888E => Some("EAPOL"),
-        0x88CC => Some("LLDP"),
-        0x88F7 => Some("PTP"),
-        _ => None,
-    }
-}
-
 /// Writes ` skipped LEN bytes`.
-pub(crate) fn write_brief_skipped<W: Sink>(len: usize, out: &mut OutputBuffer<'_, W>)
+fn write_skipped<W: Sink>(len: usize, out: &mut OutputBuffer<'_, W>)
     ensures { Takes W.contents W.can_fail out.old (codes " skipped " ++ (decimal len ++ codes " bytes")) out.new }
 {
     write_number(out, b" skipped ", len);
@@ -251,71 +253,31 @@ pub(crate) fn write_brief_skipped<W: Sink>(len: usize, out: &mut OutputBuffer<'_
 }
 
 /// Writes ` fault at START: CAUSE`.
-pub(crate) fn write_brief_fault<W: Sink>(
-    start: usize,
-    error: &PeelError,
-    out: &mut OutputBuffer<'_, W>,
-)
-    ensures { Takes W.contents W.can_fail out.old (fault_text start (cause_shown error.now)) out.new }
+fn write_fault<W: Sink>(start: usize, cause: &Cause, out: &mut OutputBuffer<'_, W>)
+    ensures { Takes W.contents W.can_fail out.old (fault_text start cause.now) out.new }
 {
     write_number(out, b" fault at ", start);
     out.append(b": ");
-    match error {
-        PeelError::Len(error) => write_lengths(error.required_len, error.len, out),
-        PeelError::LinuxSll(error) => write_linux_sll_cause(error, out),
-        PeelError::Macsec(error) => write_macsec_cause(error, out),
-    }
+    write_cause(cause, out);
 }
 
-/// Writes `needs REQUIRED bytes, has LEN`.
-fn write_lengths<W: Sink>(required: usize, len: usize, out: &mut OutputBuffer<'_, W>)
-    ensures { Takes W.contents W.can_fail out.old (lengths_text required len) out.new }
+/// Writes what is wrong with a header.
+fn write_cause<W: Sink>(cause: &Cause, out: &mut OutputBuffer<'_, W>)
+    ensures { Takes W.contents W.can_fail out.old (brief_cause cause.now) out.new }
 {
-    write_number(out, b"needs ", required);
-    write_number(out, b" bytes, has ", len);
-}
-
-/// Writes what is wrong in a header of cooked capture v1.
-fn write_linux_sll_cause<W: Sink>(
-    error: &err::linux_sll::HeaderError,
-    out: &mut OutputBuffer<'_, W>,
-)
-    ensures { Takes W.contents W.can_fail out.old (brief_cause (linux_sll_cause error.now)) out.new }
-{
-    match error {
-        err::linux_sll::HeaderError::UnsupportedPacketTypeField { packet_type } => {
-            write_number(out, b"packet type ", usize::from(*packet_type));
+    match cause {
+        Cause::Length(required, available, _) => {
+            write_number(out, b"needs ", *required);
+            write_number(out, b" bytes, has ", *available);
         }
-        err::linux_sll::HeaderError::UnsupportedArpHardwareId { arp_hardware_type } => {
-            write_number(out, b"hardware type ", usize::from(arp_hardware_type.0));
-        }
-    }
-}
-
-/// Writes what is wrong in a SecTag.
-fn write_macsec_cause<W: Sink>(error: &err::macsec::HeaderError, out: &mut OutputBuffer<'_, W>)
-    ensures { Takes W.contents W.can_fail out.old (brief_cause (macsec_cause error.now)) out.new }
-{
-    match error {
-        err::macsec::HeaderError::UnexpectedVersion => out.append(b"version 1 of MACsec"),
-        err::macsec::HeaderError::InvalidUnmodifiedShortLen => out.append(b"short length 1"),
-    }
-}
-
-/// Writes the fault of a header of cooked capture v2.
-pub(crate) fn write_brief_linux_sll2_fault<W: Sink>(
-    error: &LinuxSll2Error,
-    out: &mut OutputBuffer<'_, W>,
-)
-    ensures { Takes W.contents W.can_fail out.old (fault_text 0 (cause_of_v2 (refusal_view error.now))) out.new }
-{
-    write_number(out, b" fault at ", 0);
-    out.append(b": ");
-    match error {
-        LinuxSll2Error::Len { required_len, len } => write_lengths(*required_len, *len, out),
-        LinuxSll2Error::PacketType(number) => {
+        Cause::UnknownPacketType(number) => {
             write_number(out, b"packet type ", usize::from(*number));
         }
+        Cause::UnknownHardwareType(number) => {
+            write_number(out, b"hardware type ", usize::from(*number));
+        }
+        Cause::Version => out.append(b"version 1 of MACsec"),
+        Cause::ShortLength => out.append(b"short length 1"),
     }
 }
 

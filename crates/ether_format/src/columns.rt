@@ -2,13 +2,14 @@
 ghost use Rattle.std.specs.Prelude.{◌≡◌, ◌==◌, ◌≤◌, ◌<◌, ◌∷◌, ◌++◌, [], IfNone, IfSome, List, codes, length, map};
 ghost use Rattle.std.specs.List.{flat_map, slice_split};
 ghost use Rattle.std.specs.Option.{option_map};
-ghost use Rattle.ether_text.specs.OutputBuffer.{Takes};
+ghost use Rattle.ether_output.specs.OutputBuffer.{Takes};
 ghost use Rattle.ether_format.specs.Splits.{SplitsWord};
 ghost use Rattle.ether_format.specs.Columns.{AreColumns, ColumnValue, IsUnknownIn, column_name, column_view, columns_view, common_columns, heading_text, original_column};
 
-use crate::column::{Column, Section};
+use crate::column::Column;
 use crate::split::split_at;
-use ether_text::{OutputBuffer, Sink};
+use ether_fields::Section;
+use ether_output::{OutputBuffer, Sink};
 
 /// How many columns there may be after the first.
 const MOST_OTHERS: usize = 31;
@@ -72,7 +73,15 @@ impl Columns {
         ensures some { IfSome result (λ it. AreColumns text.now (columns_view it)) }
         ensures none { IfNone result ((columns : List ColumnValue) → ¬ (AreColumns text.now columns)) }
     {
-        let (word, mut rest) = first_word(text.as_bytes());
+        Columns::of_bytes(text.as_bytes())
+    }
+
+    /// .. that the bytes of a text name.
+    pub(crate) fn of_bytes(text: &[u8]) -> Option<Columns>
+        ensures some { IfSome result (λ it. AreColumns text.now (columns_view it)) }
+        ensures none { IfNone result ((columns : List ColumnValue) → ¬ (AreColumns text.now columns)) }
+    {
+        let (word, mut rest) = first_word(text);
         let mut columns = Columns::of_one(Column::of_name(word)?);
         while let Some(text) = rest {
             let (word, after) = first_word(text);

@@ -1,6 +1,8 @@
 //! How the text of a packet is formed.
+ghost use Rattle.std.specs.Prelude.{IfNone, IfSome};
+ghost use Rattle.ether_format.specs.Formats.{NamesFormat};
+
 use crate::Columns;
-use crate::column::Column;
 
 /// How the text of a packet is formed.
 #[derive(Clone, Copy, PartialEq, Eq, Debug)]
@@ -14,13 +16,27 @@ pub enum Format {
     Fields(Columns),
 }
 
-/// What is written along a walk through the headers of a packet.
-#[derive(Clone, Copy)]
-pub(crate) enum Part {
-    /// The line of JSON.
-    Json,
-    /// The line for the eye.
-    Brief,
-    /// A column of the row.
-    Column(Column),
+impl Format {
+    /// The format that a text names: `json`, `brief`, or columns, as [`Columns::of_names`] reads them.
+    ///
+    /// ```
+    /// assert_eq!(rt; Format::of_text(b"json"), Some(Format::Json));
+    /// assert!(rt; Format::of_text(b"eth.src,vlan.vid").is_some());
+    /// assert!(rt; Format::of_text(b"xml").is_none());
+    /// ```
+    pub fn of_text(text: &[u8]) -> Option<Format>
+        ensures some { IfSome result (λ it. NamesFormat text.now it) }
+        ensures none { IfNone result ((it : Format) → ¬ (NamesFormat text.now it)) }
+    {
+        if text == b"json".as_slice() {
+            return Some(Format::Json);
+        }
+        if text == b"brief".as_slice() {
+            return Some(Format::Brief);
+        }
+        match Columns::of_bytes(text) {
+            Some(columns) => Some(Format::Fields(columns)),
+            None => None,
+        }
+    }
 }

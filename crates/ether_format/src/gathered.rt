@@ -1,92 +1,115 @@
-//! The headers of one walk, gathered for all columns of a row.
-ghost use Rattle.std.specs.Prelude.{◌≡◌, IfNone, IfSome, length};
-ghost use Rattle.ether_peel.specs.Walker.Start.{start_with};
-ghost use Rattle.ether_format.specs.Gathered.{GathersWalk, HasNoRoom, is_accepted};
-ghost use Rattle.ether_format.specs.Told.{TellsWalk};
+//! The headers of a packet, gathered for all columns of a row.
+ghost use Rattle.std.specs.Prelude.{◌≡◌, ◌&&◌};
+ghost use Rattle.ether_format.specs.GatheredSections.{added_to, has_section, new_gatherer};
 
-use crate::column_value::section_of;
 use crate::found::Found;
-use crate::found_header::FoundHeader;
-use crate::place::Place;
-use crate::walk::walker;
+use crate::visit::Visitor;
 use arrayvec::ArrayVec;
-use ether_peel::{PeelError, RestKind, Start};
-use ether_sll2::LinuxSll2Error;
+use ether_fields::Section;
 
 /// How many headers there is room for.
-const ROOM: usize = 4;
+pub(crate) const ROOM: usize = 4;
 
-/// The headers of a walk, in order.
+/// The first headers of a packet, in order.
 pub(crate) type Headers<'a> = ArrayVec<Found<'a>, ROOM>;
 
-/// How a walk ends.
-#[derive(Drop)]
-pub(crate) enum End {
-    /// What is left: the offsets of its start and its end, and what it is announced as.
-    Rest(usize, usize, RestKind),
-    /// A packet whose link type the walk does not know, with its length in bytes.
-    Skipped(usize),
-    /// A fault: its offset, whether bytes appended to the packet would lie outside the window there, and the error.
-    Fault(usize, bool, PeelError),
-    /// A header of cooked capture v2 is refused.
-    RefusedV2(LinuxSll2Error),
+/// Sections that some headers have.
+#[derive(Clone, Copy)]
+struct Sections {
+    has_vlan: bool,
+    has_macsec: bool,
+    has_arp: bool,
+    has_others: bool,
 }
 
-impl End {
-    /// Whether no header is refused.
-    pub(crate) fn is_accepted(&self) -> bool
-        ensures { result ≡ is_accepted self.now }
+impl Sections {
+    /// Those of no header.
+    const NONE: Sections = Sections {
+        has_vlan: false,
+        has_macsec: false,
+        has_arp: false,
+        has_others: false,
+    };
+
+    /// These and that of another header.
+    fn and(self, section: Section) -> Sections
+        ensures { result ≡ added_to self section }
     {
-        match self {
-            End::Rest(_, _, _) | End::Skipped(_) => true,
-            End::Fault(_, _, _) | End::RefusedV2(_) => false,
+        match section {
+            Section::Vlan => Sections {
+                has_vlan: true,
+                ..self
+            },
+            Section::Macsec => Sections {
+                has_macsec: true,
+                ..self
+            },
+            Section::Arp => Sections {
+                has_arp: true,
+                ..self
+            },
+            _ => Sections {
+                has_others: true,
+                ..self
+            },
+        }
+    }
+
+    /// Whether a column of a section can have a value in one of the headers.
+    fn has(self, section: Section) -> bool
+        ensures { result ≡ has_section self section }
+    {
+        match section {
+            Section::Vlan => self.has_vlan,
+            Section::Macsec => self.has_macsec,
+            Section::Arp => self.has_arp,
+            Section::Headers => self.has_vlan || self.has_macsec || self.has_arp || self.has_others,
+            _ => self.has_others,
         }
     }
 }
 
-/// Walks a frame, appends its headers to `headers`, and returns how the walk ends. Each offset is counted from
-/// `header_len` bytes before the frame. Returns `None` if there is no room for a header.
-#[inline(always)]
-pub(crate) fn gather<'a>(
-    header_len: u8,
-    start: Start,
-    limit: Option<usize>,
-    frame: &'a [u8],
-    headers: &mut Headers<'a>,
-) -> Option<End>
-    ensures some { IfSome result
-        (λ end. GathersWalk header_len (start_with start limit) frame.now headers.old.items headers.new.items end) }
-    ensures none { IfNone result (HasNoRoom (TellsWalk header_len (start_with start limit) frame.now)
-        (length headers.old.items)) }
-{
-    let at = usize::from(header_len);
-    let mut peel = walker(start, limit, frame);
-    loop {
-        let start = at + peel.offset();
-        match peel.next() {
-            Some(Ok(unit)) => {
-                let header_end = at + peel.offset();
-                let place = Place {
-                    start,
-                    header_end,
-                    payload_end: header_end + peel.rest().len(),
-                    closed: peel.closed(),
-                };
-                if headers.is_full() {
-                    return None;
-                }
-                headers.push(Found {
-                    section: section_of(&unit),
-                    place,
-                    header: FoundHeader::Walked(unit),
-                });
-            }
-            Some(Err(fault)) => {
-                return Some(End::Fault(at + fault.offset, fault.closed, fault.error));
-            }
-            None => {
-                return Some(End::Rest(start, start + peel.rest().len(), peel.kind()));
-            }
+/// Gathers the first headers of a packet, and remembers which sections the later ones have.
+#[derive(Clone, Copy)]
+pub(crate) struct Gatherer {
+    /// Whether there are headers for which there was no room.
+    has_later: bool,
+    /// Their sections.
+    later: Sections,
+}
+
+impl Gatherer {
+    /// Whether a column of a section can have a value in a header for which there was no room.
+    #[inline(always)]
+    pub(crate) fn has(&self, section: Section) -> bool
+        ensures { result ≡ (self.now.has_later && has_section self.now.later section) }
+    {
+        self.has_later && self.later.has(section)
+    }
+
+    /// Makes a gatherer that has seen no header.
+    pub(crate) fn new() -> Gatherer
+        ensures { result ≡ new_gatherer }
+    {
+        Gatherer {
+            has_later: false,
+            later: Sections::NONE,
+        }
+    }
+}
+
+impl<'a> Visitor<'a, Headers<'a>> for Gatherer {
+    ghost use Rattle.ether_format.specs.Gathered.{Gathers};
+
+    ghost takes = { λ old headers told new headers_new. Gathers old headers.items told new headers_new.items };
+
+    #[inline(always)]
+    fn header(&mut self, found: Found<'a>, target: &mut Headers<'a>) {
+        if target.is_full() {
+            self.later = self.later.and(found.section);
+            self.has_later = true;
+        } else {
+            target.push(found);
         }
     }
 }

@@ -4,17 +4,18 @@
 
 mod brief;
 mod calendar;
+mod cause;
 mod column;
-mod column_value;
 mod columns;
-mod endings;
+mod end;
+mod end_values;
 mod format;
 mod found;
 mod found_header;
 mod gathered;
-mod gathered_row;
 mod json;
 pub mod laws;
+mod line;
 mod members;
 mod moment;
 mod packet;
@@ -22,11 +23,9 @@ mod place;
 mod row;
 mod spelling;
 mod split;
-mod unit_value;
 mod value;
-mod walk;
-mod write_end;
-mod write_header;
+mod values;
+mod visit;
 
 pub use columns::Columns;
 pub use format::Format;

@@ -1,287 +1,217 @@
-//! The members of each header.
-ghost use Rattle.std.specs.Prelude.{◌≡◌, [], codes, map, length, take};
-ghost use Rattle.ether_base.specs.Bytes.{number as number_of_bytes, spelled};
+//! The members of each header and of what else a packet tells, as an object has them.
+ghost use Rattle.std.specs.Prelude.{◌≡◌, List, Option, Some, None, codes, drop, map, unwrap_or};
+ghost use Rattle.std.specs.Option.{option_map};
 ghost use Rattle.etherparse.specs.Arp.{arp_of};
 ghost use Rattle.etherparse.specs.Ethernet2.{ethernet2_of, fcs_of};
 ghost use Rattle.etherparse.specs.LinuxSll.{linux_sll_of};
-ghost use Rattle.etherparse.specs.Macsec.{payload_type_view, sec_tag_of, tag_bytes};
+ghost use Rattle.etherparse.specs.Macsec.{sec_tag_of, tag_bytes};
 ghost use Rattle.etherparse.specs.Vlan.{vlan_of};
 ghost use Rattle.ether_content.specs.ContentViews.{cooked_view};
 ghost use Rattle.ether_sll2.specs.LinuxSll2.{linux_sll2_of};
 ghost use Rattle.ether_pcap.specs.CaptureViews.{captured_packet_view};
-ghost use Rattle.ether_format.specs.Members.{Bytes, Number, Time, Protocol, arp_members, ethernet2_members, if_some, linux_sll2_members, linux_sll_members, macsec_members, packet_members, payload_type_value, payload_word, protocol_address, vlan_members};
-ghost use Rattle.ether_format.specs.Told.{placed_members};
-ghost use Rattle.ether_format.specs.Walking.{keyed, keyed_view, others, place_view, value_view};
+ghost use Rattle.ether_fields.specs.Fields.{section_name};
+ghost use Rattle.ether_fields.specs.Rows.{arp_rows, ethernet2_rows, fault_rows, frame_rows, linux_sll2_rows, linux_sll_rows, macsec_rows, place_rows, rest_rows, vlan_rows};
+ghost use Rattle.ether_format.specs.Members.{Nothing, arp_values, ethernet2_values, linux_sll2_values, linux_sll_values, macsec_values, rest_values, vlan_values};
+ghost use Rattle.ether_format.specs.Told.{fault_values, kind_value, kind_word, place_values};
+ghost use Rattle.ether_format.specs.Values.{HasPacketMembers, keyed, keyed_after, member_view, value_view};
 
-use crate::Moment;
+use crate::cause::Cause;
+use crate::end_values::{fault_value, rest_value, skipped_value};
 use crate::place::Place;
-use crate::spelling::first_of;
 use crate::value::{Member, Value};
+use crate::values::{
+    arp_value, cooked_value, ethernet2_value, linux_sll_value, linux_sll2_value, macsec_value,
+    packet_value, place_value, vlan_value,
+};
 use ether_content::CookedHeader;
+use ether_fields::{Field, Section, rows};
 use ether_pcap::CapturedPacket;
+use ether_peel::RestKind;
 use ether_sll2::LinuxSll2Slice;
 use etherparse::{
-    ArpPacketSlice, EtherType, Ethernet2Slice, LinuxSllSlice, MacsecHeaderSlice, MacsecPType,
-    SingleVlanSlice,
+    ArpPacketSlice, Ethernet2Slice, LinuxSllSlice, MacsecHeaderSlice, SingleVlanSlice,
 };
 
-/// The members that each header begins with: its name and its place.
+/// The member of a field with this value.
 #[inline(always)]
-pub(crate) fn placed<'a>(name: &'static str, place: Place) -> [Member<'a>; 5]
-    ensures { map keyed_view result ≡ keyed (placed_members name.now (place_view place) []) }
+fn member<'a>(field: &Field, value: Option<Value<'a>>) -> Member<'a>
+    ensures { member_view result
+        ≡ record { key = field.now.key.now; value = unwrap_or (option_map value_view value.entry) Nothing } }
+{
+    Member {
+        key: field.key,
+        value: match value {
+            Some(value) => value,
+            None => Value::Nothing,
+        },
+    }
+}
+
+/// The members of a packet.
+#[inline(always)]
+pub(crate) fn packet<'a>(number: usize, packet: &CapturedPacket<'_>) -> [Member<'a>; 5]
+    ensures { HasPacketMembers number (captured_packet_view packet.now) (map member_view result) }
 {
     [
-        member("{\"header\":", Value::Word(name)),
-        number(",\"start\":", place.start),
-        number(",\"end\":", place.header_end),
-        number(",\"payload_end\":", place.payload_end),
-        member(",\"closed\":", Value::Flag(place.closed)),
+        member(&rows::FRAME[0], packet_value(number, packet, 0)),
+        member(&rows::FRAME[1], packet_value(number, packet, 1)),
+        member(&rows::FRAME[2], packet_value(number, packet, 2)),
+        member(&rows::FRAME[3], packet_value(number, packet, 3)),
+        member(&rows::FRAME[4], packet_value(number, packet, 4)),
     ]
 }
 
-/// A member.
+/// The members that each header begins with: its name and its place.
 #[inline(always)]
-pub(crate) fn member<'a>(key: &'static str, value: Value<'a>) -> Member<'a>
-    ensures { keyed_view result ≡ record { key = key.now; value = value_view value.entry } }
+pub(crate) fn placed<'a>(section: Section, place: Place) -> [Member<'a>; 5]
+    ensures { map member_view result ≡ keyed place_rows (place_values (section_name section) place) }
 {
-    Member { key, value }
-}
-
-/// A member that is a number.
-#[inline(always)]
-pub(crate) fn number<'a>(key: &'static str, number: usize) -> Member<'a>
-    ensures { keyed_view result ≡ record { key = key.now; value = Number number } }
-{
-    member(key, Value::Number(number as u64))
-}
-
-/// A member that is a protocol number.
-#[inline(always)]
-fn ether_type<'a>(key: &'static str, ether_type: EtherType) -> Member<'a>
-    ensures { keyed_view result ≡ record { key = key.now; value = Protocol ether_type.0 } }
-{
-    member(key, Value::Protocol(ether_type.0))
+    [
+        member(&rows::HEADERS[0], place_value(section, place, 0)),
+        member(&rows::HEADERS[1], place_value(section, place, 1)),
+        member(&rows::HEADERS[2], place_value(section, place, 2)),
+        member(&rows::HEADERS[3], place_value(section, place, 3)),
+        member(&rows::HEADERS[4], place_value(section, place, 4)),
+    ]
 }
 
 /// The members of a header of Ethernet II.
 #[inline(always)]
 pub(crate) fn ethernet2<'a>(slice: &Ethernet2Slice<'_>) -> [Member<'a>; 4]
-    ensures { map keyed_view result ≡ others (ethernet2_members (ethernet2_of slice.now.bytes) (fcs_of slice.now)) }
+    ensures { map member_view result
+        ≡ keyed_after ethernet2_rows (ethernet2_values (ethernet2_of slice.now.bytes) (fcs_of slice.now)) }
 {
     [
-        member(",\"dst\":", Value::Mac(slice.destination())),
-        member(",\"src\":", Value::Mac(slice.source())),
-        ether_type(",\"type\":", slice.ether_type()),
-        member(",\"fcs\":", fcs_value(slice.fcs())),
+        member(&rows::ETH[5], ethernet2_value(slice, 0)),
+        member(&rows::ETH[6], ethernet2_value(slice, 1)),
+        member(&rows::ETH[7], ethernet2_value(slice, 2)),
+        member(&rows::ETH[8], ethernet2_value(slice, 3)),
     ]
-}
-
-/// The value of a frame check sequence.
-#[inline(always)]
-pub(crate) fn fcs_value<'a>(fcs: Option<[u8; 4]>) -> Value<'a>
-    ensures { value_view result ≡ if_some Bytes fcs }
-{
-    match fcs {
-        Some(fcs) => Value::Four(fcs),
-        None => Value::Nothing,
-    }
 }
 
 /// The members of a VLAN tag.
 #[inline(always)]
 pub(crate) fn vlan<'a>(slice: &SingleVlanSlice<'_>) -> [Member<'a>; 4]
-    ensures { map keyed_view result ≡ others (vlan_members (vlan_of slice.now)) }
+    ensures { map member_view result ≡ keyed_after vlan_rows (vlan_values (vlan_of slice.now)) }
 {
     [
-        number(
-            ",\"pcp\":",
-            usize::from(slice.priority_code_point().value()),
-        ),
-        number(",\"dei\":", usize::from(slice.drop_eligible_indicator())),
-        number(",\"vid\":", usize::from(slice.vlan_identifier().value())),
-        ether_type(",\"type\":", slice.ether_type()),
+        member(&rows::VLAN[5], vlan_value(slice, 0)),
+        member(&rows::VLAN[6], vlan_value(slice, 1)),
+        member(&rows::VLAN[7], vlan_value(slice, 2)),
+        member(&rows::VLAN[8], vlan_value(slice, 3)),
     ]
 }
 
 /// The members of a SecTag.
 pub(crate) fn macsec<'a>(tag: &MacsecHeaderSlice<'_>) -> [Member<'a>; 8]
-    ensures { map keyed_view result ≡ others (macsec_members (sec_tag_of (tag_bytes tag.now))) }
+    ensures { map member_view result ≡ keyed_after macsec_rows (macsec_values (sec_tag_of (tag_bytes tag.now))) }
 {
-    let payload_type = tag.ptype();
     [
-        member(",\"payload\":", Value::Word(payload_word(payload_type))),
-        number(",\"es\":", usize::from(tag.endstation_id())),
-        number(",\"scb\":", usize::from(tag.tci_scb())),
-        number(",\"an\":", usize::from(tag.an().value())),
-        number(",\"sl\":", usize::from(tag.short_len().value())),
-        number(",\"pn\":", tag.packet_nr() as usize),
-        member(",\"sci\":", sci_value(tag.sci())),
-        member(",\"type\":", payload_type_value(payload_type)),
+        member(&rows::MACSEC[5], macsec_value(tag, 0)),
+        member(&rows::MACSEC[7], macsec_value(tag, 2)),
+        member(&rows::MACSEC[9], macsec_value(tag, 4)),
+        member(&rows::MACSEC[12], macsec_value(tag, 7)),
+        member(&rows::MACSEC[14], macsec_value(tag, 9)),
+        member(&rows::MACSEC[15], macsec_value(tag, 10)),
+        member(&rows::MACSEC[16], macsec_value(tag, 11)),
+        member(&rows::MACSEC[17], macsec_value(tag, 12)),
     ]
-}
-
-/// The word for the payload of a SecTag.
-fn payload_word(payload_type: MacsecPType) -> &'static str
-    ensures { result.now ≡ payload_word (payload_type_view payload_type) }
-{
-    match payload_type {
-        MacsecPType::Unmodified(_) => "unmodified",
-        MacsecPType::Modified => "modified",
-        MacsecPType::EncryptedUnmodified => "encrypted_unmodified",
-        MacsecPType::Encrypted => "encrypted",
-    }
-}
-
-/// The ether type of the payload of a SecTag, if it can be read.
-fn payload_type_value<'a>(payload_type: MacsecPType) -> Value<'a>
-    ensures { value_view result ≡ payload_type_value (payload_type_view payload_type) }
-{
-    match payload_type {
-        MacsecPType::Unmodified(ether_type) => Value::Protocol(ether_type.0),
-        _ => Value::Nothing,
-    }
-}
-
-/// The value of a secure channel identifier.
-fn sci_value<'a>(sci: Option<u64>) -> Value<'a>
-    ensures { value_view result ≡ if_some (λ n. Bytes (spelled 8 n)) sci }
-{
-    match sci {
-        Some(sci) => Value::Eight(sci.to_be_bytes()),
-        None => Value::Nothing,
-    }
 }
 
 /// The members of an ARP packet.
 pub(crate) fn arp<'a>(packet: &'a ArpPacketSlice<'_>) -> [Member<'a>; 9]
-    ensures { map keyed_view result ≡ others (arp_members (arp_of packet.now)) }
+    ensures { map member_view result ≡ keyed_after arp_rows (arp_values (arp_of packet.now)) }
 {
-    let protocol = packet.proto_addr_type();
     [
-        number(",\"hrd\":", usize::from(packet.hw_addr_type().0)),
-        ether_type(",\"pro\":", protocol),
-        number(",\"hln\":", usize::from(packet.hw_addr_size())),
-        number(",\"pln\":", usize::from(packet.proto_addr_size())),
-        number(",\"op\":", usize::from(packet.operation().0)),
-        member(",\"sha\":", Value::Bytes(packet.sender_hw_addr())),
-        member(
-            ",\"spa\":",
-            protocol_address(protocol, packet.sender_protocol_addr()),
-        ),
-        member(",\"tha\":", Value::Bytes(packet.target_hw_addr())),
-        member(
-            ",\"tpa\":",
-            protocol_address(protocol, packet.target_protocol_addr()),
-        ),
+        member(&rows::ARP[5], arp_value(packet, 0)),
+        member(&rows::ARP[6], arp_value(packet, 1)),
+        member(&rows::ARP[7], arp_value(packet, 2)),
+        member(&rows::ARP[8], arp_value(packet, 3)),
+        member(&rows::ARP[9], arp_value(packet, 4)),
+        member(&rows::ARP[10], arp_value(packet, 5)),
+        member(&rows::ARP[11], arp_value(packet, 6)),
+        member(&rows::ARP[12], arp_value(packet, 7)),
+        member(&rows::ARP[13], arp_value(packet, 8)),
     ]
-}
-
-/// The value of an address of a protocol.
-pub(crate) fn protocol_address(protocol: EtherType, bytes: &[u8]) -> Value<'_>
-    ensures { value_view result ≡ protocol_address protocol.0 bytes.now }
-{
-    if protocol == EtherType::IPV4 && bytes.len() == 4 {
-        Value::Dotted(bytes)
-    } else {
-        Value::Bytes(bytes)
-    }
 }
 
 /// The members of a header of Linux cooked capture v1.
 pub(crate) fn linux_sll<'a>(slice: &'a LinuxSllSlice<'_>) -> [Member<'a>; 5]
-    ensures { map keyed_view result ≡ others (linux_sll_members (linux_sll_of slice.now)) }
+    ensures { map member_view result ≡ keyed_after linux_sll_rows (linux_sll_values (linux_sll_of slice.now)) }
 {
     [
-        number(",\"packet_type\":", usize::from(slice.packet_type_number())),
-        number(",\"hw_type\":", usize::from(slice.arp_hardware_type().0)),
-        number(
-            ",\"addr_len\":",
-            usize::from(slice.sender_address_valid_length()),
-        ),
-        member(
-            ",\"addr\":",
-            Value::Short(
-                slice.sender_address_full(),
-                usize::from(slice.sender_address_valid_length()),
-            ),
-        ),
-        member(",\"protocol\":", Value::Protocol(slice.protocol_number())),
+        member(&rows::SLL[5], linux_sll_value(slice, 0)),
+        member(&rows::SLL[6], linux_sll_value(slice, 1)),
+        member(&rows::SLL[7], linux_sll_value(slice, 2)),
+        member(&rows::SLL[8], linux_sll_value(slice, 3)),
+        member(&rows::SLL[9], linux_sll_value(slice, 4)),
     ]
 }
 
 /// The members of a header of Linux cooked capture v1 that is not walked.
 pub(crate) fn cooked<'a>(header: &'a CookedHeader) -> [Member<'a>; 5]
-    ensures { map keyed_view result ≡ others (linux_sll_members (cooked_view header.now)) }
+    ensures { map member_view result ≡ keyed_after linux_sll_rows (linux_sll_values (cooked_view header.now)) }
 {
     [
-        number(",\"packet_type\":", usize::from(header.packet_type)),
-        number(",\"hw_type\":", usize::from(header.hardware_type.0)),
-        number(",\"addr_len\":", usize::from(header.address_len)),
-        member(
-            ",\"addr\":",
-            Value::Bytes(used(&header.address, usize::from(header.address_len))),
-        ),
-        ether_type(",\"protocol\":", header.protocol),
+        member(&rows::SLL[5], cooked_value(header, 0)),
+        member(&rows::SLL[6], cooked_value(header, 1)),
+        member(&rows::SLL[7], cooked_value(header, 2)),
+        member(&rows::SLL[8], cooked_value(header, 3)),
+        member(&rows::SLL[9], cooked_value(header, 4)),
     ]
-}
-
-/// The first `len` of the 8 bytes of an address, or all if `len` is greater.
-pub(crate) fn used(address: &[u8], len: usize) -> &[u8]
-    requires { length address.now ≡ 8 }
-    ensures { result.now ≡ take len (spelled 8 (number_of_bytes address.now)) }
-{
-    first_of(address, len)
 }
 
 /// The members of a header of Linux cooked capture v2.
 pub(crate) fn linux_sll2<'a>(packet: &'a LinuxSll2Slice<'_>) -> [Member<'a>; 6]
-    ensures { map keyed_view result ≡ others (linux_sll2_members (linux_sll2_of packet.now)) }
+    ensures { map member_view result ≡ keyed_after linux_sll2_rows (linux_sll2_values (linux_sll2_of packet.now)) }
 {
     [
-        member(",\"protocol\":", Value::Protocol(packet.protocol_number())),
-        number(",\"if_index\":", packet.interface_index() as usize),
-        number(",\"hw_type\":", usize::from(packet.arp_hardware_type().0)),
-        number(
-            ",\"packet_type\":",
-            usize::from(packet.packet_type_number()),
-        ),
-        number(
-            ",\"addr_len\":",
-            usize::from(packet.sender_address_valid_length()),
-        ),
-        member(
-            ",\"addr\":",
-            Value::Short(
-                packet.sender_address_full(),
-                usize::from(packet.sender_address_valid_length()),
-            ),
-        ),
+        member(&rows::SLL2[5], linux_sll2_value(packet, 0)),
+        member(&rows::SLL2[7], linux_sll2_value(packet, 2)),
+        member(&rows::SLL2[8], linux_sll2_value(packet, 3)),
+        member(&rows::SLL2[9], linux_sll2_value(packet, 4)),
+        member(&rows::SLL2[10], linux_sll2_value(packet, 5)),
+        member(&rows::SLL2[11], linux_sll2_value(packet, 6)),
     ]
 }
 
-/// The members of a packet.
-pub(crate) fn packet<'a>(
-    number_of: usize,
-    packet: &CapturedPacket<'_>,
-    moment: Option<Moment>,
-) -> [Member<'a>; 5]
-    ensures { map keyed_view result ≡ keyed (packet_members number_of (captured_packet_view packet.now) moment) }
+/// The members of what is left.
+#[inline(always)]
+pub(crate) fn rest<'a>(start: usize, end: usize, kind: &RestKind) -> [Member<'a>; 4]
+    ensures { map member_view result
+        ≡ keyed rest_rows (rest_values start end (kind_word kind.now) (kind_value kind.now)) }
 {
     [
-        number("{\"number\":", number_of),
-        member(",\"time\":", time_value(moment)),
-        number(",\"link\":", usize::from(packet.link_type.0)),
-        number(",\"captured\":", packet.packet.len()),
-        number(",\"original\":", packet.original_len as usize),
+        member(&rows::REST[0], rest_value(start, end, kind, 0)),
+        member(&rows::REST[1], rest_value(start, end, kind, 1)),
+        member(&rows::REST[2], rest_value(start, end, kind, 2)),
+        member(&rows::REST[3], rest_value(start, end, kind, 3)),
     ]
 }
 
-/// The value of a time.
-pub(crate) fn time_value<'a>(moment: Option<Moment>) -> Value<'a>
-    ensures { value_view result ≡ if_some Time moment }
+/// The members of a packet that is skipped.
+pub(crate) fn skipped<'a>(len: usize) -> [Member<'a>; 4]
+    ensures { map member_view result ≡ keyed rest_rows (rest_values 0 len (codes "skipped") Nothing) }
 {
-    match moment {
-        Some(moment) => Value::Time(moment),
-        None => Value::Nothing,
-    }
+    [
+        member(&rows::REST[0], skipped_value(len, 0)),
+        member(&rows::REST[1], skipped_value(len, 1)),
+        member(&rows::REST[2], skipped_value(len, 2)),
+        member(&rows::REST[3], skipped_value(len, 3)),
+    ]
+}
+
+/// The members of a fault.
+pub(crate) fn fault<'a>(start: usize, closed: bool, cause: &Cause) -> [Member<'a>; 7]
+    ensures { map member_view result ≡ keyed fault_rows (fault_values start closed cause.now) }
+{
+    [
+        member(&rows::FAULT[0], fault_value(start, closed, cause, 0)),
+        member(&rows::FAULT[1], fault_value(start, closed, cause, 1)),
+        member(&rows::FAULT[2], fault_value(start, closed, cause, 2)),
+        member(&rows::FAULT[3], fault_value(start, closed, cause, 3)),
+        member(&rows::FAULT[4], fault_value(start, closed, cause, 4)),
+        member(&rows::FAULT[5], fault_value(start, closed, cause, 5)),
+        member(&rows::FAULT[6], fault_value(start, closed, cause, 6)),
+    ]
 }

@@ -1,8 +1,8 @@
 //! Where a header is.
 
 /// Where a header is in its packet, in bytes.
-#[derive(Clone, Copy)]
-pub(crate) struct Place {
+#[derive(Clone, Copy, Debug)]
+pub struct Place {
     /// Where it starts.
     pub(crate) start: usize,
     /// Where it ends, and its payload starts.

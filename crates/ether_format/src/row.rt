@@ -1,74 +1,219 @@
 //! Writes a packet as a row of columns.
-ghost use Rattle.std.specs.Prelude.{◌≡◌, ◌++◌, codes, true};
-ghost use Rattle.std.specs.List.{flat_map};
+ghost use Rattle.std.specs.Prelude.{◌≡◌, true};
 ghost use Rattle.std.specs.Option.{option_map};
 ghost use Rattle.ether_pcap.specs.CaptureViews.{captured_packet_view};
-ghost use Rattle.ether_text.specs.OutputBuffer.{Takes, TakesAnswer};
-ghost use Rattle.ether_format.specs.Columns.{columns_view};
-ghost use Rattle.ether_format.specs.Walking.{AnswersRow, TakesColumn, column_on, if_any, still_first, value_view};
+ghost use Rattle.ether_output.specs.OutputBuffer.{Takes, TakesAnswer};
+ghost use Rattle.ether_format.specs.declared.format.Format.TheVariants.{Fields};
+ghost use Rattle.ether_format.specs.Columns.{column_view, columns_view};
+ghost use Rattle.ether_format.specs.Gathered.{AreGathered, HasEnd, TakesAll, TakesColumn, TakesInHeaders, TakesLater, TakesRow};
+ghost use Rattle.ether_format.specs.Texts.{HasText};
+ghost use Rattle.ether_format.specs.Values.{column_on, end_shown, if_any, is_end_section, still_first, value_view};
 
-use crate::column::{Column, Section};
-use crate::format::Part;
-use crate::packet::write_part;
+use crate::Columns;
+use crate::column::Column;
+use crate::end::End;
+use crate::end_values::end_value;
+use crate::found::Found;
+use crate::gathered::{Gatherer, Headers, ROOM};
+use crate::json::write_comma;
 use crate::spelling::write_column_value;
 use crate::value::Value;
-use crate::write_header::write_comma;
-use crate::{Columns, Moment};
+use crate::values::packet_value;
+use crate::visit::{Visitor, visit};
+use ether_fields::Section;
+use ether_output::{OutputBuffer, Sink};
 use ether_pcap::CapturedPacket;
-use ether_text::{OutputBuffer, Sink};
+
+/// A packet of a row, and the most VLAN tags and SecTags that are read of it.
+#[derive(Clone, Copy)]
+struct RowPacket<'a> {
+    number: usize,
+    packet: &'a CapturedPacket<'a>,
+    limit: Option<usize>,
+}
 
 /// Writes the row of a packet, and returns whether no header of the packet is refused.
+///
+/// One walk gathers the first headers for all columns. Only a column that has values in later headers walks again.
 pub(crate) fn write_row<W: Sink>(
     columns: &Columns,
     limit: Option<usize>,
     number: usize,
     packet: &CapturedPacket<'_>,
-    moment: Option<Moment>,
     out: &mut OutputBuffer<'_, W>,
 ) -> bool
     ensures { TakesAnswer W.contents W.can_fail
-        (AnswersRow (columns_view columns.now) limit number (captured_packet_view packet.now) moment) out.old out.new
-        result }
+        (HasText (Fields columns.now) limit number (captured_packet_view packet.now))
+        out.old out.new result }
 {
-    let accepted = write_part(
-        Part::Column(columns.first()),
-        limit,
+    let mut headers = Headers::new();
+    let mut gatherer = Gatherer::new();
+    let end = visit(packet, limit, &mut gatherer, &mut headers);
+    let row = RowPacket {
         number,
         packet,
-        moment,
-        out,
-    );
-    for column in columns.others() {
-        out.append(b"\t");
-        write_later(*column, limit, number, packet, moment, out);
-    }
-    out.append(b"\n");
-    accepted
+        limit,
+    };
+    let headers = headers.as_slice();
+    write_columns(columns, &row, headers, &gatherer, &end, out);
+    end.is_accepted()
 }
 
-/// Writes a column after the first. One of the packet itself needs no walk.
-fn write_later<W: Sink>(
-    column: Column,
-    limit: Option<usize>,
-    number: usize,
-    packet: &CapturedPacket<'_>,
-    moment: Option<Moment>,
+/// Writes the columns of a row.
+#[inline(always)]
+fn write_columns<W: Sink>(
+    columns: &Columns,
+    row: &RowPacket<'_>,
+    headers: &[Found<'_>],
+    gatherer: &Gatherer,
+    end: &End,
     out: &mut OutputBuffer<'_, W>,
 )
-    ensures { TakesColumn W.contents W.can_fail column limit number (captured_packet_view packet.now) moment out.old
-        out.new }
+    requires told { AreGathered row.now headers.now gatherer.now }
+    requires end { HasEnd row.now end.now }
+    ensures { TakesRow W.contents W.can_fail (columns_view columns.now) row.now out.old out.new }
+{
+    let mut column = columns.first();
+    let mut others = columns.others();
+    loop {
+        write_column(column, row, headers, gatherer, end, out);
+        match others {
+            [next, rest @ ..] => {
+                out.append(b"\t");
+                column = *next;
+                others = rest;
+            }
+            [] => {
+                out.append(b"\n");
+                return;
+            }
+        }
+    }
+}
+
+/// Writes a column.
+#[inline(always)]
+fn write_column<W: Sink>(
+    column: Column,
+    row: &RowPacket<'_>,
+    headers: &[Found<'_>],
+    gatherer: &Gatherer,
+    end: &End,
+    out: &mut OutputBuffer<'_, W>,
+)
+    requires told { AreGathered row.now headers.now gatherer.now }
+    requires end { HasEnd row.now end.now }
+    ensures { TakesColumn W.contents W.can_fail column row.now out.old out.new }
 {
     if column.section == Section::Frame {
-        write_only(column.in_packet(number, packet, moment), out);
+        let index = usize::from(column.index);
+        write_only(packet_value(row.number, row.packet, index), out);
+    } else if is_end(column.section) {
+        write_in_end(column, end, out);
     } else {
-        write_part(Part::Column(column), limit, number, packet, moment, out);
+        write_in_all(column, row, headers, gatherer, out);
+    }
+}
+
+/// Whether a section is one of how a walk ends.
+#[inline(always)]
+fn is_end(section: Section) -> bool
+    ensures { result ≡ is_end_section section }
+{
+    matches!(section, Section::Rest | Section::Fault)
+}
+
+/// Writes the value of a column in how a walk ends, if there is one.
+#[inline(always)]
+fn write_in_end<W: Sink>(column: Column, end: &End, out: &mut OutputBuffer<'_, W>)
+    ensures { Takes W.contents W.can_fail out.old (column_on true (end_shown (column_view column) end.now)) out.new }
+{
+    if column.section == end.section() {
+        write_only(end_value(end, usize::from(column.index)), out);
+    }
+}
+
+/// Writes the values of a column in all headers.
+#[inline(always)]
+fn write_in_all<W: Sink>(
+    column: Column,
+    row: &RowPacket<'_>,
+    headers: &[Found<'_>],
+    gatherer: &Gatherer,
+    out: &mut OutputBuffer<'_, W>,
+)
+    requires { AreGathered row.now headers.now gatherer.now }
+    ensures { TakesAll W.contents W.can_fail column row.now out.old out.new }
+{
+    let is_first = write_in_headers(column, headers, out);
+    if gatherer.has(column.section) {
+        write_later(column, is_first, row, out);
+    }
+}
+
+/// Writes the values of a column in headers. Returns whether the next value is the first.
+#[inline(always)]
+fn write_in_headers<W: Sink>(
+    column: Column,
+    headers: &[Found<'_>],
+    out: &mut OutputBuffer<'_, W>,
+) -> bool
+    ensures { TakesInHeaders W.contents W.can_fail column headers.now out.old result out.new }
+{
+    let mut is_first = true;
+    for found in headers {
+        is_first = write_value(is_first, column.in_found(found), out);
+    }
+    is_first
+}
+
+/// Writes the values of a column in the headers for which there was no room.
+#[inline(never)]
+fn write_later<W: Sink>(
+    column: Column,
+    is_first: bool,
+    row: &RowPacket<'_>,
+    out: &mut OutputBuffer<'_, W>,
+)
+    ensures { TakesLater W.contents W.can_fail column is_first row.now out.old out.new }
+{
+    let mut later = LaterValues {
+        column,
+        is_first,
+        before: ROOM,
+    };
+    visit(row.packet, row.limit, &mut later, out);
+}
+
+/// Writes the values of a column in headers, but for the first ones.
+#[derive(Clone, Copy)]
+struct LaterValues {
+    column: Column,
+    /// Whether the next value is the first.
+    is_first: bool,
+    /// How many headers are left out.
+    before: usize,
+}
+
+impl<'a, 'b, W: Sink> Visitor<'a, OutputBuffer<'b, W>> for LaterValues {
+    ghost use Rattle.ether_format.specs.Gathered.{TakesLaterValue};
+
+    ghost takes = { λ old out told new out_new. TakesLaterValue W.contents W.can_fail old out told new out_new };
+
+    #[inline(always)]
+    fn header(&mut self, found: Found<'a>, target: &mut OutputBuffer<'b, W>) {
+        if self.before > 0 {
+            self.before -= 1;
+        } else {
+            self.is_first = write_value(self.is_first, self.column.in_found(&found), target);
+        }
     }
 }
 
 /// Writes a value of a column, if there is one, after a comma unless it is the first. Returns whether the next value
 /// is the first.
 #[inline(always)]
-pub(crate) fn write_value<W: Sink>(
+fn write_value<W: Sink>(
     is_first: bool,
     value: Option<Value<'_>>,
     out: &mut OutputBuffer<'_, W>,
@@ -86,7 +231,8 @@ pub(crate) fn write_value<W: Sink>(
 }
 
 /// Writes the only value of a column, if there is one.
-pub(crate) fn write_only<W: Sink>(value: Option<Value<'_>>, out: &mut OutputBuffer<'_, W>)
+#[inline(always)]
+fn write_only<W: Sink>(value: Option<Value<'_>>, out: &mut OutputBuffer<'_, W>)
     ensures { Takes W.contents W.can_fail out.old (column_on true (if_any (option_map value_view value.entry))) out.new }
 {
     if let Some(value) = value {

@@ -3,14 +3,14 @@ ghost use Rattle.std.specs.Prelude.{◌≡◌, ◌++◌, codes, false, take};
 ghost use Rattle.std.specs.Fmt.{decimal};
 ghost use Rattle.std.specs.List.{flat_map};
 ghost use Rattle.ether_base.specs.Texts.NumberText.{hex_byte};
-ghost use Rattle.ether_text.specs.OutputBuffer.{Takes};
-ghost use Rattle.ether_text.specs.Decimals.{two_digits};
+ghost use Rattle.ether_output.specs.OutputBuffer.{Takes};
+ghost use Rattle.ether_output.specs.Decimals.{two_digits};
 ghost use Rattle.ether_format.specs.Spelling.{colon_text, column_value, date_text, dated_text, dotted_text, flag_text, has_date, json_moment, json_value, moment_text, nine_digits, quoted, seconds_text};
-ghost use Rattle.ether_format.specs.Walking.{value_view};
+ghost use Rattle.ether_format.specs.Values.{value_view};
 
 use crate::Moment;
 use crate::value::Value;
-use ether_text::{OutputBuffer, Sink, digit_pair, eight_digits, hex_type, write_decimal};
+use ether_output::{OutputBuffer, Sink, digit_pair, eight_digits, hex_type, write_decimal};
 use etherparse::EtherType;
 
 /// Writes a value as JSON has it.

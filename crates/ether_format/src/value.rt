@@ -1,7 +1,7 @@
-//! The members of a header, each with its name and its value.
+//! The value of a field, and a member of an object.
 use crate::Moment;
 
-/// The value of a member.
+/// The value of a field.
 #[derive(Clone, Copy)]
 pub(crate) enum Value<'a> {
     /// The header does not have it.
@@ -30,11 +30,10 @@ pub(crate) enum Value<'a> {
     Time(Moment),
 }
 
-/// A member of a header.
+/// A member of an object.
 #[derive(Clone, Copy)]
 pub(crate) struct Member<'a> {
-    /// Its name in JSON, with what precedes it: `{"start":` for the first member of an object, `,"start":` for
-    /// another one.
+    /// Its name in JSON, with what precedes it.
     pub(crate) key: &'static str,
     /// Its value.
     pub(crate) value: Value<'a>,

@@ -1,6 +1,6 @@
 -- The outermost VLAN tag with an identifier, header by header.
-use Rattle.std.proofs.Common.{◌≡◌, ◌≢◌, ℕ, ◌+◌, List, [], ◌∷◌, ◌++◌, false, refl, sym, ap, subst, ◌∙◌, rules}
-use Rattle.std.specs.Prelude.{Some, Ok}
+use Rattle.std.proofs.Common.{◌≡◌, ◌≢◌, ℕ, ◌+◌, List, [], ◌∷◌, ◌++◌, refl, sym, ap, subst, ◌∙◌, rules}
+use Rattle.std.specs.Prelude.{Option, Some, Result, Ok}
 use Rattle.std.specs.List.{All}
 use Rattle.std.proofs.lemmas.List.Elements.{All-nil, All-cons, All-head, All-tail, All-append, filter_map-append}
 use Rattle.etherparse.specs.Bytes.{IsBytes}
@@ -10,14 +10,16 @@ use Rattle.etherparse.specs.Vlan.{VlanValue, vlan_view}
 use Rattle.ether_peel.specs.Grammar.Expectation.{Expectation}
 use Rattle.ether_peel.specs.Grammar.Stack.{Ending, Walk}
 use Rattle.ether_peel.specs.Walker.State.{State}
-use Rattle.ether_peel.specs.Walker.Next.{FacesWalk, Gives}
+use Rattle.ether_peel.specs.Walker.Next.{begun, FacesWalk, Gives}
 use Rattle.ether_peel.specs.Walker.UnitHeader.{unit_header}
 use Rattle.ether_peel.specs.declared.peel_unit.PeelUnit.{PeelUnit}
+use Rattle.ether_peel.specs.declared.peel_fault.PeelFault.{PeelFault}
+use Rattle.ether_peel.proofs.Walker.UnderWay.{under_way_first, passes, passes_header, under_way_next, NoUnit}
 use Rattle.ether_packet.specs.declared.setting.PlacedVlan.{PlacedVlan}
 use Rattle.ether_packet.specs.Getters.{vid_of, vlan_ids_of}
 use Rattle.ether_packet.specs.Replacing.{ext_count, IsExtAt}
 use Rattle.ether_packet.specs.Setting.{IsPlacedVlan, LacksVlan, FindsVlan}
-use Rattle.ether_packet.proofs.Reached.{Reached, reached_first, reached_unit, reached_ext}
+use Rattle.ether_packet.proofs.Reached.{Reached, reached_first, reached_unit, reached_ext, reached_end}
 use Rattle.ether_packet.proofs.VlanIds.{one_ext, same_vlan}
 
 -- ---- headers without the tag
@@ -36,37 +38,51 @@ lacks_tag v vid other = All-cons (λ (id : ℕ). id ≢ vid) v.vid [] other (All
 
 -- ---- a walk
 
--- no header before those that the walker faces has the identifier
-pub record Passed (list : List ℕ) (s : State) (hs : List Header) (e : Ending) (vid i : ℕ) : Type 0 where
-  pub reached : Reached list s hs e i
-  pub lacks : LacksVlan reached.done vid
+-- no header that was returned has the identifier
+pub record Passed (start : Expectation) (list : List ℕ) (s : State) (vid i : ℕ) : Type 0 where
+  pub reached : Reached start list s i
+  pub lacks : LacksVlan reached.way.done vid
 
--- a walker that has read nothing
-pub passed_first : (start : Expectation) (list : List ℕ) (s : State) (hs : List Header) (e : Ending) (vid : ℕ)
-    → FacesWalk start list s → s.over ≡ false → Walk start list hs e → Passed list s hs e vid 0
-passed_first start list s hs e vid w going walk =
-    record { reached = reached_first start list s hs e w going walk; lacks = All-nil (λ (id : ℕ). id ≢ vid) }
+pub passed_first : (start : Expectation) (list : List ℕ) (s : State) (vid : ℕ) → s ≡ begun start list
+    → FacesWalk start list s → Passed start list s vid 0
+unfolding under_way_first
+passed_first start list s vid is w =
+    record { reached = reached_first start list s is w; lacks = All-nil (λ (id : ℕ). id ≢ vid) }
 
 -- a header without the identifier
-pub passed_unit : (list : List ℕ) (s t : State) (hs : List Header) (e : Ending) (vid i : ℕ) (u : PeelUnit)
-    → IsBytes list → Passed list s hs e vid i → Gives s (Some (Ok u)) t → LacksVlan (unit_header u ∷ []) vid
-    → Passed list t hs e vid (i + ext_count (unit_header u ∷ []))
-passed_unit list s t hs e vid i u ok p gives other =
+pub passed_unit : (start : Expectation) (list : List ℕ) (s t : State) (vid i : ℕ) (u : PeelUnit)
+    → IsBytes list → Passed start list s vid i → Gives s (Some (Ok u)) t → LacksVlan (unit_header u ∷ []) vid
+    → Passed start list t vid (i + ext_count (unit_header u ∷ []))
+unfolding under_way_next
+passed_unit start list s t vid i u ok p gives other =
+    let way = p.reached.way in
+    let n = passes start list s t u way gives in
+    let same = passes_header start list s t u way n ok in
     record {
-      reached = reached_unit list s t hs e i u ok p.reached gives;
-      lacks = lacks_append p.reached.done (unit_header u ∷ []) vid p.lacks other;
+      reached = reached_unit start list s t i u ok p.reached gives;
+      lacks =
+          subst (λ (h : Header). LacksVlan (way.done ++ h ∷ []) vid) same
+          (lacks_append way.done (unit_header u ∷ []) vid p.lacks other);
     }
 
 -- the tag
-pub passed_tag : (list : List ℕ) (s t : State) (hs : List Header) (e : Ending) (vid i : ℕ)
+pub passed_tag : (start : Expectation) (list : List ℕ) (s t : State) (hs : List Header) (e : Ending) (vid i : ℕ)
     (u : PeelUnit) (f : PlacedVlan)
-    → IsBytes list → Passed list s hs e vid i → Gives s (Some (Ok u)) t
+    → IsBytes list → Passed start list s vid i → Gives s (Some (Ok u)) t → Walk start list hs e
     → unit_header u ≡ headers.Vlan (vlan_view f.tag) → (vlan_view f.tag).vid ≡ vid → f.at ≡ s.offset
     → FindsVlan hs vid i × IsPlacedVlan hs i f
-passed_tag list s t hs e vid i u f ok p gives is has at =
+passed_tag start list s t hs e vid i u f ok p gives walk is has at =
     let h = headers.Vlan (vlan_view f.tag) in
-    let r = reached_ext list s t hs e i u h ok p.reached gives is refl in
-    let begins = at ∙ p.reached.faces.offset ∙ p.reached.begins in search rules
+    let r = reached_ext start list s t hs e i u h ok p.reached gives walk is refl in
+    let begins = at ∙ p.reached.way.faces.offset ∙ p.reached.begins in search rules
+
+-- no unit is returned
+pub passed_end : (start : Expectation) (list : List ℕ) (s t : State) (o : Option (Result PeelUnit PeelFault))
+    (hs : List Header) (e : Ending) (vid i : ℕ) → NoUnit o → Passed start list s vid i → Gives s o t
+    → Walk start list hs e → LacksVlan hs vid
+passed_end start list s t o hs e vid i none p gives walk =
+    subst (λ (l : List Header). LacksVlan l vid)
+    (sym (reached_end start list s t o i hs e none p.reached gives walk).0) p.lacks
 
 -- ---- there is one
 

@@ -1,7 +1,7 @@
 -- A packet that has gathered the headers of a walk so far, and its end.
 use Rattle.std.proofs.Common.{◌≡◌, ℕ, zero, suc, ◌+◌, ◌-◌, ◌<◌, ◌≤◌, List, [], ◌∷◌, ◌++◌, length, refl, sym, ap, subst, ◌∙◌, arith, inl, inr, Bool, true, false, cond, ◌⊎◌, rules}
 use Rattle.std.specs.Prelude.{map, slice_get, slice_range, Option, Some, None, Ok}
-use Rattle.std.proofs.lemmas.List.{append_assoc, append-nil, length-append, map-append, take_all}
+use Rattle.std.proofs.lemmas.List.{append-nil, length-append, map-append, take_all}
 use Rattle.std.proofs.lemmas.List.Elements.{filter-append, filter_map-append}
 use Rattle.etherparse.specs.Types.LenSource.{LenSource}
 use Rattle.etherparse.specs.Types.LinuxSllProtocolType.{LinuxSllProtocolType}
@@ -16,14 +16,14 @@ use Rattle.etherparse.specs.Refusal.{Accepts}
 use Rattle.etherparse.proofs.SubLists.{IsBytes-part}
 use Rattle.ether_peel.specs.Grammar.Window.{Window, within, payload}
 use Rattle.ether_peel.specs.Grammar.Expectation.{Next, Start, EtherType, Sll, AfterArp, Expectation, is_extension, announced_next, announced, after, next_after, after_payload, lowered}
-use Rattle.ether_peel.specs.Grammar.Stack.{Ending, Accepted, Fault, IsUnit, last_window, last_expected, whole, Walk}
+use Rattle.ether_peel.specs.Grammar.Stack.{Ending, IsUnit, whole, Walk}
 use Rattle.ether_peel.specs.Walker.State.{State}
 use Rattle.ether_peel.specs.Walker.Start.{kind_shown}
 use Rattle.ether_peel.specs.Walker.Next.{Faces, ShowsUnit, GivesNext, Gives}
-use Rattle.ether_peel.specs.Walker.Summary.{fault_of}
 use Rattle.ether_peel.specs.Walker.UnitHeader.{unit_header}
 use Rattle.ether_peel.specs.declared.peel_unit.PeelUnit.{PeelUnit}
 use Rattle.ether_peel.specs.declared.peel_fault.PeelFault.{PeelFault}
+use Rattle.ether_peel.proofs.Walker.UnderWay.{UnitNext, unit_next, under_way_first, under_way_next}
 use Rattle.ether_peel.proofs.Grammar.Announced.{announced_is}
 use Rattle.ether_peel.proofs.Grammar.Stacks.{one_stack}
 use Rattle.ether_peel.proofs.Walker.Bounds.{named, bounded_row}
@@ -132,16 +132,11 @@ pub gathered_first : (start : Expectation) (list : List ℕ) (s : State) (r : Re
     → start.limit ≡ Some 3 → Walk start list hs e → Faces list (whole start list) s hs e → s.over ≡ false
     → s.expected ≡ start
     → r ≡ record { frame = list; units = [] } → Gathered start list s r
+unfolding under_way_first
 gathered_first start list s r hs e limit walk faces going expected is =
     let none = ap (λ (k : Read). k.units) is in
     record {
-      done = [];
-      left = hs;
-      ending = e;
-      window = whole start list;
-      walk = walk;
-      faces = faces;
-      going = going;
+      way = under_way_first start list s hs e walk faces going;
       comes_after = refl;
       values = ap (map header_of) none;
       frame = ap (λ (k : Read). k.frame) is;
@@ -155,27 +150,10 @@ gathered_first start list s r hs e limit walk faces going expected is =
       };
     }
 
--- a unit is given: the first of the headers that are left
-pub record Given (list : List ℕ) (w : Window) (left : List Header) (e : Ending) (s t : State)
-    (u : PeelUnit) : Type 0 where
-  pub header : Header
-  pub later : List Header
-  pub parts : left ≡ header ∷ later
-  pub shows : ShowsUnit s.rest t.rest header u
-  pub going : t.over ≡ false
-  pub expected : t.expected ≡ after s.expected header
-  pub faces : Faces list (payload w header) t later e
-
-given : (list : List ℕ) (w : Window) (left : List Header) (e : Ending) (s t : State) (u : PeelUnit)
-    → GivesNext list w left e s (Some (Ok u)) t → Given list w left e s t u
-given list w [] (Accepted v y) s t u g = let none = g.0 in absurd cc
-given list w [] (Fault v y q) s t u g = let fault = g.0 in absurd cc
-given list w (h ∷ hs) e s t u g = search rules
-
--- what is known of it
+-- what is known of a unit that is given: the first of the headers that are left
 pub record IsNext (list : List ℕ) (w : Window) (left : List Header) (e : Ending) (s t : State)
     (u : PeelUnit) : Type 0 where
-  pub given : Given list w left e s t u
+  pub given : UnitNext list w left e s t u
   pub unit : IsUnit list s.expected w given.header
   pub shows : ShowsUnit (within list w) (within list (payload w given.header)) given.header u
   pub value : unit_header u ≡ given.header
@@ -183,7 +161,7 @@ pub record IsNext (list : List ℕ) (w : Window) (left : List Header) (e : Endin
 pub is_next : (list : List ℕ) (w : Window) (left : List Header) (e : Ending) (s t : State) (u : PeelUnit) → IsBytes list
     → Faces list w s left e → GivesNext list w left e s (Some (Ok u)) t → IsNext list w left e s t u
 is_next list w left e s t u ok faces g =
-    let n = given list w left e s t u g in
+    let n = unit_next list w left e s t u g in
     let old = subst (λ (l : List Header). Faces list w s l e) n.parts faces in
     let unit = old.stack.0 in
     let h = n.header in
@@ -201,12 +179,13 @@ is_next list w left e s t u ok faces g =
 
 abbrev pub NextOf : (start : Expectation) (list : List ℕ) (s t : State) (r : Read) (u : PeelUnit)
     → Gathered start list s r → Type 0
-NextOf start list s t r u a = IsNext list a.window a.left a.ending s t u
+NextOf start list s t r u a = IsNext list a.way.window a.way.left a.way.ending s t u
 
 pub next_of : (start : Expectation) (list : List ℕ) (s t : State) (r : Read) (u : PeelUnit) → IsBytes list
     → (a : Gathered start list s r) → Gives s (Some (Ok u)) t → NextOf start list s t r u a
 next_of start list s t r u ok a gives =
-    is_next list a.window a.left a.ending s t u ok a.faces (gives.next a.going list a.window a.left a.ending a.faces)
+    let w = a.way in
+    is_next list w.window w.left w.ending s t u ok w.faces (gives.next w.going list w.window w.left w.ending w.faces)
 
 none_done : (list : List ℕ) (w : Window) (hs : List Header) (us : List PacketUnit) → AreUnitsAt list w hs us → us ≡ []
     → hs ≡ []
@@ -223,31 +202,32 @@ pub fits : (start : Expectation) (list : List ℕ) (s t : State) (r : Read) (p :
     → NextOf start list s t r u a → IsAt s p → HasPlace r u p
 fits start list s t r p u a n at =
     let first : (r.units ≡ []) → (p.start ≡ 0) × (p.bytes.now ≡ r.frame) = λ none.
-    let window : a.window ≡ whole start list =
+    let window : a.way.window ≡ whole start list =
     a.comes_after
-    ∙ ap (window_after (whole start list)) (none_done list (whole start list) a.done r.units a.units none) in (
-      at.start ∙ a.faces.offset ∙ ap (λ (w : Window). w.start) window,
-      at.bytes ∙ a.faces.rest
+    ∙ ap (window_after (whole start list)) (none_done list (whole start list) a.way.done r.units a.units none) in (
+      at.start ∙ a.way.faces.offset ∙ ap (λ (w : Window). w.start) window,
+      at.bytes ∙ a.way.faces.rest
           ∙ ap (within list) window ∙ whole_part list ∙ sym a.frame,
     ) in
-    has_place r s.expected (within list a.window) (within list (payload a.window n.given.header)) n.given.header u p
-    a.free a.ready n.unit.announced n.shows a.room first
+    let w = a.way.window in
+    has_place r s.expected (within list w) (within list (payload w n.given.header)) n.given.header u p a.free a.ready
+    n.unit.announced n.shows a.room first
 
 -- no row holds of a slice that none holds of in a window with a bound
 unbounded : (bound : LenSource) (bytes : List ℕ) (kind : Kind) → Accepts bound bytes kind → Reads bytes kind
 unbounded bound bytes kind ok r row = ok (named bound r) (bounded_row bound bytes kind r row)
 
 part_is : (start : Expectation) (list : List ℕ) (s : State) (r : Read) (p : FrameWindow) (a : Gathered start list s r)
-    → IsAt s p → p.bytes.now ≡ within list a.window
-part_is start list s r p a at = at.bytes ∙ a.faces.rest
+    → IsAt s p → p.bytes.now ≡ within list a.way.window
+part_is start list s r p a at = at.bytes ∙ a.way.faces.rest
 
 pub readable : (start : Expectation) (list : List ℕ) (s t : State) (r : Read) (p : FrameWindow) (u : PeelUnit)
     (a : Gathered start list s r)
     → NextOf start list s t r u a → IsAt s p → IsReadable (kind_read u) p
 readable start list s t r p u a n at =
-    let own = unbounded a.window.bound (within list a.window) (kind_of n.given.header) n.unit.accepted in
+    let own = unbounded a.way.window.bound (within list a.way.window) (kind_of n.given.header) n.unit.accepted in
     subst (λ (l : List ℕ). Reads l (kind_read u)) (sym (part_is start list s r p a at))
-    (subst (Reads (within list a.window)) (sym (ap kind_of n.value)) own)
+    (subst (Reads (within list a.way.window)) (sym (ap kind_of n.value)) own)
 
 -- no start is announced by a header
 no_start_capture : (b : Bool) (t : ℕ) (protocol : LinuxSllProtocolType) (kind : Kind)
@@ -273,37 +253,31 @@ pub gathered_next : (start : Expectation) (list : List ℕ) (s t : State) (r q :
     (a : Gathered start list s r)
     → IsBytes list → NextOf start list s t r u a → IsAt s p → q ≡ read_with r (kind_read u) p
     → Gathered start list t q
+unfolding under_way_next
 gathered_next start list s t r q p u a ok n here is =
     let h = n.given.header in
-    let w = a.window in
+    let w = a.way.window in
     let whole_list = whole start list in
     let unit : PacketUnit = unit_at (kind_read u) p in
     let kind : kind_read u ≡ kind_of h = ap kind_of n.value in
     let bytes = part_is start list s r p a here in
-    let at : IsUnitAt list w h unit = record { kind = kind; offset = here.start ∙ a.faces.offset; bytes = bytes } in
+    let at : IsUnitAt list w h unit = record { kind = kind; offset = here.start ∙ a.way.faces.offset; bytes = bytes } in
     let value : header_of unit ≡ h =
     (λ i. header_in (kind i) (bytes i))
     ∙ header_shown (within list w) h (IsBytes-part w.start w.finish list ok) n.unit.means in
     let units : q.units ≡ r.units ++ unit ∷ [] = ap (λ (k : Read). k.units) is in
-    let same = ap (λ (l : List Header). a.done ++ l) n.given.parts ∙ sym (append_assoc a.done (h ∷ []) n.given.later) in
     let extends : is_extension unit.kind ≡ is_extension (kind_of h) = ap is_extension kind in
     let more =
     λ (e : is_extension (kind_of h) ≡ true).
     may_read s.expected (kind_of h) a.free a.ready.limit e n.unit.announced in
     record {
-      done = a.done ++ h ∷ [];
-      left = n.given.later;
-      ending = a.ending;
-      window = payload w h;
-      walk = subst (λ (l : List Header). Walk start list l a.ending) same a.walk;
-      faces = n.given.faces;
-      going = n.given.going;
-      comes_after = ap (λ (k : Window). payload k h) a.comes_after ∙ sym (window_after-append whole_list a.done h);
+      way = under_way_next start list s t u a.way n.given;
+      comes_after = ap (λ (k : Window). payload k h) a.comes_after ∙ sym (window_after-append whole_list a.way.done h);
       values = ap (map header_of) units ∙ map-append header_of r.units (unit ∷ []) ∙ (λ i. a.values i ++ value i ∷ []);
       frame = ap (λ (k : Read). k.frame) is ∙ a.frame;
       units =
-          subst (AreUnitsAt list whole_list (a.done ++ h ∷ [])) (sym units)
-          (units-append list whole_list a.done r.units h unit a.units
+          subst (AreUnitsAt list whole_list (a.way.done ++ h ∷ [])) (sym units)
+          (units-append list whole_list a.way.done r.units h unit a.units
           (subst (λ (k : Window). IsUnitAt list k h unit) a.comes_after at));
       free = cond (is_extension (kind_of h)) (a.free - 1) a.free;
       room =
@@ -311,17 +285,17 @@ gathered_next start list s t r q p u a ok n here is =
           ∙ room_for r.units unit (is_extension (kind_of h)) a.free extends more a.room;
       ready = record {
         limit =
-            ap (λ (x : Expectation). x.limit) n.given.expected
+            ap (λ (x : Expectation). x.limit) n.given.expects
             ∙ lowered_limit (is_extension (kind_of h)) s.expected.limit a.free a.ready.limit;
         first =
-            λ k start_is. absurd (no_start h k (sym (ap (λ (x : Expectation). x.next) n.given.expected) ∙ start_is));
+            λ k start_is. absurd (no_start h k (sym (ap (λ (x : Expectation). x.next) n.given.expects) ∙ start_is));
         arp = elim (arp_or_over h unit.bytes) [
           | inl other ↦
               let before = no_arp r s.expected (kind_of h) a.ready.arp n.unit.announced in
               inl
               (ap arp_view units
               ∙ still_no_arp r.units unit before (ap (λ (k : Kind). arp_in k unit.bytes) kind ∙ other))
-          | inr over ↦ inr (ap (λ (x : Expectation). x.next) n.given.expected ∙ over)
+          | inr over ↦ inr (ap (λ (x : Expectation). x.next) n.given.expects ∙ over)
         ];
       };
     }
@@ -342,23 +316,10 @@ pub fewer_come : (start : Expectation) (list : List ℕ) (s t : State) (r : Read
     (a : Gathered start list s r)
     → NextOf start list s t r u a → headers_left t.expected + 1 ≤ headers_left s.expected
 fewer_come start list s t r u a n =
-    subst (λ (x : Expectation). headers_left x + 1 ≤ headers_left s.expected) (sym n.given.expected)
+    subst (λ (x : Expectation). headers_left x + 1 ≤ headers_left s.expected) (sym n.given.expects)
     (fewer_left s.expected n.given.header a.free a.ready.limit n.unit.announced)
 
 -- ---- the end
-
-record Ended (list : List ℕ) (w : Window) (left : List Header) (e : Ending) (s t : State)
-    (met : Option PeelFault) : Type 0 where
-  none_left : left ≡ []
-  rest : t.rest ≡ within list (last_window e)
-  offset : t.offset ≡ (last_window e).start
-  expected : t.expected ≡ last_expected e
-  fault : met ≡ fault_of e
-
-ended : (list : List ℕ) (w : Window) (left : List Header) (e : Ending) (s t : State) (met : Option PeelFault)
-    → Faces list w s left e → GivesNext list w left e s (item_of met) t → Ended list w left e s t met
-ended list w [] (Accepted v y) s t None f g = search rules
-ended list w h e s t k f g = search rules
 
 pub is_packet : (start : Expectation) (list : List ℕ) (s t : State) (r : Read) (packet : PacketSlice)
     (met : Option PeelFault)

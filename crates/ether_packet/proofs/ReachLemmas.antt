@@ -1,27 +1,35 @@
 -- How far the headers of a walk reach, header by header.
-use Rattle.std.proofs.Common.{◌≡◌, ℕ, ◌+◌, ◌-◌, ◌≤◌, List, [], ◌∷◌, length, arith, false, refl, sym, ap, ◌∙◌, rules}
-use Rattle.std.specs.Prelude.{Option, Some, None, Ok, Err, max, is_some, unwrap_or, option_map, slice_range, if◌then◌else◌}
+use Rattle.std.proofs.Common.{◌≡◌, ℕ, ◌+◌, ◌-◌, ◌≤◌, List, ◌++◌, length, arith, refl, sym, ap, subst, ◌∙◌, rules}
+use Rattle.std.specs.Prelude.{Option, Some, None, Result, Ok, max, is_some, unwrap_or, option_map, slice_range, if◌then◌else◌}
 use Rattle.etherparse.specs.Bytes.{IsBytes}
 use Rattle.etherparse.specs.Header.{Header, header_len, payload_len, trailer_len}
 use Rattle.etherparse.proofs.SubLists.{length-part}
 use Rattle.ether_peel.specs.Grammar.Window.{Window, payload}
 use Rattle.ether_peel.specs.Grammar.Cuts.{reach}
-use Rattle.ether_peel.specs.Grammar.Stack.{Ending, Fault, Accepted}
+use Rattle.ether_peel.specs.Grammar.Expectation.{Expectation}
+use Rattle.ether_peel.specs.Grammar.Stack.{Ending, Walk}
 use Rattle.ether_peel.specs.Walker.State.{State}
-use Rattle.ether_peel.specs.Walker.Next.{Faces, Gives}
+use Rattle.ether_peel.specs.Walker.Next.{begun, Faces, FacesWalk, Gives}
 use Rattle.ether_peel.specs.Walker.UnitHeader.{unit_header}
 use Rattle.ether_peel.specs.declared.peel_unit.PeelUnit.{PeelUnit}
 use Rattle.ether_peel.specs.declared.peel_fault.PeelFault.{PeelFault}
-use Rattle.ether_peel.proofs.Walker.UnitHeaders.{units_mean_headers}
+use Rattle.ether_peel.proofs.Walker.UnderWay.{UnderWay, under_way_first, passes, passes_header, passed_headers, under_way_next, only, stops, NoUnit}
 
--- the walker faces the headers that are left, and those before reach so far that all together reach this far
-pub record Reached (list : List ℕ) (s : State) (e : Ending) (len all : ℕ) : Type 0 where
-  pub window : Window
-  pub left : List Header
-  pub faces : Faces list window s left e
-  pub going : s.over ≡ false
-  pub rest : max len (reach s.offset left) ≡ all
+-- a walk under way: the headers that it has returned reach this far, and with the others as far as all do
+pub record Reached (start : Expectation) (list : List ℕ) (s : State) (len : ℕ) : Type 0 where
+  pub way : UnderWay start list s
+  pub rest : max len (reach s.offset way.left) ≡ reach 0 (way.done ++ way.left)
   pub inside : len ≤ length list
+
+pub reached_first : (start : Expectation) (list : List ℕ) (s : State) → s ≡ begun start list → FacesWalk start list s
+    → Reached start list s 0
+unfolding under_way_first
+reached_first start list s is w = record {
+  way =
+      under_way_first start list s w.headers w.ending w.walk w.faces (ap (λ (k : State). k.over) is);
+  rest = omega (arith, ap (λ (k : State). reach k.offset w.headers) is);
+  inside = omega arith;
+}
 
 -- where a unit ends, by the state after it
 abbrev pub end_after : State → PeelUnit → ℕ
@@ -42,53 +50,42 @@ ends_inside : (list : List ℕ) (w : Window) (t : State) (hs : List Header) (e :
 ends_inside list w t hs e None faces = search rules
 ends_inside list w t hs e (Some n) faces = search (rules, length-part)
 
-unit_of : (list : List ℕ) (w : Window) (left : List Header) (s t : State) (e : Ending) (len all : ℕ) (u : PeelUnit)
-    → IsBytes list → Faces list w s left e → s.over ≡ false → max len (reach s.offset left) ≡ all → len ≤ length list
-    → Gives s (Some (Ok u)) t → Reached list t e (max (end_after t u) len) all
-unit_of list w [] s t (Accepted v y) len all u ok faces going rest le gives = let none =
-    (gives.next going list w [] (Accepted v y) faces).0 in absurd cc
-unit_of list w [] s t (Fault v y r) len all u ok faces going rest le gives = let fault =
-    (gives.next going list w [] (Fault v y r) faces).0 in absurd cc
-unit_of list w (h ∷ hs) s t e len all u ok faces going rest le gives =
-    let n = gives.next going list w (h ∷ hs) e faces in
-    let same = units_mean_headers list w h hs e s t u ok faces going gives in
-    let at = n.5 in
+pub reached_unit : (start : Expectation) (list : List ℕ) (s t : State) (len : ℕ) (u : PeelUnit) → IsBytes list
+    → Reached start list s len → Gives s (Some (Ok u)) t → Reached start list t (max (end_after t u) len)
+unfolding under_way_next
+reached_unit start list s t len u ok r gives =
+    let way = r.way in
+    let w = way.window in
+    let p = passes start list s t u way gives in
+    let h = p.header in
+    let same = passes_header start list s t u way p ok in
+    let faces = subst (λ (l : List Header). Faces list w s l way.ending) p.parts way.faces in
     let named = payload_named list (payload w h).start (w.finish - trailer_len h) (payload_len h) t.rest
-    (let i = faces.inside.inside in omega arith) at.rest at.inside.inside in
-    let place : t.offset ≡ s.offset + header_len h = at.offset ∙ ap (λ n. n + header_len h) (sym faces.offset) in
-    let later = ap (λ n. reach n hs) place in
-    let inside = ends_inside list (payload w h) t hs e (payload_len (unit_header u)) at in
-    search rules
+    (let i = faces.inside.inside in omega arith) p.faces.rest p.faces.inside.inside in
+    let place : t.offset ≡ s.offset + header_len h =
+    p.faces.offset ∙ ap (λ n. n + header_len h) (sym faces.offset) in
+    let ends : end_after t u ≡ s.offset + header_len h + unwrap_or (payload_len h) 0 =
+    rw same (λ i. place i + named i) in
+    let inside = ends_inside list (payload w h) t p.later way.ending (payload_len (unit_header u)) p.faces in
+    let before = subst (λ (l : List Header). max len (reach s.offset l) ≡ reach 0 (way.done ++ way.left)) p.parts
+    r.rest in
+    let later = ap (λ n. reach n p.later) place in
+    let all = ap (reach 0) (passed_headers start list s t u way p) in
+    let most = r.inside in
+    record {
+      way = under_way_next start list s t u way p;
+      rest = omega (arith, before, later, all, ends);
+      inside = omega (arith, inside, most);
+    }
 
-none_of : (list : List ℕ) (w : Window) (left : List Header) (s t : State) (e : Ending) (len all : ℕ)
-    → Faces list w s left e → s.over ≡ false → max len (reach s.offset left) ≡ all → Gives s None t → len ≡ all
-none_of list w [] s t (Accepted v y) len all faces going rest gives = omega (arith, rest)
-none_of list w [] s t (Fault v y r) len all faces going rest gives = let fault =
-    (gives.next going list w [] (Fault v y r) faces).0 in absurd cc
-none_of list w (h ∷ hs) s t e len all faces going rest gives = let given =
-    (gives.next going list w (h ∷ hs) e faces).1 in absurd cc
-
-fault_of : (list : List ℕ) (w : Window) (left : List Header) (s t : State) (e : Ending) (len all : ℕ)
-    (fault : PeelFault) → Faces list w s left e → s.over ≡ false → max len (reach s.offset left) ≡ all
-    → Gives s (Some (Err fault)) t → len ≡ all
-fault_of list w [] s t (Accepted v y) len all fault faces going rest gives = let none =
-    (gives.next going list w [] (Accepted v y) faces).0 in absurd cc
-fault_of list w [] s t (Fault v y r) len all fault faces going rest gives = omega (arith, rest)
-fault_of list w (h ∷ hs) s t e len all fault faces going rest gives = let given =
-    (gives.next going list w (h ∷ hs) e faces).1 in absurd cc
-
-pub reached_unit : (list : List ℕ) (s t : State) (e : Ending) (len all : ℕ) (u : PeelUnit) → IsBytes list
-    → Reached list s e len all → Gives s (Some (Ok u)) t → Reached list t e (max (end_after t u) len) all
-reached_unit list s t e len all u ok r gives =
-    unit_of list r.window r.left s t e len all u ok r.faces r.going r.rest r.inside gives
-
--- nothing was given
-pub reached_none : (list : List ℕ) (s t : State) (e : Ending) (len all : ℕ) → Reached list s e len all
-    → Gives s None t → len ≡ all
-reached_none list s t e len all r gives = none_of list r.window r.left s t e len all r.faces r.going r.rest gives
-
--- a fault was given
-pub reached_fault : (list : List ℕ) (s t : State) (e : Ending) (len all : ℕ) (fault : PeelFault)
-    → Reached list s e len all → Gives s (Some (Err fault)) t → len ≡ all
-reached_fault list s t e len all fault r gives =
-    fault_of list r.window r.left s t e len all fault r.faces r.going r.rest gives
+-- no unit is returned
+pub reached_end : (start : Expectation) (list : List ℕ) (s t : State) (o : Option (Result PeelUnit PeelFault)) (len : ℕ)
+    (hs : List Header) (e : Ending) → NoUnit o → Reached start list s len → Gives s o t → Walk start list hs e
+    → len ≡ reach 0 hs
+reached_end start list s t o len hs e none r gives walk =
+    let way = r.way in
+    let end = stops start list s t o way none gives in
+    let last = subst (λ (l : List Header). max len (reach s.offset l) ≡ reach 0 (way.done ++ way.left)) end.none_left
+    r.rest in
+    let all = ap (reach 0) (only start list s way hs e walk).0 in
+    omega (arith, last, all)

@@ -1,94 +1,60 @@
 -- The header that a walk reaches, by how many extensions it has passed.
-use Rattle.std.proofs.Common.{◌≡◌, ℕ, ◌+◌, ◌≤◌, List, [], ◌∷◌, ◌++◌, length, arith, append_assoc, append-nil, false, true, refl, sym, ap, subst, ◌∙◌, rules}
-use Rattle.std.specs.Prelude.{Some, None, Ok, Err}
+use Rattle.std.proofs.Common.{◌≡◌, ℕ, ◌+◌, ◌≤◌, List, [], ◌∷◌, ◌++◌, length, arith, append-nil, true, refl, sym, ap, ◌∙◌, rules}
+use Rattle.std.specs.Prelude.{Option, Some, Result, Ok}
 use Rattle.etherparse.specs.LinkExt.{ext_header_view}
 use Rattle.etherparse.specs.Types.LinkExtHeader.{LinkExtHeader}
 use Rattle.etherparse.specs.Types.LinkExtHeader.TheVariants as values
 use Rattle.etherparse.specs.Bytes.{IsBytes}
 use Rattle.etherparse.specs.Header.{Header, kind_of, header_len}
 use Rattle.etherparse.specs.Header as headers
-use Rattle.ether_peel.specs.Grammar.Window.{Window, payload}
 use Rattle.ether_peel.specs.Grammar.Expectation.{Expectation, is_extension}
 use Rattle.ether_peel.specs.Grammar.Places.{place}
-use Rattle.ether_peel.specs.Grammar.Stack.{Ending, whole, Walk}
+use Rattle.ether_peel.specs.Grammar.Stack.{Ending, Walk}
 use Rattle.ether_peel.specs.Walker.State.{State}
-use Rattle.ether_peel.specs.Walker.Next.{Faces, FacesWalk, Gives}
+use Rattle.ether_peel.specs.Walker.Next.{begun, FacesWalk, Gives}
 use Rattle.ether_peel.specs.Walker.UnitHeader.{unit_header}
 use Rattle.ether_peel.specs.declared.peel_unit.PeelUnit.{PeelUnit}
 use Rattle.ether_peel.specs.declared.peel_fault.PeelFault.{PeelFault}
 use Rattle.ether_peel.proofs.Grammar.Places.{place-append}
-use Rattle.ether_peel.proofs.Grammar.Stacks.{one_stack}
 use Rattle.ether_peel.proofs.Grammar.Windows.{header_least}
+use Rattle.ether_peel.proofs.Walker.UnderWay.{UnderWay, under_way_first, passes, passes_unit, passes_header, under_way_next, only, stops, NoUnit}
 use Rattle.ether_packet.specs.declared.finding.PlacedExt.{PlacedExt}
 use Rattle.ether_packet.specs.Replacing.{ext_count, IsExtAt, IsPlacedExt}
-use Rattle.ether_packet.proofs.Gathering.{is_next}
 use Rattle.ether_packet.proofs.PacketExts.{ext_count-append}
 use Rattle.ether_packet.proofs.Replaced.{header_inside}
 use Rattle.ether_packet.proofs.VlanIds.{counted}
 
--- i extensions are before the headers that the walker faces
-pub record Reached (list : List ℕ) (s : State) (hs : List Header) (e : Ending) (i : ℕ) : Type 0 where
-  pub done : List Header
-  pub left : List Header
-  pub window : Window
-  pub parts : hs ≡ done ++ left
-  pub faces : Faces list window s left e
-  pub going : s.over ≡ false
-  pub begins : window.start ≡ place 0 done
-  pub count : ext_count done ≡ i
+-- a walk under way that has returned i extensions
+pub record Reached (start : Expectation) (list : List ℕ) (s : State) (i : ℕ) : Type 0 where
+  pub way : UnderWay start list s
+  pub begins : way.window.start ≡ place 0 way.done
+  pub count : ext_count way.done ≡ i
 
--- a walker that has read nothing
-abbrev pub reached_first : (start : Expectation) (list : List ℕ) (s : State) (hs : List Header) (e : Ending)
-    → FacesWalk start list s → s.over ≡ false → Walk start list hs e → Reached list s hs e 0
-reached_first start list s hs e w going walk =
-    let one = one_stack list start (whole start list) w.headers hs w.ending e w.walk walk in
-    record {
-      done = [];
-      left = hs;
-      window = whole start list;
-      parts = refl;
-      faces =
-          subst (λ (l : List Header). Faces list (whole start list) s l e) one.0
-          (subst (Faces list (whole start list) s w.headers) one.1 w.faces);
-      going = going;
-      begins = refl;
-      count = refl;
-    }
-
--- the unit that is given is the first header that the walker faces
-pub record IsGiven (list : List ℕ) (w : Window) (left : List Header) (e : Ending) (s t : State) (u : PeelUnit)
-    : Type 0 where
-  pub later : List Header
-  pub parts : left ≡ unit_header u ∷ later
-  pub faces : Faces list (payload w (unit_header u)) t later e
-  pub going : t.over ≡ false
-  pub room : header_len (unit_header u) ≤ length s.rest
-
-pub is_given : (list : List ℕ) (w : Window) (left : List Header) (e : Ending) (s t : State) (u : PeelUnit)
-    → IsBytes list → Faces list w s left e → s.over ≡ false → Gives s (Some (Ok u)) t → IsGiven list w left e s t u
-is_given list w left e s t u ok faces going gives =
-    let n = is_next list w left e s t u ok faces (gives.next going list w left e faces) in
-    let h = n.given.header in
-    search rules
+abbrev pub reached_first : (start : Expectation) (list : List ℕ) (s : State) → s ≡ begun start list
+    → FacesWalk start list s → Reached start list s 0
+unfolding under_way_first
+reached_first start list s is w = record {
+  way = under_way_first start list s w.headers w.ending w.walk w.faces (ap (λ (k : State). k.over) is);
+  begins = refl;
+  count = refl;
+}
 
 -- one header more
-abbrev pub reached_unit : (list : List ℕ) (s t : State) (hs : List Header) (e : Ending) (i : ℕ) (u : PeelUnit)
-    → IsBytes list → Reached list s hs e i → Gives s (Some (Ok u)) t
-    → Reached list t hs e (i + ext_count (unit_header u ∷ []))
-reached_unit list s t hs e i u ok p gives =
-    let h = unit_header u in
-    let n = is_given list p.window p.left e s t u ok p.faces p.going gives in
-    let count = ext_count-append p.done (h ∷ []) in
-    let before = p.count in
+abbrev pub reached_unit : (start : Expectation) (list : List ℕ) (s t : State) (i : ℕ) (u : PeelUnit)
+    → IsBytes list → Reached start list s i → Gives s (Some (Ok u)) t
+    → Reached start list t (i + ext_count (unit_header u ∷ []))
+unfolding under_way_next
+reached_unit start list s t i u ok r gives =
+    let way = r.way in
+    let p = passes start list s t u way gives in
+    let h = p.header in
+    let count = ext_count-append way.done (h ∷ []) in
+    let before = r.count in
+    let same = ap (λ (k : Header). ext_count (k ∷ [])) (passes_header start list s t u way p ok) in
     record {
-      done = p.done ++ h ∷ [];
-      left = n.later;
-      window = payload p.window h;
-      parts = p.parts ∙ ap (λ (l : List Header). p.done ++ l) n.parts ∙ sym (append_assoc p.done (h ∷ []) n.later);
-      faces = n.faces;
-      going = n.going;
-      begins = ap (λ (k : ℕ). k + header_len h) p.begins ∙ sym (place-append 0 p.done (h ∷ []));
-      count = omega (arith, count, before);
+      way = under_way_next start list s t u way p;
+      begins = ap (λ (k : ℕ). k + header_len h) r.begins ∙ sym (place-append 0 way.done (h ∷ []));
+      count = omega (arith, count, before, same);
     }
 
 -- the extension at the index
@@ -96,12 +62,17 @@ pub record IsReached (hs : List Header) (i : ℕ) (done : List Header) (h : Head
   pub later : List Header
   pub found : IsExtAt hs i done h later
 
-pub reached_ext : (list : List ℕ) (s t : State) (hs : List Header) (e : Ending) (i : ℕ) (u : PeelUnit) (h : Header)
-    → IsBytes list → (p : Reached list s hs e i) → Gives s (Some (Ok u)) t → unit_header u ≡ h
-    → is_extension (kind_of h) ≡ true → IsReached hs i p.done h
-reached_ext list s t hs e i u h ok p gives is extension =
-    let n = is_given list p.window p.left e s t u ok p.faces p.going gives in
-    search rules
+pub reached_ext : (start : Expectation) (list : List ℕ) (s t : State) (hs : List Header) (e : Ending) (i : ℕ)
+    (u : PeelUnit) (h : Header) → IsBytes list → (r : Reached start list s i) → Gives s (Some (Ok u)) t
+    → Walk start list hs e → unit_header u ≡ h → is_extension (kind_of h) ≡ true → IsReached hs i r.way.done h
+reached_ext start list s t hs e i u h ok r gives walk is extension =
+    let way = r.way in
+    let p = passes start list s t u way gives in
+    let same : p.header ≡ h = sym (passes_header start list s t u way p ok) ∙ is in
+    let parts : hs ≡ way.done ++ h ∷ p.later =
+    (only start list s way hs e walk).0 ∙ ap (λ (l : List Header). way.done ++ l) p.parts
+    ∙ ap (λ (k : Header). way.done ++ k ∷ p.later) same in
+    record { later = p.later; found = record { parts = parts; extension = extension; before = r.count } }
 
 pub is_ext_header : (x : LinkExtHeader) → is_extension (kind_of (ext_header_view x)) ≡ true
 is_ext_header (values.Vlan h) = refl
@@ -111,45 +82,35 @@ pub one_counted : (x : LinkExtHeader) (h : Header) → h ≡ ext_header_view x �
 one_counted (values.Vlan v) h is = ap (λ (k : Header). ext_count (k ∷ [])) is
 one_counted (values.Macsec m) h is = ap (λ (k : Header). ext_count (k ∷ [])) is
 
-pub placed_ext : (list : List ℕ) (s t : State) (hs : List Header) (e : Ending) (i : ℕ) (u : PeelUnit) (f : PlacedExt)
-    → IsBytes list → Reached list s hs e i → Gives s (Some (Ok u)) t → unit_header u ≡ ext_header_view f.header
-    → f.at ≡ s.offset → IsPlacedExt hs i f
-placed_ext list s t hs e i u f ok p gives is at =
-    let r = reached_ext list s t hs e i u (ext_header_view f.header) ok p gives is (is_ext_header f.header) in
-    record { front = p.done; later = r.later; found = r.found; begins = at ∙ p.faces.offset ∙ p.begins }
+pub placed_ext : (start : Expectation) (list : List ℕ) (s t : State) (hs : List Header) (e : Ending) (i : ℕ)
+    (u : PeelUnit) (f : PlacedExt) → IsBytes list → Reached start list s i → Gives s (Some (Ok u)) t
+    → Walk start list hs e → unit_header u ≡ ext_header_view f.header → f.at ≡ s.offset → IsPlacedExt hs i f
+placed_ext start list s t hs e i u f ok r gives walk is at =
+    let found =
+    reached_ext start list s t hs e i u (ext_header_view f.header) ok r gives walk is (is_ext_header f.header) in
+    record {
+      front = r.way.done;
+      later = found.later;
+      found = found.found;
+      begins = at ∙ r.way.faces.offset ∙ r.begins;
+    }
 
 -- .. lies in the list
 pub ext_room : (start : Expectation) (list : List ℕ) (hs : List Header) (e : Ending) (i : ℕ) (f : PlacedExt)
     → Walk start list hs e → IsPlacedExt hs i f → f.at + header_len (ext_header_view f.header) ≤ length list
 ext_room start list hs e i f walk p = search (rules, header_inside)
 
--- the walk ends
-pub left_none : (list : List ℕ) (w : Window) (left : List Header) (s t : State) (e : Ending)
-    → Faces list w s left e → s.over ≡ false → Gives s None t → left ≡ []
-left_none list w [] s t e faces going gives = refl
-left_none list w (h ∷ hs) s t e faces going gives = let given =
-    (gives.next going list w (h ∷ hs) e faces).1 in absurd cc
-
-pub left_fault : (list : List ℕ) (w : Window) (left : List Header) (s t : State) (e : Ending) (fault : PeelFault)
-    → Faces list w s left e → s.over ≡ false → Gives s (Some (Err fault)) t → left ≡ []
-left_fault list w [] s t e fault faces going gives = refl
-left_fault list w (h ∷ hs) s t e fault faces going gives = let given =
-    (gives.next going list w (h ∷ hs) e faces).1 in absurd cc
-
-all_counted : (hs done left : List Header) (i : ℕ) → hs ≡ done ++ left → left ≡ [] → ext_count done ≡ i
-    → i ≡ ext_count hs
-all_counted hs done left i parts none count =
-    sym (ap ext_count (parts ∙ ap (λ (l : List Header). done ++ l) none ∙ append-nil done) ∙ count)
-
-pub reached_none : (list : List ℕ) (s t : State) (hs : List Header) (e : Ending) (i : ℕ)
-    → Reached list s hs e i → Gives s None t → i ≡ ext_count hs
-reached_none list s t hs e i p gives =
-    all_counted hs p.done p.left i p.parts (left_none list p.window p.left s t e p.faces p.going gives) p.count
-
-pub reached_fault : (list : List ℕ) (s t : State) (hs : List Header) (e : Ending) (i : ℕ) (fault : PeelFault)
-    → Reached list s hs e i → Gives s (Some (Err fault)) t → i ≡ ext_count hs
-reached_fault list s t hs e i fault p gives =
-    all_counted hs p.done p.left i p.parts (left_fault list p.window p.left s t e fault p.faces p.going gives) p.count
+-- no unit is returned
+pub reached_end : (start : Expectation) (list : List ℕ) (s t : State) (o : Option (Result PeelUnit PeelFault)) (i : ℕ)
+    (hs : List Header) (e : Ending) → NoUnit o → (r : Reached start list s i) → Gives s o t → Walk start list hs e
+    → (hs ≡ r.way.done) × (i ≡ ext_count hs)
+reached_end start list s t o i hs e none r gives walk =
+    let way = r.way in
+    let end = stops start list s t o way none gives in
+    let is : hs ≡ way.done =
+    (only start list s way hs e walk).0 ∙ ap (λ (l : List Header). way.done ++ l) end.none_left
+    ∙ append-nil way.done in
+    (is, sym (ap ext_count is ∙ r.count))
 
 -- ---- the index
 
@@ -170,7 +131,17 @@ ext_least at (h ∷ hs) =
     counted_most (headers.Arp a) = omega arith
 
 -- there are no more extensions than bytes
-pub index_inside : (x : Expectation) (list : List ℕ) (s t begun : State) (i : ℕ) (u : PeelUnit) → IsBytes list
-    → FacesWalk x list begun → ((hs : List Header) (e : Ending) → Walk x list hs e → Reached list s hs e i)
-    → Gives s (Some (Ok u)) t → i + ext_count (unit_header u ∷ []) ≤ s.offset + length s.rest
-index_inside x list s t begun i u ok w passed gives = search (rules, ext_least)
+pub index_inside : (start : Expectation) (list : List ℕ) (s t : State) (i : ℕ) (u : PeelUnit) → IsBytes list
+    → Reached start list s i → Gives s (Some (Ok u)) t → i + ext_count (unit_header u ∷ []) ≤ s.offset + length s.rest
+index_inside start list s t i u ok r gives =
+    let way = r.way in
+    let p = passes start list s t u way gives in
+    let h = p.header in
+    let same = ap (λ (k : Header). ext_count (k ∷ [])) (passes_header start list s t u way p ok) in
+    let before = ext_least 0 way.done in
+    let here = ext_least 0 (h ∷ []) in
+    let at = way.faces.offset in
+    let begins = r.begins in
+    let count = r.count in
+    let whole = (passes_unit start list s t u way p).means.whole in
+    omega (arith, same, before, here, at, begins, count, whole, ap length way.faces.rest)

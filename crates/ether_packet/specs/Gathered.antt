@@ -1,13 +1,14 @@
 -- A packet that holds all headers that a walk has returned so far.
-use Rattle.std.specs.Prelude.{◌≡◌, ℕ, ◌+◌, ◌≤◌, List, [], ◌∷◌, ◌++◌, length, map, Option, Some, None, unwrap_or, Result, Err, Bool, true, false, ◌⊎◌}
+use Rattle.std.specs.Prelude.{◌≡◌, ℕ, ◌+◌, ◌≤◌, List, [], ◌∷◌, length, map, Option, Some, None, unwrap_or, Result, Err, Bool, true, false, ◌⊎◌}
 use Rattle.etherparse.specs.Bytes.{IsBytes}
 use Rattle.etherparse.specs.Kind.{Kind}
 use Rattle.etherparse.specs.Header.{Header}
 use Rattle.ether_peel.specs.Grammar.Window.{Window, payload}
 use Rattle.ether_peel.specs.Grammar.Expectation.{Next, Start, AfterArp, Expectation}
-use Rattle.ether_peel.specs.Grammar.Stack.{Ending, whole, Walk}
+use Rattle.ether_peel.specs.Grammar.Stack.{whole}
 use Rattle.ether_peel.specs.Walker.State.{State}
-use Rattle.ether_peel.specs.Walker.Next.{Faces, Gives}
+use Rattle.ether_peel.specs.Walker.Next.{Gives}
+use Rattle.ether_peel.specs.Walker.UnderWay.{UnderWay as AWalk}
 use Rattle.ether_peel.specs.declared.peel_unit.PeelUnit.{PeelUnit}
 use Rattle.ether_peel.specs.declared.peel_fault.PeelFault.{PeelFault}
 use Rattle.ether_packet.specs.declared.packet_walk.PacketWalk.{PacketWalk}
@@ -28,19 +29,12 @@ pub record Ready (r : Read) (x : Expectation) (free : ℕ) : Type 0 where
   pub arp : (arp_view r.units ≡ None) ⊎ (x.next ≡ AfterArp)
 
 pub record Gathered (start : Expectation) (list : List ℕ) (s : State) (r : Read) : Type 0 where
-  -- the walk of the list: the headers that were read, and those that the walker faces
-  pub done : List Header
-  pub left : List Header
-  pub ending : Ending
-  pub window : Window
-  pub walk : Walk start list (done ++ left) ending
-  pub faces : Faces list window s left ending
-  pub going : s.over ≡ false
-  pub comes_after : window ≡ window_after (whole start list) done
-  -- the packet holds those that were read
-  pub values : map header_of r.units ≡ done
+  pub way : AWalk start list s
+  pub comes_after : way.window ≡ window_after (whole start list) way.done
+  -- the packet holds the headers that were read
+  pub values : map header_of r.units ≡ way.done
   pub frame : r.frame ≡ list
-  pub units : AreUnitsAt list (whole start list) done r.units
+  pub units : AreUnitsAt list (whole start list) way.done r.units
   -- and has room for further extensions
   pub free : ℕ
   pub room : length (exts_of r.units) + free ≡ 3

@@ -6,6 +6,7 @@ pub mod ViewValues
 pub mod UnitHeaders
 pub mod SameValues
 pub mod Limits
+pub mod UnderWay
 pub mod Summarizing
 pub mod WritingBack
 pub mod Items

@@ -5,6 +5,7 @@ pub mod Start
 pub mod Reading
 pub mod Fault
 pub mod Next
+pub mod UnderWay
 pub mod UnitHeader
 pub mod Summary
 pub mod WriteBack

@@ -2,8 +2,8 @@
 use Rattle.std.proofs.Common.{◌≡◌, ℕ, ◌/◌, ◌^◌, ◌<◌, ◌≤◌, List, ◌∷◌, ◌++◌, rules}
 use Rattle.std.specs.Prelude.{codes, slice_index_or}
 use Rattle.std.specs.Fmt.{decimal}
-use Rattle.ether_text.specs.Decimals.{eight_digits}
-use Rattle.ether_text.proofs.DecimalLemmas.{of_ten}
+use Rattle.ether_output.specs.Decimals.{eight_digits}
+use Rattle.ether_output.proofs.DecimalLemmas.{of_ten}
 use Rattle.ether_format.specs.Spelling.{nine_digits}
 
 -- the last two of the digits before the last eight, and these

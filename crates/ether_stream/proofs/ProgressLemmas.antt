@@ -10,11 +10,11 @@ use Rattle.ether_pcap.specs.Editing.{EditedValue}
 use Rattle.ether_pcap.specs.CopiedUnits.{ModeValue, other_unit, unit_after}
 use Rattle.ether_pcap.proofs.PacketUnits.{begun, same_after}
 use Rattle.ether_content.specs.Editing.{EditValue}
-use Rattle.ether_text.specs.OutputBuffer.{contents_of, WritesOut}
+use Rattle.ether_output.specs.OutputBuffer.{contents_of, WritesOut}
 use Rattle.ether_text.specs.Verdict.{verdict_with}
-use Rattle.ether_text.specs.declared.output_buffer.OutputBuffer.{OutputBuffer}
+use Rattle.ether_output.specs.declared.output_buffer.OutputBuffer.{OutputBuffer}
 use Rattle.ether_text.specs.declared.verdict.Verdict.{Verdict}
-use Rattle.ether_text.proofs.KnownBytesLemmas.{Appends-none, Appends-then}
+use Rattle.ether_output.proofs.KnownBytesLemmas.{Appends-none, Appends-then}
 use Rattle.ether_stream.specs.Copying.{EditsIf}
 use Rattle.ether_stream.specs.Counting.{AreCounted}
 use Rattle.ether_stream.specs.FrameLines.{skip_count}

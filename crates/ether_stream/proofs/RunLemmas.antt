@@ -13,10 +13,10 @@ use Rattle.ether_pcap.specs.Copies.{Refused, NotEdited}
 use Rattle.ether_pcap.proofs.CaptureLengths.{required_above, unit_within}
 use Rattle.ether_pcap.proofs.CaptureLocality.{refusal_local}
 use Rattle.ether_pcap.specs.declared.capture.capture_error.CaptureError.{CaptureError}
-use Rattle.ether_text.specs.OutputBuffer.{contents_of, WritesOut}
-use Rattle.ether_text.specs.declared.output_buffer.OutputBuffer.{OutputBuffer}
+use Rattle.ether_output.specs.OutputBuffer.{contents_of, WritesOut}
+use Rattle.ether_output.specs.declared.output_buffer.OutputBuffer.{OutputBuffer}
 use Rattle.ether_text.specs.declared.verdict.Verdict.{Verdict}
-use Rattle.ether_text.proofs.KnownBytesLemmas.{Appends-then, Consumes-kept}
+use Rattle.ether_output.proofs.KnownBytesLemmas.{Appends-then, Consumes-kept}
 use Rattle.ether_text.specs.Run.{IsLeft, BreaksOffAfter, IsEndless}
 use Rattle.ether_text.proofs.RunLemmas.{IsLeft-left_of, IsLeft-end, answers_flushed, stops_flushed, breaks_flushed, answers_slice, stops_slice, breaks_slice, no_endless_slice}
 use Rattle.ether_stream.specs.Copying.{IsCopy}

@@ -8,7 +8,7 @@ use Rattle.ether_peel.specs.Grammar.Expectation.{EtherType}
 use Rattle.ether_peel.specs.Walker.Start.{next_of}
 use Rattle.ether_peel.specs.declared.start.Start.{Start}
 use Rattle.ether_sll2.specs.LinuxSll2.{LinuxSll2Value, linux_sll2_of, LinuxSll2Refusal, Short, PacketType, RefusesLinuxSll2, AcceptsLinuxSll2, protocol_of_header}
-use Rattle.ether_text.specs.HexText.{hex_text}
+use Rattle.ether_output.specs.HexText.{hex_text}
 use Rattle.ether_text.specs.Lines.{spaced, protocol_text}
 use Rattle.ether_text.specs.WalkText.{AnswersWalkAfter}
 

@@ -1,5 +1,5 @@
 -- What words of a request mean.
-use Rattle.std.specs.Prelude.{◌≡◌, ◌<◌, ◌==◌, ℕ, List, codes, Bool, true, false, Option, Some, None, ⊤}
+use Rattle.std.specs.Prelude.{◌≡◌, ◌<◌, ◌==◌, ℕ, List, Bool, true, false, Option, Some, None, ⊤}
 use Rattle.std.specs.List.{slice_split}
 use Rattle.ether_filter.specs.Expressions.{Expression}
 use Rattle.ether_filter.specs.Texts.{IsExpressionOf}
@@ -13,9 +13,11 @@ use Rattle.ether_format.specs.declared.format.Format.{Format}
 use Rattle.ether_format.specs.declared.format.Format.TheVariants.{Json, Brief, Fields}
 use Rattle.ether_stream.specs.VlanOptions.{IsTagEdit}
 use Rattle.ether_stream.specs.Usage.{IsWrongValue}
+use Rattle.ether_stream.specs.declared.option_values.TheConstants.{BRIEF, DROP, JSON, KEEP, LINES}
 use Rattle.ether_stream.specs.declared.usage.Usage.{Usage}
 use Rattle.ether_stream.specs.declared.usage.Usage.TheVariants as usages
 use Rattle.ether_stream.specs.declared.usage.ValueOption.TheVariants as value_options
+use Rattle.ether_stream.specs.declared.vlan_options.TagEdit.TheVariants as tag_edits
 use Rattle.ether_stream.specs.declared.selection.Undecided.{Undecided}
 use Rattle.ether_stream.specs.declared.selection.Undecided.TheVariants.{Dropped, Kept}
 
@@ -35,15 +37,15 @@ IsLimit text n = number_in text ≡ Some (Some n)
 
 -- what becomes of packets that are undecided
 abbrev pub MeansUndecided : List ℕ → Undecided → Type 0
-MeansUndecided text Kept = text ≡ codes "keep"
-MeansUndecided text Dropped = text ≡ codes "drop"
+MeansUndecided text Kept = text ≡ KEEP.now
+MeansUndecided text Dropped = text ≡ DROP.now
 
 -- the format of the text of packets, if it is another than lines
 abbrev pub IsFormat : Option (List ℕ) → Option Format → Type 0
 IsFormat None format = format ≡ None
-IsFormat (Some text) None = text ≡ codes "lines"
-IsFormat (Some text) (Some Json) = text ≡ codes "json"
-IsFormat (Some text) (Some Brief) = text ≡ codes "brief"
+IsFormat (Some text) None = text ≡ LINES.now
+IsFormat (Some text) (Some Json) = text ≡ JSON.now
+IsFormat (Some text) (Some Brief) = text ≡ BRIEF.now
 IsFormat (Some text) (Some (Fields columns)) = ⊥
 
 -- the columns of a row
@@ -62,8 +64,8 @@ abbrev pub IsOneEdit : (cuts pops : Bool) → (push set : Option (List ℕ)) →
 IsOneEdit false false None None edit = edit ≡ None
 IsOneEdit true false None None edit = edit ≡ Some CutToHeaders
 IsOneEdit false true None None edit = edit ≡ Some PopVlan
-IsOneEdit false false (Some text) None edit = IsIfAny (IsTagEdit (codes "--push-vlan")) (Some text) edit
-IsOneEdit false false None (Some text) edit = IsIfAny (IsTagEdit (codes "--set-vlan")) (Some text) edit
+IsOneEdit false false (Some text) None edit = IsIfAny (IsTagEdit tag_edits.Push) (Some text) edit
+IsOneEdit false false None (Some text) edit = IsIfAny (IsTagEdit tag_edits.Set) (Some text) edit
 IsOneEdit cuts pops push set edit = ⊥
 
 -- .. is not asked for: there are several, or the value of one means nothing

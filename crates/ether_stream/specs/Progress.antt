@@ -10,9 +10,9 @@ use Rattle.ether_pcap.specs.Editing.{EditedValue, edited_unit}
 use Rattle.ether_pcap.specs.CopiedUnits.{ModeValue, other_unit, unit_after}
 use Rattle.ether_pcap.specs.declared.capture.capture_error.CaptureError.{CaptureError}
 use Rattle.ether_content.specs.Editing.{EditValue}
-use Rattle.ether_text.specs.OutputBuffer.{contents_of, Takes}
+use Rattle.ether_output.specs.OutputBuffer.{contents_of, Takes}
 use Rattle.ether_text.specs.Verdict.{verdict_of, verdict_with}
-use Rattle.ether_text.specs.declared.output_buffer.OutputBuffer.{OutputBuffer}
+use Rattle.ether_output.specs.declared.output_buffer.OutputBuffer.{OutputBuffer}
 use Rattle.ether_text.specs.declared.verdict.Verdict.TheVariants.{AllAccepted}
 use Rattle.ether_stream.specs.Answering.{AreListed}
 use Rattle.ether_stream.specs.Copying.{EditsIf, CopiesOn}

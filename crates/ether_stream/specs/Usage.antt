@@ -1,5 +1,6 @@
 -- What is wrong with the words of a request.
 use Rattle.std.specs.Prelude.{◌≡◌, ℕ, List, ◌++◌, codes, Option, Some}
+use Rattle.ether_stream.specs.declared.messages.TheConstants.{CLASH, COLUMNS, COPIES, COUNT, CUT_TO_HEADERS, EDITS, FIELDS, FORMAT, FORMATS, HEADER, HEADERS, INPUT_TWICE, KEEP_OR_DROP, LIMIT, NO_COLUMN, NO_OPTION, NO_VALUE, PACKETS, POP_VLAN, PUSH_VLAN, PUSHED_TAG, SELECT, SET_VLAN, SURPLUS, TWICE, TWO_IDENTIFIERS, UNDECIDED}
 use Rattle.ether_stream.specs.declared.usage.DependentOption.{DependentOption}
 use Rattle.ether_stream.specs.declared.usage.DependentOption.TheVariants as dependent
 use Rattle.ether_stream.specs.declared.usage.Usage.{Usage}
@@ -9,43 +10,51 @@ use Rattle.ether_stream.specs.declared.usage.ValueOption.TheVariants as value_op
 
 -- an option as it is written
 abbrev pub option_text : ValueOption → List ℕ
-option_text value_options.PushVlan = codes "--push-vlan"
-option_text value_options.SetVlan = codes "--set-vlan"
-option_text value_options.Count = codes "-c"
-option_text value_options.Limit = codes "--limit"
-option_text value_options.Undecided = codes "--undecided"
-option_text value_options.Format = codes "--format"
-option_text value_options.Fields = codes "--fields"
+option_text value_options.PushVlan = PUSH_VLAN.now
+option_text value_options.SetVlan = SET_VLAN.now
+option_text value_options.Count = COUNT.now
+option_text value_options.Limit = LIMIT.now
+option_text value_options.Undecided = UNDECIDED.now
+option_text value_options.Format = FORMAT.now
+option_text value_options.Fields = FIELDS.now
 
 -- the values that it takes
 abbrev pub expected_text : ValueOption → List ℕ
-expected_text value_options.PushVlan = codes "a TPID of VLAN tags and an identifier up to 4095, as 0x8100:5"
-expected_text value_options.SetVlan = codes "two identifiers up to 4095, as 5:6"
-expected_text value_options.Count = codes "a number from 1 to 4294967295"
-expected_text value_options.Limit = codes "a number up to 4294967295"
-expected_text value_options.Undecided = codes "keep or drop"
-expected_text value_options.Format = codes "lines, brief or json"
-expected_text value_options.Fields = codes "at most 32 columns, as vlan.vid,eth.src"
+expected_text value_options.PushVlan = PUSHED_TAG.now
+expected_text value_options.SetVlan = TWO_IDENTIFIERS.now
+expected_text value_options.Count = PACKETS.now
+expected_text value_options.Limit = HEADERS.now
+expected_text value_options.Undecided = KEEP_OR_DROP.now
+expected_text value_options.Format = FORMATS.now
+expected_text value_options.Fields = COLUMNS.now
 
--- an option, and the one that it needs
-abbrev pub needing_text : DependentOption → List ℕ
-needing_text dependent.Undecided = codes "--undecided needs --select"
-needing_text dependent.Header = codes "--header needs --fields"
-needing_text dependent.CutToHeaders = codes "--cut-to-headers needs --write or -w"
-needing_text dependent.PopVlan = codes "--pop-vlan needs --write or -w"
-needing_text dependent.PushVlan = codes "--push-vlan needs --write or -w"
-needing_text dependent.SetVlan = codes "--set-vlan needs --write or -w"
+-- an option that needs another one
+abbrev pub dependent_text : DependentOption → List ℕ
+dependent_text dependent.Undecided = UNDECIDED.now
+dependent_text dependent.Header = HEADER.now
+dependent_text dependent.CutToHeaders = CUT_TO_HEADERS.now
+dependent_text dependent.PopVlan = POP_VLAN.now
+dependent_text dependent.PushVlan = PUSH_VLAN.now
+dependent_text dependent.SetVlan = SET_VLAN.now
 
+-- .. and that one
+abbrev pub needed_text : DependentOption → List ℕ
+needed_text dependent.Undecided = SELECT.now
+needed_text dependent.Header = FIELDS.now
+needed_text option = COPIES.now
+
+-- what is said of words, with a colon after what it is said of
 abbrev pub usage_text : Usage → List ℕ
-usage_text (usages.Unknown word) = word.now ++ codes ": there is no such option"
-usage_text (usages.NoValue word) = word.now ++ codes ": its value is missing"
-usage_text usages.Words = codes "an option occurs twice, or has a value and takes none"
-usage_text usages.Clash = codes "these options do not go together"
-usage_text (usages.Lacks option) = needing_text option
-usage_text (usages.Surplus name) = name.now ++ codes ": this is one FILE too many"
-usage_text usages.InputTwice = codes "-: standard input can be read only once"
-usage_text usages.Edits = codes "--cut-to-headers, --pop-vlan, --push-vlan and --set-vlan do not go together"
-usage_text (usages.NoColumn name) = codes "--fields: there is no column '" ++ (name.now ++ codes "'")
+usage_text (usages.Unknown word) = word.now ++ (codes ": " ++ NO_OPTION.now)
+usage_text (usages.NoValue word) = word.now ++ (codes ": " ++ NO_VALUE.now)
+usage_text usages.Words = TWICE.now
+usage_text usages.Clash = CLASH.now
+usage_text (usages.Lacks option) = dependent_text option ++ (codes " needs " ++ needed_text option)
+usage_text (usages.Surplus name) = name.now ++ (codes ": " ++ SURPLUS.now)
+usage_text usages.InputTwice = INPUT_TWICE.now
+usage_text usages.Edits = EDITS.now
+usage_text (usages.NoColumn name) =
+    FIELDS.now ++ (codes ": " ++ (NO_COLUMN.now ++ (codes " '" ++ (name.now ++ codes "'"))))
 usage_text (usages.Value option text) =
     option_text option ++ (codes " '" ++ (text.now ++ (codes "': expected " ++ expected_text option)))
 

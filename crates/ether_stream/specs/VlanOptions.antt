@@ -1,5 +1,5 @@
 -- The options that edit VLAN tags.
-use Rattle.std.specs.Prelude.{◌≡◌, ◌<◌, ℕ, List, codes, Some, true}
+use Rattle.std.specs.Prelude.{◌≡◌, ◌<◌, ℕ, List, Some, true}
 use Rattle.ether_base.specs.Formats.Vlan.{is_vlan_ether_type}
 use Rattle.ether_filter.specs.Numerals.{number_in}
 use Rattle.ether_format.specs.Splits.{SplitsAt}
@@ -17,13 +17,8 @@ pub record IsPair (text : List ℕ) (m n : ℕ) : Type 0 where
 
 -- The edit that an option with two numbers asks for: a VLAN tag is pushed, with a TPID that announces one, or the
 -- identifier of one is changed. Identifiers have 12 bits.
-pub data IsTagEdit : (word text : List ℕ) → EditValue → Type 0 where
+pub data IsTagEdit : TagEdit → (text : List ℕ) → EditValue → Type 0 where
   push : (text : List ℕ) (tpid id : ℕ) → IsPair text tpid id → is_vlan_ether_type tpid ≡ true → id < 4096
-      → IsTagEdit (codes "--push-vlan") text (PushVlan tpid id)
+      → IsTagEdit tag_edits.Push text (PushVlan tpid id)
   set : (text : List ℕ) (old new : ℕ) → IsPair text old new → old < 4096 → new < 4096
-      → IsTagEdit (codes "--set-vlan") text (SetVlan old new)
-
--- the option of each
-abbrev pub tag_word : TagEdit → List ℕ
-tag_word tag_edits.Push = codes "--push-vlan"
-tag_word tag_edits.Set = codes "--set-vlan"
+      → IsTagEdit tag_edits.Set text (SetVlan old new)

@@ -5,13 +5,13 @@ ghost use Rattle.ether_pcap.specs.CaptureViews.{captured_packet_view};
 ghost use Rattle.ether_pcap.specs.CopiedUnits.{copy_mode_view, other_unit};
 ghost use Rattle.ether_pcap.specs.Editing.{unit_bytes, padding_of};
 ghost use Rattle.ether_content.specs.EditingViews.{edit_view, edited_view};
-ghost use Rattle.ether_text.specs.OutputBuffer.{Takes};
+ghost use Rattle.ether_output.specs.OutputBuffer.{Takes};
 ghost use Rattle.ether_stream.specs.Progress.{AppendsEdited, AppendsNone, IsUneditable, IsUnitOf, WritesPacket};
 
 use crate::{EditBuffer, Grow};
 use ether_content::{EditedPacket, PacketEdit};
+use ether_output::{OutputBuffer, Sink};
 use ether_pcap::{CaptureReader, CapturedPacket, CopiedUnit, CopyMode, EditedUnit, InterfaceTable};
-use ether_text::{OutputBuffer, Sink};
 
 /// Writes what a copy has of a unit without a packet: the unit, the unit with another snap length or an unspecified
 /// section length, or nothing.

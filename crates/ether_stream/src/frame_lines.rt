@@ -4,7 +4,7 @@ ghost use Rattle.std.specs.Option.{option_map};
 ghost use Rattle.ether_pcap.specs.CaptureViews.{captured_packet_view, timestamp_view};
 ghost use Rattle.ether_content.specs.Content.{content_of};
 ghost use Rattle.ether_content.specs.ContentViews.{content_view};
-ghost use Rattle.ether_text.specs.OutputBuffer.{Takes, TakesAnswer};
+ghost use Rattle.ether_output.specs.OutputBuffer.{Takes, TakesAnswer};
 ghost use Rattle.ether_stream.specs.FrameLines.{is_skipped, time_text, mark, packet_line_if, HasLines, HasWalkLines, told, told_if, totals_line_if, totals_line_after};
 ghost use Rattle.ether_stream.specs.Packets.{counted};
 
@@ -13,9 +13,10 @@ use crate::linux_sll_lines::write_linux_sll;
 use crate::linux_sll2_lines::write_linux_sll2;
 use ether_content::{Content, CookedHeader, is_cut};
 use ether_format::{nine_digits, write_packet};
+use ether_output::{OutputBuffer, Sink, eight_digits, write_decimal};
 use ether_pcap::{CapturedPacket, Timestamp};
 use ether_peel::Start;
-use ether_text::{OutputBuffer, Sink, eight_digits, write_decimal, write_walk_after};
+use ether_text::write_walk_after;
 
 /// Writes the text of a packet: its lines, or its text in another format. Returns whether the walk through its
 /// headers ends without a fault.

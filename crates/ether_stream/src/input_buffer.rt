@@ -2,14 +2,15 @@
 ghost use Rattle.std.specs.Prelude.{◌≡◌, ◌+◌, ◌≤◌, ◌<◌, List, ℕ, [], ◌++◌, length, take, drop, slice_range, true, false, IfOk, IfErr, OnOk, OnErr};
 ghost use Rattle.std.specs.Io.KnownBytes.{Keeps, Consumes, IsAtEnd};
 ghost use Rattle.ether_text.specs.InputReader.{HasCause, ReadsOn};
-ghost use Rattle.ether_text.specs.OutputBuffer.{Marks};
+ghost use Rattle.ether_output.specs.OutputBuffer.{Marks};
 ghost use Rattle.ether_stream.specs.Progress.{IsTakingFault, OnNotEdited, OnOutput, StopsAfter, TakesUnits};
 ghost use Rattle.ether_stream.specs.Task.{task_view};
 
 use crate::progress::Progress;
 use crate::{EditBuffer, Grow, NoMemory, RunFault, Task};
+use ether_output::{OutputBuffer, Sink};
 use ether_pcap::{CaptureError, InterfaceTable};
-use ether_text::{InputFault, InputReader, OutputBuffer, Sink, Source};
+use ether_text::{InputFault, InputReader, Source};
 
 /// How many bytes an [`InputBuffer`] has room for at least.
 const FIRST_ROOM: usize = 65_536;

@@ -5,6 +5,7 @@
 //! are the caller's: bytes in memory that may [`Grow`], and a [`SectionTable`]. A [`Reason`] says why a run stopped.
 #![tactic(auto)]
 
+mod about;
 mod buffers;
 mod copying;
 mod counts;
@@ -16,6 +17,7 @@ mod line_sink;
 mod linux_sll2_lines;
 mod linux_sll_lines;
 mod memory;
+mod messages;
 mod no_memory;
 mod open_fault;
 mod option_values;
@@ -29,6 +31,7 @@ mod usage;
 mod vlan_options;
 mod write_fault;
 
+pub use about::{HELP, VERSION};
 pub use buffers::Buffers;
 pub use counts::PacketCounts;
 pub use edit_buffer::EditBuffer;
@@ -42,8 +45,8 @@ pub use option_values::{
     count_of, edit_of_words, fields_of, filter_of, format_of, limit_of, undecided_of,
 };
 pub use outcome::{
-    FileEnd, HELP, LastLine, Outcome, Reason, RunFault, VERSION, is_message, last_line,
-    line_of_file, line_of_input, program_status, status_of, status_of_file,
+    FileEnd, LastLine, Outcome, Reason, RunFault, is_message, last_line, line_of_file,
+    line_of_input, program_status, status_of, status_of_file,
 };
 pub use section_table::{MAX_INTERFACES, SectionTable};
 pub use selection::{Selection, Undecided};

@@ -4,7 +4,7 @@ ghost use Rattle.std.specs.Io.KnownBytes.{Appends};
 ghost use Rattle.ether_stream.specs.Outcome.{last_line_text};
 
 use crate::LastLine;
-use ether_text::{OutputFault, Sink};
+use ether_output::{OutputFault, Sink};
 use std::io::Write;
 
 /// What lines are written to between runs: any [`Write`].

@@ -2,12 +2,13 @@
 ghost use Rattle.std.specs.Prelude.{◌≡◌, ◌≤◌, ◌++◌, ℕ, Option, length, codes, IfOk, IfErr};
 ghost use Rattle.ether_sll2.specs.LinuxSll2.{linux_sll2_of};
 ghost use Rattle.ether_sll2.specs.Views.{refusal_view};
-ghost use Rattle.ether_text.specs.OutputBuffer.{Takes, TakesAnswer};
+ghost use Rattle.ether_output.specs.OutputBuffer.{Takes, TakesAnswer};
 ghost use Rattle.ether_stream.specs.LinuxSll2Lines.{AnswersLinuxSll2, BeginsWalk, linux_sll2_fault_text, linux_sll2_text};
 
+use ether_output::{OutputBuffer, Sink, hex_type, write_number};
 use ether_peel::{RestKind, Start};
 use ether_sll2::{LinuxSll2Error, LinuxSll2Header, LinuxSll2Slice};
-use ether_text::{OutputBuffer, Sink, hex_long, hex_type, write_number, write_rest};
+use ether_text::{hex_long, write_rest};
 use etherparse::EtherType;
 
 /// Writes the line of the header, and returns what its payload begins with, and the payload.

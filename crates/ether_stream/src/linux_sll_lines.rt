@@ -2,12 +2,13 @@
 ghost use Rattle.std.specs.Prelude.{◌≡◌, ◌++◌, length, codes};
 ghost use Rattle.ether_base.specs.Bytes.{number, spelled};
 ghost use Rattle.ether_content.specs.ContentViews.{cooked_view};
-ghost use Rattle.ether_text.specs.HexText.{hex_text};
+ghost use Rattle.ether_output.specs.HexText.{hex_text};
 ghost use Rattle.ether_text.specs.Lines.{linux_sll_text};
-ghost use Rattle.ether_text.specs.OutputBuffer.{Takes};
+ghost use Rattle.ether_output.specs.OutputBuffer.{Takes};
 
 use ether_content::CookedHeader;
-use ether_text::{OutputBuffer, Sink, hex_long, hex_type, write_number};
+use ether_output::{OutputBuffer, Sink, hex_type, write_number};
+use ether_text::hex_long;
 
 /// Writes the line of the header.
 #[inline(never)]

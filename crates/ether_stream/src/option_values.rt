@@ -18,6 +18,18 @@ use ether_filter::{Filter, FilterError};
 use ether_format::{Columns, Format};
 use std::num::NonZeroUsize;
 
+/// The values of `--undecided`.
+const KEEP: &str = "keep";
+
+const DROP: &str = "drop";
+
+/// The values of `--format`.
+const LINES: &str = "lines";
+
+const BRIEF: &str = "brief";
+
+const JSON: &str = "json";
+
 /// The edit that options ask for, if any: to cut packets to their headers, to pop a VLAN tag, to push one, or to set
 /// an identifier.
 ///
@@ -95,8 +107,8 @@ pub fn undecided_of<'a>(text: Option<&'a str>) -> Result<Option<Undecided>, Usag
 {
     match text {
         None => Ok(None),
-        Some("keep") => Ok(Some(Undecided::Kept)),
-        Some("drop") => Ok(Some(Undecided::Dropped)),
+        Some(KEEP) => Ok(Some(Undecided::Kept)),
+        Some(DROP) => Ok(Some(Undecided::Dropped)),
         Some(text) => Err(Usage::Value(ValueOption::Undecided, text)),
     }
 }
@@ -128,9 +140,9 @@ pub fn format_of<'a>(text: Option<&'a str>) -> Result<Option<Format>, Usage<'a>>
     ensures usage { IfErr result (IsWrongValue ValueOption.Format (option_map (λ s. s.now) text.entry)) }
 {
     match text {
-        None | Some("lines") => Ok(None),
-        Some("json") => Ok(Some(Format::Json)),
-        Some("brief") => Ok(Some(Format::Brief)),
+        None | Some(LINES) => Ok(None),
+        Some(JSON) => Ok(Some(Format::Json)),
+        Some(BRIEF) => Ok(Some(Format::Brief)),
         Some(text) => Err(Usage::Value(ValueOption::Format, text)),
     }
 }

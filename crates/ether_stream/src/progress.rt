@@ -4,7 +4,7 @@ ghost use Rattle.std.specs.Option.{option_map};
 ghost use Rattle.std.specs.Io.KnownBytes.{Appends};
 ghost use Rattle.ether_pcap.specs.Capture.{HasBegun};
 ghost use Rattle.ether_pcap.specs.CaptureViews.{captured_packet_view};
-ghost use Rattle.ether_text.specs.OutputBuffer.{contents_of, Marks, Takes};
+ghost use Rattle.ether_output.specs.OutputBuffer.{contents_of, Marks, Takes};
 ghost use Rattle.ether_text.specs.Verdict.{verdict_with};
 ghost use Rattle.ether_stream.specs.FrameLines.{if_selected, skip_count};
 ghost use Rattle.ether_stream.specs.Packets.{counted};
@@ -14,8 +14,9 @@ ghost use Rattle.ether_stream.specs.Task.{form_view, task_view};
 use crate::copying::{write_other, write_packet};
 use crate::frame_lines::{is_skipped, write_lines, write_totals_of};
 use crate::{EditBuffer, Form, Grow, PacketCounts, RunFault, SectionTable, Task};
+use ether_output::{OutputBuffer, Sink};
 use ether_pcap::{CaptureError, CaptureFault, CaptureReader, CapturedPacket, InterfaceTable};
-use ether_text::{OutputBuffer, Sink, Verdict};
+use ether_text::Verdict;
 
 /// Where the run is in the capture, and the counts and the verdict of the packets before that.
 #[derive(Drop)]

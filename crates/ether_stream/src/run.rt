@@ -2,7 +2,7 @@
 ghost use Rattle.std.specs.Prelude.{◌≡◌, ◌⊎◌, ◌↔◌, [], true, IfErr, IsTrue};
 ghost use Rattle.ether_pcap.specs.Capture.{IsEnd};
 ghost use Rattle.ether_text.specs.InputReader.{StopsReading};
-ghost use Rattle.ether_text.specs.OutputBuffer.{contents_of, Marks};
+ghost use Rattle.ether_output.specs.OutputBuffer.{contents_of, Marks};
 ghost use Rattle.ether_text.specs.Run.{IsEndless};
 ghost use Rattle.ether_stream.specs.Counting.{HasCounted};
 ghost use Rattle.ether_stream.specs.InputBuffer.{items};
@@ -12,8 +12,9 @@ ghost use Rattle.ether_stream.specs.Task.{task_view};
 
 use crate::progress::Progress;
 use crate::{Buffers, EditBuffer, Grow, InputBuffer, PacketCounts, RunFault, SectionTable, Task};
+use ether_output::{OutputBuffer, Sink};
 use ether_pcap::InterfaceTable;
-use ether_text::{InputReader, OutputBuffer, Sink, SliceSource, Source, Verdict};
+use ether_text::{InputReader, SliceSource, Source, Verdict};
 
 /// Reads a capture to its end, and writes what is asked for: the lines of its packets, or a copy.
 ///

@@ -4,7 +4,7 @@ ghost use Rattle.ether_filter.specs.Numerals.{number_in};
 ghost use Rattle.ether_base.specs.Formats.Vlan.{is_vlan_ether_type};
 ghost use Rattle.ether_content.specs.Editing.{EditValue, PushVlan, SetVlan};
 ghost use Rattle.ether_content.specs.EditingViews.{edit_view};
-ghost use Rattle.ether_stream.specs.VlanOptions.{IsPair, IsTagEdit, tag_word};
+ghost use Rattle.ether_stream.specs.VlanOptions.{IsPair, IsTagEdit};
 
 use ether_content::PacketEdit;
 use ether_filter::number_of;
@@ -22,8 +22,8 @@ pub(crate) enum TagEdit {
 
 /// The edit that a text means. Returns `None` if it means none.
 pub(crate) fn tag_edit_of(kind: TagEdit, text: &[u8]) -> Option<PacketEdit>
-    ensures some { IfSome result (λ edit. IsTagEdit (tag_word kind) text.now (edit_view edit)) }
-    ensures none { IfNone result ((e : EditValue) → ¬ (IsTagEdit (tag_word kind) text.now e)) }
+    ensures some { IfSome result (λ edit. IsTagEdit kind text.now (edit_view edit)) }
+    ensures none { IfNone result ((e : EditValue) → ¬ (IsTagEdit kind text.now e)) }
 {
     let (first, second) = pair_of(text)?;
     match kind {

@@ -8,12 +8,13 @@ use Rattle.ether_peel.specs.Walker.Summary.{fault_of}
 use Rattle.ether_peel.specs.Walker.Feeding.{IsFeed}
 use Rattle.ether_peel.specs.declared.peel_fault.PeelFault.{PeelFault}
 use Rattle.ether_peel.specs.declared.walk_feed.Feed.{Feed}
-use Rattle.ether_text.specs.Lines.{feed_text, fault_line, is_accepted}
+use Rattle.ether_text.specs.Lines.{feed_text, fault_line}
+use Rattle.ether_output.specs.Words.{is_accepted}
 use Rattle.ether_text.specs.ViewLines.{fault_view_text}
 use Rattle.ether_text.specs.WalkText.{AnswersFeed}
-use Rattle.ether_text.specs.OutputBuffer.{Takes, TakesAnswer}
-use Rattle.ether_text.specs.declared.output_buffer.OutputBuffer.{OutputBuffer}
-use Rattle.ether_text.proofs.OutputBufferLemmas.{Takes-then, Takes-same}
+use Rattle.ether_output.specs.OutputBuffer.{Takes, TakesAnswer}
+use Rattle.ether_output.specs.declared.output_buffer.OutputBuffer.{OutputBuffer}
+use Rattle.ether_output.proofs.OutputBufferLemmas.{Takes-then, Takes-same}
 use Rattle.ether_text.proofs.WalkLinesLemmas.{fault_after, fault_view_text-fault}
 
 no_place : (f : PeelFault) → fault_view_text f ≡ fault_view_text (fault_after 0 f)

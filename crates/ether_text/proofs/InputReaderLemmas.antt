@@ -3,8 +3,8 @@ use Rattle.std.proofs.Common.{◌≡◌, ◌≤◌, ◌+◌, ℕ, List, [], ◌+
 use Rattle.std.specs.Io.KnownBytes.{Consumes, Keeps}
 use Rattle.ether_text.specs.InputReader.{HasCause, failed_before, none_left, text_waits, read_failed, ReadsOn, StopsReading, was_stopped, stopped, used_up}
 use Rattle.ether_text.specs.declared.input_reader.InputReader.{InputReader}
-use Rattle.ether_text.specs.declared.output_buffer.OutputBuffer.{OutputBuffer}
-use Rattle.ether_text.proofs.KnownBytesLemmas.{Consumes-none, Consumes-then, Consumes-kept}
+use Rattle.ether_output.specs.declared.output_buffer.OutputBuffer.{OutputBuffer}
+use Rattle.ether_output.proofs.KnownBytesLemmas.{Consumes-none, Consumes-then, Consumes-kept}
 
 module _ {R : Type 0} (remaining : R → Option (List ℕ)) where
   -- nothing is read

@@ -1,7 +1,4 @@
-pub mod DecimalLemmas
 pub mod WriteHexLemmas
-pub mod KnownBytesLemmas
-pub mod OutputBufferLemmas
 pub mod InputReaderLemmas
 pub mod RunLemmas
 pub mod ViewLinesLemmas

@@ -3,13 +3,13 @@ use Rattle.std.proofs.Common.{false, ◌⊎◌, ◌-◌, ◌^◌, ◌≡◌, inl
 use Rattle.std.specs.Prelude.{⊤}
 use Rattle.std.specs.Io.KnownBytes.{Appends, Consumes, IsAtEnd, append_known}
 use Rattle.ether_text.specs.InputReader.{StopsReading, was_stopped, stopped as stopped_by, used_up}
-use Rattle.ether_text.specs.OutputBuffer.{contents_of, Marks, WritesOut}
+use Rattle.ether_output.specs.OutputBuffer.{contents_of, Marks, WritesOut}
 use Rattle.ether_text.specs.Run.{AnswersAll, IsLeft, StopsIn, BreaksOffAfter, IsEndless, Stream, Input, Output, OnStream}
 use Rattle.ether_text.specs.Verdict.{verdict_of}
 use Rattle.ether_text.specs.declared.input_reader.InputReader.{InputReader}
-use Rattle.ether_text.specs.declared.output_buffer.OutputBuffer.{OutputBuffer}
+use Rattle.ether_output.specs.declared.output_buffer.OutputBuffer.{OutputBuffer}
 use Rattle.ether_text.specs.declared.verdict.Verdict.{Verdict}
-use Rattle.ether_text.proofs.KnownBytesLemmas.{Appends-written_out, append_known_nil, Consumes-then}
+use Rattle.ether_output.proofs.KnownBytesLemmas.{Appends-written_out, append_known_nil, Consumes-then}
 
 -- ---- what is left
 

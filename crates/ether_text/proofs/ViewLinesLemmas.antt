@@ -5,7 +5,7 @@ use Rattle.std.specs.Fmt.{decimal}
 use Rattle.etherparse.specs.Bytes.{spelled}
 use Rattle.etherparse.specs.Ethernet2.{Ethernet2Value}
 use Rattle.etherparse.specs.NumberText.{hex_number}
-use Rattle.ether_text.specs.HexText.{hex_text}
+use Rattle.ether_output.specs.HexText.{hex_text}
 use Rattle.ether_text.specs.Lines.{ethernet2_text, ethernet2_fcs_text}
 use Rattle.ether_text.specs.ViewLines.{ethernet2_view_text, fcs_text, fields_text}
 

@@ -11,23 +11,24 @@ use Rattle.etherparse.specs.Refusal.{Refusal, Length, UnsupportedPacketType, Uns
 use Rattle.etherparse.proofs.SubLists.{length-part, IsBytes-part}
 use Rattle.ether_peel.specs.Grammar.Window.{Window, within, IsIn, payload}
 use Rattle.ether_peel.specs.Grammar.Expectation.{Next, Expectation, Start, EtherType, Sll, Sealed, AfterArp}
-use Rattle.ether_peel.specs.Grammar.Stack.{Ending, IsUnit, whole, Walk}
+use Rattle.ether_peel.specs.Grammar.Stack.{Ending, IsUnit, last_window, last_expected, whole, Walk}
 use Rattle.ether_peel.specs.Walker.State.{State}
 use Rattle.ether_peel.specs.Walker.Start.{next_shown, kind_shown}
 use Rattle.ether_peel.specs.Walker.Fault.{fault_in}
 use Rattle.ether_peel.specs.Walker.Next.{Faces, ShowsUnit, Gives}
 use Rattle.ether_peel.proofs.Grammar.CheckSequence.{fcs_of_window}
 use Rattle.ether_peel.proofs.Walker.ViewValues.{ethernet2_shown, linux_sll_shown, vlan_shown, macsec_shown, arp_shown}
-use Rattle.ether_peel.proofs.Walker.Summarizing.{unit_next, fault_next, none_next}
+use Rattle.ether_peel.proofs.Walker.UnderWay.{UnderWay, under_way_first, passes, passed_headers, under_way_next, stops, stop_finish, no_none, no_fault, faults, accepts}
 use Rattle.ether_peel.specs.declared.peel_unit.PeelUnit.{PeelUnit}
 use Rattle.ether_peel.specs.declared.peel_fault.PeelFault.{PeelFault}
 use Rattle.ether_peel.specs.declared.rest_kind.RestKind.{RestKind}
-use Rattle.ether_text.specs.Lines.{ethernet2_text, ethernet2_fcs_text, linux_sll_text, vlan_text, macsec_text, arp_text, unit_text, kind_text, rest_text, fault_text, ending_text, frame_text, is_accepted}
+use Rattle.ether_text.specs.Lines.{ethernet2_text, ethernet2_fcs_text, linux_sll_text, vlan_text, macsec_text, arp_text, unit_text, kind_text, rest_text, fault_text, ending_text, frame_text}
+use Rattle.ether_output.specs.Words.{is_accepted}
 use Rattle.ether_text.specs.ViewLines.{view_text, kind_view_text, rest_view_text, fault_view_text}
 use Rattle.ether_text.specs.WalkText.{AnswersWalkAfter}
-use Rattle.ether_text.specs.OutputBuffer.{Takes, TakesAnswer}
-use Rattle.ether_text.specs.declared.output_buffer.OutputBuffer.{OutputBuffer}
-use Rattle.ether_text.proofs.OutputBufferLemmas.{Takes-none, Takes-then}
+use Rattle.ether_output.specs.OutputBuffer.{Takes, TakesAnswer}
+use Rattle.ether_output.specs.declared.output_buffer.OutputBuffer.{OutputBuffer}
+use Rattle.ether_output.proofs.OutputBufferLemmas.{Takes-none, Takes-then}
 
 -- ---- what a walker gives has the text of what it faces
 
@@ -110,30 +111,20 @@ rest_view_text-rest at w x start end k from to shows =
 
 pub record WritesWalk {W : Type 0} (contents : W → Option (List ℕ)) (can_fail : Type 0) (at : ℕ) (x : Expectation)
     (frame : List ℕ) (s : State) (old new : OutputBuffer W) : Type 0 where
-  pub all : List Header
-  pub ending : Ending
-  pub walk : Walk x frame all ending
-  pub window : Window
-  pub left : List Header
-  pub faces : Faces frame window s left ending
-  pub going : s.over ≡ false
+  pub way : UnderWay x frame s
   pub text : List ℕ
   pub taken : Takes contents can_fail old text new
-  pub parts : frame_text at frame (whole x frame) all ending ≡ text ++ frame_text at frame window left ending
+  pub parts : frame_text at frame (whole x frame) (way.done ++ way.left) way.ending
+      ≡ text ++ frame_text at frame way.window way.left way.ending
 
 module _ {W : Type 0} (contents : W → Option (List ℕ)) (can_fail : Type 0) where
   pub walk_starts : (at : ℕ) (x : Expectation) (frame : List ℕ) (s : State) (out : OutputBuffer W) (all : List Header)
       (ending : Ending)
       → Walk x frame all ending → Faces frame (whole x frame) s all ending → s.over ≡ false
       → WritesWalk contents can_fail at x frame s out out
+  unfolding under_way_first
   walk_starts at x frame s out all ending walk faces going = record {
-    all = all;
-    ending = ending;
-    walk = walk;
-    window = whole x frame;
-    left = all;
-    faces = faces;
-    going = going;
+    way = under_way_first x frame s all ending walk faces going;
     text = [];
     taken = Takes-none contents can_fail out;
     parts = refl;
@@ -145,55 +136,53 @@ module _ {W : Type 0} (contents : W → Option (List ℕ)) (can_fail : Type 0) w
       → IsBytes frame → WritesWalk contents can_fail at x frame s old mid → Gives s (Some (Ok u)) t
       → Takes contents can_fail mid (view_text (at + s.offset) (length t.rest) t.closed u ++ codes "\n") new
       → WritesWalk contents can_fail at x frame t old new
-  unfolding frame_text
+  unfolding frame_text under_way_next
   walk_unit at x frame s t old mid new u ok a gives line =
-      let n =
-      unit_next frame a.window a.left a.ending s t u (gives.next a.going frame a.window a.left a.ending a.faces) in
+      let way = a.way in
+      let n = passes x frame s t u way gives in
       let h = n.header in
-      let hs = n.later in
-      let faces = subst (λ (l : List Header). Faces frame a.window s l a.ending) n.parts a.faces in
+      let faces = subst (λ (l : List Header). Faces frame way.window s l way.ending) n.parts way.faces in
       let shows = subst (λ (l : List ℕ). ShowsUnit l t.rest h u) faces.rest n.shows in
       let after = n.faces in
-      let is : view_text (at + s.offset) (length t.rest) t.closed u ≡ unit_text at frame a.window h =
+      let is : view_text (at + s.offset) (length t.rest) t.closed u ≡ unit_text at frame way.window h =
       ap (λ (k : ℕ). view_text (at + k) (length t.rest) t.closed u) faces.offset
-      ∙ view_text-unit at frame s.expected a.window h u t.rest t.closed ok faces.inside faces.stack.0
+      ∙ view_text-unit at frame s.expected way.window h u t.rest t.closed ok faces.inside faces.stack.0
       after.inside after.rest after.closed shows in
-      let written = unit_text at frame a.window h ++ codes "\n" in
+      let written = unit_text at frame way.window h ++ codes "\n" in
       record {
-        all = a.all;
-        ending = a.ending;
-        walk = a.walk;
-        window = payload a.window h;
-        left = hs;
-        faces = n.faces;
-        going = n.going;
+        way = under_way_next x frame s t u way n;
         text = a.text ++ written;
         taken = Takes-then a.taken (subst (λ (l : List ℕ). Takes contents can_fail mid (l ++ codes "\n") new) is line);
         parts =
-            a.parts ∙ ap (λ (l : List Header). a.text ++ frame_text at frame a.window l a.ending) n.parts
-            ∙ sym (append_assoc a.text written (frame_text at frame (payload a.window h) hs a.ending));
+            ap (λ (l : List Header). frame_text at frame (whole x frame) l way.ending)
+            (sym (passed_headers x frame s t u way n))
+            ∙ a.parts ∙ ap (λ (l : List Header). a.text ++ frame_text at frame way.window l way.ending) n.parts
+            ∙ sym (append_assoc a.text written (frame_text at frame (payload way.window h) n.later way.ending));
       }
 
   answered : (at : ℕ) (x : Expectation) (frame : List ℕ) (s : State) (old mid new : OutputBuffer W) (accepted : Bool)
       (last : List ℕ)
-      → (a : WritesWalk contents can_fail at x frame s old mid) → a.left ≡ [] → last ≡ ending_text at a.ending
-      → accepted ≡ is_accepted a.ending
+      → (a : WritesWalk contents can_fail at x frame s old mid) → a.way.left ≡ []
+      → last ≡ ending_text at a.way.ending → accepted ≡ is_accepted a.way.ending
       → Takes contents can_fail mid (last ++ codes "\n") new
       → TakesAnswer contents can_fail (AnswersWalkAfter at x frame) old new accepted
   unfolding frame_text
-  answered at x frame s old mid new accepted last a none is verdict line = record {
-    text = a.text ++ (last ++ codes "\n");
-    answers = record {
-      headers = a.all;
-      ending = a.ending;
-      walk = a.walk;
-      lines =
-          ap (λ (l : List ℕ). a.text ++ (l ++ codes "\n")) is
-          ∙ sym (a.parts ∙ ap (λ (l : List Header). a.text ++ frame_text at frame a.window l a.ending) none);
-      verdict = verdict;
-    };
-    taken = Takes-then a.taken line;
-  }
+  answered at x frame s old mid new accepted last a none is verdict line =
+      let way = a.way in
+      record {
+        text = a.text ++ (last ++ codes "\n");
+        answers = record {
+          headers = way.done ++ way.left;
+          ending = way.ending;
+          walk = way.walk;
+          lines =
+              ap (λ (l : List ℕ). a.text ++ (l ++ codes "\n")) is
+              ∙ sym
+              (a.parts ∙ ap (λ (l : List Header). a.text ++ frame_text at frame way.window l way.ending) none);
+          verdict = verdict;
+        };
+        taken = Takes-then a.taken line;
+      }
 
   -- the line of a fault
   pub walk_fault : (at : ℕ) (x : Expectation) (frame : List ℕ) (s t : State) (old mid new : OutputBuffer W)
@@ -203,18 +192,13 @@ module _ {W : Type 0} (contents : W → Option (List ℕ)) (can_fail : Type 0) w
       → TakesAnswer contents can_fail (AnswersWalkAfter at x frame) old new false
   unfolding ending_text
   walk_fault at x frame s t old mid new f a gives line =
-      let n =
-      fault_next frame a.window a.left a.ending s t f (gives.next a.going frame a.window a.left a.ending a.faces) in
-      let v = n.window in
-      let y = n.expected in
-      let q = n.refusal in
-      let stack =
-      (subst (λ (e : Ending). Faces frame a.window s [] e) n.ending
-      (subst (λ (l : List Header). Faces frame a.window s l a.ending) n.none_left a.faces)).stack in
-      let is : fault_view_text (fault_after at f) ≡ ending_text at a.ending =
-      ap (λ (g : PeelFault). fault_view_text (fault_after at g)) n.fault ∙ fault_view_text-fault at a.window q
-      ∙ ap (λ (w : Window). fault_text at w q) (sym stack.0) ∙ ap (ending_text at) (sym n.ending) in
-      answered at x frame s old mid new false (fault_view_text (fault_after at f)) a n.none_left is
+      let e = a.way.ending in
+      let end = stops x frame s t (Some (Err f)) a.way (no_fault f) gives in
+      let n = faults x frame s t f a.way gives in
+      let is : fault_view_text (fault_after at f) ≡ ending_text at e =
+      ap (λ (g : PeelFault). fault_view_text (fault_after at g)) n.fault
+      ∙ fault_view_text-fault at (last_window e) n.refusal ∙ ap (ending_text at) (sym n.ending) in
+      answered at x frame s old mid new false (fault_view_text (fault_after at f)) a end.none_left is
       (ap is_accepted (sym n.ending)) line
 
   -- the line of what is left
@@ -226,25 +210,18 @@ module _ {W : Type 0} (contents : W → Option (List ℕ)) (can_fail : Type 0) w
       → TakesAnswer contents can_fail (AnswersWalkAfter at x frame) old new true
   unfolding ending_text
   walk_rest at x frame s t old mid new end k a gives to kind line =
-      let n =
-      none_next frame a.window a.left a.ending s t (gives.next a.going frame a.window a.left a.ending a.faces) in
-      let v = n.window in
-      let y = n.expected in
-      let faces =
-      subst (λ (e : Ending). Faces frame a.window s [] e) n.ending
-      (subst (λ (l : List Header). Faces frame a.window s l a.ending) n.none_left a.faces) in
-      let same : t ≡ s = n.state in
-      let ordered = faces.inside.ordered in
-      let len : length s.rest ≡ a.window.finish - a.window.start =
-      ap length faces.rest ∙ length-part frame a.window.start a.window.finish faces.inside.inside in
-      let place = faces.offset in
-      let from : at + s.offset ≡ at + a.window.start = ap (λ (n : ℕ). at + n) place in
-      let until : end ≡ at + a.window.finish =
-      to ∙ ap (λ (u : State). at + (s.offset + length u.rest)) same ∙ omega (arith, place, len, ordered) in
-      let shown : k ≡ kind_shown s.expected = kind ∙ ap (λ (u : State). kind_shown u.expected) same in
-      let is : rest_view_text (at + s.offset) end k ≡ ending_text at a.ending =
-      rest_view_text-rest at a.window s.expected (at + s.offset) end k from until shown
-      ∙ ap (λ (w : Window). rest_text at w s.expected) (sym faces.stack.0)
-      ∙ ap (rest_text at v) (sym faces.stack.1) ∙ ap (ending_text at) (sym n.ending) in
-      answered at x frame s old mid new true (rest_view_text (at + s.offset) end k) a n.none_left is
-      (ap is_accepted (sym n.ending)) line
+      let e = a.way.ending in
+      let v = last_window e in
+      let y = last_expected e in
+      let stop = stops x frame s t None a.way no_none gives in
+      let accepted = accepts x frame s t a.way gives in
+      let begin = a.way.faces.offset ∙ ap (λ (w : Window). w.start) stop.window in
+      let finish = stop_finish x frame s t a.way stop in
+      let place = stop.offset in
+      let from : at + s.offset ≡ at + v.start = ap (λ (n : ℕ). at + n) begin in
+      let until : end ≡ at + v.finish = omega (arith, to, begin, finish, place) in
+      let shown : k ≡ kind_shown y = kind ∙ ap kind_shown stop.expects in
+      let is : rest_view_text (at + s.offset) end k ≡ ending_text at e =
+      rest_view_text-rest at v y (at + s.offset) end k from until shown ∙ ap (ending_text at) (sym accepted) in
+      answered at x frame s old mid new true (rest_view_text (at + s.offset) end k) a stop.none_left is
+      (ap is_accepted (sym accepted)) line

@@ -5,8 +5,7 @@ use Rattle.std.specs.Fmt.{digit_glyph}
 use Rattle.hex.specs.Hex.{lower_digits, encode_with, encode_lower}
 use Rattle.etherparse.specs.Bytes.{IsBytes}
 use Rattle.ether_base.specs.Texts.NumberText.{hex_byte}
-use Rattle.ether_text.specs.HexText.{hex_text}
-use Rattle.ether_text.specs.declared.write_hex.TheConstants.{PAIRS}
+use Rattle.ether_output.specs.HexText.{hex_text}
 
 -- the test of one digit, which computes
 abbrev is_same : ℕ → Bool
@@ -40,28 +39,6 @@ encoded (b ∷ bytes) h =
     let low = same_digit (b % 16) (omega arith) in
     let more = encoded bytes (λ i. h (suc i)) in
     λ i. high i ∷ low i ∷ more i
-
--- ---- the table of pairs
-
--- the digits of so many bytes, from one on
-abbrev pairs_from : (byte n : ℕ) → List (List ℕ)
-pairs_from byte zero = []
-pairs_from byte (suc n) = hex_byte false byte ∷ pairs_from (suc byte) n
-
-pair_in : (byte n k : ℕ) → k < n → slice_index_or (pairs_from byte n) k [] ≡ hex_byte false (byte + k)
-pair_in byte zero k lt = absurd (omega arith)
-pair_in byte (suc n) zero lt = let e : byte ≡ byte + 0 = omega arith in ap (hex_byte false) e
-pair_in byte (suc n) (suc k) lt =
-    let e : suc byte + k ≡ byte + suc k = omega arith in
-    pair_in (suc byte) n k (omega arith) ∙ ap (hex_byte false) e
-
-is_table : PAIRS ≡ pairs_from 0 256
-is_table = refl
-
-pub pair_at : (k : ℕ) → k < 256 → slice_index_or PAIRS k [] ≡ hex_byte false k
-pair_at k lt =
-    let e : 0 + k ≡ k = omega arith in
-    ap (λ (l : List (List ℕ)). slice_index_or l k []) is_table ∙ pair_in 0 256 k lt ∙ ap (hex_byte false) e
 
 -- the digits of six bytes
 pub of_six : (l : List ℕ) → length l ≡ 6

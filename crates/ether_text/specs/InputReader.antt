@@ -2,7 +2,7 @@
 use Rattle.std.specs.Prelude.{◌≡◌, ◌≢◌, ◌≤◌, ◌+◌, ℕ, List, [], length, Option, true}
 use Rattle.std.specs.Io.KnownBytes.{Consumes}
 use Rattle.ether_text.specs.declared.input_reader.InputReader.{InputReader}
-use Rattle.ether_text.specs.declared.output_buffer.OutputBuffer.{OutputBuffer}
+use Rattle.ether_output.specs.declared.output_buffer.OutputBuffer.{OutputBuffer}
 
 -- why a read returns a fault: there was one before, no read was left or text waits, and the reader is not called; or it
 -- is called once and fails

@@ -1,9 +1,6 @@
-pub mod Decimals
-pub mod HexText
 pub mod Lines
 pub mod ViewLines
 pub mod WalkText
-pub mod OutputBuffer
 pub mod InputReader
 pub mod Verdict
 pub mod Arguments

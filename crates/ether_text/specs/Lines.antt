@@ -1,8 +1,6 @@
 -- The lines that a walk is printed as, each ended by a line feed.
 use Rattle.std.specs.Prelude.{ℕ, ◌+◌, ◌-◌, List, [], ◌∷◌, ◌++◌, length, slice_range, codes, Option, Some, None, Bool, true, false}
 use Rattle.std.specs.Fmt.{decimal}
-use Rattle.etherparse.specs.Types.LenSource.{LenSource}
-use Rattle.etherparse.specs.Types.LenSource.TheVariants as sources
 use Rattle.etherparse.specs.Bytes.{spelled}
 use Rattle.etherparse.specs.Ethernet2.{Ethernet2Value}
 use Rattle.etherparse.specs.Vlan.{VlanValue}
@@ -16,7 +14,8 @@ use Rattle.etherparse.specs.Header.{Header}
 use Rattle.etherparse.specs.Header as headers
 use Rattle.etherparse.specs.Refusal.{Refusal, Length, UnsupportedPacketType, UnsupportedHardwareType, UnexpectedVersion, InvalidShortLen}
 use Rattle.etherparse.specs.NumberText.{hex_number}
-use Rattle.ether_text.specs.HexText.{hex_text}
+use Rattle.ether_output.specs.HexText.{hex_text}
+use Rattle.ether_output.specs.Words.{source_text}
 use Rattle.ether_peel.specs.Grammar.Window.{Window, payload}
 use Rattle.ether_peel.specs.Grammar.Expectation.{Next, Expectation, Start, EtherType, Sll, Sealed, AfterArp}
 use Rattle.ether_peel.specs.Grammar.Stack.{Ending, Accepted, Fault}
@@ -42,15 +41,6 @@ payload_type_text (payloads.Unmodified ether_type) = codes "unmodified " ++ hex_
 payload_type_text payloads.Modified = codes "modified"
 payload_type_text payloads.EncryptedUnmodified = codes "encrypted_unmodified"
 payload_type_text payloads.Encrypted = codes "encrypted"
-
-abbrev pub source_text : LenSource → List ℕ
-source_text sources.Slice = codes "slice"
-source_text sources.MacsecShortLength = codes "macsec_short_length"
-source_text sources.Ipv4HeaderTotalLen = codes "ipv4_total_len"
-source_text sources.Ipv6HeaderPayloadLen = codes "ipv6_payload_len"
-source_text sources.UdpHeaderLen = codes "udp_len"
-source_text sources.TcpHeaderLen = codes "tcp_len"
-source_text sources.ArpAddrLengths = codes "arp_addr_lengths"
 
 -- ---- a unit
 
@@ -160,7 +150,3 @@ fault_line (Fault w x r) = fault_text 0 w r ++ codes "\n"
 unfoldable pub frame_text : (at : ℕ) → List ℕ → Window → List Header → Ending → List ℕ
 frame_text at list w [] e = ending_text at e ++ codes "\n"
 frame_text at list w (h ∷ hs) e = (unit_text at list w h ++ codes "\n") ++ frame_text at list (payload w h) hs e
-
-abbrev pub is_accepted : Ending → Bool
-is_accepted (Accepted w x) = true
-is_accepted (Fault w x r) = false

@@ -20,8 +20,9 @@ use Rattle.ether_peel.specs.declared.rest_kind.RestKind.TheVariants as rests
 use Rattle.ether_peel.specs.declared.peel_error.PeelError.{PeelError}
 use Rattle.ether_peel.specs.declared.peel_error.PeelError.TheVariants as errors
 use Rattle.ether_peel.specs.declared.peel_fault.PeelFault.{PeelFault}
-use Rattle.ether_text.specs.HexText.{hex_text}
-use Rattle.ether_text.specs.Lines.{spaced, mark_text, source_text, ethernet2_text, ethernet2_fcs_text, linux_sll_text, vlan_text, macsec_text, arp_text, protocol_text}
+use Rattle.ether_output.specs.HexText.{hex_text}
+use Rattle.ether_text.specs.Lines.{spaced, mark_text, ethernet2_text, ethernet2_fcs_text, linux_sll_text, vlan_text, macsec_text, arp_text, protocol_text}
+use Rattle.ether_output.specs.Words.{source_text}
 
 -- ---- a unit
 

@@ -4,7 +4,8 @@ use Rattle.etherparse.specs.Header.{Header}
 use Rattle.ether_peel.specs.Grammar.Expectation.{Expectation}
 use Rattle.ether_peel.specs.Grammar.Stack.{Ending, whole, Walk}
 use Rattle.ether_peel.specs.Grammar.Demands.{AreDemands, greatest}
-use Rattle.ether_text.specs.Lines.{frame_text, feed_text, fault_line, is_accepted}
+use Rattle.ether_text.specs.Lines.{frame_text, feed_text, fault_line}
+use Rattle.ether_output.specs.Words.{is_accepted}
 
 -- The text is the lines of the frame's walk, with offsets counted from `at` bytes before the frame, and the frame is
 -- accepted exactly if the walk ends without a fault.

@@ -1,11 +1,11 @@
 //! Writes the text for a frame that is fed to a walk.
-ghost use Rattle.ether_text.specs.OutputBuffer.{TakesAnswer};
+ghost use Rattle.ether_output.specs.OutputBuffer.{TakesAnswer};
 ghost use Rattle.ether_text.specs.WalkText.{AnswersFeed};
 ghost use Rattle.ether_peel.specs.Walker.Feeding.{IsFeed};
 ghost use Rattle.ether_peel.specs.Walker.Start.{start_with};
 
 use crate::write_lines::{write_counts, write_fault};
-use crate::{OutputBuffer, Sink};
+use ether_output::{OutputBuffer, Sink};
 use ether_peel::{Feed, Start, feed, feed_limited};
 
 /// Writes a line with the number of times that a walk asks for more of the frame and the number of bytes that it

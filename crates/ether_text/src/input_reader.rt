@@ -2,7 +2,8 @@
 ghost use Rattle.std.specs.Io.KnownBytes.{Consumes, IsAtEnd, Keeps};
 ghost use Rattle.ether_text.specs.InputReader.{HasCause};
 
-use crate::{InputFault, OutputBuffer, Sink, Source};
+use crate::{InputFault, Source};
+use ether_output::{OutputBuffer, Sink};
 
 /// A reader that is called at most `u64::MAX` times. After a fault it is not called again.
 ///

@@ -1,6 +1,6 @@
 //! The tool as functions: lines of hexadecimal digits, each a frame, are read and answered.
 //!
-//! [`program::program`] is the whole program `ether_tool`, over any arguments. [`run::run`] is a run over any reader
+//! [`program::run_program`] is the whole program `ether_tool`, over any arguments. [`run::run`] is a run over any reader
 //! and writer, and [`run::run_slice`] is a run over lines in memory.
 
 pub mod about;

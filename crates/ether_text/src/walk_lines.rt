@@ -1,6 +1,6 @@
 //! Writes the lines of a frame's walk.
 ghost use Rattle.std.specs.Prelude.{◌≡◌, ◌+◌, ◌^◌, ◌<◌, List, false};
-ghost use Rattle.ether_text.specs.OutputBuffer.{TakesAnswer};
+ghost use Rattle.ether_output.specs.OutputBuffer.{TakesAnswer};
 ghost use Rattle.ether_text.specs.WalkText.{AnswersWalk, AnswersWalkAfter};
 ghost use Rattle.etherparse.specs.Header.{Header};
 ghost use Rattle.ether_peel.specs.Grammar.Stack.{Ending, Walk, whole};
@@ -8,7 +8,7 @@ ghost use Rattle.ether_peel.specs.Walker.Next.{Faces};
 ghost use Rattle.ether_peel.specs.Walker.Start.{start_with};
 
 use crate::write_lines::{write_fault, write_rest, write_unit};
-use crate::{OutputBuffer, Sink};
+use ether_output::{OutputBuffer, Sink};
 use ether_peel::{Peel, PeelFault, Start};
 
 /// Writes the lines of a frame's walk, and returns whether the frame is accepted.

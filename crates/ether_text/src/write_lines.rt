@@ -7,17 +7,17 @@ ghost use Rattle.etherparse.specs.Vlan.{vlan_of};
 ghost use Rattle.etherparse.specs.LinuxSll.{linux_sll_of};
 ghost use Rattle.etherparse.specs.Macsec.{payload_type_view, sec_tag_of, tag_bytes};
 ghost use Rattle.etherparse.specs.Arp.{arp_of};
-ghost use Rattle.ether_text.specs.Lines.{arp_text, feed_text, linux_sll_text, macsec_text, mark_text, payload_type_text, protocol_text, sci_text, source_text, vlan_text};
-ghost use Rattle.ether_text.specs.OutputBuffer.{Takes};
+ghost use Rattle.ether_text.specs.Lines.{arp_text, feed_text, linux_sll_text, macsec_text, mark_text, payload_type_text, protocol_text, sci_text, vlan_text};
+ghost use Rattle.ether_output.specs.Words.{source_text};
+ghost use Rattle.ether_output.specs.OutputBuffer.{Takes};
 ghost use Rattle.ether_text.specs.ViewLines.{error_view_text, ethernet2_view_text, fault_view_text, fcs_text, fields_text, kind_view_text, len_view_text, linux_sll_view_text, macsec_view_text, rest_view_text, view_text};
 
-use crate::decimals::write_decimal;
-use crate::write_hex::{hex_address, hex_fcs, hex_long, hex_type};
-use crate::{OutputBuffer, Sink};
+use crate::write_hex::{hex_address, hex_fcs, hex_long};
+use ether_output::{OutputBuffer, Sink, hex_type, source_of, write_decimal, write_number};
 use ether_peel::{PeelError, PeelFault, PeelUnit, RestKind};
 use etherparse::err::{self, LenError};
 use etherparse::{
-    ArpPacketSlice, EtherType, Ethernet2Slice, LenSource, LinuxSllProtocolType, LinuxSllSlice,
+    ArpPacketSlice, EtherType, Ethernet2Slice, LinuxSllProtocolType, LinuxSllSlice,
     MacsecHeaderSlice, MacsecPType, SingleVlanSlice,
 };
 
@@ -324,32 +324,9 @@ fn write_macsec_error<W: Sink>(out: &mut OutputBuffer<'_, W>, error: &err::macse
     }
 }
 
-/// Writes a word with the spaces around it, and a number in decimal digits.
-pub fn write_number<W: Sink>(out: &mut OutputBuffer<'_, W>, word: &[u8], number: usize)
-    ensures { Takes W.contents W.can_fail out.old (word.now ++ decimal number) out.new }
-{
-    out.append(word);
-    write_decimal(out, number);
-}
-
 /// The word for a window's mark: `open` or `closed`.
 fn mark_of(closed: bool) -> &'static str
     ensures { result.now ≡ mark_text closed }
 {
     if closed { "closed" } else { "open" }
-}
-
-/// The word for the source of a length.
-pub fn source_of(source: LenSource) -> &'static str
-    ensures { result.now ≡ source_text source }
-{
-    match source {
-        LenSource::Slice => "slice",
-        LenSource::MacsecShortLength => "macsec_short_length",
-        LenSource::Ipv4HeaderTotalLen => "ipv4_total_len",
-        LenSource::Ipv6HeaderPayloadLen => "ipv6_payload_len",
-        LenSource::UdpHeaderLen => "udp_len",
-        LenSource::TcpHeaderLen => "tcp_len",
-        LenSource::ArpAddrLengths => "arp_addr_lengths",
-    }
 }

@@ -1,13 +1,14 @@
 //! Reads frames, each a line of hexadecimal digits, and prints the lines of the walk of each frame.
 //!
-//! `main` calls [`program::program`] on the arguments and the standard streams, and prints to standard output; the words
-//! `--help` and `--version` are answered by [`about`](about::about). If a
+//! `main` calls [`program::run_program`] on the arguments and the standard streams, and prints to standard output; the
+//! words `--help` and `--version` are answered by [`about`](about::about). If a
 //! stream failed or the arguments can't be read, the status is 4, and `main` also prints one line to standard error,
 //! unless nobody reads the output any more.
 #![tactic(auto)]
 
+use ether_output::{OutputBuffer, Sink};
 pub use ether_text::tool::{about, command, laws, mode, outcome, parse_frame, program, run};
-use ether_text::{Noted, OutputBuffer, Sink, tell_failure};
+use ether_text::{Noted, tell_failure};
 use std::process::ExitCode;
 use std::{env, io};
 
@@ -19,7 +20,7 @@ fn main(rt: HostRuntime) -> ExitCode {
     let mut output = Noted::new(io::writer(&rt));
     let status = match about_of(env::args(&rt)) {
         Some(text) => tell(text, &mut output),
-        None => program::program(args, &mut input, &mut output),
+        None => program::run_program(args, &mut input, &mut output),
     };
     if status == 4 {
         tell_failure(

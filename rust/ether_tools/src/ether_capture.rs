@@ -14,6 +14,7 @@ pub mod heap_text;
 pub mod interface_buffer;
 pub mod journal;
 pub mod memory;
+pub mod option_table;
 pub mod options;
 pub mod program;
 pub mod progress_line;

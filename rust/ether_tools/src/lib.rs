@@ -1,7 +1,6 @@
 //! What the programs are made of: by a script [`ether_text`], [`ether_stream`] and most of [`ether_capture`]; by hand
 //! [`streams`], and what the head of a file says.
 pub mod ether_capture;
-pub mod ether_format;
 pub mod ether_stream;
 pub mod ether_text;
 pub mod streams;

@@ -32,18 +32,24 @@
 //! # }
 //! ```
 
+#[cfg(feature = "std")]
+extern crate std;
+
 #[doc(hidden)]
 pub mod ether_base;
 mod ether_tags;
 mod ether_sll;
 mod ether_arp;
 pub mod ether_peel;
+pub mod ether_fields;
 pub mod ether_sll2;
 pub mod ether_packet;
 pub mod ether_filter;
 pub mod ether_pcap;
 pub mod ether_content;
 pub mod ether_switch;
+pub mod ether_output;
+pub mod ether_format;
 
 pub use crate::ether_arp::{ArpEthIpv4Packet, ArpPacket, ArpPacketSlice};
 pub use crate::ether_base::{

@@ -1,7 +1,7 @@
 //! A field of a header, as a struct of C.
 
-use crate::field_place::FieldPlace;
 use crate::field_value::field_value;
+use etherpeel::ether_fields::FieldPlace;
 
 /// A field of a header: `etherpeel_field` in C.
 ///
@@ -32,7 +32,7 @@ impl EtherField {
             bit_len: place.len,
             value: field_value(bytes, start + place.first / 8, place.first % 8, place.len),
             unit: (unit % 0x1_0000_0000) as u32,
-            name: place.name,
+            name: place.number,
         }
     }
 }

@@ -1,7 +1,7 @@
 //! Writes fields to an array.
 
 use crate::EtherField;
-use crate::field_place::FieldPlace;
+use etherpeel::ether_fields::FieldPlace;
 
 /// Writes the fields of a table, in what starts at a byte of the frame, to an array from an index on, and returns the
 /// index after them.

@@ -1,9 +1,10 @@
 //! Writes the fields of a frame's headers to an array.
 
+use crate::EtherField;
 use crate::field_putting::put_table;
 use crate::numbers::start_of;
 use crate::statuses::{DONE, UNKNOWN_START};
-use crate::{EtherField, field_place};
+use etherpeel::ether_fields::{Part, Section, places, section_of, sizes_of};
 use etherpeel::ether_peel::{Peel, PeelUnit, Start};
 
 /// Writes as many fields of a frame's headers as the array has room for, and the number of all its fields. An address
@@ -79,14 +80,17 @@ fn put_unit(
 ) -> usize {
     let next = put_header(bytes, unit, place, fields, at);
     match unit {
-        PeelUnit::Ethernet2(frame) if frame.fcs().is_some() => put_table(
-            bytes,
-            place.index,
-            place.payload_end,
-            &field_place::check_sequence(),
-            fields,
-            next,
-        ),
+        PeelUnit::Ethernet2(frame) if frame.fcs().is_some() => {
+            let table = places(Section::Eth, &Part::Trailer);
+            put_table(
+                bytes,
+                place.index,
+                place.payload_end,
+                table.as_slice(),
+                fields,
+                next,
+            )
+        }
         _ => next,
     }
 }
@@ -99,21 +103,13 @@ fn put_header(
     fields: &mut [EtherField],
     at: usize,
 ) -> usize {
-    let NumberedUnit { index, start, .. } = place;
-    match unit {
-        PeelUnit::Ethernet2(_) => {
-            put_table(bytes, index, start, &field_place::ethernet2(), fields, at)
-        }
-        PeelUnit::LinuxSll(_) => {
-            put_table(bytes, index, start, &field_place::linux_sll(), fields, at)
-        }
-        PeelUnit::Vlan(_) => put_table(bytes, index, start, &field_place::vlan(), fields, at),
-        PeelUnit::Macsec(packet) => {
-            let table = field_place::macsec(&packet.header);
-            put_table(bytes, index, start, table.as_slice(), fields, at)
-        }
-        PeelUnit::Arp(packet) => {
-            put_table(bytes, index, start, &field_place::arp(packet), fields, at)
-        }
-    }
+    let table = places(section_of(unit), &Part::Header(sizes_of(unit)));
+    put_table(
+        bytes,
+        place.index,
+        place.start,
+        table.as_slice(),
+        fields,
+        at,
+    )
 }

@@ -2,10 +2,9 @@
 //! callers in C. `c/etherpeel.h` declares and documents the calls, and `docs/C.md` says how to build a program with
 //! them.
 //!
-//! Each export calls the crates below, and its contract says what the contracts of those calls say. Only the fields of
-//! headers are defined here, by tables (`specs/FieldTables.antt`). Each struct that is passed has a file of its own,
-//! and `specs/` defines each of its fields. Enumerations are passed as numbers (`specs/Numbers.antt`), and a number
-//! that is not a start is refused. No call allocates memory or keeps a pointer.
+//! Each export calls the crates below, and its contract says what the contracts of those calls say. Each struct that is
+//! passed has a file of its own, and `specs/` defines each of its fields. Enumerations are passed as numbers
+//! (`specs/Numbers.antt`), and a number that is not a start is refused. No call allocates memory or keeps a pointer.
 
 #![no_std]
 
@@ -33,16 +32,18 @@ mod ether_replace_error;
 mod ether_unit;
 pub mod fault_text;
 pub mod feeding;
-mod field_place;
 mod field_putting;
+pub mod field_texts;
 mod field_value;
 pub mod fields;
 mod filter;
 pub mod filter_error_text;
 pub mod filtering;
+pub mod formatting;
 pub mod library;
 pub mod link_types;
 pub mod missing_bytes;
+mod no_writer;
 mod numbers;
 mod packet_facts;
 mod passed;

@@ -1,5 +1,6 @@
 //! The numbers that stand for enumerations in C.
 
+use etherpeel::ether_fields::Kind;
 use etherpeel::ether_peel::{RestKind, Start};
 use etherpeel::err::Layer;
 use etherpeel::{EtherType, LenSource, LinuxSllProtocolType};
@@ -64,5 +65,42 @@ pub(crate) fn len_source(source: LenSource) -> u32 {
         LenSource::MacsecShortLength => 2,
         LenSource::ArpAddrLengths => 3,
         _ => 0,
+    }
+}
+
+/// The number of what the value of a field is.
+pub(crate) fn field_kind(kind: Kind) -> u32 {
+    match kind {
+        Kind::Number => 1,
+        Kind::Flag => 2,
+        Kind::Truth => 3,
+        Kind::EtherType => 4,
+        Kind::HardwareType => 5,
+        Kind::PacketType => 6,
+        Kind::Operation => 7,
+        Kind::LinkType => 8,
+        Kind::Bytes => 9,
+        Kind::ProtocolAddress => 10,
+        Kind::Word => 11,
+        Kind::Time => 12,
+    }
+}
+
+/// What the value of a field is, by its number; `None` if there is none.
+pub(crate) fn field_kind_of(number: u32) -> Option<Kind> {
+    match number {
+        1 => Some(Kind::Number),
+        2 => Some(Kind::Flag),
+        3 => Some(Kind::Truth),
+        4 => Some(Kind::EtherType),
+        5 => Some(Kind::HardwareType),
+        6 => Some(Kind::PacketType),
+        7 => Some(Kind::Operation),
+        8 => Some(Kind::LinkType),
+        9 => Some(Kind::Bytes),
+        10 => Some(Kind::ProtocolAddress),
+        11 => Some(Kind::Word),
+        12 => Some(Kind::Time),
+        _ => None,
     }
 }

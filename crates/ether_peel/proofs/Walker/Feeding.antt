@@ -6,7 +6,7 @@ use Rattle.etherparse.specs.Bytes.{IsBytes}
 use Rattle.etherparse.specs.Header.{Header}
 use Rattle.etherparse.specs.Refusal.{Refusal, Length, UnsupportedPacketType, UnsupportedHardwareType, UnexpectedVersion, InvalidShortLen}
 use Rattle.etherparse.proofs.SubLists.{IsBytes-take}
-use Rattle.ether_peel.specs.Grammar.Window.{Window, payload}
+use Rattle.ether_peel.specs.Grammar.Window.{Window}
 use Rattle.ether_peel.specs.Grammar.Expectation.{Expectation, has_fcs}
 use Rattle.ether_peel.specs.Grammar.Stack.{Ending, Accepted, Fault, last_window, last_expected, Stack, whole, Walk}
 use Rattle.ether_peel.specs.Grammar.Endings.{OpenRefusal, named_len}
@@ -25,7 +25,7 @@ use Rattle.ether_peel.proofs.Grammar.Extensions.{no_fcs, walk_open_to_end}
 use Rattle.ether_peel.proofs.Grammar.Cuts.{common}
 use Rattle.ether_peel.proofs.Grammar.Demands.{fcs_asks_nothing, named_above, front_and_more, none_between, is_demand, AsksNoMore, no_more, IsAsked, takes_units}
 use Rattle.ether_peel.proofs.Grammar.Caps.{given_last, given_capped, given_once_more}
-use Rattle.ether_peel.proofs.Walker.Summarizing.{unit_next, fault_next, none_next}
+use Rattle.ether_peel.proofs.Walker.UnderWay.{UnderWay, under_way_first, passes, passed_headers, under_way_next, fault_next, accepts}
 
 -- ---- faults
 
@@ -166,27 +166,18 @@ fed_all start list n count hs e fault ok fed ask is =
 
 -- ---- the place of the walk
 
--- after so many demands, in the front that was taken: before the rest of its stack
+-- after so many demands, in the front that was taken
 pub record Feeds (start : Expectation) (list : List ℕ) (s : State) (taken count : ℕ) : Type 0 where
-  pub headers : List Header
-  pub ending : Ending
-  pub fed : Fed start list taken count headers ending
-  pub window : Window
-  pub left : List Header
-  pub faces : Faces (take taken list) window s left ending
-  pub going : s.over ≡ false
+  pub way : UnderWay start (take taken list) s
+  pub fed : Fed start list taken count (way.done ++ way.left) way.ending
 
 pub feeds_nothing : (start : Expectation) (list : List ℕ) (s : State) (hs : List Header) (e : Ending)
     → Walk start (take 0 list) hs e → Faces (take 0 list) (whole start (take 0 list)) s hs e → s.over ≡ false
     → Feeds start list s 0 0
+unfolding under_way_first
 feeds_nothing start list s hs e walk faces going = record {
-  headers = hs;
-  ending = e;
+  way = under_way_first start (take 0 list) s hs e walk faces going;
   fed = fed_nothing start list hs e walk;
-  window = whole start (take 0 list);
-  left = hs;
-  faces = faces;
-  going = going;
 }
 
 -- a unit was given, which ends later
@@ -198,28 +189,25 @@ pub record FeedsUnit (start : Expectation) (list : List ℕ) (s t : State) (take
 pub offset_inside : (start : Expectation) (list : List ℕ) (s : State) (taken count : ℕ) → Feeds start list s taken count
     → s.offset ≤ taken
 offset_inside start list s taken count a =
-    let at = a.faces.offset in
-    let ordered = a.faces.inside.ordered in
-    let inside = a.faces.inside.inside in
+    let at = a.way.faces.offset in
+    let ordered = a.way.faces.inside.ordered in
+    let inside = a.way.faces.inside.inside in
     let le = a.fed.inside in
     omega (arith, length-take taken list)
 
 pub feeds_unit : (start : Expectation) (list : List ℕ) (s t : State) (taken count : ℕ) (u : PeelUnit)
     → Feeds start list s taken count → Gives s (Some (Ok u)) t → FeedsUnit start list s t taken count
+unfolding under_way_next
 feeds_unit start list s t taken count u a gives =
-    let n =
-    unit_next (take taken list) a.window a.left a.ending s t u
-    (gives.next a.going (take taken list) a.window a.left a.ending a.faces) in
+    let front = take taken list in
+    let n = passes start front s t u a.way gives in
     let feeds : Feeds start list t taken count = record {
-      headers = a.headers;
-      ending = a.ending;
-      fed = a.fed;
-      window = payload a.window n.header;
-      left = n.later;
-      faces = n.faces;
-      going = n.going;
+      way = under_way_next start front s t u a.way n;
+      fed =
+          subst (λ (hs : List Header). Fed start list taken count hs a.way.ending)
+          (passed_headers start front s t u a.way n) a.fed;
     } in
-    let old = a.faces.offset in
+    let old = a.way.faces.offset in
     let new = n.faces.offset in
     let least = header_least n.header in
     let inside = offset_inside start list t taken count feeds in
@@ -246,20 +234,21 @@ pub feeds_fault : (start : Expectation) (list : List ℕ) (s t : State) (taken c
     → Feeds start list s taken count → Gives s (Some (Err f)) t → FeedsFault start list s t taken count f
 feeds_fault start list s t taken count f a gives =
     let front = take taken list in
-    let n =
-    fault_next front a.window a.left a.ending s t f (gives.next a.going front a.window a.left a.ending a.faces) in
+    let w = a.way in
+    let given = gives.next w.going front w.window w.left w.ending w.faces in
+    let n = fault_next front w.window w.left w.ending s t f given in
     let faces =
-    subst (λ (e : Ending). Faces front a.window s [] e) n.ending
-    (subst (λ (l : List Header). Faces front a.window s l a.ending) n.none_left a.faces) in
-    let same : n.window ≡ a.window = faces.stack.0 in
+    subst (λ (e : Ending). Faces front w.window s [] e) n.ending
+    (subst (λ (l : List Header). Faces front w.window s l w.ending) n.none_left w.faces) in
+    let same : n.window ≡ w.window = faces.stack.0 in
     let at = offset_inside start list s taken count a in
     let offset : s.offset ≡ n.window.start = faces.offset ∙ ap (λ (v : Window). v.start) (sym same) in
     record {
-      headers = a.headers;
+      headers = w.done ++ w.left;
       window = n.window;
       expected = n.expected;
       refusal = n.refusal;
-      fed = subst (Fed start list taken count a.headers) n.ending a.fed;
+      fed = subst (Fed start list taken count (w.done ++ w.left)) n.ending a.fed;
       fault = n.fault ∙ ap (λ (v : Window). fault_in v n.refusal) (sym same);
       offset = ap (λ (u : State). u.offset) n.state ∙ offset;
       closed = ap (λ (u : State). u.closed) n.state ∙ faces.closed ∙ ap (λ (v : Window). v.closed) (sym same);
@@ -323,14 +312,19 @@ feeds_named start list s t taken count f ok a o le =
       bound = a.bound ∙ sym c.carries.bound;
       stack = subst (λ (x : Expectation). Stack (old ++ more) x c.last c.rest some.1) (sym a.expects) c.follows;
     } in
+    let fed = fed_more start list taken count a.headers some.0 e some.1 o ok a.fed le some.2 in
     record {
-      headers = some.0;
-      ending = some.1;
-      fed = fed_more start list taken count a.headers some.0 e some.1 o ok a.fed le some.2;
-      window = c.last;
-      left = c.rest;
-      faces = subst (λ (l : List ℕ). Faces l c.last (gone_on t front) c.rest some.1) (sym parts) faces;
-      going = refl;
+      way =
+          record {
+            done = a.headers;
+            left = c.rest;
+            ending = some.1;
+            window = c.last;
+            walk = subst (λ (hs : List Header). Walk start front hs some.1) c.headers some.2;
+            faces = subst (λ (l : List ℕ). Faces l c.last (gone_on t front) c.rest some.1) (sym parts) faces;
+            going = refl;
+          };
+      fed = subst (λ (hs : List Header). Fed start list m (count + 1) hs some.1) c.headers fed;
     }
 
 -- in one that is longer than what was taken
@@ -372,8 +366,8 @@ pub feed_of_none : (start : Expectation) (list : List ℕ) (s t : State) (taken 
     → Feeds start list s taken count → Gives s None t
     → IsFeed start list (record { refusals = count; taken = taken; fault = None })
 feed_of_none start list s t taken count ok a gives =
-    let n =
-    none_next (take taken list) a.window a.left a.ending s t
-    (gives.next a.going (take taken list) a.window a.left a.ending a.faces) in
-    fed_all start list taken count a.headers (Accepted n.window n.expected) None ok
-    (subst (Fed start list taken count a.headers) n.ending a.fed) (λ o le. let e = o.refused in absurd cc) refl
+    let w = a.way in
+    let hs = w.done ++ w.left in
+    let e = accepts start (take taken list) s t w gives in
+    fed_all start list taken count hs (Accepted (last_window w.ending) (last_expected w.ending)) None ok
+    (subst (Fed start list taken count hs) e a.fed) (λ o le. let e = o.refused in absurd cc) refl

@@ -1,134 +1,50 @@
 -- A walk that was gone a part of the way, and its end.
-use Rattle.std.proofs.Common.{◌≡◌, ℕ, ◌+◌, ◌-◌, ◌*◌, ◌<◌, List, [], ◌∷◌, length, true, false, refl, sym, ap, subst, ◌∙◌, arith}
+use Rattle.std.proofs.Common.{◌≡◌, ℕ, ◌+◌, ◌*◌, ◌<◌, List, [], ◌∷◌, length, false, refl, sym, ap, subst, ◌∙◌, arith}
 use Rattle.std.specs.Prelude.{Option, Some, None, Ok, Err}
+use Rattle.std.proofs.lemmas.List.{length-append}
 use Rattle.etherparse.specs.Bytes.{IsBytes}
 use Rattle.etherparse.specs.Header.{Header}
-use Rattle.etherparse.specs.Refusal.{Refusal}
-use Rattle.etherparse.proofs.SubLists.{length-part, part_all}
-use Rattle.ether_peel.specs.Grammar.Window.{Window, within, payload}
+use Rattle.etherparse.proofs.SubLists.{part_all}
+use Rattle.ether_peel.specs.Grammar.Window.{within}
 use Rattle.ether_peel.specs.Grammar.Expectation.{Next, Expectation}
-use Rattle.ether_peel.specs.Grammar.Stack.{Ending, Accepted, Fault, whole, Walk}
+use Rattle.ether_peel.specs.Grammar.Stack.{Ending, whole, Walk}
 use Rattle.ether_peel.specs.Walker.State.{State}
 use Rattle.ether_peel.specs.Walker.Start.{next_shown, kind_shown}
-use Rattle.ether_peel.specs.Walker.Fault.{fault_in}
-use Rattle.ether_peel.specs.Walker.Next.{Faces, ShowsUnit, GivesNext, Gives}
-use Rattle.ether_peel.specs.Walker.Summary.{IsSummary, summary_of}
+use Rattle.ether_peel.specs.Walker.Next.{Faces, Gives}
+use Rattle.ether_peel.specs.Walker.Summary.{IsSummary, summary_of, fault_of}
 use Rattle.ether_peel.specs.declared.peel_unit.PeelUnit.{PeelUnit}
 use Rattle.ether_peel.specs.declared.peel_fault.PeelFault.{PeelFault}
 use Rattle.ether_peel.specs.declared.walk_summary.Summary.{Summary}
 use Rattle.ether_peel.proofs.Grammar.Stacks.{some_stack, one_stack}
 use Rattle.ether_peel.proofs.Grammar.Announced.{limited}
 use Rattle.ether_peel.proofs.Walker.Limits.{SameEnd, leave_alone}
+use Rattle.ether_peel.proofs.Walker.UnderWay.{UnderWay, under_way_first, passes, under_way_next, Stops, stops, no_none, no_fault, stop_finish, faults, accepts}
+pub use Rattle.ether_peel.proofs.Walker.UnderWay.{UnitNext, unit_next, FaultNext, fault_next, NoneNext, none_next}
 use Rattle.ether_peel.proofs.Grammar.Extensions.{extensions_keep}
-
--- ---- what was next
-
--- a unit, after which the walker is t
-pub record UnitNext (list : List ℕ) (w : Window) (left : List Header) (e : Ending) (s t : State)
-    (u : PeelUnit) : Type 0 where
-  pub header : Header
-  pub later : List Header
-  pub parts : left ≡ header ∷ later
-  pub shows : ShowsUnit s.rest t.rest header u
-  pub going : t.over ≡ false
-  pub faces : Faces list (payload w header) t later e
-
-pub unit_next : (list : List ℕ) (w : Window) (left : List Header) (e : Ending) (s t : State) (u : PeelUnit)
-    → GivesNext list w left e s (Some (Ok u)) t → UnitNext list w left e s t u
-unit_next list w [] (Accepted v y) s t u g = let none = g.0 in absurd cc
-unit_next list w [] (Fault v y q) s t u g = let fault = g.0 in absurd cc
-unit_next list w (h ∷ hs) e s t u g =
-    let given = g.1 in
-    let is : g.0 ≡ u = cc in
-    record {
-      header = h;
-      later = hs;
-      parts = refl;
-      shows = subst (ShowsUnit s.rest t.rest h) is g.2;
-      going = g.3;
-      faces = g.5;
-    }
-
--- the fault
-pub record FaultNext (left : List Header) (w : Window) (e : Ending) (s t : State) (f : PeelFault) : Type 0 where
-  pub window : Window
-  pub expected : Expectation
-  pub refusal : Refusal
-  pub none_left : left ≡ []
-  pub ending : e ≡ Fault window expected refusal
-  pub fault : f ≡ fault_in w refusal
-  pub state : t ≡ record s { over = true }
-
-pub fault_next : (list : List ℕ) (w : Window) (left : List Header) (e : Ending) (s t : State) (f : PeelFault)
-    → GivesNext list w left e s (Some (Err f)) t → FaultNext left w e s t f
-fault_next list w [] (Accepted v y) s t f g = let none = g.0 in absurd cc
-fault_next list w [] (Fault v y q) s t f g =
-    let given = g.0 in
-    let is : f ≡ fault_in w q = cc in
-    record { window = v; expected = y; refusal = q; none_left = refl; ending = refl; fault = is; state = g.1 }
-fault_next list w (h ∷ hs) e s t f g = let given = g.1 in absurd cc
-
--- nothing
-pub record NoneNext (left : List Header) (e : Ending) (s t : State) : Type 0 where
-  pub window : Window
-  pub expected : Expectation
-  pub none_left : left ≡ []
-  pub ending : e ≡ Accepted window expected
-  pub state : t ≡ s
-
-pub none_next : (list : List ℕ) (w : Window) (left : List Header) (e : Ending) (s t : State)
-    → GivesNext list w left e s None t → NoneNext left e s t
-none_next list w [] (Accepted v y) s t g = record {
-  window = v;
-  expected = y;
-  none_left = refl;
-  ending = refl;
-  state = g.1;
-}
-none_next list w [] (Fault v y q) s t g = let given = g.0 in absurd cc
-none_next list w (h ∷ hs) e s t g = let given = g.1 in absurd cc
 
 -- ---- a part of the way
 
 -- the walk of a list that has given so many units
 pub record Walked (start : Expectation) (list : List ℕ) (s : State) (units : ℕ) : Type 0 where
-  pub headers : List Header
-  pub ending : Ending
-  pub walk : Walk start list headers ending
-  pub window : Window
-  pub left : List Header
-  pub faces : Faces list window s left ending
-  pub going : s.over ≡ false
-  pub counted : length headers ≡ units + length left
+  pub under_way : UnderWay start list s
+  pub counted : units ≡ length under_way.done
 
 pub walked_start : (start : Expectation) (list : List ℕ) (s : State) (hs : List Header) (e : Ending)
     → Walk start list hs e → Faces list (whole start list) s hs e → s.over ≡ false → Walked start list s 0
-walked_start start list s hs e walk faces going = record {
-  headers = hs;
-  ending = e;
-  walk = walk;
-  window = whole start list;
-  left = hs;
-  faces = faces;
-  going = going;
-  counted = omega arith;
-}
+unfolding under_way_first
+walked_start start list s hs e walk faces going =
+    record { under_way = under_way_first start list s hs e walk faces going; counted = refl }
 
 pub walked_unit : (start : Expectation) (list : List ℕ) (s t : State) (units : ℕ) (u : PeelUnit)
     → Walked start list s units → Gives s (Some (Ok u)) t → Walked start list t (units + 1)
+unfolding under_way_next
 walked_unit start list s t units u a gives =
-    let n = unit_next list a.window a.left a.ending s t u (gives.next a.going list a.window a.left a.ending a.faces) in
-    let len : length a.left ≡ length (n.header ∷ n.later) = ap length n.parts in
+    let way = a.under_way in
+    let p = passes start list s t u way gives in
     let counted = a.counted in
     record {
-      headers = a.headers;
-      ending = a.ending;
-      walk = a.walk;
-      window = payload a.window n.header;
-      left = n.later;
-      faces = n.faces;
-      going = n.going;
-      counted = omega arith;
+      under_way = under_way_next start list s t u way p;
+      counted = omega (arith, length-append way.done (p.header ∷ []));
     }
 
 -- ---- the end
@@ -154,58 +70,39 @@ summary_is start list hs e found walk is = record {
   extensions = λ open_end. extensions_keep start list hs e open_end walk;
 }
 
-walked_is : (start : Expectation) (list : List ℕ) (s : State) (units : ℕ) (a : Walked start list s units)
-    (found : Summary)
-    → found ≡ summary_of a.headers a.ending → IsSummary start list found
-walked_is start list s units a found is = summary_is start list a.headers a.ending found a.walk is
-
-same_end : (list : List ℕ) (w : Window) (s : State) (hs : List Header) (e : Ending) → Faces list w s hs e
-    → s.offset + length s.rest ≡ w.finish
-same_end list w s hs e faces =
-    let ordered = faces.inside.ordered in
-    let at = faces.offset in
-    let len : length s.rest ≡ w.finish - w.start =
-    ap length faces.rest ∙ length-part list w.start w.finish faces.inside.inside in
-    omega arith
-
-no_more : (n units : ℕ) (left : List Header) → n ≡ units + length left → left ≡ [] → units ≡ n
-no_more n units left counted none = let len : length left ≡ 0 = ap length none in omega arith
+-- .. of a walk that returns no more units
+walked_end : (start : Expectation) (list : List ℕ) (s t : State) (units : ℕ) (fault : Option PeelFault)
+    (a : Walked start list s units) → Stops start list s t a.under_way → fault ≡ fault_of a.under_way.ending
+    → IsSummary start list (shown_summary units t fault)
+walked_end start list s t units fault a end is =
+    let way = a.under_way in
+    let counted = a.counted in
+    let at = end.offset in
+    let to = stop_finish start list s t way end in
+    let expects = end.expects in
+    let shown : shown_summary units t fault ≡ summary_of way.done way.ending =
+    λ i.
+    record {
+      units = counted i;
+      rest_start = at i;
+      rest_end = to i;
+      kind = kind_shown (expects i);
+      fault = is i;
+    } in
+    summary_is start list way.done way.ending _ end.walk shown
 
 pub walked_fault : (start : Expectation) (list : List ℕ) (s t : State) (units : ℕ) (f : PeelFault)
     → Walked start list s units → Gives s (Some (Err f)) t → IsSummary start list (shown_summary units t (Some f))
 walked_fault start list s t units f a gives =
-    let n = fault_next list a.window a.left a.ending s t f (gives.next a.going list a.window a.left a.ending a.faces) in
-    let faces =
-    subst (λ (e : Ending). Faces list a.window s [] e) n.ending
-    (subst (λ (l : List Header). Faces list a.window s l a.ending) n.none_left a.faces) in
-    let units_are = no_more (length a.headers) units a.left a.counted n.none_left in
-    let end = same_end list a.window s a.left a.ending a.faces in
-    let at : s.offset ≡ n.window.start = faces.offset ∙ ap (λ (v : Window). v.start) (sym faces.stack.0) in
-    let to : s.offset + length s.rest ≡ n.window.finish = end ∙ ap (λ (v : Window). v.finish) (sym faces.stack.0) in
-    let kind = ap kind_shown (sym faces.stack.1) in
-    let fault : f ≡ fault_in n.window n.refusal =
-    n.fault ∙ ap (λ (v : Window). fault_in v n.refusal) (sym faces.stack.0) in
-    let shown : shown_summary units s (Some f) ≡ summary_of a.headers (Fault n.window n.expected n.refusal) =
-    λ i. record { units = units_are i; rest_start = at i; rest_end = to i; kind = kind i; fault = Some (fault i) } in
-    walked_is start list s units a _
-    (ap (λ (u : State). shown_summary units u (Some f)) n.state ∙ shown ∙ ap (summary_of a.headers) (sym n.ending))
+    let n = faults start list s t f a.under_way gives in
+    walked_end start list s t units (Some f) a (stops start list s t (Some (Err f)) a.under_way (no_fault f) gives)
+    (ap Some n.fault ∙ ap fault_of (sym n.ending))
 
 pub walked_none : (start : Expectation) (list : List ℕ) (s t : State) (units : ℕ) → Walked start list s units
     → Gives s None t → IsSummary start list (shown_summary units t None)
 walked_none start list s t units a gives =
-    let n = none_next list a.window a.left a.ending s t (gives.next a.going list a.window a.left a.ending a.faces) in
-    let faces =
-    subst (λ (e : Ending). Faces list a.window s [] e) n.ending
-    (subst (λ (l : List Header). Faces list a.window s l a.ending) n.none_left a.faces) in
-    let units_are = no_more (length a.headers) units a.left a.counted n.none_left in
-    let end = same_end list a.window s a.left a.ending a.faces in
-    let at : s.offset ≡ n.window.start = faces.offset ∙ ap (λ (v : Window). v.start) (sym faces.stack.0) in
-    let to : s.offset + length s.rest ≡ n.window.finish = end ∙ ap (λ (v : Window). v.finish) (sym faces.stack.0) in
-    let kind = ap kind_shown (sym faces.stack.1) in
-    let shown : shown_summary units s None ≡ summary_of a.headers (Accepted n.window n.expected) =
-    λ i. record { units = units_are i; rest_start = at i; rest_end = to i; kind = kind i; fault = None } in
-    walked_is start list s units a _
-    (ap (λ (u : State). shown_summary units u None) n.state ∙ shown ∙ ap (summary_of a.headers) (sym n.ending))
+    walked_end start list s t units None a (stops start list s t None a.under_way no_none gives)
+    (ap fault_of (sym (accepts start list s t a.under_way gives)))
 
 -- ---- a limit on extensions that is never reached
 

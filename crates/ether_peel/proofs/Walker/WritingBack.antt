@@ -1,8 +1,8 @@
 -- Headers and a last window that are written one after the other.
 use Rattle.std.proofs.Common.{◌≡◌, ℕ, ◌+◌, ◌≤◌, List, [], ◌∷◌, ◌++◌, length, take, drop, false, refl, sym, ap, subst, ◌∙◌, arith}
-use Rattle.std.specs.Prelude.{flat_map, Option, Some, None, Result, Ok, Err}
+use Rattle.std.specs.Prelude.{flat_map, Some, Ok}
 use Rattle.std.proofs.Math.Seq.{take-append_seam, drop-append-add}
-use Rattle.std.proofs.lemmas.List.{append_assoc, append-nil, length-append, drop-drop}
+use Rattle.std.proofs.lemmas.List.{append-nil, length-append, drop-drop}
 use Rattle.std.proofs.lemmas.Grind.{flat_map-append}
 use Rattle.etherparse.specs.Types.LenSource.{LenSource}
 use Rattle.etherparse.specs.Bytes.{IsBytes}
@@ -13,18 +13,17 @@ use Rattle.etherparse.specs.Macsec.{sec_tag_of, sec_tag_bytes}
 use Rattle.etherparse.specs.Header.{Header, kind_of, header_len, header_bytes, Means}
 use Rattle.etherparse.specs.Header as headers
 use Rattle.etherparse.specs.Refusal.{Accepts}
-use Rattle.etherparse.proofs.SubLists.{length-part, IsBytes-part}
-use Rattle.ether_peel.specs.Grammar.Window.{Window, within, IsIn, payload}
+use Rattle.etherparse.proofs.SubLists.{IsBytes-part}
+use Rattle.ether_peel.specs.Grammar.Window.{Window, within}
 use Rattle.ether_peel.specs.Grammar.Expectation.{Expectation}
-use Rattle.ether_peel.specs.Grammar.Stack.{Ending, Accepted, Fault, last_window, whole, Walk}
+use Rattle.ether_peel.specs.Grammar.Stack.{Ending, last_window, whole, Walk}
 use Rattle.ether_peel.specs.Walker.State.{State}
-use Rattle.ether_peel.specs.Walker.Next.{Faces, ShowsUnit, GivesNext, Gives}
+use Rattle.ether_peel.specs.Walker.Next.{Faces, ShowsUnit, Gives}
 use Rattle.ether_peel.specs.Grammar.Cleared.{cleared}
 use Rattle.ether_peel.specs.Walker.WriteBack.{unit_bytes, WritesBack}
 use Rattle.ether_peel.specs.declared.peel_unit.PeelUnit.{PeelUnit}
-use Rattle.ether_peel.specs.declared.peel_fault.PeelFault.{PeelFault}
 use Rattle.ether_peel.proofs.Walker.ViewValues.{ethernet2_shown, linux_sll_shown, vlan_shown, macsec_shown}
-use Rattle.ether_peel.proofs.Walker.Summarizing.{UnitNext, unit_next}
+use Rattle.ether_peel.proofs.Walker.UnderWay.{UnderWay, under_way_first, Passes, passes, under_way_next, Stops, stop_finish}
 use Rattle.ether_peel.proofs.Grammar.HeaderBytes.{length-means, written}
 use Rattle.ether_peel.proofs.Grammar.Places.{last_after, header_before}
 use Rattle.ether_peel.proofs.Grammar.Cleared.{headers_go_back}
@@ -48,109 +47,6 @@ unit_bytes-shown bound bytes rest (headers.Macsec t) u ok accepted m shows =
     ∙ ap sec_tag_bytes (macsec_shown bytes t ok m)
 unit_bytes-shown bound bytes rest (headers.Arp a) u ok accepted m shows =
     ap unit_bytes shows ∙ written bound bytes (headers.Arp a) ok accepted m
-
--- ---- a walk that has come so far
-
-pub record UnderWay (x : Expectation) (list : List ℕ) (s : State) : Type 0 where
-  pub done : List Header
-  pub left : List Header
-  pub ending : Ending
-  pub window : Window
-  pub walk : Walk x list (done ++ left) ending
-  pub faces : Faces list window s left ending
-  pub going : s.over ≡ false
-
-pub under_way_first : (x : Expectation) (list : List ℕ) (s : State) (hs : List Header) (e : Ending) → Walk x list hs e
-    → Faces list (whole x list) s hs e → s.over ≡ false → UnderWay x list s
-under_way_first x list s hs e walk faces going = record {
-  done = [];
-  left = hs;
-  ending = e;
-  window = whole x list;
-  walk = walk;
-  faces = faces;
-  going = going;
-}
-
--- a unit is given: the first of the headers that are left
-abbrev pub Passes : (x : Expectation) (list : List ℕ) (s t : State) (u : PeelUnit) → UnderWay x list s → Type 0
-Passes x list s t u a = UnitNext list a.window a.left a.ending s t u
-
-pub passes : (x : Expectation) (list : List ℕ) (s t : State) (u : PeelUnit) (a : UnderWay x list s)
-    → Gives s (Some (Ok u)) t → Passes x list s t u a
-passes x list s t u a gives =
-    unit_next list a.window a.left a.ending s t u (gives.next a.going list a.window a.left a.ending a.faces)
-
-pub under_way_next : (x : Expectation) (list : List ℕ) (s t : State) (u : PeelUnit) (a : UnderWay x list s)
-    → Passes x list s t u a → UnderWay x list t
-under_way_next x list s t u a p =
-    let same : a.done ++ a.left ≡ (a.done ++ p.header ∷ []) ++ p.later =
-    ap (λ (l : List Header). a.done ++ l) p.parts ∙ sym (append_assoc a.done (p.header ∷ []) p.later) in
-    record {
-      done = a.done ++ p.header ∷ [];
-      left = p.later;
-      ending = a.ending;
-      window = payload a.window p.header;
-      walk = subst (λ (l : List Header). Walk x list l a.ending) same a.walk;
-      faces = p.faces;
-      going = p.going;
-    }
-
--- no unit is given: none is left, and the walker shows the last window
-pub record Stops (x : Expectation) (list : List ℕ) (s t : State) (a : UnderWay x list s) : Type 0 where
-  pub walk : Walk x list a.done a.ending
-  pub window : a.window ≡ last_window a.ending
-  pub inside : IsIn list (last_window a.ending)
-  pub rest : t.rest ≡ within list (last_window a.ending)
-  pub offset : t.offset ≡ (last_window a.ending).start
-
-abbrev NoUnit : Option (Result PeelUnit PeelFault) → Type 0
-NoUnit r = (u : PeelUnit) → r ≡ Some (Ok u) → ⊥
-
-none_next : (list : List ℕ) (w : Window) (left : List Header) (e : Ending) (s t : State)
-    (r : Option (Result PeelUnit PeelFault))
-    → NoUnit r → Faces list w s left e → GivesNext list w left e s r t
-    → (left ≡ []) × (w ≡ last_window e) × (t.rest ≡ s.rest) × (t.offset ≡ s.offset)
-none_next list w [] (Accepted v y) s t r none f g =
-    (refl, sym f.stack.0, ap (λ (k : State). k.rest) g.1, ap (λ (k : State). k.offset) g.1)
-none_next list w [] (Fault v y q) s t r none f g =
-    (refl, sym f.stack.0, ap (λ (k : State). k.rest) g.1, ap (λ (k : State). k.offset) g.1)
-none_next list w (h ∷ hs) e s t r none f g = absurd (none g.0 g.1)
-
-pub stops : (x : Expectation) (list : List ℕ) (s t : State) (r : Option (Result PeelUnit PeelFault))
-    (a : UnderWay x list s)
-    → NoUnit r → Gives s r t → Stops x list s t a
-stops x list s t r a none gives =
-    let n =
-    none_next list a.window a.left a.ending s t r none a.faces
-    (gives.next a.going list a.window a.left a.ending a.faces) in
-    let w = n.1 in
-    record {
-      walk =
-          subst (λ (l : List Header). Walk x list l a.ending)
-          (ap (λ (l : List Header). a.done ++ l) n.0 ∙ append-nil a.done) a.walk;
-      window = w;
-      inside = subst (IsIn list) w a.faces.inside;
-      rest = n.2 ∙ a.faces.rest ∙ ap (within list) w;
-      offset = n.3 ∙ a.faces.offset ∙ ap (λ (v : Window). v.start) w;
-    }
-
-pub no_none : NoUnit None
-no_none u e = cc
-
-pub no_fault : (f : PeelFault) → NoUnit (Some (Err f))
-no_fault f u e = cc
-
--- where the last window ends
-pub stop_finish : (x : Expectation) (list : List ℕ) (s t : State) (a : UnderWay x list s) → Stops x list s t a
-    → t.offset + length t.rest ≡ (last_window a.ending).finish
-stop_finish x list s t a p =
-    let v = last_window a.ending in
-    let at = p.offset in
-    let inside = p.inside in
-    let ordered = inside.ordered in
-    let len = ap length p.rest ∙ length-part list v.start v.finish inside.inside in
-    omega arith
 
 -- ---- a target that was written so far
 

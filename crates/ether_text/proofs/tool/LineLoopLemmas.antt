@@ -4,7 +4,7 @@ use Rattle.std.proofs.Math.Bool.{and_assoc}
 use Rattle.std.proofs.lemmas.List.{length-append}
 use Rattle.std.specs.Str.Lines.{lines, strip_carriage_return}
 use Rattle.std.specs.Io.KnownBytes.{Appends}
-use Rattle.ether_text.specs.OutputBuffer.{contents_of, WritesOut}
+use Rattle.ether_output.specs.OutputBuffer.{contents_of, WritesOut}
 use Rattle.ether_text.specs.Tool.Run.{HasNoLineFeed, IsLineAnswered, AreAnswered, StopsAtLine, OnBadLine}
 use Rattle.ether_text.specs.Tool.Frame.{IsBadLine}
 use Rattle.ether_text.specs.Tool.LineBuffer.{KeepsLine, without_end}
@@ -14,11 +14,11 @@ use Rattle.ether_text.specs.Verdict.{verdict_of, verdict_with}
 use Rattle.ether_text.specs.declared.verdict.Verdict.{Verdict}
 use Rattle.ether_text.specs.declared.tool.outcome.ToolFault.{ToolFault}
 use Rattle.ether_text.specs.declared.tool.outcome.ToolFault.TheVariants.{BadLine, Input, Output}
-use Rattle.ether_text.specs.declared.output_buffer.OutputBuffer.{OutputBuffer}
+use Rattle.ether_output.specs.declared.output_buffer.OutputBuffer.{OutputBuffer}
 use Rattle.ether_text.specs.declared.tool.line_buffer.LineEnd.TheVariants.{LineFeed, InputEnd}
 use Rattle.ether_text.specs.declared.tool.line_loop.LineLoop.{LineLoop}
-use Rattle.ether_text.proofs.KnownBytesLemmas.{Appends-none, Appends-then}
-use Rattle.ether_text.proofs.KnownBytesLemmas.{Appends-written_out}
+use Rattle.ether_output.proofs.KnownBytesLemmas.{Appends-none, Appends-then}
+use Rattle.ether_output.proofs.KnownBytesLemmas.{Appends-written_out}
 use Rattle.ether_text.proofs.tool.InputLinesLemmas.{lines-line, lines-last, lines-nothing, HasNoLineFeed-nil, HasNoLineFeed-append}
 
 -- what is said of a bad line, from another fact

@@ -2,16 +2,16 @@
 use Rattle.std.proofs.Common.{◌≡◌, ◌⊎◌, ℕ, ◌-◌, ◌^◌, ◌<◌, List, [], ◌++◌, length, Option, Some, true, unwrap_or, Result, Ok, Err, IfOk, IfErr, IsErrAnd, sym, subst, append-nil}
 use Rattle.std.specs.Str.Lines.{lines}
 use Rattle.std.specs.Io.KnownBytes.{Consumes, IsAtEnd, Keeps}
-use Rattle.ether_text.specs.OutputBuffer.{contents_of, WritesOut}
+use Rattle.ether_output.specs.OutputBuffer.{contents_of, WritesOut}
 use Rattle.ether_text.specs.Tool.Run.{AnswersSlice, AreAnswered, StopsAtLine, HasRun, OnBadLine, OnStreamFault}
 use Rattle.ether_text.specs.Tool.LineLoop.{Reached, StopsWithin, Finishes}
 use Rattle.ether_text.specs.declared.tool.command.Command.{Command}
 use Rattle.ether_text.specs.declared.verdict.Verdict.{Verdict}
 use Rattle.ether_text.specs.declared.tool.outcome.ToolFault.{ToolFault}
 use Rattle.ether_text.specs.declared.tool.outcome.ToolFault.TheVariants.{BadLine, Input, Output}
-use Rattle.ether_text.specs.declared.output_buffer.OutputBuffer.{OutputBuffer}
+use Rattle.ether_output.specs.declared.output_buffer.OutputBuffer.{OutputBuffer}
 use Rattle.ether_text.specs.declared.tool.line_loop.LineLoop.{LineLoop}
-use Rattle.ether_text.proofs.KnownBytesLemmas.{Consumes-then, Consumes-kept}
+use Rattle.ether_output.proofs.KnownBytesLemmas.{Consumes-then, Consumes-kept}
 use Rattle.ether_text.proofs.RunLemmas.{IsLeft-left_of, IsLeft-end, Consumes-nothing, answers_slice, stops_slice, no_endless_slice}
 use Rattle.ether_text.specs.Run.{IsEndless}
 use Rattle.ether_text.proofs.tool.LineLoopLemmas.{Reached-written_out}

@@ -2,7 +2,7 @@
 use Rattle.std.specs.Prelude.{◌≡◌, ℕ, ◌-◌, ◌^◌, min, List, [], ◌∷◌, ◌++◌, length, Bool, Option}
 use Rattle.std.specs.Str.Lines.{lines}
 use Rattle.std.specs.Io.KnownBytes.{Appends}
-use Rattle.ether_text.specs.OutputBuffer.{contents_of}
+use Rattle.ether_output.specs.OutputBuffer.{contents_of}
 use Rattle.ether_text.specs.Tool.Run.{HasNoLineFeed, IsLineAnswered, AreAnswered, StopsAtLine, number_after}
 use Rattle.ether_text.specs.Tool.Frame.{IsBadLine}
 use Rattle.ether_text.specs.Tool.LineBuffer.{KeepsLine, without_end}
@@ -10,7 +10,7 @@ use Rattle.ether_text.specs.declared.tool.command.Command.{Command}
 use Rattle.ether_text.specs.Verdict.{verdict_of, verdict_with}
 use Rattle.ether_text.specs.declared.verdict.Verdict.{Verdict}
 use Rattle.ether_text.specs.declared.verdict.Verdict.TheVariants.{AllAccepted}
-use Rattle.ether_text.specs.declared.output_buffer.OutputBuffer.{OutputBuffer}
+use Rattle.ether_output.specs.declared.output_buffer.OutputBuffer.{OutputBuffer}
 use Rattle.ether_text.specs.declared.tool.line_buffer.LineEnd.{LineEnd}
 use Rattle.ether_text.specs.declared.tool.line_loop.LineLoop.{LineLoop}
 

@@ -2,6 +2,7 @@
 use Rattle.std.specs.Prelude.{ℕ, List, ◌++◌, codes, Option, Some, None, Result, Ok, Err, Bool, true, false}
 use Rattle.std.specs.Fmt.{decimal}
 use Rattle.ether_text.specs.declared.tool.mode.Usage.{Usage}
+use Rattle.ether_text.specs.declared.tool.outcome.TheConstants.{BAD_LINE, USAGE}
 use Rattle.ether_text.specs.declared.tool.outcome.LastLine.{LastLine}
 use Rattle.ether_text.specs.declared.tool.outcome.LastLine.TheVariants as last_lines
 use Rattle.ether_text.specs.declared.verdict.Verdict.{Verdict}
@@ -17,15 +18,12 @@ exit_status (Err (BadLine number)) = 3
 exit_status (Err Input) = 4
 exit_status (Err Output) = 4
 
-abbrev pub usage_text : List ℕ
-usage_text = codes "usage: ether_tool eth | fcs | sll | type XXXX | feed [limit N]"
-
 abbrev pub bad_line_text : ℕ → List ℕ
-bad_line_text number = codes "line " ++ (decimal number ++ codes ": bad line")
+bad_line_text number = codes "line " ++ (decimal number ++ (codes ": " ++ BAD_LINE.now))
 
 -- what the program prints last, without its line feed: the usage if the arguments are wrong
 abbrev pub last_text : Result (Result Verdict ToolFault) Usage → Option (List ℕ)
-last_text (Err usage) = Some usage_text
+last_text (Err usage) = Some USAGE.now
 last_text (Ok (Ok verdict)) = None
 last_text (Ok (Err (BadLine number))) = Some (bad_line_text number)
 last_text (Ok (Err Input)) = None
@@ -38,5 +36,5 @@ status_of_program (Ok outcome) true = exit_status outcome
 status_of_program (Err usage) true = 2
 
 abbrev pub last_line_text : LastLine → List ℕ
-last_line_text last_lines.Usage = usage_text
+last_line_text last_lines.Usage = USAGE.now
 last_line_text (last_lines.BadLine number) = bad_line_text number

@@ -4,7 +4,7 @@ use crate::tool::line_buffer::{LineBuffer, LineEnd};
 use crate::tool::outcome::{ToolFault, Verdict};
 use crate::tool::parse_frame::MAX_FRAME_LEN;
 use crate::tool::write_answer::write_answer;
-use crate::{OutputBuffer, Sink};
+use ether_output::{OutputBuffer, Sink};
 
 /// The line that is being read, and the results of the lines before it.
 #[derive(Drop)]
@@ -16,7 +16,7 @@ pub struct LineLoop {
 
 impl LineLoop {
     ghost use Rattle.std.specs.Prelude.{◌≡◌, ◌++◌, ℕ, List, [], Option, IfOk, IfErr, OnOk, true};
-    ghost use Rattle.ether_text.specs.OutputBuffer.{Marks};
+    ghost use Rattle.ether_output.specs.OutputBuffer.{Marks};
     ghost use Rattle.ether_text.specs.Tool.Run.{OnBadLine, OnStreamFault};
     ghost use Rattle.ether_text.specs.Tool.LineBuffer.{KeepsLine, without_end};
     ghost use Rattle.ether_text.specs.Tool.LineLoop.{Advances, Finishes, IsStart, JudgesLine, RefusesLine, StopsWithin};

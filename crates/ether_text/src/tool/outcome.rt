@@ -3,9 +3,10 @@ ghost use Rattle.std.specs.Prelude.{◌≡◌};
 ghost use Rattle.std.specs.Option.{option_map};
 ghost use Rattle.ether_text.specs.Tool.Outcome.{exit_status, last_line_text, last_text, status_of_program};
 
+use crate::InputFault;
 pub use crate::Verdict;
 use crate::tool::mode::Usage;
-use crate::{InputFault, OutputFault};
+use ether_output::OutputFault;
 use std::fmt;
 use thiserror::Error;
 
@@ -60,6 +61,9 @@ pub fn status_of(outcome: &Result<Verdict, ToolFault>) -> u8
 /// The line that is printed if the arguments are wrong, without its LF.
 pub const USAGE: &str = "usage: ether_tool eth | fcs | sll | type XXXX | feed [limit N]";
 
+/// What the program says of a line that names no frame, after the number of that line.
+pub(crate) const BAD_LINE: &str = "bad line";
+
 /// A line that the program prints after the lines of all frames.
 #[derive(Clone, Copy, PartialEq, Eq, Debug)]
 pub enum LastLine {
@@ -78,7 +82,7 @@ impl fmt::Display for LastLine {
     fn fmt<W: fmt::Write>(&self, f: &mut fmt::Formatter<W>) -> fmt::Result {
         match *self {
             LastLine::Usage => write!(f, "{USAGE}"),
-            LastLine::BadLine(number) => write!(f, "line {number}: bad line"),
+            LastLine::BadLine(number) => write!(f, "line {number}: {BAD_LINE}"),
         }
     }
 }

@@ -1,23 +1,26 @@
 //! The program, over any arguments, source and sink.
 ghost use Rattle.std.specs.Prelude.{◌≡◌, ◌≢◌, ◌++◌, ◌⊎◌, codes, true, false, None, IfOk, IfSome, IfNone};
 ghost use Rattle.ether_text.specs.Arguments.{words_of};
-ghost use Rattle.ether_text.specs.OutputBuffer.{Takes};
+ghost use Rattle.ether_output.specs.OutputBuffer.{Takes};
 ghost use Rattle.ether_text.specs.Run.{IsEndless};
 ghost use Rattle.ether_text.specs.Tool.Outcome.{last_line_text, last_text};
 ghost use Rattle.ether_text.specs.Tool.Run.{IfSettled};
 ghost use Rattle.ether_text.specs.Tool.Program.{HasObeyed, HasServed, OnFailure, PrintsLast};
 
+use crate::Source;
 use crate::tool::command::{Command, command_of_args};
-use crate::tool::outcome::{LastLine, Outcome, ToolFault, USAGE, last_line, program_status};
+use crate::tool::outcome::{
+    BAD_LINE, LastLine, Outcome, ToolFault, USAGE, last_line, program_status,
+};
 use crate::tool::run::run_command;
-use crate::{OutputBuffer, Sink, Source, write_decimal};
+use ether_output::{OutputBuffer, Sink, write_decimal};
 use std::{env, io};
 
 /// Runs the command that the arguments name, prints the last line if there is one, and returns the exit status.
 ///
 /// If the arguments name no command, nothing is read, the usage is printed, and the status is 2. If the arguments
 /// can't be read, nothing else is read, and the status is 4, as for a fault of the input.
-pub fn program<R: Source, W: Sink>(
+pub fn run_program<R: Source, W: Sink>(
     args: io::Result<env::Args>,
     reader: &mut R,
     writer: &mut W,
@@ -28,13 +31,17 @@ pub fn program<R: Source, W: Sink>(
         ⊎ (R.can_fail ⊎ IsEndless (R.remaining reader.old) (R.remaining reader.new))) ⊎ W.can_fail }
     ensures flushed { result ≢ 4 → W.is_flushed writer.new }
 {
-    let outcome = obey(args, reader, writer);
+    let outcome = run_args(args, reader, writer);
     let is_printed = print_last_line(&outcome, writer);
     program_status(&outcome, is_printed)
 }
 
 /// Runs the command that the arguments name.
-fn obey<R: Source, W: Sink>(args: io::Result<env::Args>, reader: &mut R, writer: &mut W) -> Outcome
+fn run_args<R: Source, W: Sink>(
+    args: io::Result<env::Args>,
+    reader: &mut R,
+    writer: &mut W,
+) -> Outcome
     ensures obeyed { HasObeyed (words_of args) (R.remaining reader.old) (R.remaining reader.new)
         (W.contents writer.old) (W.contents writer.new) result }
     ensures failed { OnFailure result ((words_of args ≡ None)
@@ -74,7 +81,8 @@ fn write_last_line<W: Sink>(line: LastLine, out: &mut OutputBuffer<'_, W>)
         LastLine::BadLine(number) => {
             out.append(b"line ");
             write_decimal(out, number as usize);
-            out.append(b": bad line");
+            out.append(b": ");
+            out.append(BAD_LINE.as_bytes());
         }
     }
     out.append(b"\n");

@@ -1,7 +1,7 @@
 //! A run: from a reader of lines to a writer of the text for each.
 ghost use Rattle.std.specs.Prelude.{◌≡◌, ◌⊎◌, [], true, IfErr};
 ghost use Rattle.ether_text.specs.InputReader.{StopsReading};
-ghost use Rattle.ether_text.specs.OutputBuffer.{contents_of, Marks};
+ghost use Rattle.ether_output.specs.OutputBuffer.{contents_of, Marks};
 ghost use Rattle.ether_text.specs.Run.{IsEndless};
 ghost use Rattle.ether_text.specs.Tool.Command.{limited_to, unlimited};
 ghost use Rattle.ether_text.specs.Tool.Run.{AnswersSlice, HasRun, IfSettled, OnInput, OnStreamFault};
@@ -10,7 +10,8 @@ use crate::tool::command::Command;
 use crate::tool::line_loop::LineLoop;
 use crate::tool::mode::Mode;
 use crate::tool::outcome::{ToolFault, Verdict};
-use crate::{InputReader, OutputBuffer, Sink, SliceSource, Source};
+use crate::{InputReader, SliceSource, Source};
+use ether_output::{OutputBuffer, Sink};
 use std::io::{Read, Write};
 
 /// The room for one read in bytes.

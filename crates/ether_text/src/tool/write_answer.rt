@@ -1,12 +1,13 @@
 //! Writes the text for a frame by a command: the lines of its walk, or those of feeding it.
 ghost use Rattle.std.specs.Prelude.{◌≡◌};
 ghost use Rattle.ether_peel.specs.Walker.Start.{next_of};
-ghost use Rattle.ether_text.specs.OutputBuffer.{TakesAnswer};
+ghost use Rattle.ether_output.specs.OutputBuffer.{TakesAnswer};
 ghost use Rattle.ether_text.specs.Tool.Answer.{start_of_mode, Answers};
 
 use crate::tool::command::Command;
 use crate::tool::mode::Mode;
-use crate::{OutputBuffer, Sink, write_feed, write_walk};
+use crate::{write_feed, write_walk};
+use ether_output::{OutputBuffer, Sink};
 use ether_peel::Start;
 
 /// Writes the lines for a frame, and returns whether the frame is accepted.

@@ -4,7 +4,7 @@
 use ether_tools::ether_capture::capture_files::CaptureFiles;
 use ether_tools::ether_capture::copy_files::CopyFiles;
 use ether_tools::ether_capture::memory::Global;
-use ether_tools::ether_capture::program::program;
+use ether_tools::ether_capture::program::run_program;
 use ether_tools::ether_capture::progress_line::{Gauge, Meter};
 use ether_tools::ether_text::{Noted, tell_failure};
 use ether_tools::streams::{arguments, input, output};
@@ -18,7 +18,7 @@ fn main() -> io::Result<ExitCode> {
     let mut input = Noted::new(Meter::new(input()?, None, &gauge));
     let mut output = Noted::new(output()?);
     let captures = CaptureFiles { gauge: &gauge };
-    let status = program::<io::Sink, _, _, _, _, _>(
+    let status = run_program::<io::Sink, _, _, _, _, _>(
         args,
         Global,
         &captures,

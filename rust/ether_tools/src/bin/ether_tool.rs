@@ -2,8 +2,9 @@
 //!
 //! Written by hand, not proved: `crates/ether_tool/src/main.rt` takes the streams from the runtime of Rattle.
 use ether_tools::ether_text::tool::about::about;
-use ether_tools::ether_text::tool::program::program;
-use ether_tools::ether_text::{Noted, OutputBuffer, Sink, tell_failure};
+use ether_tools::ether_text::tool::program::run_program;
+use ether_tools::ether_text::{Noted, tell_failure};
+use etherpeel::ether_output::{OutputBuffer, Sink};
 use ether_tools::streams::{arguments, input, output};
 use std::process::ExitCode;
 use std::{env, io};
@@ -15,7 +16,7 @@ fn main() -> io::Result<ExitCode> {
     let mut output = Noted::new(output()?);
     let status = match about_of(arguments()) {
         Some(text) => tell(text, &mut output),
-        None => program(args, &mut input, &mut output),
+        None => run_program(args, &mut input, &mut output),
     };
     if status == 4 {
         let (input, output) = (input.error(), output.error());

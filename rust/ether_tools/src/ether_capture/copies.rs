@@ -1,7 +1,7 @@
 //! What keeps copies by their names.
 
+use etherpeel::ether_output::Sink;
 use crate::ether_stream::WriteFault;
-use crate::ether_text::Sink;
 
 /// What keeps copies by their names, as files do.
 ///

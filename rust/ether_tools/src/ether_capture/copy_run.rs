@@ -12,10 +12,9 @@ use crate::ether_capture::memory::Global;
 /// <details><summary>Contract</summary>
 ///
 /// ```text
-/// ensures { HasCopiedInput R.can_fail K.Part.Sink.can_fail K.can_refuse (task_view task.now) output.entry.now
-///     (R.remaining reader.old) (R.remaining reader.new) (K.file copies.old output.entry.now)
-///     (K.file copies.new output.entry.now)
-///     result }
+/// ensures { HasCopiedInput R.can_fail (keeps K.can_refuse K.Part.Sink.can_fail) (task_view task.now)
+///     output.entry.now (R.remaining reader.old) (R.remaining reader.new) (K.file copies.old output.entry.now)
+///     (K.file copies.new output.entry.now) result }
 /// ```
 ///
 /// </details>
@@ -40,10 +39,9 @@ pub fn copy_input<'a, K: Copies, R: Source>(
 /// <details><summary>Contract</summary>
 ///
 /// ```text
-/// ensures { HasCopiedFile (C.has captures.now) C.can_refuse C.Input.Source.can_fail K.Part.Sink.can_fail K.can_refuse
-///     (task_view task.now) name.entry.now output.entry.now (K.file copies.old output.entry.now)
-///     (K.file copies.new output.entry.now)
-///     result }
+/// ensures { HasCopiedFile (names (C.has captures.now) C.can_refuse C.Input.Source.can_fail)
+///     (keeps K.can_refuse K.Part.Sink.can_fail) (task_view task.now) name.entry.now output.entry.now
+///     (K.file copies.old output.entry.now) (K.file copies.new output.entry.now) result }
 /// ```
 ///
 /// </details>

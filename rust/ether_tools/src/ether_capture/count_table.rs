@@ -3,7 +3,7 @@ use crate::ether_capture::count::Count;
 use crate::ether_capture::memory::Global;
 use crate::ether_capture::statistics_format::{StatisticsFormat, write_statistic};
 use crate::ether_stream::NoMemory;
-use crate::ether_text::{OutputBuffer, Sink};
+use etherpeel::ether_output::{OutputBuffer, Sink};
 use std::collections::BTreeMap;
 
 /// Counts by keys, which are texts.

@@ -1,6 +1,6 @@
 //! A sink that may keep the rows that are counted.
 
-use crate::ether_text::Sink;
+use etherpeel::ether_output::Sink;
 use std::io;
 
 /// A sink for the rows that are counted.

@@ -1,4 +1,5 @@
 //! What the arguments ask for, by their words, which `clap` reads. Written by hand, not proved.
+use crate::ether_capture::option_table::{OPTIONS, OptionRow, Spelling};
 use crate::ether_capture::request::{Asked, Request, RequestError, counted_of};
 use crate::ether_capture::wrong_words::usage_of;
 use crate::ether_stream::{Usage, count_of, edit_of_words, fields_of, format_of, limit_of, undecided_of};
@@ -6,42 +7,26 @@ use crate::ether_capture::memory::Global;
 use clap::error::ErrorKind;
 use clap::{Arg, ArgAction, ArgMatches, Command, ValueHint};
 
-/// Options without a value, and what the completions of shells say of them.
-const FLAGS: [(&str, &str); 7] = [
-    ("plain", "leave out the lines of packets and the totals"),
-    ("write", "write the capture itself"),
-    ("cut-to-headers", "cut each packet where its link-layer headers end"),
-    ("pop-vlan", "take the VLAN tag after the link's header off each frame"),
-    ("progress", "show how many bytes are read"),
-    ("header", "with --fields, print a line of the names first"),
-    ("stats", "count packets and bytes by the values of columns"),
-];
-
-/// Options with a value.
-const OPTIONS: [(&str, &str); 7] = [
-    ("push-vlan", "put a VLAN tag after the link's header, as 0x8100:5"),
-    ("set-vlan", "give the outermost VLAN tag with identifier A identifier B, as A:B"),
-    ("select", "only packets that match an expression"),
-    ("undecided", "keep or drop packets that were cut too short to tell"),
-    ("limit", "read so many VLAN tags and SecTags of each packet at most"),
-    ("format", "print lines, or each packet on one line: lines, brief or json"),
-    ("fields", "print these columns of each packet, as vlan.vid,eth.src"),
-];
-
 /// The program's arguments.
 pub fn command() -> Command {
-    let option = |(name, help)| Arg::new(name).long(name).help(help);
-    let letter = |(name, short, help)| Arg::new(name).short(short).help(help).action(ArgAction::Set);
-    let count = letter(("count", 'c', "end with so many of these packets"));
-    let names = [("read", 'r', "read this file alone"), ("output", 'w', "write a copy to this file")];
     let file = Arg::new("file").value_hint(ValueHint::FilePath).action(ArgAction::Append);
-    Command::new("ether_capture")
-        .version("3.0.0")
-        .args(FLAGS.map(|it| option(it).action(ArgAction::SetTrue)))
-        .args(OPTIONS.map(|it| option(it).action(ArgAction::Set)))
-        .arg(count)
-        .args(names.map(|it| letter(it).value_hint(ValueHint::FilePath)))
-        .arg(file)
+    let rows = OPTIONS.iter().filter(|row| !row.spelling.is_added());
+    Command::new("ether_capture").version("3.0.0").args(rows.map(argument)).arg(file)
+}
+
+/// The argument of an option, with what the completions of shells say of it.
+fn argument(row: &'static OptionRow<&str>) -> Arg {
+    let arg = Arg::new(row.name).help(row.help);
+    let arg = match row.spelling {
+        Spelling::Name => arg.long(row.name),
+        Spelling::Letter(letter) => arg.short(letter),
+        Spelling::Both(letter) => arg.short(letter).long(row.name),
+    };
+    match row.value {
+        Some("FILE" | "COPY") => arg.action(ArgAction::Set).value_hint(ValueHint::FilePath),
+        Some(_) => arg.action(ArgAction::Set),
+        None => arg.action(ArgAction::SetTrue),
+    }
 }
 
 /// What the program's arguments ask for. The first of them is its own name.

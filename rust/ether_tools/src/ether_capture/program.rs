@@ -9,9 +9,10 @@ use crate::ether_capture::request::{Job, Request, RequestError};
 use crate::ether_capture::run_input::run_input;
 use crate::ether_capture::several_files::run_files;
 use crate::ether_capture::statistics::Statistics;
-use crate::ether_format::Columns;
+use etherpeel::ether_format::Columns;
+use etherpeel::ether_output::{OutputBuffer, OutputFault, Sink};
 use crate::ether_stream::{LineSink, Outcome, RunFault, Task, is_message, last_line, program_status};
-use crate::ether_text::{OutputBuffer, OutputFault, Sink, Source};
+use crate::ether_text::Source;
 use crate::ether_capture::memory::Global;
 use std::{env, io};
 
@@ -25,18 +26,17 @@ use std::{env, io};
 /// <details><summary>Contract</summary>
 ///
 /// ```text
-/// ensures served { HasServed (C.has captures.now) R.can_fail C.can_refuse C.Input.Source.can_fail W.Sink.can_fail
-///     M.Sink.can_fail
-///     K.can_refuse K.Part.Sink.can_fail J.is_known (arguments_of args) (R.remaining reader.old) (R.remaining reader.new)
-///     (W.Sink.contents writer.old) (W.Sink.contents writer.new) (M.Sink.contents messages.old)
-///     (M.Sink.contents messages.new)
-///     (K.file copies.old) (K.file copies.new) result }
+/// ensures served { HasServed (world (reads (names (C.has captures.now) C.can_refuse C.Input.Source.can_fail)
+///     R.can_fail W.Sink.can_fail) (keeps K.can_refuse K.Part.Sink.can_fail) M.Sink.can_fail J.is_known)
+///     (arguments_of args) (streams (R.remaining reader.old) (W.Sink.contents writer.old)
+///     (M.Sink.contents messages.old) (K.file copies.old)) (streams (R.remaining reader.new)
+///     (W.Sink.contents writer.new) (M.Sink.contents messages.new) (K.file copies.new)) result }
 /// ensures flushed { result ≢ 4 → Settles W.Sink.is_flushed writer.old writer.new }
 /// ensures told { Settles M.Sink.is_flushed messages.old messages.new ⊎ M.Sink.can_fail }
 /// ```
 ///
 /// </details>
-pub fn program<J: Journal, C: Captures, K: Copies, R: Source, W: LineSink, M: LineSink>(
+pub fn run_program<J: Journal, C: Captures, K: Copies, R: Source, W: LineSink, M: LineSink>(
     args: io::Result<env::Args>,
     alloc: Global,
     captures: &C,
@@ -46,12 +46,12 @@ pub fn program<J: Journal, C: Captures, K: Copies, R: Source, W: LineSink, M: Li
     messages: &mut M,
 ) -> u8 {
     let Ok(args) = args else {
-        return end(&Outcome::Run(Err(RunFault::Input)), writer, messages);
+        return finish(&Outcome::Run(Err(RunFault::Input)), writer, messages);
     };
     let Ok(words) = Ok::<Vec<String>, crate::ether_capture::memory::NoMemory>(args.collect()) else {
-        return end(&Outcome::NoMemory, writer, messages);
+        return finish(&Outcome::NoMemory, writer, messages);
     };
-    let outcome = obey::<J, C, K, R, W, M>(
+    let outcome = carry_out_words::<J, C, K, R, W, M>(
         words.as_slice(),
         alloc,
         captures,
@@ -61,11 +61,11 @@ pub fn program<J: Journal, C: Captures, K: Copies, R: Source, W: LineSink, M: Li
         messages,
     );
     captures.end_line();
-    end(&outcome, writer, messages)
+    finish(&outcome, writer, messages)
 }
 
-/// Does what the arguments say.
-fn obey<'a, J: Journal, C: Captures, K: Copies, R: Source, W: Sink, M: LineSink>(
+/// Carries out the request that words make, or says what is wrong with them.
+fn carry_out_words<'a, J: Journal, C: Captures, K: Copies, R: Source, W: Sink, M: LineSink>(
     words: &'a [String],
     alloc: Global,
     captures: &C,
@@ -75,7 +75,7 @@ fn obey<'a, J: Journal, C: Captures, K: Copies, R: Source, W: Sink, M: LineSink>
     messages: &mut M,
 ) -> Outcome<'a> {
     match request_of_words(words, alloc) {
-        Ok(request) => respond::<J, C, K, R, W, M>(
+        Ok(request) => carry_out_request::<J, C, K, R, W, M>(
             request, alloc, captures, copies, reader, writer, messages,
         ),
         Err(RequestError::Usage(usage)) => Outcome::Usage(usage),
@@ -84,8 +84,17 @@ fn obey<'a, J: Journal, C: Captures, K: Copies, R: Source, W: Sink, M: LineSink>
     }
 }
 
-/// Does what a request says. If counts are asked for, it counts the texts of columns, and writes the counts.
-fn respond<'a, J: Journal, C: Captures, K: Copies, R: Source, W: Sink, M: LineSink>(
+/// Carries out a request. If counts are asked for, it counts the texts of columns, and writes the counts in place of
+/// rows.
+fn carry_out_request<
+    'a,
+    J: Journal,
+    C: Captures,
+    K: Copies,
+    R: Source,
+    W: Sink,
+    M: LineSink,
+>(
     request: Request<'a>,
     alloc: Global,
     captures: &C,
@@ -95,10 +104,10 @@ fn respond<'a, J: Journal, C: Captures, K: Copies, R: Source, W: Sink, M: LineSi
     messages: &mut M,
 ) -> Outcome<'a> {
     let Some(format) = request.statistics() else {
-        return answer(request, alloc, captures, copies, reader, writer, messages);
+        return write_lines_or_copy(request, alloc, captures, copies, reader, writer, messages);
     };
     let mut counts = Statistics::<J>::new(alloc);
-    let outcome = answer(
+    let outcome = write_lines_or_copy(
         request,
         alloc,
         captures,
@@ -129,8 +138,8 @@ fn is_unwritten(outcome: &Outcome<'_>) -> bool {
     )
 }
 
-/// Writes the lines of a capture, or a copy of it, as a request says.
-fn answer<'a, C: Captures, K: Copies, R: Source, W: Sink, M: LineSink>(
+/// Writes the lines of captures or a copy of one, after the names of columns, if a line of these is asked for.
+fn write_lines_or_copy<'a, C: Captures, K: Copies, R: Source, W: Sink, M: LineSink>(
     request: Request<'a>,
     alloc: Global,
     captures: &C,
@@ -201,7 +210,7 @@ fn run_file<'a, C: Captures, W: Sink>(
 }
 
 /// Prints the last line, if there is one, and returns the exit status.
-fn end<W: LineSink, M: LineSink>(outcome: &Outcome<'_>, writer: &mut W, messages: &mut M) -> u8 {
+fn finish<W: LineSink, M: LineSink>(outcome: &Outcome<'_>, writer: &mut W, messages: &mut M) -> u8 {
     let is_printed = print_apart(outcome, writer, messages);
     program_status(outcome, is_printed)
 }

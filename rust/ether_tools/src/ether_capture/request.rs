@@ -3,7 +3,7 @@
 use crate::ether_capture::statistics_format::StatisticsFormat;
 use etherpeel::ether_content::PacketEdit;
 use etherpeel::ether_filter::{Filter, FilterError};
-use crate::ether_format::{Columns, Format};
+use etherpeel::ether_format::{Columns, Format};
 use etherpeel::ether_pcap::CopyMode;
 use crate::ether_stream::{
     DependentOption, Form, LineOptions, Selection, Task, Undecided, Usage, filter_of,

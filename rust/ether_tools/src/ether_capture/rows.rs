@@ -3,9 +3,9 @@
 use crate::ether_capture::count_table::CountTable;
 use crate::ether_capture::heap_text::HeapText;
 use crate::ether_capture::statistics_format::StatisticsFormat;
-use crate::ether_format::split_at;
+use etherpeel::ether_format::split_at;
+use etherpeel::ether_output::{OutputBuffer, Sink};
 use crate::ether_stream::NoMemory;
-use crate::ether_text::{OutputBuffer, Sink};
 use crate::ether_capture::memory::Global;
 
 /// The counts of the lines so far, and the bytes after the last line feed. The first line names the columns.

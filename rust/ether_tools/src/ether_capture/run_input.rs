@@ -2,9 +2,10 @@
 
 use crate::ether_capture::heap_memory::HeapMemory;
 use crate::ether_capture::interface_buffer::InterfaceBuffer;
+use etherpeel::ether_output::Sink;
 use crate::ether_stream::run::run_counted;
 use crate::ether_stream::{Buffers, NoMemory, PacketCounts, RunFault, Task};
-use crate::ether_text::{Sink, Source, Verdict};
+use crate::ether_text::{Source, Verdict};
 use crate::ether_capture::memory::Global;
 
 /// Like [`run_counted`], with memory of the heap that is allocated first.

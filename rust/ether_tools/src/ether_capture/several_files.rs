@@ -3,11 +3,12 @@
 use crate::ether_capture::captures::Captures;
 use crate::ether_capture::request::{Listing, named};
 use crate::ether_capture::run_input::run_input;
+use etherpeel::ether_output::{OutputBuffer, OutputFault, Sink};
 use crate::ether_stream::{
     FileEnd, Form, LastLine, LineSink, PacketCounts, RunFault, Task, line_of_file, line_of_input,
     status_of_file, write_totals,
 };
-use crate::ether_text::{OutputBuffer, OutputFault, Sink, Source};
+use crate::ether_text::Source;
 use crate::ether_capture::memory::Global;
 use std::num::NonZeroUsize;
 
@@ -70,10 +71,11 @@ impl Tally {
 /// <details><summary>Contract</summary>
 ///
 /// ```text
-/// ensures listed { HasListed (C.has captures.now) R.can_fail C.can_refuse C.Input.Source.can_fail W.can_fail
-///     M.Sink.can_fail
-///     (listing_view listing.entry) (R.remaining reader.old) (R.remaining reader.new) (W.contents writer.old)
-///     (W.contents writer.new) (M.Sink.contents messages.old) (M.Sink.contents messages.new) result }
+/// ensures listed { (files : List ℕ → Option (List ℕ)) → HasListed (reads
+///     (names (C.has captures.now) C.can_refuse C.Input.Source.can_fail) R.can_fail W.can_fail) M.Sink.can_fail
+///     (listing_view listing.entry) (streams (R.remaining reader.old) (W.contents writer.old)
+///     (M.Sink.contents messages.old) files) (streams (R.remaining reader.new) (W.contents writer.new)
+///     (M.Sink.contents messages.new) files) result }
 /// ensures flushed { OnOk result (W.is_flushed writer.new) }
 /// ensures told { Settles M.Sink.is_flushed messages.old messages.new ⊎ M.Sink.can_fail }
 /// ```

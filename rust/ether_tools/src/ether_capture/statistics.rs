@@ -3,7 +3,7 @@
 use crate::ether_capture::journal::Journal;
 use crate::ether_capture::rows::Rows;
 use crate::ether_capture::statistics_format::StatisticsFormat;
-use crate::ether_text::{OutputBuffer, OutputFault, Sink};
+use etherpeel::ether_output::{OutputBuffer, OutputFault, Sink};
 use crate::ether_capture::memory::Global;
 
 /// A sink of rows, whose texts are counted.

@@ -2,7 +2,7 @@
 
 use crate::ether_capture::count::Count;
 use crate::ether_capture::rows::first_field;
-use crate::ether_text::{OutputBuffer, Sink, write_decimal};
+use etherpeel::ether_output::{OutputBuffer, Sink, write_decimal};
 
 /// How counts are written.
 #[derive(Clone, Copy, PartialEq, Eq, Debug)]

@@ -1,31 +1,8 @@
 //! What is wrong with words that `clap` refuses.
 
-use crate::ether_format::split_at;
+use crate::ether_capture::option_table::all_options;
+use etherpeel::ether_format::split_at;
 use crate::ether_stream::Usage;
-
-/// The names of options without a value.
-static FLAGS: [&str; 9] = [
-    "plain",
-    "write",
-    "cut-to-headers",
-    "pop-vlan",
-    "progress",
-    "header",
-    "stats",
-    "help",
-    "version",
-];
-
-/// The names of options with a value.
-static OPTIONS: [&str; 7] = [
-    "push-vlan",
-    "set-vlan",
-    "select",
-    "undecided",
-    "limit",
-    "format",
-    "fields",
-];
 
 /// What is wrong with words that `clap` refuses: an option is not known, or else one lacks its value, or else
 /// [`Usage::Words`]. The first of the words is the program's name.
@@ -115,29 +92,24 @@ fn long_need(text: &[u8]) -> Option<bool> {
 
 /// The same for an option with this name, which is all of the word or not.
 fn name_need(name: &[u8], is_all: bool) -> Option<bool> {
-    if has_name(&FLAGS, name) {
-        return Some(false);
-    }
-    if has_name(&OPTIONS, name) {
-        return Some(is_all);
+    let mut rows = all_options();
+    while let [row, others @ ..] = rows {
+        if row.spelling.is_word() && row.name.as_bytes() == name {
+            return Some(row.value.is_some() && is_all);
+        }
+        rows = others;
     }
     None
 }
 
 /// The same for an option with this letter, which is all of the word or not.
 fn letter_need(letter: u8, is_all: bool) -> Option<bool> {
-    match letter {
-        b'c' | b'r' | b'w' => Some(is_all),
-        b'h' | b'V' => Some(false),
-        _ => None,
+    let mut rows = all_options();
+    while let [row, others @ ..] = rows {
+        if row.spelling.has_letter(letter) {
+            return Some(row.value.is_some() && is_all);
+        }
+        rows = others;
     }
-}
-
-/// Tests that a name is one of these.
-fn has_name(names: &[&str], name: &[u8]) -> bool {
-    let mut found = false;
-    for it in names {
-        found |= it.as_bytes() == name;
-    }
-    found
+    None
 }

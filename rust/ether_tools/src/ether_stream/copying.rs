@@ -2,8 +2,8 @@
 
 use crate::ether_stream::{EditBuffer, Grow};
 use etherpeel::ether_content::{EditedPacket, PacketEdit};
+use etherpeel::ether_output::{OutputBuffer, Sink};
 use etherpeel::ether_pcap::{CaptureReader, CapturedPacket, CopiedUnit, CopyMode, EditedUnit, InterfaceTable};
-use crate::ether_text::{OutputBuffer, Sink};
 
 /// Writes what a copy has of a unit without a packet: the unit, the unit with another snap length or an unspecified
 /// section length, or nothing.

@@ -4,10 +4,11 @@ use crate::ether_stream::LineOptions;
 use crate::ether_stream::linux_sll_lines::write_linux_sll;
 use crate::ether_stream::linux_sll2_lines::write_linux_sll2;
 use etherpeel::ether_content::{Content, CookedHeader, is_cut};
-use crate::ether_format::{nine_digits, write_packet};
+use etherpeel::ether_format::{nine_digits, write_packet};
+use etherpeel::ether_output::{OutputBuffer, Sink, eight_digits, write_decimal};
 use etherpeel::ether_pcap::{CapturedPacket, Timestamp};
 use etherpeel::ether_peel::Start;
-use crate::ether_text::{OutputBuffer, Sink, eight_digits, write_decimal, write_walk_after};
+use crate::ether_text::write_walk_after;
 
 /// Writes the text of a packet: its lines, or its text in another format. Returns whether the walk through its
 /// headers ends without a fault.

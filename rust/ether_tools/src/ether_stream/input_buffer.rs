@@ -2,8 +2,9 @@
 
 use crate::ether_stream::progress::Progress;
 use crate::ether_stream::{EditBuffer, Grow, NoMemory, RunFault, Task};
+use etherpeel::ether_output::{OutputBuffer, Sink};
 use etherpeel::ether_pcap::{CaptureError, InterfaceTable};
-use crate::ether_text::{InputFault, InputReader, OutputBuffer, Sink, Source};
+use crate::ether_text::{InputFault, InputReader, Source};
 
 /// How many bytes an [`InputBuffer`] has room for at least.
 const FIRST_ROOM: usize = 65_536;

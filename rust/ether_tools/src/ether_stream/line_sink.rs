@@ -1,7 +1,7 @@
 //! What lines between captures are written to.
 
 use crate::ether_stream::LastLine;
-use crate::ether_text::{OutputFault, Sink};
+use etherpeel::ether_output::{OutputFault, Sink};
 use std::io::Write;
 
 /// What lines are written to between runs: any [`Write`].

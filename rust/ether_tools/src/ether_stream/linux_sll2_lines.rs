@@ -1,8 +1,9 @@
 //! Writes the lines of a packet of Linux cooked capture v2.
 
+use etherpeel::ether_output::{OutputBuffer, Sink, hex_type, write_number};
 use etherpeel::ether_peel::{RestKind, Start};
 use etherpeel::ether_sll2::{LinuxSll2Error, LinuxSll2Header, LinuxSll2Slice};
-use crate::ether_text::{OutputBuffer, Sink, hex_long, hex_type, write_number, write_rest};
+use crate::ether_text::{hex_long, write_rest};
 use etherpeel::EtherType;
 
 /// Writes the line of the header, and returns what its payload begins with, and the payload.

@@ -1,7 +1,8 @@
 //! Writes the line of the header of a packet of Linux cooked capture v1 that is not a frame.
 
 use etherpeel::ether_content::CookedHeader;
-use crate::ether_text::{OutputBuffer, Sink, hex_long, hex_type, write_number};
+use etherpeel::ether_output::{OutputBuffer, Sink, hex_type, write_number};
+use crate::ether_text::hex_long;
 
 /// Writes the line of the header.
 ///

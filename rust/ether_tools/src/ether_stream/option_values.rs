@@ -5,8 +5,20 @@ use crate::ether_stream::usage::{Usage, ValueOption};
 use crate::ether_stream::vlan_options::{TagEdit, small_number, tag_edit_of};
 use etherpeel::ether_content::PacketEdit;
 use etherpeel::ether_filter::{Filter, FilterError};
-use crate::ether_format::{Columns, Format};
+use etherpeel::ether_format::{Columns, Format};
 use std::num::NonZeroUsize;
+
+/// The values of `--undecided`.
+const KEEP: &str = "keep";
+
+const DROP: &str = "drop";
+
+/// The values of `--format`.
+const LINES: &str = "lines";
+
+const BRIEF: &str = "brief";
+
+const JSON: &str = "json";
 
 /// The edit that options ask for, if any: to cut packets to their headers, to pop a VLAN tag, to push one, or to set
 /// an identifier.
@@ -109,8 +121,8 @@ pub fn limit_of<'a>(text: Option<&'a str>) -> Result<Option<usize>, Usage<'a>> {
 pub fn undecided_of<'a>(text: Option<&'a str>) -> Result<Option<Undecided>, Usage<'a>> {
     match text {
         None => Ok(None),
-        Some("keep") => Ok(Some(Undecided::Kept)),
-        Some("drop") => Ok(Some(Undecided::Dropped)),
+        Some(KEEP) => Ok(Some(Undecided::Kept)),
+        Some(DROP) => Ok(Some(Undecided::Dropped)),
         Some(text) => Err(Usage::Value(ValueOption::Undecided, text)),
     }
 }
@@ -154,9 +166,9 @@ pub fn fields_of<'a>(text: Option<&'a str>) -> Result<Option<Columns>, Usage<'a>
 /// </details>
 pub fn format_of<'a>(text: Option<&'a str>) -> Result<Option<Format>, Usage<'a>> {
     match text {
-        None | Some("lines") => Ok(None),
-        Some("json") => Ok(Some(Format::Json)),
-        Some("brief") => Ok(Some(Format::Brief)),
+        None | Some(LINES) => Ok(None),
+        Some(JSON) => Ok(Some(Format::Json)),
+        Some(BRIEF) => Ok(Some(Format::Brief)),
         Some(text) => Err(Usage::Value(ValueOption::Format, text)),
     }
 }

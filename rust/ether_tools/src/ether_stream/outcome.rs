@@ -1,9 +1,16 @@
 //! How the program ends: what a run found or why it stopped, the exit status of each, and the last line.
 
+use crate::ether_stream::about::{HELP, VERSION};
+use crate::ether_stream::messages::{
+    BZIP2, DENIED, GZIP, IS_FOLDER, LZ4, NO_FILE, NO_FOLDER, NO_MEMORY, NO_NAME, NO_SPACE,
+    NOT_EDITED, NOT_OPENED, NOT_WRITTEN, OTHER_VERSION, PCAP_VARIANT, PROGRAM, SELECT,
+    STANDARD_INPUT, TRY_HELP, UNREADABLE, XZ, ZSTD,
+};
 use crate::ether_stream::{NoMemory, OpenFault, Usage, WriteFault};
 use etherpeel::ether_filter::FilterError;
+use etherpeel::ether_output::OutputFault;
 use etherpeel::ether_pcap::{CaptureError, CaptureFault, FileHeaderError};
-use crate::ether_text::{InputFault, OutputFault, Verdict};
+use crate::ether_text::{InputFault, Verdict};
 use std::fmt;
 
 /// A sentence that names a program for a file that this crate can't read, by its first four bytes or its version; or
@@ -15,19 +22,19 @@ fn hint(error: &CaptureError) -> &'static str {
     match error {
         FileHeaderError::Len { .. } => "",
         FileHeaderError::Magic(number) => magic_hint(*number),
-        FileHeaderError::Version { .. } => " editcap converts it.",
+        FileHeaderError::Version { .. } => OTHER_VERSION,
     }
 }
 
 /// The same for a file with these first four bytes.
 fn magic_hint(number: u32) -> &'static str {
     match number {
-        0x1F8B_0000..=0x1F8B_FFFF => " This looks like gzip: zcat unpacks it.",
-        0x28B5_2FFD => " This looks like zstd: zstdcat unpacks it.",
-        0xFD37_7A58 => " This looks like xz: xzcat unpacks it.",
-        0x425A_6800..=0x425A_68FF => " This looks like bzip2: bzcat unpacks it.",
-        0x0422_4D18 => " This looks like lz4: lz4cat unpacks it.",
-        0xA1B2_CD34 | 0x34CD_B2A1 => " This is a variant of pcap: editcap converts it.",
+        0x1F8B_0000..=0x1F8B_FFFF => GZIP,
+        0x28B5_2FFD => ZSTD,
+        0xFD37_7A58 => XZ,
+        0x425A_6800..=0x425A_68FF => BZIP2,
+        0x0422_4D18 => LZ4,
+        0xA1B2_CD34 | 0x34CD_B2A1 => PCAP_VARIANT,
         _ => "",
     }
 }
@@ -124,17 +131,6 @@ pub enum Outcome<'a> {
     NoMemory,
 }
 
-/// What `--help` prints, without its last LF.
-pub const HELP: &str =
-    "usage: ether_capture [[--plain | --format lines|brief|json | --fields COLUMNS [--header] | --stats [--fields COLUMNS] [--format json]] [--limit N] | --write [-w COPY] [--cut-to-headers | --pop-vlan | --push-vlan TPID:ID | --set-vlan A:B]] [--select EXPR [--undecided keep|drop]] [-c N] [--progress] [-r FILE | FILE..]\n\nPrints the link-layer headers of each packet of captures, pcap or pcapng: of each FILE, or of standard input, which a FILE of - also names. What can't be read or written is said on standard error.\n\n  -r FILE           read FILE, as if it was named alone\n  --progress        show on standard error how many bytes are read, and how fast\n\nWhich packets:\n  --select EXPR     only packets that match EXPR, as 'vlan 5 or arp'\n  --undecided keep|drop\n                    with --select, keep or drop packets that were cut too short to tell, in place of taking them as they are\n  -c N              end with the N-th of these packets, of all files together\n\nLines:\n  --plain           leave out the lines of packets and the totals\n  --limit N         read N VLAN tags and SecTags of each packet at most\n  --format lines|brief|json\n                    print lines as ever; or each packet on a line of its own, for the eye or as an object of JSON, without totals\n  --fields COLUMNS  print the values of COLUMNS, as frame.number,vlan.vid,eth.src, with tabs; more than one value with commas\n  --header          with --fields, print a line of the names first\n  --stats           count packets and bytes by the values of COLUMNS, or without --fields of headers, VLANs, types, faults and ARP senders\n\nCopies:\n  --write           write the capture itself to standard output, of one FILE at most, without the other packets\n  -w COPY           write it to the file COPY, which changes only once all is written; without --write, too\n  --cut-to-headers  with --write, cut each packet where its link-layer headers end\n  --pop-vlan        with --write, take the VLAN tag after the link's header off each frame\n  --push-vlan TPID:ID\n                    with --write, put a VLAN tag after the link's header, as 0x8100:5\n  --set-vlan A:B    with --write, give the outermost VLAN tag with identifier A identifier B\n\n  -h, --help        print this text\n  -V, --version     print the version\n\nEXPR has these primitives, with not, and, or and parentheses:\n\n  vlan [ID], outer vlan ID, inner vlan ID, macsec, arp, ip, ip6\n  ether proto TYPE, ether src ADDR, ether dst ADDR, ether host ADDR\n  ether broadcast, ether multicast, less N, greater N, cut, refused\n\nEach says something of all headers of a packet: unlike in pcap-filter(7), arp is true after any tags, too.\n\nA column is a member of the objects that --format json prints: of the packet (frame), of its headers (eth, vlan, macsec, arp, sll, sll2, or headers for the place of each), or of its end (rest, fault). ether-capture(1) lists them.\n\nExamples:\n\n  ether_capture --select 'vlan 5 or arp' f.pcap\n  ether_capture --fields frame.time,vlan.vid,eth.src --header f.pcap\n  tcpdump -U --immediate-mode -w - | ether_capture\n  ether_capture -r f.pcap -w tagged.pcap --push-vlan 0x8100:5";
-
-/// Why a packet can't be edited.
-const NOT_EDITED: &str =
-    "This packet can't be written: its block has no number of captured bytes, or it would be too long.";
-
-/// What `--version` prints, without its LF.
-pub const VERSION: &str = "ether_capture 3.0.0";
-
 /// Why a capture was not read to its end.
 #[derive(Clone, Copy, Debug)]
 pub enum Reason<'a> {
@@ -158,8 +154,8 @@ impl fmt::Display for Reason<'_> {
                 write!(f, "byte {offset}: {error}{hint}")
             }
             Reason::NotEdited(offset) => write!(f, "byte {offset}: {NOT_EDITED}"),
-            Reason::Input => f.write_str("can't be read"),
-            Reason::Memory => f.write_str("out of memory"),
+            Reason::Input => write!(f, "{UNREADABLE}"),
+            Reason::Memory => write!(f, "{NO_MEMORY}"),
         }
     }
 }
@@ -167,9 +163,9 @@ impl fmt::Display for Reason<'_> {
 /// The end of the message that a capture can't be opened: why.
 fn reason_not_opened(fault: OpenFault) -> &'static str {
     match fault {
-        OpenFault::NotFound => ": there is no such file",
-        OpenFault::PermissionDenied => ": permission denied",
-        OpenFault::IsADirectory => ": it is a folder",
+        OpenFault::NotFound => NO_FILE,
+        OpenFault::PermissionDenied => DENIED,
+        OpenFault::IsADirectory => IS_FOLDER,
         OpenFault::Other => "",
     }
 }
@@ -177,17 +173,14 @@ fn reason_not_opened(fault: OpenFault) -> &'static str {
 /// The end of the message that a copy can't be written: why.
 fn reason_not_written(fault: WriteFault) -> &'static str {
     match fault {
-        WriteFault::NoName => ": its name is empty",
-        WriteFault::NotFound => ": there is no such folder",
-        WriteFault::PermissionDenied => ": permission denied",
-        WriteFault::IsADirectory => ": it is a folder",
-        WriteFault::StorageFull => ": no space is left",
+        WriteFault::NoName => NO_NAME,
+        WriteFault::NotFound => NO_FOLDER,
+        WriteFault::PermissionDenied => DENIED,
+        WriteFault::IsADirectory => IS_FOLDER,
+        WriteFault::StorageFull => NO_SPACE,
         WriteFault::Other => "",
     }
 }
-
-/// What messages call standard input.
-const STANDARD_INPUT: &str = "standard input";
 
 /// A line of the program about a run or its arguments.
 #[derive(Clone, Copy, Debug)]
@@ -216,17 +209,17 @@ impl fmt::Display for LastLine<'_> {
             LastLine::Stopped(name, reason) => write!(f, "{name}: {reason}"),
             LastLine::NotOpened(name, fault) => {
                 let reason = reason_not_opened(*fault);
-                write!(f, "{name}: can't be opened{reason}")
+                write!(f, "{name}: {NOT_OPENED}{reason}")
             }
             LastLine::NotWritten(name, fault) => {
                 let reason = reason_not_written(*fault);
-                write!(f, "{name}: can't be written{reason}")
+                write!(f, "{name}: {NOT_WRITTEN}{reason}")
             }
             LastLine::Help => write!(f, "{HELP}"),
             LastLine::Version => write!(f, "{VERSION}"),
-            LastLine::Usage(usage) => write!(f, "ether_capture: {usage}; try --help"),
-            LastLine::NoFilter(error) => write!(f, "--select: {error}"),
-            LastLine::NoMemory => f.write_str("ether_capture: out of memory"),
+            LastLine::Usage(usage) => write!(f, "{PROGRAM}: {usage}; {TRY_HELP}"),
+            LastLine::NoFilter(error) => write!(f, "{SELECT}: {error}"),
+            LastLine::NoMemory => write!(f, "{PROGRAM}: {NO_MEMORY}"),
         }
     }
 }

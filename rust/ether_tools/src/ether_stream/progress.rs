@@ -3,8 +3,9 @@
 use crate::ether_stream::copying::{write_other, write_packet};
 use crate::ether_stream::frame_lines::{is_skipped, write_lines, write_totals_of};
 use crate::ether_stream::{EditBuffer, Form, Grow, PacketCounts, RunFault, SectionTable, Task};
+use etherpeel::ether_output::{OutputBuffer, Sink};
 use etherpeel::ether_pcap::{CaptureError, CaptureFault, CaptureReader, CapturedPacket, InterfaceTable};
-use crate::ether_text::{OutputBuffer, Sink, Verdict};
+use crate::ether_text::Verdict;
 
 /// Where the run is in the capture, and the counts and the verdict of the packets before that.
 pub struct Progress<T: InterfaceTable> {

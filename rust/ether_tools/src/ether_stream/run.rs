@@ -2,8 +2,9 @@
 
 use crate::ether_stream::progress::Progress;
 use crate::ether_stream::{Buffers, EditBuffer, Grow, InputBuffer, PacketCounts, RunFault, SectionTable, Task};
+use etherpeel::ether_output::{OutputBuffer, Sink};
 use etherpeel::ether_pcap::InterfaceTable;
-use crate::ether_text::{InputReader, OutputBuffer, Sink, SliceSource, Source, Verdict};
+use crate::ether_text::{InputReader, SliceSource, Source, Verdict};
 
 /// Reads a capture to its end, and writes what is asked for: the lines of its packets, or a copy.
 ///

@@ -2,7 +2,7 @@
 
 use crate::ether_stream::selection::Selection;
 use etherpeel::ether_content::PacketEdit;
-use crate::ether_format::Format;
+use etherpeel::ether_format::Format;
 use etherpeel::ether_pcap::{CapturedPacket, CopyMode};
 use std::num::NonZeroUsize;
 

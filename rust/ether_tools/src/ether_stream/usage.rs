@@ -1,5 +1,10 @@
 //! What is wrong with the words of a request.
 
+use crate::ether_stream::messages::{
+    CLASH, COLUMNS, COPIES, COUNT, CUT_TO_HEADERS, EDITS, FIELDS, FORMAT, FORMATS, HEADER, HEADERS,
+    INPUT_TWICE, KEEP_OR_DROP, LIMIT, NO_COLUMN, NO_OPTION, NO_VALUE, PACKETS, POP_VLAN, PUSH_VLAN,
+    PUSHED_TAG, SELECT, SET_VLAN, SURPLUS, TWICE, TWO_IDENTIFIERS, UNDECIDED,
+};
 use std::fmt;
 
 /// An option whose value can be wrong.
@@ -25,27 +30,26 @@ impl ValueOption {
     /// The option as it is written.
     fn name(self) -> &'static str {
         match self {
-            ValueOption::PushVlan => "--push-vlan",
-            ValueOption::SetVlan => "--set-vlan",
-            ValueOption::Count => "-c",
-            ValueOption::Limit => "--limit",
-            ValueOption::Undecided => "--undecided",
-            ValueOption::Format => "--format",
-            ValueOption::Fields => "--fields",
+            ValueOption::PushVlan => PUSH_VLAN,
+            ValueOption::SetVlan => SET_VLAN,
+            ValueOption::Count => COUNT,
+            ValueOption::Limit => LIMIT,
+            ValueOption::Undecided => UNDECIDED,
+            ValueOption::Format => FORMAT,
+            ValueOption::Fields => FIELDS,
         }
     }
 
     /// The values that it takes.
     fn expected(self) -> &'static str {
         match self {
-            ValueOption::PushVlan =>
-                "a TPID of VLAN tags and an identifier up to 4095, as 0x8100:5",
-            ValueOption::SetVlan => "two identifiers up to 4095, as 5:6",
-            ValueOption::Count => "a number from 1 to 4294967295",
-            ValueOption::Limit => "a number up to 4294967295",
-            ValueOption::Undecided => "keep or drop",
-            ValueOption::Format => "lines, brief or json",
-            ValueOption::Fields => "at most 32 columns, as vlan.vid,eth.src",
+            ValueOption::PushVlan => PUSHED_TAG,
+            ValueOption::SetVlan => TWO_IDENTIFIERS,
+            ValueOption::Count => PACKETS,
+            ValueOption::Limit => HEADERS,
+            ValueOption::Undecided => KEEP_OR_DROP,
+            ValueOption::Format => FORMATS,
+            ValueOption::Fields => COLUMNS,
         }
     }
 }
@@ -68,15 +72,27 @@ pub enum DependentOption {
 }
 
 impl DependentOption {
-    /// The option as it is written, and the one that it needs.
-    fn needing(self) -> &'static str {
+    /// The option as it is written.
+    fn name(self) -> &'static str {
         match self {
-            DependentOption::Undecided => "--undecided needs --select",
-            DependentOption::Header => "--header needs --fields",
-            DependentOption::CutToHeaders => "--cut-to-headers needs --write or -w",
-            DependentOption::PopVlan => "--pop-vlan needs --write or -w",
-            DependentOption::PushVlan => "--push-vlan needs --write or -w",
-            DependentOption::SetVlan => "--set-vlan needs --write or -w",
+            DependentOption::Undecided => UNDECIDED,
+            DependentOption::Header => HEADER,
+            DependentOption::CutToHeaders => CUT_TO_HEADERS,
+            DependentOption::PopVlan => POP_VLAN,
+            DependentOption::PushVlan => PUSH_VLAN,
+            DependentOption::SetVlan => SET_VLAN,
+        }
+    }
+
+    /// The option that it needs.
+    fn needed(self) -> &'static str {
+        match self {
+            DependentOption::Undecided => SELECT,
+            DependentOption::Header => FIELDS,
+            DependentOption::CutToHeaders
+            | DependentOption::PopVlan
+            | DependentOption::PushVlan
+            | DependentOption::SetVlan => COPIES,
         }
     }
 }
@@ -109,20 +125,19 @@ pub enum Usage<'a> {
 impl fmt::Display for Usage<'_> {
     fn fmt(&self, f: &mut fmt::Formatter<'_>) -> fmt::Result {
         match self {
-            Usage::Unknown(word) => write!(f, "{word}: there is no such option"),
-            Usage::NoValue(word) => write!(f, "{word}: its value is missing"),
-            Usage::Words => f.write_str("an option occurs twice, or has a value and takes none"),
-            Usage::Clash => f.write_str("these options do not go together"),
+            Usage::Unknown(word) => write!(f, "{word}: {NO_OPTION}"),
+            Usage::NoValue(word) => write!(f, "{word}: {NO_VALUE}"),
+            Usage::Words => write!(f, "{TWICE}"),
+            Usage::Clash => write!(f, "{CLASH}"),
             Usage::Lacks(option) => {
-                let needing = option.needing();
-                write!(f, "{needing}")
+                let name = option.name();
+                let needed = option.needed();
+                write!(f, "{name} needs {needed}")
             }
-            Usage::Surplus(name) => write!(f, "{name}: this is one FILE too many"),
-            Usage::InputTwice => f.write_str("-: standard input can be read only once"),
-            Usage::Edits => f.write_str(
-                "--cut-to-headers, --pop-vlan, --push-vlan and --set-vlan do not go together",
-            ),
-            Usage::NoColumn(name) => write!(f, "--fields: there is no column '{name}'"),
+            Usage::Surplus(name) => write!(f, "{name}: {SURPLUS}"),
+            Usage::InputTwice => write!(f, "{INPUT_TWICE}"),
+            Usage::Edits => write!(f, "{EDITS}"),
+            Usage::NoColumn(name) => write!(f, "{FIELDS}: {NO_COLUMN} '{name}'"),
             Usage::Value(option, text) => {
                 let name = option.name();
                 let expected = option.expected();

@@ -2,7 +2,7 @@
 
 use etherpeel::ether_content::PacketEdit;
 use etherpeel::ether_filter::number_of;
-use crate::ether_format::split_at;
+use etherpeel::ether_format::split_at;
 use etherpeel::{EtherType, VlanId};
 
 /// An edit whose value is two numbers with a colon between them.

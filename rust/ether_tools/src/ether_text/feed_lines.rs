@@ -1,7 +1,7 @@
 //! Writes the text for a frame that is fed to a walk.
 
 use crate::ether_text::write_lines::{write_counts, write_fault};
-use crate::ether_text::{OutputBuffer, Sink};
+use etherpeel::ether_output::{OutputBuffer, Sink};
 use etherpeel::ether_peel::{Feed, Start, feed, feed_limited};
 
 /// Writes a line with the number of times that a walk asks for more of the frame and the number of bytes that it
@@ -12,12 +12,15 @@ use etherpeel::ether_peel::{Feed, Start, feed, feed_limited};
 /// ```
 /// # use etherpeel::*;
 /// # use etherpeel::ether_peel::*;
+/// # use etherpeel::ether_fields::*;
 /// # use etherpeel::ether_sll2::*;
 /// # use etherpeel::ether_packet::*;
 /// # use etherpeel::ether_filter::*;
 /// # use etherpeel::ether_pcap::*;
 /// # use etherpeel::ether_content::*;
 /// # use etherpeel::ether_switch::*;
+/// # use etherpeel::ether_output::*;
+/// # use etherpeel::ether_format::*;
 /// # use ether_tools::ether_text::*;
 /// # use arrayvec::ArrayVec;
 /// let frame = [

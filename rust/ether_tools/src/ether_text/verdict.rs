@@ -5,12 +5,15 @@
 /// ```
 /// # use etherpeel::*;
 /// # use etherpeel::ether_peel::*;
+/// # use etherpeel::ether_fields::*;
 /// # use etherpeel::ether_sll2::*;
 /// # use etherpeel::ether_packet::*;
 /// # use etherpeel::ether_filter::*;
 /// # use etherpeel::ether_pcap::*;
 /// # use etherpeel::ether_content::*;
 /// # use etherpeel::ether_switch::*;
+/// # use etherpeel::ether_output::*;
+/// # use etherpeel::ether_format::*;
 /// # use ether_tools::ether_text::*;
 /// assert_eq!(Verdict::AllAccepted.with(false), Verdict::SomeRefused);
 /// ```

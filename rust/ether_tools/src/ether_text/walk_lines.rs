@@ -1,7 +1,7 @@
 //! Writes the lines of a frame's walk.
 
 use crate::ether_text::write_lines::{write_fault, write_rest, write_unit};
-use crate::ether_text::{OutputBuffer, Sink};
+use etherpeel::ether_output::{OutputBuffer, Sink};
 use etherpeel::ether_peel::{Peel, PeelFault, Start};
 
 /// Writes the lines of a frame's walk, and returns whether the frame is accepted.
@@ -12,12 +12,15 @@ use etherpeel::ether_peel::{Peel, PeelFault, Start};
 /// ```
 /// # use etherpeel::*;
 /// # use etherpeel::ether_peel::*;
+/// # use etherpeel::ether_fields::*;
 /// # use etherpeel::ether_sll2::*;
 /// # use etherpeel::ether_packet::*;
 /// # use etherpeel::ether_filter::*;
 /// # use etherpeel::ether_pcap::*;
 /// # use etherpeel::ether_content::*;
 /// # use etherpeel::ether_switch::*;
+/// # use etherpeel::ether_output::*;
+/// # use etherpeel::ether_format::*;
 /// # use ether_tools::ether_text::*;
 /// # use arrayvec::ArrayVec;
 /// let frame = [

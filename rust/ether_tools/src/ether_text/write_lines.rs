@@ -2,13 +2,12 @@
 //!
 //! Each is appended to the output piece by piece, since the formatter would take twice as long.
 
-use crate::ether_text::decimals::write_decimal;
-use crate::ether_text::write_hex::{hex_address, hex_fcs, hex_long, hex_type};
-use crate::ether_text::{OutputBuffer, Sink};
+use crate::ether_text::write_hex::{hex_address, hex_fcs, hex_long};
+use etherpeel::ether_output::{OutputBuffer, Sink, hex_type, source_of, write_decimal, write_number};
 use etherpeel::ether_peel::{PeelError, PeelFault, PeelUnit, RestKind};
 use etherpeel::err::{self, LenError};
 use etherpeel::{
-    ArpPacketSlice, EtherType, Ethernet2Slice, LenSource, LinuxSllProtocolType, LinuxSllSlice,
+    ArpPacketSlice, EtherType, Ethernet2Slice, LinuxSllProtocolType, LinuxSllSlice,
     MacsecHeaderSlice, MacsecPType, SingleVlanSlice,
 };
 
@@ -305,42 +304,7 @@ fn write_macsec_error<W: Sink>(out: &mut OutputBuffer<'_, W>, error: &err::macse
     }
 }
 
-/// Writes a word with the spaces around it, and a number in decimal digits.
-///
-/// <details><summary>Contract</summary>
-///
-/// ```text
-/// ensures { Takes W.contents W.can_fail out.old (word.now ++ decimal number) out.new }
-/// ```
-///
-/// </details>
-pub fn write_number<W: Sink>(out: &mut OutputBuffer<'_, W>, word: &[u8], number: usize) {
-    out.append(word);
-    write_decimal(out, number);
-}
-
 /// The word for a window's mark: `open` or `closed`.
 fn mark_of(closed: bool) -> &'static str {
     if closed { "closed" } else { "open" }
-}
-
-/// The word for the source of a length.
-///
-/// <details><summary>Contract</summary>
-///
-/// ```text
-/// ensures { result.now ≡ source_text source }
-/// ```
-///
-/// </details>
-pub fn source_of(source: LenSource) -> &'static str {
-    match source {
-        LenSource::Slice => "slice",
-        LenSource::MacsecShortLength => "macsec_short_length",
-        LenSource::Ipv4HeaderTotalLen => "ipv4_total_len",
-        LenSource::Ipv6HeaderPayloadLen => "ipv6_payload_len",
-        LenSource::UdpHeaderLen => "udp_len",
-        LenSource::TcpHeaderLen => "tcp_len",
-        LenSource::ArpAddrLengths => "arp_addr_lengths",
-    }
 }

@@ -15,6 +15,7 @@ use crate::ether_sll2::{LinuxSll2Header, LinuxSll2Slice};
 /// ```
 /// # use etherpeel::*;
 /// # use etherpeel::ether_peel::*;
+/// # use etherpeel::ether_fields::*;
 /// # use etherpeel::ether_sll2::*;
 /// # use etherpeel::ether_packet::*;
 /// # use etherpeel::ether_filter::*;

@@ -20,13 +20,14 @@ pub(crate) struct Opening {
 /// The length with which a packet might have further headers; `None` if its headers are known.
 #[inline]
 pub(crate) fn find_opening(packet: &Packet<'_>) -> Option<Opening> {
+    let len = frame_len(packet.frame);
     let lost = lost(packet);
     if lost == 0 {
         return None;
     }
     if has_fcs(packet.start) {
         return Some(Opening {
-            needed: packet.frame.len().saturating_add(lost),
+            needed: len.saturating_add(lost),
             layer: None,
         });
     }
@@ -35,9 +36,15 @@ pub(crate) fn find_opening(packet: &Packet<'_>) -> Option<Opening> {
         return None;
     }
     Some(Opening {
-        needed: packet.frame.len().saturating_add(missing),
+        needed: len.saturating_add(missing),
         layer: Some(layer),
     })
+}
+
+/// The number of bytes of a frame.
+#[inline]
+fn frame_len(frame: &[u8]) -> usize {
+    frame.len()
 }
 
 /// The number of bytes that are missing at the end of a frame, and the layer of the unit that needs them. `None` if
@@ -69,7 +76,7 @@ fn lost(packet: &Packet<'_>) -> usize {
 pub(crate) fn known(
     primitive: Primitive,
     packet: &Packet<'_>,
-    seen: &Option<Seen>,
+    seen: &mut Seen,
     opening: Option<Opening>,
 ) -> Option<bool> {
     let is_match = matches_primitive(&primitive, packet, seen);
@@ -86,7 +93,7 @@ pub(crate) fn known(
 fn is_known(
     primitive: Primitive,
     packet: &Packet<'_>,
-    seen: &Option<Seen>,
+    seen: &mut Seen,
     is_match: bool,
     opening: Opening,
 ) -> bool {
@@ -134,7 +141,7 @@ fn is_of_link(primitive: Primitive) -> bool {
 /// Whether the headers so far decide a primitive, whatever headers follow. `is_match` says whether it matches these
 /// headers.
 #[inline]
-fn is_told(primitive: Primitive, packet: &Packet<'_>, seen: &Option<Seen>, is_match: bool) -> bool {
+fn is_told(primitive: Primitive, packet: &Packet<'_>, seen: &mut Seen, is_match: bool) -> bool {
     match primitive {
         Primitive::OuterVlan(_) => matches_primitive(&Primitive::Vlan, packet, seen),
         Primitive::InnerVlan(_) | Primitive::Refused => false,

@@ -12,10 +12,14 @@ const BROADCAST: u64 = 0xFFFF_FFFF_FFFF;
 #[derive(Clone, Copy)]
 pub(crate) enum Fields {
     /// The two addresses of an Ethernet II header.
-    Link { destination: u64, source: u64 },
+    Link {
+        destination: [u8; 6],
+        source: [u8; 6],
+    },
     /// The identifier of a VLAN tag.
     Tag(u16),
     SecTag,
+    Arp,
     Other,
 }
 
@@ -24,18 +28,19 @@ pub(crate) enum Fields {
 pub(crate) fn read_fields(unit: &PeelUnit<'_>) -> Fields {
     match unit {
         PeelUnit::Ethernet2(link) => Fields::Link {
-            destination: address(link.destination()),
-            source: address(link.source()),
+            destination: link.destination(),
+            source: link.source(),
         },
         PeelUnit::Vlan(tag) => Fields::Tag(tag.vlan_identifier().value()),
         PeelUnit::Macsec(_) => Fields::SecTag,
+        PeelUnit::Arp(_) => Fields::Arp,
         _ => Fields::Other,
     }
 }
 
 /// An address as one number, its first byte the most significant one.
 #[inline]
-fn address(bytes: [u8; 6]) -> u64 {
+pub(crate) fn address(bytes: [u8; 6]) -> u64 {
     let [a, b, c, d, e, f] = bytes;
     u64_of([0, 0, a, b, c, d, e, f])
 }

@@ -5,13 +5,11 @@ use crate::ether_filter::decision::Decision;
 use crate::ether_filter::filter::MAX_WORDS;
 use crate::ether_filter::instruction::Instruction;
 use crate::ether_filter::jumps::{HOLDS, jumps_of, past_tags};
-use crate::ether_filter::matching::{matches_primitive, matches_walked};
+use crate::ether_filter::matching::matches_primitive;
 use crate::ether_filter::node::Node;
 use crate::ether_filter::packet::Packet;
-use crate::ether_filter::primitive::Primitive;
-use crate::ether_filter::seen::{Seen, Tags, look, tags_seen};
+use crate::ether_filter::seen::{Seen, Tags, tags_seen};
 use arrayvec::ArrayVec;
-use crate::ether_peel::Start;
 
 /// Returns `true` if a packet matches the filter of these instructions, as [`Filter::matches`](crate::ether_filter::Filter::matches)
 /// says.
@@ -21,6 +19,7 @@ use crate::ether_peel::Start;
 /// ```
 /// # use etherpeel::*;
 /// # use etherpeel::ether_peel::*;
+/// # use etherpeel::ether_fields::*;
 /// # use etherpeel::ether_sll2::*;
 /// # use etherpeel::ether_packet::*;
 /// # use etherpeel::ether_filter::*;
@@ -53,20 +52,19 @@ use crate::ether_peel::Start;
 /// </details>
 #[inline]
 pub fn matches(instructions: &[Instruction], packet: &Packet<'_>) -> bool {
+    let mut seen = Seen::new();
     if let [instruction] = instructions {
         if let Some(primitive) = instruction.primitive() {
-            return matches_walked(&primitive, packet);
+            return matches_primitive(&primitive, packet, &mut seen);
         }
     }
-    matches_by_jumps(instructions, packet)
+    matches_by_jumps(instructions, packet, &mut seen)
 }
 
-/// Whether a packet matches, by what one walk shows for all primitives.
-#[inline]
-fn matches_by_jumps(instructions: &[Instruction], packet: &Packet<'_>) -> bool {
-    let seen = look_for(instructions, packet.start, packet.frame);
-    let tags = tags_seen(&seen);
-    let mut at = past_misses(instructions, 0, tags);
+/// Whether a packet matches: tests the primitives from left to right that decide this.
+#[inline(always)]
+fn matches_by_jumps(instructions: &[Instruction], packet: &Packet<'_>, seen: &mut Seen) -> bool {
+    let mut at = 0;
     while at < instructions.len() {
         let instruction = &instructions[at];
         let Some(primitive) = instruction.primitive() else {
@@ -74,11 +72,11 @@ fn matches_by_jumps(instructions: &[Instruction], packet: &Packet<'_>) -> bool {
         };
         let next = instruction
             .jump
-            .after(matches_primitive(&primitive, packet, &seen));
+            .after(matches_primitive(&primitive, packet, seen));
         if next <= at {
             return false; // not reached: each jump leads forward
         }
-        at = past_misses(instructions, next, tags);
+        at = past_misses(instructions, next, tags_seen(seen));
     }
     at == usize::from(HOLDS)
 }
@@ -94,7 +92,7 @@ fn past_misses(instructions: &[Instruction], begin: usize, tags: Tags) -> usize 
 }
 
 /// .. past primitives that ask for VLAN tags, if there are none.
-#[inline]
+#[inline(never)]
 fn past_all(instructions: &[Instruction], begin: usize) -> usize {
     let mut at = begin;
     while at < instructions.len() && instructions[at].asks_tags() {
@@ -108,7 +106,7 @@ fn past_all(instructions: &[Instruction], begin: usize) -> usize {
 }
 
 /// .. past primitives that ask for another identifier than that of the only VLAN tag.
-#[inline]
+#[inline(never)]
 fn past_others(instructions: &[Instruction], begin: usize, id: u16) -> usize {
     let mut at = begin;
     while at < instructions.len() && instructions[at].asks_other_id(id) {
@@ -139,7 +137,7 @@ fn past_others(instructions: &[Instruction], begin: usize, id: u16) -> usize {
 #[inline]
 pub fn decide(instructions: &[Instruction], packet: &Packet<'_>) -> Decision {
     let opening = find_opening(packet);
-    let seen = look_for(instructions, packet.start, packet.frame);
+    let mut seen = Seen::new();
     let mut values = ArrayVec::new();
     for instruction in instructions {
         if values.is_full() {
@@ -148,7 +146,7 @@ pub fn decide(instructions: &[Instruction], packet: &Packet<'_>) -> Decision {
         let Some(node) = instruction.node() else {
             return Decision::Fails; // not reached: each instruction has a node
         };
-        decide_node(&mut values, node, packet, &seen, opening);
+        decide_node(&mut values, node, packet, &mut seen, opening);
     }
     decision(values.pop().unwrap_or(None), opening)
 }
@@ -163,29 +161,6 @@ pub(crate) fn instructions_of(nodes: &[Node]) -> ArrayVec<Instruction, MAX_WORDS
         instructions.push(Instruction::of(*node, jumps[at], past_tags[at]));
     }
     instructions
-}
-
-/// What the headers of a packet show. `None` if no instruction asks for headers, or if there is no room for what they
-/// show.
-#[inline]
-fn look_for(instructions: &[Instruction], start: Start, frame: &[u8]) -> Option<Seen> {
-    for instruction in instructions {
-        if let Some(primitive) = instruction.primitive() {
-            if asks_headers(primitive) {
-                return look(start, frame);
-            }
-        }
-    }
-    None
-}
-
-/// Whether a primitive asks for headers.
-#[inline]
-fn asks_headers(primitive: Primitive) -> bool {
-    !matches!(
-        primitive,
-        Primitive::Cut | Primitive::Less(_) | Primitive::Greater(_)
-    )
 }
 
 /// The decision on an expression with this value, where `None` is unknown.
@@ -205,7 +180,7 @@ fn decide_node(
     values: &mut ArrayVec<Option<bool>, MAX_WORDS>,
     node: Node,
     packet: &Packet<'_>,
-    seen: &Option<Seen>,
+    seen: &mut Seen,
     opening: Option<Opening>,
 ) {
     match node {

@@ -1,191 +1,194 @@
 //! `Seen`: what one walk through a packet shows, for all primitives together.
 
-use crate::ether_filter::fields::{Fields, announced_type, is_shown_by_link, read_fields};
+use crate::ether_filter::fields::{Fields, address, announced_type, is_shown_by_link, read_fields};
 use crate::ether_filter::primitive::Primitive;
-use arrayvec::ArrayVec;
+use crate::ether_filter::tag_marks::{Tag, TagMarks, has_id, has_type, mark};
 use crate::ether_peel::{Peel, Start};
-
-/// The most VLAN identifiers, and the most ether types, that are kept.
-const ROOM: usize = 8;
+use crate::EtherType;
 
 /// The two addresses of a link.
 #[derive(Clone, Copy)]
 pub(crate) struct Addresses {
-    destination: u64,
-    source: u64,
+    destination: [u8; 6],
+    source: [u8; 6],
 }
 
-/// What headers show, except for the identifiers and ether types, which can be many.
-#[derive(Clone, Copy)]
-pub(crate) struct Told {
-    link: Option<Addresses>,
-    /// The identifier of the first VLAN tag.
-    outer: Option<u16>,
-    /// The identifier of the last VLAN tag, if there are two or more.
-    inner: Option<u16>,
-    has_sec_tag: bool,
-    is_refused: bool,
-}
-
-/// What headers show.
+/// What the headers of a packet show.
 pub(crate) struct Seen {
-    told: Told,
-    /// The identifiers of the VLAN tags.
-    ids: ArrayVec<u16, ROOM>,
-    /// The ether types that are announced.
-    types: ArrayVec<u16, ROOM>,
+    /// Whether the walk was taken.
+    pub is_walked: bool,
+    is_refused: bool,
+    has_sec_tag: bool,
+    has_arp: bool,
+    link: Option<Addresses>,
+    /// The ether type that is announced after the last header.
+    last: Option<u16>,
+    /// The first VLAN tag.
+    outer: Option<Tag>,
+    /// The last VLAN tag, if there are two or more.
+    inner: Option<Tag>,
+    /// The VLAN tags between these.
+    between: Option<TagMarks>,
 }
 
-/// Walks through a packet, and returns what its headers show. `None` if there is no room for that.
-#[inline]
-pub(crate) fn look(start: Start, frame: &[u8]) -> Option<Seen> {
-    let mut peel = Peel::new(start, frame);
-    let mut seen = begin(announced_type(peel.kind()));
-    loop {
-        match peel.next() {
-            Some(Ok(unit)) => {
-                if !take(&mut seen, read_fields(&unit), announced_type(peel.kind())) {
-                    return None;
-                }
-            }
-            Some(Err(_)) => {
-                seen.told.is_refused = true;
-                return Some(seen);
-            }
-            None => return Some(seen),
+impl Seen {
+    /// What is known before the walk.
+    #[inline(always)]
+    pub(crate) fn new() -> Seen {
+        Seen {
+            is_walked: false,
+            is_refused: false,
+            has_sec_tag: false,
+            has_arp: false,
+            link: None,
+            last: None,
+            outer: None,
+            inner: None,
+            between: None,
         }
     }
 }
 
-/// What is known before the first header: the ether type that is announced, if one is.
-#[inline]
-fn begin(announced: Option<u16>) -> Seen {
-    let mut types = ArrayVec::new();
-    if let Some(number) = announced {
-        types.push(number);
-    }
-    Seen {
-        told: Told {
-            link: None,
-            outer: None,
-            inner: None,
-            has_sec_tag: false,
-            is_refused: false,
-        },
-        ids: ArrayVec::new(),
-        types,
+/// Walks through a packet, and keeps what its headers show.
+#[inline(always)]
+pub(crate) fn look(start: Start, frame: &[u8], seen: &mut Seen) {
+    let mut peel = Peel::new(start, frame);
+    seen.is_walked = true;
+    loop {
+        let announced = announced_type(peel.kind());
+        match peel.next() {
+            Some(Ok(unit)) => take(seen, read_fields(&unit), announced),
+            Some(Err(_)) => {
+                seen.last = announced;
+                seen.is_refused = true;
+                return;
+            }
+            None => {
+                seen.last = announced;
+                return;
+            }
+        }
     }
 }
 
-/// Adds what a further header shows. Returns `false` if there is no room for it.
-#[inline]
-fn take(seen: &mut Seen, fields: Fields, announced: Option<u16>) -> bool {
-    if !fits(seen.told.link, fields) {
-        return false;
-    }
-    seen.told = told_after(seen.told, fields);
-    keep(&mut seen.ids, tag_id(fields)) && keep(&mut seen.types, announced)
-}
-
-/// Whether these are not the fields of a second link.
-#[inline]
-fn fits(link: Option<Addresses>, fields: Fields) -> bool {
-    !matches!((link, fields), (Some(_), Fields::Link { .. }))
-}
-
-/// What is known after a further header with these fields.
-#[inline]
-fn told_after(told: Told, fields: Fields) -> Told {
+/// Adds what a further header shows, which this ether type announces.
+#[inline(always)]
+fn take(seen: &mut Seen, fields: Fields, announced: Option<u16>) {
     match fields {
         Fields::Link {
             destination,
             source,
-        } => Told {
-            link: Some(Addresses {
+        } => {
+            seen.link = Some(Addresses {
                 destination,
                 source,
-            }),
-            ..told
-        },
-        Fields::Tag(id) => match told.outer {
-            None => Told {
-                outer: Some(id),
-                inner: None,
-                ..told
-            },
-            Some(_) => Told {
-                inner: Some(id),
-                ..told
-            },
-        },
-        Fields::SecTag => Told {
-            has_sec_tag: true,
-            ..told
-        },
-        Fields::Other => told,
-    }
-}
-
-/// The identifier of a VLAN tag.
-#[inline]
-fn tag_id(fields: Fields) -> Option<u16> {
-    match fields {
-        Fields::Tag(id) => Some(id),
-        _ => None,
-    }
-}
-
-/// Appends a number, if there is one. Returns `false` if there is no room for it.
-#[inline]
-fn keep(numbers: &mut ArrayVec<u16, ROOM>, number: Option<u16>) -> bool {
-    if let Some(number) = number {
-        if numbers.is_full() {
-            return false;
+            });
         }
-        numbers.push(number);
+        Fields::Tag(id) => take_tag(
+            seen,
+            Tag {
+                ether_type: announced,
+                id,
+            },
+        ),
+        Fields::SecTag => seen.has_sec_tag = true,
+        Fields::Arp => seen.has_arp = true,
+        Fields::Other => {}
     }
-    true
 }
 
-/// Whether a primitive matches a packet of these lengths in which this was seen.
-#[inline]
-pub(crate) fn is_seen(
-    primitive: &Primitive,
-    captured_len: usize,
-    original_len: u32,
-    seen: &Seen,
-) -> bool {
+/// Adds a further VLAN tag.
+#[inline(always)]
+fn take_tag(seen: &mut Seen, tag: Tag) {
+    if seen.outer.is_none() {
+        seen.outer = Some(tag);
+        return;
+    }
+    if let Some(former) = seen.inner {
+        mark(&mut seen.between, former);
+    }
+    seen.inner = Some(tag);
+}
+
+/// Whether a primitive about headers matches a packet in which this was seen.
+#[inline(always)]
+pub(crate) fn is_seen(primitive: &Primitive, seen: &Seen) -> bool {
     match *primitive {
-        Primitive::Vlan => seen.told.outer.is_some(),
-        Primitive::VlanId(id) => has(seen.ids.as_slice(), id),
-        Primitive::OuterVlan(id) => seen.told.outer == Some(id),
-        Primitive::InnerVlan(id) => seen.told.inner == Some(id),
-        Primitive::Macsec => seen.told.has_sec_tag,
-        Primitive::EtherType(number) => has(seen.types.as_slice(), number),
-        Primitive::Refused => seen.told.is_refused,
-        Primitive::Cut => captured_len < original_len as usize,
-        Primitive::Less(len) => original_len <= len,
-        Primitive::Greater(len) => original_len >= len,
+        Primitive::Vlan => seen.outer.is_some(),
+        Primitive::VlanId(id) => is_id(seen.outer, id) || is_further_id(id, seen),
+        Primitive::OuterVlan(id) => is_id(seen.outer, id),
+        Primitive::InnerVlan(id) => is_id(seen.inner, id),
+        Primitive::Macsec => seen.has_sec_tag,
+        Primitive::EtherType(number) => is_announced(number, seen),
+        Primitive::Refused => seen.is_refused,
+        Primitive::Cut | Primitive::Less(_) | Primitive::Greater(_) => false,
         Primitive::Source(_)
         | Primitive::Destination(_)
         | Primitive::Host(_)
         | Primitive::Broadcast
-        | Primitive::Multicast => match seen.told.link {
-            Some(link) => is_shown_by_link(*primitive, link.destination, link.source),
+        | Primitive::Multicast => match seen.link {
+            Some(link) => is_shown_by_link(
+                *primitive,
+                address(link.destination),
+                address(link.source),
+            ),
             None => false,
         },
     }
 }
 
-/// Whether a number is among those that are kept.
-#[inline]
-fn has(numbers: &[u16], number: u16) -> bool {
-    for known in numbers {
-        if *known == number {
-            return true;
-        }
+/// Whether a VLAN tag has this identifier.
+#[inline(always)]
+fn is_id(tag: Option<Tag>, id: u16) -> bool {
+    match tag {
+        Some(tag) => id == tag.id,
+        None => false,
     }
-    false
+}
+
+/// Whether a VLAN tag after the first one has this identifier.
+#[inline(always)]
+fn is_further_id(id: u16, seen: &Seen) -> bool {
+    match seen.inner {
+        Some(tag) => id == tag.id || has_id(&seen.between, id),
+        None => false,
+    }
+}
+
+/// Whether a VLAN tag is announced by this ether type.
+#[inline(always)]
+fn is_type(tag: Option<Tag>, number: u16) -> bool {
+    match tag {
+        Some(tag) => is_number(tag.ether_type, number),
+        None => false,
+    }
+}
+
+/// Whether there is an ether type, and it is this one.
+#[inline(always)]
+fn is_number(ether_type: Option<u16>, number: u16) -> bool {
+    match ether_type {
+        Some(ether_type) => number == ether_type,
+        None => false,
+    }
+}
+
+/// Whether an ether type is announced.
+#[inline]
+fn is_announced(number: u16, seen: &Seen) -> bool {
+    is_number(seen.last, number)
+        || match EtherType(number) {
+            EtherType::VLAN_TAGGED_FRAME
+            | EtherType::PROVIDER_BRIDGING
+            | EtherType::VLAN_DOUBLE_TAGGED_FRAME => {
+                is_type(seen.outer, number)
+                    || is_type(seen.inner, number)
+                    || has_type(&seen.between, number)
+            }
+            EtherType::MACSEC => seen.has_sec_tag,
+            EtherType::ARP => seen.has_arp,
+            _ => false,
+        }
 }
 
 /// What is known of the VLAN tags of a packet.
@@ -200,16 +203,14 @@ pub(crate) enum Tags {
 }
 
 /// What is known of the VLAN tags of a packet, by what was seen in it.
-#[inline]
-pub(crate) fn tags_seen(seen: &Option<Seen>) -> Tags {
-    let Some(seen) = seen else {
+#[inline(always)]
+pub(crate) fn tags_seen(seen: &Seen) -> Tags {
+    if !seen.is_walked {
         return Tags::Any;
-    };
-    if seen.told.outer.is_none() {
-        return Tags::Untagged;
     }
-    match seen.ids.as_slice() {
-        [id] => Tags::One(*id),
+    match (seen.outer, seen.inner) {
+        (None, _) => Tags::Untagged,
+        (Some(tag), None) => Tags::One(tag.id),
         _ => Tags::Any,
     }
 }

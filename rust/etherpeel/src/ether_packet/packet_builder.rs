@@ -29,6 +29,7 @@ pub enum PacketContent<'a> {
 /// ```
 /// # use etherpeel::*;
 /// # use etherpeel::ether_peel::*;
+/// # use etherpeel::ether_fields::*;
 /// # use etherpeel::ether_sll2::*;
 /// # use etherpeel::ether_packet::*;
 /// let tags = [LinkExtHeader::Vlan(SingleVlanHeader::from_bytes([0x00, 0x64, 0x00, 0x00]))];

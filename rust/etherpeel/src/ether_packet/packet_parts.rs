@@ -15,6 +15,7 @@ use crate::{ArpPacket, EtherType, LinkExtHeader, LinkHeader};
 /// ```
 /// # use etherpeel::*;
 /// # use etherpeel::ether_peel::*;
+/// # use etherpeel::ether_fields::*;
 /// # use etherpeel::ether_sll2::*;
 /// # use etherpeel::ether_packet::*;
 /// let frame = [
@@ -80,6 +81,7 @@ impl<'a> PacketParts<'a> {
     /// ```
     /// # use etherpeel::*;
     /// # use etherpeel::ether_peel::*;
+    /// # use etherpeel::ether_fields::*;
     /// # use etherpeel::ether_sll2::*;
     /// # use etherpeel::ether_packet::*;
     /// let frame = [

@@ -28,6 +28,7 @@ use crate::SingleVlanHeader;
 /// ```
 /// # use etherpeel::*;
 /// # use etherpeel::ether_peel::*;
+/// # use etherpeel::ether_fields::*;
 /// # use etherpeel::ether_sll2::*;
 /// # use etherpeel::ether_packet::*;
 /// # fn main() -> Result<(), Box<dyn std::error::Error>> {

@@ -27,6 +27,7 @@ use crate::{Ethernet2Slice, LinkExtHeader, LinkHeader, LinuxSllSlice};
 /// ```
 /// # use etherpeel::*;
 /// # use etherpeel::ether_peel::*;
+/// # use etherpeel::ether_fields::*;
 /// # use etherpeel::ether_sll2::*;
 /// # use etherpeel::ether_packet::*;
 /// let mut frame = [
@@ -127,6 +128,7 @@ fn ext_difference(new: &LinkExtHeader, old: &LinkExtHeader) -> Option<Difference
 /// ```
 /// # use etherpeel::*;
 /// # use etherpeel::ether_peel::*;
+/// # use etherpeel::ether_fields::*;
 /// # use etherpeel::ether_sll2::*;
 /// # use etherpeel::ether_packet::*;
 /// let mut frame = [

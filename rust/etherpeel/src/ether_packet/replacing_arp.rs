@@ -28,6 +28,7 @@ use crate::{ArpPacket, ArpPacketSlice};
 /// ```
 /// # use etherpeel::*;
 /// # use etherpeel::ether_peel::*;
+/// # use etherpeel::ether_fields::*;
 /// # use etherpeel::ether_sll2::*;
 /// # use etherpeel::ether_packet::*;
 /// let mut frame = [

@@ -30,6 +30,7 @@ struct IndexedVlan {
 /// ```
 /// # use etherpeel::*;
 /// # use etherpeel::ether_peel::*;
+/// # use etherpeel::ether_fields::*;
 /// # use etherpeel::ether_sll2::*;
 /// # use etherpeel::ether_packet::*;
 /// # fn main() -> Result<(), Box<dyn std::error::Error>> {
@@ -73,6 +74,7 @@ pub fn find_vlan(start: Start, frame: &[u8], vlan_id: VlanId) -> Option<usize> {
 /// ```
 /// # use etherpeel::*;
 /// # use etherpeel::ether_peel::*;
+/// # use etherpeel::ether_fields::*;
 /// # use etherpeel::ether_sll2::*;
 /// # use etherpeel::ether_packet::*;
 /// # fn main() -> Result<(), Box<dyn std::error::Error>> {
@@ -131,6 +133,7 @@ pub fn replace_vlan_id(start: Start, frame: &mut [u8], from: VlanId, to: VlanId)
 /// ```
 /// # use etherpeel::*;
 /// # use etherpeel::ether_peel::*;
+/// # use etherpeel::ether_fields::*;
 /// # use etherpeel::ether_sll2::*;
 /// # use etherpeel::ether_packet::*;
 /// # fn main() -> Result<(), Box<dyn std::error::Error>> {
@@ -188,6 +191,7 @@ pub fn set_vlan_id(
 /// ```
 /// # use etherpeel::*;
 /// # use etherpeel::ether_peel::*;
+/// # use etherpeel::ether_fields::*;
 /// # use etherpeel::ether_sll2::*;
 /// # use etherpeel::ether_packet::*;
 /// # fn main() -> Result<(), Box<dyn std::error::Error>> {
@@ -257,6 +261,7 @@ pub fn set_vlan_tag(
 /// ```
 /// # use etherpeel::*;
 /// # use etherpeel::ether_peel::*;
+/// # use etherpeel::ether_fields::*;
 /// # use etherpeel::ether_sll2::*;
 /// # use etherpeel::ether_packet::*;
 /// # fn main() -> Result<(), Box<dyn std::error::Error>> {

@@ -11,6 +11,7 @@ use crate::ether_peel::{Peel, PeelUnit, Start};
 /// ```
 /// # use etherpeel::*;
 /// # use etherpeel::ether_peel::*;
+/// # use etherpeel::ether_fields::*;
 /// # use etherpeel::ether_sll2::*;
 /// # use etherpeel::ether_packet::*;
 /// let frame = [

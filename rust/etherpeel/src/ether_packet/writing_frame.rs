@@ -47,6 +47,7 @@ impl<'a> PacketParts<'a> {
     /// ```
     /// # use etherpeel::*;
     /// # use etherpeel::ether_peel::*;
+    /// # use etherpeel::ether_fields::*;
     /// # use etherpeel::ether_sll2::*;
     /// # use etherpeel::ether_packet::*;
     /// let frame = [

@@ -23,6 +23,7 @@ impl<'a, 'b> PacketBuilder<'a, 'b> {
     /// ```
     /// # use etherpeel::*;
     /// # use etherpeel::ether_peel::*;
+    /// # use etherpeel::ether_fields::*;
     /// # use etherpeel::ether_sll2::*;
     /// # use etherpeel::ether_packet::*;
     /// # fn main() -> Result<(), Box<dyn std::error::Error>> {

@@ -8,6 +8,7 @@ use core::fmt;
 /// ```
 /// # use etherpeel::*;
 /// # use etherpeel::ether_peel::*;
+/// # use etherpeel::ether_fields::*;
 /// # use etherpeel::ether_sll2::*;
 /// let error = LinuxSll2Error::Len {
 ///     required_len: 20,

@@ -20,6 +20,7 @@ use crate::ether_base::{ArpHardwareId, LinuxSllPacketType, LinuxSllProtocolType}
 /// ```
 /// # use etherpeel::*;
 /// # use etherpeel::ether_peel::*;
+/// # use etherpeel::ether_fields::*;
 /// # use etherpeel::ether_sll2::*;
 /// let bytes = [
 ///     0x81, 0x00, 0x00, 0x00, 0x00, 0x00, 0x00, 0x03, 0x00, 0x01, 0x04, 0x06, // up to the address length

@@ -11,6 +11,7 @@ use crate::ether_base::{ArpHardwareId, LinuxSllPacketType, LinuxSllProtocolType}
 /// ```
 /// # use etherpeel::*;
 /// # use etherpeel::ether_peel::*;
+/// # use etherpeel::ether_fields::*;
 /// # use etherpeel::ether_sll2::*;
 /// # fn main() -> Result<(), Box<dyn std::error::Error>> {
 /// let bytes = [

@@ -14,6 +14,7 @@ use core::fmt;
 /// ```
 /// # use etherpeel::*;
 /// # use etherpeel::ether_peel::*;
+/// # use etherpeel::ether_fields::*;
 /// # use etherpeel::ether_sll2::*;
 /// # fn main() -> Result<(), Box<dyn std::error::Error>> {
 /// let bytes = [

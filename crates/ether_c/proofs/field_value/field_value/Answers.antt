@@ -2,8 +2,8 @@ use Rattle.std.proofs.Common.{◌≡◌, ◌+◌, ◌*◌, ◌/◌, ◌%◌, ◌
 use Rattle.std.proofs.Math.Nat.{mod-eq_of_lt}
 use Rattle.std.proofs.Math.Pow.{pow-lt}
 use Rattle.std.specs.Prelude.{if◌then◌else◌, nat_lt}
-use Rattle.ether_c.specs.FieldTables.{bits_number}
-use Rattle.ether_c.proofs.BitNumbers.{bits_within}
+use Rattle.ether_fields.specs.Places.{bits_number}
+use Rattle.ether_fields.proofs.BitNumbers.{bits_within}
 use Rattle.ether_c.proofs.field_value.field_value.Goals as goal
 
 pub returns : goal.returns

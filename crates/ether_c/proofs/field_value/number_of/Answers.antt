@@ -1,8 +1,21 @@
-use Rattle.std.proofs.Common.{ℕ, ◌^◌, ◌<◌, ◌≤◌, length, arith, rules}
+use Rattle.std.proofs.Common.{◌≡◌, ℕ, suc, ◌+◌, ◌*◌, ◌^◌, ◌<◌, ◌≤◌, List, [], ◌∷◌, ◌++◌, length, take, ap, ◌∙◌, arith, rules}
+use Rattle.std.specs.Prelude.{slice_index_or}
 use Rattle.std.proofs.Math.Nat.{pow-le-pow_right}
+use Rattle.std.proofs.Math.Seq.{take-suc}
 use Rattle.std.proofs.lemmas.Grind.{pow_more}
-use Rattle.ether_c.proofs.BitNumbers.{number-take_next}
+use Rattle.etherparse.specs.Bytes.{number}
+use Rattle.ether_base.proofs.Numbers.{number-append}
 use Rattle.ether_c.proofs.field_value.number_of.Goals as goal
+
+number-take_next : (bytes : List ℕ) (i d : ℕ) → i < length bytes
+    → number (take (i + 1) bytes) ≡ number (take i bytes) * 256 + slice_index_or bytes i d
+number-take_next bytes i d lt =
+    let more : i + 1 ≡ suc i = omega arith in
+    let next : take (i + 1) bytes ≡ take i bytes ++ slice_index_or bytes i d ∷ [] = ap (λ (k : ℕ). take k bytes) more
+    ∙ take-suc bytes i d lt in
+    let joined = number-append (take i bytes) (slice_index_or bytes i d ∷ []) in
+    let e = ap number next in
+    omega arith
 
 -- at most eight bytes have been read
 few : (n i len : ℕ) → n < 256 ^ i → i < len → len ≤ 9 → n < 256 ^ 8

@@ -3,12 +3,12 @@ use Rattle.std.specs.Iterator.{size}
 use Rattle.ether_peel.specs.Walker.State.{State}
 use Rattle.ether_peel.specs.Walker.Start.{start_of}
 use Rattle.ether_peel.specs.Walker.Next.{items_left}
-use Rattle.ether_peel.proofs.Walker.Summarizing.{unit_next}
+use Rattle.ether_peel.proofs.Walker.UnderWay.{no_none, no_fault}
 use Rattle.ether_peel.specs.Walker.UnitHeader.{unit_header}
 use Rattle.ether_c.specs.FieldViews.{put_all, c_placed_fields}
 use Rattle.ether_c.proofs.UnitsGiven.{UnitGiven, unit_given}
 use Rattle.ether_c.proofs.FieldLists.{few_fields}
-use Rattle.ether_c.proofs.FieldsGiven.{UnitPlaced, unit_placed, fields_first, fields_unit, fields_fault, fields_none}
+use Rattle.ether_c.proofs.FieldsGiven.{UnitPlaced, unit_placed, fields_first, fields_unit, fields_last}
 use Rattle.ether_c.proofs.fields.fields_walked.Goals as goal
 use Rattle.ether_c.proofs.fields.fields_walked.Goals.{In-Some-Ok}
 
@@ -26,24 +26,20 @@ loop-unit-init c =
 
 -- the unit that is given
 given : (c : In-Some-Ok)
-    → (let a = c.loop-unit.invariant.1
-    in UnitGiven c.args.bytes.now a.window a.left a.ending c.loop-unit.peel c.next.new.self c.in-Some-Ok.unit)
+    → UnitGiven (start_of c.args.start) c.args.bytes.now c.loop-unit.peel c.next.new.self c.in-Some-Ok.unit
+    c.loop-unit.invariant.1.way
 given c =
-    let a = c.loop-unit.invariant.1 in
-    let gives = rw c.in-Some-Ok.field-0-is at c.in-Some-Ok.ensures.steps in
-    let next = unit_next c.args.bytes.now a.window a.left a.ending c.loop-unit.peel c.next.new.self c.in-Some-Ok.unit
-    (gives.next a.going c.args.bytes.now a.window a.left a.ending a.faces) in
-    unit_given c.args.bytes.now a.window a.left a.ending c.loop-unit.peel c.next.new.self c.in-Some-Ok.unit
-    (λ i. omega (arith, c.type_inv.bytes i)) a.faces next
+    unit_given (start_of c.args.start) c.args.bytes.now c.loop-unit.peel c.next.new.self c.in-Some-Ok.unit
+    c.loop-unit.invariant.1.way (λ i. omega (arith, c.type_inv.bytes i))
+    (rw c.in-Some-Ok.field-0-is at c.in-Some-Ok.ensures.steps)
 
 -- .. is in the frame
 placed : (c : In-Some-Ok)
-    → (let a = c.loop-unit.invariant.1
-    in UnitPlaced c.args.bytes.now a.window c.loop-unit.peel c.next.new.self c.in-Some-Ok.unit (given c).next.header)
+    → UnitPlaced c.args.bytes.now c.loop-unit.invariant.1.way.window c.loop-unit.peel c.next.new.self
+    c.in-Some-Ok.unit (given c).next.header
 placed c =
-    let a = c.loop-unit.invariant.1 in
-    unit_placed c.args.bytes.now a.window a.left a.ending c.loop-unit.peel c.next.new.self c.in-Some-Ok.unit a.faces
-    (given c)
+    unit_placed (start_of c.args.start) c.args.bytes.now c.loop-unit.peel c.next.new.self c.in-Some-Ok.unit
+    c.loop-unit.invariant.1.way (given c)
 
 pub put_unit-count-requires-clause-header : goal.put_unit-count-requires-clause-header
 put_unit-count-requires-clause-header c =
@@ -86,10 +82,11 @@ loop-unit-preserved c =
 pub returns-in-Some-Err : goal.returns-in-Some-Err
 returns-in-Some-Err c =
     let gives = rw c.in-Some-Err.field-0-is at c.in-Some-Err.ensures.steps in
-    fields_fault (start_of c.args.start) c.args.bytes.now c.loop-unit.peel c.next.new.self c.loop-unit.index
-    c.loop-unit.count c.in-Some-Err.field-0-0 c.args.fields.now c.loop-unit.fields c.loop-unit.invariant.1 gives
+    fields_last (start_of c.args.start) c.args.bytes.now c.loop-unit.peel c.next.new.self _ c.loop-unit.index
+    c.loop-unit.count c.args.fields.now c.loop-unit.fields c.loop-unit.invariant.1 (no_fault c.in-Some-Err.field-0-0)
+    gives
 
 pub returns-in-None : goal.returns-in-None
 returns-in-None c =
-    fields_none (start_of c.args.start) c.args.bytes.now c.loop-unit.peel c.next.new.self c.loop-unit.index
-    c.loop-unit.count c.args.fields.now c.loop-unit.fields c.loop-unit.invariant.1 c.in-None.ensures.steps
+    fields_last (start_of c.args.start) c.args.bytes.now c.loop-unit.peel c.next.new.self _ c.loop-unit.index
+    c.loop-unit.count c.args.fields.now c.loop-unit.fields c.loop-unit.invariant.1 no_none c.in-None.ensures.steps

@@ -3,12 +3,13 @@ use Rattle.std.specs.Iterator.{size}
 use Rattle.ether_peel.specs.Walker.State.{State}
 use Rattle.ether_peel.specs.Walker.Start.{start_with}
 use Rattle.ether_peel.specs.Walker.Next.{items_left}
-use Rattle.ether_peel.proofs.Walker.Summarizing.{unit_next, walked_start, walked_unit, walked_fault, walked_none}
+use Rattle.ether_peel.proofs.Walker.UnderWay.{no_none, no_fault}
+use Rattle.ether_peel.proofs.Walker.Summarizing.{walked_start, walked_unit, walked_fault, walked_none}
 use Rattle.ether_peel.specs.Walker.Summary.{IsSummary}
 use Rattle.ether_peel.specs.declared.walk_summary.Summary.{Summary}
 use Rattle.ether_c.specs.Views.{c_view}
 use Rattle.ether_c.specs.Walk.{GivesUnits}
-use Rattle.ether_c.proofs.UnitsGiven.{UnitGiven, unit_given, gives_first, gives_unit, gives_fault, gives_none}
+use Rattle.ether_c.proofs.UnitsGiven.{UnitGiven, unit_given, gives_first, gives_unit, gives_last}
 use Rattle.ether_c.proofs.walking.walked.Goals as goal
 use Rattle.ether_c.proofs.walking.walked.Goals.{In-Some-Ok}
 
@@ -28,15 +29,12 @@ loop-unit-init c =
 
 -- the unit that is given
 given : (c : In-Some-Ok)
-    → (let a = c.loop-unit.invariant.1
-    in UnitGiven c.args.bytes.now a.window a.left a.ending c.loop-unit.peel c.next.new.self c.in-Some-Ok.unit)
+    → UnitGiven (start_with c.args.start c.args.limit) c.args.bytes.now c.loop-unit.peel c.next.new.self
+    c.in-Some-Ok.unit c.loop-unit.invariant.1.way
 given c =
-    let a = c.loop-unit.invariant.1 in
-    let gives = rw c.in-Some-Ok.field-0-is at c.in-Some-Ok.ensures.steps in
-    let next = unit_next c.args.bytes.now a.window a.left a.ending c.loop-unit.peel c.next.new.self c.in-Some-Ok.unit
-    (gives.next a.going c.args.bytes.now a.window a.left a.ending a.faces) in
-    unit_given c.args.bytes.now a.window a.left a.ending c.loop-unit.peel c.next.new.self c.in-Some-Ok.unit
-    (λ i. omega (arith, c.type_inv.bytes i)) a.faces next
+    unit_given (start_with c.args.start c.args.limit) c.args.bytes.now c.loop-unit.peel c.next.new.self
+    c.in-Some-Ok.unit c.loop-unit.invariant.1.way (λ i. omega (arith, c.type_inv.bytes i))
+    (rw c.in-Some-Ok.field-0-is at c.in-Some-Ok.ensures.steps)
 
 pub put-requires : goal.put-requires
 put-requires c =
@@ -76,8 +74,8 @@ returns-in-Some-Err-clause-units c =
     subst
     (λ (s : Summary). GivesUnits x c.args.bytes.now c.args.units.now c.loop-unit.units s.units)
     (sym c.ended.ensures)
-    (gives_fault (start_with c.args.start c.args.limit) c.args.bytes.now c.loop-unit.peel c.next.new.self
-    c.loop-unit.count c.in-Some-Err.fault c.args.units.now c.loop-unit.units c.loop-unit.invariant.1 gives)
+    (gives_last x c.args.bytes.now c.loop-unit.peel c.next.new.self _ c.loop-unit.count c.args.units.now
+    c.loop-unit.units c.loop-unit.invariant.1 (no_fault c.in-Some-Err.fault) gives)
 
 pub returns-in-Some-Err-clause-summary : goal.returns-in-Some-Err-clause-summary
 returns-in-Some-Err-clause-summary c =
@@ -93,8 +91,8 @@ returns-in-None-clause-units c =
     subst
     (λ (s : Summary). GivesUnits x c.args.bytes.now c.args.units.now c.loop-unit.units s.units)
     (sym c.ended-in-None.ensures)
-    (gives_none (start_with c.args.start c.args.limit) c.args.bytes.now c.loop-unit.peel c.next.new.self
-    c.loop-unit.count c.args.units.now c.loop-unit.units c.loop-unit.invariant.1 c.in-None.ensures.steps)
+    (gives_last x c.args.bytes.now c.loop-unit.peel c.next.new.self _ c.loop-unit.count c.args.units.now
+    c.loop-unit.units c.loop-unit.invariant.1 no_none c.in-None.ensures.steps)
 
 pub returns-in-None-clause-summary : goal.returns-in-None-clause-summary
 returns-in-None-clause-summary c =

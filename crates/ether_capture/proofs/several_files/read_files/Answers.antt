@@ -4,18 +4,15 @@ use Rattle.std.specs.Option.{option_map, is_some}
 use Rattle.ether_text.proofs.ArgumentsLemmas.{items_end}
 use Rattle.ether_capture.specs.SeveralFiles.{IsAfter, ReadsFiles, no_more, enough, next, next_task}
 use Rattle.ether_capture.specs.Options.{listing_view, names_input}
+use Rattle.ether_capture.specs.World.{names, reads, streams}
 use Rattle.ether_stream.specs.Task.{Lines}
 use Rattle.ether_capture.proofs.SeveralFilesLemmas.{file_names, names_in, settled}
 use Rattle.ether_capture.proofs.several_files.read_files.Goals as goal
 
 pub returns-then-is_done-clause-ok : goal.returns-then-is_done-clause-ok
-returns-then-is_done-clause-ok g c =
-    let tally = c.loop-name.tally in
-    let given = g.R.Source.remaining c.loop-name.reader in
-    let held = g.W.Sink.contents c.loop-name.writer in
-    let told = g.M.Sink.contents c.loop-name.messages in
-    c.loop-name.invariant.reads tally given held told
-    (enough (names_in c.loop-name.files) tally given held told (c.is_done.ensures.0 c.if-is_done.true))
+returns-then-is_done-clause-ok g c = λ files.
+    c.loop-name.invariant.reads files c.loop-name.tally _
+    (enough (names_in c.loop-name.files) c.loop-name.tally _ (c.is_done.ensures.0 c.if-is_done.true))
 
 pub loop-name-preserved : goal.loop-name-preserved
 loop-name-preserved g c =
@@ -24,13 +21,9 @@ loop-name-preserved g c =
     let at = c.loop-name.tally in
     let given = g.R.Source.remaining c.loop-name.reader in
     let leaves = g.R.Source.remaining c.read_file.new.reader in
-    let held = g.W.Sink.contents c.loop-name.writer in
-    let mid = g.W.Sink.contents c.read_file.new.writer in
-    let told = g.M.Sink.contents c.loop-name.messages in
-    let between = g.M.Sink.contents c.read_file.new.messages in
-    let names = names_in c.next.new.self in
+    let behind = names_in c.next.new.self in
     let word = c.in-Some.name.now in
-    let cons : names_in c.loop-name.files ≡ word ∷ names = ap (map (λ s. s.now)) c.in-Some.ensures.items in
+    let cons : names_in c.loop-name.files ≡ word ∷ behind = ap (map (λ s. s.now)) c.in-Some.ensures.items in
     let going : at.left ≢ Some 0 = λ e. let t = c.is_done.ensures.1 e in absurd cc in
     let left : option_map non_zero_usize_get c.count-task.result ≡ at.left = c.count-task.ensures going in
     let same : record {
@@ -50,19 +43,20 @@ loop-name-preserved g c =
     record {
       selection = so_far.selection;
       options = refl;
-      reads = λ last after holds tells others.
-          so_far.reads last after holds tells
+      reads = λ files last after others.
+          so_far.reads files last after
           (subst
           (λ (l : List (List ℕ)).
-          ReadsFiles (g.C.Captures.has c.args.captures.now) g.R.Source.can_fail g.C.Captures.can_refuse
-          g.C.Input.Source.can_fail g.W.Sink.can_fail g.M.Sink.can_fail listing l at given held told last after holds
-          tells)
+          ReadsFiles
+          (reads (names (g.C.Captures.has c.args.captures.now) g.C.Captures.can_refuse g.C.Input.Source.can_fail)
+          g.R.Source.can_fail g.W.Sink.can_fail) g.M.Sink.can_fail listing l at
+          (streams given (g.W.Sink.contents c.loop-name.writer) (g.M.Sink.contents c.loop-name.messages) files)
+          last after)
           (sym cons)
-          (next word names at c.with-tally.result last given held told leaves mid between after holds tells going here
-          others));
+          (next word behind at c.with-tally.result last _ _ after going (here files) others));
       kept = λ no_input.
           let before = so_far.kept no_input in
-          let file = file_names word names (ap names_input (sym cons) ∙ before.1) in
+          let file = file_names word behind (ap names_input (sym cons) ∙ before.1) in
           let unread = subst (λ (n : Option (List ℕ)). IfSome n (λ _. leaves ≡ given)) file.0
           c.read_file.ensures.kept in
           (unread ∙ before.0, file.1);
@@ -73,27 +67,26 @@ loop-name-preserved g c =
 pub returns-in_err-end-clause-kept : goal.returns-in_err-end-clause-kept
 returns-in_err-end-clause-kept g c = λ no_input.
     let before = c.loop-name.invariant.kept no_input in
-    let names = names_in c.next.new.self in
+    let behind = names_in c.next.new.self in
     let word = c.in-Some.name.now in
-    let cons : names_in c.loop-name.files ≡ word ∷ names = ap (map (λ s. s.now)) c.in-Some.ensures.items in
-    let file = file_names word names (ap names_input (sym cons) ∙ before.1) in
+    let cons : names_in c.loop-name.files ≡ word ∷ behind = ap (map (λ s. s.now)) c.in-Some.ensures.items in
+    let file = file_names word behind (ap names_input (sym cons) ∙ before.1) in
     let given = g.R.Source.remaining c.loop-name.reader in
     let leaves = g.R.Source.remaining c.read_file.new.reader in
     subst (λ (n : Option (List ℕ)). IfSome n (λ _. leaves ≡ given)) file.0 c.read_file.ensures.kept ∙ before.0
 
 pub returns-clause-ok : goal.returns-clause-ok
-returns-clause-ok g c =
+returns-clause-ok g c = λ files.
     let tally = c.loop-name.tally in
-    let given = g.R.Source.remaining c.loop-name.reader in
-    let held = g.W.Sink.contents c.loop-name.writer in
-    let told = g.M.Sink.contents c.loop-name.messages in
     let none =
     ap (map (λ s. s.now))
     (items_end c.loop-name.files c.next.new.self c.next.result c.next.ensures.cases (ap is_some c.in_default.is)) in
-    c.loop-name.invariant.reads tally given held told
+    let now = streams (g.R.Source.remaining c.loop-name.reader) (g.W.Sink.contents c.loop-name.writer)
+    (g.M.Sink.contents c.loop-name.messages) files in
+    c.loop-name.invariant.reads files tally now
     (subst
     (λ (l : List (List ℕ)).
-    ReadsFiles (g.C.Captures.has c.args.captures.now) g.R.Source.can_fail g.C.Captures.can_refuse
-    g.C.Input.Source.can_fail
-    g.W.Sink.can_fail g.M.Sink.can_fail (listing_view c.args.listing) l tally given held told tally given held told)
-    (sym none) (no_more tally given held told))
+    ReadsFiles
+    (reads (names (g.C.Captures.has c.args.captures.now) g.C.Captures.can_refuse g.C.Input.Source.can_fail)
+    g.R.Source.can_fail g.W.Sink.can_fail) g.M.Sink.can_fail (listing_view c.args.listing) l tally now tally now)
+    (sym none) (no_more tally now))

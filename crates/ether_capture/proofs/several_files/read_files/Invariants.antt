@@ -1,5 +1,6 @@
 use Rattle.std.proofs.Common.{◌≡◌, ◌⊎◌, ℕ, List, Option, false, length}
 use Rattle.ether_capture.specs.SeveralFiles.{ReadsFiles, Settles, nothing_read}
+use Rattle.ether_capture.specs.World.{Streams, names, reads, streams}
 use Rattle.ether_capture.specs.Options.{listing_view, names_input}
 use Rattle.ether_capture.specs.declared.several_files.Tally.{Tally}
 use Rattle.ether_capture.proofs.SeveralFilesLemmas.{names_in}
@@ -11,17 +12,17 @@ invariant-loop-name g l =
     record {
       selection : l.task.selection ≡ l.fn.listing.selection;
       options : l.options ≡ l.fn.listing.options;
-      reads : (last : Tally) (after holds tells : Option (List ℕ))
-          → ReadsFiles (g.C.Captures.has l.fn.captures) g.R.Source.can_fail g.C.Captures.can_refuse
-          g.C.Input.Source.can_fail
-          g.W.Sink.can_fail g.M.Sink.can_fail listing (names_in l.files) l.tally (g.R.Source.remaining l.reader)
-          (g.W.Sink.contents l.writer) (g.M.Sink.contents l.messages) last after holds tells
-          → ReadsFiles (g.C.Captures.has l.fn.captures) g.R.Source.can_fail g.C.Captures.can_refuse
-          g.C.Input.Source.can_fail
-          g.W.Sink.can_fail g.M.Sink.can_fail listing listing.files (nothing_read listing.count)
-          (g.R.Source.remaining l.fn.reader) (g.W.Sink.contents l.fn.writer)
-          (g.M.Sink.contents l.fn.messages) last after holds
-          tells;
+      reads : (files : List ℕ → Option (List ℕ)) (last : Tally) (after : Streams)
+          → ReadsFiles (reads (names (g.C.Captures.has l.fn.captures) g.C.Captures.can_refuse g.C.Input.Source.can_fail)
+          g.R.Source.can_fail g.W.Sink.can_fail) g.M.Sink.can_fail listing (names_in l.files) l.tally
+          (streams (g.R.Source.remaining l.reader) (g.W.Sink.contents l.writer) (g.M.Sink.contents l.messages) files)
+          last after
+          → ReadsFiles (reads (names (g.C.Captures.has l.fn.captures) g.C.Captures.can_refuse g.C.Input.Source.can_fail)
+          g.R.Source.can_fail g.W.Sink.can_fail) g.M.Sink.can_fail listing listing.files
+          (nothing_read listing.count)
+          (streams (g.R.Source.remaining l.fn.reader) (g.W.Sink.contents l.fn.writer)
+          (g.M.Sink.contents l.fn.messages) files)
+          last after;
       kept : names_input listing.files ≡ false
           → (g.R.Source.remaining l.reader ≡ g.R.Source.remaining l.fn.reader)
           × (names_input (names_in l.files) ≡ false);

@@ -1,4 +1,4 @@
-use Rattle.ether_text.proofs.OutputBufferLemmas.{Takes-then, Takes-same}
+use Rattle.ether_output.proofs.OutputBufferLemmas.{Takes-then, Takes-same}
 use Rattle.ether_capture.proofs.statistics_format.write_statistic.Goals as goal
 
 pub returns-in-Text : goal.returns-in-Text

@@ -8,6 +8,8 @@ use Rattle.ether_filter.specs.Expressions.{Expression}
 use Rattle.ether_filter.specs.Postfix.{postfix, pushed, expression_of-postfix}
 use Rattle.ether_filter.specs.Evaluation.{AreValues, IsValue}
 use Rattle.ether_filter.proofs.Evaluated.{evaluates_next, evaluated}
+use Rattle.ether_filter.specs.Primitives.{walked}
+use Rattle.ether_filter.proofs.Looking.{nothing_seen}
 use Rattle.ether_filter.proofs.Completions.{says_one}
 use Rattle.ether_filter.proofs.ProgramLemmas.{no_instruction}
 use Rattle.ether_filter.proofs.filter_program.decide.Goals as goal
@@ -15,7 +17,8 @@ use Rattle.ether_filter.proofs.filter_program.decide.Goals as goal
 pub loop-instruction-init : goal.loop-instruction-init
 loop-instruction-init c = (
   omega (arith, ap length c.new-values.ensures),
-  λ x p hs e walk seen at. rw c.new-values.ensures (record { stack = []; values = tt; rest = refl }),
+  λ hs e walk. nothing_seen (walked c.args.packet.now hs e) c.new-seen.result c.new-seen.ensures,
+  λ x p hs e walk at. rw c.new-values.ensures (record { stack = []; values = tt; rest = refl }),
 )
 
 pub returns-then-is_full-clause-says : goal.returns-then-is_full-clause-says
@@ -32,27 +35,29 @@ returns-in_default-clause-says c x p hs e walk d =
 pub loop-instruction-preserved : goal.loop-instruction-preserved
 loop-instruction-preserved c = (
   omega (arith, c.decide_node.ensures.len, c.loop-instruction.invariant.0),
-  λ x p hs e walk seen at.
+  λ hs e walk. c.decide_node.ensures.seen hs e walk (c.loop-instruction.invariant.1 hs e walk),
+  λ x p hs e walk at.
       let s = p.each c.loop-instruction.instruction-index c.loop-instruction-test.true Not no_instruction in
       let some = sym c.in-Some.is ∙ c.node.ensures ∙ s.node in
       let node : c.in-Some.node ≡ get_or (postfix x) c.loop-instruction.instruction-index Not = cc in
       evaluates_next (IsValue c.args.packet.now hs e) c.loop-instruction.values.items c.decide_node.new.values.items
       (postfix x)
       c.loop-instruction.instruction-index Not (omega (arith, c.loop-instruction-test.true, p.count))
-      (c.loop-instruction.invariant.1 x p hs e walk seen at)
+      (c.loop-instruction.invariant.2 x p hs e walk at)
       (λ xs are. subst
       (λ (n : Node). AreValues (IsValue c.args.packet.now hs e) (reverse c.decide_node.new.values.items)
-      (pushed xs n)) node (c.decide_node.ensures.values hs e walk seen at xs are)),
+      (pushed xs n)) node
+      (c.decide_node.ensures.values hs e walk (c.loop-instruction.invariant.1 hs e walk) at xs are)),
 )
 
 pub returns-clause-says : goal.returns-clause-says
 returns-clause-says c x p hs e walk d =
     let packet = c.args.packet.now in
-    let at = c.find_opening-opening.ensures hs e walk in
+    let at = c.find_opening-opening.ensures.opening hs e walk in
     let value = c.unwrap_or.ensures ∙ ap (λ (o : Option (Option Bool)). unwrap_or o None) c.pop.ensures.value in
     let is = subst (λ (y : Expression). IsValue packet hs e c.unwrap_or.result y) (expression_of-postfix x)
     (evaluated (IsValue packet hs e) x c.loop-instruction.values.items (postfix x) c.loop-instruction.instruction-index
     c.unwrap_or.result None
     refl (omega (arith, c.loop-instruction-test.false, p.count))
-    (c.loop-instruction.invariant.1 x p hs e walk (c.look_for-seen.ensures.seen hs e walk) at) value) in
+    (c.loop-instruction.invariant.2 x p hs e walk at) value) in
     says_one packet hs e x c.decision.result d walk (c.decision.ensures packet hs e x at is)

@@ -2,10 +2,11 @@ use Rattle.std.proofs.Common.{◌≤◌, List}
 use Rattle.arrayvec.specs.ArrayVec.{array_vec_len}
 use Rattle.etherparse.specs.Header.{Header}
 use Rattle.ether_peel.specs.Grammar.Stack.{Ending, Walk}
-use Rattle.ether_peel.specs.Walker.Start.{start_of, next_of}
+use Rattle.ether_peel.specs.Walker.Start.{start_of}
 use Rattle.ether_filter.specs.Expressions.{Expression}
 use Rattle.ether_filter.specs.Postfix.{postfix}
 use Rattle.ether_filter.specs.FilterProgram.{IsProgramOf}
+use Rattle.ether_filter.specs.Primitives.{walked}
 use Rattle.ether_filter.specs.Seen.{IsSeen}
 use Rattle.ether_filter.specs.Evaluation.{IsOpening, IsValue}
 use Rattle.ether_filter.proofs.Evaluated.{Evaluates}
@@ -14,6 +15,8 @@ use Rattle.ether_filter.proofs.filter_program.decide.Given as goal
 abbrev pub invariant-loop-instruction : goal.invariant-loop-instruction
 invariant-loop-instruction l =
     (array_vec_len l.values ≤ l.instruction-index)
+    × ((hs : List Header) (e : Ending) → Walk (start_of l.packet.start) l.packet.frame.now hs e
+    → IsSeen (walked l.packet hs e) l.seen)
     × ((x : Expression) → IsProgramOf l.instructions x → (hs : List Header) (e : Ending)
-    → Walk (start_of l.packet.start) l.packet.frame.now hs e → IsSeen (next_of l.packet.start) hs e l.seen
-    → IsOpening l.packet e l.opening → Evaluates (IsValue l.packet hs e) l.values.items (postfix x) l.instruction-index)
+    → Walk (start_of l.packet.start) l.packet.frame.now hs e → IsOpening l.packet e l.opening
+    → Evaluates (IsValue l.packet hs e) l.values.items (postfix x) l.instruction-index)

@@ -1,6 +1,6 @@
 use Rattle.std.proofs.Common.{◌∙◌, sym}
 use Rattle.etherparse.specs.Arp.{arp_of}
-use Rattle.ether_text.proofs.OutputBufferLemmas.{Takes-same}
+use Rattle.ether_output.proofs.OutputBufferLemmas.{Takes-same}
 use Rattle.ether_format.proofs.BriefLemmas.{of_reply, of_request}
 use Rattle.ether_format.proofs.brief.write_arp.Goals as goal
 

@@ -1,4 +1,4 @@
-use Rattle.ether_text.proofs.OutputBufferLemmas.{Takes-then, Takes-same}
+use Rattle.ether_output.proofs.OutputBufferLemmas.{Takes-then, Takes-same}
 use Rattle.ether_format.specs.Brief.{address_text}
 use Rattle.ether_format.proofs.brief.write_arp_request.Goals as goal
 

@@ -1,7 +1,7 @@
 use Rattle.std.proofs.Common.{ap, ◌∙◌, ◌++◌}
 use Rattle.std.specs.Prelude.{codes}
 use Rattle.std.specs.Fmt.{decimal}
-use Rattle.ether_text.proofs.OutputBufferLemmas.{Takes-then, Takes-same}
+use Rattle.ether_output.proofs.OutputBufferLemmas.{Takes-then, Takes-same}
 use Rattle.ether_format.proofs.brief.write_macsec.Goals as goal
 
 pub returns : goal.returns

@@ -1,5 +1,5 @@
 use Rattle.std.proofs.Common.{◌++◌, List, ℕ, codes}
-use Rattle.ether_text.proofs.OutputBufferLemmas.{Takes-then}
+use Rattle.ether_output.proofs.OutputBufferLemmas.{Takes-then}
 use Rattle.ether_format.specs.declared.column.Column.{Column}
 use Rattle.ether_format.specs.Columns.{column_name, column_view}
 use Rattle.ether_format.proofs.ListLemmas.{first_none, first_next, first_all}

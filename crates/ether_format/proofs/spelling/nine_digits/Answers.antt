@@ -1,4 +1,4 @@
-use Rattle.ether_text.specs.Decimals.{eight_digits}
+use Rattle.ether_output.specs.Decimals.{eight_digits}
 use Rattle.ether_format.specs.Spelling.{nine_digits}
 use Rattle.ether_format.proofs.spelling.nine_digits.Goals as goal
 

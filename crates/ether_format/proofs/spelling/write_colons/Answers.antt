@@ -1,6 +1,6 @@
 use Rattle.std.proofs.Common.{◌∙◌, sym}
 use Rattle.std.proofs.lemmas.Bool.{eqb-true}
-use Rattle.ether_text.proofs.OutputBufferLemmas.{Takes-none, Takes-then, Takes-same}
+use Rattle.ether_output.proofs.OutputBufferLemmas.{Takes-none, Takes-then, Takes-same}
 use Rattle.ether_format.proofs.SpellingLemmas.{colon_none, colon_parts, some_are}
 use Rattle.ether_format.proofs.spelling.write_colons.Goals as goal
 

@@ -1,6 +1,6 @@
 use Rattle.std.proofs.Common.{ℕ, ◌++◌, codes, false, List}
 use Rattle.ether_base.specs.Texts.NumberText.{hex_byte}
-use Rattle.ether_text.proofs.OutputBufferLemmas.{Takes-same}
+use Rattle.ether_output.proofs.OutputBufferLemmas.{Takes-same}
 use Rattle.ether_format.proofs.ListLemmas.{first_none, first_next, first_all}
 use Rattle.ether_format.proofs.spelling.write_colons_after.Goals as goal
 

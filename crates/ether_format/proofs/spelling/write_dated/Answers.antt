@@ -1,4 +1,4 @@
-use Rattle.ether_text.proofs.OutputBufferLemmas.{Takes-then, Takes-same}
+use Rattle.ether_output.proofs.OutputBufferLemmas.{Takes-then, Takes-same}
 use Rattle.ether_format.specs.Spelling.{dated_text}
 use Rattle.ether_format.proofs.spelling.write_dated.Goals as goal
 

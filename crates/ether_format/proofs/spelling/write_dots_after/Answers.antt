@@ -1,6 +1,6 @@
 use Rattle.std.proofs.Common.{ℕ, ◌++◌, codes, List, ap}
 use Rattle.std.specs.Fmt.{decimal}
-use Rattle.ether_text.proofs.OutputBufferLemmas.{Takes-then, Takes-same}
+use Rattle.ether_output.proofs.OutputBufferLemmas.{Takes-then, Takes-same}
 use Rattle.ether_format.proofs.ListLemmas.{first_none, first_next, first_all}
 use Rattle.ether_format.proofs.spelling.write_dots_after.Goals as goal
 

@@ -1,7 +1,5 @@
-use Rattle.std.proofs.Common.{◌≤◌, List}
+use Rattle.std.proofs.Common.{◌≤◌}
 use Rattle.std.specs.Iterator.{size}
-use Rattle.etherparse.specs.Header.{Header}
-use Rattle.ether_peel.specs.Grammar.Stack.{Ending, Walk}
 use Rattle.ether_peel.specs.Walker.Next.{items_left}
 use Rattle.ether_peel.specs.Walker.Start.{start_of}
 use Rattle.ether_packet.proofs.Reached.{Reached}
@@ -10,8 +8,7 @@ use Rattle.ether_packet.proofs.finding.ext_at.Given as goal
 abbrev pub invariant-loop-unit : goal.invariant-loop-unit
 invariant-loop-unit l =
     (l.count ≤ l.fn.index)
-    × ((hs : List Header) (e : Ending) → Walk (start_of l.fn.start) l.fn.frame hs e
-    → Reached l.fn.frame l.peel hs e l.count)
+    × Reached (start_of l.fn.start) l.fn.frame l.peel l.count
 
 abbrev pub decreases-loop-unit : goal.decreases-loop-unit
 decreases-loop-unit l = size (items_left l.peel)

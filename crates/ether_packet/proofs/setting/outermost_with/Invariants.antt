@@ -1,15 +1,11 @@
-use Rattle.std.proofs.Common.{List}
 use Rattle.std.specs.Iterator.{size}
-use Rattle.etherparse.specs.Header.{Header}
-use Rattle.ether_peel.specs.Grammar.Stack.{Ending, Walk}
 use Rattle.ether_peel.specs.Walker.Next.{items_left}
 use Rattle.ether_peel.specs.Walker.Start.{start_of}
 use Rattle.ether_packet.proofs.FindVlan.{Passed}
 use Rattle.ether_packet.proofs.setting.outermost_with.Given as goal
 
 abbrev pub invariant-loop-unit : goal.invariant-loop-unit
-invariant-loop-unit l = (hs : List Header) (e : Ending) → Walk (start_of l.fn.start) l.fn.frame hs e
-    → Passed l.fn.frame l.peel hs e l.fn.vlan_id l.index
+invariant-loop-unit l = Passed (start_of l.fn.start) l.fn.frame l.peel l.fn.vlan_id l.index
 
 abbrev pub decreases-loop-unit : goal.decreases-loop-unit
 decreases-loop-unit l = size (items_left l.peel)

@@ -1,8 +1,15 @@
-use Rattle.std.proofs.Common.{arith}
+use Rattle.std.proofs.Common.{ap, arith}
 use Rattle.ether_peel.specs.Walker.Start.{start_with}
-use Rattle.ether_peel.proofs.Walker.Feeding.{FeedsUnit, FeedsFault, FeedsMore, offset_inside, feeds_unit, feeds_fault, feeds_more, feed_of_fault, feed_of_none}
+use Rattle.ether_peel.specs.Walker.State.{State}
+use Rattle.ether_peel.proofs.Walker.Feeding.{FeedsUnit, FeedsFault, FeedsMore, feeds_nothing, offset_inside, feeds_unit, feeds_fault, feeds_more, feed_of_fault, feed_of_none}
 use Rattle.ether_peel.proofs.feeding.fed.Goals as goal
 use Rattle.ether_peel.proofs.feeding.fed.Goals.{In-Some-Ok, In-Some-Err, After-go_on}
+
+pub loop-fault-init : goal.loop-fault-init
+loop-fault-init c =
+    let w = c.begin-peel.ensures.walk in
+    feeds_nothing (start_with c.args.start c.args.limit) c.args.bytes.now c.begin-peel.result w.headers w.ending w.walk
+    w.faces (ap (λ (k : State). k.over) c.begin-peel.ensures.state)
 
 -- the fault that is given
 fault : (c : In-Some-Err)

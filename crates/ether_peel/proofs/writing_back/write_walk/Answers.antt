@@ -1,7 +1,8 @@
 use Rattle.std.proofs.Common.{ℕ, sym, subst, ap, ◌∙◌, arith, rules}
 use Rattle.ether_peel.specs.Walker.Start.{start_with}
 use Rattle.ether_peel.specs.Walker.State.{State}
-use Rattle.ether_peel.proofs.Walker.WritingBack.{WritesSoFar, NextAt, Stops, writes_first, next_at, writes_next, rest_ends, writes_back, stops}
+use Rattle.ether_peel.proofs.Walker.UnderWay.{Stops, stops}
+use Rattle.ether_peel.proofs.Walker.WritingBack.{WritesSoFar, NextAt, writes_first, next_at, writes_next, rest_ends, writes_back}
 use Rattle.ether_peel.proofs.writing_back.write_walk.Goals as goal
 use Rattle.ether_peel.proofs.writing_back.write_walk.Goals.{In-Some-Ok, After-rest-rest, in_default, in_default-2}
 

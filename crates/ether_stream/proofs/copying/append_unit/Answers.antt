@@ -1,8 +1,8 @@
 use Rattle.std.proofs.Common.{◌≤◌, sym, subst}
 use Rattle.ether_pcap.specs.Editing.{padding_of, unit_bytes}
 use Rattle.ether_pcap.specs.declared.capture.edited_unit.EditedUnit.{EditedUnit}
-use Rattle.ether_text.specs.OutputBuffer.{Takes}
-use Rattle.ether_text.proofs.OutputBufferLemmas.{Takes-then, Takes-same}
+use Rattle.ether_output.specs.OutputBuffer.{Takes}
+use Rattle.ether_output.proofs.OutputBufferLemmas.{Takes-then, Takes-same}
 use Rattle.ether_stream.proofs.CopiesLemmas.{zeros_of_three}
 use Rattle.ether_stream.proofs.copying.append_unit.Goals as goal
 

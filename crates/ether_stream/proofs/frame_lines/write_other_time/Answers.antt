@@ -1,4 +1,4 @@
-use Rattle.ether_text.proofs.OutputBufferLemmas.{Takes-then, Takes-same}
+use Rattle.ether_output.proofs.OutputBufferLemmas.{Takes-then, Takes-same}
 use Rattle.ether_stream.specs.FrameLines.{time_text}
 use Rattle.ether_stream.proofs.frame_lines.write_other_time.Goals as goal
 

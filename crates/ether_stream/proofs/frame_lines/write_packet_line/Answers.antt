@@ -1,7 +1,7 @@
 use Rattle.std.proofs.Common.{◌≡◌, Bool, ℕ, ◌+◌, List, length, ◌++◌, codes, sym, ap, append_assoc, ◌∙◌, arith}
 use Rattle.std.specs.Fmt.{decimal}
 use Rattle.ether_pcap.specs.CaptureViews.{captured_packet_view}
-use Rattle.ether_text.proofs.OutputBufferLemmas.{Takes-then, Takes-same}
+use Rattle.ether_output.proofs.OutputBufferLemmas.{Takes-then, Takes-same}
 use Rattle.ether_content.specs.Content.{is_unknown}
 use Rattle.ether_stream.specs.FrameLines.{packet_line, packet_line_if, mark, time_text}
 use Rattle.ether_stream.specs.Packets.{counted}

@@ -2,7 +2,7 @@ use Rattle.std.proofs.Common.{Option, ℕ, List, ◌++◌, codes, sym, ap, ◌�
 use Rattle.std.specs.Option.{option_map}
 use Rattle.ether_pcap.specs.CaptureViews.{timestamp_view}
 use Rattle.ether_pcap.specs.declared.capture.timestamp.Timestamp.{Timestamp}
-use Rattle.ether_text.proofs.OutputBufferLemmas.{Takes-same}
+use Rattle.ether_output.proofs.OutputBufferLemmas.{Takes-same}
 use Rattle.ether_stream.specs.FrameLines.{time_text}
 use Rattle.ether_stream.proofs.frame_lines.write_time.Goals as goal
 

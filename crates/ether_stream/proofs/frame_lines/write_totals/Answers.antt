@@ -1,5 +1,5 @@
 use Rattle.std.proofs.Common.{Bool, sym, ap}
-use Rattle.ether_text.proofs.OutputBufferLemmas.{Takes-then, Takes-same}
+use Rattle.ether_output.proofs.OutputBufferLemmas.{Takes-then, Takes-same}
 use Rattle.ether_stream.specs.FrameLines.{totals_line_if}
 use Rattle.ether_stream.proofs.frame_lines.write_totals.Goals as goal
 

@@ -5,10 +5,10 @@ use Rattle.ether_peel.specs.Walker.Start.{start_with}
 use Rattle.ether_peel.specs.declared.start.Start.{Start}
 use Rattle.ether_pcap.specs.CaptureViews.{captured_packet_view}
 use Rattle.ether_sll2.specs.LinuxSll2.{linux_sll2_of}
-use Rattle.ether_text.specs.OutputBuffer.{Takes}
+use Rattle.ether_output.specs.OutputBuffer.{Takes}
 use Rattle.ether_text.specs.WalkText.{AnswersWalkAfter}
-use Rattle.ether_text.specs.declared.output_buffer.OutputBuffer.{OutputBuffer}
-use Rattle.ether_text.proofs.OutputBufferLemmas.{Takes-then}
+use Rattle.ether_output.specs.declared.output_buffer.OutputBuffer.{OutputBuffer}
+use Rattle.ether_output.proofs.OutputBufferLemmas.{Takes-then}
 use Rattle.ether_text.specs.Lines.{linux_sll_text}
 use Rattle.ether_content.specs.Content.{ContentValue}
 use Rattle.ether_content.specs.ContentViews.{cooked_view}

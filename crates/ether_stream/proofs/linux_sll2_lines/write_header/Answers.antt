@@ -2,8 +2,8 @@ use Rattle.std.proofs.Common.{ℕ, ◌++◌, ap, ◌∙◌}
 use Rattle.std.specs.Prelude.{codes}
 use Rattle.std.specs.Fmt.{decimal}
 use Rattle.etherparse.specs.NumberText.{hex_number}
-use Rattle.ether_text.specs.HexText.{hex_text}
-use Rattle.ether_text.proofs.OutputBufferLemmas.{Takes-then, Takes-same}
+use Rattle.ether_output.specs.HexText.{hex_text}
+use Rattle.ether_output.proofs.OutputBufferLemmas.{Takes-then, Takes-same}
 use Rattle.ether_stream.specs.LinuxSll2Lines.{linux_sll2_text}
 use Rattle.ether_stream.proofs.linux_sll2_lines.write_header.Goals as goal
 

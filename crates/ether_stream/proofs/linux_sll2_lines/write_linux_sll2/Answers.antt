@@ -8,8 +8,8 @@ use Rattle.ether_sll2.specs.LinuxSll2.{linux_sll2_of, AcceptsLinuxSll2, protocol
 use Rattle.ether_sll2.specs.Views.{refusal_view}
 use Rattle.ether_text.specs.Lines.{spaced, protocol_text}
 use Rattle.ether_text.specs.ViewLines.{rest_view_text}
-use Rattle.ether_text.specs.OutputBuffer.{Takes, TakesAnswer}
-use Rattle.ether_text.proofs.OutputBufferLemmas.{Takes-then, Takes-same}
+use Rattle.ether_output.specs.OutputBuffer.{Takes, TakesAnswer}
+use Rattle.ether_output.proofs.OutputBufferLemmas.{Takes-then, Takes-same}
 use Rattle.ether_stream.specs.LinuxSll2Lines.{AnswersLinuxSll2, AnswersPayload, BeginsWalk, read, refused, linux_sll2_text, linux_sll2_fault_text}
 use Rattle.ether_content.proofs.ContentLemmas.{none_of, started}
 use Rattle.ether_stream.proofs.linux_sll2_lines.write_linux_sll2.Goals as goal

@@ -2,7 +2,7 @@ use Rattle.std.proofs.Common.{sym, ap, ◌∙◌, arith}
 use Rattle.ether_base.specs.Bytes.{IsBytes}
 use Rattle.ether_base.proofs.ArrayElements.{cells-all}
 use Rattle.ether_base.proofs.Numbers.{spelled-is}
-use Rattle.ether_text.specs.HexText.{hex_text}
+use Rattle.ether_output.specs.HexText.{hex_text}
 use Rattle.ether_stream.proofs.linux_sll_lines.address_digits.Goals as goal
 
 pub returns : goal.returns

@@ -1,4 +1,4 @@
-use Rattle.ether_text.specs.OutputBuffer.{contents_of}
+use Rattle.ether_output.specs.OutputBuffer.{contents_of}
 use Rattle.ether_stream.specs.Progress.{counts_at}
 use Rattle.ether_stream.specs.Task.{task_view}
 use Rattle.ether_stream.proofs.RunLemmas.{HasCounted-flushed}

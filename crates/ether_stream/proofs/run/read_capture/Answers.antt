@@ -1,10 +1,10 @@
 use Rattle.std.proofs.Common.{rules, ◌≡◌, ℕ, Option, Some, IfSome, IfNone, List, [], ◌++◌, length, refl, sym, ap, subst, ◌∙◌, arith}
 use Rattle.ether_pcap.specs.Capture.{IsEnd}
 use Rattle.ether_pcap.specs.declared.capture.capture_error.CaptureError.{CaptureError}
-use Rattle.ether_text.specs.OutputBuffer.{contents_of}
-use Rattle.ether_text.proofs.KnownBytesLemmas.{Consumes-none, Consumes-then}
+use Rattle.ether_output.specs.OutputBuffer.{contents_of}
+use Rattle.ether_output.proofs.KnownBytesLemmas.{Consumes-none, Consumes-then}
 use Rattle.ether_text.proofs.InputReaderLemmas.{ReadsOn-none, ReadsOn-then, read_stops}
-use Rattle.ether_text.proofs.OutputBufferLemmas.{Marks-none, Marks-then}
+use Rattle.ether_output.proofs.OutputBufferLemmas.{Marks-none, Marks-then}
 use Rattle.ether_text.proofs.RunLemmas.{on_input}
 use Rattle.ether_stream.specs.InputBuffer.{items}
 use Rattle.ether_stream.specs.Progress.{Reached}

@@ -1,5 +1,5 @@
 use Rattle.std.proofs.Common.{rules}
-use Rattle.ether_text.proofs.KnownBytesLemmas.{append_known_nil}
+use Rattle.ether_output.proofs.KnownBytesLemmas.{append_known_nil}
 use Rattle.ether_text.proofs.RunLemmas.{run_fails}
 use Rattle.ether_stream.proofs.run.run_counted.Goals as goal
 

@@ -1,12 +1,11 @@
 use Rattle.std.proofs.Common.{rules}
-use Rattle.ether_stream.specs.VlanOptions.{tag_word}
 use Rattle.ether_format.proofs.ParsingLemmas.{if_none}
 use Rattle.ether_stream.proofs.VlanOptionLemmas.{no_pair, none_then, some_then, is_push, is_set, no_push, no_set}
 use Rattle.ether_stream.proofs.vlan_options.tag_edit_of.Goals as goal
 
 pub returns-in_err-first-clause-none : goal.returns-in_err-first-clause-none
 returns-in_err-first-clause-none c =
-    if_none c.from_residual.result _ (no_pair (tag_word c.args.kind) c.args.text.now c.in_err-first.ensures.none)
+    if_none c.from_residual.result _ (no_pair c.args.kind c.args.text.now c.in_err-first.ensures.none)
 
 pub returns-in-Push-clause-some : goal.returns-in-Push-clause-some
 returns-in-Push-clause-some c = search (rules, some_then, is_push)

@@ -2,7 +2,7 @@ use Rattle.std.proofs.Common.{◌≡◌, ℕ, ◌+◌, List, ◌++◌, length, B
 use Rattle.std.specs.Prelude.{codes}
 use Rattle.ether_peel.specs.Walker.Start.{start_with}
 use Rattle.ether_peel.specs.declared.peel_fault.PeelFault.{PeelFault}
-use Rattle.ether_text.specs.OutputBuffer.{Takes}
+use Rattle.ether_output.specs.OutputBuffer.{Takes}
 use Rattle.ether_text.specs.ViewLines.{view_text, rest_view_text, fault_view_text}
 use Rattle.ether_text.proofs.WalkLinesLemmas.{fault_after, walk_starts, walk_unit, walk_fault, walk_rest}
 use Rattle.ether_text.proofs.walk_lines.write_walk_after.Goals as goal

@@ -1,6 +1,6 @@
 use Rattle.std.proofs.Common.{◌++◌, codes, sym, ap, ◌∙◌}
 use Rattle.etherparse.specs.NumberText.{hex_number}
-use Rattle.ether_text.specs.HexText.{hex_text}
+use Rattle.ether_output.specs.HexText.{hex_text}
 use Rattle.ether_text.proofs.write_lines.ethernet2_fields.Goals as goal
 
 pub returns : goal.returns

@@ -3,7 +3,7 @@ use Rattle.std.specs.Prelude.{codes}
 use Rattle.std.specs.Fmt.{decimal}
 use Rattle.etherparse.specs.NumberText.{hex_number}
 use Rattle.ether_text.specs.Lines.{arp_text}
-use Rattle.ether_text.proofs.OutputBufferLemmas.{Takes-then, Takes-same}
+use Rattle.ether_output.proofs.OutputBufferLemmas.{Takes-then, Takes-same}
 use Rattle.ether_text.proofs.write_lines.write_arp.Goals as goal
 
 pub returns : goal.returns

@@ -1,5 +1,5 @@
 use Rattle.ether_text.specs.Lines.{feed_text}
-use Rattle.ether_text.proofs.OutputBufferLemmas.{Takes-then}
+use Rattle.ether_output.proofs.OutputBufferLemmas.{Takes-then}
 use Rattle.ether_text.proofs.write_lines.write_counts.Goals as goal
 
 pub returns : goal.returns

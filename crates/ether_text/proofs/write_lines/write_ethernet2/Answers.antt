@@ -1,7 +1,7 @@
 use Rattle.std.proofs.Common.{ap, ◌∙◌}
 use Rattle.etherparse.specs.Ethernet2.{ethernet2_of}
 use Rattle.ether_text.specs.ViewLines.{ethernet2_view_text}
-use Rattle.ether_text.proofs.OutputBufferLemmas.{Takes-then, Takes-same}
+use Rattle.ether_output.proofs.OutputBufferLemmas.{Takes-then, Takes-same}
 use Rattle.ether_text.proofs.ViewLinesLemmas.{ethernet2_view_text-fields}
 use Rattle.ether_text.proofs.write_lines.write_ethernet2.Goals as goal
 

@@ -1,6 +1,6 @@
 use Rattle.std.proofs.Common.{ap, sym}
 use Rattle.ether_text.specs.ViewLines.{fcs_text}
-use Rattle.ether_text.proofs.OutputBufferLemmas.{Takes-none, Takes-then, Takes-same}
+use Rattle.ether_output.proofs.OutputBufferLemmas.{Takes-none, Takes-then, Takes-same}
 use Rattle.ether_text.proofs.write_lines.write_fcs.Goals as goal
 
 pub returns-in-Some : goal.returns-in-Some

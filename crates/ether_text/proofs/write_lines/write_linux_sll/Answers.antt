@@ -2,9 +2,9 @@ use Rattle.std.proofs.Common.{ℕ, ◌++◌, ap, ◌∙◌}
 use Rattle.std.specs.Prelude.{codes}
 use Rattle.std.specs.Fmt.{decimal}
 use Rattle.etherparse.specs.NumberText.{hex_number}
-use Rattle.ether_text.specs.HexText.{hex_text}
+use Rattle.ether_output.specs.HexText.{hex_text}
 use Rattle.ether_text.specs.Lines.{linux_sll_text}
-use Rattle.ether_text.proofs.OutputBufferLemmas.{Takes-then, Takes-same}
+use Rattle.ether_output.proofs.OutputBufferLemmas.{Takes-then, Takes-same}
 use Rattle.ether_text.proofs.write_lines.write_linux_sll.Goals as goal
 
 pub returns : goal.returns

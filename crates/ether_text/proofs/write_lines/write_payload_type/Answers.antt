@@ -1,7 +1,7 @@
 use Rattle.std.proofs.Common.{sym, ap}
 use Rattle.etherparse.specs.Macsec.{payload_type_view}
 use Rattle.ether_text.specs.Lines.{payload_type_text}
-use Rattle.ether_text.proofs.OutputBufferLemmas.{Takes-then, Takes-same}
+use Rattle.ether_output.proofs.OutputBufferLemmas.{Takes-then, Takes-same}
 use Rattle.ether_text.proofs.write_lines.write_payload_type.Goals as goal
 
 pub returns-in-Unmodified : goal.returns-in-Unmodified

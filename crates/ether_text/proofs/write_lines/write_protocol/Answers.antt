@@ -2,7 +2,7 @@ use Rattle.std.proofs.Common.{List, ℕ, ◌++◌, sym, ap, inl, inr}
 use Rattle.std.specs.Prelude.{codes}
 use Rattle.etherparse.specs.Types.LinuxSllProtocolType.{LinuxSllProtocolType}
 use Rattle.ether_text.specs.Lines.{protocol_text}
-use Rattle.ether_text.proofs.OutputBufferLemmas.{Takes-then, Takes-same}
+use Rattle.ether_output.proofs.OutputBufferLemmas.{Takes-then, Takes-same}
 use Rattle.ether_text.proofs.write_lines.write_protocol.Goals as goal
 
 abbrev spaced_text : LinuxSllProtocolType → List ℕ

@@ -1,8 +1,8 @@
 use Rattle.std.proofs.Common.{sym, ap, ◌∙◌}
 use Rattle.etherparse.proofs.Numbers.{spelled-high}
-use Rattle.ether_text.specs.HexText.{hex_text}
+use Rattle.ether_output.specs.HexText.{hex_text}
 use Rattle.ether_text.specs.Lines.{sci_text}
-use Rattle.ether_text.proofs.OutputBufferLemmas.{Takes-same}
+use Rattle.ether_output.proofs.OutputBufferLemmas.{Takes-same}
 use Rattle.ether_text.proofs.write_lines.write_sci.Goals as goal
 
 pub returns-in-Some : goal.returns-in-Some

@@ -2,7 +2,7 @@ use Rattle.std.proofs.Common.{ap, ◌∙◌}
 use Rattle.std.specs.Fmt.{decimal}
 use Rattle.etherparse.specs.NumberText.{hex_number}
 use Rattle.ether_text.specs.Lines.{vlan_text}
-use Rattle.ether_text.proofs.OutputBufferLemmas.{Takes-then, Takes-same}
+use Rattle.ether_output.proofs.OutputBufferLemmas.{Takes-then, Takes-same}
 use Rattle.ether_text.proofs.write_lines.write_vlan.Goals as goal
 
 pub returns : goal.returns

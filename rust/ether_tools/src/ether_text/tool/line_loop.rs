@@ -4,7 +4,7 @@ use crate::ether_text::tool::line_buffer::{LineBuffer, LineEnd};
 use crate::ether_text::tool::outcome::{ToolFault, Verdict};
 use crate::ether_text::tool::parse_frame::MAX_FRAME_LEN;
 use crate::ether_text::tool::write_answer::write_answer;
-use crate::ether_text::{OutputBuffer, Sink};
+use etherpeel::ether_output::{OutputBuffer, Sink};
 
 /// The line that is being read, and the results of the lines before it.
 pub struct LineLoop {

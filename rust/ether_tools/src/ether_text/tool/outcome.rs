@@ -1,8 +1,9 @@
 //! How a run ends, and the exit status of each ending.
 
+use crate::ether_text::InputFault;
 pub use crate::ether_text::Verdict;
 use crate::ether_text::tool::mode::Usage;
-use crate::ether_text::{InputFault, OutputFault};
+use etherpeel::ether_output::OutputFault;
 use std::fmt;
 use thiserror::Error;
 
@@ -55,6 +56,9 @@ pub fn status_of(outcome: &Result<Verdict, ToolFault>) -> u8 {
 /// The line that is printed if the arguments are wrong, without its LF.
 pub const USAGE: &str = "usage: ether_tool eth | fcs | sll | type XXXX | feed [limit N]";
 
+/// What the program says of a line that names no frame, after the number of that line.
+pub(crate) const BAD_LINE: &str = "bad line";
+
 /// A line that the program prints after the lines of all frames.
 #[derive(Clone, Copy, PartialEq, Eq, Debug)]
 pub enum LastLine {
@@ -68,7 +72,7 @@ impl fmt::Display for LastLine {
     fn fmt(&self, f: &mut fmt::Formatter<'_>) -> fmt::Result {
         match *self {
             LastLine::Usage => write!(f, "{USAGE}"),
-            LastLine::BadLine(number) => write!(f, "line {number}: bad line"),
+            LastLine::BadLine(number) => write!(f, "line {number}: {BAD_LINE}"),
         }
     }
 }

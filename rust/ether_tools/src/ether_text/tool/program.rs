@@ -1,9 +1,12 @@
 //! The program, over any arguments, source and sink.
 
+use crate::ether_text::Source;
 use crate::ether_text::tool::command::{Command, command_of_args};
-use crate::ether_text::tool::outcome::{LastLine, Outcome, ToolFault, USAGE, last_line, program_status};
+use crate::ether_text::tool::outcome::{
+    BAD_LINE, LastLine, Outcome, ToolFault, USAGE, last_line, program_status,
+};
 use crate::ether_text::tool::run::run_command;
-use crate::ether_text::{OutputBuffer, Sink, Source, write_decimal};
+use etherpeel::ether_output::{OutputBuffer, Sink, write_decimal};
 use std::{env, io};
 
 /// Runs the command that the arguments name, prints the last line if there is one, and returns the exit status.
@@ -22,18 +25,22 @@ use std::{env, io};
 /// ```
 ///
 /// </details>
-pub fn program<R: Source, W: Sink>(
+pub fn run_program<R: Source, W: Sink>(
     args: io::Result<env::Args>,
     reader: &mut R,
     writer: &mut W,
 ) -> u8 {
-    let outcome = obey(args, reader, writer);
+    let outcome = run_args(args, reader, writer);
     let is_printed = print_last_line(&outcome, writer);
     program_status(&outcome, is_printed)
 }
 
 /// Runs the command that the arguments name.
-fn obey<R: Source, W: Sink>(args: io::Result<env::Args>, reader: &mut R, writer: &mut W) -> Outcome {
+fn run_args<R: Source, W: Sink>(
+    args: io::Result<env::Args>,
+    reader: &mut R,
+    writer: &mut W,
+) -> Outcome {
     let Ok(args) = args else {
         return Ok(Err(ToolFault::Input));
     };
@@ -60,7 +67,8 @@ fn write_last_line<W: Sink>(line: LastLine, out: &mut OutputBuffer<'_, W>) {
         LastLine::BadLine(number) => {
             out.append(b"line ");
             write_decimal(out, number as usize);
-            out.append(b": bad line");
+            out.append(b": ");
+            out.append(BAD_LINE.as_bytes());
         }
     }
     out.append(b"\n");

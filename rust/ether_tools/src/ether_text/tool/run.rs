@@ -4,7 +4,8 @@ use crate::ether_text::tool::command::Command;
 use crate::ether_text::tool::line_loop::LineLoop;
 use crate::ether_text::tool::mode::Mode;
 use crate::ether_text::tool::outcome::{ToolFault, Verdict};
-use crate::ether_text::{InputReader, OutputBuffer, Sink, SliceSource, Source};
+use crate::ether_text::{InputReader, SliceSource, Source};
+use etherpeel::ether_output::{OutputBuffer, Sink};
 use std::io::{Read, Write};
 
 /// The room for one read in bytes.
@@ -69,12 +70,15 @@ pub fn run_limited<R: Read, W: Write>(
 /// ```
 /// # use etherpeel::*;
 /// # use etherpeel::ether_peel::*;
+/// # use etherpeel::ether_fields::*;
 /// # use etherpeel::ether_sll2::*;
 /// # use etherpeel::ether_packet::*;
 /// # use etherpeel::ether_filter::*;
 /// # use etherpeel::ether_pcap::*;
 /// # use etherpeel::ether_content::*;
 /// # use etherpeel::ether_switch::*;
+/// # use etherpeel::ether_output::*;
+/// # use etherpeel::ether_format::*;
 /// # use ether_tools::ether_text::*;
 /// # use ether_tools::ether_text::tool::*;
 /// # use ether_tools::ether_text::tool::run::*;

@@ -2,7 +2,8 @@
 
 use crate::ether_text::tool::command::Command;
 use crate::ether_text::tool::mode::Mode;
-use crate::ether_text::{OutputBuffer, Sink, write_feed, write_walk};
+use crate::ether_text::{write_feed, write_walk};
+use etherpeel::ether_output::{OutputBuffer, Sink};
 use etherpeel::ether_peel::Start;
 
 /// Writes the lines for a frame, and returns whether the frame is accepted.

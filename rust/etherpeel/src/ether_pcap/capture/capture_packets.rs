@@ -16,6 +16,7 @@ const MAX_INTERFACES: usize = 4_096;
 /// ```
 /// # use etherpeel::*;
 /// # use etherpeel::ether_peel::*;
+/// # use etherpeel::ether_fields::*;
 /// # use etherpeel::ether_sll2::*;
 /// # use etherpeel::ether_packet::*;
 /// # use etherpeel::ether_filter::*;

@@ -19,6 +19,7 @@ use crate::ether_pcap::{ByteOrder, FileHeaderError, LinkType, TimestampResolutio
 /// ```
 /// # use etherpeel::*;
 /// # use etherpeel::ether_peel::*;
+/// # use etherpeel::ether_fields::*;
 /// # use etherpeel::ether_sll2::*;
 /// # use etherpeel::ether_packet::*;
 /// # use etherpeel::ether_filter::*;

@@ -17,6 +17,7 @@ use crate::ether_pcap::{ByteOrder, FileHeader, RecordError, TimestampResolution}
 /// ```
 /// # use etherpeel::*;
 /// # use etherpeel::ether_peel::*;
+/// # use etherpeel::ether_fields::*;
 /// # use etherpeel::ether_sll2::*;
 /// # use etherpeel::ether_packet::*;
 /// # use etherpeel::ether_filter::*;
@@ -154,6 +155,7 @@ impl<'a> PcapRecord<'a> {
     /// ```
     /// # use etherpeel::*;
     /// # use etherpeel::ether_peel::*;
+    /// # use etherpeel::ether_fields::*;
     /// # use etherpeel::ether_sll2::*;
     /// # use etherpeel::ether_packet::*;
     /// # use etherpeel::ether_filter::*;

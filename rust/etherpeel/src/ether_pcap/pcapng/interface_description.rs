@@ -28,6 +28,7 @@ const TIME_OFFSET: u16 = 14;
 /// ```
 /// # use etherpeel::*;
 /// # use etherpeel::ether_peel::*;
+/// # use etherpeel::ether_fields::*;
 /// # use etherpeel::ether_sll2::*;
 /// # use etherpeel::ether_packet::*;
 /// # use etherpeel::ether_filter::*;
@@ -103,6 +104,7 @@ impl<'a> InterfaceDescription<'a> {
     /// ```
     /// # use etherpeel::*;
     /// # use etherpeel::ether_peel::*;
+    /// # use etherpeel::ether_fields::*;
     /// # use etherpeel::ether_sll2::*;
     /// # use etherpeel::ether_packet::*;
     /// # use etherpeel::ether_filter::*;

@@ -9,6 +9,7 @@ use crate::ether_pcap::{ByteOrder, PcapngBlock, SectionError};
 /// ```
 /// # use etherpeel::*;
 /// # use etherpeel::ether_peel::*;
+/// # use etherpeel::ether_fields::*;
 /// # use etherpeel::ether_sll2::*;
 /// # use etherpeel::ether_packet::*;
 /// # use etherpeel::ether_filter::*;
@@ -97,6 +98,7 @@ impl<'a> SectionHeader<'a> {
     /// ```
     /// # use etherpeel::*;
     /// # use etherpeel::ether_peel::*;
+    /// # use etherpeel::ether_fields::*;
     /// # use etherpeel::ether_sll2::*;
     /// # use etherpeel::ether_packet::*;
     /// # use etherpeel::ether_filter::*;

@@ -1,8 +1,8 @@
 use Rattle.std.proofs.Common.{◌++◌, List, ℕ, [], ap, subst, ◌∙◌}
 use Rattle.std.specs.List.{flat_map}
-use Rattle.ether_text.specs.OutputBuffer.{Takes}
+use Rattle.ether_output.specs.OutputBuffer.{Takes}
 use Rattle.ether_capture.specs.Statistics.{statistics_line}
-use Rattle.ether_text.proofs.OutputBufferLemmas.{Takes-none, Takes-then, Takes-same}
+use Rattle.ether_output.proofs.OutputBufferLemmas.{Takes-none, Takes-then, Takes-same}
 use Rattle.ether_capture.proofs.StatisticsLemmas.{all_lines, are_rows, entry_line, next_line}
 use Rattle.ether_capture.proofs.count_table.CountTable.write.Goals as goal
 

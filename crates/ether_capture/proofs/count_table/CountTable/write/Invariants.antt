@@ -1,6 +1,6 @@
 use Rattle.std.proofs.Common.{◌≡◌, ◌++◌, List, ℕ}
 use Rattle.std.specs.List.{flat_map}
-use Rattle.ether_text.specs.OutputBuffer.{Takes}
+use Rattle.ether_output.specs.OutputBuffer.{Takes}
 use Rattle.ether_capture.proofs.StatisticsLemmas.{entry_line}
 use Rattle.ether_capture.proofs.count_table.CountTable.write.Given as goal
 

@@ -1,25 +1,21 @@
-use Rattle.std.proofs.Common.{◌≡◌, ◌≤◌, ◌<◌, [], ◌∙◌, ap, rules, arith}
-use Rattle.ether_format.specs.declared.column.Section.{Section}
-use Rattle.ether_format.specs.Columns.{section_name}
-use Rattle.ether_format.specs.Told.{placed_members}
-use Rattle.ether_format.specs.Walking.{member_values, place_view, value_at}
-use Rattle.ether_format.proofs.ColumnLemmas.{in_front, in_own}
+use Rattle.std.proofs.Common.{◌≡◌, ◌++◌, ap, sym, ◌∙◌, rules}
+use Rattle.ether_fields.specs.Fields.{section_name}
+use Rattle.ether_fields.specs.declared.section.Section.{Section}
+use Rattle.ether_format.specs.Found.{found_told}
+use Rattle.ether_format.specs.FoundHeaders.{found_values}
+use Rattle.ether_format.specs.Told.{place_values, told_section}
+use Rattle.ether_format.specs.Values.{if_any, value_at}
+use Rattle.ether_format.proofs.ColumnLemmas.{found_own, found_told_section, in_own}
 use Rattle.ether_format.proofs.column.Column.in_found.Goals as goal
 
-pub returns-then-self-lt-MEMBERS_OF_PLACE : goal.returns-then-self-lt-MEMBERS_OF_PLACE
-returns-then-self-lt-MEMBERS_OF_PLACE c =
-    let found = c.args.found.now in
-    let same : c.args.self.section ≡ found.section = search rules in
-    let few : c.args.self.index < 5 = c.if-self-lt-MEMBERS_OF_PLACE.true in
-    c.placed_value-then-self-lt-MEMBERS_OF_PLACE.ensures
-    ∙ ap (λ (s : Section). value_at (member_values (placed_members (section_name s) (place_view found.place) []))
-    c.args.self.index) found.own
-    ∙ in_front c.args.self found.place found.header (same ∙ found.own) few
-
-pub returns : goal.returns
-returns c =
-    let found = c.args.found.now in
-    let same : c.args.self.section ≡ found.section = search rules in
-    let past = c.if-self-lt-MEMBERS_OF_PLACE.false in
-    let enough : 5 ≤ c.args.self.index = omega (arith, past) in
-    c.header_value.ensures ∙ in_own c.args.self found.place found.header (same ∙ found.own) enough
+pub returns-then-eq : goal.returns-then-eq
+returns-then-eq c =
+    let f = c.args.found.now in
+    let same : c.args.self.section ≡ f.section = search rules in
+    let to : c.args.self.section ≡ told_section (found_told f) =
+    same ∙ f.own ∙ sym (found_told_section f.place f.header) in
+    let values =
+    ap (λ (s : Section). place_values (section_name s) f.place ++ found_values f.header) f.own
+    ∙ sym (found_own f.place f.header) in
+    ap if_any (c.value.ensures ∙ (λ i. value_at (values i) (c.from-index.ensures i)))
+    ∙ in_own c.args.self.section c.args.self.index (found_told f) to

@@ -4,7 +4,7 @@ use Rattle.std.specs.Option.{option_map}
 use Rattle.std.proofs.lemmas.List.{drop-drop, length-drop}
 use Rattle.ether_pcap.specs.Capture.{Begins}
 use Rattle.ether_pcap.specs.CaptureViews.{captured_packet_view}
-use Rattle.ether_text.proofs.OutputBufferLemmas.{Marks-then}
+use Rattle.ether_output.proofs.OutputBufferLemmas.{Marks-then}
 use Rattle.ether_stream.specs.Progress.{Reached, OnNotEdited, StopsAfter}
 use Rattle.ether_stream.specs.Task.{task_view}
 use Rattle.ether_stream.proofs.MadeLemmas.{packet_of_unit}

@@ -1,5 +1,5 @@
 use Rattle.std.proofs.Common.{◌≡◌, ◌≤◌, ◌-◌, ℕ, List, length, drop, Option}
-use Rattle.ether_text.specs.OutputBuffer.{Marks}
+use Rattle.ether_output.specs.OutputBuffer.{Marks}
 use Rattle.ether_stream.specs.Progress.{Reached}
 use Rattle.ether_stream.specs.Task.{task_view}
 use Rattle.ether_stream.proofs.progress.Progress.take_units.Given as goal

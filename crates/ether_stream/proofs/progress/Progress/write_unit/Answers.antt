@@ -3,7 +3,7 @@ use Rattle.std.specs.Prelude.{Option, Bool, IsTrue, ◌↔◌}
 use Rattle.std.specs.Option.{option_map}
 use Rattle.ether_pcap.specs.CaptureViews.{captured_packet_view}
 use Rattle.ether_pcap.specs.declared.capture.captured_packet.CapturedPacket.{CapturedPacket}
-use Rattle.ether_text.proofs.OutputBufferLemmas.{Takes-none}
+use Rattle.ether_output.proofs.OutputBufferLemmas.{Takes-none}
 use Rattle.ether_stream.specs.Packets.{counted}
 use Rattle.ether_stream.specs.Progress.{IsChoice, MakesText, Makes, writes_packet}
 use Rattle.ether_stream.specs.Task.{form_view, IsChosen}

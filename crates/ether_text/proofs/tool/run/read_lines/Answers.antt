@@ -1,9 +1,9 @@
 use Rattle.std.proofs.Common.{rules, ℕ, ◌≤◌, List, [], ◌++◌, length, take, refl, ap, ◌∙◌, arith}
 use Rattle.std.proofs.lemmas.List.{length-take-le}
-use Rattle.ether_text.specs.OutputBuffer.{contents_of}
-use Rattle.ether_text.proofs.KnownBytesLemmas.{Consumes-none, Consumes-then}
+use Rattle.ether_output.specs.OutputBuffer.{contents_of}
+use Rattle.ether_output.proofs.KnownBytesLemmas.{Consumes-none, Consumes-then}
 use Rattle.ether_text.proofs.InputReaderLemmas.{ReadsOn-none, ReadsOn-then, read_on, read_stops}
-use Rattle.ether_text.proofs.OutputBufferLemmas.{Marks-none, Marks-then}
+use Rattle.ether_output.proofs.OutputBufferLemmas.{Marks-none, Marks-then}
 use Rattle.ether_text.proofs.tool.LineLoopLemmas.{Reached-written_out, Reached-start}
 use Rattle.ether_text.proofs.RunLemmas.{no_input, on_input}
 use Rattle.ether_text.specs.Tool.Run.{stream_of}

@@ -1,7 +1,7 @@
 use Rattle.std.proofs.Common.{◌≡◌, ℕ, List}
 use Rattle.std.specs.Io.KnownBytes.{Consumes}
 use Rattle.ether_text.specs.InputReader.{ReadsOn}
-use Rattle.ether_text.specs.OutputBuffer.{contents_of, Marks}
+use Rattle.ether_output.specs.OutputBuffer.{contents_of, Marks}
 use Rattle.ether_text.specs.Tool.LineLoop.{Reached}
 use Rattle.ether_text.proofs.tool.run.read_lines.Given as goal
 

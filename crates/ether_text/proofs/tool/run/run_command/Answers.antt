@@ -1,6 +1,6 @@
 use Rattle.std.proofs.Common.{rules, ap, ◌∙◌, List, ℕ}
 use Rattle.std.specs.Io.KnownBytes.{append_known}
-use Rattle.ether_text.proofs.KnownBytesLemmas.{append_known_nil}
+use Rattle.ether_output.proofs.KnownBytesLemmas.{append_known_nil}
 use Rattle.ether_text.proofs.RunLemmas.{run_fails}
 use Rattle.ether_text.specs.Tool.Run.{stream_of}
 use Rattle.ether_text.proofs.tool.RunLemmas.{HasRun-same}

@@ -89,6 +89,10 @@ const FOUR_TAGS: &[u8] =
 const TEN_TAGS: &[u8] =
     b"\x02\x00\x5E\x10\x00\x02\x02\x00\x5E\x10\x00\x01\x81\x00\x00\x01\x81\x00\x00\x02\x81\x00\x00\x03\x81\x00\x00\x04\x81\x00\x00\x05\x81\x00\x00\x06\x81\x00\x00\x07\x81\x00\x00\x08\x81\x00\x00\x09\x81\x00\x00\x0A\x08\x00";
 
+/// Ten VLAN tags before IPv4: 0, 63 (after 0x88A8), 64 (after 0x9100), 65, 127, 128, 4095, 2048, 2047, 4094.
+const SPREAD_TAGS: &[u8] =
+    b"\x02\x00\x5E\x10\x00\x02\x02\x00\x5E\x10\x00\x01\x81\x00\x00\x00\x88\xA8\x00\x3F\x91\x00\x00\x40\x81\x00\x00\x41\x81\x00\x00\x7F\x81\x00\x00\x80\x81\x00\x0F\xFF\x81\x00\x08\x00\x81\x00\x07\xFF\x81\x00\x0F\xFE\x08\x00";
+
 /// VLAN 9 and the announcement of an ARP packet, in a SecTag that leaves its payload readable.
 const IN_SEC_TAG: &[u8] =
     b"\x02\x00\x5E\x10\x00\x02\x02\x00\x5E\x10\x00\x01\x88\xE5\x00\x00\x00\x00\x00\x01\x81\x00\x00\x09\x08\x06";
@@ -116,7 +120,7 @@ const TAG: Start = Start::EtherType(EtherType::VLAN_TAGGED_FRAME);
 
 /// A start, a frame, an expression, and whether the frame matches.
 #[rustfmt::skip]
-static OTHER: [(Start, &[u8], &str, bool); 19] = [
+static OTHER: [(Start, &[u8], &str, bool); 30] = [
     (ETH, FOUR_TAGS, "outer vlan 1 and inner vlan 4", true),
     (ETH, FOUR_TAGS, "vlan 3 and vlan 2", true),
     (ETH, FOUR_TAGS, "inner vlan 2 or inner vlan 3", false),
@@ -125,7 +129,18 @@ static OTHER: [(Start, &[u8], &str, bool); 19] = [
     (ETH, TEN_TAGS, "outer vlan 1 and inner vlan 10", true),
     (ETH, TEN_TAGS, "vlan 10 and ip and not refused", true),
     (ETH, TEN_TAGS, "vlan 11 or inner vlan 9 or arp", false),
+    (ETH, TEN_TAGS, "vlan 9", true),
+    (ETH, TEN_TAGS, "vlan 0 or vlan 11 or vlan 9", true),
+    (ETH, TEN_TAGS, "outer vlan 9 or inner vlan 9 or not vlan 9", false),
+    (ETH, SPREAD_TAGS, "vlan 0 and vlan 63 and vlan 64 and vlan 65 and vlan 127 and vlan 128", true),
+    (ETH, SPREAD_TAGS, "vlan 4095 and vlan 2048 and vlan 2047 and vlan 4094", true),
+    (ETH, SPREAD_TAGS, "vlan 1 or vlan 62 or vlan 66 or vlan 126 or vlan 129 or vlan 4093", false),
+    (ETH, SPREAD_TAGS, "outer vlan 0 and inner vlan 4094 and vlan 2047", true),
+    (ETH, SPREAD_TAGS, "outer vlan 63 or inner vlan 2047 or inner vlan 0", false),
+    (ETH, SPREAD_TAGS, "ether proto 0x88a8 and ether proto 0x9100 and ether proto 0x8100 and ip", true),
+    (ETH, SPREAD_TAGS, "arp or macsec or ether proto 0x88e5 or ip6", false),
     (ETH, IN_SEC_TAG, "macsec and vlan 9 and arp", true),
+    (ETH, IN_SEC_TAG, "ether proto 0x88e5 and ether proto 0x8100", true),
     (ETH, IN_SEC_TAG, "refused", true),
     (ETH, ENCRYPTED, "macsec", true),
     (ETH, ENCRYPTED, "vlan or arp or refused", false),

@@ -1,5 +1,5 @@
 use Rattle.std.proofs.Common.{[], rules, refl, ◌∙◌}
-use Rattle.ether_text.proofs.OutputBufferLemmas.{Marks-none, Marks-then}
+use Rattle.ether_output.proofs.OutputBufferLemmas.{Marks-none, Marks-then}
 use Rattle.ether_text.specs.declared.tool.line_loop.LineLoop.{LineLoop}
 use Rattle.ether_text.proofs.tool.LineLoopLemmas.{Advances-none, line_fault, line_taken, rest_taken}
 use Rattle.ether_text.proofs.tool.line_loop.LineLoop.take_chunk.Goals as goal

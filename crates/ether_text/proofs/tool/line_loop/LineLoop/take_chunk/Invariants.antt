@@ -1,5 +1,5 @@
 use Rattle.std.proofs.Common.{◌≡◌, ℕ, List, ◌++◌, length}
-use Rattle.ether_text.specs.OutputBuffer.{Marks}
+use Rattle.ether_output.specs.OutputBuffer.{Marks}
 use Rattle.ether_text.specs.Tool.LineLoop.{Advances}
 use Rattle.ether_text.proofs.tool.line_loop.LineLoop.take_chunk.Given as goal
 

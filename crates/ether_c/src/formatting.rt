@@ -1,0 +1,69 @@
+//! Packets on one line.
+ghost use Rattle.std.specs.Prelude.{Some, None};
+ghost use Rattle.ether_c.specs.Formatting.{GivesLine, PutsLine};
+ghost use Rattle.ether_c.specs.Selection.{packet_value};
+
+use crate::EtherCaptured;
+use crate::no_writer::NoWriter;
+use crate::putting::put_bytes;
+use crate::statuses::{BAD_FORMAT, NO_TEXT};
+use ether_format::{Format, write_packet};
+use ether_output::OutputBuffer;
+
+/// Writes the line of a packet in a format: a line of JSON, one for the eye, or a row of columns.
+#[unsafe(no_mangle)]
+pub extern "C" fn etherpeel_format(
+    format: &[u8],
+    number: usize,
+    packet: &EtherCaptured<'_>,
+    text: &mut [u8],
+    len: &mut usize,
+) -> u32
+    ensures { GivesLine format.now None number packet.now text.old text.new result len.new }
+{
+    let (status, needed) = match Format::of_text(format) {
+        Some(format) => put_line(&format, None, number, packet, text),
+        None => (BAD_FORMAT, 0),
+    };
+    *len = needed;
+    status
+}
+
+/// Writes the line of a packet of which at most `limit` VLAN tags and SecTags are read.
+#[unsafe(no_mangle)]
+pub extern "C" fn etherpeel_format_limited(
+    format: &[u8],
+    number: usize,
+    packet: &EtherCaptured<'_>,
+    limit: usize,
+    text: &mut [u8],
+    len: &mut usize,
+) -> u32
+    ensures { GivesLine format.now (Some limit) number packet.now text.old text.new result len.new }
+{
+    let (status, needed) = match Format::of_text(format) {
+        Some(format) => put_line(&format, Some(limit), number, packet, text),
+        None => (BAD_FORMAT, 0),
+    };
+    *len = needed;
+    status
+}
+
+/// Writes the line of a packet to the front of a target.
+fn put_line(
+    format: &Format,
+    limit: Option<usize>,
+    number: usize,
+    packet: &EtherCaptured<'_>,
+    target: &mut [u8],
+) -> (u32, usize)
+    ensures { PutsLine format.now limit number (packet_value packet.now) target.old target.new result.0 result.1 }
+{
+    let mut writer = NoWriter;
+    let mut line = OutputBuffer::new(&mut writer);
+    let _is_accepted = write_packet(format, limit, number, &packet.to_packet(), &mut line);
+    match line.check() {
+        Ok(()) => put_bytes(line.waiting(), target),
+        Err(_) => (NO_TEXT, 0),
+    }
+}

@@ -1,0 +1,204 @@
+//! The options of the program.
+ghost use Rattle.std.specs.Prelude.{◌≡◌, map};
+ghost use Rattle.ether_capture.specs.OptionTable.{all_options, has_letter, is_added, is_word, option_view};
+
+/// An option of the program. Its texts are of a type that is a parameter: a definition can't cite a table of rows that
+/// have references themselves.
+///
+/// `clap`'s arguments, what is said of wrong words, and the completions of shells are made of these rows, and
+/// `tests/options.py --set` makes the lines of `--help` of them.
+#[derive(Clone, Copy, Debug)]
+pub struct OptionRow<Text> {
+    /// Its name, by which the program's code asks for it.
+    pub name: Text,
+    /// How it is written.
+    pub spelling: Spelling,
+    /// The word for its value, if it has one.
+    pub value: Option<Text>,
+    /// The heading above its line in the help. The first and the last options have none.
+    pub group: Text,
+    /// What it does.
+    pub help: Text,
+}
+
+/// How an option is written.
+#[derive(Clone, Copy, Debug)]
+pub enum Spelling {
+    /// By its name, after two hyphens.
+    Name,
+    /// By a letter, after one hyphen.
+    Letter(char),
+    /// By its name or a letter. Such options say something of the program, and `clap` adds them.
+    Both(char),
+}
+
+impl Spelling {
+    /// Tests that an option is written by its name.
+    pub(crate) fn is_word(self) -> bool
+        ensures { result ≡ is_word self }
+    {
+        matches!(self, Spelling::Name | Spelling::Both(_))
+    }
+
+    /// Tests that an option is written by this letter.
+    pub(crate) fn has_letter(self, it: u8) -> bool
+        ensures { result ≡ has_letter it self }
+    {
+        match self {
+            Spelling::Name => false,
+            Spelling::Letter(letter) | Spelling::Both(letter) => letter == char::from(it),
+        }
+    }
+
+    /// Tests that `clap` adds an option.
+    pub(crate) fn is_added(self) -> bool
+        ensures { result ≡ is_added self }
+    {
+        matches!(self, Spelling::Both(_))
+    }
+}
+
+/// All options, in the order of the help.
+#[tactic(auto, unfolding(crate::specs::OptionTable::all_options))]
+pub(crate) fn all_options() -> &'static [OptionRow<&'static str>]
+    ensures { map option_view result.now ≡ all_options }
+{
+    &OPTIONS
+}
+
+/// The table of options, in the order of the help.
+pub static OPTIONS: [OptionRow<&str>; 19] = [
+    OptionRow {
+        name: "read",
+        spelling: Spelling::Letter('r'),
+        value: Some("FILE"),
+        group: "",
+        help: "read FILE, as if it was named alone",
+    },
+    OptionRow {
+        name: "progress",
+        spelling: Spelling::Name,
+        value: None,
+        group: "",
+        help: "show on standard error how many bytes are read, and how fast",
+    },
+    OptionRow {
+        name: "select",
+        spelling: Spelling::Name,
+        value: Some("EXPR"),
+        group: "Which packets",
+        help: "only packets that match EXPR, as 'vlan 5 or arp'",
+    },
+    OptionRow {
+        name: "undecided",
+        spelling: Spelling::Name,
+        value: Some("keep|drop"),
+        group: "Which packets",
+        help: "with --select, keep or drop packets that were cut too short to tell, in place of taking them as they are",
+    },
+    OptionRow {
+        name: "count",
+        spelling: Spelling::Letter('c'),
+        value: Some("N"),
+        group: "Which packets",
+        help: "end with the N-th of these packets, of all files together",
+    },
+    OptionRow {
+        name: "plain",
+        spelling: Spelling::Name,
+        value: None,
+        group: "Lines",
+        help: "leave out the lines of packets and the totals",
+    },
+    OptionRow {
+        name: "limit",
+        spelling: Spelling::Name,
+        value: Some("N"),
+        group: "Lines",
+        help: "read N VLAN tags and SecTags of each packet at most",
+    },
+    OptionRow {
+        name: "format",
+        spelling: Spelling::Name,
+        value: Some("lines|brief|json"),
+        group: "Lines",
+        help: "print lines as ever; or each packet on a line of its own, for the eye or as an object of JSON, without totals",
+    },
+    OptionRow {
+        name: "fields",
+        spelling: Spelling::Name,
+        value: Some("COLUMNS"),
+        group: "Lines",
+        help: "print the values of COLUMNS, as frame.number,vlan.vid,eth.src, with tabs; more than one value with commas",
+    },
+    OptionRow {
+        name: "header",
+        spelling: Spelling::Name,
+        value: None,
+        group: "Lines",
+        help: "with --fields, print a line of the names first",
+    },
+    OptionRow {
+        name: "stats",
+        spelling: Spelling::Name,
+        value: None,
+        group: "Lines",
+        help: "count packets and bytes by the values of COLUMNS, or without --fields of headers, VLANs, types, faults and ARP senders",
+    },
+    OptionRow {
+        name: "write",
+        spelling: Spelling::Name,
+        value: None,
+        group: "Copies",
+        help: "write the capture itself to standard output, of one FILE at most, without the other packets",
+    },
+    OptionRow {
+        name: "output",
+        spelling: Spelling::Letter('w'),
+        value: Some("COPY"),
+        group: "Copies",
+        help: "write it to the file COPY, which changes only once all is written; without --write, too",
+    },
+    OptionRow {
+        name: "cut-to-headers",
+        spelling: Spelling::Name,
+        value: None,
+        group: "Copies",
+        help: "with --write, cut each packet where its link-layer headers end",
+    },
+    OptionRow {
+        name: "pop-vlan",
+        spelling: Spelling::Name,
+        value: None,
+        group: "Copies",
+        help: "with --write, take the VLAN tag after the link's header off each frame",
+    },
+    OptionRow {
+        name: "push-vlan",
+        spelling: Spelling::Name,
+        value: Some("TPID:ID"),
+        group: "Copies",
+        help: "with --write, put a VLAN tag after the link's header, as 0x8100:5",
+    },
+    OptionRow {
+        name: "set-vlan",
+        spelling: Spelling::Name,
+        value: Some("A:B"),
+        group: "Copies",
+        help: "with --write, give the outermost VLAN tag with identifier A identifier B",
+    },
+    OptionRow {
+        name: "help",
+        spelling: Spelling::Both('h'),
+        value: None,
+        group: "",
+        help: "print this text",
+    },
+    OptionRow {
+        name: "version",
+        spelling: Spelling::Both('V'),
+        value: None,
+        group: "",
+        help: "print the version",
+    },
+];

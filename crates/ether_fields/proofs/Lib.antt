@@ -1,0 +1,4 @@
+pub mod ColumnLemmas
+pub mod NumberLemmas
+pub mod BitNumbers
+pub mod FieldValues

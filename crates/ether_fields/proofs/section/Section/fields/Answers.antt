@@ -1,0 +1,7 @@
+use Rattle.std.proofs.Common.{ap, sym, map}
+use Rattle.ether_fields.specs.Fields.{column_name, section_rows}
+use Rattle.ether_fields.specs.declared.section.Section.{Section}
+use Rattle.ether_fields.proofs.section.Section.fields.Goals as goal
+
+pub returns-in-Sll2-clause-columns : goal.returns-in-Sll2-clause-columns
+returns-in-Sll2-clause-columns c = ap (λ (s : Section). map (column_name s) (section_rows s)) (sym c.in-Sll2.is)

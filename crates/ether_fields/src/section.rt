@@ -1,0 +1,93 @@
+//! The groups of fields.
+ghost use Rattle.std.specs.Prelude.{◌≡◌, ◌≢◌, IfNone, IfSome, map};
+ghost use Rattle.ether_fields.specs.declared.section.Section.{Section as DeclaredSection};
+ghost use Rattle.ether_fields.specs.Fields.{column_name, field_view, keys_of, section_name, section_rows};
+
+use crate::field::Field;
+use crate::rows;
+
+/// A group of fields: those of the packet itself, of one kind of header, of all headers, or of how the walk ends.
+#[derive(Clone, Copy, PartialEq, Eq, Debug)]
+pub enum Section {
+    /// The packet itself.
+    Frame,
+    /// Ethernet II.
+    Eth,
+    /// Linux cooked capture v1.
+    Sll,
+    /// Linux cooked capture v2.
+    Sll2,
+    /// VLAN tags.
+    Vlan,
+    /// SecTags of MACsec.
+    Macsec,
+    /// ARP packets.
+    Arp,
+    /// The name and the place of each header.
+    Headers,
+    /// What is left after the headers.
+    Rest,
+    /// What is wrong with the first header that is refused.
+    Fault,
+}
+
+impl Section {
+    /// Its name, as `vlan`.
+    pub fn name(self) -> &'static str
+        ensures { result.now ≡ section_name self }
+    {
+        match self {
+            Section::Frame => "frame",
+            Section::Eth => "eth",
+            Section::Sll => "sll",
+            Section::Sll2 => "sll2",
+            Section::Vlan => "vlan",
+            Section::Macsec => "macsec",
+            Section::Arp => "arp",
+            Section::Headers => "headers",
+            Section::Rest => "rest",
+            Section::Fault => "fault",
+        }
+    }
+
+    /// The section with this name.
+    pub fn of_name(name: &[u8]) -> Option<Section>
+        ensures some { IfSome result (λ it. section_name it ≡ name.now) }
+        ensures none { IfNone result ((it : DeclaredSection) → section_name it ≢ name.now) }
+    {
+        match name {
+            b"frame" => Some(Section::Frame),
+            b"eth" => Some(Section::Eth),
+            b"sll" => Some(Section::Sll),
+            b"sll2" => Some(Section::Sll2),
+            b"vlan" => Some(Section::Vlan),
+            b"macsec" => Some(Section::Macsec),
+            b"arp" => Some(Section::Arp),
+            b"headers" => Some(Section::Headers),
+            b"rest" => Some(Section::Rest),
+            b"fault" => Some(Section::Fault),
+            _ => None,
+        }
+    }
+
+    /// Its fields. Those of a header begin with its name and its place.
+    #[inline(always)]
+    pub fn fields(self) -> &'static [Field]
+        ensures rows { map field_view result.now ≡ section_rows self }
+        ensures keys { map (λ f. f.key.now) result.now ≡ keys_of (section_rows self) }
+        ensures columns { map (λ f. f.column.now) result.now ≡ map (column_name self) (section_rows self) }
+    {
+        match self {
+            Section::Frame => &rows::FRAME,
+            Section::Eth => &rows::ETH,
+            Section::Sll => &rows::SLL,
+            Section::Sll2 => &rows::SLL2,
+            Section::Vlan => &rows::VLAN,
+            Section::Macsec => &rows::MACSEC,
+            Section::Arp => &rows::ARP,
+            Section::Headers => &rows::HEADERS,
+            Section::Rest => &rows::REST,
+            Section::Fault => &rows::FAULT,
+        }
+    }
+}

@@ -1,0 +1,42 @@
+//! The fields of a unit of a walk.
+ghost use Rattle.std.specs.Prelude.{◌≡◌};
+ghost use Rattle.ether_peel.specs.Walker.UnitHeader.{unit_header};
+ghost use Rattle.ether_fields.specs.Units.{header_section, header_sizes};
+
+use crate::part::Sizes;
+use crate::section::Section;
+use ether_peel::PeelUnit;
+use etherparse::MacsecPType;
+
+/// The section of the header of a unit.
+#[inline(always)]
+pub fn section_of(unit: &PeelUnit<'_>) -> Section
+    ensures { result ≡ header_section (unit_header unit.now) }
+{
+    match unit {
+        PeelUnit::Ethernet2(_) => Section::Eth,
+        PeelUnit::LinuxSll(_) => Section::Sll,
+        PeelUnit::Vlan(_) => Section::Vlan,
+        PeelUnit::Macsec(_) => Section::Macsec,
+        PeelUnit::Arp(_) => Section::Arp,
+    }
+}
+
+/// How many bits the header of a unit has in fields that have not the same number of bits in each header.
+pub fn sizes_of(unit: &PeelUnit<'_>) -> Sizes
+    ensures { result ≡ header_sizes (unit_header unit.now) }
+{
+    match unit {
+        PeelUnit::Ethernet2(_) | PeelUnit::LinuxSll(_) | PeelUnit::Vlan(_) => Sizes::NONE,
+        PeelUnit::Macsec(packet) => Sizes {
+            has_sci: packet.header.sci().is_some(),
+            has_payload_type: matches!(packet.header.ptype(), MacsecPType::Unmodified(_)),
+            ..Sizes::NONE
+        },
+        PeelUnit::Arp(packet) => Sizes {
+            hardware: 8 * u16::from(packet.hw_addr_size()),
+            protocol: 8 * u16::from(packet.proto_addr_size()),
+            ..Sizes::NONE
+        },
+    }
+}

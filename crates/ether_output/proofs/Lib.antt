@@ -1,0 +1,4 @@
+pub mod DecimalLemmas
+pub mod HexLemmas
+pub mod KnownBytesLemmas
+pub mod OutputBufferLemmas

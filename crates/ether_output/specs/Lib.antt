@@ -1,0 +1,4 @@
+pub mod Decimals
+pub mod HexText
+pub mod OutputBuffer
+pub mod Words

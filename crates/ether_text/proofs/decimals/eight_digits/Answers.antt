@@ -1,5 +1,0 @@
-use Rattle.ether_text.proofs.DecimalLemmas.{of_eight}
-use Rattle.ether_text.proofs.decimals.eight_digits.Goals as goal
-
-pub returns : goal.returns
-returns c = rw (c.four_digits-high.ensures, c.four_digits-low.ensures) (of_eight c.args.number)

@@ -1,0 +1,35 @@
+//! What numbers are called.
+
+use crate::ether_fields::kind::Kind;
+use crate::ether_fields::names::{
+    ether_type_name, hardware_type_name, link_type_name, operation_name, packet_type_name,
+};
+
+/// The name of a number of this kind. Returns `None` if it has none here.
+///
+/// ```
+/// # use etherpeel::*;
+/// # use etherpeel::ether_peel::*;
+/// # use etherpeel::ether_fields::*;
+/// assert_eq!(name_of(Kind::EtherType, 0x0800), Some("IPv4"));
+/// assert_eq!(name_of(Kind::EtherType, 0xFFFF), None);
+/// ```
+///
+/// <details><summary>Contract</summary>
+///
+/// ```text
+/// ensures { option_map (λ s. s.now) result ≡ description_in (names_of kind) number }
+/// ```
+///
+/// </details>
+#[inline(always)]
+pub fn name_of(kind: Kind, number: u64) -> Option<&'static str> {
+    match kind {
+        Kind::EtherType => ether_type_name(number),
+        Kind::HardwareType => hardware_type_name(number),
+        Kind::PacketType => packet_type_name(number),
+        Kind::Operation => operation_name(number),
+        Kind::LinkType => link_type_name(number),
+        _ => None,
+    }
+}

@@ -1,0 +1,33 @@
+//! The text of a captured packet for other programs and for people, in one of several formats. No call allocates
+//! memory.
+
+mod brief;
+mod calendar;
+mod cause;
+mod column;
+mod columns;
+mod end;
+mod end_values;
+mod format;
+mod found;
+mod found_header;
+mod gathered;
+mod json;
+mod line;
+mod members;
+mod moment;
+mod packet;
+mod place;
+mod row;
+mod spelling;
+mod split;
+mod value;
+mod values;
+mod visit;
+
+pub use columns::Columns;
+pub use format::Format;
+pub use moment::Moment;
+pub use packet::write_packet;
+pub use spelling::nine_digits;
+pub use split::split_at;

@@ -1,0 +1,295 @@
+//! Writes the parts of a line for the eye: the packet's number and time, its headers, and how the walk ends.
+
+use crate::ether_format::Moment;
+use crate::ether_format::cause::Cause;
+use crate::ether_format::end::End;
+use crate::ether_format::end_values::kind_word;
+use crate::ether_format::found_header::FoundHeader;
+use crate::ether_format::spelling::{
+    first_of, has_date, mac_text, nine_digits, write_colons, write_date, write_dotted,
+};
+use crate::ether_format::values::used;
+use crate::ether_content::{CookedHeader, is_cut};
+use crate::ether_fields::{Kind, name_of};
+use crate::ether_output::{OutputBuffer, Sink, hex_type, write_decimal, write_number};
+use crate::ether_pcap::CapturedPacket;
+use crate::ether_peel::{PeelUnit, RestKind};
+use crate::ether_sll2::LinuxSll2Slice;
+use crate::{
+    ArpPacketSlice, EtherType, Ethernet2Slice, LinuxSllSlice, MacsecHeaderSlice, SingleVlanSlice,
+};
+
+/// Writes a header, after a space.
+#[inline(always)]
+pub(crate) fn write_brief_header<W: Sink>(header: &FoundHeader<'_>, out: &mut OutputBuffer<'_, W>) {
+    match header {
+        FoundHeader::Walked(unit) => write_unit(unit, out),
+        FoundHeader::Cooked(header) => write_cooked(header, out),
+        FoundHeader::CookedV2(packet) => write_linux_sll2(packet, out),
+    }
+}
+
+/// Writes a header of the walk, after a space.
+#[inline]
+fn write_unit<W: Sink>(unit: &PeelUnit<'_>, out: &mut OutputBuffer<'_, W>) {
+    match unit {
+        PeelUnit::Ethernet2(slice) => write_ethernet2(slice, out),
+        PeelUnit::LinuxSll(slice) => write_linux_sll(slice, out),
+        PeelUnit::Vlan(slice) => write_vlan(slice, out),
+        PeelUnit::Macsec(slice) => write_macsec(&slice.header, out),
+        PeelUnit::Arp(slice) => write_arp(slice, out),
+    }
+}
+
+/// Writes ` SOURCE > DESTINATION`.
+#[inline]
+fn write_ethernet2<W: Sink>(slice: &Ethernet2Slice<'_>, out: &mut OutputBuffer<'_, W>) {
+    out.append(b" ");
+    out.append_array(mac_text(slice.source()));
+    out.append(b" > ");
+    out.append_array(mac_text(slice.destination()));
+}
+
+/// Writes ` vlan VID pcp PCP`, and ` dei` if that bit is set.
+#[inline]
+fn write_vlan<W: Sink>(slice: &SingleVlanSlice<'_>, out: &mut OutputBuffer<'_, W>) {
+    write_number(out, b" vlan ", usize::from(slice.vlan_identifier().value()));
+    write_number(
+        out,
+        b" pcp ",
+        usize::from(slice.priority_code_point().value()),
+    );
+    if slice.drop_eligible_indicator() {
+        out.append(b" dei");
+    }
+}
+
+/// Writes ` macsec an AN pn PN`: the association number and the packet number.
+#[inline]
+fn write_macsec<W: Sink>(tag: &MacsecHeaderSlice<'_>, out: &mut OutputBuffer<'_, W>) {
+    write_number(out, b" macsec an ", usize::from(tag.an().value()));
+    write_number(out, b" pn ", tag.packet_nr() as usize);
+}
+
+/// Writes an ARP packet: as a request, a reply, or another operation by its number.
+#[inline]
+fn write_arp<W: Sink>(packet: &ArpPacketSlice<'_>, out: &mut OutputBuffer<'_, W>) {
+    let operation = packet.operation().0;
+    if operation == 1 {
+        write_arp_request(packet, out);
+    } else if operation == 2 {
+        write_arp_reply(packet, out);
+    } else {
+        write_arp_other(packet, out);
+    }
+}
+
+/// Writes ` ARP who-has TARGET tell SENDER`, by their protocol addresses.
+#[inline]
+fn write_arp_request<W: Sink>(packet: &ArpPacketSlice<'_>, out: &mut OutputBuffer<'_, W>) {
+    let protocol = packet.proto_addr_type();
+    out.append(b" ARP who-has ");
+    write_address(protocol, packet.target_protocol_addr(), out);
+    out.append(b" tell ");
+    write_address(protocol, packet.sender_protocol_addr(), out);
+}
+
+/// Writes ` ARP reply SENDER is-at HARDWARE`.
+#[inline]
+fn write_arp_reply<W: Sink>(packet: &ArpPacketSlice<'_>, out: &mut OutputBuffer<'_, W>) {
+    let protocol = packet.proto_addr_type();
+    out.append(b" ARP reply ");
+    write_address(protocol, packet.sender_protocol_addr(), out);
+    out.append(b" is-at ");
+    write_colons(packet.sender_hw_addr(), out);
+}
+
+/// Writes ` ARP op NUMBER from SENDER to TARGET`.
+#[inline]
+fn write_arp_other<W: Sink>(packet: &ArpPacketSlice<'_>, out: &mut OutputBuffer<'_, W>) {
+    let protocol = packet.proto_addr_type();
+    write_number(out, b" ARP op ", usize::from(packet.operation().0));
+    out.append(b" from ");
+    write_address(protocol, packet.sender_protocol_addr(), out);
+    out.append(b" to ");
+    write_address(protocol, packet.target_protocol_addr(), out);
+}
+
+/// Writes a protocol address: of IPv4 with dots, any other in hexadecimal digits with colons.
+#[inline]
+fn write_address<W: Sink>(protocol: EtherType, bytes: &[u8], out: &mut OutputBuffer<'_, W>) {
+    if protocol == EtherType::IPV4 && bytes.len() == 4 {
+        write_dotted(bytes, out);
+    } else {
+        write_colons(bytes, out);
+    }
+}
+
+/// Writes a header of cooked capture v1.
+#[inline]
+fn write_linux_sll<W: Sink>(slice: &LinuxSllSlice<'_>, out: &mut OutputBuffer<'_, W>) {
+    let packet_type = usize::from(slice.packet_type_number());
+    let len = usize::from(slice.sender_address_valid_length());
+    write_sender(packet_type, &slice.sender_address_full(), len, out);
+}
+
+/// Writes ` cooked type TYPE from ADDRESS`: how the packet was sent, and the sender's address.
+#[inline]
+fn write_sender<W: Sink>(
+    packet_type: usize,
+    address: &[u8; 8],
+    len: usize,
+    out: &mut OutputBuffer<'_, W>,
+) {
+    write_number(out, b" cooked type ", packet_type);
+    out.append(b" from ");
+    write_colons(first_of(address, len), out);
+}
+
+/// Writes a header of cooked capture v1 that is not walked.
+#[inline]
+fn write_cooked<W: Sink>(header: &CookedHeader, out: &mut OutputBuffer<'_, W>) {
+    write_number(out, b" cooked type ", usize::from(header.packet_type));
+    out.append(b" from ");
+    write_colons(used(&header.address, usize::from(header.address_len)), out);
+}
+
+/// Writes a header of cooked capture v2.
+#[inline]
+fn write_linux_sll2<W: Sink>(packet: &LinuxSll2Slice<'_>, out: &mut OutputBuffer<'_, W>) {
+    let packet_type = usize::from(packet.packet_type_number());
+    let len = usize::from(packet.sender_address_valid_length());
+    write_number(out, b" if ", packet.interface_index() as usize);
+    write_sender(packet_type, &packet.sender_address_full(), len, out);
+}
+
+/// Writes how the walk through a packet ends, after a space.
+#[inline]
+pub(crate) fn write_brief_end<W: Sink>(end: &End, out: &mut OutputBuffer<'_, W>) {
+    match end {
+        End::Rest(start, end, kind) => write_rest(end.saturating_sub(*start), kind, out),
+        End::Skipped(len) => write_skipped(*len, out),
+        End::Fault(start, _, cause) => write_fault(*start, cause, out),
+    }
+}
+
+/// Writes what is left, and its length; nothing for the padding after an ARP packet.
+#[inline]
+fn write_rest<W: Sink>(len: usize, kind: &RestKind, out: &mut OutputBuffer<'_, W>) {
+    match kind {
+        RestKind::AfterArp => {}
+        RestKind::EtherType(ether_type) => {
+            out.append(b" ");
+            write_type(*ether_type, out);
+            write_len(len, out);
+        }
+        _ => {
+            out.append(b" ");
+            out.append(kind_word(kind).as_bytes());
+            write_len(len, out);
+        }
+    }
+}
+
+/// Writes ` LEN bytes`.
+#[inline]
+fn write_len<W: Sink>(len: usize, out: &mut OutputBuffer<'_, W>) {
+    write_number(out, b" ", len);
+    out.append(b" bytes");
+}
+
+/// Writes an ether type by its name, or as a hexadecimal number if it has no name here.
+#[inline]
+fn write_type<W: Sink>(ether_type: EtherType, out: &mut OutputBuffer<'_, W>) {
+    match name_of(Kind::EtherType, u64::from(ether_type.0)) {
+        Some(name) => out.append(name.as_bytes()),
+        None => out.append(&hex_type(ether_type)),
+    }
+}
+
+/// Writes ` skipped LEN bytes`.
+#[inline]
+fn write_skipped<W: Sink>(len: usize, out: &mut OutputBuffer<'_, W>) {
+    write_number(out, b" skipped ", len);
+    out.append(b" bytes");
+}
+
+/// Writes ` fault at START: CAUSE`.
+#[inline]
+fn write_fault<W: Sink>(start: usize, cause: &Cause, out: &mut OutputBuffer<'_, W>) {
+    write_number(out, b" fault at ", start);
+    out.append(b": ");
+    write_cause(cause, out);
+}
+
+/// Writes what is wrong with a header.
+#[inline]
+fn write_cause<W: Sink>(cause: &Cause, out: &mut OutputBuffer<'_, W>) {
+    match cause {
+        Cause::Length(required, available, _) => {
+            write_number(out, b"needs ", *required);
+            write_number(out, b" bytes, has ", *available);
+        }
+        Cause::UnknownPacketType(number) => {
+            write_number(out, b"packet type ", usize::from(*number));
+        }
+        Cause::UnknownHardwareType(number) => {
+            write_number(out, b"hardware type ", usize::from(*number));
+        }
+        Cause::Version => out.append(b"version 1 of MACsec"),
+        Cause::ShortLength => out.append(b"short length 1"),
+    }
+}
+
+/// Writes the number and the time of a packet; a hyphen if it has no time.
+#[inline]
+pub(crate) fn write_brief_front<W: Sink>(
+    number: usize,
+    moment: Option<Moment>,
+    out: &mut OutputBuffer<'_, W>,
+) {
+    write_decimal(out, number);
+    out.append(b" ");
+    match moment {
+        Some(moment) => write_brief_moment(&moment, out),
+        None => out.append(b"-"),
+    }
+}
+
+/// Writes a date and a time of day, or without a date the seconds since the beginning of 1970, with six or nine
+/// decimals.
+#[inline]
+fn write_brief_moment<W: Sink>(moment: &Moment, out: &mut OutputBuffer<'_, W>) {
+    if !has_date(moment) {
+        write_decimal(out, moment.seconds as usize);
+        out.append(b".");
+        write_fraction(moment.nanoseconds, out);
+        return;
+    }
+    write_date(moment, out);
+    out.append(b".");
+    write_fraction(moment.nanoseconds, out);
+    out.append(b"Z");
+}
+
+/// Writes six decimals, or nine if the last three are not 0.
+#[inline]
+fn write_fraction<W: Sink>(nanoseconds: u32, out: &mut OutputBuffer<'_, W>) {
+    let digits = nine_digits(nanoseconds);
+    if nanoseconds % 1_000 == 0 {
+        out.append(&digits[..6]);
+    } else {
+        out.append(&digits);
+    }
+}
+
+/// Writes how much of a packet was captured, if that is not all, and ends the line.
+#[inline]
+pub(crate) fn write_brief_tail<W: Sink>(packet: &CapturedPacket<'_>, out: &mut OutputBuffer<'_, W>) {
+    if is_cut(packet) {
+        write_number(out, b" (", packet.packet.len());
+        write_number(out, b" of ", packet.original_len as usize);
+        out.append(b" bytes)");
+    }
+    out.append(b"\n");
+}

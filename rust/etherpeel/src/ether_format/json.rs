@@ -1,0 +1,100 @@
+//! Writes a packet as a line of JSON.
+
+use crate::ether_format::end::End;
+use crate::ether_format::found::Found;
+use crate::ether_format::found_header::FoundHeader;
+use crate::ether_format::members;
+use crate::ether_format::spelling::write_json_value;
+use crate::ether_format::value::Member;
+use crate::ether_output::{OutputBuffer, Sink};
+use crate::ether_pcap::CapturedPacket;
+use crate::ether_peel::PeelUnit;
+
+/// Writes the object of a packet up to its list of headers: its members, and the name of that list.
+#[inline]
+pub(crate) fn write_json_front<W: Sink>(
+    number: usize,
+    packet: &CapturedPacket<'_>,
+    out: &mut OutputBuffer<'_, W>,
+) {
+    write_members(&members::packet(number, packet), out);
+    out.append(b",\"headers\":[");
+}
+
+/// Writes a header as an object, after a comma unless it is the first.
+#[inline(always)]
+pub(crate) fn write_json_header<W: Sink>(
+    is_first: bool,
+    found: &Found<'_>,
+    out: &mut OutputBuffer<'_, W>,
+) {
+    write_comma(is_first, out);
+    write_members(&members::placed(found.section, found.place), out);
+    write_own(&found.header, out);
+    out.append(b"}");
+}
+
+/// Writes the members of a header after its name and its place.
+#[inline(always)]
+fn write_own<W: Sink>(header: &FoundHeader<'_>, out: &mut OutputBuffer<'_, W>) {
+    match header {
+        FoundHeader::Walked(unit) => write_unit(unit, out),
+        FoundHeader::Cooked(header) => write_members(&members::cooked(header), out),
+        FoundHeader::CookedV2(packet) => write_members(&members::linux_sll2(packet), out),
+    }
+}
+
+/// Writes the members of a header of the walk after its name and its place.
+#[inline(always)]
+fn write_unit<W: Sink>(unit: &PeelUnit<'_>, out: &mut OutputBuffer<'_, W>) {
+    match unit {
+        PeelUnit::Ethernet2(slice) => write_members(&members::ethernet2(slice), out),
+        PeelUnit::LinuxSll(slice) => write_members(&members::linux_sll(slice), out),
+        PeelUnit::Vlan(slice) => write_members(&members::vlan(slice), out),
+        PeelUnit::Macsec(slice) => write_members(&members::macsec(&slice.header), out),
+        PeelUnit::Arp(slice) => write_members(&members::arp(slice), out),
+    }
+}
+
+/// Writes the end of the list of headers, and how the walk through them ends.
+#[inline]
+pub(crate) fn write_json_end<W: Sink>(end: &End, out: &mut OutputBuffer<'_, W>) {
+    match end {
+        End::Rest(start, end, kind) => write_last(
+            b"],\"rest\":",
+            &members::rest(*start, *end, kind),
+            out,
+        ),
+        End::Skipped(len) => write_last(b"],\"rest\":", &members::skipped(*len), out),
+        End::Fault(start, closed, cause) => write_last(
+            b"],\"fault\":",
+            &members::fault(*start, *closed, cause),
+            out,
+        ),
+    }
+}
+
+/// Writes the last member of the object of a packet, an object of these members, after the text of its name.
+#[inline(always)]
+fn write_last<W: Sink>(name: &[u8], members: &[Member<'_>], out: &mut OutputBuffer<'_, W>) {
+    out.append(name);
+    write_members(members, out);
+    out.append(b"}}\n");
+}
+
+/// Writes a comma, but not before the first of several.
+#[inline(always)]
+pub(crate) fn write_comma<W: Sink>(is_first: bool, out: &mut OutputBuffer<'_, W>) {
+    if !is_first {
+        out.append(b",");
+    }
+}
+
+/// Writes members, each with its name.
+#[inline(never)]
+fn write_members<W: Sink>(members: &[Member<'_>], out: &mut OutputBuffer<'_, W>) {
+    for member in members {
+        out.append(member.key.as_bytes());
+        write_json_value(&member.value, out);
+    }
+}

@@ -1,0 +1,71 @@
+//! Writes a captured packet in a format.
+
+use crate::ether_format::Format;
+use crate::ether_format::line::{Line, write_line};
+use crate::ether_format::row::write_row;
+use crate::ether_output::{OutputBuffer, Sink};
+use crate::ether_pcap::CapturedPacket;
+
+/// Writes a packet with its number in a format, and returns whether no header of it is refused.
+///
+/// With a limit, at most that many VLAN tags and SecTags are read.
+///
+/// ```
+/// # use etherpeel::*;
+/// # use etherpeel::ether_peel::*;
+/// # use etherpeel::ether_fields::*;
+/// # use etherpeel::ether_sll2::*;
+/// # use etherpeel::ether_packet::*;
+/// # use etherpeel::ether_filter::*;
+/// # use etherpeel::ether_pcap::*;
+/// # use etherpeel::ether_content::*;
+/// # use etherpeel::ether_switch::*;
+/// # use etherpeel::ether_output::*;
+/// # use etherpeel::ether_format::*;
+/// # use arrayvec::ArrayVec;
+/// # #[cfg(feature = "std")]
+/// # {
+/// let packet = CapturedPacket {
+///     time: Some(Timestamp { seconds: 1_700_000_000, nanoseconds: 1_000 }),
+///     interface: None,
+///     original_len: 60,
+///     link_type: LinkType::ETHERNET,
+///     snap_len: 262_144,
+///     fcs_len: None,
+///     packet: &[0xFF, 0xFF, 0xFF, 0xFF, 0xFF, 0xFF, 2, 0, 0, 0, 0, 1, 0x08, 0x00],
+/// };
+/// let mut written = ArrayVec::<u8, 512>::new();
+/// let mut out = OutputBuffer::new(&mut written);
+/// assert!(write_packet(&Format::Json, None, 1, &packet, &mut out));
+/// assert_eq!(out.flush(), Ok(()));
+/// assert_eq!(
+///     written.as_slice(),
+///     b"{\"number\":1,\"time\":\"2023-11-14T22:13:20.000001000Z\",\"link\":1,\"captured\":14,\"original\":60,\"headers\":[{\"header\":\"eth\",\
+/// \"start\":0,\"end\":14,\"payload_end\":14,\"closed\":false,\"dst\":\"ff:ff:ff:ff:ff:ff\",\"src\":\"02:00:00:00:00:01\",\"type\":2048,\
+/// \"fcs\":null}],\"rest\":{\"start\":14,\"end\":14,\"kind\":\"ether_type\",\"type\":2048}}\n".as_slice()
+/// );
+/// # }
+/// ```
+///
+/// <details><summary>Contract</summary>
+///
+/// ```text
+/// ensures { TakesAnswer W.contents W.can_fail (HasText format.now limit number (captured_packet_view packet.now))
+///     out.old out.new result }
+/// ```
+///
+/// </details>
+#[inline(never)]
+pub fn write_packet<W: Sink>(
+    format: &Format,
+    limit: Option<usize>,
+    number: usize,
+    packet: &CapturedPacket<'_>,
+    out: &mut OutputBuffer<'_, W>,
+) -> bool {
+    match format {
+        Format::Json => write_line(Line::Json, limit, number, packet, out),
+        Format::Brief => write_line(Line::Brief, limit, number, packet, out),
+        Format::Fields(columns) => write_row(columns, limit, number, packet, out),
+    }
+}

@@ -1,0 +1,248 @@
+//! Writes values as text.
+
+use crate::ether_format::Moment;
+use crate::ether_format::value::Value;
+use crate::ether_output::{OutputBuffer, Sink, digit_pair, eight_digits, hex_type, write_decimal};
+use crate::EtherType;
+
+/// Writes a value as JSON has it.
+#[inline(always)]
+pub(crate) fn write_json_value<W: Sink>(value: &Value<'_>, out: &mut OutputBuffer<'_, W>) {
+    match value {
+        Value::Nothing => out.append(b"null"),
+        Value::Number(number) => write_decimal(out, *number as usize),
+        Value::Protocol(number) => write_decimal(out, usize::from(*number)),
+        Value::Flag(holds) => out.append(flag_text(*holds).as_bytes()),
+        Value::Mac(address) => out.append_array(quoted_mac(*address)),
+        Value::Four(bytes) => write_quoted_bytes(bytes, out),
+        Value::Eight(bytes) => write_quoted_bytes(bytes, out),
+        Value::Short(bytes, len) => write_quoted_bytes(first_of(bytes, *len), out),
+        Value::Bytes(bytes) => write_quoted_bytes(bytes, out),
+        Value::Dotted(bytes) => write_quoted_dotted(bytes, out),
+        Value::Word(word) => write_quoted_word(word, out),
+        Value::Time(moment) => write_json_moment(moment, out),
+    }
+}
+
+/// Writes a value as a column has it.
+#[inline(always)]
+pub(crate) fn write_column_value<W: Sink>(value: &Value<'_>, out: &mut OutputBuffer<'_, W>) {
+    match value {
+        Value::Nothing => {}
+        Value::Number(number) => write_decimal(out, *number as usize),
+        Value::Protocol(number) => out.append(&hex_type(EtherType(*number))),
+        Value::Flag(holds) => out.append(flag_text(*holds).as_bytes()),
+        Value::Mac(address) => out.append_array(mac_text(*address)),
+        Value::Four(bytes) => write_colons(bytes, out),
+        Value::Eight(bytes) => write_colons(bytes, out),
+        Value::Short(bytes, len) => write_colons(first_of(bytes, *len), out),
+        Value::Bytes(bytes) => write_colons(bytes, out),
+        Value::Dotted(bytes) => write_dotted(bytes, out),
+        Value::Word(word) => out.append(word.as_bytes()),
+        Value::Time(moment) => write_moment(moment, out),
+    }
+}
+
+/// The first `len` bytes, or all if there are fewer.
+#[inline]
+pub(crate) fn first_of(bytes: &[u8], len: usize) -> &[u8] {
+    &bytes[..len.min(bytes.len())]
+}
+
+/// `true` or `false`.
+#[inline]
+fn flag_text(holds: bool) -> &'static str {
+    if holds { "true" } else { "false" }
+}
+
+/// Writes a word between quotation marks.
+#[inline(always)]
+fn write_quoted_word<W: Sink>(word: &str, out: &mut OutputBuffer<'_, W>) {
+    out.append(b"\"");
+    out.append(word.as_bytes());
+    out.append(b"\"");
+}
+
+/// Writes bytes between quotation marks, with a colon between two.
+#[inline(never)]
+fn write_quoted_bytes<W: Sink>(bytes: &[u8], out: &mut OutputBuffer<'_, W>) {
+    out.append(b"\"");
+    write_colons(bytes, out);
+    out.append(b"\"");
+}
+
+/// Writes the bytes of an address of IPv4 between quotation marks.
+#[inline(never)]
+fn write_quoted_dotted<W: Sink>(bytes: &[u8], out: &mut OutputBuffer<'_, W>) {
+    out.append(b"\"");
+    write_dotted(bytes, out);
+    out.append(b"\"");
+}
+
+/// Writes a moment as a value of JSON: its date between quotation marks, or the number of its seconds.
+#[inline(never)]
+fn write_json_moment<W: Sink>(moment: &Moment, out: &mut OutputBuffer<'_, W>) {
+    if has_date(moment) {
+        write_quoted_date(moment, out);
+    } else {
+        write_seconds(moment, out);
+    }
+}
+
+/// Writes the date of a moment between quotation marks.
+#[inline]
+fn write_quoted_date<W: Sink>(moment: &Moment, out: &mut OutputBuffer<'_, W>) {
+    out.append(b"\"");
+    write_dated(moment, out);
+    out.append(b"\"");
+}
+
+/// Writes bytes in two hexadecimal digits each, with a colon between two.
+#[inline]
+pub(crate) fn write_colons<W: Sink>(bytes: &[u8], out: &mut OutputBuffer<'_, W>) {
+    if bytes.is_empty() {
+        return;
+    }
+    out.append_array(digit_pair(bytes[0]));
+    write_colons_after(&bytes[1..], out);
+}
+
+/// Writes bytes in two hexadecimal digits each, after a colon each.
+#[inline]
+fn write_colons_after<W: Sink>(bytes: &[u8], out: &mut OutputBuffer<'_, W>) {
+    for byte in bytes {
+        let pair = digit_pair(*byte);
+        out.append_array([b':', pair[0], pair[1]]);
+    }
+}
+
+/// Writes bytes in decimal digits, with a dot between two.
+#[inline]
+pub(crate) fn write_dotted<W: Sink>(bytes: &[u8], out: &mut OutputBuffer<'_, W>) {
+    if bytes.is_empty() {
+        return;
+    }
+    write_decimal(out, usize::from(bytes[0]));
+    write_dots_after(&bytes[1..], out);
+}
+
+/// Writes bytes in decimal digits, after a dot each.
+#[inline]
+fn write_dots_after<W: Sink>(bytes: &[u8], out: &mut OutputBuffer<'_, W>) {
+    for byte in bytes {
+        out.append(b".");
+        write_decimal(out, usize::from(*byte));
+    }
+}
+
+/// A MAC address between quotation marks.
+#[inline(always)]
+fn quoted_mac(address: [u8; 6]) -> [u8; 19] {
+    let a = digit_pair(address[0]);
+    let b = digit_pair(address[1]);
+    let c = digit_pair(address[2]);
+    let d = digit_pair(address[3]);
+    let e = digit_pair(address[4]);
+    let f = digit_pair(address[5]);
+    [
+        b'"', a[0], a[1], b':', b[0], b[1], b':', c[0], c[1], b':', d[0], d[1], b':', e[0], e[1],
+        b':', f[0], f[1], b'"',
+    ]
+}
+
+/// A MAC address.
+#[inline(always)]
+pub(crate) fn mac_text(address: [u8; 6]) -> [u8; 17] {
+    let a = digit_pair(address[0]);
+    let b = digit_pair(address[1]);
+    let c = digit_pair(address[2]);
+    let d = digit_pair(address[3]);
+    let e = digit_pair(address[4]);
+    let f = digit_pair(address[5]);
+    [
+        a[0], a[1], b':', b[0], b[1], b':', c[0], c[1], b':', d[0], d[1], b':', e[0], e[1], b':',
+        f[0], f[1],
+    ]
+}
+
+/// Writes a moment: its date as in ISO 8601, or without one its seconds, with nine decimals of the second.
+#[inline]
+pub(crate) fn write_moment<W: Sink>(moment: &Moment, out: &mut OutputBuffer<'_, W>) {
+    if has_date(moment) {
+        write_dated(moment, out);
+    } else {
+        write_seconds(moment, out);
+    }
+}
+
+/// Whether the year has at most four digits, as in RFC 3339.
+#[inline(always)]
+pub(crate) fn has_date(moment: &Moment) -> bool {
+    moment.year < 10_000
+}
+
+/// Writes a date and a time of day with nine decimals of the second.
+#[inline]
+fn write_dated<W: Sink>(moment: &Moment, out: &mut OutputBuffer<'_, W>) {
+    write_date(moment, out);
+    out.append_array(fraction(moment.nanoseconds));
+}
+
+/// Writes the seconds since the beginning of 1970, with nine decimals.
+#[inline]
+fn write_seconds<W: Sink>(moment: &Moment, out: &mut OutputBuffer<'_, W>) {
+    write_decimal(out, moment.seconds as usize);
+    out.append(b".");
+    out.append_array(nine_digits(moment.nanoseconds));
+}
+
+/// What follows the second of a moment: its nine decimals, and the Z of UTC.
+#[inline(always)]
+fn fraction(nanoseconds: u32) -> [u8; 11] {
+    let d = nine_digits(nanoseconds);
+    [
+        b'.', d[0], d[1], d[2], d[3], d[4], d[5], d[6], d[7], d[8], b'Z',
+    ]
+}
+
+/// Writes a date and a time of day.
+#[inline]
+pub(crate) fn write_date<W: Sink>(moment: &Moment, out: &mut OutputBuffer<'_, W>) {
+    write_decimal(out, moment.year as usize);
+    out.append_array(month_to_second(moment));
+}
+
+/// What follows the year of a date, up to the second: `-11-14T22:13:20`.
+#[inline]
+fn month_to_second(moment: &Moment) -> [u8; 15] {
+    let m = two_digits(moment.month);
+    let d = two_digits(moment.day);
+    let h = two_digits(moment.hour);
+    let i = two_digits(moment.minute);
+    let s = two_digits(moment.second);
+    [
+        b'-', m[0], m[1], b'-', d[0], d[1], b'T', h[0], h[1], b':', i[0], i[1], b':', s[0], s[1],
+    ]
+}
+
+/// The two digits of a number below 100.
+#[inline(always)]
+pub(crate) fn two_digits(number: u8) -> [u8; 2] {
+    [b'0' + number / 10, b'0' + number % 10]
+}
+
+/// The nine lowest decimal digits of a number.
+///
+/// <details><summary>Contract</summary>
+///
+/// ```text
+/// ensures { result ≡ nine_digits number }
+/// ```
+///
+/// </details>
+#[inline(always)]
+pub fn nine_digits(number: u32) -> [u8; 9] {
+    let first = b'0' + (number / 100_000_000 % 10) as u8;
+    let d = eight_digits(u64::from(number));
+    [first, d[0], d[1], d[2], d[3], d[4], d[5], d[6], d[7]]
+}
