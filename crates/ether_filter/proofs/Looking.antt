@@ -1,7 +1,8 @@
 -- The walk that `look` takes, and what it shows at its end.
-use Rattle.std.proofs.Common.{◌≡◌, ℕ, List, [], ◌∷◌, refl, sym, ap, subst, ◌∙◌, Bool, true, false, ◌||◌, nat_eq, IsTrue, ◌↔◌}
+use Rattle.std.proofs.Common.{◌≡◌, ℕ, ◌≤◌, List, length, [], ◌∷◌, refl, sym, ap, subst, ◌∙◌, Bool, true, false, ◌||◌, nat_eq}
 use Rattle.std.specs.Prelude.{Option, Some, None, Ok, Err, is_some}
 use Rattle.std.specs.List.{list_any}
+use Rattle.std.proofs.Math.Bool.{or-false}
 use Rattle.std.proofs.lemmas.List.Folds.{list_any-append}
 use Rattle.etherparse.specs.Bytes.{IsBytes}
 use Rattle.etherparse.specs.Header.{Header, kind_of}
@@ -22,25 +23,17 @@ use Rattle.ether_peel.specs.declared.peel_fault.PeelFault.{PeelFault}
 use Rattle.ether_peel.proofs.Grammar.Stacks.{one_stack}
 use Rattle.ether_peel.proofs.Grammar.Announced.{announced_is}
 use Rattle.ether_peel.proofs.Walker.UnderWay.{UnderWay, under_way_first, passes, passes_unit, passes_header, under_way_next, stops, no_none, no_fault, faults, accepts}
-use Rattle.ether_filter.specs.declared.primitive.Primitive.{Primitive}
 use Rattle.ether_filter.specs.declared.primitive.Primitive.TheVariants as primitives
 use Rattle.ether_filter.specs.declared.seen.Seen.{Seen}
-use Rattle.ether_filter.specs.declared.tag_marks.Tag.{Tag}
-use Rattle.ether_filter.specs.declared.tag_marks.TagMarks.{TagMarks}
-use Rattle.ether_filter.specs.Deciding.{is_of_lengths}
 use Rattle.ether_filter.specs.Fields.{fields_of}
-use Rattle.ether_filter.specs.Primitives.{is_tag, vlan_ids, listed, ether_type_of, ether_types, Walked, Matches}
-use Rattle.ether_filter.specs.TagMarks.{is_some_type, has_id, is_marked_id}
-use Rattle.ether_filter.specs.Seen.{nothing, IsTaken, seen, matching, first, announced_before, was_announced, has_further_id, Shows, IsSeen}
-use Rattle.ether_filter.proofs.Truth.{matching_is}
+use Rattle.ether_filter.specs.Primitives.{is_tag, vlan_ids, listed, ether_type_of, ether_types, Walked}
+use Rattle.ether_filter.specs.TagMarks.{is_some_type, has_bit}
+use Rattle.ether_filter.specs.Seen.{nothing, tag_id, AreMarked, IsTaken, first, last_other, announced_before, was_announced, has_vlan_id, Shows}
 use Rattle.ether_filter.proofs.Announced.{next_at, followed, next_after_more, ether_types_are, listed_any}
-use Rattle.ether_filter.proofs.SeenLemmas.{id_of, id_is, Keeps, keeps_next}
+use Rattle.ether_filter.proofs.SeenLemmas.{has_three, Keeps, keeps_next}
+use Rattle.ether_filter.proofs.TagMarksLemmas.{no_type}
 
 -- ---- at the end
-
-is_some_id : (tag : Option Tag) → is_some tag ≡ is_some (id_of tag)
-is_some_id None = refl
-is_some_id (Some tag) = refl
 
 tagged : (hs : List Header) → is_some (first (vlan_ids hs)) ≡ list_any is_tag hs
 tagged [] = refl
@@ -64,63 +57,33 @@ types_shown n next hs last earlier is are =
     ∙ sym (list_any-append (nat_eq n) (followed next hs) here)
     ∙ ap (list_any (nat_eq n)) (sym (ether_types_are next hs))
 
-further_is : (n : ℕ) (first : Bool) (inner : Option Tag) (between : Option TagMarks) → (inner ≡ None → between ≡ None)
-    → (first || has_further_id n inner between) ≡ ((first || has_id n inner) || is_marked_id between n)
-further_is n true inner between few = refl
-further_is n false None between few = rw (few refl) refl
-further_is n false (Some inner) between few = refl
+vlan_id_is : (n : ℕ) (ids marks : List ℕ) → (has_three ids ≡ true → has_bit marks n ≡ list_any (nat_eq n) ids)
+    → has_vlan_id n (has_three ids) (first ids) (last_other ids) marks ≡ list_any (nat_eq n) ids
+vlan_id_is n [] marks are = refl
+vlan_id_is n (a ∷ []) marks are = sym (or-false (nat_eq n a))
+vlan_id_is n (a ∷ b ∷ []) marks are = ap (λ (c : Bool). nat_eq n a || c) (sym (or-false (nat_eq n b)))
+vlan_id_is n (a ∷ b ∷ c ∷ ids) marks are = are refl
 
 -- what is kept of all headers shows what they are
-shown : (start : PeelStart) (w : Walked) (s : Seen) (last : Option ℕ) (refused : Bool) → w.start ≡ next_of start
-    → Keeps start w.headers s → last ≡ ether_type_of (next_at (next_of start) w.headers)
-    → refused ≡ is_some (refusal_of w.ending) → (p : Primitive) → is_of_lengths p ≡ false
-    → seen p (record s { last = last; is_refused = refused }) ≡ matching w p
-shown start w s last refused at k is end primitives.Vlan asks =
-    is_some_id s.outer ∙ ap is_some k.outer ∙ tagged w.headers
-shown start w s last refused at k is end (primitives.VlanId n) asks =
-    further_is n (has_id n s.outer) s.inner s.between k.few ∙ k.ids n
-shown start w s last refused at k is end (primitives.OuterVlan n) asks =
-    id_is n s.outer ∙ ap (is_some_type n) k.outer
-shown start w s last refused at k is end (primitives.InnerVlan n) asks =
-    id_is n s.inner ∙ ap (is_some_type n) k.inner
-shown start w s last refused at k is end primitives.Macsec asks = k.sec_tag
-shown start w s last refused at k is end (primitives.EtherType n) asks =
+shown : (start : PeelStart) (w : Walked) (s : Seen) (ids : List ℕ) (last : Option ℕ) (refused : Bool)
+    → (s.has_more ≡ true → 64 ≤ length ids) → w.start ≡ next_of start → Keeps start w.headers s ids
+    → last ≡ ether_type_of (next_at (next_of start) w.headers) → refused ≡ is_some (refusal_of w.ending)
+    → Shows w (record s { last = last; is_refused = refused }) ids
+shown start w s ids last refused room at k is end primitives.Vlan asks = ap is_some k.outer ∙ tagged w.headers
+shown start w s ids last refused room at k is end (primitives.VlanId n) asks =
+    (λ i. has_vlan_id n (k.more i) (k.outer i) (k.inner i) ids)
+    ∙ vlan_id_is n (vlan_ids w.headers) ids (λ three. k.marks (room (k.more ∙ three)) n)
+shown start w s ids last refused room at k is end (primitives.OuterVlan n) asks = ap (is_some_type n) k.outer
+shown start w s ids last refused room at k is end (primitives.InnerVlan n) asks = ap (is_some_type n) k.inner
+shown start w s ids last refused room at k is end primitives.Macsec asks = k.sec_tag
+shown start w s ids last refused room at k is end (primitives.EtherType n) asks =
     types_shown n (next_of start) w.headers last (was_announced n s) is (k.types n)
     ∙ ap (λ (next : Next). list_any (nat_eq n) (ether_types next w.headers)) (sym at)
-shown start w s last refused at k is end primitives.Refused asks = end
-shown start w s last refused at k is end primitives.Cut asks = absurd cc
-shown start w s last refused at k is end (primitives.Less n) asks = absurd cc
-shown start w s last refused at k is end (primitives.Greater n) asks = absurd cc
-shown start w s last refused at k is end p asks = k.link p refl
-
--- ---- before the walk
-
-pub nothing_seen : (w : Walked) (s : Seen) → s ≡ nothing → IsSeen w s
-nothing_seen w s is = record {
-  before = λ not. is;
-  after = λ walked. let no : true ≡ false = sym walked ∙ ap (λ (k : Seen). k.is_walked) is in absurd cc;
-}
-
--- ---- after the walk
-
-pub all_seen : (w : Walked) (s : Seen) → s.is_walked ≡ true → Shows w s → IsSeen w s
-all_seen w s walked shows = record {
-  before = λ not. let no : true ≡ false = sym walked ∙ not in absurd cc;
-  after = λ is. shows;
-}
-
-asked : (p : Primitive) → (p ≡ primitives.Cut → ⊥) → ((n : ℕ) → p ≡ primitives.Less n → ⊥)
-    → ((n : ℕ) → p ≡ primitives.Greater n → ⊥) → is_of_lengths p ≡ false
-asked primitives.Cut not_cut not_less not_greater = absurd (not_cut refl)
-asked (primitives.Less n) not_cut not_less not_greater = absurd (not_less n refl)
-asked (primitives.Greater n) not_cut not_less not_greater = absurd (not_greater n refl)
-asked p not_cut not_less not_greater = refl
-
-pub shown_matches : (w : Walked) (s : Seen) (p : Primitive) → Shows w s → (p ≡ primitives.Cut → ⊥)
-    → ((n : ℕ) → p ≡ primitives.Less n → ⊥) → ((n : ℕ) → p ≡ primitives.Greater n → ⊥)
-    → IsTrue (seen p s) ↔ Matches p w
-shown_matches w s p shows not_cut not_less not_greater =
-    rw (shows p (asked p not_cut not_less not_greater)) (matching_is w p)
+shown start w s ids last refused room at k is end primitives.Refused asks = end
+shown start w s ids last refused room at k is end primitives.Cut asks = absurd cc
+shown start w s ids last refused room at k is end (primitives.Less n) asks = absurd cc
+shown start w s ids last refused room at k is end (primitives.Greater n) asks = absurd cc
+shown start w s ids last refused room at k is end p asks = k.link p refl
 
 -- ---- the walk
 
@@ -132,16 +95,16 @@ nothing_before (Some kinds.Arp) = refl
 nothing_before (Some kind) = refl
 
 -- a walk under way, with what is kept of the headers that it has returned
-pub record Looks (start : PeelStart) (list : List ℕ) (s : State) (seen : Seen) : Type 0 where
+pub record Looks (start : PeelStart) (list : List ℕ) (s : State) (seen : Seen) (ids : List ℕ) : Type 0 where
   pub way : UnderWay (start_of start) list s
-  pub keeps : Keeps start way.done seen
+  pub keeps : Keeps start way.done seen ids
   pub next : s.expected.next ≡ next_at (next_of start) way.done
   pub refused : seen.is_refused ≡ false
 
-pub looks_first : (start : PeelStart) (list : List ℕ) (s : State) → s ≡ begun (start_of start) list
-    → FacesWalk (start_of start) list s → Looks start list s (record nothing { is_walked = true })
+pub looks_first : (start : PeelStart) (list : List ℕ) (s : State) (ids : List ℕ) → ((n : ℕ) → has_bit ids n ≡ false)
+    → s ≡ begun (start_of start) list → FacesWalk (start_of start) list s → Looks start list s nothing ids
 unfolding under_way_first
-looks_first start list s is faces = record {
+looks_first start list s ids none is faces = record {
   way =
       under_way_first (start_of start) list s faces.headers faces.ending faces.walk faces.faces
       (ap (λ (k : State). k.over) is);
@@ -149,22 +112,24 @@ looks_first start list s is faces = record {
       record {
         outer = refl;
         inner = refl;
-        ids = λ n. refl;
-        fits = λ tag none. absurd cc;
-        few = λ none. refl;
+        more = refl;
+        marks = λ room n. none n;
         sec_tag = refl;
-        types = λ n. nothing_before (announced_by n);
+        types =
+            λ n. ap (λ b. announced_before (announced_by n) b false false) (no_type n)
+            ∙ nothing_before (announced_by n);
         link = λ p of. refl;
       };
   next = ap (λ (k : State). k.expected.next) is;
   refused = refl;
 }
 
-pub looks_next : (start : PeelStart) (list : List ℕ) (s t : State) (u : PeelUnit) (before after : Seen) → IsBytes list
-    → Looks start list s before → Gives s (Some (Ok u)) t
-    → IsTaken before (fields_of (unit_header u)) (ether_type_of s.expected.next) after → Looks start list t after
+pub looks_next : (start : PeelStart) (list : List ℕ) (s t : State) (u : PeelUnit) (before after : Seen)
+    (old new : List ℕ) → IsBytes list → Looks start list s before old → Gives s (Some (Ok u)) t
+    → IsTaken before (fields_of (unit_header u)) (ether_type_of s.expected.next) after
+    → AreMarked old (tag_id (fields_of (unit_header u))) new → length new ≡ length old → Looks start list t after new
 unfolding under_way_next
-looks_next start list s t u before after ok a gives taken =
+looks_next start list s t u before after old new ok a gives taken marked len =
     let x = start_of start in
     let way = a.way in
     let w = way.window in
@@ -177,44 +142,49 @@ looks_next start list s t u before after ok a gives taken =
     (announced_is s.expected (kind_of h) unit.announced) in
     let is = subst (λ (n : Next). IsTaken before (fields_of h) (ether_type_of n) after) next
     (subst (λ (k : Header). IsTaken before (fields_of k) (ether_type_of s.expected.next) after) same taken) in
+    let marks = subst (λ (k : Header). AreMarked old (tag_id (fields_of k)) new) same marked in
     record {
       way = under_way_next x list s t u way p;
-      keeps = keeps_next start way.done (within list w) h before after unit.means announced a.keeps is;
+      keeps =
+          keeps_next start way.done (within list w) h before after old new unit.means announced a.keeps is marks len;
       next = ap (λ (y : Expectation). y.next) p.expects ∙ sym (next_after_more (next_of start) way.done h);
       refused = taken.refused ∙ a.refused;
     }
 
 -- no more units are returned
-looks_end : (start : PeelStart) (list : List ℕ) (s : State) (before : Seen) (last : Option ℕ) (refused : Bool)
-    (w : Walked) (a : Looks start list s before) → Walk (start_of start) list a.way.done a.way.ending
+looks_end : (start : PeelStart) (list : List ℕ) (s : State) (before : Seen) (ids : List ℕ) (last : Option ℕ)
+    (refused : Bool) (w : Walked) (a : Looks start list s before ids) → (before.has_more ≡ true → 64 ≤ length ids)
+    → Walk (start_of start) list a.way.done a.way.ending
     → last ≡ ether_type_of s.expected.next → refused ≡ is_some (refusal_of a.way.ending) → w.start ≡ next_of start
-    → Walk (start_of start) list w.headers w.ending → Shows w (record before { last = last; is_refused = refused })
-looks_end start list s before last refused w a done is end at walk =
+    → Walk (start_of start) list w.headers w.ending → Shows w (record before { last = last; is_refused = refused }) ids
+looks_end start list s before ids last refused w a room done is end at walk =
     let x = start_of start in
     let one = one_stack list x (whole x list) w.headers a.way.done w.ending a.way.ending walk done in
-    let keeps = subst (λ (hs : List Header). Keeps start hs before) (sym one.0) a.keeps in
+    let keeps = subst (λ (hs : List Header). Keeps start hs before ids) (sym one.0) a.keeps in
     let next = subst (λ (hs : List Header). s.expected.next ≡ next_at (next_of start) hs) (sym one.0) a.next in
-    shown start w before last refused at keeps (is ∙ ap ether_type_of next)
+    shown start w before ids last refused room at keeps (is ∙ ap ether_type_of next)
     (end ∙ ap (λ (e : Ending). is_some (refusal_of e)) (sym one.1))
 
-pub looks_fault : (start : PeelStart) (list : List ℕ) (s t : State) (f : PeelFault) (before : Seen) (last : Option ℕ)
-    (w : Walked) → Looks start list s before → Gives s (Some (Err f)) t → last ≡ ether_type_of s.expected.next
+pub looks_fault : (start : PeelStart) (list : List ℕ) (s t : State) (f : PeelFault) (before : Seen) (ids : List ℕ)
+    (last : Option ℕ) (w : Walked) → Looks start list s before ids → (before.has_more ≡ true → 64 ≤ length ids)
+    → Gives s (Some (Err f)) t → last ≡ ether_type_of s.expected.next
     → w.start ≡ next_of start → Walk (start_of start) list w.headers w.ending
-    → Shows w (record before { last = last; is_refused = true })
-looks_fault start list s t f before last w a gives is at walk =
+    → Shows w (record before { last = last; is_refused = true }) ids
+looks_fault start list s t f before ids last w a room gives is at walk =
     let x = start_of start in
     let end = stops x list s t (Some (Err f)) a.way (no_fault f) gives in
     let fault = faults x list s t f a.way gives in
-    looks_end start list s before last true w a end.walk is
+    looks_end start list s before ids last true w a room end.walk is
     (ap (λ (e : Ending). is_some (refusal_of e)) (sym fault.ending)) at walk
 
-pub looks_none : (start : PeelStart) (list : List ℕ) (s t : State) (before : Seen) (last : Option ℕ)
-    (w : Walked) → Looks start list s before → Gives s None t → last ≡ ether_type_of s.expected.next
+pub looks_none : (start : PeelStart) (list : List ℕ) (s t : State) (before : Seen) (ids : List ℕ)
+    (last : Option ℕ) (w : Walked) → Looks start list s before ids → (before.has_more ≡ true → 64 ≤ length ids)
+    → Gives s None t → last ≡ ether_type_of s.expected.next
     → w.start ≡ next_of start → Walk (start_of start) list w.headers w.ending
-    → Shows w (record before { last = last })
-looks_none start list s t before last w a gives is at walk =
+    → Shows w (record before { last = last }) ids
+looks_none start list s t before ids last w a room gives is at walk =
     let x = start_of start in
     let end = stops x list s t None a.way no_none gives in
     let accepted = accepts x list s t a.way gives in
-    looks_end start list s before last before.is_refused w a end.walk is
+    looks_end start list s before ids last before.is_refused w a room end.walk is
     (a.refused ∙ ap (λ (e : Ending). is_some (refusal_of e)) (sym accepted)) at walk

@@ -1,6 +1,6 @@
 -- Primitives that ask for VLAN tags, of a packet that has none.
 use Rattle.std.proofs.Common.{◌≡◌, ℕ, ◌<◌, ◌≤◌, List, [], ◌∷◌, length, refl, ap, ◌∙◌, sym, arith, nat_eq, Bool, true, false, IsTrue}
-use Rattle.std.specs.Prelude.{get_or, Option, Some, None, is_some, ◌||◌, if◌then◌else◌}
+use Rattle.std.specs.Prelude.{get_or, Option, Some, None, is_some}
 use Rattle.std.specs.List.{list_any}
 use Rattle.std.proofs.lemmas.Bool.{false_from_ne_true, ne_eqb, eq-eqb}
 use Rattle.etherparse.specs.Header.{Header}
@@ -11,16 +11,14 @@ use Rattle.ether_filter.specs.declared.node.Node.TheVariants as nodes
 use Rattle.ether_filter.specs.declared.primitive.Primitive.{Primitive}
 use Rattle.ether_filter.specs.declared.primitive.Primitive.TheVariants as primitives
 use Rattle.ether_filter.specs.declared.seen.Seen.{Seen}
-use Rattle.ether_filter.specs.declared.tag_marks.Tag.{Tag}
 use Rattle.ether_filter.specs.declared.seen.Tags.TheVariants as tags
 use Rattle.ether_filter.specs.declared.instruction.Instruction.{Instruction}
 use Rattle.ether_filter.specs.Primitives.{is_tag, vlan_ids, Walked, Matches}
-use Rattle.ether_filter.specs.Jumps.{jump_at, is_of_tags, asks_tags, Passes, last, more, Reaches, Misses, tags_of, tags_seen, is_tag_test, is_other_id}
+use Rattle.ether_filter.specs.Jumps.{jump_at, is_of_tags, asks_tags, Passes, last, more, Reaches, Misses, tags_of, is_tag_test, is_other_id}
 use Rattle.ether_filter.specs.Expressions.{Expression}
 use Rattle.ether_filter.specs.Postfix.{postfix}
 use Rattle.ether_filter.specs.FilterProgram.{IsProgramOf, primitive_numbered}
-use Rattle.ether_filter.specs.Seen.{matching, has_further_id, Shows, IsSeen}
-use Rattle.ether_filter.specs.TagMarks.{has_id}
+use Rattle.ether_filter.specs.Seen.{matching, has_vlan_id, Shows}
 use Rattle.ether_filter.proofs.JumpsLemmas.{reaches_next}
 use Rattle.ether_filter.proofs.Truth.{matching_is}
 use Rattle.ether_filter.proofs.ProgramLemmas.{no_instruction, is_test}
@@ -41,31 +39,26 @@ fails_untagged w none (primitives.InnerVlan id) of (outer, between, is) =
     let ids = no_ids w.headers none in cc
 fails_untagged w none p of m = cc
 
-untagged : (w : Walked) (s : Seen) → Shows w s → s.outer ≡ None → Misses tags.Untagged (matching w)
-untagged w s shows none p of =
+untagged : (w : Walked) (s : Seen) (ids : List ℕ) → Shows w s ids → s.outer ≡ None
+    → Misses tags.Untagged (matching w)
+untagged w s ids shows none p of =
     let no_tag : list_any is_tag w.headers ≡ false = sym (shows primitives.Vlan refl) ∙ ap is_some none in
     false_from_ne_true (matching w p) (λ t. fails_untagged w no_tag p of ((matching_is w p).0 t))
 
-others : (w : Walked) (s : Seen) (tag : Tag) → Shows w s → s.outer ≡ Some tag → s.inner ≡ None
-    → Misses (tags.One tag.id) (matching w)
-others w s tag shows is none n other =
-    sym (shows (primitives.VlanId n) refl) ∙ (λ i. has_id n (is i) || has_further_id n (none i) s.between)
-    ∙ ap (λ (b : Bool). b || false) (ne_eqb n tag.id other)
+others : (w : Walked) (s : Seen) (ids : List ℕ) (id : ℕ) → Shows w s ids → s.outer ≡ Some id → s.inner ≡ None
+    → Misses (tags.One id) (matching w)
+others w s ids id shows is none n other =
+    sym (shows (primitives.VlanId n) refl) ∙ (λ i. has_vlan_id n s.has_more (is i) (none i) ids) ∙ ne_eqb n id other
 
 -- what is seen of a packet's tags
-pub misses : (w : Walked) (s : Seen) → IsSeen w s → Misses (tags_seen s) (matching w)
-misses w s seen = by_walk s.is_walked refl
+pub misses : (w : Walked) (s : Seen) (ids : List ℕ) → Shows w s ids
+    → Misses (tags_of s.outer s.inner) (matching w)
+misses w s ids shows = by_tags s.outer s.inner refl refl
   where
-    by_tags : (outer inner : Option Tag) → s.outer ≡ outer → s.inner ≡ inner → Shows w s
-        → Misses (tags_of outer inner) (matching w)
-    by_tags None inner out none shows = untagged w s shows out
-    by_tags (Some tag) None out none shows = others w s tag shows out none
-    by_tags (Some tag) (Some inner) out some shows = tt
-
-    by_walk : (b : Bool) → s.is_walked ≡ b
-        → Misses (if b then tags_of s.outer s.inner else tags.Any) (matching w)
-    by_walk true is = by_tags s.outer s.inner refl refl (seen.after is)
-    by_walk false is = tt
+    by_tags : (outer inner : Option ℕ) → s.outer ≡ outer → s.inner ≡ inner → Misses (tags_of outer inner) (matching w)
+    by_tags None inner out none = untagged w s ids shows out
+    by_tags (Some id) None out none = others w s ids id shows out none
+    by_tags (Some id) (Some other) out some = tt
 
 -- ---- the jumps
 

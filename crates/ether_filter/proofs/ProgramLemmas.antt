@@ -1,5 +1,5 @@
 -- The instructions of a filter are those of its expression.
-use Rattle.std.proofs.Common.{◌≡◌, ℕ, suc, ◌+◌, ◌<◌, List, [], ◌∷◌, ◌++◌, length, refl, ap, subst, sym, ◌∙◌, arith, Bool, true, false, inl, inr}
+use Rattle.std.proofs.Common.{◌≡◌, ℕ, suc, ◌+◌, ◌<◌, ◌≤◌, List, [], ◌∷◌, ◌++◌, length, refl, ap, subst, sym, ◌∙◌, arith, Bool, true, false, inl, inr, IsTrue, ◌↔◌}
 use Rattle.std.specs.Prelude.{get_or, Some, None, nat_eq, if◌then◌else◌}
 use Rattle.std.proofs.lemmas.Bool.{cases_lt}
 use Rattle.std.proofs.lemmas.List.{get_or_append_left, get_or_default}
@@ -10,9 +10,13 @@ use Rattle.ether_filter.specs.declared.node.Node.TheVariants as nodes
 use Rattle.ether_filter.specs.declared.node.Operator.TheVariants as operators
 use Rattle.ether_filter.specs.declared.primitive.Primitive.{Primitive}
 use Rattle.ether_filter.specs.declared.instruction.Instruction.{Instruction}
-use Rattle.ether_filter.specs.Expressions.{Expression, Test}
+use Rattle.ether_filter.specs.Expressions.{Expression, Test, Holds}
 use Rattle.ether_filter.specs.Postfix.{postfix, expression_of, expression_of-postfix}
-use Rattle.ether_filter.specs.Jumps.{no_jump, jump_at}
+use Rattle.ether_filter.specs.Jumps.{no_jump, jump_at, chosen, first_jump}
+use Rattle.ether_filter.specs.Primitives.{Walked, Matches}
+use Rattle.ether_filter.specs.Seen.{matching}
+use Rattle.ether_filter.proofs.JumpsLemmas.{truth, reaches_next, reaches_test, reaches_end}
+use Rattle.ether_filter.proofs.Truth.{matching_is, one_truth, expression_is, Runs, runs_begin, past_nodes, end_is}
 use Rattle.ether_filter.specs.FilterProgram.{primitive_numbered, operator_numbered, test_or, node_numbered, IsInstruction, IsProgramOf, with_node, nodes_of}
 
 -- ---- an instruction
@@ -102,3 +106,43 @@ only_primitive instructions x p program one is =
     let s = get_or instructions 0 no_instruction in
     let each = program.each 0 (omega (arith, one)) nodes.Not no_instruction in
     only_node x p (sym program.count ∙ one) (is_test s.kind s.operand _ p each.node is)
+
+-- ---- an evaluation
+
+pub program_begin : (w : Walked) (is : List Instruction) (x : Expression) (p : IsProgramOf is x)
+    → Runs w (postfix x) p.jumps x 0
+program_begin w is x p = runs_begin w p.jumps x p.are_jumps (omega (arith, p.few, p.count))
+
+-- it is at a primitive, and goes on forward
+pub program_test : (w : Walked) (is : List Instruction) (x : Expression) (p : IsProgramOf is x) (at : ℕ)
+    → at < length is
+    → primitive_numbered (get_or is at no_instruction).kind (get_or is at no_instruction).operand ≡ None
+    → Runs w (postfix x) p.jumps x at → ⊥
+program_test w is x p at inside none r =
+    let i = get_or is at no_instruction in
+    let each = p.each at inside nodes.Not no_instruction in
+    reaches_test (postfix x) p.jumps (matching w) at _ _ _ (omega (arith, inside, p.count))
+    (past_nodes (postfix x) (truth (matching w) x) (omega (arith, p.few, p.count))) refl
+    (never_test i.kind i.operand _ each.node none) r
+
+pub program_next : (w : Walked) (is : List Instruction) (x : Expression) (p : IsProgramOf is x) (at next : ℕ)
+    (q : Primitive) (b : Bool) → at < length is
+    → Some q ≡ primitive_numbered (get_or is at no_instruction).kind (get_or is at no_instruction).operand
+    → IsTrue b ↔ Matches q w → next ≡ chosen b (get_or is at no_instruction).jump → Runs w (postfix x) p.jumps x at
+    → (at < next) × Runs w (postfix x) p.jumps x next
+program_next w is x p at next q b inside some iff to r =
+    let t = matching w in
+    let i = get_or is at no_instruction in
+    let each = p.each at inside (nodes.Test q) no_instruction in
+    let same = one_truth b (t q) iff (matching_is w q) in
+    rw (to, same, each.jump) (reaches_next (postfix x) p.jumps t at (chosen (truth t x) first_jump) (nodes.Test q) q
+    (omega (arith, inside, p.count)) (past_nodes (postfix x) (truth t x) (omega (arith, p.few, p.count)))
+    (is_test i.kind i.operand _ q each.node some) r)
+
+pub program_end : (w : Walked) (is : List Instruction) (x : Expression) (p : IsProgramOf is x) (at : ℕ) (b : Bool)
+    → length is ≤ at → b ≡ nat_eq at 255 → Runs w (postfix x) p.jumps x at → IsTrue b ↔ Holds x w
+program_end w is x p at b past is_end r =
+    let t = truth (matching w) x in
+    let at_end = reaches_end (postfix x) p.jumps (matching w) at (chosen t first_jump) (omega (arith, p.count, past)) r
+    in
+    rw (is_end, end_is t at at_end) (expression_is w x)

@@ -1,6 +1,6 @@
--- A set of VLAN tags, after a further one.
-use Rattle.std.proofs.Common.{◌≡◌, ℕ, ◌*◌, ◌/◌, ◌%◌, ◌^◌, ◌<◌, List, length, set, refl, sym, ap, ◌∙◌, arith, false, ◌||◌, nat_eq, inl, inr}
-use Rattle.std.specs.Prelude.{get_or, replicate, Some, None}
+-- Sets of what VLAN tags have, after a further identifier, and without any.
+use Rattle.std.proofs.Common.{◌≡◌, ℕ, ◌*◌, ◌/◌, ◌%◌, ◌^◌, ◌<◌, List, [], length, set, refl, sym, ap, ◌∙◌, arith, false, ◌||◌, nat_eq, inl, inr}
+use Rattle.std.specs.Prelude.{get_or, replicate}
 use Rattle.std.specs.Int.{bit_at, w64}
 use Rattle.std.specs.Int.RustNames.{bit_or}
 use Rattle.std.proofs.Math.Bool.{or-false}
@@ -8,9 +8,7 @@ use Rattle.std.proofs.lemmas.Bool.{cases_eq, cases_lt, ne_eqb, eq-eqb, or_right}
 use Rattle.std.proofs.lemmas.Grind.{get_or-set_at}
 use Rattle.std.proofs.lemmas.List.{get_or-set_other, get_or-replicate, get_or_past, length-replicate}
 use Rattle.std.proofs.lemmas.Nat.Bits.{bit_at-zero, bit_at_set_same, bit_at_set_other}
-use Rattle.ether_filter.specs.declared.tag_marks.Tag.{Tag}
-use Rattle.ether_filter.specs.declared.tag_marks.TagMarks.{TagMarks}
-use Rattle.ether_filter.specs.TagMarks.{is_some_type, has_bit, has_tag_type, IsMarked}
+use Rattle.ether_filter.specs.TagMarks.{has_bit, has_tag_type}
 
 -- ---- identifiers
 
@@ -39,12 +37,10 @@ bit_set words id at is inside n = elim (cases_eq at (n / 64)) [
       rw (get_or-set_other words at (n / 64) _ 0 (λ e. other (sym e)), never) (sym (or-false (has_bit words n)))
 ]
 
--- ---- ether types
+-- ---- none
 
-no_type : (n : ℕ) → has_tag_type (record { customer = false; service = false; double = false }) n ≡ false
+pub no_type : (n : ℕ) → has_tag_type (record { customer = false; service = false; double = false }) n ≡ false
 no_type n = search arith
-
--- ---- the first tag
 
 zero : ℕ
 zero = 0
@@ -55,15 +51,9 @@ zeros i = elim (cases_lt i 64) [
   | inr past ↦ get_or_past (replicate 64 zero) i zero (omega (arith, length-replicate 64 zero, past))
 ]
 
-no_bits : (n : ℕ) → has_bit (replicate 64 0) n ≡ false
+pub no_bits : (n : ℕ) → has_bit (replicate 64 0) n ≡ false
 unfolding zero
 no_bits n = rw (zeros (n / 64), bit_at-zero (n % 64)) refl
 
-abbrev pub no_tags : TagMarks
-no_tags = record { ids = replicate 64 0; types = record { customer = false; service = false; double = false } }
-
-pub marked_first : (new : TagMarks) (tag : Tag) → IsMarked (Some no_tags) tag (Some new) → IsMarked None tag (Some new)
-marked_first new tag marked = record {
-  ids = λ lt n. marked.ids lt n ∙ ap (λ b. b || nat_eq n tag.id) (no_bits n);
-  types = λ n vlan. marked.types n vlan ∙ ap (λ b. b || is_some_type n tag.ether_type) (no_type n);
-}
+pub no_words : (n : ℕ) → has_bit [] n ≡ false
+no_words n = rw (bit_at-zero (n % 64)) refl

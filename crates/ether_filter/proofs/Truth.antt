@@ -3,18 +3,15 @@ use Rattle.std.proofs.Common.{◌≡◌, ◌∙◌, ℕ, ◌≤◌, List, [], le
 use Rattle.std.proofs.lemmas.List.{append-nil}
 use Rattle.std.specs.Prelude.{not, is_some, IsSome}
 use Rattle.std.proofs.lemmas.Bool.{ltb-true, lt-ltb, leb-true, le-leb}
-use Rattle.etherparse.specs.Header.{Header}
-use Rattle.ether_peel.specs.Grammar.Stack.{Ending, Accepted, Fault, Walk}
+use Rattle.ether_peel.specs.Grammar.Stack.{Ending, Accepted, Fault}
 use Rattle.ether_peel.specs.Grammar.Endings.{refusal_of}
-use Rattle.ether_peel.specs.Walker.Start.{start_of}
 use Rattle.ether_filter.specs.declared.jumps.Jump.{Jump}
 use Rattle.ether_filter.specs.declared.node.Node.{Node}
-use Rattle.ether_filter.specs.declared.packet.Packet.{Packet}
 use Rattle.ether_filter.specs.declared.primitive.Primitive.{Primitive}
 use Rattle.ether_filter.specs.declared.primitive.Primitive.TheVariants as primitives
 use Rattle.ether_filter.specs.declared.node.Operator.{Operator}
 use Rattle.ether_filter.specs.declared.node.Operator.TheVariants as operators
-use Rattle.ether_filter.specs.Primitives.{Walked, walked, vlan_ids}
+use Rattle.ether_filter.specs.Primitives.{Walked, vlan_ids}
 use Rattle.ether_filter.specs.Postfix.{postfix}
 use Rattle.ether_filter.specs.Jumps.{chosen, first_jump, AreJumps, Reaches}
 use Rattle.ether_filter.specs.Expressions.{Expression, Test, Not, Join}
@@ -74,15 +71,13 @@ expression_is w expression = truth_is w (matching w) (matching_is w) expression
 -- ---- an evaluation
 
 -- from an index on the jumps lead to the end that says whether the expression holds of the packet
-abbrev pub Runs : Packet → List Node → List Jump → Expression → ℕ → Type 0
-Runs packet ns js x at =
-    (hs : List Header) (e : Ending) → Walk (start_of packet.start) packet.frame.now hs e
-    → Reaches ns js (matching (walked packet hs e)) at (chosen (truth (matching (walked packet hs e)) x) first_jump)
+abbrev pub Runs : Walked → List Node → List Jump → Expression → ℕ → Type 0
+Runs w ns js x at = Reaches ns js (matching w) at (chosen (truth (matching w) x) first_jump)
 
-pub runs_begin : (packet : Packet) (js : List Jump) (x : Expression) → AreJumps js 0 x first_jump
-    → length (postfix x) ≤ 192 → Runs packet (postfix x) js x 0
-runs_begin packet js x are few hs e walk =
-    reaches x (postfix x) [] [] js (matching (walked packet hs e)) 0 first_jump (sym (append-nil (postfix x))) refl are
+pub runs_begin : (w : Walked) (js : List Jump) (x : Expression) → AreJumps js 0 x first_jump
+    → length (postfix x) ≤ 192 → Runs w (postfix x) js x 0
+runs_begin w js x are few =
+    reaches x (postfix x) [] [] js (matching w) 0 first_jump (sym (append-nil (postfix x))) refl are
     (omega (arith, few)) (omega (arith, few))
 
 pub past_nodes : (ns : List Node) (b : Bool) → length ns ≤ 192 → length ns ≤ chosen b first_jump

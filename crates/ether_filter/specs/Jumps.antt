@@ -1,10 +1,8 @@
 -- Where the evaluation of an expression goes on after each of its primitives, which are tested from left to right.
-use Rattle.std.specs.Prelude.{◌≡◌, ℕ, ◌+◌, ◌<◌, ◌≤◌, List, length, get_or, nat_eq, Bool, true, false, not, Option, Some, None, if◌then◌else◌}
+use Rattle.std.specs.Prelude.{◌≡◌, ℕ, ◌+◌, ◌<◌, ◌≤◌, List, length, get_or, nat_eq, Bool, true, false, not, Option, Some, None}
 use Rattle.ether_filter.specs.declared.jumps.Jump.{Jump}
 use Rattle.ether_filter.specs.declared.primitive.Primitive.{Primitive}
 use Rattle.ether_filter.specs.declared.primitive.Primitive.TheVariants as primitives
-use Rattle.ether_filter.specs.declared.seen.Seen.{Seen}
-use Rattle.ether_filter.specs.declared.tag_marks.Tag.{Tag}
 use Rattle.ether_filter.specs.declared.seen.Tags.{Tags}
 use Rattle.ether_filter.specs.declared.seen.Tags.TheVariants as tags
 use Rattle.ether_filter.specs.declared.node.Node.{Node}
@@ -86,20 +84,18 @@ pub data Reaches (ns : List Node) (js : List Jump) (t : Primitive → Bool) : �
 
 -- ---- past what no VLAN tag matches
 
--- what is known of a packet's VLAN tags, by the first one, and by the last one if there are two or more
-abbrev pub tags_of : (outer inner : Option Tag) → Tags
+-- what is known of a packet's VLAN tags, by the identifiers of the first one, and of the last one if there are two or
+-- more
+abbrev pub tags_of : (outer inner : Option ℕ) → Tags
 tags_of None inner = tags.Untagged
-tags_of (Some tag) None = tags.One tag.id
-tags_of (Some tag) (Some inner) = tags.Any
-
-abbrev pub tags_seen : Seen → Tags
-tags_seen seen = if seen.is_walked then tags_of seen.outer seen.inner else tags.Any
+tags_of (Some id) None = tags.One id
+tags_of (Some id) (Some other) = tags.Many
 
 -- primitives that ask for other VLAN tags than these do not match
 abbrev pub Misses : Tags → (Primitive → Bool) → Type 0
 Misses tags.Untagged t = (p : Primitive) → is_of_tags p ≡ true → t p ≡ false
 Misses (tags.One id) t = (n : ℕ) → (n ≡ id → ⊥) → t (primitives.VlanId n) ≡ false
-Misses tags.Any t = Unit {0}
+Misses tags.Many t = Unit {0}
 
 -- with these VLAN tags the evaluation of an expression leads from one index to another
 abbrev pub LeadsOn : Expression → List Jump → Tags → (from to : ℕ) → Type 0

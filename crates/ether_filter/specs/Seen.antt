@@ -12,26 +12,25 @@ use Rattle.ether_filter.specs.declared.primitive.Primitive.{Primitive}
 use Rattle.ether_filter.specs.declared.primitive.Primitive.TheVariants as primitives
 use Rattle.ether_filter.specs.declared.seen.Addresses.{Addresses}
 use Rattle.ether_filter.specs.declared.seen.Seen.{Seen}
-use Rattle.ether_filter.specs.declared.tag_marks.Tag.{Tag}
-use Rattle.ether_filter.specs.declared.tag_marks.TagMarks.{TagMarks}
+use Rattle.ether_filter.specs.declared.tag_marks.TagTypes.{TagTypes}
 use Rattle.ether_filter.specs.Deciding.{is_of_lengths}
 use Rattle.ether_filter.specs.Fields.{shown_by_link}
 use Rattle.ether_filter.specs.Primitives.{is_tag, is_sec_tag, is_from, is_to, is_to_group, vlan_ids, ether_types, Walked}
-use Rattle.ether_filter.specs.TagMarks.{is_some_type, has_id, has_type, is_marked_id, is_marked_type, IsMarked}
+use Rattle.ether_filter.specs.TagMarks.{is_some_type, has_bit, has_tag_type, SetsBit, SetsType}
 
 -- ---- before the walk
 
 abbrev pub nothing : Seen
 nothing = record {
-  is_walked = false;
   is_refused = false;
   has_sec_tag = false;
   has_arp = false;
+  has_more = false;
+  types = record { customer = false; service = false; double = false };
   link = None;
   last = None;
   outer = None;
   inner = None;
-  between = None;
 }
 
 -- ---- after a further header, with these fields
@@ -48,39 +47,45 @@ abbrev pub arp_after : Bool → Fields → Bool
 arp_after found fields.Arp = true
 arp_after found _ = found
 
--- the VLAN tag, if it is one that this ether type announces
-abbrev pub tag_of : Fields → Option ℕ → Option Tag
-tag_of (fields.Tag id) announced = Some (record { ether_type = announced; id = id })
-tag_of _ announced = None
+-- the identifier, if it is a VLAN tag
+abbrev pub tag_id : Fields → Option ℕ
+tag_id (fields.Tag id) = Some id
+tag_id _ = None
 
--- the first tag
-abbrev pub outer_after : (outer tag : Option Tag) → Option Tag
+-- the identifier of the first tag
+abbrev pub outer_after : (outer tag : Option ℕ) → Option ℕ
 outer_after None tag = tag
 outer_after (Some first) tag = Some first
 
--- the last one, if there are two or more
-abbrev pub inner_after : (outer inner tag : Option Tag) → Option Tag
+-- .. of the last one, if there are two or more
+abbrev pub inner_after : (outer inner tag : Option ℕ) → Option ℕ
 inner_after (Some first) inner (Some tag) = Some tag
 inner_after outer inner tag = inner
 
--- the one that is between these from then on
-abbrev pub between_after : (outer inner tag : Option Tag) → Option Tag
-between_after (Some first) inner (Some tag) = inner
-between_after outer inner tag = None
+-- whether there are three or more
+abbrev pub more_after : Bool → (outer inner tag : Option ℕ) → Bool
+more_after more (Some first) inner (Some tag) = more || is_some inner
+more_after more outer inner tag = more
 
-abbrev pub AreMarked : Option TagMarks → Option Tag → Option TagMarks → Type 0
-AreMarked old None new = new ≡ old
-AreMarked old (Some tag) new = IsMarked old tag new
+-- the ether types that announce tags, and this one if it announces this header
+abbrev pub AreSet : TagTypes → Fields → Option ℕ → TagTypes → Type 0
+AreSet old (fields.Tag id) announced new = SetsType announced old new
+AreSet old _ announced new = new ≡ old
 
 pub record IsTaken (s : Seen) (f : Fields) (announced : Option ℕ) (t : Seen) : Type 0 where
-  pub walked : t.is_walked ≡ s.is_walked
   pub refused : t.is_refused ≡ s.is_refused
   pub link : t.link ≡ link_after s.link f
   pub sec_tag : t.has_sec_tag ≡ sec_tag_after s.has_sec_tag f
   pub arp : t.has_arp ≡ arp_after s.has_arp f
-  pub outer : t.outer ≡ outer_after s.outer (tag_of f announced)
-  pub inner : t.inner ≡ inner_after s.outer s.inner (tag_of f announced)
-  pub between : AreMarked s.between (between_after s.outer s.inner (tag_of f announced)) t.between
+  pub types : AreSet s.types f announced t.types
+  pub outer : t.outer ≡ outer_after s.outer (tag_id f)
+  pub inner : t.inner ≡ inner_after s.outer s.inner (tag_id f)
+  pub more : t.has_more ≡ more_after s.has_more s.outer s.inner (tag_id f)
+
+-- the identifiers that have a bit, and this one
+abbrev pub AreMarked : List ℕ → Option ℕ → List ℕ → Type 0
+AreMarked old None new = new ≡ old
+AreMarked old (Some id) new = SetsBit id old new
 
 -- ---- of a primitive
 
@@ -95,35 +100,32 @@ announced_before (Some kinds.Macsec) tag sec_tag arp = sec_tag
 announced_before (Some kinds.Arp) tag sec_tag arp = arp
 announced_before _ tag sec_tag arp = false
 
--- .. before a VLAN tag
-abbrev pub announces_tag : ℕ → Seen → Bool
-announces_tag n s = (has_type n s.outer || has_type n s.inner) || is_marked_type s.between n
-
--- .. before a header
+-- .. of a packet
 abbrev pub was_announced : ℕ → Seen → Bool
-was_announced n s = announced_before (announced_by n) (announces_tag n s) s.has_sec_tag s.has_arp
+was_announced n s = announced_before (announced_by n) (has_tag_type s.types n) s.has_sec_tag s.has_arp
 
 abbrev pub is_announced : ℕ → Seen → Bool
 is_announced n s = is_some_type n s.last || was_announced n s
 
--- whether a VLAN tag after the first one has this identifier
-abbrev pub has_further_id : ℕ → Option Tag → Option TagMarks → Bool
-has_further_id n None between = false
-has_further_id n (Some inner) between = nat_eq n inner.id || is_marked_id between n
+-- whether a VLAN tag has this identifier, where those of three tags or more have their bits
+abbrev pub has_vlan_id : ℕ → Bool → (outer inner : Option ℕ) → List ℕ → Bool
+has_vlan_id n more outer None ids = is_some_type n outer
+has_vlan_id n true outer (Some last) ids = has_bit ids n
+has_vlan_id n false outer (Some last) ids = is_some_type n outer || nat_eq n last
 
 -- whether a primitive about headers matches
-abbrev pub seen : Primitive → Seen → Bool
-seen primitives.Vlan s = is_some s.outer
-seen (primitives.VlanId n) s = has_id n s.outer || has_further_id n s.inner s.between
-seen (primitives.OuterVlan n) s = has_id n s.outer
-seen (primitives.InnerVlan n) s = has_id n s.inner
-seen primitives.Macsec s = s.has_sec_tag
-seen (primitives.EtherType n) s = is_announced n s
-seen primitives.Refused s = s.is_refused
-seen primitives.Cut s = false
-seen (primitives.Less n) s = false
-seen (primitives.Greater n) s = false
-seen primitive s = seen_in_link primitive s.link
+abbrev pub seen : Primitive → Seen → List ℕ → Bool
+seen primitives.Vlan s ids = is_some s.outer
+seen (primitives.VlanId n) s ids = has_vlan_id n s.has_more s.outer s.inner ids
+seen (primitives.OuterVlan n) s ids = is_some_type n s.outer
+seen (primitives.InnerVlan n) s ids = is_some_type n s.inner
+seen primitives.Macsec s ids = s.has_sec_tag
+seen (primitives.EtherType n) s ids = is_announced n s
+seen primitives.Refused s ids = s.is_refused
+seen primitives.Cut s ids = false
+seen (primitives.Less n) s ids = false
+seen (primitives.Greater n) s ids = false
+seen primitive s ids = seen_in_link primitive s.link
 
 -- ---- of a packet
 
@@ -159,10 +161,5 @@ matching w (primitives.Less n) = nat_le w.original n
 matching w (primitives.Greater n) = nat_le n w.original
 
 -- what was seen matches each primitive about headers exactly if the packet does
-abbrev pub Shows : Walked → Seen → Type 0
-Shows w s = (p : Primitive) → is_of_lengths p ≡ false → seen p s ≡ matching w p
-
--- nothing was seen, or the whole walk
-pub record IsSeen (w : Walked) (s : Seen) : Type 0 where
-  pub before : s.is_walked ≡ false → s ≡ nothing
-  pub after : s.is_walked ≡ true → Shows w s
+abbrev pub Shows : Walked → Seen → (ids : List ℕ) → Type 0
+Shows w s ids = (p : Primitive) → is_of_lengths p ≡ false → seen p s ids ≡ matching w p

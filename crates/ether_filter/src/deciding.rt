@@ -7,11 +7,11 @@ ghost use Rattle.ether_peel.specs.Grammar.Stack.{Ending, Walk};
 ghost use Rattle.ether_peel.specs.Walker.Start.{start_of};
 ghost use Rattle.ether_filter.specs.Primitives.{walked, Matches};
 ghost use Rattle.ether_filter.specs.Expressions.{Test};
-ghost use Rattle.ether_filter.specs.Deciding.{lost as lost_of, is_of_lengths as is_of_lengths_of, is_of_link as is_of_link_of, can_tell as can_tell_of, IsTold, IsKnown};
-ghost use Rattle.ether_filter.specs.Seen.{IsSeen};
+ghost use Rattle.ether_filter.specs.Deciding.{lost as lost_of, is_of_link as is_of_link_of, can_tell as can_tell_of, IsTold, IsKnown};
+ghost use Rattle.ether_filter.specs.Seen.{Shows};
 ghost use Rattle.ether_filter.specs.Evaluation.{IsRefusedUnit, IsOpening, IsValue, joined_value as joined_value_of};
 
-use crate::matching::matches_primitive;
+use crate::matching::{is_of_lengths, matches_primitive};
 use crate::node::Operator;
 use crate::packet::Packet;
 use crate::primitive::Primitive;
@@ -96,18 +96,17 @@ fn lost(packet: &Packet<'_>) -> usize
 pub(crate) fn known(
     primitive: Primitive,
     packet: &Packet<'_>,
-    seen: &mut Seen,
+    seen: &Seen,
+    ids: &[u64],
     opening: Option<Opening>,
 ) -> Option<bool>
-    ensures seen { (hs : List Header) (e : Ending) → Walk (start_of packet.now.start) packet.now.frame.now hs e
-        → IsSeen (walked packet.now hs e) seen.old → IsSeen (walked packet.now hs e) seen.new }
-    ensures value { (hs : List Header) (e : Ending) → Walk (start_of packet.now.start) packet.now.frame.now hs e
-        → IsSeen (walked packet.now hs e) seen.old
+    ensures { (hs : List Header) (e : Ending) → Walk (start_of packet.now.start) packet.now.frame.now hs e
+        → Shows (walked packet.now hs e) seen.now ids.now
         → IsOpening packet.now e opening → IsValue packet.now hs e result (Test primitive) }
 {
-    let is_match = matches_primitive(&primitive, packet, seen);
+    let is_match = matches_primitive(&primitive, packet, seen, ids);
     if let Some(opening) = opening {
-        if !is_known(primitive, packet, seen, is_match, opening) {
+        if !is_known(primitive, packet, seen, ids, is_match, opening) {
             return None;
         }
     }
@@ -118,14 +117,13 @@ pub(crate) fn known(
 fn is_known(
     primitive: Primitive,
     packet: &Packet<'_>,
-    seen: &mut Seen,
+    seen: &Seen,
+    ids: &[u64],
     is_match: bool,
     opening: Opening,
 ) -> bool
-    ensures seen { (hs : List Header) (e : Ending) → Walk (start_of packet.now.start) packet.now.frame.now hs e
-        → IsSeen (walked packet.now hs e) seen.old → IsSeen (walked packet.now hs e) seen.new }
-    ensures value { (hs : List Header) (e : Ending) → Walk (start_of packet.now.start) packet.now.frame.now hs e
-        → IsSeen (walked packet.now hs e) seen.old
+    ensures { (hs : List Header) (e : Ending) → Walk (start_of packet.now.start) packet.now.frame.now hs e
+        → Shows (walked packet.now hs e) seen.now ids.now
         → IsTrue is_match ↔ Matches primitive (walked packet.now hs e) → IsOpening packet.now e (Some opening)
         → IsTrue result ↔ IsKnown packet.now hs e primitive }
 {
@@ -133,19 +131,10 @@ fn is_known(
         return true;
     }
     match opening.layer {
-        Some(layer) => !can_tell(layer, primitive) || is_told(primitive, packet, seen, is_match),
+        Some(layer) => !can_tell(layer, primitive)
+            || is_told(primitive, packet, seen, ids, is_match),
         None => false,
     }
-}
-
-/// Whether a primitive asks about the two lengths of a packet.
-fn is_of_lengths(primitive: Primitive) -> bool
-    ensures { result ≡ is_of_lengths_of primitive }
-{
-    matches!(
-        primitive,
-        Primitive::Cut | Primitive::Less(_) | Primitive::Greater(_)
-    )
 }
 
 /// Whether a primitive can depend on a unit of this layer, or on one after it.
@@ -175,16 +164,20 @@ fn is_of_link(primitive: Primitive) -> bool
 
 /// Whether the headers so far decide a primitive, whatever headers follow. `is_match` says whether it matches these
 /// headers.
-fn is_told(primitive: Primitive, packet: &Packet<'_>, seen: &mut Seen, is_match: bool) -> bool
-    ensures seen { (hs : List Header) (e : Ending) → Walk (start_of packet.now.start) packet.now.frame.now hs e
-        → IsSeen (walked packet.now hs e) seen.old → IsSeen (walked packet.now hs e) seen.new }
-    ensures value { (hs : List Header) (e : Ending) → Walk (start_of packet.now.start) packet.now.frame.now hs e
-        → IsSeen (walked packet.now hs e) seen.old
+fn is_told(
+    primitive: Primitive,
+    packet: &Packet<'_>,
+    seen: &Seen,
+    ids: &[u64],
+    is_match: bool,
+) -> bool
+    ensures { (hs : List Header) (e : Ending) → Walk (start_of packet.now.start) packet.now.frame.now hs e
+        → Shows (walked packet.now hs e) seen.now ids.now
         → IsTrue is_match ↔ Matches primitive (walked packet.now hs e)
         → IsTrue result ↔ IsTold primitive (walked packet.now hs e) }
 {
     match primitive {
-        Primitive::OuterVlan(_) => matches_primitive(&Primitive::Vlan, packet, seen),
+        Primitive::OuterVlan(_) => matches_primitive(&Primitive::Vlan, packet, seen, ids),
         Primitive::InnerVlan(_) | Primitive::Refused => false,
         _ => is_match,
     }

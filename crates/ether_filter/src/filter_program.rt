@@ -11,7 +11,7 @@ ghost use Rattle.ether_filter.specs.Expressions.{Expression, Holds};
 ghost use Rattle.ether_filter.specs.Postfix.{postfix, pushed};
 ghost use Rattle.ether_filter.specs.FilterProgram.{IsProgramOf};
 ghost use Rattle.ether_filter.specs.Evaluation.{AreValues, IsOpening, IsValue};
-ghost use Rattle.ether_filter.specs.Seen.{nothing, IsSeen};
+ghost use Rattle.ether_filter.specs.Seen.{Shows};
 ghost use Rattle.ether_filter.specs.Deciding.{Says};
 
 use crate::deciding::{Opening, find_opening, joined_value, known};
@@ -19,10 +19,11 @@ use crate::decision::Decision;
 use crate::filter::MAX_WORDS;
 use crate::instruction::Instruction;
 use crate::jumps::{HOLDS, jumps_of, past_tags};
-use crate::matching::matches_primitive;
+use crate::matching::{is_of_lengths, matches_lengths, matches_primitive};
 use crate::node::Node;
 use crate::packet::Packet;
-use crate::seen::{Seen, Tags, tags_seen};
+use crate::seen::{Seen, Tags, look, tags_seen};
+use crate::tag_marks::WORDS;
 use arrayvec::ArrayVec;
 
 /// Returns `true` if a packet matches the filter of these instructions, as [`Filter::matches`](crate::Filter::matches)
@@ -49,21 +50,93 @@ pub fn matches(instructions: &[Instruction], packet: &Packet<'_>) -> bool
         → Walk (start_of packet.now.start) packet.now.frame.now hs e → IsTrue result
         ↔ Holds x (walked packet.now hs e) }
 {
-    let mut seen = Seen::new();
-    if let [instruction] = instructions {
-        if let Some(primitive) = instruction.primitive() {
-            return matches_primitive(&primitive, packet, &mut seen);
-        }
+    if let Some(matches) = matches_by_lengths(instructions, packet) {
+        return matches;
     }
-    matches_by_jumps(instructions, packet, &mut seen)
+    let mut ids = [];
+    let mut seen = Seen::new();
+    look(packet.start, packet.frame, &mut seen, &mut ids);
+    if seen.has_more {
+        return matches_by_ids(instructions, *packet);
+    }
+    matches_seen(instructions, packet, &seen, &ids)
 }
 
-/// Whether a packet matches: tests the primitives from left to right that decide this.
+/// Whether a packet matches, if its two lengths decide this.
 #[inline(always)]
-fn matches_by_jumps(instructions: &[Instruction], packet: &Packet<'_>, seen: &mut Seen) -> bool
-    ensures { seen.old ≡ nothing → (x : Expression) → IsProgramOf instructions.now x → (hs : List Header) (e : Ending)
-        → Walk (start_of packet.now.start) packet.now.frame.now hs e → IsTrue result
-        ↔ Holds x (walked packet.now hs e) }
+fn matches_by_lengths(instructions: &[Instruction], packet: &Packet<'_>) -> Option<bool>
+    ensures { (truth : Bool) → result ≡ Some truth → (x : Expression) → IsProgramOf instructions.now x
+        → (hs : List Header) (e : Ending) → IsTrue truth ↔ Holds x (walked packet.now hs e) }
+{
+    let [first, ..] = instructions else {
+        return None;
+    };
+    if !is_of_lengths(first.primitive()?) {
+        return None;
+    }
+    jumps_by_lengths(instructions, *packet)
+}
+
+/// .. by the primitives from left to right, up to the first one that asks about headers.
+#[inline(never)]
+fn jumps_by_lengths(instructions: &[Instruction], packet: Packet<'_>) -> Option<bool>
+    ensures { (truth : Bool) → result ≡ Some truth → (x : Expression) → IsProgramOf instructions.now x
+        → (hs : List Header) (e : Ending) → IsTrue truth ↔ Holds x (walked packet.entry hs e) }
+{
+    let mut at = 0;
+    while at < instructions.len() {
+        let instruction = &instructions[at];
+        let primitive = instruction.primitive()?;
+        if !is_of_lengths(primitive) {
+            return None;
+        }
+        let next = instruction.jump.after(matches_lengths(&primitive, &packet));
+        if next <= at {
+            return None; // not reached: each jump leads forward
+        }
+        at = next;
+    }
+    Some(at == usize::from(HOLDS))
+}
+
+/// Whether a packet matches, however many VLAN tags it has.
+#[cold]
+#[inline(never)]
+fn matches_by_ids(instructions: &[Instruction], packet: Packet<'_>) -> bool
+    ensures { (x : Expression) → IsProgramOf instructions.now x → (hs : List Header) (e : Ending)
+        → Walk (start_of packet.entry.start) packet.entry.frame.now hs e → IsTrue result
+        ↔ Holds x (walked packet.entry hs e) }
+{
+    let mut ids = [0; WORDS];
+    let mut seen = Seen::new();
+    look(packet.start, packet.frame, &mut seen, &mut ids);
+    matches_seen(instructions, &packet, &seen, &ids)
+}
+
+/// Whether a packet matches in which this was seen.
+#[inline(always)]
+fn matches_seen(instructions: &[Instruction], packet: &Packet<'_>, seen: &Seen, ids: &[u64]) -> bool
+    ensures { (x : Expression) → IsProgramOf instructions.now x → (hs : List Header) (e : Ending)
+        → Shows (walked packet.now hs e) seen.now ids.now → IsTrue result ↔ Holds x (walked packet.now hs e) }
+{
+    if let [instruction] = instructions {
+        if let Some(primitive) = instruction.primitive() {
+            return matches_primitive(&primitive, packet, seen, ids);
+        }
+    }
+    matches_by_jumps(instructions, packet, seen, ids)
+}
+
+/// .. by the primitives from left to right that decide this.
+#[inline(always)]
+fn matches_by_jumps(
+    instructions: &[Instruction],
+    packet: &Packet<'_>,
+    seen: &Seen,
+    ids: &[u64],
+) -> bool
+    ensures { (x : Expression) → IsProgramOf instructions.now x → (hs : List Header) (e : Ending)
+        → Shows (walked packet.now hs e) seen.now ids.now → IsTrue result ↔ Holds x (walked packet.now hs e) }
 {
     let mut at = 0;
     while at < instructions.len() {
@@ -73,7 +146,7 @@ fn matches_by_jumps(instructions: &[Instruction], packet: &Packet<'_>, seen: &mu
         };
         let next = instruction
             .jump
-            .after(matches_primitive(&primitive, packet, seen));
+            .after(matches_primitive(&primitive, packet, seen, ids));
         if next <= at {
             return false; // not reached: each jump leads forward
         }
@@ -91,7 +164,7 @@ fn past_misses(instructions: &[Instruction], begin: usize, tags: Tags) -> usize
     match tags {
         Tags::Untagged => past_all(instructions, begin),
         Tags::One(id) => past_others(instructions, begin, id),
-        Tags::Any => begin,
+        Tags::Many => begin,
     }
 }
 
@@ -141,8 +214,44 @@ pub fn decide(instructions: &[Instruction], packet: &Packet<'_>) -> Decision
         → (d : Decision) → (result ≡ d) ↔ Says packet.now hs e x d }
     ensures bytes { IsBytes packet.now.frame.now }
 {
-    let opening = find_opening(packet);
+    let mut ids = [];
     let mut seen = Seen::new();
+    look(packet.start, packet.frame, &mut seen, &mut ids);
+    if seen.has_more {
+        return decide_by_ids(instructions, *packet);
+    }
+    decide_seen(instructions, packet, &seen, &ids)
+}
+
+/// .. however many VLAN tags the packet has.
+#[cold]
+#[inline(never)]
+fn decide_by_ids(instructions: &[Instruction], packet: Packet<'_>) -> Decision
+    ensures says { (x : Expression) → IsProgramOf instructions.now x → (hs : List Header) (e : Ending)
+        → Walk (start_of packet.entry.start) packet.entry.frame.now hs e
+        → (d : Decision) → (result ≡ d) ↔ Says packet.entry hs e x d }
+    ensures bytes { IsBytes packet.entry.frame.now }
+{
+    let mut ids = [0; WORDS];
+    let mut seen = Seen::new();
+    look(packet.start, packet.frame, &mut seen, &mut ids);
+    decide_seen(instructions, &packet, &seen, &ids)
+}
+
+/// .. if this was seen in the packet.
+fn decide_seen(
+    instructions: &[Instruction],
+    packet: &Packet<'_>,
+    seen: &Seen,
+    ids: &[u64],
+) -> Decision
+    ensures says { (x : Expression) → IsProgramOf instructions.now x → (hs : List Header) (e : Ending)
+        → Walk (start_of packet.now.start) packet.now.frame.now hs e
+        → Shows (walked packet.now hs e) seen.now ids.now
+        → (d : Decision) → (result ≡ d) ↔ Says packet.now hs e x d }
+    ensures bytes { IsBytes packet.now.frame.now }
+{
+    let opening = find_opening(packet);
     let mut values = ArrayVec::new();
     for instruction in instructions {
         if values.is_full() {
@@ -151,7 +260,7 @@ pub fn decide(instructions: &[Instruction], packet: &Packet<'_>) -> Decision
         let Some(node) = instruction.node() else {
             return Decision::Fails; // not reached: each instruction has a node
         };
-        decide_node(&mut values, node, packet, &mut seen, opening);
+        decide_node(&mut values, node, packet, seen, ids, opening);
     }
     decision(values.pop().unwrap_or(None), opening)
 }
@@ -189,20 +298,19 @@ fn decide_node(
     values: &mut ArrayVec<Option<bool>, MAX_WORDS>,
     node: Node,
     packet: &Packet<'_>,
-    seen: &mut Seen,
+    seen: &Seen,
+    ids: &[u64],
     opening: Option<Opening>,
 )
     requires { array_vec_len values.old < MAX_WORDS }
     ensures len { array_vec_len values.new ≤ array_vec_len values.old + 1 }
-    ensures seen { (hs : List Header) (e : Ending) → Walk (start_of packet.now.start) packet.now.frame.now hs e
-        → IsSeen (walked packet.now hs e) seen.old → IsSeen (walked packet.now hs e) seen.new }
     ensures values { (hs : List Header) (e : Ending) → Walk (start_of packet.now.start) packet.now.frame.now hs e
-        → IsSeen (walked packet.now hs e) seen.old → IsOpening packet.now e opening
+        → Shows (walked packet.now hs e) seen.now ids.now → IsOpening packet.now e opening
         → (xs : List Expression) → AreValues (IsValue packet.now hs e) (reverse values.old.items) xs
         → AreValues (IsValue packet.now hs e) (reverse values.new.items) (pushed xs node) }
 {
     match node {
-        Node::Test(primitive) => values.push(known(primitive, packet, seen, opening)),
+        Node::Test(primitive) => values.push(known(primitive, packet, seen, ids, opening)),
         Node::Not => {
             if let Some(value) = values.pop() {
                 values.push(value.map(|truth| !truth));

@@ -1,6 +1,6 @@
 //! What is known of a primitive if not all bytes of a packet were captured.
 
-use crate::ether_filter::matching::matches_primitive;
+use crate::ether_filter::matching::{is_of_lengths, matches_primitive};
 use crate::ether_filter::node::Operator;
 use crate::ether_filter::packet::Packet;
 use crate::ether_filter::primitive::Primitive;
@@ -76,12 +76,13 @@ fn lost(packet: &Packet<'_>) -> usize {
 pub(crate) fn known(
     primitive: Primitive,
     packet: &Packet<'_>,
-    seen: &mut Seen,
+    seen: &Seen,
+    ids: &[u64],
     opening: Option<Opening>,
 ) -> Option<bool> {
-    let is_match = matches_primitive(&primitive, packet, seen);
+    let is_match = matches_primitive(&primitive, packet, seen, ids);
     if let Some(opening) = opening {
-        if !is_known(primitive, packet, seen, is_match, opening) {
+        if !is_known(primitive, packet, seen, ids, is_match, opening) {
             return None;
         }
     }
@@ -93,7 +94,8 @@ pub(crate) fn known(
 fn is_known(
     primitive: Primitive,
     packet: &Packet<'_>,
-    seen: &mut Seen,
+    seen: &Seen,
+    ids: &[u64],
     is_match: bool,
     opening: Opening,
 ) -> bool {
@@ -101,18 +103,10 @@ fn is_known(
         return true;
     }
     match opening.layer {
-        Some(layer) => !can_tell(layer, primitive) || is_told(primitive, packet, seen, is_match),
+        Some(layer) => !can_tell(layer, primitive)
+            || is_told(primitive, packet, seen, ids, is_match),
         None => false,
     }
-}
-
-/// Whether a primitive asks about the two lengths of a packet.
-#[inline]
-fn is_of_lengths(primitive: Primitive) -> bool {
-    matches!(
-        primitive,
-        Primitive::Cut | Primitive::Less(_) | Primitive::Greater(_)
-    )
 }
 
 /// Whether a primitive can depend on a unit of this layer, or on one after it.
@@ -141,9 +135,15 @@ fn is_of_link(primitive: Primitive) -> bool {
 /// Whether the headers so far decide a primitive, whatever headers follow. `is_match` says whether it matches these
 /// headers.
 #[inline]
-fn is_told(primitive: Primitive, packet: &Packet<'_>, seen: &mut Seen, is_match: bool) -> bool {
+fn is_told(
+    primitive: Primitive,
+    packet: &Packet<'_>,
+    seen: &Seen,
+    ids: &[u64],
+    is_match: bool,
+) -> bool {
     match primitive {
-        Primitive::OuterVlan(_) => matches_primitive(&Primitive::Vlan, packet, seen),
+        Primitive::OuterVlan(_) => matches_primitive(&Primitive::Vlan, packet, seen, ids),
         Primitive::InnerVlan(_) | Primitive::Refused => false,
         _ => is_match,
     }

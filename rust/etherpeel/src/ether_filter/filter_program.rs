@@ -5,10 +5,11 @@ use crate::ether_filter::decision::Decision;
 use crate::ether_filter::filter::MAX_WORDS;
 use crate::ether_filter::instruction::Instruction;
 use crate::ether_filter::jumps::{HOLDS, jumps_of, past_tags};
-use crate::ether_filter::matching::matches_primitive;
+use crate::ether_filter::matching::{is_of_lengths, matches_lengths, matches_primitive};
 use crate::ether_filter::node::Node;
 use crate::ether_filter::packet::Packet;
-use crate::ether_filter::seen::{Seen, Tags, tags_seen};
+use crate::ether_filter::seen::{Seen, Tags, look, tags_seen};
+use crate::ether_filter::tag_marks::WORDS;
 use arrayvec::ArrayVec;
 
 /// Returns `true` if a packet matches the filter of these instructions, as [`Filter::matches`](crate::ether_filter::Filter::matches)
@@ -52,18 +53,78 @@ use arrayvec::ArrayVec;
 /// </details>
 #[inline]
 pub fn matches(instructions: &[Instruction], packet: &Packet<'_>) -> bool {
-    let mut seen = Seen::new();
-    if let [instruction] = instructions {
-        if let Some(primitive) = instruction.primitive() {
-            return matches_primitive(&primitive, packet, &mut seen);
-        }
+    if let Some(matches) = matches_by_lengths(instructions, packet) {
+        return matches;
     }
-    matches_by_jumps(instructions, packet, &mut seen)
+    let mut ids = [];
+    let mut seen = Seen::new();
+    look(packet.start, packet.frame, &mut seen, &mut ids);
+    if seen.has_more {
+        return matches_by_ids(instructions, *packet);
+    }
+    matches_seen(instructions, packet, &seen, &ids)
 }
 
-/// Whether a packet matches: tests the primitives from left to right that decide this.
+/// Whether a packet matches, if its two lengths decide this.
 #[inline(always)]
-fn matches_by_jumps(instructions: &[Instruction], packet: &Packet<'_>, seen: &mut Seen) -> bool {
+fn matches_by_lengths(instructions: &[Instruction], packet: &Packet<'_>) -> Option<bool> {
+    let [first, ..] = instructions else {
+        return None;
+    };
+    if !is_of_lengths(first.primitive()?) {
+        return None;
+    }
+    jumps_by_lengths(instructions, *packet)
+}
+
+/// .. by the primitives from left to right, up to the first one that asks about headers.
+#[inline(never)]
+fn jumps_by_lengths(instructions: &[Instruction], packet: Packet<'_>) -> Option<bool> {
+    let mut at = 0;
+    while at < instructions.len() {
+        let instruction = &instructions[at];
+        let primitive = instruction.primitive()?;
+        if !is_of_lengths(primitive) {
+            return None;
+        }
+        let next = instruction.jump.after(matches_lengths(&primitive, &packet));
+        if next <= at {
+            return None; // not reached: each jump leads forward
+        }
+        at = next;
+    }
+    Some(at == usize::from(HOLDS))
+}
+
+/// Whether a packet matches, however many VLAN tags it has.
+#[cold]
+#[inline(never)]
+fn matches_by_ids(instructions: &[Instruction], packet: Packet<'_>) -> bool {
+    let mut ids = [0; WORDS];
+    let mut seen = Seen::new();
+    look(packet.start, packet.frame, &mut seen, &mut ids);
+    matches_seen(instructions, &packet, &seen, &ids)
+}
+
+/// Whether a packet matches in which this was seen.
+#[inline(always)]
+fn matches_seen(instructions: &[Instruction], packet: &Packet<'_>, seen: &Seen, ids: &[u64]) -> bool {
+    if let [instruction] = instructions {
+        if let Some(primitive) = instruction.primitive() {
+            return matches_primitive(&primitive, packet, seen, ids);
+        }
+    }
+    matches_by_jumps(instructions, packet, seen, ids)
+}
+
+/// .. by the primitives from left to right that decide this.
+#[inline(always)]
+fn matches_by_jumps(
+    instructions: &[Instruction],
+    packet: &Packet<'_>,
+    seen: &Seen,
+    ids: &[u64],
+) -> bool {
     let mut at = 0;
     while at < instructions.len() {
         let instruction = &instructions[at];
@@ -72,7 +133,7 @@ fn matches_by_jumps(instructions: &[Instruction], packet: &Packet<'_>, seen: &mu
         };
         let next = instruction
             .jump
-            .after(matches_primitive(&primitive, packet, seen));
+            .after(matches_primitive(&primitive, packet, seen, ids));
         if next <= at {
             return false; // not reached: each jump leads forward
         }
@@ -87,7 +148,7 @@ fn past_misses(instructions: &[Instruction], begin: usize, tags: Tags) -> usize 
     match tags {
         Tags::Untagged => past_all(instructions, begin),
         Tags::One(id) => past_others(instructions, begin, id),
-        Tags::Any => begin,
+        Tags::Many => begin,
     }
 }
 
@@ -136,8 +197,34 @@ fn past_others(instructions: &[Instruction], begin: usize, id: u16) -> usize {
 /// </details>
 #[inline]
 pub fn decide(instructions: &[Instruction], packet: &Packet<'_>) -> Decision {
-    let opening = find_opening(packet);
+    let mut ids = [];
     let mut seen = Seen::new();
+    look(packet.start, packet.frame, &mut seen, &mut ids);
+    if seen.has_more {
+        return decide_by_ids(instructions, *packet);
+    }
+    decide_seen(instructions, packet, &seen, &ids)
+}
+
+/// .. however many VLAN tags the packet has.
+#[cold]
+#[inline(never)]
+fn decide_by_ids(instructions: &[Instruction], packet: Packet<'_>) -> Decision {
+    let mut ids = [0; WORDS];
+    let mut seen = Seen::new();
+    look(packet.start, packet.frame, &mut seen, &mut ids);
+    decide_seen(instructions, &packet, &seen, &ids)
+}
+
+/// .. if this was seen in the packet.
+#[inline]
+fn decide_seen(
+    instructions: &[Instruction],
+    packet: &Packet<'_>,
+    seen: &Seen,
+    ids: &[u64],
+) -> Decision {
+    let opening = find_opening(packet);
     let mut values = ArrayVec::new();
     for instruction in instructions {
         if values.is_full() {
@@ -146,7 +233,7 @@ pub fn decide(instructions: &[Instruction], packet: &Packet<'_>) -> Decision {
         let Some(node) = instruction.node() else {
             return Decision::Fails; // not reached: each instruction has a node
         };
-        decide_node(&mut values, node, packet, &mut seen, opening);
+        decide_node(&mut values, node, packet, seen, ids, opening);
     }
     decision(values.pop().unwrap_or(None), opening)
 }
@@ -180,11 +267,12 @@ fn decide_node(
     values: &mut ArrayVec<Option<bool>, MAX_WORDS>,
     node: Node,
     packet: &Packet<'_>,
-    seen: &mut Seen,
+    seen: &Seen,
+    ids: &[u64],
     opening: Option<Opening>,
 ) {
     match node {
-        Node::Test(primitive) => values.push(known(primitive, packet, seen, opening)),
+        Node::Test(primitive) => values.push(known(primitive, packet, seen, ids, opening)),
         Node::Not => {
             if let Some(value) = values.pop() {
                 values.push(value.map(|truth| !truth));

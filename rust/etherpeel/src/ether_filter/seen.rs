@@ -2,7 +2,7 @@
 
 use crate::ether_filter::fields::{Fields, address, announced_type, is_shown_by_link, read_fields};
 use crate::ether_filter::primitive::Primitive;
-use crate::ether_filter::tag_marks::{Tag, TagMarks, has_id, has_type, mark};
+use crate::ether_filter::tag_marks::{TagTypes, has_id, has_type, mark, set_type};
 use crate::ether_peel::{Peel, Start};
 use crate::EtherType;
 
@@ -13,22 +13,23 @@ pub(crate) struct Addresses {
     source: [u8; 6],
 }
 
-/// What the headers of a packet show.
+/// What the headers of a packet show, except for the identifiers of three VLAN tags or more.
+#[derive(Clone, Copy)]
 pub(crate) struct Seen {
-    /// Whether the walk was taken.
-    pub is_walked: bool,
     is_refused: bool,
     has_sec_tag: bool,
     has_arp: bool,
+    /// Whether there are three VLAN tags or more.
+    pub has_more: bool,
+    /// The ether types that announce VLAN tags.
+    types: TagTypes,
     link: Option<Addresses>,
     /// The ether type that is announced after the last header.
     last: Option<u16>,
-    /// The first VLAN tag.
-    outer: Option<Tag>,
-    /// The last VLAN tag, if there are two or more.
-    inner: Option<Tag>,
-    /// The VLAN tags between these.
-    between: Option<TagMarks>,
+    /// The identifier of the first VLAN tag.
+    outer: Option<u16>,
+    /// The identifier of the last VLAN tag, if there are two or more.
+    inner: Option<u16>,
 }
 
 impl Seen {
@@ -36,28 +37,37 @@ impl Seen {
     #[inline(always)]
     pub(crate) fn new() -> Seen {
         Seen {
-            is_walked: false,
             is_refused: false,
             has_sec_tag: false,
             has_arp: false,
+            has_more: false,
+            types: TagTypes {
+                customer: false,
+                service: false,
+                double: false,
+            },
             link: None,
             last: None,
             outer: None,
             inner: None,
-            between: None,
         }
     }
 }
 
-/// Walks through a packet, and keeps what its headers show.
+/// Walks through a packet, and keeps what its headers show, and in `ids` the identifiers of its VLAN tags. If `ids` is
+/// empty, the walk ends at the third tag.
 #[inline(always)]
-pub(crate) fn look(start: Start, frame: &[u8], seen: &mut Seen) {
+pub(crate) fn look(start: Start, frame: &[u8], seen: &mut Seen, ids: &mut [u64]) {
     let mut peel = Peel::new(start, frame);
-    seen.is_walked = true;
     loop {
         let announced = announced_type(peel.kind());
         match peel.next() {
-            Some(Ok(unit)) => take(seen, read_fields(&unit), announced),
+            Some(Ok(unit)) => {
+                take(seen, ids, read_fields(&unit), announced);
+                if seen.has_more && ids.is_empty() {
+                    return;
+                }
+            }
             Some(Err(_)) => {
                 seen.last = announced;
                 seen.is_refused = true;
@@ -73,7 +83,7 @@ pub(crate) fn look(start: Start, frame: &[u8], seen: &mut Seen) {
 
 /// Adds what a further header shows, which this ether type announces.
 #[inline(always)]
-fn take(seen: &mut Seen, fields: Fields, announced: Option<u16>) {
+fn take(seen: &mut Seen, ids: &mut [u64], fields: Fields, announced: Option<u16>) {
     match fields {
         Fields::Link {
             destination,
@@ -84,13 +94,10 @@ fn take(seen: &mut Seen, fields: Fields, announced: Option<u16>) {
                 source,
             });
         }
-        Fields::Tag(id) => take_tag(
-            seen,
-            Tag {
-                ether_type: announced,
-                id,
-            },
-        ),
+        Fields::Tag(id) => {
+            take_tag(seen, id, announced);
+            mark(ids, id);
+        }
         Fields::SecTag => seen.has_sec_tag = true,
         Fields::Arp => seen.has_arp = true,
         Fields::Other => {}
@@ -99,25 +106,30 @@ fn take(seen: &mut Seen, fields: Fields, announced: Option<u16>) {
 
 /// Adds a further VLAN tag.
 #[inline(always)]
-fn take_tag(seen: &mut Seen, tag: Tag) {
+fn take_tag(seen: &mut Seen, id: u16, announced: Option<u16>) {
+    set_type(&mut seen.types, announced);
     if seen.outer.is_none() {
-        seen.outer = Some(tag);
-        return;
+        seen.outer = Some(id);
+    } else {
+        take_inner(seen, id);
     }
-    if let Some(former) = seen.inner {
-        mark(&mut seen.between, former);
-    }
-    seen.inner = Some(tag);
+}
+
+/// .. after the first one.
+#[inline(never)]
+fn take_inner(seen: &mut Seen, id: u16) {
+    seen.has_more |= seen.inner.is_some();
+    seen.inner = Some(id);
 }
 
 /// Whether a primitive about headers matches a packet in which this was seen.
 #[inline(always)]
-pub(crate) fn is_seen(primitive: &Primitive, seen: &Seen) -> bool {
+pub(crate) fn is_seen(primitive: &Primitive, seen: &Seen, ids: &[u64]) -> bool {
     match *primitive {
         Primitive::Vlan => seen.outer.is_some(),
-        Primitive::VlanId(id) => is_id(seen.outer, id) || is_further_id(id, seen),
-        Primitive::OuterVlan(id) => is_id(seen.outer, id),
-        Primitive::InnerVlan(id) => is_id(seen.inner, id),
+        Primitive::VlanId(id) => is_vlan_id(id, seen, ids),
+        Primitive::OuterVlan(id) => is_number(seen.outer, id),
+        Primitive::InnerVlan(id) => is_number(seen.inner, id),
         Primitive::Macsec => seen.has_sec_tag,
         Primitive::EtherType(number) => is_announced(number, seen),
         Primitive::Refused => seen.is_refused,
@@ -126,65 +138,51 @@ pub(crate) fn is_seen(primitive: &Primitive, seen: &Seen) -> bool {
         | Primitive::Destination(_)
         | Primitive::Host(_)
         | Primitive::Broadcast
-        | Primitive::Multicast => match seen.link {
-            Some(link) => is_shown_by_link(
-                *primitive,
-                address(link.destination),
-                address(link.source),
-            ),
-            None => false,
-        },
+        | Primitive::Multicast => is_in_link(primitive, &seen.link),
+    }
+}
+
+/// Whether the link makes a primitive match.
+#[inline(never)]
+fn is_in_link(primitive: &Primitive, link: &Option<Addresses>) -> bool {
+    match link {
+        Some(link) => is_shown_by_link(*primitive, address(link.destination), address(link.source)),
+        None => false,
     }
 }
 
 /// Whether a VLAN tag has this identifier.
 #[inline(always)]
-fn is_id(tag: Option<Tag>, id: u16) -> bool {
-    match tag {
-        Some(tag) => id == tag.id,
-        None => false,
-    }
-}
-
-/// Whether a VLAN tag after the first one has this identifier.
-#[inline(always)]
-fn is_further_id(id: u16, seen: &Seen) -> bool {
+fn is_vlan_id(id: u16, seen: &Seen, ids: &[u64]) -> bool {
     match seen.inner {
-        Some(tag) => id == tag.id || has_id(&seen.between, id),
-        None => false,
+        None => is_number(seen.outer, id),
+        Some(inner) => {
+            if seen.has_more {
+                has_id(ids, id)
+            } else {
+                is_number(seen.outer, id) || id == inner
+            }
+        }
     }
 }
 
-/// Whether a VLAN tag is announced by this ether type.
+/// Whether there is a number, and it is this one.
 #[inline(always)]
-fn is_type(tag: Option<Tag>, number: u16) -> bool {
-    match tag {
-        Some(tag) => is_number(tag.ether_type, number),
-        None => false,
-    }
-}
-
-/// Whether there is an ether type, and it is this one.
-#[inline(always)]
-fn is_number(ether_type: Option<u16>, number: u16) -> bool {
-    match ether_type {
-        Some(ether_type) => number == ether_type,
+fn is_number(found: Option<u16>, number: u16) -> bool {
+    match found {
+        Some(found) => number == found,
         None => false,
     }
 }
 
 /// Whether an ether type is announced.
-#[inline]
+#[inline(always)]
 fn is_announced(number: u16, seen: &Seen) -> bool {
     is_number(seen.last, number)
         || match EtherType(number) {
             EtherType::VLAN_TAGGED_FRAME
             | EtherType::PROVIDER_BRIDGING
-            | EtherType::VLAN_DOUBLE_TAGGED_FRAME => {
-                is_type(seen.outer, number)
-                    || is_type(seen.inner, number)
-                    || has_type(&seen.between, number)
-            }
+            | EtherType::VLAN_DOUBLE_TAGGED_FRAME => has_type(seen.types, number),
             EtherType::MACSEC => seen.has_sec_tag,
             EtherType::ARP => seen.has_arp,
             _ => false,
@@ -198,19 +196,16 @@ pub(crate) enum Tags {
     Untagged,
     /// There is one, with this identifier.
     One(u16),
-    /// There are several, or it is not known how many.
-    Any,
+    /// There are several.
+    Many,
 }
 
 /// What is known of the VLAN tags of a packet, by what was seen in it.
 #[inline(always)]
 pub(crate) fn tags_seen(seen: &Seen) -> Tags {
-    if !seen.is_walked {
-        return Tags::Any;
-    }
     match (seen.outer, seen.inner) {
         (None, _) => Tags::Untagged,
-        (Some(tag), None) => Tags::One(tag.id),
-        _ => Tags::Any,
+        (Some(id), None) => Tags::One(id),
+        _ => Tags::Many,
     }
 }

@@ -8,7 +8,7 @@ use Rattle.ether_filter.proofs.Kleene.{joined_is}
 use Rattle.ether_filter.proofs.filter_program.decide_node.Goals as goal
 
 pub returns-in-Some-Some-clause-values : goal.returns-in-Some-Some-clause-values
-returns-in-Some-Some-clause-values c hs e walk seen at xs are =
+returns-in-Some-Some-clause-values c hs e walk shows at xs are =
     let packet = c.args.packet.now in
     let Is = IsValue packet hs e in
     let popped = c.pop-right.new.self.items in

@@ -7,16 +7,15 @@ use Rattle.ether_filter.specs.Expressions.{Expression}
 use Rattle.ether_filter.specs.Postfix.{postfix}
 use Rattle.ether_filter.specs.FilterProgram.{IsProgramOf}
 use Rattle.ether_filter.specs.Primitives.{walked}
-use Rattle.ether_filter.specs.Seen.{IsSeen}
+use Rattle.ether_filter.specs.Seen.{Shows}
 use Rattle.ether_filter.specs.Evaluation.{IsOpening, IsValue}
 use Rattle.ether_filter.proofs.Evaluated.{Evaluates}
-use Rattle.ether_filter.proofs.filter_program.decide.Given as goal
+use Rattle.ether_filter.proofs.filter_program.decide_seen.Given as goal
 
 abbrev pub invariant-loop-instruction : goal.invariant-loop-instruction
 invariant-loop-instruction l =
     (array_vec_len l.values ≤ l.instruction-index)
-    × ((hs : List Header) (e : Ending) → Walk (start_of l.packet.start) l.packet.frame.now hs e
-    → IsSeen (walked l.packet hs e) l.seen)
     × ((x : Expression) → IsProgramOf l.instructions x → (hs : List Header) (e : Ending)
-    → Walk (start_of l.packet.start) l.packet.frame.now hs e → IsOpening l.packet e l.opening
+    → Walk (start_of l.packet.start) l.packet.frame.now hs e
+    → Shows (walked l.packet hs e) l.seen l.ids → IsOpening l.packet e l.opening
     → Evaluates (IsValue l.packet hs e) l.values.items (postfix x) l.instruction-index)
