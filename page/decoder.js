@@ -7,7 +7,14 @@ const SCRATCH_LEN = 16 * PAGE;
 // the kind of a header of cooked capture v2, which is no unit of a walk
 const LINUX_SLL2 = 6;
 const SIZES = { captured: 40, unit: 144, field: 32, frame: 32 };
-const TEXT_LEN = 512;
+// the length of the longest text that a call writes, and that of the longest expression
+const TEXT_LEN = PAGE;
+const EXPRESSION_LEN = 4096;
+// how many tags of a packet its line in the list names
+const LINE_TAGS = 1000;
+// enum etherpeel_field_part and enum etherpeel_field_kind
+const PARTS = { title: 2, abbreviation: 3 };
+const KINDS = { flag: 2, etherType: 4, linkType: 8, bytes: 9, protocolAddress: 10 };
 
 const decodeText = (bytes) => new TextDecoder().decode(bytes);
 const encodeText = (text) => new TextEncoder().encode(text);
@@ -23,6 +30,7 @@ class Decoder {
     this.calls = calls;
     this.scratch = Math.ceil(Number(calls.__heap_base.value) / PAGE) * PAGE;
     this.begin = this.scratch + SCRATCH_LEN;
+    this.told = new Map();
     this.clear();
   }
 
@@ -72,9 +80,9 @@ class Decoder {
     return new DataView(this.calls.memory.buffer).getBigUint64(at, true);
   }
 
-  // the text that a call writes to a target of TEXT_LEN bytes
+  // the text that a call writes to a target of TEXT_LEN bytes, or "" if it writes none
   text(call) {
-    const [target, len] = [this.scratch, this.scratch + TEXT_LEN];
+    const [target, len] = [this.scratch + SCRATCH_LEN - TEXT_LEN, this.scratch];
     const status = call(BigInt(target), BigInt(TEXT_LEN), BigInt(len));
     return status === DONE ? decodeText(this.bytes(target, this.number(len, 8)).slice()) : "";
   }
@@ -111,6 +119,17 @@ class Decoder {
     };
   }
 
+  // the packet on a line for the eye, as `ether_capture --format brief` prints it
+  brief(index) {
+    const format = encodeText("brief");
+    const at = this.scratch + 4096;
+    this.bytes(at, format.length).set(format);
+    const words = [BigInt(at), BigInt(format.length), BigInt(index + 1)];
+    const packet = BigInt(this.packets + index * SIZES.captured);
+    const call = (...to) => this.calls.etherpeel_format_limited(...words, packet, BigInt(LINE_TAGS), ...to);
+    return this.text(call).trimEnd();
+  }
+
   // what is walked of a packet: its frame, and what that begins with; none of a link type that isn't known
   frameOf(index) {
     const frame = this.scratch;
@@ -129,7 +148,7 @@ class Decoder {
   select(expression) {
     const text = encodeText(expression);
     const [at, error] = [this.scratch + 4096, this.scratch];
-    if (text.length > TEXT_LEN * 8) return { error: "The expression is too long.", offset: text.length };
+    if (text.length > EXPRESSION_LEN) return { error: "The expression is too long.", offset: text.length };
     this.bytes(at, text.length).set(text);
     const words = [BigInt(at), BigInt(text.length)];
     const packets = [BigInt(this.packets), BigInt(this.count), BigInt(this.matches), BigInt(this.count)];
@@ -195,6 +214,21 @@ class Decoder {
       unit: this.number(at + 24, 4),
       name: this.number(at + 28, 4),
     };
+  }
+
+  // what a field is called, and what its value is
+  fieldTold(name) {
+    if (!this.told.has(name)) {
+      const part = (which) => this.text((...to) => this.calls.etherpeel_field_text(name, which, ...to));
+      const kind = this.calls.etherpeel_field_kind(name);
+      this.told.set(name, { title: part(PARTS.title), abbreviation: part(PARTS.abbreviation), kind });
+    }
+    return this.told.get(name);
+  }
+
+  // what a number of this kind is called, or ""
+  nameOf(kind, number) {
+    return this.text((...to) => this.calls.etherpeel_number_name(kind, BigInt(number), ...to));
   }
 
   // the header of a packet of cooked capture v2, with its fields; none if it is refused

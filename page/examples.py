@@ -50,7 +50,7 @@ EXAMPLES = [
         ["MACsec SecTag", "14 to 28", {
             "Version V": "0", "End station ES": "0", "Secure channel SC": "1 (set)", "Single copy broadcast SCB": "0",
             "Encryption E": "1 (set)", "Changed text C": "1 (set)", "Association number AN": "0", "Reserved": "0",
-            "Short length SL": "0", "Packet number PN": "1", "Secure channel identifier SCI": "0200000000010001"}],
+            "Short length SL": "0", "Packet number PN": "1", "Secure channel identifier SCI": "02:00:00:00:00:01:00:01"}],
     ], "Left 28 to 32: payload that MACsec protects"),
     ("a short length", f"#eth:{SEALED}", [
         ethernet2(ALL, FIRST, "0x88E5 (MACsec)"),
@@ -71,7 +71,7 @@ EXAMPLES = [
         arp("16 to 44", "2 (reply)", (FIRST, "192.0.2.1"), (SECOND, "192.0.2.2")),
     ], "Left at 44: what follows the ARP packet"),
     ("a frame with a check sequence", f"#fcs:{IPV4}e9c0cdc8", [
-        ethernet2(FIRST, SECOND, "0x0800 (IPv4)", **{"Frame check sequence FCS": "e9c0cdc8"}),
+        ethernet2(FIRST, SECOND, "0x0800 (IPv4)", **{"Frame check sequence FCS": "e9:c0:cd:c8"}),
     ], "Left 14 to 16: payload of type 0x0800 (IPv4)"),
     ("what an ether type announces", "#type-0806:" + ARP_IN_VLAN[36:52], [],
      "Not read 0 to 8: at offset 0: Address Resolution Protocol Packet Error: Not enough data to decode "
@@ -106,9 +106,12 @@ def pcapng(packets, link=1):
 
 PACKETS = [(1700000000, bytes.fromhex(ARP_IN_VLAN), 46), (1700000001, bytes.fromhex(IPV4), 60),
            (1700000002, bytes.fromhex(CUT_BY_CAPTURE), 60)]
-HEADINGS = ["No.", "Date", "Time (UTC)", "Source", "Destination", "Length", "Headers"]
+HEADINGS = ["No.", "Date", "Time (UTC)", "Length", "Packet"]
+# The last text is that of `ether_capture --format brief`, by docs/FORMAT.md.
 ROWS = [
-    ["1", "2023-11-14", "22:13:20.000005", VLAN_SENDER, ALL, "46", "VLAN 291 › ARP"],
-    ["2", "2023-11-14", "22:13:21.000005", SECOND, FIRST, "16 of 60", "IPv4"],
-    ["3", "2023-11-14", "22:13:22.000005", VLAN_SENDER, ALL, "19 of 60", "VLAN 1 › not read further"],
+    ["1", "2023-11-14", "22:13:20.000005", "46",
+     f"{VLAN_SENDER} > {ALL} vlan 291 pcp 5 dei ARP who-has 10.9.0.1 tell 10.9.0.2"],
+    ["2", "2023-11-14", "22:13:21.000005", "16 of 60", f"{SECOND} > {FIRST} IPv4 2 bytes (16 of 60 bytes)"],
+    ["3", "2023-11-14", "22:13:22.000005", "19 of 60",
+     f"{VLAN_SENDER} > {ALL} vlan 1 pcp 0 fault at 18: needs 4 bytes, has 1 (19 of 60 bytes)"],
 ]

@@ -1,6 +1,16 @@
 // One frame: its headers as a tree, and its bytes.
 
 const SHOWN_LEN = 4096;
+const LINK_LINUX_SLL2 = 276;
+// by enum etherpeel_unit_kind, and 6 for cooked capture v2
+const HEADERS = {
+  1: "Ethernet II", 2: "Linux cooked capture v1", 3: "VLAN tag", 4: "MACsec SecTag", 5: "ARP",
+  6: "Linux cooked capture v2",
+};
+// the fields of ARP that says what a protocol address is, and of Ethernet after the payload
+const PROTOCOL_TYPE = 26;
+const CHECK_SEQUENCE = 34;
+const IPV4 = 0x0800n;
 
 function element(name, properties = {}, ...children) {
   const node = Object.assign(document.createElement(name), properties);
@@ -13,6 +23,39 @@ const count = (number, noun) => `${number.toLocaleString("en")} ${noun}${number 
 
 // whether a byte is a character of ASCII that is printed (ISO/IEC 646)
 const isPrinted = (byte) => 0x20 <= byte && byte <= 0x7e;
+
+const hex = (number, digits) => "0x" + number.toString(16).toUpperCase().padStart(digits, "0");
+const pair = (byte) => byte.toString(16).padStart(2, "0");
+
+// a number, and what numbers of this kind call it
+function named(decoder, kind, number) {
+  const text = kind === KINDS.etherType ? hex(number, 4) : String(number);
+  const name = decoder.nameOf(kind, number);
+  return name ? `${text} (${name})` : text;
+}
+
+// the value of a field of this kind
+function valueText(decoder, kind, field, bytes, isIpv4) {
+  switch (kind) {
+    case KINDS.flag: return field.value ? "1 (set)" : "0";
+    case KINDS.bytes: return Array.from(bytes, pair).join(":");
+    case KINDS.protocolAddress: return isIpv4 ? bytes.join(".") : Array.from(bytes, pair).join(":");
+    default: return named(decoder, kind, field.value);
+  }
+}
+
+// what the bytes that are left are announced as, by enum etherpeel_rest_kind
+function restName(decoder, kind, number) {
+  switch (kind) {
+    case 0: return "the first header, which was not read";
+    case 1: return `payload of type ${named(decoder, KINDS.etherType, number)}`;
+    case 2: return `netlink, protocol ${number}`;
+    case 3: return `GRE, protocol ${hex(number, 4)}`;
+    case 4: return "a link whose protocol numbers have no meaning";
+    case 5: return "payload that MACsec protects";
+    default: return "what follows the ARP packet";
+  }
+}
 
 // where a field is, as bytes or as bits of them
 function placeOf(field) {
@@ -37,7 +80,7 @@ function readHeaders(decoder, frame, packet) {
   const isSll2 = packet.linkType === LINK_LINUX_SLL2;
   const first = isSll2 ? decoder.linuxSll2(packet) : null;
   const refused = isSll2 ? "no header of cooked capture v2" : "";
-  const text = first ? `protocol ${protocol(first.protocol)}` : refused;
+  const text = first ? `protocol ${named(decoder, KINDS.etherType, first.protocol)}` : refused;
   const read = frame ? readFrame(decoder, frame) : notWalked(packet, first ? first.unit.headerLen : 0, text);
   const by = frame ? frame.offset : 0;
   const units = read.units.map((unit) => ({
@@ -86,14 +129,14 @@ class FrameView {
   }
 
   fieldNode(field) {
-    const [name, short, text] = FIELDS[field.name];
+    const { title, abbreviation, kind } = this.decoder.fieldTold(field.name);
     const first = this.read.at + Math.floor(field.bit / 8);
     const bytes = this.decoder.bytes(first, Math.ceil(field.bits / 8));
-    const isOfBytes = [digits, address, protocolAddress].includes(text);
     const type = this.read.fields.find((other) => other.unit === field.unit && other.name === PROTOCOL_TYPE);
-    const value = text(isOfBytes ? 0 : Number(field.value), bytes, type && Number(type.value));
-    const label = element("span", { className: "name" }, name);
-    if (short) label.append(" ", element("small", { textContent: short }));
+    const isIpv4 = type?.value === IPV4 && bytes.length === 4;
+    const value = valueText(this.decoder, kind, field, bytes, isIpv4);
+    const label = element("span", { className: "name" }, title);
+    if (abbreviation) label.append(" ", element("small", { textContent: abbreviation }));
     const node = element("li", { tabIndex: 0, title: placeOf(field) },
       label, element("span", { className: "value", textContent: value }));
     this.target(node, field.bit, field.bit + field.bits);
@@ -114,7 +157,7 @@ class FrameView {
     const where = places(ending.restStart, ending.restEnd);
     this.target(rest, ending.restStart * 8, ending.restEnd * 8);
     if (!ending.isFault) {
-      const text = ending.text ?? restName(ending.restKind, ending.restProtocol);
+      const text = ending.text ?? restName(this.decoder, ending.restKind, ending.restProtocol);
       rest.append(element("b", { textContent: "Left" }), ` ${where}${text ? `: ${text}` : ""}`);
       return [rest];
     }
@@ -163,7 +206,7 @@ class FrameView {
     const paint = (start, end, name) => kinds.fill(name, Math.min(start, len), Math.min(end, len));
     paint(ending.restStart, ending.restEnd, ending.isFault ? "unread" : "left");
     units.forEach((unit) => paint(unit.offset, unit.offset + unit.headerLen, `kind${unit.kind}`));
-    const sequences = this.read.fields.filter((field) => field.name === 34);
+    const sequences = this.read.fields.filter((field) => field.name === CHECK_SEQUENCE);
     sequences.forEach((field) => paint(field.bit / 8, (field.bit + field.bits) / 8, "kind1"));
     return kinds;
   }

@@ -6,37 +6,11 @@ const MOST_HEIGHT = 8_000_000;
 
 const $ = (id) => document.getElementById(id);
 
-// the day and the time of a packet, UTC, in microseconds unless that would lose something
-function dayAndTime(packet) {
-  if (!packet.hasTime) return ["", "no time"];
-  const date = new Date(packet.seconds * 1000);
-  if (isNaN(date)) return ["", `${packet.seconds} s`];
-  const [day, time] = date.toISOString().split("T");
-  const fraction = String(packet.nanoseconds).padStart(9, "0");
-  return [day, `${time.slice(0, 8)}.${fraction.endsWith("000") ? fraction.slice(0, 6) : fraction}`];
-}
-
-// what a packet has after its first header, in a line
-function line(read) {
-  const parts = read.units.map((unit, index) => {
-    if (unit.kind !== 3) return HEADERS[unit.kind];
-    return `VLAN ${read.fields.find((field) => field.unit === index && field.name === 11).value}`;
-  });
-  if (read.ending.isFault) parts.push("not read further");
-  else if (read.ending.restKind === 1) parts.push(protocolName(read.ending.restProtocol));
-  else if (read.ending.text) parts.push(read.ending.text);
-  return parts.slice(parts.length > 1 ? 1 : 0).join(" › ");
-}
-
-// The source and the destination of a packet's first header. One of a cooked capture has only the sender's address,
-// and its length says how many bytes of the field belong to it.
-function addresses(decoder, read) {
-  const found = (names) => read.fields.find((field) => names.includes(field.name));
-  const text = (field, len = 8) => {
-    return field ? address(0, decoder.bytes(read.at + field.bit / 8, Math.min(field.bits / 8, len))) : "";
-  };
-  const len = found(ADDRESS_LENGTHS);
-  return [text(found(SOURCES), len ? Number(len.value) : 8), text(found(DESTINATIONS))];
+// a packet's line for the eye: the day and the time, UTC, if it has a date, and what follows
+function lineOf(decoder, index) {
+  const [, moment, ...told] = decoder.brief(index).split(" ");
+  const [day, time] = moment.endsWith("Z") ? moment.slice(0, -1).split("T") : ["", moment];
+  return { day, time, line: told.join(" ") };
 }
 
 class PacketList {
@@ -99,13 +73,10 @@ class PacketList {
   // what a row says in each column
   texts(index) {
     const packet = this.decoder.packet(index);
-    const read = packet.linkType in LINK_TYPES ? readHeaders(this.decoder, this.decoder.frameOf(index), packet) : null;
-    const [day, time] = dayAndTime(packet);
-    const [source, destination] = read ? addresses(this.decoder, read) : ["", ""];
+    const { day, time, line } = lineOf(this.decoder, index);
     return {
-      number: (index + 1).toLocaleString("en"), day, time, source, destination,
-      length: packet.len < packet.originalLen ? `${packet.len} of ${packet.originalLen}` : String(packet.len),
-      line: read ? line(read) : `link type ${packet.linkType}`,
+      number: (index + 1).toLocaleString("en"), day, time,
+      length: packet.len < packet.originalLen ? `${packet.len} of ${packet.originalLen}` : String(packet.len), line,
     };
   }
 

@@ -88,8 +88,8 @@ class Page {
     this.toggle("frame");
     this.list.unmark();
     const len = count(frame.len, "byte");
-    const read = this.showFrame(frame, frame, ["Frame", len]);
-    this.title(`Frame of ${len}: ${line(read)}`, this.name);
+    this.showFrame(frame, frame, ["Frame", len]);
+    this.title(`Frame of ${len}`, this.name);
     if (this.name) $("about").append(" · ", element("a", { href: "#", textContent: `back to ${this.name}` }));
   }
 
@@ -190,30 +190,30 @@ class Page {
     this.toggle("frame");
     const packet = this.decoder.packet(index);
     const number = (index + 1).toLocaleString("en");
-    const about = [`Packet ${number}`, dayAndTime(packet).join(" "), count(packet.len, "byte")];
+    const { day, time } = lineOf(this.decoder, index);
+    const about = [`Packet ${number}`, `${day} ${time}`.trim(), count(packet.len, "byte")];
     if (packet.len < packet.originalLen) about.push(`cut from ${count(packet.originalLen, "byte")}`);
     const frame = this.decoder.frameOf(index);
-    about.push(LINK_TYPES[packet.linkType] ?? `link type ${packet.linkType}`);
+    const link = this.decoder.nameOf(KINDS.linkType, packet.linkType);
+    about.push(link || `link type ${packet.linkType}`);
     this.showFrame(frame, packet, about);
+    if (!link) $("about").append(" · headers of this link type are not read");
     this.title(`${this.name}, packet ${number}`);
     if (frame) $("about").append(" · ", this.link(frame));
   }
 
-  // shows a frame, and returns its headers
+  // shows a frame
   showFrame(frame, packet, about) {
     const read = readHeaders(this.decoder, frame, packet);
     $("about").replaceChildren(about.join(" · "));
     this.frame.show(read);
-    const isUnknown = packet.linkType !== undefined && !(packet.linkType in LINK_TYPES);
-    if (isUnknown) $("about").append(" · headers of this link type are not read");
-    return read;
   }
 
   // the frame's own address
   link(frame) {
     const type = `type-${frame.etherType.toString(16).padStart(4, "0")}`;
     const word = { 1: "eth", 2: "fcs", 3: "sll", 4: type }[frame.start];
-    const text = digits(0, this.decoder.bytes(frame.at, frame.len));
+    const text = Array.from(this.decoder.bytes(frame.at, frame.len), pair).join("");
     return element("a", { href: `#${word}:${text}`, textContent: "link to this frame" });
   }
 }
