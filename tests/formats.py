@@ -86,11 +86,11 @@ PACKETS = [
                         joined("ffffffffffff 020000000001 88e5 00 01 00000001 0800")), 1, [
         packet(1, "2023-11-14T22:13:20.000000000Z", 1, 37, 37, [
             eth(37, BROADCAST, "02:00:00:00:00:01", 0x88E5),
-            placed("macsec", 14, 30, 36, True, payload="unmodified", es=0, scb=0, an=1, sl=8, pn=7, sci="02:00:00:00:00:01:00:01", type=0x0800)],
+            placed("macsec", 14, 30, 36, True, payload="unmodified", es=0, scb=0, e=0, c=0, an=1, sl=8, pn=7, sci="02:00:00:00:00:01:00:01", type=0x0800)],
                rest=rest(30, 36, "ether_type", 0x0800)),
         packet(2, "2023-11-14T22:13:20.000000000Z", 1, 22, 22, [
             eth(22, BROADCAST, "02:00:00:00:00:01", 0x88E5),
-            placed("macsec", 14, 20, 22, payload="encrypted", es=0, scb=0, an=2, sl=0, pn=1, sci=None, type=None)],
+            placed("macsec", 14, 20, 22, payload="encrypted", es=0, scb=0, e=1, c=1, an=2, sl=0, pn=1, sci=None, type=None)],
                rest=rest(20, 22, "sealed")),
         packet(3, "2023-11-14T22:13:20.000000000Z", 1, 22, 22, [eth(22, BROADCAST, "02:00:00:00:00:01", 0x88E5)],
                fault=fault(14, "macsec_version")),
@@ -332,7 +332,8 @@ def drawn(count):
 
 
 FIELDS = ["frame.number", "frame.cap_len", "frame.len", "frame.time_epoch", "eth.dst", "eth.src", "vlan.id", "vlan.priority", "vlan.dei",
-          "ieee8021ad.id", "arp.opcode", "arp.src.hw_mac", "arp.src.proto_ipv4", "arp.dst.hw_mac", "arp.dst.proto_ipv4", "macsec.AN", "macsec.PN"]
+          "ieee8021ad.id", "arp.opcode", "arp.src.hw_mac", "arp.src.proto_ipv4", "arp.dst.hw_mac", "arp.dst.proto_ipv4", "macsec.AN", "macsec.PN",
+          "macsec.TCI.E", "macsec.TCI.C"]
 
 
 def seconds_of(time):
@@ -356,7 +357,7 @@ def as_tshark(packet):
 
     return [*(str(packet[it]) for it in ("number", "captured", "original")), seconds_of(packet["time"]), link["dst"], link["src"],
             of(customer, "vid"), of(customer, "pcp"), of(customer, "dei"), of(service, "vid"), of(arp, "op"), of(arp, "sha"), of(arp, "spa"),
-            of(arp, "tha"), of(arp, "tpa"), ",".join(f"0x{it['an']:02x}" for it in macsec), of(macsec, "pn")]
+            of(arp, "tha"), of(arp, "tpa"), ",".join(f"0x{it['an']:02x}" for it in macsec), of(macsec, "pn"), of(macsec, "e"), of(macsec, "c")]
 
 
 def schema(program):

@@ -5,7 +5,7 @@ use Rattle.etherparse.specs.Bytes.{spelled}
 use Rattle.etherparse.specs.Ethernet2.{Ethernet2Value}
 use Rattle.etherparse.specs.Vlan.{VlanValue}
 use Rattle.etherparse.specs.LinuxSll.{LinuxSllValue}
-use Rattle.etherparse.specs.Macsec.{SecTagValue, PayloadType}
+use Rattle.etherparse.specs.Macsec.{SecTagValue, PayloadType, encrypted_of, changed_of}
 use Rattle.etherparse.specs.Macsec as payloads
 use Rattle.etherparse.specs.Arp.{ArpValue}
 use Rattle.ether_sll2.specs.LinuxSll2.{LinuxSll2Value}
@@ -69,11 +69,12 @@ abbrev pub payload_type_value : PayloadType → Value
 payload_type_value (payloads.Unmodified ether_type) = Protocol ether_type
 payload_type_value _ = Nothing
 
--- the SecTag of MACsec (IEEE 802.1AE, 9.3 to 9.9): V, SC, E, C and the reserved bits are no members
+-- the SecTag of MACsec (IEEE 802.1AE, 9.3 to 9.9): V, SC and the reserved bits are no members
 abbrev pub macsec_values : SecTagValue → List (Option Value)
 macsec_values t =
     Some (Word (payload_word t.payload_type)) ∷ None ∷ Some (Number t.end_station) ∷ None
-    ∷ Some (Number t.single_copy_broadcast) ∷ None ∷ None ∷ Some (Number t.association_number) ∷ None
+    ∷ Some (Number t.single_copy_broadcast) ∷ Some (Number (encrypted_of t.payload_type))
+    ∷ Some (Number (changed_of t.payload_type)) ∷ Some (Number t.association_number) ∷ None
     ∷ Some (Number t.short_len) ∷ Some (Number t.packet_number)
     ∷ Some (if_some (λ sci. Bytes (spelled 8 sci)) t.sci) ∷ Some (payload_type_value t.payload_type) ∷ []
 

@@ -103,13 +103,15 @@ pub(crate) fn vlan<'a>(slice: &SingleVlanSlice<'_>) -> [Member<'a>; 4]
 }
 
 /// The members of a SecTag.
-pub(crate) fn macsec<'a>(tag: &MacsecHeaderSlice<'_>) -> [Member<'a>; 8]
+pub(crate) fn macsec<'a>(tag: &MacsecHeaderSlice<'_>) -> [Member<'a>; 10]
     ensures { map member_view result ≡ keyed_after macsec_rows (macsec_values (sec_tag_of (tag_bytes tag.now))) }
 {
     [
         member(&rows::MACSEC[5], macsec_value(tag, 0)),
         member(&rows::MACSEC[7], macsec_value(tag, 2)),
         member(&rows::MACSEC[9], macsec_value(tag, 4)),
+        member(&rows::MACSEC[10], macsec_value(tag, 5)),
+        member(&rows::MACSEC[11], macsec_value(tag, 6)),
         member(&rows::MACSEC[12], macsec_value(tag, 7)),
         member(&rows::MACSEC[14], macsec_value(tag, 9)),
         member(&rows::MACSEC[15], macsec_value(tag, 10)),

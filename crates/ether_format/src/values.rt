@@ -5,7 +5,7 @@ ghost use Rattle.ether_base.specs.Bytes.{number as number_of_bytes, spelled};
 ghost use Rattle.etherparse.specs.Arp.{arp_of};
 ghost use Rattle.etherparse.specs.Ethernet2.{ethernet2_of, fcs_of};
 ghost use Rattle.etherparse.specs.LinuxSll.{linux_sll_of};
-ghost use Rattle.etherparse.specs.Macsec.{payload_type_view, sec_tag_of, tag_bytes};
+ghost use Rattle.etherparse.specs.Macsec.{changed_of, encrypted_of, payload_type_view, sec_tag_of, tag_bytes};
 ghost use Rattle.etherparse.specs.Vlan.{vlan_of};
 ghost use Rattle.ether_content.specs.ContentViews.{cooked_view};
 ghost use Rattle.ether_sll2.specs.LinuxSll2.{linux_sll2_of};
@@ -172,12 +172,34 @@ pub(crate) fn macsec_value<'a>(tag: &MacsecHeaderSlice<'_>, index: usize) -> Opt
         0 => Some(Value::Word(payload_word(tag.ptype()))),
         2 => number(u64::from(tag.endstation_id())),
         4 => number(u64::from(tag.tci_scb())),
+        5 => number(encrypted_bit(tag.ptype())),
+        6 => number(changed_bit(tag.ptype())),
         7 => number(u64::from(tag.an().value())),
         9 => number(u64::from(tag.short_len().value())),
         10 => number(u64::from(tag.packet_nr())),
         11 => Some(sci_value(tag.sci())),
         12 => Some(payload_type_value(tag.ptype())),
         _ => None,
+    }
+}
+
+/// 1 if the payload of a SecTag is encrypted.
+fn encrypted_bit(payload_type: MacsecPType) -> u64
+    ensures { result ≡ encrypted_of (payload_type_view payload_type) }
+{
+    match payload_type {
+        MacsecPType::EncryptedUnmodified | MacsecPType::Encrypted => 1,
+        _ => 0,
+    }
+}
+
+/// 1 if the payload of a SecTag is changed.
+fn changed_bit(payload_type: MacsecPType) -> u64
+    ensures { result ≡ changed_of (payload_type_view payload_type) }
+{
+    match payload_type {
+        MacsecPType::Modified | MacsecPType::Encrypted => 1,
+        _ => 0,
     }
 }
 

@@ -135,7 +135,7 @@ pub static MACSEC: [Field; 18] = [
         extent: Extent::Bits(1),
         number: 17,
         symbol: "MACSEC_E",
-        is_member: false,
+        is_member: true,
     },
     Field {
         name: "c",
@@ -147,7 +147,7 @@ pub static MACSEC: [Field; 18] = [
         extent: Extent::Bits(1),
         number: 18,
         symbol: "MACSEC_C",
-        is_member: false,
+        is_member: true,
     },
     Field {
         name: "an",

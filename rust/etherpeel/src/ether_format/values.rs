@@ -133,12 +133,32 @@ pub(crate) fn macsec_value<'a>(tag: &MacsecHeaderSlice<'_>, index: usize) -> Opt
         0 => Some(Value::Word(payload_word(tag.ptype()))),
         2 => number(u64::from(tag.endstation_id())),
         4 => number(u64::from(tag.tci_scb())),
+        5 => number(encrypted_bit(tag.ptype())),
+        6 => number(changed_bit(tag.ptype())),
         7 => number(u64::from(tag.an().value())),
         9 => number(u64::from(tag.short_len().value())),
         10 => number(u64::from(tag.packet_nr())),
         11 => Some(sci_value(tag.sci())),
         12 => Some(payload_type_value(tag.ptype())),
         _ => None,
+    }
+}
+
+/// 1 if the payload of a SecTag is encrypted.
+#[inline]
+fn encrypted_bit(payload_type: MacsecPType) -> u64 {
+    match payload_type {
+        MacsecPType::EncryptedUnmodified | MacsecPType::Encrypted => 1,
+        _ => 0,
+    }
+}
+
+/// 1 if the payload of a SecTag is changed.
+#[inline]
+fn changed_bit(payload_type: MacsecPType) -> u64 {
+    match payload_type {
+        MacsecPType::Modified | MacsecPType::Encrypted => 1,
+        _ => 0,
     }
 }
 
