@@ -24,6 +24,7 @@ ether_type_names =
     ∷ (0x88E5, codes "MACsec")
     ∷ (0x88F7, codes "PTP")
     ∷ (0x8906, codes "FCoE")
+    ∷ (0x892F, codes "HSR")
     ∷ (0x9100, codes "VLAN tag")
     ∷ []
 

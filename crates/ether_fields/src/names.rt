@@ -28,6 +28,7 @@ pub(crate) fn ether_type_name(number: u64) -> Option<&'static str>
         0x88E5 => Some("MACsec"),
         0x88F7 => Some("PTP"),
         0x8906 => Some("FCoE"),
+        0x892F => Some("HSR"),
         0x9100 => Some("VLAN tag"),
         _ => None,
     }
