@@ -348,7 +348,7 @@ def test_accessible_list(page, folder):
     page.evaluate("document.querySelector('#list').focus()")
     page.press("ArrowDown")
     active = text(page, "#" + page.evaluate("document.querySelector('#list').getAttribute('aria-activedescendant')"))
-    check("the row that is told of", active.split() == " ".join(ROWS[1]).split(), active)
+    check("the active row", active.split() == " ".join(ROWS[1]).split(), active)
 
 
 def test_many(page, folder):

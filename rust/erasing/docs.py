@@ -26,7 +26,7 @@ def runtimes(tokens):
 
 def example(code, line, imports, names):
     """The lines of an example. It imports all public names, and `?` passes on any error. One of the crate `etherpeel` that writes to an
-    `OutputBuffer` is run only with the feature `std`, by which the writers of `std` take text."""
+    `OutputBuffer` is run only with the feature `std`: then the writers of `std` take text."""
     tokens = lex("\n".join(code), line)
     runtimes(tokens)
     clones(tokens)

@@ -29,7 +29,7 @@ pub extern "C" fn etherpeel_format(
     status
 }
 
-/// Writes the line of a packet of which at most `limit` VLAN tags and SecTags are read.
+/// Like [`etherpeel_format`], but reads at most `limit` VLAN tags and SecTags of the packet.
 #[unsafe(no_mangle)]
 pub extern "C" fn etherpeel_format_limited(
     format: &[u8],

@@ -9,7 +9,7 @@ ghost use Rattle.ether_capture.specs.OptionTable.{all_options, has_letter, is_ad
 /// `tests/options.py --set` makes the lines of `--help` of them.
 #[derive(Clone, Copy, Debug)]
 pub struct OptionRow<Text> {
-    /// Its name, by which the program's code asks for it.
+    /// Its name in the program's code.
     pub name: Text,
     /// How it is written.
     pub spelling: Spelling,

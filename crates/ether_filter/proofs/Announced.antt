@@ -19,7 +19,7 @@ use Rattle.ether_peel.specs.Walker.Start.{next_of}
 use Rattle.ether_peel.specs.declared.start.Start.{Start as PeelStart}
 use Rattle.ether_peel.specs.declared.start.Start.TheVariants as starts
 use Rattle.ether_filter.specs.Primitives.{listed, ether_type_of, ether_types}
-use Rattle.ether_filter.specs.TagMarks.{is_some_type}
+use Rattle.ether_filter.specs.TagMarks.{is_some_number}
 
 -- ---- what is announced after some headers, and before each of them
 
@@ -52,7 +52,7 @@ ether_types_are next (h ∷ hs) =
     ap (λ (l : List ℕ). here ++ l) (ether_types_are (next_after h) hs)
     ∙ sym (append_assoc here (followed (next_after h) hs) (listed (ether_type_of (next_at (next_after h) hs))))
 
-pub listed_any : (n : ℕ) (o : Option ℕ) → list_any (nat_eq n) (listed o) ≡ is_some_type n o
+pub listed_any : (n : ℕ) (o : Option ℕ) → list_any (nat_eq n) (listed o) ≡ is_some_number n o
 listed_any n None = refl
 listed_any n (Some m) = or-false (nat_eq n m)
 
@@ -177,7 +177,7 @@ by_type start done kind announced other =
     type_of start done kind (next_at (next_of start) done) refl announced other
 
 -- an ether type that announces a header announces its kind
-pub kind_of_type : (n : ℕ) (next : Next) → is_some_type n (ether_type_of next) ≡ true
+pub kind_of_type : (n : ℕ) (next : Next) → is_some_number n (ether_type_of next) ≡ true
     → announced_next next ≡ announced_by n
 kind_of_type n (EtherType m) is = ap announced_by (sym (eqb-true n m is))
 kind_of_type n next is = absurd cc

@@ -3,12 +3,12 @@ use Rattle.std.proofs.Common.{◌≡◌, ℕ, List, [], ◌∷◌, ◌++◌, ref
 use Rattle.std.specs.Prelude.{Some}
 use Rattle.std.proofs.lemmas.Bool.{eqb-true, eq-eqb}
 use Rattle.ether_filter.specs.Seen.{first, last_from, last_other}
-use Rattle.ether_filter.specs.TagMarks.{is_some_type}
+use Rattle.ether_filter.specs.TagMarks.{is_some_number}
 
 -- ---- what they say of the list
 
 pub first_is : (n : ℕ) (ids : List ℕ)
-    → IsTrue (is_some_type n (first ids)) ↔ ((inner : List ℕ) × (ids ≡ n ∷ inner))
+    → IsTrue (is_some_number n (first ids)) ↔ ((inner : List ℕ) × (ids ≡ n ∷ inner))
 first_is n [] = (λ t. absurd cc, λ (inner, is). absurd cc)
 first_is n (id ∷ ids) = (
   λ t. (ids, ap (λ (i : ℕ). i ∷ ids) (sym (eqb-true n id t))),
@@ -41,7 +41,7 @@ never : (n : ℕ) (between : List ℕ) → [] ≡ between ++ n ∷ [] → ⊥
 never n [] is = cc
 never n (b ∷ bs) is = cc
 
-pub last_other_is : (n : ℕ) (ids : List ℕ) → IsTrue (is_some_type n (last_other ids))
+pub last_other_is : (n : ℕ) (ids : List ℕ) → IsTrue (is_some_number n (last_other ids))
     ↔ ((outer : ℕ) × (between : List ℕ) × (ids ≡ outer ∷ (between ++ n ∷ [])))
 last_other_is n [] = (λ t. absurd cc, λ (outer, between, is). absurd cc)
 last_other_is n (id ∷ []) =

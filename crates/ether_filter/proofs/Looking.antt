@@ -27,7 +27,7 @@ use Rattle.ether_filter.specs.declared.primitive.Primitive.TheVariants as primit
 use Rattle.ether_filter.specs.declared.seen.Seen.{Seen}
 use Rattle.ether_filter.specs.Fields.{fields_of}
 use Rattle.ether_filter.specs.Primitives.{is_tag, vlan_ids, listed, ether_type_of, ether_types, Walked}
-use Rattle.ether_filter.specs.TagMarks.{is_some_type, has_bit}
+use Rattle.ether_filter.specs.TagMarks.{is_some_number, has_bit}
 use Rattle.ether_filter.specs.Seen.{nothing, tag_id, AreMarked, IsTaken, first, last_other, announced_before, was_announced, has_vlan_id, Shows}
 use Rattle.ether_filter.proofs.Announced.{next_at, followed, next_after_more, ether_types_are, listed_any}
 use Rattle.ether_filter.proofs.SeenLemmas.{has_three, Keeps, keeps_next}
@@ -48,11 +48,11 @@ either false false = refl
 
 types_shown : (n : ℕ) (next : Next) (hs : List Header) (last : Option ℕ) (earlier : Bool)
     → last ≡ ether_type_of (next_at next hs) → earlier ≡ list_any (nat_eq n) (followed next hs)
-    → (is_some_type n last || earlier) ≡ list_any (nat_eq n) (ether_types next hs)
+    → (is_some_number n last || earlier) ≡ list_any (nat_eq n) (ether_types next hs)
 types_shown n next hs last earlier is are =
     let here = listed (ether_type_of (next_at next hs)) in
-    either (is_some_type n last) earlier
-    ∙ (λ i. are i || is_some_type n (is i))
+    either (is_some_number n last) earlier
+    ∙ (λ i. are i || is_some_number n (is i))
     ∙ ap (λ b. list_any (nat_eq n) (followed next hs) || b) (sym (listed_any n (ether_type_of (next_at next hs))))
     ∙ sym (list_any-append (nat_eq n) (followed next hs) here)
     ∙ ap (list_any (nat_eq n)) (sym (ether_types_are next hs))
@@ -73,8 +73,8 @@ shown start w s ids last refused room at k is end primitives.Vlan asks = ap is_s
 shown start w s ids last refused room at k is end (primitives.VlanId n) asks =
     (λ i. has_vlan_id n (k.more i) (k.outer i) (k.inner i) ids)
     ∙ vlan_id_is n (vlan_ids w.headers) ids (λ three. k.marks (room (k.more ∙ three)) n)
-shown start w s ids last refused room at k is end (primitives.OuterVlan n) asks = ap (is_some_type n) k.outer
-shown start w s ids last refused room at k is end (primitives.InnerVlan n) asks = ap (is_some_type n) k.inner
+shown start w s ids last refused room at k is end (primitives.OuterVlan n) asks = ap (is_some_number n) k.outer
+shown start w s ids last refused room at k is end (primitives.InnerVlan n) asks = ap (is_some_number n) k.inner
 shown start w s ids last refused room at k is end primitives.Macsec asks = k.sec_tag
 shown start w s ids last refused room at k is end (primitives.EtherType n) asks =
     types_shown n (next_of start) w.headers last (was_announced n s) is (k.types n)

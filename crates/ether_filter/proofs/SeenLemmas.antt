@@ -22,7 +22,7 @@ use Rattle.ether_filter.specs.declared.tag_marks.TagTypes.{TagTypes}
 use Rattle.ether_filter.specs.Deciding.{is_of_link}
 use Rattle.ether_filter.specs.Fields.{fields_of, shown_by_link}
 use Rattle.ether_filter.specs.Primitives.{is_sec_tag, is_from, is_to, is_to_group, vlan_ids, listed, ether_type_of}
-use Rattle.ether_filter.specs.TagMarks.{is_some_type, has_bit, has_tag_type}
+use Rattle.ether_filter.specs.TagMarks.{is_some_number, has_bit, has_tag_type}
 use Rattle.ether_filter.specs.Seen.{link_after, sec_tag_after, arp_after, tag_id, outer_after, inner_after, more_after, AreSet, AreMarked, IsTaken, seen_in_link, announced_before, was_announced, first, last_other}
 use Rattle.ether_filter.proofs.Announced.{next_at, followed, followed_after, listed_any, vlan_type, sec_tag_type, arp_type, is_first, never_first, kind_of_type, by_type, only_first}
 use Rattle.ether_filter.proofs.Identifiers.{last_other_after}
@@ -58,7 +58,7 @@ three_more (a ∷ b ∷ c ∷ ids) None = refl
 three_more (a ∷ b ∷ c ∷ ids) (Some id) = refl
 
 any_more : (n : ℕ) (ids : List ℕ) (tag : Option ℕ)
-    → list_any (nat_eq n) (ids ++ listed tag) ≡ (list_any (nat_eq n) ids || is_some_type n tag)
+    → list_any (nat_eq n) (ids ++ listed tag) ≡ (list_any (nat_eq n) ids || is_some_number n tag)
 any_more n ids tag =
     list_any-append (nat_eq n) ids (listed tag) ∙ ap (λ b. list_any (nat_eq n) ids || b) (listed_any n tag)
 
@@ -67,7 +67,7 @@ abbrev Fits : Option ℕ → Type 0
 Fits tag = (id : ℕ) → tag ≡ Some id → id < 4096
 
 marks_more : (old new : List ℕ) (tag : Option ℕ) → Fits tag → 64 ≤ length old → AreMarked old tag new → (n : ℕ)
-    → has_bit new n ≡ (has_bit old n || is_some_type n tag)
+    → has_bit new n ≡ (has_bit old n || is_some_number n tag)
 marks_more old new None fits room are n = rw are (sym (or-false (has_bit old n)))
 marks_more old new (Some id) fits room are n = are (omega (arith, fits id refl, room)) n
 
@@ -158,23 +158,23 @@ pub record Keeps (start : PeelStart) (done : List Header) (s : Seen) (ids : List
 
 -- an ether type that announces another kind does not announce this header
 not_announced : (n : ℕ) (next : Next) (h : Header) (a : Option Kind) → announced_next next ≡ Some (kind_of h)
-    → announced_by n ≡ a → (Some (kind_of h) ≡ a → ⊥) → is_some_type n (ether_type_of next) ≡ false
+    → announced_by n ≡ a → (Some (kind_of h) ≡ a → ⊥) → is_some_number n (ether_type_of next) ≡ false
 not_announced n next h a announced is other =
-    false_from_ne_true (is_some_type n (ether_type_of next))
+    false_from_ne_true (is_some_number n (ether_type_of next))
     (λ t. other (sym announced ∙ kind_of_type n next t ∙ is))
 
 -- .. one that announces its kind does, if it is not the first one of a walk
 is_the_type : (start : PeelStart) (done : List Header) (n m : ℕ) (kind : Kind)
     → announced_next (next_at (next_of start) done) ≡ Some kind → is_first kind ≡ false
     → ((k : ℕ) → announced_by k ≡ Some kind → k ≡ m) → announced_by n ≡ Some kind
-    → is_some_type n (ether_type_of (next_at (next_of start) done)) ≡ true
+    → is_some_number n (ether_type_of (next_at (next_of start) done)) ≡ true
 is_the_type start done n m kind announced other one is =
     let t = by_type start done kind announced other in
     rw t.1 (eq-eqb n t.0 (one n is ∙ sym (one t.0 t.2)))
 
 tag_announced : (n : ℕ) (next : Next) (h : Header) (old new : TagTypes) → announced_next next ≡ Some (kind_of h)
     → AreSet old (fields_of h) (ether_type_of next) new → announced_by n ≡ Some kinds.Vlan
-    → has_tag_type new n ≡ (has_tag_type old n || is_some_type n (ether_type_of next))
+    → has_tag_type new n ≡ (has_tag_type old n || is_some_number n (ether_type_of next))
 tag_announced n next (headers.Vlan v) old new announced are is = are n (vlan_type n is)
 tag_announced n next h old new announced are is =
     rw (not_announced n next h (Some kinds.Vlan) announced is (λ same. let same_kind = same in cc), are)
@@ -182,7 +182,7 @@ tag_announced n next h old new announced are is =
 
 sec_tag_announced : (start : PeelStart) (done : List Header) (n : ℕ) (h : Header) (b : Bool)
     → announced_next (next_at (next_of start) done) ≡ Some (kind_of h) → announced_by n ≡ Some kinds.Macsec
-    → sec_tag_after b (fields_of h) ≡ (b || is_some_type n (ether_type_of (next_at (next_of start) done)))
+    → sec_tag_after b (fields_of h) ≡ (b || is_some_number n (ether_type_of (next_at (next_of start) done)))
 sec_tag_announced start done n (headers.Macsec t) b announced is =
     sym (or_right b _ (is_the_type start done n 0x88E5 kinds.Macsec announced refl sec_tag_type is))
 sec_tag_announced start done n h b announced is =
@@ -191,7 +191,7 @@ sec_tag_announced start done n h b announced is =
 
 arp_announced : (start : PeelStart) (done : List Header) (n : ℕ) (h : Header) (b : Bool)
     → announced_next (next_at (next_of start) done) ≡ Some (kind_of h) → announced_by n ≡ Some kinds.Arp
-    → arp_after b (fields_of h) ≡ (b || is_some_type n (ether_type_of (next_at (next_of start) done)))
+    → arp_after b (fields_of h) ≡ (b || is_some_number n (ether_type_of (next_at (next_of start) done)))
 arp_announced start done n (headers.Arp a) b announced is =
     sym (or_right b _ (is_the_type start done n 0x0806 kinds.Arp announced refl arp_type is))
 arp_announced start done n h b announced is =
@@ -203,7 +203,7 @@ types_next : (start : PeelStart) (done : List Header) (h : Header) (s t : Seen) 
     → IsTaken s (fields_of h) (ether_type_of (next_at (next_of start) done)) t → announced_by n ≡ a
     → announced_before a (has_tag_type t.types n) t.has_sec_tag t.has_arp
     ≡ (announced_before a (has_tag_type s.types n) s.has_sec_tag s.has_arp
-    || is_some_type n (ether_type_of (next_at (next_of start) done)))
+    || is_some_number n (ether_type_of (next_at (next_of start) done)))
 types_next start done h s t n None announced k is =
     sym (not_announced n (next_at (next_of start) done) h None announced is (λ same. let same_kind = same in cc))
 types_next start done h s t n (Some kinds.Vlan) announced k is =
@@ -253,14 +253,14 @@ keeps_next start done bytes h s t old new m announced k taken marked len =
           λ room n.
           let had = subst (λ (m : ℕ). 64 ≤ m) len room in
           marks_more old new tag (tag_fits bytes h m) had marked n
-          ∙ ap (λ b. b || is_some_type n tag) (k.marks had n) ∙ sym (any_more n before tag)
+          ∙ ap (λ b. b || is_some_number n tag) (k.marks had n) ∙ sym (any_more n before tag)
           ∙ sym (ap (list_any (nat_eq n)) ids);
       sec_tag =
           taken.sec_tag ∙ sec_tag_more s.has_sec_tag h
           ∙ ap (λ b. b || list_any is_sec_tag (h ∷ [])) k.sec_tag ∙ sym (list_any-append is_sec_tag done (h ∷ []));
       types =
           λ n. types_next start done h s t n (announced_by n) announced taken refl
-          ∙ ap (λ b. b || is_some_type n type) (k.types n)
+          ∙ ap (λ b. b || is_some_number n type) (k.types n)
           ∙ ap (λ b. list_any (nat_eq n) (followed (next_of start) done) || b) (sym (listed_any n type))
           ∙ sym (list_any-append (nat_eq n) (followed (next_of start) done) (listed type))
           ∙ ap (list_any (nat_eq n)) (sym (followed_after (next_of start) done h));

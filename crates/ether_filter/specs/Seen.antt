@@ -16,7 +16,7 @@ use Rattle.ether_filter.specs.declared.tag_marks.TagTypes.{TagTypes}
 use Rattle.ether_filter.specs.Deciding.{is_of_lengths}
 use Rattle.ether_filter.specs.Fields.{shown_by_link}
 use Rattle.ether_filter.specs.Primitives.{is_tag, is_sec_tag, is_from, is_to, is_to_group, vlan_ids, ether_types, Walked}
-use Rattle.ether_filter.specs.TagMarks.{is_some_type, has_bit, has_tag_type, SetsBit, SetsType}
+use Rattle.ether_filter.specs.TagMarks.{is_some_number, has_bit, has_tag_type, SetsBit, SetsType}
 
 -- ---- before the walk
 
@@ -105,20 +105,20 @@ abbrev pub was_announced : ℕ → Seen → Bool
 was_announced n s = announced_before (announced_by n) (has_tag_type s.types n) s.has_sec_tag s.has_arp
 
 abbrev pub is_announced : ℕ → Seen → Bool
-is_announced n s = is_some_type n s.last || was_announced n s
+is_announced n s = is_some_number n s.last || was_announced n s
 
 -- whether a VLAN tag has this identifier, where those of three tags or more have their bits
 abbrev pub has_vlan_id : ℕ → Bool → (outer inner : Option ℕ) → List ℕ → Bool
-has_vlan_id n more outer None ids = is_some_type n outer
+has_vlan_id n more outer None ids = is_some_number n outer
 has_vlan_id n true outer (Some last) ids = has_bit ids n
-has_vlan_id n false outer (Some last) ids = is_some_type n outer || nat_eq n last
+has_vlan_id n false outer (Some last) ids = is_some_number n outer || nat_eq n last
 
 -- whether a primitive about headers matches
 abbrev pub seen : Primitive → Seen → List ℕ → Bool
 seen primitives.Vlan s ids = is_some s.outer
 seen (primitives.VlanId n) s ids = has_vlan_id n s.has_more s.outer s.inner ids
-seen (primitives.OuterVlan n) s ids = is_some_type n s.outer
-seen (primitives.InnerVlan n) s ids = is_some_type n s.inner
+seen (primitives.OuterVlan n) s ids = is_some_number n s.outer
+seen (primitives.InnerVlan n) s ids = is_some_number n s.inner
 seen primitives.Macsec s ids = s.has_sec_tag
 seen (primitives.EtherType n) s ids = is_announced n s
 seen primitives.Refused s ids = s.is_refused
@@ -146,8 +146,8 @@ last_other _ = None
 abbrev pub matching : Walked → Primitive → Bool
 matching w primitives.Vlan = list_any is_tag w.headers
 matching w (primitives.VlanId n) = list_any (nat_eq n) (vlan_ids w.headers)
-matching w (primitives.OuterVlan n) = is_some_type n (first (vlan_ids w.headers))
-matching w (primitives.InnerVlan n) = is_some_type n (last_other (vlan_ids w.headers))
+matching w (primitives.OuterVlan n) = is_some_number n (first (vlan_ids w.headers))
+matching w (primitives.InnerVlan n) = is_some_number n (last_other (vlan_ids w.headers))
 matching w primitives.Macsec = list_any is_sec_tag w.headers
 matching w (primitives.EtherType n) = list_any (nat_eq n) (ether_types w.start w.headers)
 matching w (primitives.Source a) = list_any (is_from a) w.headers

@@ -5,9 +5,9 @@ use Rattle.etherparse.specs.Vlan.{is_vlan_ether_type}
 use Rattle.ether_filter.specs.declared.tag_marks.TagTypes.{TagTypes}
 
 -- there is a number, and it is this one
-abbrev pub is_some_type : ℕ → Option ℕ → Bool
-is_some_type n None = false
-is_some_type n (Some other) = nat_eq n other
+abbrev pub is_some_number : ℕ → Option ℕ → Bool
+is_some_number n None = false
+is_some_number n (Some other) = nat_eq n other
 
 -- the bit of an identifier is 1: bit n % 64 of word n / 64
 abbrev pub has_bit : List ℕ → ℕ → Bool
@@ -27,4 +27,4 @@ SetsBit id old new = id / 64 < length old → (n : ℕ) → has_bit new n ≡ (h
 -- one more ether type is among them, if it announces a VLAN tag
 abbrev pub SetsType : Option ℕ → (old new : TagTypes) → Type 0
 SetsType number old new =
-    (n : ℕ) → is_vlan_ether_type n ≡ true → has_tag_type new n ≡ (has_tag_type old n || is_some_type n number)
+    (n : ℕ) → is_vlan_ether_type n ≡ true → has_tag_type new n ≡ (has_tag_type old n || is_some_number n number)

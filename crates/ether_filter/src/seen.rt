@@ -4,7 +4,7 @@ ghost use Rattle.ether_peel.specs.Grammar.Stack.{Walk};
 ghost use Rattle.ether_peel.specs.Walker.Start.{start_of, next_of};
 ghost use Rattle.ether_filter.specs.Primitives.{Walked};
 ghost use Rattle.ether_filter.specs.Jumps.{tags_of};
-ghost use Rattle.ether_filter.specs.TagMarks.{is_some_type, has_bit};
+ghost use Rattle.ether_filter.specs.TagMarks.{is_some_number, has_bit};
 ghost use Rattle.ether_filter.specs.Seen.{nothing, Shows, IsTaken, AreMarked, tag_id, seen_in_link, has_vlan_id, seen as seen_by, is_announced as is_announced_of};
 
 use crate::fields::{Fields, address, announced_type, is_shown_by_link, read_fields};
@@ -196,7 +196,7 @@ fn is_vlan_id(id: u16, seen: &Seen, ids: &[u64]) -> bool
 /// Whether there is a number, and it is this one.
 #[inline(always)]
 fn is_number(found: Option<u16>, number: u16) -> bool
-    ensures { result ≡ is_some_type number found }
+    ensures { result ≡ is_some_number number found }
 {
     match found {
         Some(found) => number == found,

@@ -1,4 +1,4 @@
--- A header that is found in a packet, as it is told: for the contracts of private functions.
+-- What a header that is found in a packet tells: for the contracts of private functions.
 use Rattle.ether_format.specs.declared.found.Found.{Found}
 use Rattle.ether_format.specs.FoundHeaders.{header_told}
 use Rattle.ether_format.specs.Told.{Told}

@@ -36,7 +36,7 @@ pub unsafe extern "C" fn etherpeel_format(
     status
 }
 
-/// Writes the line of a packet of which at most `limit` VLAN tags and SecTags are read.
+/// Like [`etherpeel_format`], but reads at most `limit` VLAN tags and SecTags of the packet.
 ///
 /// <details><summary>Contract</summary>
 ///
