@@ -29,8 +29,8 @@
  *   Memory   No call allocates, blocks, or stores anything between calls, so each is thread-safe.
  *            etherpeel_completion and etherpeel_fault_text take some 2.5 KB of stack,
  *            etherpeel_fields 5 KB, etherpeel_replace_arp 14 KB, etherpeel_build 18 KB, the calls
- *            for filters 40 KB, etherpeel_format 70 KB, the calls for capture files 300 KB, those
- *            for a switch 3 KB, and all others less than 1 KB.
+ *            for filters 40 KB, etherpeel_format 70 KB, the calls for capture files 300 KB, and all
+ *            others less than 1 KB.
  *   Time     Linear in the number of headers, at most len / 4 in a frame, or of units in a capture
  *            file. etherpeel_write_back also copies the frame, etherpeel_build the payload.
  *   Limits   Most calls have a form `.._limited`, which reads at most `limit` VLAN tags and
@@ -122,7 +122,8 @@ enum etherpeel_status {
     /* A unit follows a SecTag whose payload is encrypted or changed. */
     ETHERPEEL_SEALED = 20,
 
-    /* The frame does not leave by the port; only etherpeel_switch_send returns it. */
+    /* The frame is too short to leave, or the table has no sighting of the station; only calls for
+     * a switch return it. */
     ETHERPEEL_STAYS = 21,
 
     /* The text names no format of a packet. */
@@ -371,7 +372,7 @@ enum etherpeel_field_kind {
 };
 
 /* The kind of a bridge: the tags that it reads and writes. A tag of the other kind is payload. */
-enum etherpeel_bridge {
+enum etherpeel_bridge_kind {
     /* Customer tags, which 0x8100 announces. */
     ETHERPEEL_BRIDGE_CUSTOMER = 1,
     /* Service tags, which 0x88A8 announces. */
@@ -384,7 +385,9 @@ enum etherpeel_frame_types {
     /* Frames with a tag that names a VLAN. */
     ETHERPEEL_FRAMES_VLAN_TAGGED = 1,
     /* Frames without a tag, and frames with a tag whose identifier is 0. */
-    ETHERPEEL_FRAMES_UNTAGGED = 2
+    ETHERPEEL_FRAMES_UNTAGGED_AND_PRIORITY_TAGGED = 2,
+    /* Frames without a tag. (The standard has no such setting.) */
+    ETHERPEEL_FRAMES_UNTAGGED = 3
 };
 
 /* Why a bridge discards a frame. Of several reasons it is the first in this order. */
@@ -400,30 +403,22 @@ enum etherpeel_discarded {
     ETHERPEEL_DISCARDED_SOURCE = 4,
     /* The port does not accept frames with such a tag, or frames without a tag. */
     ETHERPEEL_DISCARDED_FRAME_TYPE = 5,
+    /* The port refuses a second tag, and the frame has one. */
+    ETHERPEEL_DISCARDED_SECOND_TAG = 6,
     /* The port filters ingress, and is not a member of the frame's VLAN. */
-    ETHERPEEL_DISCARDED_NOT_A_MEMBER = 6,
-    /* Its destination is a reserved address, such as 01-80-C2-00-00-01. */
-    ETHERPEEL_DISCARDED_RESERVED_ADDRESS = 7
+    ETHERPEEL_DISCARDED_NOT_A_MEMBER = 7,
+    /* The port is not forwarding. */
+    ETHERPEEL_DISCARDED_PORT_STATE = 8
 };
 
-/* Where a bridge sends a frame. */
-enum etherpeel_forwarding {
-    /* Nowhere: its destination is at the port by which it came in. */
-    ETHERPEEL_FORWARDING_NONE = 0,
-    /* To one port. */
-    ETHERPEEL_FORWARDING_PORT = 1,
-    /* To all ports except the one by which it came in. */
-    ETHERPEEL_FORWARDING_FLOOD = 2
-};
-
-/* How a frame leaves by a port. */
-enum etherpeel_form {
-    /* Not at all. */
-    ETHERPEEL_FORM_NONE = 0,
-    /* Without a tag of the bridge's kind. */
-    ETHERPEEL_FORM_UNTAGGED = 1,
-    /* With the tag of its VLAN. */
-    ETHERPEEL_FORM_TAGGED = 2
+/* Which stations a table forgets. */
+enum etherpeel_forgotten {
+    /* All of them. */
+    ETHERPEEL_FORGET_ALL = 0,
+    /* Those that were seen last at a port. */
+    ETHERPEEL_FORGET_PORT = 1,
+    /* The station with an address. */
+    ETHERPEEL_FORGET_STATION = 2
 };
 
 /* ---- Structs ----
@@ -611,38 +606,82 @@ typedef struct etherpeel_replace_error {
     uint32_t difference; /* enum etherpeel_difference, after ETHERPEEL_DIFFERS; else 0 */
 } etherpeel_replace_error;
 
-/* How a port of a bridge is set up. The VLAN `vid` is in a set if set[vid / 64] >> vid % 64 & 1. */
+/* A set of ports, by their numbers, 0 to 255. Port `i` is in it if words[i / 64] >> i % 64 & 1. */
+typedef struct etherpeel_ports {
+    uint64_t words[4];
+} etherpeel_ports;
+
+/* How a VLAN of a bridge is set up. If it has no buckets, or if not all of them are in the table,
+ * no station is learned. */
+typedef struct etherpeel_switch_vlan {
+    etherpeel_ports members;  /* the ports by which its frames leave (IEEE 802.1Q, 8.8.10) */
+    etherpeel_ports untagged; /* the ports by which they leave without a tag */
+    uint32_t first_bucket;    /* the index, in the table of stations, of its first bucket */
+    uint32_t buckets;         /* how many buckets it has */
+} etherpeel_switch_vlan;
+
+/* What the ports of a bridge may do now (IEEE 802.1Q, 8.4). A port that is discarding is in none of
+ * the first two sets, one that is learning in the first, one that is forwarding in both. */
+typedef struct etherpeel_port_states {
+    etherpeel_ports learning;   /* those that learn the sources of the frames that they accept */
+    etherpeel_ports forwarding; /* those by which frames come in and leave */
+    etherpeel_ports isolated;   /* those that exchange no frames with each other */
+    etherpeel_ports mirrors;    /* those by which a copy of each frame leaves, with a tag */
+} etherpeel_port_states;
+
+/* Where frames to an address in a VLAN go, whatever the bridge has learned (IEEE 802.1Q, 8.8.1). */
+typedef struct etherpeel_static_entry {
+    etherpeel_ports ports; /* those by which they leave, if these are members of the VLAN */
+    uint8_t address[6];    /* of a station or a group */
+    uint16_t vid;          /* the identifier of the VLAN */
+} etherpeel_static_entry;
+
+/* How a port of a bridge is set up. The VLANs that it is a member of are in etherpeel_switch_vlan,
+ * and its state is in etherpeel_port_states. */
 typedef struct etherpeel_port {
-    uint64_t members[64];      /* the VLANs whose frames leave by the port */
-    uint64_t untagged[64];     /* the VLANs whose frames leave without a tag */
-    uint16_t pvid;             /* the VLAN of a frame without a VLAN identifier, 1 to 4094 */
-    uint8_t frame_types;       /* enum etherpeel_frame_types */
-    uint8_t ingress_filtering; /* 0 if it accepts frames of VLANs that it is not a member of */
-    uint8_t default_priority;  /* the priority of a frame that comes in without a tag, 0 to 7 */
+    uint16_t pvid;              /* the VLAN of a frame without a VLAN identifier, 1 to 4094 */
+    uint8_t frame_types;        /* enum etherpeel_frame_types */
+    uint8_t refuses_second_tag; /* 0 if it accepts a second tag of the bridge's kind */
+    uint8_t ingress_filtering;  /* 0 if it accepts frames of VLANs that it is not a member of */
+    uint8_t default_priority;   /* the priority of a frame that comes in without a tag, 0 to 7 */
 } etherpeel_port;
+
+/* How a bridge is set up. VLANs that are not in the array have no ports. No pointer may be NULL,
+ * even if its array has no elements. */
+typedef struct etherpeel_bridge {
+    uint64_t key[2]; /* of the hash that chooses a station's buckets: two random numbers */
+    const etherpeel_port_states *ports;
+    const etherpeel_switch_vlan *vlans; /* each at the index of its identifier */
+    size_t vlan_count;
+    const etherpeel_static_entry *static_entries; /* the first one for an address and VLAN counts */
+    size_t static_entry_count;
+    uint32_t ageing_time; /* how many seconds a sighting counts; the standard recommends 300 */
+    uint16_t forwarded;   /* bit i: it forwards frames to 01-80-C2-00-00-0i, against the standard */
+    uint8_t kind;         /* enum etherpeel_bridge_kind */
+} etherpeel_bridge;
 
 /* A frame that a bridge received, and where it goes. If it is discarded, all other fields are 0. */
 typedef struct etherpeel_received {
-    uint32_t discarded;    /* enum etherpeel_discarded */
-    uint32_t kind;         /* enum etherpeel_bridge */
-    uint32_t forwarding;   /* enum etherpeel_forwarding */
-    uint16_t port;         /* if forwarding is ETHERPEEL_FORWARDING_PORT, else 0 */
-    uint16_t from;         /* the port by which it came in */
-    uint16_t vlan;         /* the identifier of its VLAN, 1 to 4094 */
-    uint8_t priority;      /* of its tag, else the port's default */
-    uint8_t drop_eligible; /* 1 if it may be dropped first under congestion, else 0 */
+    etherpeel_ports tagged;   /* the ports by which it leaves with the tag of its VLAN */
+    etherpeel_ports untagged; /* the ports by which it leaves without a tag */
+    uint16_t vid;             /* the identifier of its VLAN, 1 to 4094 */
+    uint8_t kind;             /* of the bridge: enum etherpeel_bridge_kind */
+    uint8_t priority;         /* of its tag, else the port's default */
+    uint8_t drop_eligible;    /* 1 if it may be dropped first under congestion, else 0 */
+    uint8_t reserved;         /* 1 if it is for the bridge itself, else 0 */
+    uint8_t discarded;        /* enum etherpeel_discarded */
 } etherpeel_received;
 
 /* A frame of a station: when it came in, and by which port. */
 typedef struct etherpeel_sighting {
-    uint64_t station; /* VLAN identifier << 48 | address; 0 if the place is free */
-    uint64_t time;
-    uint16_t port;
+    uint64_t address; /* its first byte is the highest of 48 bits; 0 if the place is free */
+    uint32_t time;    /* in seconds, as the caller gave it */
+    uint8_t port;
 } etherpeel_sighting;
 
-/* The last sightings of up to four stations, the newest first. If it is all 0, it knows none. */
+/* The last sightings of up to four stations. If it is all 0, it knows none. */
 typedef struct etherpeel_bucket {
-    etherpeel_sighting sightings[4];
+    etherpeel_sighting places[4];
 } etherpeel_bucket;
 
 /* ---- The library ----
@@ -674,7 +713,12 @@ enum etherpeel_struct {
     ETHERPEEL_STRUCT_PORT = 19,
     ETHERPEEL_STRUCT_RECEIVED = 20,
     ETHERPEEL_STRUCT_SIGHTING = 21,
-    ETHERPEEL_STRUCT_BUCKET = 22
+    ETHERPEEL_STRUCT_BUCKET = 22,
+    ETHERPEEL_STRUCT_PORTS = 23,
+    ETHERPEEL_STRUCT_SWITCH_VLAN = 24,
+    ETHERPEEL_STRUCT_PORT_STATES = 25,
+    ETHERPEEL_STRUCT_STATIC_ENTRY = 26,
+    ETHERPEEL_STRUCT_BRIDGE = 27
 };
 
 /* etherpeel_version - the version of the library, as ETHERPEEL_VERSION is that of this header
@@ -720,7 +764,12 @@ static inline int etherpeel_fits(void) {
            etherpeel_sizeof(ETHERPEEL_STRUCT_PORT) == sizeof(etherpeel_port) &&
            etherpeel_sizeof(ETHERPEEL_STRUCT_RECEIVED) == sizeof(etherpeel_received) &&
            etherpeel_sizeof(ETHERPEEL_STRUCT_SIGHTING) == sizeof(etherpeel_sighting) &&
-           etherpeel_sizeof(ETHERPEEL_STRUCT_BUCKET) == sizeof(etherpeel_bucket);
+           etherpeel_sizeof(ETHERPEEL_STRUCT_BUCKET) == sizeof(etherpeel_bucket) &&
+           etherpeel_sizeof(ETHERPEEL_STRUCT_PORTS) == sizeof(etherpeel_ports) &&
+           etherpeel_sizeof(ETHERPEEL_STRUCT_SWITCH_VLAN) == sizeof(etherpeel_switch_vlan) &&
+           etherpeel_sizeof(ETHERPEEL_STRUCT_PORT_STATES) == sizeof(etherpeel_port_states) &&
+           etherpeel_sizeof(ETHERPEEL_STRUCT_STATIC_ENTRY) == sizeof(etherpeel_static_entry) &&
+           etherpeel_sizeof(ETHERPEEL_STRUCT_BRIDGE) == sizeof(etherpeel_bridge);
 }
 
 /* etherpeel_start_of_link_type - the number of enum etherpeel_start for packets of a link type, 0
@@ -1289,65 +1338,112 @@ uint32_t etherpeel_filter_error_text(const char *expression, size_t len, char *t
 
 /* ---- A switch ----
  *
- * The forwarding of a bridge with VLANs (IEEE 802.1Q). The caller has the ports, by numbers, and
- * the table of stations: an array of etherpeel_bucket, initially all 0, to which nothing else
- * writes. A station is an address in a VLAN; each bucket holds the four of its stations that were
- * seen most recently. No frame crosses VLANs, and only its tag changes. There are no static
- * entries. Spanning trees are left to the caller, who must not pass frames of a blocked port.
+ * The forwarding of a bridge with VLANs (IEEE 802.1Q). The caller has the bridge's settings, the
+ * ports, by numbers from 0 to 255, and the table of stations: an array of etherpeel_bucket,
+ * initially all 0. Each VLAN learns for itself, in a part of the table of its own. Other than by
+ * these calls, with the same key and parts, nothing should write to the table. No frame crosses
+ * VLANs, and only its tag changes. The protocols of spanning trees are left to the caller: frames
+ * for them are returned as reserved, and the states of the ports are settings.
  */
+
+/* etherpeel_ports_has - 1 if a set has a port, else 0
+ *
+ * Thread-safe; takes no memory.
+ */
+static inline int etherpeel_ports_has(const etherpeel_ports *ports, uint8_t port) {
+    return (int)(ports->words[port / 64] >> port % 64 & 1);
+}
+
+/* etherpeel_ports_add - adds a port to a set
+ *
+ * Thread-safe, except for the set; takes no memory.
+ */
+static inline void etherpeel_ports_add(etherpeel_ports *ports, uint8_t port) {
+    ports->words[port / 64] |= (uint64_t)1 << port % 64;
+}
 
 /* etherpeel_switch_receive - learns the port of a frame's source, and decides where the frame goes
  *
  * The frame is the `len` bytes at `bytes`: from its Ethernet II header on, without a frame check
  * sequence. It came in by the port with the number `from` and the configuration *port, at the time
- * `now`, by a clock that does not go back. `kind` is one of enum etherpeel_bridge. The bridge
- * relies on a station's last sighting for `ageing_time`, in the unit of `now` (IEEE 802.1Q
- * recommends 300 seconds). `buckets` points to the `bucket_count` buckets of the table; NULL is
- * allowed if that is 0, and nothing is learned then.
- * Sets *received. The source is learned unless the frame is discarded for another reason than a
- * reserved destination. A frame to a station goes to the port at which the station was seen last in
- * the frame's VLAN; if that is the port by which the frame came in, it goes nowhere. Any other
- * frame goes to all ports except that one.
- * Returns ETHERPEEL_DONE, also for a frame that is discarded; or ETHERPEEL_BAD_FIELD if `kind` or a
- * number of *port does not fit, and then nothing is written.
- * Overlap: neither the table nor *received may overlap *port, the frame or one another. Every
- * number is in host byte order. Thread-safe, except for the table; takes no memory.
+ * `now`, in seconds by a clock that does not go back. `table` points to the `bucket_count` buckets
+ * of the table; NULL is allowed if that is 0, and nothing is learned then.
+ * Sets *received. A frame to a reserved address that the bridge does not forward is for the bridge
+ * itself, whatever the port accepts and in whatever state it is: `reserved` is 1 then, and it
+ * leaves by no port. Any other frame that is not discarded leaves by ports that are members of its
+ * VLAN and forwarding, and not by the one by which it came in; nor by an isolated port, if that one
+ * is isolated too. Of these ports, a frame with a static entry leaves by those of the entry, and
+ * one to a station by the port at which the station was seen last in this VLAN, if that was at most
+ * the ageing time ago; any other frame leaves by all of them. A copy leaves by each mirror but the
+ * port by which the frame came in.
+ * The source is learned in the part of the table that its VLAN has, if the port accepts the frame
+ * and is learning. If both buckets of a station are full, the new station takes the place of one
+ * whose port has most stations there.
+ * Returns ETHERPEEL_DONE, also for a frame that is discarded; or ETHERPEEL_BAD_FIELD if the kind of
+ * the bridge or a number of *port does not fit, and then nothing is written.
+ * Overlap: neither the table nor *received may overlap *bridge, what it points to, *port, the frame
+ * or one another. Every number is in host byte order. Thread-safe, except for the table; takes no
+ * memory.
  */
-uint32_t etherpeel_switch_receive(uint32_t kind, uint64_t ageing_time, etherpeel_bucket *buckets,
-                                  size_t bucket_count, uint64_t now, uint16_t from,
+uint32_t etherpeel_switch_receive(const etherpeel_bridge *bridge, etherpeel_bucket *table,
+                                  size_t bucket_count, uint32_t now, uint8_t from,
                                   const etherpeel_port *port, const uint8_t *bytes, size_t len,
                                   etherpeel_received *received);
 
-/* etherpeel_switch_form - whether a frame leaves by a port, and whether with the tag of its VLAN
+/* etherpeel_switch_tagged - makes a frame ready to leave with the tag of its VLAN, in place
  *
- * *received is what etherpeel_switch_receive has set, `to` the number of the port. Sets *form to
- * one of enum etherpeel_form. A frame leaves by the ports to which it goes and that are members of
- * its VLAN: without a tag if the VLAN is in the port's untagged set, else with the tag of its VLAN.
- * Returns ETHERPEEL_DONE; or ETHERPEEL_BAD_FIELD if the frame was discarded, or a number of
- * *received or *port does not fit, and then *form is unchanged.
- * Overlap: *form must not overlap *received or *port. Every number is in host byte order.
- * Thread-safe; takes no memory.
- */
-uint32_t etherpeel_switch_form(const etherpeel_received *received, uint16_t to,
-                               const etherpeel_port *port, uint32_t *form);
-
-/* etherpeel_switch_send - makes a frame ready to leave by a port, in place
- *
- * The frame is buffer[4] .. buffer[len - 1], as it came in. The first four bytes are free. It
- * leaves as buffer[*begin] .. buffer[len - 1]: *begin is 8 if its tag was taken off, 0 if one was
- * put in, else 4. A tag of the bridge's kind keeps its priority, and gets the identifier of the
- * VLAN.
- * If the frame leaves by many ports, make it ready once for all ports of each form, each time from
- * a copy of the frame.
+ * The frame is buffer[4] .. buffer[len - 1], as it came in. The first four bytes are free.
+ * *received is what etherpeel_switch_receive has set. The frame leaves as buffer[*at] ..
+ * buffer[len - 1]: *at is 0 if a tag was put in, else 4. A tag of the bridge's kind keeps its
+ * priority, and gets the identifier of the VLAN. Only bytes before the payload change, so the time
+ * does not depend on `len`.
+ * If the frame leaves in both forms, make one of them ready on a copy.
  * Returns ETHERPEEL_DONE, or the first of these that applies, and then nothing is written:
- * ETHERPEEL_BAD_FIELD as etherpeel_switch_form; ETHERPEEL_STAYS if its form is
- * ETHERPEEL_FORM_NONE, or the frame is too short for its header or its tag.
- * Overlap: neither the buffer nor *begin may overlap *received, *port or one another. Every number
- * is in host byte order. Thread-safe; takes no memory.
+ * ETHERPEEL_BAD_FIELD if the frame was discarded, or a number of *received does not fit;
+ * ETHERPEEL_STAYS if the frame is too short for its header or its tag.
+ * Overlap: neither the buffer nor *at may overlap *received or one another. Every number is in host
+ * byte order. Thread-safe; takes no memory.
  */
-uint32_t etherpeel_switch_send(const etherpeel_received *received, uint16_t to,
-                               const etherpeel_port *port, uint8_t *buffer, size_t len,
-                               size_t *begin);
+uint32_t etherpeel_switch_tagged(const etherpeel_received *received, uint8_t *buffer, size_t len,
+                                 size_t *at);
+
+/* etherpeel_switch_untagged - makes a frame ready to leave without a tag, in place
+ *
+ * As etherpeel_switch_tagged, but *at is 8 if a tag was taken off, else 4. Only the first tag is
+ * taken off: a frame that came in with two tags of the bridge's kind leaves with the second one.
+ */
+uint32_t etherpeel_switch_untagged(const etherpeel_received *received, uint8_t *buffer, size_t len,
+                                   size_t *at);
+
+/* etherpeel_switch_find - the last sighting of a station in a VLAN
+ *
+ * `address` points to the six bytes of the station's address; `table` as for
+ * etherpeel_switch_receive. Sets *sighting, which may have aged.
+ * Returns ETHERPEEL_DONE; or ETHERPEEL_STAYS if the table has no sighting of the station, or
+ * ETHERPEEL_BAD_FIELD if `vid` is not from 1 to 4094, or the kind of the bridge does not fit, and
+ * then *sighting is unchanged.
+ * Overlap: *sighting must not overlap anything else that is passed. Every number is in host byte
+ * order. Thread-safe, except for the table; takes no memory.
+ */
+uint32_t etherpeel_switch_find(const etherpeel_bridge *bridge, const etherpeel_bucket *table,
+                               size_t bucket_count, uint16_t vid, const uint8_t address[6],
+                               etherpeel_sighting *sighting);
+
+/* etherpeel_switch_forget - forgets stations
+ *
+ * Frames to these stations then go to all members of their VLAN, until the stations are seen again.
+ * A spanning tree asks for this when the topology changes, and so does a port that goes down or
+ * leaves a VLAN. `table` points to `bucket_count` buckets: those of a table, or of the part of it
+ * that a VLAN has. `what` is one of enum etherpeel_forgotten; `port` counts only for
+ * ETHERPEEL_FORGET_PORT, and the six bytes at `address` only for ETHERPEEL_FORGET_STATION, but
+ * `address` must not be NULL.
+ * Returns ETHERPEEL_DONE, or ETHERPEEL_BAD_FIELD if `what` is another number, and then nothing is
+ * written.
+ * Overlap: the table must not overlap the address. Every number is in host byte order. Thread-safe,
+ * except for the table; takes no memory.
+ */
+uint32_t etherpeel_switch_forget(etherpeel_bucket *table, size_t bucket_count, uint32_t what,
+                                 uint8_t port, const uint8_t address[6]);
 
 #ifdef __cplusplus
 }

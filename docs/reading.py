@@ -97,13 +97,15 @@ ARTEFACTS = {
         "ether_capture/src/laws.rt": ["statistics_are_one"],
     },
     "Bridges": {
-        "ether_switch/src/bridge.rt": ["receive", "receive_in"],
-        "ether_switch/src/received.rt": ["send", "goes_to", "tagged", "untagged"],
-        "ether_switch/src/stations.rt": ["new"],
-        "ether_switch/src/vlan_set.rt": ["new", "all", "contains", "insert", "remove"],
+        "ether_switch/src/bridge.rt": ["receive", "sighting"],
+        "ether_switch/src/forgetting.rt": ["forget"],
+        "ether_switch/src/received.rt": ["make_tagged", "make_untagged"],
+        "ether_switch/src/port_set.rt": ["only", "contains", "insert", "remove", "intersection", "union", "difference"],
         "ether_switch/src/bridge_kind.rt": ["tpid"],
-        "ether_switch/src/laws.rt": ["free_tables_know_nothing", "last_sightings_are_held", "frames_follow_stations", "vlans_are_isolated",
-                                     "only_tags_change"],
+        "ether_switch/src/vlan_config.rt": ["parts_are_in_order"],
+        "ether_switch/src/laws.rt": ["vlans_are_isolated", "only_tags_change", "vlans_are_isolated_over_links", "parts_in_order_are_apart",
+                                     "vlans_do_not_interfere", "last_sightings_are_found", "frames_follow_stations", "ports_are_fair",
+                                     "forgotten_are_not_found"],
     },
     "C": {
         "ether_c/src/walking.rt": ["etherpeel_walk", "etherpeel_walk_limited"],
@@ -131,7 +133,8 @@ ARTEFACTS = {
         "ether_c/src/cooked_v2.rt": ["etherpeel_linux_sll2", "etherpeel_linux_sll2_fields"],
         "ether_c/src/replacing.rt": ["etherpeel_replace_link", "etherpeel_replace_link_ext", "etherpeel_replace_arp"],
         "ether_c/src/building.rt": ["etherpeel_build"],
-        "ether_c/src/switching.rt": ["etherpeel_switch_receive", "etherpeel_switch_form", "etherpeel_switch_send"],
+        "ether_c/src/switching.rt": ["etherpeel_switch_receive", "etherpeel_switch_tagged", "etherpeel_switch_untagged", "etherpeel_switch_find",
+                                     "etherpeel_switch_forget"],
     },
 }
 
@@ -207,7 +210,7 @@ ORDER = {
         ether_capture: World Copies SeveralFiles KeyCounts RowFields Statistics Journal Program
     """,
     "Bridges": """
-        ether_switch: BridgeKinds VlanSets Arrivals Learning Relaying History Leaving Laws
+        ether_switch: BridgeKinds Arrivals Ports Vlans SipHash Stations Relaying Leaving History Laws
     """,
     "C": """
         ether_c: Numbers Starts Found Units Walk

@@ -34,6 +34,9 @@ CHANGES = [
 ENDS = "a number is read by where its place begins"
 FRONT = "the first two bytes of a SecTag have its lengths"
 LENGTHS = "other lengths are written in another way"
+LAST = "each number but 0, 1 and 2 is that of the fourth place"
+RESERVED = "01-80-C2-00-00-00 is a multiple of 17, too"
+HALF = "what is left of 64 bits is below 2^32"
 # Faults that change nothing that can be seen, as they are printed, and why.
 SAME = [
     (r".*_fields\.rs: (const \w+: Range<usize> = \d+\.\.)\d+;  =>  \1\d+;", ENDS),
@@ -43,6 +46,13 @@ SAME = [
     (r".*/packet_builder\.rs: write_sized_sec_tag::<14, 6>.*  =>  .*<14, 7>.*", LENGTHS),
     (r".*/copying\.rs: if block\.len\(\) < 16 \{  =>  .* <= 16 \{", "an interface description has 20 bytes"),
     (r".*/packet_builder\.rs: .* == SHORT \{  =>  .* != SHORT \{", LENGTHS),
+    (r".*/stations\.rs: return Some\(3\);  =>  return Some\(4\);", LAST),
+    (r".*/stations\.rs: self\.first_to_leave\(new, place, 3\)  =>  .* 4\)", LAST),
+    (r".*/stations\.rs: let second = .*  =>  .* % \((1 << 33|2 << 32)\)\);", HALF),
+    (r".*/received\.rs: if buffer\.len\(\) < 4 \{  =>  .* (<= 4|< 5) \{", "four bytes hold no frame"),
+    (r".*/bridge\.rs: .*address % 16\).*  =>  .*address % 17\).*", RESERVED),
+    (r".*/bridge_kind\.rs: .*\(address % 16, .*  =>  .*\(address % 17, .*", RESERVED),
+    (r".*/retagging\.rs: ether_type: EtherType\(0\),  =>  .*", "a tag gets the ether type of the frame"),
 ]
 
 

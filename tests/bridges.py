@@ -149,6 +149,8 @@ def special_frames(first):
         ("a service tag at a trunk of a customer bridge (table 9-1)", 3, GROUPS[0], STRANGER, tag(0x88A8, 0x000A), {}, True),
         ("a service tag at an access port, as payload (table 9-1)", 1, GROUPS[0], STRANGER, tag(0x88A8, 0x000A),
          {2: "88a8000a", 3: "8100000a88a8000a", 5: "8100000a88a8000a"}, False),
+        ("a second tag at a trunk, which the example refuses", 3, GROUPS[0], STRANGER, tag(0x8100, 0x000A) + tag(0x8100, 0x0014), {}, True),
+        ("a second tag after a priority alone, too", 1, GROUPS[0], STRANGER, tag(0x8100, 0x0000) + tag(0x8100, 0x0014), {}, True),
         ("from a group (IEEE 802.3, 3.2.3)", 1, GROUPS[0], GROUPS[1], b"", {}, True),
         ("from no station", 1, GROUPS[0], bytes(6), b"", {}, True),
         ("to a reserved address (8.6.3)", 1, bytes.fromhex("0180c200000e"), STRANGER, b"", {}, False),

@@ -60,9 +60,11 @@ NOT_SWITCHED = [
     ("a header cut short", 1, tagged(B, A, 10)[:26], []),
     ("A is not learned", 2, tagged(A, B, 10), [1, 3]),
 ]
-# Stations of one bucket: the fifth makes the switch forget the first.
-FULL_BUCKET = [(f"station {n}", 1, tagged(ALL, (2, n * 0x100), 10), [2, 3]) for n in range(5)]
-FULL_BUCKET += [(f"to station {n}", 2, tagged((2, n * 0x100), (2, 200), 10), [1] if n else [1, 3]) for n in range(5)]
+# More stations than the table has places for, at port 3 and in another VLAN: those of other ports and VLANs are still known.
+FLOODED = [("A on port 1", 1, tagged(ALL, A, 10), [2, 3]), ("B on port 2", 2, tagged(ALL, B, 10), [1, 3])]
+FLOODED += [(f"station {n} on port 3", 3, tagged(ALL, (2, n << 8), 10), [1, 2]) for n in range(1, 1000)]
+FLOODED += [(f"station {n} in VLAN 11", 2, tagged(ALL, (2, n << 8), 11), [1, 3]) for n in range(1, 1000)]
+FLOODED += [("A is still known", 3, tagged(A, (2, 1), 10), [1]), ("B is still known", 3, tagged(B, (2, 1), 10), [2])]
 
 # From 02::0A to all stations, and from 02::0B to it: without a tag, and with one of VLAN 10, for the second PCP 7 and DEI 1.
 REQUEST, TAGGED_REQUEST = "ffffffffffff02000000000a080645", "ffffffffffff02000000000a8100000a080645"
@@ -82,6 +84,8 @@ ON_MIXED = [
     ("to it with its tag", 5, TAGGED_REPLY, [(3, TAGGED_REPLY)]),
     ("a service tag at a trunk", 5, TAGGED_REPLY.replace("8100f00a", "88a8f00a"), []),
     ("a priority alone", 2, TAGGED_REPLY.replace("f00a", "e000"), [(3, TAGGED_REPLY.replace("f00a", "e00a"))]),
+    ("a second tag at a trunk", 3, TAGGED_REQUEST.replace("8100000a", "8100000a81000014"), []),
+    ("a second tag after a priority alone", 1, TAGGED_REQUEST.replace("8100000a", "8100000081000014"), []),
     ("the identifier 4095", 3, TAGGED_REQUEST.replace("8100000a", "81000fff"), []),
     ("a bridge protocol data unit", 1, "0180c200000002000000000c0026424203", []),
 ]
@@ -122,7 +126,7 @@ def main():
     given = words.parse_args()
     switch, rewriter = os.path.realpath(given.switch), os.path.realpath(given.rewriter)
     trunks = ["trunk"] * 3
-    tried = [*passed(switch, trunks, ON_TRUNKS), *passed(switch, trunks, NOT_SWITCHED), *passed(switch, trunks, FULL_BUCKET)]
+    tried = [*passed(switch, trunks, ON_TRUNKS), *passed(switch, trunks, NOT_SWITCHED), *passed(switch, trunks, FLOODED)]
     tried += passed(switch, MIXED, ON_MIXED)
     for name, link_type, packet, line in REWRITTEN:
         found = run(rewriter, ["5", "7"], captured([link_type], [(0, bytes.fromhex(packet))]))
@@ -132,6 +136,8 @@ def main():
     tried.append(("an interface that is no port", refused(switch, ["10", "10"], request), (sent, True, 1)))
     tried.append(("another link type", refused(switch, ["10"], captured([113], [(0, b"")])), ("", True, 1)))
     tried.append(("a cut capture", refused(switch, ["10", "10", "10"], request[:-1]), (f"2 {REQUEST}\n3 {REQUEST}\n", True, 1)))
+    tried += passed(switch, ["10"] * 255, [("as many ports as there can be", 255, REQUEST, [(port, REQUEST) for port in range(1, 255)])])
+    tried.append(("one port more", refused(switch, ["10"] * 256, request), ("", True, 1)))
     for words in (["0"], ["4095"], ["4096"], ["access"], ["10", ""]):
         tried.append((f"ports {words}", refused(switch, words, request), ("", True, 1)))
     for words in ([], ["5"], ["5", "4096"]):

@@ -18,6 +18,8 @@ ROWS = [
     ("of a VLAN that the port is not a member of", 1, f"{ALL}{STATION}81000014{BODY}", {}, "not a member"),
     ("a service tag, which is payload", 2, f"{ALL}{STATION}88a8000a{BODY}", {4: "8100001488a8000a"}, ""),
     ("a second tag, which is payload", 4, f"{ALL}{STATION}8100000a88a80014{BODY}", {1: "8100000a88a80014", 2: "8100000a88a80014", 3: "88a80014"}, ""),
+    ("a second tag of the same kind", 4, f"{ALL}{STATION}8100000a81000014{BODY}", {}, "second tag"),
+    ("a second tag at a port for untagged frames", 3, f"{ALL}{STATION}8100000081000014{BODY}", {}, "second tag"),
     ("without a tag at a port for tagged ones", 1, f"{ALL}{STATION}{BODY}", {}, "frame type"),
     ("with a tag at a port for untagged ones", 3, f"{ALL}{STATION}8100000a{BODY}", {}, "frame type"),
     ("the identifier 4095", 4, f"{ALL}{STATION}81000fff{BODY}", {}, "identifier 4095"),
@@ -35,15 +37,18 @@ class Bridge:
     """A switch with these ports, and the other end of each."""
 
     def __init__(self, network, switch, tools):
-        self.network, self.tools = network, tools
+        self.network, self.tools, self.ends = network, tools, {}
         for port in PORTS:
-            network.link("left", f"r{port}", "right", f"e{port}")
+            self.open(port)
         self.said = network.start("left", switch, [f"r{port}:{vlans}" for port, vlans in PORTS.items()])
         self.program = network.programs["left"]
-        self.ends = {port: network.socket("right", f"e{port}") for port in PORTS}
-        for one in self.ends.values():
-            one.setsockopt(263, 8, 1)  # SOL_PACKET, PACKET_AUXDATA
-            one.setsockopt(socket.SOL_SOCKET, 33, 8 << 20)  # SO_RCVBUFFORCE
+
+    def open(self, port):
+        """Links a port, and opens its other end."""
+        self.network.link("left", f"r{port}", "right", f"e{port}")
+        one = self.ends[port] = self.network.socket("right", f"e{port}")
+        one.setsockopt(263, 8, 1)  # SOL_PACKET, PACKET_AUXDATA
+        one.setsockopt(socket.SOL_SOCKET, 33, 8 << 20)  # SO_RCVBUFFORCE
 
     def numbers(self):
         """What the switch counts, by the number of a port."""
@@ -82,12 +87,19 @@ def rows(bridge):
 
 
 def long_frames(bridge):
-    """The longest frame that passes, and one that is longer."""
-    for length, counted in ((9232, {}), (9233, {"too long": 1})):
-        counts = bridge.after((3, bytes.fromhex(ALL + STATION + "88b5").ljust(length, b"\1")))
-        yield f"{length:,} bytes: what is counted", counts[3], {"received": 1, **counted}
-        yield f"{length:,} bytes: what leaves", {port: [len(it) // 2 for it in found] for port, found in bridge.left().items()}, (
-            {port: [length + 4] for port in (1, 2, 4)} if not counted else {})
+    """The longest frame that the interfaces take, and one that a port does not take, whose MTU is less."""
+    frame = bytes.fromhex(ALL + STATION + "88b5").ljust(9514, b"\1")
+    yield "the longest frame: what is counted", bridge.after((3, frame)), {3: {"received": 1}, **{port: {"sent": 1} for port in (1, 2, 4)}}
+    yield "the longest frame: what leaves", {port: [len(it) // 2 for it in found] for port, found in bridge.left().items()}, {
+        port: [9518] for port in (1, 2, 4)}
+    bridge.network.do("left", "ip", "link", "set", "r1", "mtu", "1500")
+    service = bytes.fromhex(ALL + STATION + "88a80014 88b5").ljust(1518, b"\1")
+    counts = bridge.after((3, service))
+    yield "a full frame with a service tag: what is counted", counts, {
+        1: {"not sent (longer than the MTU)": 1}, 2: {"sent": 1}, 3: {"received": 1}, 4: {"sent": 1}}
+    yield "a full frame with a service tag: what leaves", {port: [len(it) // 2 for it in found] for port, found in bridge.left().items()}, {
+        port: [1522] for port in (2, 4)}
+    bridge.network.do("left", "ip", "link", "set", "r1", "mtu", "9500")
 
 
 def burst(bridge):
@@ -134,11 +146,27 @@ def sent_by_the_host(bridge):
 
 
 def interface_down(bridge):
-    """A frame that can't leave by one of its ports."""
+    """A port that goes down: frames do not leave by it, and its stations are forgotten. Then it is back, or made anew."""
+    frame = bytes.fromhex(f"{OTHER}{STATION}{BODY}")
+    bridge.after((1, bytes.fromhex(f"{ALL}{OTHER}8100000a{BODY}")))
+    bridge.left()
+    bridge.after((3, frame))
+    yield "to a station at a port that is up", sorted(bridge.left()), [1]
     bridge.network.do("left", "ip", "link", "set", "r1", "down")
+    bridge.after((3, frame))
+    yield "to a station at a port that went down", sorted(bridge.left()), [2, 4]
     counts = bridge.after((3, bytes.fromhex(f"{ALL}{STATION}{BODY}")))
-    yield "a port that is down: what is counted", counts, {1: {"not sent": 1}, 2: {"sent": 1}, 3: {"received": 1}, 4: {"sent": 1}}
+    yield "a port that is down: what is counted", counts, {1: {}, 2: {"sent": 1}, 3: {"received": 1}, 4: {"sent": 1}}
     yield "a port that is down: what leaves", sorted(bridge.left()), [2, 4]
+    bridge.network.do("left", "ip", "link", "set", "r1", "up")
+    bridge.after((3, frame))
+    yield "a port that is up again", sorted(bridge.left()), [1, 2, 4]
+    bridge.network.do("left", "ip", "link", "delete", "r1")
+    bridge.after((3, frame))
+    yield "a port that was deleted", sorted(bridge.left()), [2, 4]
+    bridge.open(1)
+    bridge.after((3, frame))
+    yield "a port that was made again", sorted(bridge.left()), [1, 2, 4]
 
 
 def forwarded(network, switch, tools):

@@ -1,5 +1,5 @@
 """Runs the switch c/examples/switch.c on real interfaces: hosts in network namespaces, in two VLANs, and a trunk between two switches. Then
-tries frames at ports of each kind (`forwarding.py`), and compares it with the example switch, which reads captures: the same drawn frames
+tries frames at ports of each kind (`forwarding.py`), attacks (`attacked.py`), and compares it with the example switch, which reads captures: the same drawn frames
 leave by the same ports, with the same bytes.
 
     python3 tests/network.py LIBRARY EXAMPLE
@@ -26,6 +26,7 @@ import tempfile
 import threading
 import time
 
+from attacked import attacked
 from bridges import by_number, plain_frames, switched
 from forwarding import forwarded
 from programs import count
@@ -92,6 +93,9 @@ class Network:
     def start(self, space, switch, ports):
         """Starts a switch, and waits until it has its sockets."""
         words = ["ip", "netns", "exec", self.name(space), switch, *ports]
+        if space in self.programs:
+            self.programs[space].kill()
+            self.programs[space].wait()
         self.programs[space] = subprocess.Popen(words, stdout=subprocess.PIPE, text=True)
         return self.programs[space].stdout.readline()
 
@@ -261,6 +265,7 @@ def main():
             started = [(f"the switch {space} starts", network.start(space, switch, WORDS[space]), "switch: 3 ports\n") for space in WORDS]
             tried = [*started, *tried_in(network)]
             tried += forwarded(network, switch, sys.modules[__name__])
+            tried += attacked(network, switch, sys.modules[__name__])
             return count([*tried, *compared(network, switch, os.path.realpath(given.example))])
     finally:
         network.remove()

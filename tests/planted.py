@@ -61,7 +61,7 @@ def replaced(text, fault, new):
 def switched(faults):
     """What stands for one old text that some numbered faults have: the new text of the one that is planted, else the old text."""
     number, fault = faults[0]
-    is_c, is_statement = fault.file.endswith(".c"), fault.old.endswith(";")
+    is_c, is_statement = fault.file.endswith((".c", ".h")), fault.old.endswith(";")
     place = "" if is_c or "by_hand" in fault.file else "ether_tools::" if "/bin/" in fault.file else "crate::"
     text = fault.old
     for number, fault in faults:
@@ -75,7 +75,7 @@ def switched(faults):
 def plant(tree, numbered):
     """Puts all faults of C and Rust into a tree of the repository's files."""
     for path, listed in by(numbered, lambda fault: fault.file):
-        if path.endswith((".c", ".rs")):
+        if path.endswith((".c", ".h", ".rs")):
             text = read(f"{tree}/{path}")
             for _, same in by(listed, lambda fault: (fault.within or "", fault.old)):
                 text = replaced(text, same[0][1], switched(same))
@@ -149,7 +149,7 @@ class Trial:
         """The commands that test a file, the cheapest first."""
         tests, c_tests = f"{self.tree}/tests", f"{self.tree}/c/tests"
         examples = [f"{self.programs}/examples/{name}" for name in ("example_switch", "example_vlan_rewriter")]
-        if path.endswith("switch.c"):
+        if path.endswith(("switch.c", "interface.h")):
             return [[sys.executable, f"{tests}/switch.py", self.library], [sys.executable, f"{tests}/network.py", self.library, examples[0]]]
         if "by_hand" in path:
             return [[f"{self.folder}/tests"]]
@@ -188,7 +188,7 @@ def left_out(path):
     """Why a file's faults can't be tried here, or None."""
     if path.endswith(".js") and not os.path.isfile(f"{TOP}/page/out/index.html"):
         return "page/out/index.html is not there"
-    if path.endswith("switch.c") and (os.getuid() != 0 or not shutil.which("ip") or not shutil.which("ping")):
+    if path.endswith(("switch.c", "interface.h")) and (os.getuid() != 0 or not shutil.which("ip") or not shutil.which("ping")):
         return "network namespaces take root, ip and ping"
     return None
 

@@ -15,50 +15,60 @@ class Fault:
     why: str = ""
 
 
-SWITCH, BY_HAND, PACKAGE, PAGE = "c/examples/switch.c", "rust/etherpeel_c/by_hand.rs", "c/python/etherpeel/", "page/"
+SWITCH, INTERFACE = "c/examples/switch.c", "c/examples/interface.h"
+BY_HAND, PACKAGE, PAGE = "rust/etherpeel_c/by_hand.rs", "c/python/etherpeel/", "page/"
 STREAMS, NOTED, FILES, COPIES, PROGRESS, OPTIONS, TABLE, MEMORY, TEXT, INTERFACES, CAPTURE_MAIN, TOOL_MAIN = (
     f"rust/ether_tools/src/{name}.rs" for name in (
         "streams", "ether_text/noted", "ether_capture/capture_files", "ether_capture/copy_files", "ether_capture/progress_line",
         "ether_capture/options", "ether_capture/count_table", "ether_capture/heap_memory", "ether_capture/heap_text",
         "ether_capture/interface_buffer", "bin/ether_capture", "bin/ether_tool"))
-NUMBER = "*end || vid < 1 || vid > 4094"
+NUMBER = "!*end && number <= most"
 SHARED, MUTABLE = "core::slice::from_raw_parts(first, len)", "core::slice::from_raw_parts_mut(first, len)"
 BUFFERS = "veth takes each frame at once, so that the buffer for sending never fills"
+NOT_CUT = "no frame is longer than the room for it"
 NO_CALL_FAILS = "no call fails: the words are checked, and a frame that is passed on has its header"
 
 FAULTS = [
-    Fault(SWITCH, "text after a number", NUMBER, "vid < 1 || vid > 4094"),
-    Fault(SWITCH, "0 is accepted", NUMBER, "*end || vid > 4094"),
-    Fault(SWITCH, "4095 is accepted", NUMBER, "*end || vid < 1 || vid > 4095"),
-    Fault(SWITCH, "a sign or a space before a number", "!isdigit((unsigned char)*number)", "0"),
-    Fault(SWITCH, "a VLAN twice", "p->config.members[vid / 64] & bit", "0"),
-    Fault(SWITCH, "an interface twice", "other->index == p->index", "0"),
-    Fault(SWITCH, "an empty name", "!*p->name", "0"),
-    Fault(SWITCH, "no ingress filtering", "p->config.ingress_filtering = 1;", ""),
+    Fault(SWITCH, "text after a number", NUMBER, "number <= most"),
+    Fault(SWITCH, "0 is accepted", "!vid", "0"),
+    Fault(SWITCH, "4095 is accepted", "number_in(number, 4094)", "number_in(number, 4095)"),
+    Fault(SWITCH, "a sign or a space before a number", "isdigit((unsigned char)*word)", "1"),
+    Fault(SWITCH, "a VLAN twice", "etherpeel_ports_has(&vlans[vid].members, number_of(p))", "0"),
+    Fault(SWITCH, "an interface twice", "!strcmp(other->link.name, p->link.name)", "0"),
+    Fault(SWITCH, "an empty name", "!*p->link.name", "0"),
+    Fault(SWITCH, "no ingress filtering", "1", "0", ".ingress_filtering = 1"),
+    Fault(SWITCH, "a second tag passes", "1", "0", ".refuses_second_tag = 1"),
     Fault(SWITCH, "untagged frames at a port for tagged ones", "p->config.frame_types = ETHERPEEL_FRAMES_VLAN_TAGGED;", ""),
-    Fault(SWITCH, "tagged frames at a port for untagged ones", "p->config.frame_types = ETHERPEEL_FRAMES_UNTAGGED;", ""),
-    Fault(SWITCH, "tags that stay", "p->config.untagged[vid / 64] |= bit;", ""),
+    Fault(SWITCH, "tagged frames at a port for untagged ones", "p->config.frame_types = ETHERPEEL_FRAMES_UNTAGGED_AND_PRIORITY_TAGGED;", ""),
+    Fault(SWITCH, "tags that stay", "etherpeel_ports_add(&vlans[vid].untagged, number_of(p));", ""),
     Fault(SWITCH, "another port's VLAN", "p->config.pvid = (uint16_t)vid;", "p->config.pvid = 5;"),
-    Fault(SWITCH, "frames of no other station", "PACKET_MR_PROMISC", "PACKET_MR_ALLMULTI"),
-    Fault(SWITCH, "frames that it sent itself", "setsockopt(p->socket, SOL_PACKET, PACKET_IGNORE_OUTGOING, &one, sizeof one)", "0"),
-    Fault(SWITCH, "no tags of the kernel", "setsockopt(p->socket, SOL_PACKET, PACKET_AUXDATA, &one, sizeof one)", "0"),
-    Fault(SWITCH, "a small buffer for receiving", "setsockopt(p->socket, SOL_SOCKET, SO_RCVBUFFORCE, &bytes, sizeof bytes);", ""),
-    Fault(SWITCH, "a small buffer for sending", "setsockopt(p->socket, SOL_SOCKET, SO_SNDBUFFORCE, &bytes, sizeof bytes);", "", why=BUFFERS),
-    Fault(SWITCH, "0x88A8 put back as 0x8100", "!(aux.tp_status & TP_STATUS_VLAN_TPID_VALID)", "1"),
-    Fault(SWITCH, "a tag put back without its length", "*len += TAG;", ""),
+    Fault(SWITCH, "no port is isolated", "etherpeel_ports_add(&states.isolated, number_of(p));", ""),
+    Fault(SWITCH, "no ageing time", "bridge.ageing_time = value;", ""),
+    Fault(SWITCH, "no limit of a storm", "storm = value;", ""),
+    Fault(SWITCH, "one part for all VLANs", "vlans[i].first_bucket = next;", ""),
     Fault(SWITCH, "statuses that nobody looks at", "status != ETHERPEEL_DONE", "0", why=NO_CALL_FAILS),
-    Fault(SWITCH, "two forms in one buffer", "wanted[ETHERPEEL_FORM_UNTAGGED] && wanted[ETHERPEEL_FORM_TAGGED]", "0"),
+    Fault(SWITCH, "ports that are always up", "interface_is_up(&p->link)", "1"),
+    Fault(SWITCH, "stations of a port that went down", "done(etherpeel_switch_forget(table, BUCKETS, ETHERPEEL_FORGET_PORT, number_of(p), nobody));", ";"),
+    Fault(SWITCH, "two forms in one buffer", "tagged && untagged", "0"),
     Fault(SWITCH, "one buffer for all copies", "copies[i]", "copies[0]"),
-    Fault(SWITCH, "made ready for each port", "!ready[form]++", "1"),
-    Fault(SWITCH, "sent is counted by calls", "p->sent += (unsigned)sent;", "p->sent += 1;"),
-    Fault(SWITCH, "not sent is never counted", "p->unsent++;", ";"),
-    Fault(SWITCH, "without the last frame of 64", "i < found", "i < found && i < BATCH - 1"),
-    Fault(SWITCH, "cut frames forwarded", "messages[i].msg_hdr.msg_flags & MSG_TRUNC", "0"),
-    Fault(SWITCH, "discarded is never counted", "p->discarded[received.discarded]++;", ";"),
-    Fault(SWITCH, "ageing after 3 seconds", "AGEING_TIME", "3", "ETHERPEEL_BRIDGE_CUSTOMER, AGEING_TIME, table"),
-    Fault(SWITCH, "learned at the first port", "(uint16_t)from", "0"),
-    Fault(SWITCH, "no end on SIGTERM", "i < 3", "i < 2"),
+    Fault(SWITCH, "checksums at the old place", "a->restored + TAG - (int)at", "0", "to_do[0] = moved(&a->header, a->restored + TAG - (int)at)"),
+    Fault(SWITCH, "discarded is never counted", "p->discarded[received.reserved ? RESERVED : received.discarded]++;", ";"),
+    Fault(SWITCH, "a storm that is not counted", "p->discarded[STORM]++;", ";"),
+    Fault(SWITCH, "no end on SIGTERM", "i < 3", "i < 2", "for (int i = 0; i < 3; i++) sigaddset"),
     Fault(SWITCH, "an end on SIGUSR1", "came_in.ssi_signo == SIGUSR1", "0"),
+    Fault(INTERFACE, "frames of no other station", "PACKET_MR_PROMISC", "PACKET_MR_ALLMULTI"),
+    Fault(INTERFACE, "frames that it sent itself", "setsockopt(it->socket, SOL_PACKET, PACKET_IGNORE_OUTGOING, &one, sizeof one)", "0"),
+    Fault(INTERFACE, "no tags of the kernel", "setsockopt(it->socket, SOL_PACKET, PACKET_AUXDATA, &one, sizeof one)", "0"),
+    Fault(INTERFACE, "a small buffer for receiving", "setsockopt(it->socket, SOL_SOCKET, SO_RCVBUFFORCE, &bytes, sizeof bytes);", ""),
+    Fault(INTERFACE, "a small buffer for sending", "setsockopt(it->socket, SOL_SOCKET, SO_SNDBUFFORCE, &bytes, sizeof bytes);", "", why=BUFFERS),
+    Fault(INTERFACE, "an interface that is made again", "index != it->index", "it->socket < 0"),
+    Fault(INTERFACE, "0x88A8 put back as 0x8100", "!(aux.tp_status & TP_STATUS_VLAN_TPID_VALID)", "1"),
+    Fault(INTERFACE, "a tag put back without its length", "a->len += TAG;", ""),
+    Fault(INTERFACE, "checksums of frames with a tag", "a->restored = TAG;", ""),
+    Fault(INTERFACE, "without the last frame of 64", "i < found", "i < found && i < BATCH - 1"),
+    Fault(INTERFACE, "cut frames forwarded", "(messages[i].msg_hdr.msg_flags & MSG_TRUNC) != 0", "0", why=NOT_CUT),
+    Fault(INTERFACE, "sent is counted by calls", "sent > 0 ? (unsigned)sent : 1;", "1;", "SENT : interface_loss(errno)] += sent > 0 ? (unsigned)sent : 1;"),
+    Fault(INTERFACE, "why a frame is lost", "error == EMSGSIZE", "0"),
 
     Fault(BY_HAND, "a slice without its last value", SHARED, SHARED.replace("len", "len.saturating_sub(1)")),
     Fault(BY_HAND, "a slice from one value before", SHARED, SHARED.replace("first", "first.wrapping_sub(1)")),

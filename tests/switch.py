@@ -16,9 +16,10 @@ from programs import count
 
 TOP = os.path.dirname(os.path.dirname(os.path.abspath(__file__)))
 # Words that are refused, and what is said of them. `lo` is always there.
-USAGE = "usage: switch NAME:pvid=N .. NAME:tagged=N,N .., at most 64"
+USAGE = "usage: switch [--ageing SECONDS] [--storm N] NAME:pvid=N .. NAME:tagged=N,N .., at most 64"
 NUMBER = "'{}' is not the identifier of a VLAN, 1 to 4094"
-PART = "'{}' is neither pvid=N nor tagged=N,N, once each"
+PART = "'{}' is none of pvid=N, tagged=N,N and isolated"
+OPTION = "'{}' is not --ageing SECONDS or --storm N, with a number from 1"
 NUMBERS = ["", "0", "4095", "4096", "65541", "18446744073709551621", "5x", "x", " 5", "+5", "-5", "5 ", "0x5"]
 REFUSED = [
     *((f"lo:pvid={it}", f"lo: {NUMBER.format(it)}") for it in [*NUMBERS, "5,6"]),
@@ -29,6 +30,8 @@ REFUSED = [
     ("lo:pvid=5:tagged=4,5", "lo: VLAN 5 is given twice"),
     ("lo:tagged=4,5:pvid=5", "lo: VLAN 5 is given twice"),
     ("lo:pvid=5:pvid=6", f"lo: {PART.format('pvid=6')}"),
+    ("lo:pvid=5:isolated:isolated", f"lo: {PART.format('isolated')}"),
+    ("lo:isolated", "lo: needs VLANs: NAME:pvid=N, NAME:tagged=N,N or both"),
     ("lo:tagged=5:tagged=6", f"lo: {PART.format('tagged=6')}"),
     *((f"lo:{it}", f"lo: {PART.format(it)}") for it in ["", "pvid", "tagged", "5", "PVID=5", " pvid=5"]),
     ("lo::pvid=5", f"lo: {PART.format('')}"),
@@ -41,10 +44,13 @@ REFUSED_TOGETHER = [
     ([], USAGE),
     (["lo:pvid=5"] * 65, USAGE),
     (["lo:pvid=5", "lo:pvid=6"], "lo: the interface is given twice"),
-    (["lo:pvid=5", "lo:tagged="], f"lo: {NUMBER.format('')}"),
+    (["lo:pvid=5", "lo:tagged="], "lo: the interface is given twice"),
+    *(([*given, "lo:pvid=5"], OPTION.format(given[0])) for given in (["--ageing", "0"], ["--storm", "x"], ["--storm", "4294967296"], ["--limit", "5"])),
+    (["--storm"], OPTION.format("--storm")),
+    (["--storm", "5"], USAGE),
 ]
 # Words that are right, for an interface that is not there.
-RIGHT = ["none:pvid=1", "none:pvid=4094", "none:tagged=1,4094", "none:pvid=5:tagged=4,6", "none:tagged=63,64:pvid=65"]
+RIGHT = ["none:pvid=1", "none:pvid=4094", "none:tagged=1,4094", "none:pvid=5:tagged=4,6", "none:tagged=63,64:pvid=65", "none:pvid=5:isolated"]
 
 
 def built(library, folder):

@@ -2,7 +2,7 @@
 hand (bench/switch/calls.c)."""
 from . import builds, callgrind
 
-PORTS, FRAMES = [2, 64], 4096
+PORTS, STATIONS, FRAMES = [1, 8, 64], 64, 4096
 
 
 def rows(build, room):
@@ -10,6 +10,6 @@ def rows(build, room):
     program = builds.compiled(room, "switch_calls", [f"{builds.TOP}/bench/switch/calls.c", build.calls])
     for ports in PORTS:
         for kind in ("unicast", "flood"):
-            found = callgrind.of_functions([program, str(ports), kind], ["switched", "by_hand"])
-            here, hand = (found[name] / (FRAMES + ports) for name in ("switched", "by_hand"))
-            yield f"{'a known station' if kind == 'unicast' else 'an unknown station'}, {ports} ports", here, hand
+            found = callgrind.of_functions([program, str(ports), str(STATIONS), kind], ["switched", "by_hand"])
+            here, hand = (found[name] / (FRAMES + STATIONS) for name in ("switched", "by_hand"))
+            yield f"{'a known station' if kind == 'unicast' else 'an unknown station'}, {ports} port{'s' * (ports > 1)}", here, hand

@@ -1,142 +1,134 @@
 /* A switch with VLANs between network interfaces of Linux. Needs root, or CAP_NET_RAW.
  *
- *     switch veth0:pvid=5 veth1:pvid=6 trunk:tagged=5,6
+ *     switch [--ageing SECONDS] [--storm N] veth0:pvid=5 veth1:pvid=6 trunk:tagged=5,6
  *
  * Each word is an interface and its VLANs. Frames of the VLAN `pvid` come and leave without a tag,
  * those of the VLANs `tagged` with one; an interface may have both, as eth0:pvid=1:tagged=5,6.
+ * Ports that are `:isolated` exchange no frames. A frame with a second tag of 0x8100 is discarded.
+ * With --storm a port takes at most N frames to groups a second. A station is forgotten if it sends
+ * nothing for 300 seconds, or those of --ageing, and when its port goes down. A port that was
+ * deleted is used again once it is back.
+ * Nothing stops a frame in a loop: there must be one way alone from each port to each other one.
  * The status is 2 if a word is wrong, and 1 if an interface can't be used.
- * Numbers of frames are printed on SIGUSR1, and at the end on SIGINT or SIGTERM. An interface that
- * leaves checksums or segments to hardware, as veth does: `ethtool -K NAME tx off gro off`. */
-#define _GNU_SOURCE
-#include <arpa/inet.h>
+ * Numbers of frames are printed on SIGUSR1, and at the end on SIGINT or SIGTERM. */
+#include "interface.h"
 #include <ctype.h>
 #include <err.h>
 #include <etherpeel.h>
-#include <linux/if_ether.h>
-#include <linux/if_packet.h>
-#include <net/if.h>
+#include <ifaddrs.h>
 #include <poll.h>
 #include <signal.h>
 #include <stdio.h>
 #include <stdlib.h>
-#include <string.h>
+#include <sys/random.h>
 #include <sys/signalfd.h>
-#include <sys/socket.h>
 #include <time.h>
-#include <unistd.h>
 
-enum { PORTS = 64, BATCH = 64, BUCKETS = 4096, AGEING_TIME = 300, TAG = 4, ROOM = 9232 };
+enum { PORTS = 64, BUCKETS = 65536, VLANS = 4095 };
 
-/* Frames that are received, or copies of them, with place for two tags before each. */
-typedef uint8_t frames[BATCH][2 * TAG + ROOM];
+/* Why a frame is discarded: the reasons of etherpeel_received, and two more. */
+enum { RESERVED = ETHERPEEL_DISCARDED_PORT_STATE + 1, STORM, REASONS };
+static const char *const reasons[REASONS] = {
+    "", "no header", "cut tag", "identifier 4095", "source", "frame type", "second tag",
+    "not a member", "port state", "reserved address", "storm"};
 
 typedef struct port {
-    const char *name;
-    int index, socket;
+    interface link;
     etherpeel_port config;
-    struct iovec iov[BATCH]; /* what leaves by the port */
-    struct mmsghdr queue[BATCH];
-    unsigned queued;
-    uintmax_t received, sent, unsent, cut, discarded[8];
+    int up;
+    unsigned groups; /* frames to groups that came in this second */
+    uintmax_t discarded[REASONS];
 } port;
 
 static port ports[PORTS];
-static unsigned count;
+static unsigned count, storm;
 static etherpeel_bucket table[BUCKETS];
-static frames came, copies;
+static etherpeel_switch_vlan vlans[VLANS];
+static etherpeel_port_states states;
+static etherpeel_static_entry no_entry;
+static etherpeel_bridge bridge = {.ports = &states, .vlans = vlans, .vlan_count = VLANS,
+                                  .static_entries = &no_entry, .ageing_time = 300,
+                                  .kind = ETHERPEEL_BRIDGE_CUSTOMER};
+static arrival came[BATCH];
+static uint8_t copies[BATCH][sizeof came[0].room];
+static struct virtio_net_hdr left_to_do[BATCH][2]; /* of a frame's two forms */
 
-/* Adds the VLAN of a number, "5", to the set of members, or to those without a tag as well. */
-static void add_vlan(port *p, const char *number, int untagged) {
+static uint8_t number_of(const port *p) { return (uint8_t)(p - ports); }
+
+/* The number in a word, up to `most`; 0 if it is none. */
+static unsigned number_in(const char *word, unsigned long most) {
     char *end;
-    const unsigned long vid = strtoul(number, &end, 10);
-    if (!isdigit((unsigned char)*number) || *end || vid < 1 || vid > 4094)
-        errx(2, "%s: '%s' is not the identifier of a VLAN, 1 to 4094", p->name, number);
-    const uint64_t bit = (uint64_t)1 << vid % 64;
-    if (p->config.members[vid / 64] & bit)
-        errx(2, "%s: VLAN %lu is given twice", p->name, vid);
-    p->config.members[vid / 64] |= bit;
+    const unsigned long number = strtoul(word, &end, 10);
+    return isdigit((unsigned char)*word) && !*end && number <= most ? (unsigned)number : 0;
+}
+
+/* Adds the port to the members of the VLAN of a number, "5", and to those without a tag as well. */
+static void add_vlan(port *p, const char *number, int untagged) {
+    const unsigned vid = number_in(number, 4094);
+    if (!vid)
+        errx(2, "%s: '%s' is not the identifier of a VLAN, 1 to 4094", p->link.name, number);
+    if (etherpeel_ports_has(&vlans[vid].members, number_of(p)))
+        errx(2, "%s: VLAN %u is given twice", p->link.name, vid);
+    etherpeel_ports_add(&vlans[vid].members, number_of(p));
     if (untagged) {
-        p->config.untagged[vid / 64] |= bit;
+        etherpeel_ports_add(&vlans[vid].untagged, number_of(p));
         p->config.pvid = (uint16_t)vid;
     }
 }
 
-/* Adds the VLANs of "5,6". */
-static void add_tagged(port *p, char *numbers) {
-    while (numbers) add_vlan(p, strsep(&numbers, ","), 0);
-}
-
 /* Reads a word of the command line: the name of an interface, and its VLANs. */
 static void set_up(port *p, char *word) {
-    p->name = strsep(&word, ":");
-    if (!*p->name)
+    int has_pvid = 0, has_tagged = 0, isolated = 0;
+    p->link.name = strsep(&word, ":");
+    p->link.socket = -1;
+    p->config = (etherpeel_port){.pvid = 1, .refuses_second_tag = 1, .ingress_filtering = 1};
+    if (!*p->link.name)
         errx(2, "the name of an interface is empty");
-    p->config.ingress_filtering = 1;
-    int has_pvid = 0, has_tagged = 0;
+    for (const port *other = ports; other < p; other++)
+        if (!strcmp(other->link.name, p->link.name))
+            errx(2, "%s: the interface is given twice", p->link.name);
     for (char *part; (part = strsep(&word, ":"));) {
         if (!strncmp(part, "pvid=", 5) && !has_pvid++)
             add_vlan(p, part + 5, 1);
         else if (!strncmp(part, "tagged=", 7) && !has_tagged++)
-            add_tagged(p, part + 7);
+            for (char *list = part + 7; list;) add_vlan(p, strsep(&list, ","), 0);
+        else if (!strcmp(part, "isolated") && !isolated++)
+            etherpeel_ports_add(&states.isolated, number_of(p));
         else
-            errx(2, "%s: '%s' is neither pvid=N nor tagged=N,N, once each", p->name, part);
+            errx(2, "%s: '%s' is none of pvid=N, tagged=N,N and isolated", p->link.name, part);
     }
     if (!has_pvid && !has_tagged)
-        errx(2, "%s: needs VLANs: NAME:pvid=N, NAME:tagged=N,N or both", p->name);
-    if (!has_pvid) {
-        p->config.pvid = 1; /* of no use: frames without a VLAN are not taken */
+        errx(2, "%s: needs VLANs: NAME:pvid=N, NAME:tagged=N,N or both", p->link.name);
+    if (!has_pvid)
         p->config.frame_types = ETHERPEEL_FRAMES_VLAN_TAGGED;
-    } else if (!has_tagged) {
-        p->config.frame_types = ETHERPEEL_FRAMES_UNTAGGED;
+    else if (!has_tagged)
+        p->config.frame_types = ETHERPEEL_FRAMES_UNTAGGED_AND_PRIORITY_TAGGED;
+}
+
+/* Reads the options, and returns the index of the first word that is none. */
+static int read_options(int argc, char **argv) {
+    int i = 1;
+    for (; i < argc && !strncmp(argv[i], "--", 2); i += 2) {
+        const unsigned value = i + 1 < argc ? number_in(argv[i + 1], UINT32_MAX) : 0;
+        if (!strcmp(argv[i], "--ageing") && value)
+            bridge.ageing_time = value;
+        else if (!strcmp(argv[i], "--storm") && value)
+            storm = value;
+        else
+            errx(2, "'%s' is not --ageing SECONDS or --storm N, with a number from 1", argv[i]);
     }
+    return i;
 }
 
-/* Looks the interface of a port up, which no port before it may have. */
-static void look_up(port *p) {
-    p->index = (int)if_nametoindex(p->name);
-    if (!p->index)
-        err(1, "%s", p->name);
-    for (const port *other = ports; other < p; other++)
-        if (other->index == p->index)
-            errx(2, "%s: the interface is given twice", p->name);
-}
-
-/* Opens a socket for the frames that come in, whose outer tag is in PACKET_AUXDATA. */
-static void open_socket(port *p) {
-    const int one = 1, bytes = 8 << 20;
-    const struct packet_mreq all = {.mr_ifindex = p->index, .mr_type = PACKET_MR_PROMISC};
-    const struct sockaddr_ll address = {
-        .sll_family = AF_PACKET, .sll_protocol = htons(ETH_P_ALL), .sll_ifindex = p->index};
-    if ((p->socket = socket(AF_PACKET, SOCK_RAW, 0)) < 0)
-        err(1, "%s", p->name);
-    setsockopt(p->socket, SOL_SOCKET, SO_RCVBUFFORCE, &bytes, sizeof bytes);
-    setsockopt(p->socket, SOL_SOCKET, SO_SNDBUFFORCE, &bytes, sizeof bytes);
-    if (setsockopt(p->socket, SOL_PACKET, PACKET_AUXDATA, &one, sizeof one) ||
-        setsockopt(p->socket, SOL_PACKET, PACKET_IGNORE_OUTGOING, &one, sizeof one) ||
-        setsockopt(p->socket, SOL_PACKET, PACKET_ADD_MEMBERSHIP, &all, sizeof all) ||
-        bind(p->socket, (const struct sockaddr *)&address, sizeof address))
-        err(1, "%s", p->name);
-}
-
-/* The frame as it came, and its length: 4 bytes earlier, if the kernel took its tag off. */
-static uint8_t *with_tag(struct msghdr *message, uint8_t *frame, size_t *len) {
-    for (struct cmsghdr *it = CMSG_FIRSTHDR(message); it; it = CMSG_NXTHDR(message, it)) {
-        struct tpacket_auxdata aux;
-        if (it->cmsg_level != SOL_PACKET || it->cmsg_type != PACKET_AUXDATA || *len < 12)
-            continue;
-        memcpy(&aux, CMSG_DATA(it), sizeof aux);
-        if (!(aux.tp_status & TP_STATUS_VLAN_VALID))
-            continue;
-        if (!(aux.tp_status & TP_STATUS_VLAN_TPID_VALID))
-            aux.tp_vlan_tpid = ETH_P_8021Q;
-        const uint8_t tag[TAG] = {(uint8_t)(aux.tp_vlan_tpid >> 8), (uint8_t)aux.tp_vlan_tpid,
-                                  (uint8_t)(aux.tp_vlan_tci >> 8), (uint8_t)aux.tp_vlan_tci};
-        memmove(frame - TAG, frame, 12);
-        memcpy(frame - TAG + 12, tag, TAG);
-        *len += TAG;
-        return frame - TAG;
-    }
-    return frame;
+/* Gives each VLAN that has ports a part of the table. */
+static void share_table(void) {
+    uint32_t used = 0, next = 0;
+    for (int i = 1; i < VLANS; i++) used += vlans[i].members.words[0] != 0;
+    for (int i = 1; i < VLANS; i++)
+        if (vlans[i].members.words[0]) {
+            vlans[i].first_bucket = next;
+            next += vlans[i].buckets = BUCKETS / used;
+        }
 }
 
 /* No call fails: the words have been checked, and a frame that is passed on has its header. */
@@ -145,132 +137,161 @@ static void done(uint32_t status) {
         errx(1, "a call returned the status %u", (unsigned)status);
 }
 
-static void queue(port *p, uint8_t *frame, size_t len) {
-    struct iovec *iov = &p->iov[p->queued];
-    *iov = (struct iovec){frame, len};
-    p->queue[p->queued++] = (struct mmsghdr){.msg_hdr = {.msg_iov = iov, .msg_iovlen = 1}};
+/* A port that is up learns and forwards; when it goes down, its stations are forgotten. */
+static void look_at(port *p) {
+    static const uint8_t nobody[6];
+    const int up = interface_is_up(&p->link);
+    if (up == p->up)
+        return;
+    p->up = up;
+    states.forwarding.words[0] ^= (uint64_t)1 << number_of(p);
+    states.learning = states.forwarding;
+    if (!up)
+        done(etherpeel_switch_forget(table, BUCKETS, ETHERPEEL_FORGET_PORT, number_of(p), nobody));
+}
+
+/* An interface with an address hands its frames to the host as well. */
+static void warn_of_addresses(void) {
+    struct ifaddrs *all, *it;
+    if (getifaddrs(&all))
+        return;
+    for (it = all; it; it = it->ifa_next)
+        for (const port *p = ports; p < ports + count; p++)
+            if (it->ifa_addr && it->ifa_addr->sa_family != AF_PACKET &&
+                !strcmp(it->ifa_name, p->link.name))
+                warnx("%s: has an address, so the host answers there", p->link.name);
+    freeifaddrs(all);
+}
+
+static void queue(const etherpeel_ports *set, struct virtio_net_hdr *to_do, uint8_t *frame,
+                  size_t len) {
+    for (uint64_t left = set->words[0]; left; left &= left - 1)
+        interface_queue(&ports[__builtin_ctzll(left)].link, to_do, frame, len);
 }
 
 /* Lets a frame leave by its ports: made ready once for each form, of two forms from a copy. */
-static void pass_on(const etherpeel_received *received, uint8_t *frame, size_t len, uint8_t *copy) {
-    uint32_t forms[PORTS] = {0};
-    unsigned wanted[3] = {0};
-    uint8_t *buffers[3] = {NULL, frame - TAG, frame - TAG};
-    size_t begins[3] = {0};
-    for (unsigned to = 0; to < count; to++) {
-        done(etherpeel_switch_form(received, (uint16_t)to, &ports[to].config, &forms[to]));
-        wanted[forms[to]]++;
+static void pass_on(const etherpeel_received *received, const arrival *a, uint8_t *copy,
+                    struct virtio_net_hdr to_do[2]) {
+    const int tagged = received->tagged.words[0] != 0, untagged = received->untagged.words[0] != 0;
+    const size_t len = TAG + a->len;
+    uint8_t *buffer = a->frame - TAG;
+    size_t at;
+    if (tagged && untagged)
+        memcpy(copy, buffer, len);
+    if (tagged) {
+        done(etherpeel_switch_tagged(received, buffer, len, &at));
+        to_do[0] = moved(&a->header, a->restored + TAG - (int)at);
+        queue(&received->tagged, &to_do[0], buffer + at, len - at);
+        buffer = copy;
     }
-    if (wanted[ETHERPEEL_FORM_UNTAGGED] && wanted[ETHERPEEL_FORM_TAGGED])
-        buffers[ETHERPEEL_FORM_TAGGED] = memcpy(copy, frame - TAG, len + TAG);
-    int ready[3] = {0};
-    for (unsigned to = 0; to < count; to++) {
-        const uint32_t form = forms[to];
-        if (form == ETHERPEEL_FORM_NONE)
-            continue;
-        if (!ready[form]++)
-            done(etherpeel_switch_send(received, (uint16_t)to, &ports[to].config, buffers[form],
-                                       TAG + len, &begins[form]));
-        queue(&ports[to], buffers[form] + begins[form], TAG + len - begins[form]);
+    if (untagged) {
+        done(etherpeel_switch_untagged(received, buffer, len, &at));
+        to_do[1] = moved(&a->header, a->restored + TAG - (int)at);
+        queue(&received->untagged, &to_do[1], buffer + at, len - at);
     }
-}
-
-static void send_queued(port *p) {
-    unsigned at = 0;
-    while (at < p->queued) {
-        const int sent = sendmmsg(p->socket, p->queue + at, p->queued - at, MSG_DONTWAIT);
-        if (sent > 0)
-            p->sent += (unsigned)sent;
-        else
-            p->unsent++; /* the first of these: the queue is full, or the interface is down */
-        at += sent > 0 ? (unsigned)sent : 1;
-    }
-    p->queued = 0;
 }
 
 /* Takes the frames that wait at a port, and sends on what leaves. */
-static void serve(unsigned from, uint64_t now) {
-    static struct iovec iov[BATCH];
-    static struct mmsghdr messages[BATCH];
-    static _Alignas(16) uint8_t control[BATCH][CMSG_SPACE(sizeof(struct tpacket_auxdata))];
-    port *p = &ports[from];
-    for (int i = 0; i < BATCH; i++) {
-        iov[i] = (struct iovec){came[i] + 2 * TAG, ROOM};
-        messages[i].msg_hdr = (struct msghdr){.msg_iov = &iov[i],
-                                              .msg_iovlen = 1,
-                                              .msg_control = control[i],
-                                              .msg_controllen = sizeof control[i]};
-    }
-    const int found = recvmmsg(p->socket, messages, BATCH, MSG_DONTWAIT, NULL);
+static void serve(port *p, uint32_t now) {
+    const int found = interface_receive(&p->link, came);
     for (int i = 0; i < found; i++) {
+        const arrival *a = &came[i];
         etherpeel_received received;
-        size_t len = messages[i].msg_len;
-        uint8_t *frame = with_tag(&messages[i].msg_hdr, came[i] + 2 * TAG, &len);
-        p->received++;
-        if (messages[i].msg_hdr.msg_flags & MSG_TRUNC) {
-            p->cut++;
+        if (!a->len)
+            continue;
+        if (storm && (a->frame[0] & 1) && ++p->groups > storm) {
+            p->discarded[STORM]++;
             continue;
         }
-        done(etherpeel_switch_receive(ETHERPEEL_BRIDGE_CUSTOMER, AGEING_TIME, table, BUCKETS, now,
-                                      (uint16_t)from, &p->config, frame, len, &received));
-        if (received.discarded)
-            p->discarded[received.discarded]++;
+        done(etherpeel_switch_receive(&bridge, table, BUCKETS, now, number_of(p), &p->config,
+                                      a->frame, a->len, &received));
+        if (received.discarded || received.reserved)
+            p->discarded[received.reserved ? RESERVED : received.discarded]++;
         else
-            pass_on(&received, frame, len, copies[i]);
+            pass_on(&received, a, copies[i], left_to_do[i]);
     }
-    for (unsigned to = 0; to < count; to++)
-        send_queued(&ports[to]);
+    for (unsigned to = 0; to < count; to++) interface_flush(&ports[to].link);
 }
 
 static void print_numbers(void) {
-    static const char *const reasons[8] = {"", "no header", "cut tag", "identifier 4095", "source",
-                                           "frame type", "not a member", "reserved address"};
-    for (const port *p = ports; p < ports + count; p++) {
-        printf("%s: received %ju, sent %ju, not sent %ju, too long %ju", p->name, p->received,
-               p->sent, p->unsent, p->cut);
-        for (int reason = 1; reason < 8; reason++)
-            if (p->discarded[reason])
-                printf(", discarded (%s) %ju", reasons[reason], p->discarded[reason]);
+    for (port *p = ports; p < ports + count; p++) {
+        interface_count_dropped(&p->link);
+        const uintmax_t *counts = p->link.counts;
+        printf("%s: received %ju, sent %ju", p->link.name, counts[RECEIVED], counts[SENT]);
+        for (int i = DROPPED; i < LOSSES; i++)
+            if (counts[i])
+                printf(", %s %ju", losses[i], counts[i]);
+        for (int i = 1; i < REASONS; i++)
+            if (p->discarded[i])
+                printf(", discarded (%s) %ju", reasons[i], p->discarded[i]);
         printf("\n");
     }
     fflush(stdout);
 }
 
-int main(int argc, char **argv) {
+/* Opens all ports, and what is waited for at a signal. */
+static int open_all(void) {
     static const int numbers[] = {SIGUSR1, SIGINT, SIGTERM};
-    struct pollfd waits[PORTS + 1];
-    struct signalfd_siginfo came_in = {0};
     sigset_t signals;
-    if (!etherpeel_fits())
-        errx(1, "the library is not of the version of etherpeel.h");
-    if (argc < 2 || argc - 1 > PORTS)
-        errx(2, "usage: switch NAME:pvid=N .. NAME:tagged=N,N .., at most %d", PORTS);
-    for (int i = 1; i < argc; i++) {
-        set_up(&ports[i - 1], argv[i]);
-        look_up(&ports[i - 1]);
+    for (port *p = ports; p < ports + count; p++) {
+        look_at(p);
+        if (p->link.socket < 0)
+            err(1, "%s", p->link.name);
     }
-    for (; count < (unsigned)argc - 1; count++) {
-        open_socket(&ports[count]);
-        waits[count] = (struct pollfd){.fd = ports[count].socket, .events = POLLIN};
-    }
+    warn_of_addresses();
     sigemptyset(&signals);
     for (int i = 0; i < 3; i++) sigaddset(&signals, numbers[i]);
-    sigprocmask(SIG_BLOCK, &signals, NULL);
-    waits[count] = (struct pollfd){.fd = signalfd(-1, &signals, 0), .events = POLLIN};
-    if (waits[count].fd < 0)
+    const int fd = sigprocmask(SIG_BLOCK, &signals, NULL) ? -1 : signalfd(-1, &signals, 0);
+    if (fd < 0)
         err(1, "signalfd");
+    return fd;
+}
+
+/* Serves the ports until SIGINT or SIGTERM comes, and looks at them each second, and when an
+ * interface changes. */
+static void run(int signals) {
+    struct pollfd waits[PORTS + 2];
+    struct signalfd_siginfo came_in = {0};
+    time_t looked = 0;
     printf("switch: %u ports\n", count);
     fflush(stdout);
+    waits[count] = (struct pollfd){.fd = signals, .events = POLLIN};
+    waits[count + 1] = (struct pollfd){.fd = interfaces_watched(), .events = POLLIN};
     while (came_in.ssi_signo == 0 || came_in.ssi_signo == SIGUSR1) {
         struct timespec now;
-        const int found = poll(waits, count + 1, -1);
+        for (unsigned i = 0; i < count; i++)
+            waits[i] = (struct pollfd){.fd = ports[i].link.socket, .events = POLLIN};
+        const int found = poll(waits, count + 2, 1000);
         clock_gettime(CLOCK_MONOTONIC, &now);
+        for (unsigned i = 0; i < count; i++) {
+            if (now.tv_sec != looked || waits[count + 1].revents)
+                look_at(&ports[i]);
+            if (now.tv_sec != looked)
+                ports[i].groups = 0;
+        }
+        while (recv(waits[count + 1].fd, copies, sizeof copies, 0) > 0) continue;
+        looked = now.tv_sec;
         for (unsigned i = 0; found > 0 && i < count; i++)
             if (waits[i].revents)
-                serve(i, (uint64_t)now.tv_sec);
+                serve(&ports[i], (uint32_t)now.tv_sec);
         if (found > 0 && waits[count].revents &&
-            read(waits[count].fd, &came_in, sizeof came_in) == sizeof came_in)
+            read(signals, &came_in, sizeof came_in) == sizeof came_in)
             print_numbers();
     }
+}
+
+int main(int argc, char **argv) {
+    if (!etherpeel_fits())
+        errx(1, "the library is not of the version of etherpeel.h");
+    const int first = read_options(argc, argv);
+    if (first >= argc || argc - first > PORTS)
+        errx(2, "usage: switch [--ageing SECONDS] [--storm N] NAME:pvid=N .. NAME:tagged=N,N .., "
+                "at most %d", PORTS);
+    for (int i = first; i < argc; i++) set_up(&ports[i - first], argv[i]);
+    count = (unsigned)(argc - first);
+    share_table();
+    if (getrandom(bridge.key, sizeof bridge.key, 0) != sizeof bridge.key)
+        err(1, "getrandom");
+    run(open_all());
     return 0;
 }

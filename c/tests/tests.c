@@ -1664,10 +1664,14 @@ int main(void) {
     no_frame();
     drawn_frames();
     layout_of_a_switch();
+    sets_of_ports();
     learning();
+    forgetting();
+    ports_of_a_switch();
     leaving();
     discarding();
     unfit_ports();
+    unfit_numbers_of_a_received_frame();
     printf("%u passed, %u failed\n", passed, failed);
     return failed ? 1 : 0;
 }

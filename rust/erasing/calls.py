@@ -9,16 +9,24 @@ def layouts(tokens):
         respell(tokens, end - 3, end - 2, "assert")
 
 
+def is_array(tokens, i):
+    """Whether the type between the square brackets at `i` has a length."""
+    j, end = i + 1, closing(tokens, i)
+    while j < end and tokens[j].text != ";":
+        j = closing(tokens, j) + 1 if tokens[j].text in ("(", "[") else j + 1
+    return j < end
+
+
 def slices_of(tokens, i):
     """The slices among the parameters between the brackets at `i`, the last first: for each the place of its name, that
-    after its type, and its pointer."""
+    after its type, and its pointer. A reference to an array is a pointer already."""
     for at in range(closing(tokens, i) - 1, i, -1):
         if [t.text for t in tokens[at + 1:at + 3]] != [":", "&"]:
             continue
         to = at + 3 + (tokens[at + 3].kind == "life")
         is_mutable = tokens[to].text == "mut"
         to += is_mutable
-        if tokens[to].text == "[":
+        if tokens[to].text == "[" and not is_array(tokens, to):
             end = closing(tokens, to)
             element = "".join(t.before + t.text for t in tokens[to + 1:end])
             yield at, end + 1, f"*{'mut' if is_mutable else 'const'} {element}"

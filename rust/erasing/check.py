@@ -126,7 +126,7 @@ def check_word(tokens, i, names):
     """Refuses a word that is neither known nor declared, where it stands."""
     token, before, after = tokens[i], tokens[i - 1].text if i else "", tokens[i + 1].text
     word = token.text
-    if word in known.REFUSED - names.words:
+    if word in known.REFUSED - names.words and not (word in known.WEAK and before in ("fn", ".")):
         raise Refused(token.line, f"the word {word}")
     if word == "fn" and tokens[i + 1].kind != "word":
         raise Refused(token.line, "the type of a function")

@@ -12,8 +12,10 @@ REFUSED = set(
     unsafe unsized virtual where yield ghost requires ensures Drop Model prove prove_eq prove_ne rt
     i8 i16 i32 i64 i128 isize f32 f64""".split()
 )
+# A keyword only where an item begins. It may be the name of a function.
+WEAK = {"union"}
 TYPES = set("u8 u16 u32 u64 u128 usize bool str char".split())
-MARKS = set(", @ ( ) :: { } : ; . & [ ] < > = => -> # + ! .. ..= * | ? - % /".split())
+MARKS = set(", @ ( ) :: { } : ; . & [ ] < > = => -> # + ! .. ..= * | ? - % / ^".split())
 # A number with the type that may follow it.
 NUMBER = r"(?:0x[0-9A-Fa-f_]+|0b[01_]+|[0-9][0-9_]*)(?:u8|u16|u32|u64|u128|usize)?"
 
@@ -33,7 +35,7 @@ PATHS = set(
     """arrayvec::ArrayVec core::error::Error core::fmt core::fmt::Debug core::fmt::Display core::fmt::Write
     core::hash::Hash core::hash::Hasher core::net::Ipv4Addr core::ops::Range
     fmt::Debug fmt::Display fmt::Display::fmt fmt::Formatter fmt::Result fmt::Write ArrayVec::new Ipv4Addr::new char::from
-    u16::from u32::from u64::from u128::from usize::from u16::try_from u32::try_from u32::MAX usize::MAX
+    u8::from u16::from u32::from u64::from u128::from usize::from u16::try_from u32::try_from u32::MAX usize::MAX
     u16::from_be_bytes u32::from_be_bytes u64::from_be_bytes
     u16::from_le_bytes u32::from_le_bytes u64::from_le_bytes""".split()
 )
@@ -41,10 +43,10 @@ PATHS = set(
 GIVEN = set("default from try_from".split())
 METHODS = set(
     """and_then as_bytes as_mut_slice as_ref as_slice as_str clear clone contains copied copy_from_slice copy_within
-    debug_struct div_ceil enumerate field find finish first_chunk first_chunk_mut fmt get hash insert is_empty is_err is_full
-    is_none is_ok is_some iter last_chunk len map max min next ok or overflowing_add pop position pow push retain rev
-    saturating_add saturating_sub split_at_mut split_first split_last split_once then_some to_be_bytes to_digit to_le_bytes truncate try_extend_from_slice
-    unwrap unwrap_or write_str""".split()
+    debug_struct div_ceil enumerate field find finish first_chunk first_chunk_mut fmt get hash is_empty is_err is_full
+    is_none is_ok is_ok_and is_some iter iter_mut last_chunk len map max min next ok or overflowing_add pop position
+    pow push rev rotate_left saturating_add saturating_sub split_at_mut split_first split_last split_once then_some
+    to_be_bytes to_digit to_le_bytes try_extend_from_slice unwrap unwrap_or wrapping_add write_str""".split()
 )
 
 # What tests use besides: they have std, and `tests/kit` of the result stands in for the runtime.
@@ -53,11 +55,11 @@ TEST_NAMES = set("ArrayString kit Fail Abort HostRuntime AllocError AllocGlobal 
 TEST_PATHS = set(
     """arrayvec::ArrayString ArrayString::new std::cmp::Ordering std::error::Error std::fmt std::fmt::Debug std::fmt::Display
     std::fmt::Write std::hash::DefaultHasher std::hash::Hash std::hash::Hasher
-    std::net::Ipv4Addr std::ops::Range usize::saturating_add u8::from DefaultHasher::new
+    std::net::Ipv4Addr std::ops::Range usize::saturating_add DefaultHasher::new
     Ordering::Less Ordering::Equal Ordering::Greater""".split()
 )
 TEST_METHODS = set(
-    """all alloc any count err first_mut get_mut into iter_mut last map_err ok_or skip split_at starts_with
+    """all alloc any count err first_mut get_mut into last map_err ok_or skip split_at starts_with
     zip""".split()
 )
 
@@ -65,8 +67,8 @@ TEST_METHODS = set(
 CALL_ATTRIBUTES = ["#[unsafe(no_mangle)]"]
 CALL_MACROS = {"assert": "(size_of", "write": "(text,"}
 CALL_NAMES = set("ArrayString size_of".split())
-CALL_PATHS = set("arrayvec::ArrayString ArrayString::new u8::from".split())
-CALL_METHODS = set("split_at wrapping_add wrapping_mul".split())
+CALL_PATHS = set("arrayvec::ArrayString ArrayString::new".split())
+CALL_METHODS = set("split_at wrapping_mul".split())
 
 # What the libraries of the programs use besides.
 PROGRAM_TEXTS = "#[error("  # the text of an error, by thiserror
@@ -78,11 +80,11 @@ PROGRAM_PATHS = set(
     io::Result io::Sink io::Write io::sink hex::decode_to_slice hex::encode_to_slice thiserror::Error u64::MAX""".split()
 )
 PROGRAM_METHODS = set(
-    """as_bytes collect into_iter wrapping_add wrapping_mul flush iter_mut kind parse position read saturating_mul split_at starts_with write write_all""".split()
+    """as_bytes collect into_iter wrapping_mul flush kind parse position read saturating_mul split_at starts_with write write_all""".split()
 )
 
 # What the programs among the examples use besides.
 EXAMPLE_PROGRAM_MACROS = {"vec": "["}
 EXAMPLE_NAMES = {"AllocError", "NoMemory", "ether_tools", "ether_capture", "memory"}
-EXAMPLE_PATHS = {"hex::encode", "String::new"}
+EXAMPLE_PATHS = {"hex::encode", "String::new", "Vec::new"}
 EXAMPLE_METHODS = set("as_str extend_from_slice map_err push_str".split())

@@ -26,12 +26,13 @@ def memory(tokens):
     """What takes memory is passed the allocator, and may be refused it. In Rust it takes that of std, and ends the program then."""
     for i, end in places(tokens, "use std::alloc::{AllocError, Global};"):
         respell(tokens, i, end, "use ether_tools::ether_capture::memory::{Global, NoMemory as AllocError};")
-    for i, end in places(tokens, "String::new(alloc)"):
-        respell(tokens, i, end, "String::new()")
+    for name in ("String", "Vec"):
+        for i, end in places(tokens, f"{name}::new(alloc)"):
+            respell(tokens, i, end, f"{name}::new()")
     for i, end in places(tokens, "hex::encode(alloc, frame)"):
         unquestioned(tokens, end - 1)
         respell(tokens, i, end, "hex::encode(frame)")
-    for call in ("buffer.extend_from_slice(", "text.push_str("):
+    for call in ("buffer.extend_from_slice(", "bytes.extend_from_slice(", "rows.push(", "text.push_str("):
         for i, end in places(tokens, call):
             unquestioned(tokens, closing(tokens, end - 1))
     for i, end in places(tokens, "vec![in alloc;"):

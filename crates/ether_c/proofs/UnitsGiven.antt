@@ -1,5 +1,5 @@
 -- The units of a walk that is under way, in an array.
-use Rattle.std.proofs.Common.{◌≡◌, ℕ, ◌+◌, ◌-◌, ◌<◌, ◌≤◌, suc, List, [], ◌∷◌, ◌++◌, length, take, drop, set, false, refl, sym, ap, subst, ◌∙◌, arith, rules}
+use Rattle.std.proofs.Common.{◌≡◌, ℕ, ◌+◌, ◌-◌, ◌<◌, ◌≤◌, suc, List, [], ◌∷◌, ◌++◌, length, take, drop, set, false, refl, sym, ap, ◌∙◌, arith, rules}
 use Rattle.std.specs.Prelude.{Option, Some, Result, Ok}
 use Rattle.std.proofs.Math.Seq.{take-nil, set_out, set-append_seam}
 use Rattle.std.proofs.lemmas.List.{append_assoc, append-nil, length-append, drop-drop, take_all, drop_all, take-append-le, length-take-le, length-drop}
@@ -7,7 +7,7 @@ use Rattle.std.proofs.lemmas.Bool.{cases_lt}
 use Rattle.etherparse.specs.Bytes.{IsBytes}
 use Rattle.etherparse.specs.Header.{Header, header_len}
 use Rattle.etherparse.proofs.SubLists.{length-part}
-use Rattle.ether_peel.specs.Grammar.Window.{Window, within, payload}
+use Rattle.ether_peel.specs.Grammar.Window.{Window, payload}
 use Rattle.ether_peel.specs.Grammar.Expectation.{Expectation}
 use Rattle.ether_peel.specs.Grammar.Stack.{Ending, whole, Walk}
 use Rattle.ether_peel.specs.Walker.State.{State}

@@ -26,10 +26,15 @@ struct_size number =
     else (if nat_eq number 16 then 32
     else (if nat_eq number 17 then 16
     else (if nat_eq number 18 then 3080
-    else (if nat_eq number 19 then 1032
-    else (if nat_eq number 20 then 20
-    else (if nat_eq number 21 then 24
-    else (if nat_eq number 22 then 96 else 0)))))))))))))))))))))
+    else (if nat_eq number 19 then 6
+    else (if nat_eq number 20 then 72
+    else (if nat_eq number 21 then 16
+    else (if nat_eq number 22 then 64
+    else (if nat_eq number 23 then 32
+    else (if nat_eq number 24 then 72
+    else (if nat_eq number 25 then 128
+    else (if nat_eq number 26 then 40
+    else (if nat_eq number 27 then 64 else 0))))))))))))))))))))))))))
 
 -- The starts for the link types LINKTYPE_ETHERNET and LINKTYPE_LINUX_SLL (www.tcpdump.org/linktypes.html), by their
 -- numbers; 0 for any other. libpcap's DLT_EN10MB and DLT_LINUX_SLL have the same numbers.

@@ -13,6 +13,7 @@ pub mod captured_frame;
 pub mod capturing;
 pub mod completing;
 pub mod cooked_v2;
+mod ether_bridge;
 mod ether_captured;
 mod ether_fault;
 mod ether_fed;
@@ -57,6 +58,7 @@ pub mod walking;
 pub mod writing_back;
 
 pub use capturing::EtherCaptureEnd;
+pub use ether_bridge::EtherBridge;
 pub use ether_captured::EtherCaptured;
 pub use ether_fault::EtherFault;
 pub use ether_fed::EtherFed;

@@ -1,11 +1,12 @@
--- How a frame passes a bridge.
-use Rattle.std.proofs.Common.{◌≡◌, ℕ, ◌+◌, ◌-◌, ◌<◌, ◌⊎◌, inl, inr, Bool, true, false, ◌&&◌, nat_eq, if◌then◌else◌, List, [], ◌∷◌, ◌++◌, length, take, drop, Option, Some, None, Result, Ok, Err, refl, sym, ap, subst, ◌∙◌, arith}
-use Rattle.std.specs.Prelude.{slice_range, MatchBool, IsSomeAnd}
+-- In which form a frame leaves a bridge.
+use Rattle.std.proofs.Common.{◌≡◌, ℕ, ◌+◌, ◌-◌, ◌<◌, ◌⊎◌, inl, inr, Bool, true, false, nat_eq, if◌then◌else◌, List, [], ◌∷◌, ◌++◌, length, take, drop, Option, Some, None, Result, Ok, refl, sym, ap, subst, ◌∙◌, arith}
+use Rattle.std.specs.Prelude.{slice_range}
+use Rattle.std.proofs.lemmas.Bool.{eq-eqb}
 use Rattle.std.proofs.lemmas.List.{ext_get_or, get_or-take, get_or-drop, length-take, length-drop, take-append-drop}
 use Rattle.std.proofs.lemmas.Slice.{between_from_start}
 use Rattle.etherparse.specs.Bytes.{IsBytes, spelled, overwritten}
 use Rattle.etherparse.specs.Ethernet2.{Ethernet2Value}
-use Rattle.etherparse.specs.Header.{Header, kind_of, header_len}
+use Rattle.etherparse.specs.Header.{Header, header_len}
 use Rattle.etherparse.specs.Header as headers
 use Rattle.etherparse.specs.Vlan.{VlanValue, vlan_bytes, vlan_number}
 use Rattle.etherparse.proofs.Numbers.{length-spelled}
@@ -18,26 +19,20 @@ use Rattle.ether_peel.proofs.Grammar.Stacks.{one_stack}
 use Rattle.ether_packet.specs.Front.{first_ethernet2, outer_tag}
 use Rattle.ether_packet.specs.Popping.{IsPopped}
 use Rattle.ether_packet.specs.Pushing.{pushed_bytes, IsPushed}
-use Rattle.ether_packet.specs.ReplacingLink.{is_link}
 use Rattle.ether_packet.specs.Setting.{SetsTag}
 use Rattle.ether_packet.specs.TypedLink.{type_of_link, with_type}
 use Rattle.ether_packet.specs.VlanIds.{IsOutermost, SetsVid}
 use Rattle.ether_packet.proofs.Popped.{popped_list}
 use Rattle.ether_packet.proofs.Pushed.{IsInserted, is_inserted}
 use Rattle.ether_packet.proofs.Replaced.{header_inside}
-use Rattle.ether_packet.proofs.TypedLinks.{kind_kept}
 use Rattle.ether_packet.proofs.VlanIds.{sets_outermost}
-use Rattle.ether_switch.specs.declared.arrival.Admitted.{Admitted}
 use Rattle.ether_switch.specs.declared.arrival.Discarded.{Discarded}
-use Rattle.ether_switch.specs.declared.arrival.Discarded.TheVariants.{ReservedAddress}
 use Rattle.ether_switch.specs.declared.bridge_kind.BridgeKind.{BridgeKind}
-use Rattle.ether_switch.specs.declared.received.Forwarding.{Forwarding}
 use Rattle.ether_switch.specs.declared.received.Received.{Received}
-use Rattle.ether_switch.specs.Arrivals.{Front, tagged_front, front_in, front_of}
-use Rattle.ether_switch.specs.BridgeKinds.{tpid_of, is_reserved}
-use Rattle.ether_switch.specs.VlanSets.{has}
-use Rattle.ether_switch.specs.Leaving.{own_tag, includes, LeavesTagged, LeavesUntagged}
-use Rattle.ether_switch.specs.Laws.{SendsIn, VlansAreIsolated, tag_len, without_tag, OnlyTagsChange}
+use Rattle.ether_switch.specs.Arrivals.{Front, tagged_front, front_in, front_of, has_second_tag}
+use Rattle.ether_switch.specs.BridgeKinds.{tpid_of}
+use Rattle.ether_switch.specs.Leaving.{own_tag, LeavesTagged, LeavesUntagged}
+use Rattle.ether_switch.specs.Laws.{tag_len, without_tag, OnlyTagsChange}
 
 -- ---- how a frame begins
 
@@ -79,7 +74,8 @@ record WasSet (r : Received) (link : Option Ethernet2Value) (tag : Option VlanVa
   t : VlanValue
   link_is : link ≡ Some g
   tag_is : tag ≡ Some t
-  len : tag_len front ≡ 4
+  typed : nat_eq g.ether_type (tpid_of r.kind) ≡ true
+  front_is : front ≡ Ok (record { link = g; tag = Some t })
   sets : SetsTag (start_of starts.Ethernet2) frame hs e 0 (λ (v : VlanValue). record v { vid = r.vlan }) sent
 
 -- with a tag that was put in
@@ -87,64 +83,88 @@ record WasPut (r : Received) (link : Option Ethernet2Value) (front : Result Fron
     (frame : List ℕ) (hs : List Header) (e : Ending) (sent : List ℕ) : Type 0 where
   g : Ethernet2Value
   link_is : link ≡ Some g
-  len : tag_len front ≡ 0
+  typed : nat_eq g.ether_type (tpid_of r.kind) ≡ false
+  front_is : front ≡ Ok (record { link = g; tag = None })
   buffer : List ℕ
   frame_is : drop 4 buffer ≡ frame
   pushed : IsPushed (start_of starts.Ethernet2) buffer hs e (own_tag r) (tpid_of r.kind) sent
 
 -- with its tag taken off
-record WasTaken (link : Option Ethernet2Value) (front : Result Front Discarded)
-    (frame : List ℕ) (hs : List Header) (e : Ending) (sent : List ℕ) : Type 0 where
+record WasTaken (kind : BridgeKind) (link : Option Ethernet2Value) (tag : Option VlanValue)
+    (front : Result Front Discarded) (frame : List ℕ) (hs : List Header) (e : Ending) (sent : List ℕ) : Type 0 where
   g : Ethernet2Value
+  t : VlanValue
   link_is : link ≡ Some g
-  len : tag_len front ≡ 4
-  tag : VlanValue
+  tag_is : tag ≡ Some t
+  front_is : front ≡ Ok (record { link = g; tag = Some t })
+  popped_tag : VlanValue
   moved : List ℕ
-  popped : IsPopped (start_of starts.Ethernet2) frame hs e tag moved
+  popped : IsPopped (start_of starts.Ethernet2) frame hs e popped_tag moved
   sent_is : sent ≡ drop 4 moved
 
 -- as it came
-record WasLeft (front : Result Front Discarded) (frame sent : List ℕ) : Type 0 where
-  len : tag_len front ≡ 0
+record WasLeft (kind : BridgeKind) (front : Result Front Discarded) (frame sent : List ℕ) : Type 0 where
+  g : Ethernet2Value
+  front_is : front ≡ Ok (record { link = g; tag = None })
   sent_is : sent ≡ frame
 
 tagged_by : (r : Received) (g : Ethernet2Value) (tag : Option VlanValue) (b : Bool) (frame : List ℕ) (hs : List Header)
-    (e : Ending) (sent : List ℕ)
+    (e : Ending) (sent : List ℕ) → nat_eq g.ether_type (tpid_of r.kind) ≡ b
     → LeavesTagged r (if b then tagged_front g tag else Ok (record { link = g; tag = None })) frame hs e sent
     → WasSet r (Some g) tag (if b then tagged_front g tag else Ok (record { link = g; tag = None })) frame hs e sent
     ⊎ WasPut r (Some g) (if b then tagged_front g tag else Ok (record { link = g; tag = None })) frame hs e sent
-tagged_by r g None true frame hs e sent l = absurd l
-tagged_by r g (Some t) true frame hs e sent l =
-    inl (record { g = g; t = t; link_is = refl; tag_is = refl; len = refl; sets = l })
-tagged_by r g tag false frame hs e sent l =
-    inr (record { g = g; link_is = refl; len = refl; buffer = l.0; frame_is = l.1; pushed = l.2 })
+tagged_by r g None true frame hs e sent is l = absurd l
+tagged_by r g (Some t) true frame hs e sent is l =
+    inl (record { g = g; t = t; link_is = refl; tag_is = refl; typed = is; front_is = refl; sets = l })
+tagged_by r g tag false frame hs e sent is l =
+    inr (record {
+      g = g;
+      link_is = refl;
+      typed = is;
+      front_is = refl;
+      buffer = l.0;
+      frame_is = l.1;
+      pushed = l.2;
+    })
 
-tagged_how : (r : Received) (kind : BridgeKind) (link : Option Ethernet2Value) (tag : Option VlanValue) (frame : List ℕ)
+tagged_how : (r : Received) (link : Option Ethernet2Value) (tag : Option VlanValue) (frame : List ℕ)
     (hs : List Header) (e : Ending) (sent : List ℕ)
-    → LeavesTagged r (front_in kind link tag) frame hs e sent
-    → WasSet r link tag (front_in kind link tag) frame hs e sent
-    ⊎ WasPut r link (front_in kind link tag) frame hs e sent
-tagged_how r kind None tag frame hs e sent l = absurd l
-tagged_how r kind (Some g) tag frame hs e sent l =
-    tagged_by r g tag (nat_eq g.ether_type (tpid_of kind)) frame hs e sent l
+    → LeavesTagged r (front_in r.kind link tag) frame hs e sent
+    → WasSet r link tag (front_in r.kind link tag) frame hs e sent
+    ⊎ WasPut r link (front_in r.kind link tag) frame hs e sent
+tagged_how r None tag frame hs e sent l = absurd l
+tagged_how r (Some g) tag frame hs e sent l =
+    tagged_by r g tag (nat_eq g.ether_type (tpid_of r.kind)) frame hs e sent refl l
 
-untagged_by : (g : Ethernet2Value) (tag : Option VlanValue) (b : Bool) (frame : List ℕ) (hs : List Header)
-    (e : Ending) (sent : List ℕ)
+untagged_by : (kind : BridgeKind) (g : Ethernet2Value) (tag : Option VlanValue) (b : Bool) (frame : List ℕ)
+    (hs : List Header) (e : Ending) (sent : List ℕ)
     → LeavesUntagged (if b then tagged_front g tag else Ok (record { link = g; tag = None })) frame hs e sent
-    → WasTaken (Some g) (if b then tagged_front g tag else Ok (record { link = g; tag = None })) frame hs e sent
-    ⊎ WasLeft (if b then tagged_front g tag else Ok (record { link = g; tag = None })) frame sent
-untagged_by g None true frame hs e sent l = absurd l
-untagged_by g (Some t) true frame hs e sent l =
-    inl (record { g = g; link_is = refl; len = refl; tag = l.0; moved = l.1; popped = l.2; sent_is = l.3 })
-untagged_by g tag false frame hs e sent l = inr (record { len = refl; sent_is = l })
+    → WasTaken kind (Some g) tag (if b then tagged_front g tag else Ok (record { link = g; tag = None })) frame hs e
+    sent
+    ⊎ WasLeft kind (if b then tagged_front g tag else Ok (record { link = g; tag = None })) frame sent
+untagged_by kind g None true frame hs e sent l = absurd l
+untagged_by kind g (Some t) true frame hs e sent l =
+    inl (record {
+      g = g;
+      t = t;
+      link_is = refl;
+      tag_is = refl;
+      front_is = refl;
+      popped_tag = l.0;
+      moved = l.1;
+      popped = l.2;
+      sent_is = l.3;
+    })
+untagged_by kind g tag false frame hs e sent l = inr (record { g = g; front_is = refl; sent_is = l })
 
 untagged_how : (kind : BridgeKind) (link : Option Ethernet2Value) (tag : Option VlanValue) (frame : List ℕ)
     (hs : List Header) (e : Ending) (sent : List ℕ)
     → LeavesUntagged (front_in kind link tag) frame hs e sent
-    → WasTaken link (front_in kind link tag) frame hs e sent ⊎ WasLeft (front_in kind link tag) frame sent
+    → WasTaken kind link tag (front_in kind link tag) frame hs e sent
+    ⊎ WasLeft kind (front_in kind link tag) frame sent
 untagged_how kind None tag frame hs e sent l = absurd l
 untagged_how kind (Some g) tag frame hs e sent l =
-    untagged_by g tag (nat_eq g.ether_type (tpid_of kind)) frame hs e sent l
+    untagged_by kind g tag (nat_eq g.ether_type (tpid_of kind)) frame hs e sent l
 
 -- the identifier is set, and no other bit
 set_in : (r : Received) (front : Result Front Discarded) (frame sent : List ℕ) (hs : List Header) (e : Ending)
@@ -165,65 +185,147 @@ set_in r front frame sent hs e ok walk w =
     let both = sets_outermost (start_of starts.Ethernet2) frame sent hs e 0 w.t r.vlan ok o walk w.sets in
     (begins.0, both.0, both.1)
 
--- ---- no frame crosses VLANs
+-- ---- how it begins then
 
-names : (vid : ℕ) (ks hs : List Header) (t : VlanValue) → ks ≡ hs → outer_tag hs ≡ Some t → t.vid ≡ vid
-    → IsSomeAnd (outer_tag ks) (λ (v : VlanValue). v.vid ≡ vid)
-names vid ks hs t same tag is =
-    subst (λ (o : Option VlanValue). IsSomeAnd o (λ (v : VlanValue). v.vid ≡ vid)) (sym (ap outer_tag same ∙ tag)) is
+same_link : (hs : List Header) (g : Ethernet2Value) (link : Header) (later : List Header)
+    → first_ethernet2 hs ≡ Some g → hs ≡ link ∷ later → link ≡ headers.Ethernet2 g
+same_link hs g link later is parts =
+    let begins = first hs g is in
+    let e : link ∷ later ≡ headers.Ethernet2 g ∷ begins.0 = sym parts ∙ begins.1 in
+    cc
 
-names_own : (r : Received) (kind : BridgeKind) (frame sent : List ℕ) (hs ks : List Header) (e f : Ending)
-    → IsBytes frame → Walk (start_of starts.Ethernet2) frame hs e
-    → LeavesTagged r (front_of kind hs) frame hs e sent → Walk (start_of starts.Ethernet2) sent ks f
-    → IsSomeAnd (outer_tag ks) (λ (v : VlanValue). v.vid ≡ r.vlan)
-names_own r kind frame sent hs ks e f ok walk l found =
+-- with a tag that has this identifier, and no second one if there was none
+pub record Named (r : Received) (front : Result Front Discarded) (ks : List Header) : Type 0 where
+  pub link : Ethernet2Value
+  pub tag : VlanValue
+  pub tag_is : outer_tag ks ≡ Some tag
+  pub front_is : front_of r.kind ks ≡ Ok (record { link = link; tag = Some tag })
+  pub vid_is : tag.vid ≡ r.vlan
+  pub plain : (f : Front) → front ≡ Ok f → has_second_tag r.kind f ≡ false
+      → nat_eq tag.ether_type (tpid_of r.kind) ≡ false
+
+typed_front : (kind : BridgeKind) (g : Ethernet2Value) (t : VlanValue) → nat_eq g.ether_type (tpid_of kind) ≡ true
+    → front_in kind (Some g) (Some t) ≡ Ok (record { link = g; tag = Some t })
+typed_front kind g t is =
+    ap (λ (b : Bool). if b then tagged_front g (Some t) else Ok (record { link = g; tag = None })) is
+
+set_named : (r : Received) (frame sent : List ℕ) (hs ks : List Header) (e f : Ending)
+    → IsBytes frame → Walk (start_of starts.Ethernet2) frame hs e → Walk (start_of starts.Ethernet2) sent ks f
+    → WasSet r (first_ethernet2 hs) (outer_tag hs) (front_of r.kind hs) frame hs e sent
+    → Named r (front_of r.kind hs) ks
+set_named r frame sent hs ks e f ok walk found w =
     let x = start_of starts.Ethernet2 in
-    elim (tagged_how r kind (first_ethernet2 hs) (outer_tag hs) frame hs e sent l) [
-      | inl w ↦
-          let s = set_in r (front_of kind hs) frame sent hs e ok walk w in
-          let t : VlanValue = record w.t { vid = r.vlan } in
-          let now = headers.Ethernet2 w.g ∷ headers.Vlan t ∷ s.0 in
-          names r.vlan ks now t (one_stack sent x (whole x sent) ks now f e found s.1).0 refl refl
-      | inr w ↦
-          let p = w.pushed in
-          let v : VlanValue = record (own_tag r) { ether_type = type_of_link p.link } in
-          let is : is_link (kind_of (with_type p.link (tpid_of r.kind))) ≡ true =
-          ap is_link (kind_kept p.link (tpid_of r.kind)) ∙ p.begins.is_link in
-          let now = with_type p.link (tpid_of r.kind) ∷ headers.Vlan v ∷ p.later in
-          let ends = moved_ending (header_len p.link) (header_len p.link + 4) e in
-          names r.vlan ks now v (one_stack sent x (whole x sent) ks now f ends found p.walk).0
-          (ap (λ (b : Bool). if b then Some v else None) is) refl
+    let s = set_in r (front_of r.kind hs) frame sent hs e ok walk w in
+    let t : VlanValue = record w.t { vid = r.vlan } in
+    let now = headers.Ethernet2 w.g ∷ headers.Vlan t ∷ s.0 in
+    let same : ks ≡ now = (one_stack sent x (whole x sent) ks now f e found s.1).0 in
+    record {
+      link = w.g;
+      tag = t;
+      tag_is = ap outer_tag same;
+      front_is = ap (front_of r.kind) same ∙ typed_front r.kind w.g t w.typed;
+      vid_is = refl;
+      plain = λ it is second.
+          let one : Ok (record { link = w.g; tag = Some w.t }) ≡ Ok it = sym w.front_is ∙ is in
+          let front : record { link = w.g; tag = Some w.t } ≡ it = cc in
+          ap (has_second_tag r.kind) front ∙ second;
+    }
+
+put_named : (r : Received) (frame sent : List ℕ) (hs ks : List Header) (e f : Ending)
+    → Walk (start_of starts.Ethernet2) sent ks f
+    → WasPut r (first_ethernet2 hs) (front_of r.kind hs) frame hs e sent
+    → Named r (front_of r.kind hs) ks
+put_named r frame sent hs ks e f found w =
+    let x = start_of starts.Ethernet2 in
+    let p = w.pushed in
+    let tpid = tpid_of r.kind in
+    let link : p.link ≡ headers.Ethernet2 w.g = same_link hs w.g p.link p.later w.link_is p.begins.parts in
+    let v : VlanValue = record (own_tag r) { ether_type = w.g.ether_type } in
+    let g : Ethernet2Value = record w.g { ether_type = tpid } in
+    let put =
+    with_type p.link tpid ∷ headers.Vlan (record (own_tag r) { ether_type = type_of_link p.link }) ∷ p.later in
+    let now = headers.Ethernet2 g ∷ headers.Vlan v ∷ p.later in
+    let ends = moved_ending (header_len p.link) (header_len p.link + 4) e in
+    let same : ks ≡ now =
+    (one_stack sent x (whole x sent) ks put f ends found p.walk).0
+    ∙ (λ i.
+    with_type (link i) tpid ∷ headers.Vlan (record (own_tag r) { ether_type = type_of_link (link i) }) ∷ p.later)
+    in
+    record {
+      link = g;
+      tag = v;
+      tag_is = ap outer_tag same;
+      front_is = ap (front_of r.kind) same ∙ typed_front r.kind g v (eq-eqb tpid tpid refl);
+      vid_is = refl;
+      plain = λ it is second. w.typed;
+    }
+
+-- a frame that leaves with the tag of its VLAN
+pub tagged_named : (r : Received) (frame sent : List ℕ) (hs ks : List Header) (e f : Ending)
+    → IsBytes frame → Walk (start_of starts.Ethernet2) frame hs e → Walk (start_of starts.Ethernet2) sent ks f
+    → LeavesTagged r (front_of r.kind hs) frame hs e sent → Named r (front_of r.kind hs) ks
+tagged_named r frame sent hs ks e f ok walk found l =
+    elim (tagged_how r (first_ethernet2 hs) (outer_tag hs) frame hs e sent l) [
+      | inl w ↦ set_named r frame sent hs ks e f ok walk found w
+      | inr w ↦ put_named r frame sent hs ks e f found w
     ]
 
-sends_choice : (b : Bool) (P Q R : Type 0) → MatchBool b P Q → (Q → R) → MatchBool b (Unit {0}) R
-sends_choice true P Q R m f = tt
-sends_choice false P Q R m f = f m
+-- without a tag
+pub record Bare (kind : BridgeKind) (ks : List Header) : Type 0 where
+  pub link : Ethernet2Value
+  pub front_is : front_of kind ks ≡ Ok (record { link = link; tag = None })
 
-member : (a b : Bool) → (a && b) ≡ true → b ≡ true
-member true b e = e
-member false b e = absurd cc
+bare_front : (kind : BridgeKind) (g : Ethernet2Value) (t : Option VlanValue)
+    → nat_eq g.ether_type (tpid_of kind) ≡ false
+    → front_in kind (Some g) t ≡ Ok (record { link = g; tag = None })
+bare_front kind g t is =
+    ap (λ (b : Bool). if b then tagged_front g t else Ok (record { link = g; tag = None })) is
 
-same_vlan_by : (kind : BridgeKind) (from : ℕ) (a : Admitted) (d : Forwarding) (r : Received) (b : Bool)
-    → (if b then Err ReservedAddress else Ok (record {
-      kind = kind;
-      from = from;
-      vlan = a.vlan;
-      priority = a.priority;
-      drop_eligible = a.drop_eligible;
-      decision = d;
-    })) ≡ Ok r → r.vlan ≡ a.vlan
-same_vlan_by kind from a d r true e = absurd cc
-same_vlan_by kind from a d r false e = cc
+taken_bare : (kind : BridgeKind) (frame sent : List ℕ) (hs ks : List Header) (e f : Ending) (front : Front)
+    → Walk (start_of starts.Ethernet2) sent ks f
+    → front_of kind hs ≡ Ok front → has_second_tag kind front ≡ false
+    → WasTaken kind (first_ethernet2 hs) (outer_tag hs) (front_of kind hs) frame hs e sent → Bare kind ks
+taken_bare kind frame sent hs ks e f front found is second w =
+    let x = start_of starts.Ethernet2 in
+    let p = w.popped in
+    let link : p.link ≡ headers.Ethernet2 w.g = same_link hs w.g p.link _ w.link_is p.begins.parts in
+    let begins = outermost hs w.g w.t w.link_is w.tag_is in
+    let heads : p.link ∷ headers.Vlan w.popped_tag ∷ p.later ≡ headers.Ethernet2 w.g ∷ headers.Vlan w.t ∷ begins.0 =
+    sym p.begins.parts ∙ begins.1 in
+    let tag : w.popped_tag ≡ w.t = cc in
+    let one : Ok (record { link = w.g; tag = Some w.t }) ≡ Ok front = sym w.front_is ∙ is in
+    let its : record { link = w.g; tag = Some w.t } ≡ front = cc in
+    let typed : nat_eq w.t.ether_type (tpid_of kind) ≡ false = ap (has_second_tag kind) its ∙ second in
+    let g : Ethernet2Value = record w.g { ether_type = w.t.ether_type } in
+    let now = headers.Ethernet2 g ∷ p.later in
+    let popped = with_type p.link w.popped_tag.ether_type ∷ p.later in
+    let ends = moved_ending (header_len p.link + 4) (header_len p.link) e in
+    let same : ks ≡ now =
+    (one_stack sent x (whole x sent) ks popped f ends found
+    (subst (λ (l : List ℕ). Walk x l popped ends) (sym w.sent_is) p.walk)).0
+    ∙ (λ i. with_type (link i) (tag i).ether_type ∷ p.later) in
+    record { link = g; front_is = ap (front_of kind) same ∙ bare_front kind g (outer_tag now) typed }
 
-pub vlans_are_isolated : VlansAreIsolated
-vlans_are_isolated in_port out_port kind from to a d frame sent hs ks e f ok walk passes found =
-    let r = passes.received in
-    let vlan = same_vlan_by kind from a d r (is_reserved kind a.destination) passes.relays in
-    subst (λ (vid : ℕ). SendsIn out_port vid ks) vlan (
-      member (includes r.decision r.from to) (has out_port.members r.vlan) passes.goes,
-      sends_choice (has out_port.untagged r.vlan) _ _ _ passes.leaves
-          (λ l. names_own r kind frame sent hs ks e f ok walk l found),
-    )
+left_bare : (kind : BridgeKind) (frame sent : List ℕ) (hs ks : List Header) (e f : Ending)
+    → Walk (start_of starts.Ethernet2) frame hs e → Walk (start_of starts.Ethernet2) sent ks f
+    → WasLeft kind (front_of kind hs) frame sent → Bare kind ks
+left_bare kind frame sent hs ks e f walk found w =
+    let x = start_of starts.Ethernet2 in
+    let same : ks ≡ hs =
+    (one_stack sent x (whole x sent) ks hs f e found
+    (subst (λ (l : List ℕ). Walk x l hs e) (sym w.sent_is) walk)).0 in
+    record { link = w.g; front_is = ap (front_of kind) same ∙ w.front_is }
+
+-- a frame without a second tag that leaves without a tag
+pub untagged_bare : (kind : BridgeKind) (frame sent : List ℕ) (hs ks : List Header) (e f : Ending) (front : Front)
+    → Walk (start_of starts.Ethernet2) frame hs e → Walk (start_of starts.Ethernet2) sent ks f
+    → front_of kind hs ≡ Ok front → has_second_tag kind front ≡ false
+    → LeavesUntagged (front_of kind hs) frame hs e sent → Bare kind ks
+untagged_bare kind frame sent hs ks e f front walk found is second l =
+    elim (untagged_how kind (first_ethernet2 hs) (outer_tag hs) frame hs e sent l) [
+      | inl w ↦ taken_bare kind frame sent hs ks e f front found is second w
+      | inr w ↦ left_bare kind frame sent hs ks e f walk found w
+    ]
 
 -- ---- only tags change
 
@@ -242,13 +344,6 @@ set_kept frame sent vid s =
     get_or-drop 16 sent i 0 ∙ s.others (16 + i) (λ e. omega (arith, e)) (λ e. omega (arith, e))
     ∙ sym (get_or-drop 16 frame i 0)) in
     λ i. front i ++ rest i
-
-same_link : (hs : List Header) (g : Ethernet2Value) (link : Header) (later : List Header)
-    → first_ethernet2 hs ≡ Some g → hs ≡ link ∷ later → link ≡ headers.Ethernet2 g
-same_link hs g link later is parts =
-    let begins = first hs g is in
-    let e : link ∷ later ≡ headers.Ethernet2 g ∷ begins.0 = sym parts ∙ begins.1 in
-    cc
 
 put_kept : (r : Received) (front : Result Front Discarded) (frame sent : List ℕ) (hs : List Header) (e : Ending)
     → Walk (start_of starts.Ethernet2) frame hs e → WasPut r (first_ethernet2 hs) front frame hs e sent
@@ -274,45 +369,44 @@ put_kept r front frame sent hs e walk w =
     sym (between_from_start sent 12) ∙ is.front ∙ between_from_start (drop 4 w.buffer) 12 in
     (λ i. begin i ++ is.rest i) ∙ ap (without_tag 0) w.frame_is
 
-taken_kept : (front : Result Front Discarded) (frame sent : List ℕ) (hs : List Header) (e : Ending)
-    → Walk (start_of starts.Ethernet2) frame hs e → WasTaken (first_ethernet2 hs) front frame hs e sent
+taken_kept : (kind : BridgeKind) (front : Result Front Discarded) (frame sent : List ℕ) (hs : List Header) (e : Ending)
+    → Walk (start_of starts.Ethernet2) frame hs e
+    → WasTaken kind (first_ethernet2 hs) (outer_tag hs) front frame hs e sent
     → without_tag 0 sent ≡ without_tag 4 frame
-taken_kept front frame sent hs e walk w =
+taken_kept kind front frame sent hs e walk w =
     let p = w.popped in
     let x = start_of starts.Ethernet2 in
     let len : header_len p.link ≡ 14 = ap header_len (same_link hs w.g p.link _ w.link_is p.begins.parts) in
     let room =
-    header_inside x frame (p.link ∷ []) (headers.Vlan w.tag) p.later e
+    header_inside x frame (p.link ∷ []) (headers.Vlan w.popped_tag) p.later e
     (subst (λ (l : List Header). Walk x frame l e) p.begins.parts walk) in
     let twelve : header_len p.link - 2 ≡ 12 = omega (arith, len) in
     take-append-drop 12 sent ∙ w.sent_is
     ∙ ap (drop 4) (p.bytes ∙ ap (λ (k : ℕ). overwritten frame 4 (take k frame)) twelve)
     ∙ popped_list frame 12 (omega arith)
 
-left_kept : (front : Result Front Discarded) (frame sent : List ℕ) → WasLeft front frame sent
-    → without_tag 0 sent ≡ without_tag 0 frame
-left_kept front frame sent w = ap (without_tag 0) w.sent_is
-
-changes_choice : (b : Bool) (P Q : Type 0) (sent frame : List ℕ) (n : ℕ) → MatchBool b P Q
-    → (P → without_tag 0 sent ≡ without_tag n frame) → (Q → without_tag 4 sent ≡ without_tag n frame)
-    → without_tag (if b then 0 else 4) sent ≡ without_tag n frame
-changes_choice true P Q sent frame n m f g = f m
-changes_choice false P Q sent frame n m f g = g m
+-- the length of the tag that it had
+len_is : (front : Result Front Discarded) (f : Front) (n : ℕ) (sent frame : List ℕ) (m : ℕ) → front ≡ Ok f
+    → tag_len (Ok f) ≡ n → without_tag m sent ≡ without_tag n frame
+    → without_tag m sent ≡ without_tag (tag_len front) frame
+len_is front f n sent frame m is len kept =
+    kept ∙ ap (λ (j : ℕ). without_tag j frame) (sym (ap tag_len is ∙ len))
 
 pub only_tags_change : OnlyTagsChange
-only_tags_change r port frame sent hs e ok walk leaves =
-    let link = first_ethernet2 hs in
-    let tag = outer_tag hs in
-    let front = front_of r.kind hs in
-    let same : (m n : ℕ) → tag_len front ≡ n → without_tag m sent ≡ without_tag n frame
-    → without_tag m sent ≡ without_tag (tag_len front) frame =
-    λ m n len kept. kept ∙ ap (λ (j : ℕ). without_tag j frame) (sym len) in
-    changes_choice (has port.untagged r.vlan) _ _ sent frame (tag_len front) leaves
-    (λ l. elim (untagged_how r.kind link tag frame hs e sent l) [
-      | inl w ↦ same 0 4 w.len (taken_kept front frame sent hs e walk w)
-      | inr w ↦ same 0 0 w.len (left_kept front frame sent w)
-    ])
-    (λ l. elim (tagged_how r r.kind link tag frame hs e sent l) [
-      | inl w ↦ same 4 4 w.len (set_kept frame sent r.vlan (set_in r front frame sent hs e ok walk w).2)
-      | inr w ↦ same 4 0 w.len (put_kept r front frame sent hs e walk w)
-    ])
+only_tags_change = record {
+  tagged = λ r frame sent hs e ok walk l.
+      let front = front_of r.kind hs in
+      elim (tagged_how r (first_ethernet2 hs) (outer_tag hs) frame hs e sent l) [
+        | inl w ↦
+            len_is front _ 4 sent frame 4 w.front_is refl
+            (set_kept frame sent r.vlan (set_in r front frame sent hs e ok walk w).2)
+        | inr w ↦ len_is front _ 0 sent frame 4 w.front_is refl (put_kept r front frame sent hs e walk w)
+      ];
+  untagged = λ r frame sent hs e ok walk l.
+      let front = front_of r.kind hs in
+      elim (untagged_how r.kind (first_ethernet2 hs) (outer_tag hs) frame hs e sent l) [
+        | inl w ↦
+            len_is front _ 4 sent frame 0 w.front_is refl (taken_kept r.kind front frame sent hs e walk w)
+        | inr w ↦ len_is front _ 0 sent frame 0 w.front_is refl (ap (without_tag 0) w.sent_is)
+      ];
+}

@@ -1,21 +1,20 @@
--- How a port of a bridge accepts a frame that comes in, or why it does not.
+-- What a bridge reads of a frame that comes in, and why a port refuses it.
 use Rattle.std.specs.Prelude.{ℕ, ◌/◌, ◌%◌, ◌^◌, List, [], ◌∷◌, Option, Some, None, option_map, Result, Ok, Err, Bool, true, false, not, ◌&&◌, nat_eq, if◌then◌else◌}
 use Rattle.etherparse.specs.Ethernet2.{Ethernet2Value, ethernet2_view}
 use Rattle.etherparse.specs.Header.{Header}
 use Rattle.etherparse.specs.Vlan.{VlanValue, vlan_view}
 use Rattle.ether_packet.specs.Front.{first_ethernet2, outer_tag}
 use Rattle.ether_packet.specs.declared.front.EthernetFront.{EthernetFront}
-use Rattle.ether_switch.specs.declared.arrival.Admitted.{Admitted}
+use Rattle.ether_switch.specs.declared.arrival.Arrived.{Arrived}
 use Rattle.ether_switch.specs.declared.arrival.Discarded.{Discarded}
-use Rattle.ether_switch.specs.declared.arrival.Discarded.TheVariants.{NoHeader, CutTag, ReservedIdentifier, Source, FrameType, NotAMember}
+use Rattle.ether_switch.specs.declared.arrival.Discarded.TheVariants.{NoHeader, CutTag, ReservedIdentifier, Source, FrameType, SecondTag, NotAMember}
 use Rattle.ether_switch.specs.declared.arrival.Tagging.{Tagging}
 use Rattle.ether_switch.specs.declared.arrival.Tagging.TheVariants.{Untagged, PriorityTagged, VlanTagged}
 use Rattle.ether_switch.specs.declared.bridge_kind.BridgeKind.{BridgeKind}
 use Rattle.ether_switch.specs.declared.port.AcceptableFrames.{AcceptableFrames}
-use Rattle.ether_switch.specs.declared.port.AcceptableFrames.TheVariants.{All, OnlyVlanTagged, OnlyUntaggedAndPriorityTagged}
+use Rattle.ether_switch.specs.declared.port.AcceptableFrames.TheVariants.{All, OnlyVlanTagged, OnlyUntaggedAndPriorityTagged, OnlyUntagged}
 use Rattle.ether_switch.specs.declared.port.PortConfig.{PortConfig}
 use Rattle.ether_switch.specs.BridgeKinds.{tpid_of}
-use Rattle.ether_switch.specs.VlanSets.{has}
 
 -- the header of a frame, and the tag after it if that is of the bridge's kind
 pub record Front : Type 0 where
@@ -52,6 +51,8 @@ admits OnlyVlanTagged VlanTagged = true
 admits OnlyVlanTagged t = false
 admits OnlyUntaggedAndPriorityTagged VlanTagged = false
 admits OnlyUntaggedAndPriorityTagged t = true
+admits OnlyUntagged Untagged = true
+admits OnlyUntagged t = false
 
 -- the VLAN of the tag, or else that of the port (IEEE 802.1Q, 6.9); 4095 is not a VLAN (IEEE 802.1Q, table 9-2)
 abbrev pub vlan_by : (pvid : ℕ) → Option VlanValue → Option ℕ
@@ -91,17 +92,25 @@ abbrev pub first_reason : List (Bool × Discarded) → Option Discarded
 first_reason [] = None
 first_reason (row ∷ rows) = if row.0 then Some row.1 else first_reason rows
 
--- why a port refuses a frame of a VLAN, if it does (IEEE 802.1Q, 6.9 and 8.6.2)
-abbrev pub refusal : PortConfig → Front → (vid : ℕ) → Option Discarded
-refusal port f vid = first_reason (
-    (not (is_station f.link.source), Source) ∷
+-- whether the tag is followed by another one of the bridge's kind
+abbrev pub second_tag_by : BridgeKind → Option VlanValue → Bool
+second_tag_by kind None = false
+second_tag_by kind (Some tag) = nat_eq tag.ether_type (tpid_of kind)
+
+abbrev pub has_second_tag : BridgeKind → Front → Bool
+has_second_tag kind f = second_tag_by kind f.tag
+
+-- why a port refuses a frame, if it does (IEEE 802.1Q, 6.9 and 8.6.2)
+abbrev pub refusal : BridgeKind → PortConfig → (is_member : Bool) → Front → Option Discarded
+refusal kind port is_member f = first_reason (
     (not (admits port.frame_types (tagging_of f)), FrameType) ∷
-    (port.ingress_filtering && not (has port.members vid), NotAMember) ∷
+    (port.refuses_second_tag && has_second_tag kind f, SecondTag) ∷
+    (port.ingress_filtering && not is_member, NotAMember) ∷
     [])
 
--- a frame of a VLAN as a port accepts it
-abbrev pub admitted : PortConfig → Front → (vid : ℕ) → Admitted
-admitted port f vid = record {
+-- what is read of a frame of a VLAN
+abbrev pub arrived : PortConfig → Front → (vid : ℕ) → Arrived
+arrived port f vid = record {
   vlan = vid;
   priority = priority_of port.default_priority f;
   drop_eligible = is_drop_eligible f;
@@ -109,21 +118,9 @@ admitted port f vid = record {
   destination = f.link.destination;
 }
 
-abbrev pub unless_refused : Option Discarded → Admitted → Result Admitted Discarded
-unless_refused (Some reason) a = Err reason
-unless_refused None a = Ok a
-
-abbrev pub arrival_in : PortConfig → Front → Option ℕ → Result Admitted Discarded
+abbrev pub arrival_in : PortConfig → Front → Option ℕ → Result Arrived Discarded
 arrival_in port f None = Err ReservedIdentifier
-arrival_in port f (Some vid) = unless_refused (refusal port f vid) (admitted port f vid)
-
-abbrev pub arrival_by : PortConfig → Result Front Discarded → Result Admitted Discarded
-arrival_by port (Err reason) = Err reason
-arrival_by port (Ok f) = arrival_in port f (vlan_of port.pvid f)
-
--- how a port accepts a frame with these headers, or why it does not
-abbrev pub arrival : BridgeKind → PortConfig → List Header → Result Admitted Discarded
-arrival kind port hs = arrival_by port (front_of kind hs)
+arrival_in port f (Some vid) = if is_station f.link.source then Ok (arrived port f vid) else Err Source
 
 -- ---- how it is read
 

@@ -1,43 +1,89 @@
--- What a bridge learns from all frames that came in, and what it returns for each. The newest frame is first.
-use Rattle.std.specs.Prelude.{ℕ, List, [], ◌∷◌, Option, Result, Ok, Err}
-use Rattle.etherparse.specs.Header.{Header}
-use Rattle.ether_switch.specs.declared.arrival.Admitted.{Admitted}
+-- What a table goes through. The newest change is first.
+use Rattle.std.specs.Prelude.{◌≡◌, ℕ, ◌+◌, List, [], ◌∷◌, ◌++◌, map, take, drop, Option, Some, None, Result, Ok, Err, Bool, true, false, not, ◌&&◌, ◌||◌, nat_eq, nat_le, if◌then◌else◌, MatchBool}
+use Rattle.ether_switch.specs.declared.arrival.Arrived.{Arrived}
 use Rattle.ether_switch.specs.declared.arrival.Discarded.{Discarded}
-use Rattle.ether_switch.specs.declared.bridge.StaticEntry.{StaticEntry}
-use Rattle.ether_switch.specs.declared.bridge_kind.BridgeKind.{BridgeKind}
-use Rattle.ether_switch.specs.declared.port.PortConfig.{PortConfig}
-use Rattle.ether_switch.specs.declared.received.Received.{Received}
+use Rattle.ether_switch.specs.declared.forgetting.Forgotten.{Forgotten}
 use Rattle.ether_switch.specs.declared.stations.Sighting.{Sighting}
-use Rattle.ether_switch.specs.Arrivals.{arrival}
-use Rattle.ether_switch.specs.Learning.{known_port}
-use Rattle.ether_switch.specs.Relaying.{station, sighting, decision, relayed}
+use Rattle.ether_switch.specs.declared.stations.StationBucket.{StationBucket}
+use Rattle.ether_switch.specs.declared.vlan_config.VlanConfig.{VlanConfig}
+use Rattle.ether_switch.specs.Arrivals.{Front}
+use Rattle.ether_switch.specs.Relaying.{Event, arrival, arrival_vlan, refused_in, teaches, sighting, after}
+use Rattle.ether_switch.specs.Stations.{without}
+use Rattle.ether_switch.specs.Vlans.{row_of}
 
--- a frame that came in: the time, the number and the configuration of the port, and its headers
-pub record Event : Type 0 where
-  pub now : ℕ
-  pub from : ℕ
-  pub port : PortConfig
-  pub hs : List Header
+-- a change: a frame comes in; or stations are forgotten, in so many buckets from an index on
+pub data Change : Type 0 where
+  Came : Event → Change
+  Forgot : (first count : ℕ) → Forgotten → Change
 
--- the sightings after a further frame: if the port accepts it, its source was seen
-abbrev pub seen_with : (now from : ℕ) → Result Admitted Discarded → List Sighting → List Sighting
-seen_with now from (Err reason) earlier = earlier
-seen_with now from (Ok a) earlier = sighting now from a ∷ earlier
+-- the table without the stations that are forgotten
+abbrev pub forgotten_in : (first count : ℕ) → Forgotten → List StationBucket → List StationBucket
+forgotten_in first count which table =
+    take first table
+    ++ (map (without which) (take count (drop first table)) ++ drop count (drop first table))
 
--- the sightings of all frames
-abbrev pub sightings : BridgeKind → List Event → List Sighting
-sightings kind [] = []
-sightings kind (v ∷ earlier) = seen_with v.now v.from (arrival kind v.port v.hs) (sightings kind earlier)
+abbrev pub changed : Change → List StationBucket → List StationBucket
+changed (Came v) table = after v table
+changed (Forgot first count which) table = forgotten_in first count which table
 
--- what is returned for a frame, if port_of is the port at which each station is known to be
-abbrev pub answer_by : BridgeKind → List StaticEntry → (from : ℕ) → (port_of : ℕ → Option ℕ)
-    → Result Admitted Discarded → Result Received Discarded
-answer_by kind entries from port_of (Err reason) = Err reason
-answer_by kind entries from port_of (Ok a) =
-    relayed kind from a (decision entries from a.vlan a.destination (port_of (station a.vlan a.destination)))
+-- the table after all of them
+abbrev pub table_after : List Change → List StationBucket → List StationBucket
+table_after [] table = table
+table_after (c ∷ earlier) table = changed c (table_after earlier table)
 
--- What is returned for the newest frame: why it is discarded, or where it goes, by the sightings in all frames.
-abbrev pub answer : BridgeKind → List StaticEntry → (n ageing_time : ℕ) → Event → List Event → Result Received Discarded
-answer kind entries n ageing_time v earlier =
-    answer_by kind entries v.from (known_port n ageing_time v.now (sightings kind (v ∷ earlier)))
-    (arrival kind v.port v.hs)
+-- ---- the changes of one VLAN
+
+-- whether m buckets from one index on, and n from another one on, have none in common
+abbrev pub are_apart : (first m other n : ℕ) → Bool
+are_apart first m other n =
+    nat_eq m 0 || (nat_eq n 0 || (nat_le (first + m) other || nat_le (other + n) first))
+
+-- whether a VLAN is this one
+abbrev pub is_vlan : (vid : ℕ) → Option ℕ → Bool
+is_vlan vid None = false
+is_vlan vid (Some other) = nat_eq other vid
+
+-- Whether a change is one of a VLAN with such a part of the table: a frame of the VLAN, or stations in its part are
+-- forgotten.
+abbrev pub is_in : (vid : ℕ) → VlanConfig → Change → Bool
+is_in vid vlan (Came v) = is_vlan vid (arrival_vlan v)
+is_in vid vlan (Forgot first count which) = not (are_apart vlan.first_bucket vlan.buckets first count)
+
+-- The VLAN has this part of the table, and each other VLAN has another one.
+abbrev pub HasOwnPart : (vid : ℕ) → VlanConfig → List VlanConfig → Type 0
+HasOwnPart vid vlan vlans =
+    (other : ℕ) → MatchBool (nat_eq other vid)
+    (((row_of vlans other).first_bucket ≡ vlan.first_bucket) × ((row_of vlans other).buckets ≡ vlan.buckets))
+    (are_apart vlan.first_bucket vlan.buckets (row_of vlans other).first_bucket (row_of vlans other).buckets ≡ true)
+
+-- .. at each frame
+abbrev pub KeepsPart : (vid : ℕ) → VlanConfig → Change → Type 0
+KeepsPart vid vlan (Came v) = HasOwnPart vid vlan v.settings.vlans
+KeepsPart vid vlan (Forgot first count which) = Unit {0}
+
+abbrev pub KeepPart : (vid : ℕ) → VlanConfig → List Change → Type 0
+KeepPart vid vlan [] = Unit {0}
+KeepPart vid vlan (c ∷ earlier) = KeepsPart vid vlan c × KeepPart vid vlan earlier
+
+-- ---- what was seen in a VLAN
+
+-- the sightings after a further frame: its source, if it teaches the bridge
+abbrev pub seen_with : (vid : ℕ) → Event → Result (Front × Arrived) Discarded → List Sighting → List Sighting
+seen_with vid v (Err reason) earlier = earlier
+seen_with vid v (Ok a) earlier =
+    if nat_eq a.1.vlan vid && teaches v.settings v.from (refused_in v a.0 a.1)
+    then sighting v.now v.from a.1 ∷ earlier else earlier
+
+abbrev pub seen : (vid : ℕ) → List Change → List Sighting
+seen vid [] = []
+seen vid (Came v ∷ earlier) = seen_with vid v (arrival v) (seen vid earlier)
+seen vid (Forgot first count which ∷ earlier) = seen vid earlier
+
+-- The bridge has this key at each frame of a VLAN.
+abbrev pub HasKey : (key : List ℕ) (vid : ℕ) → Change → Type 0
+HasKey key vid (Came v) = arrival_vlan v ≡ Some vid → v.settings.key ≡ key
+HasKey key vid (Forgot first count which) = Unit {0}
+
+abbrev pub HaveKey : (key : List ℕ) (vid : ℕ) → List Change → Type 0
+HaveKey key vid [] = Unit {0}
+HaveKey key vid (c ∷ earlier) = HasKey key vid c × HaveKey key vid earlier

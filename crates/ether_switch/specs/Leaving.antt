@@ -1,5 +1,5 @@
 -- In which form a frame leaves a bridge.
-use Rattle.std.specs.Prelude.{◌≡◌, ℕ, List, drop, Option, Some, None, Result, Ok, Err, Bool, true, false, ◌&&◌, nat_eq, if◌then◌else◌, is_some, MatchBool}
+use Rattle.std.specs.Prelude.{◌≡◌, ℕ, List, drop, Option, Some, None, Result, Ok, Err, Bool, is_some}
 use Rattle.etherparse.specs.Bytes.{bit}
 use Rattle.etherparse.specs.Header.{Header}
 use Rattle.etherparse.specs.Vlan.{VlanValue}
@@ -10,24 +10,9 @@ use Rattle.ether_packet.specs.Popping.{IsPopped}
 use Rattle.ether_packet.specs.Pushing.{IsPushed}
 use Rattle.ether_packet.specs.Setting.{SetsTag}
 use Rattle.ether_switch.specs.declared.arrival.Discarded.{Discarded}
-use Rattle.ether_switch.specs.declared.port.PortConfig.{PortConfig}
-use Rattle.ether_switch.specs.declared.received.Forwarding.{Forwarding}
-use Rattle.ether_switch.specs.declared.received.Forwarding.TheVariants.{Port, Discard, Flood}
 use Rattle.ether_switch.specs.declared.received.Received.{Received}
 use Rattle.ether_switch.specs.Arrivals.{Front}
 use Rattle.ether_switch.specs.BridgeKinds.{tpid_of}
-use Rattle.ether_switch.specs.VlanSets.{has}
-
--- whether a frame that came in by the port `from` leaves by the port `to`, by this decision
-abbrev pub includes : Forwarding → (from to : ℕ) → Bool
-includes (Port n) from to = nat_eq to n
-includes Discard from to = false
-includes Flood from to = if nat_eq to from then false else true
-
--- whether a frame leaves by a port: the decision includes the port, and it is a member of the frame's VLAN (IEEE
--- 802.1Q, 8.6.4)
-abbrev pub goes_to : Received → (to : ℕ) → PortConfig → Bool
-goes_to r to port = includes r.decision r.from to && has port.members r.vlan
 
 -- the tag of a frame's VLAN
 abbrev pub own_tag : Received → VlanValue
@@ -58,13 +43,6 @@ abbrev pub LeavesUntagged : Result Front Discarded → (frame : List ℕ) (hs : 
     → Type 0
 LeavesUntagged (Ok f) frame hs e sent = HasNoTag f.tag frame hs e sent
 LeavesUntagged (Err reason) frame hs e sent = ⊥
-
--- How it leaves by a port: without a tag if its VLAN is in the port's untagged set (IEEE 802.1Q, 6.9 and 8.8.2), else
--- with a tag.
-abbrev pub Leaves : Received → PortConfig → Result Front Discarded → (frame : List ℕ) (hs : List Header) (e : Ending)
-    (sent : List ℕ) → Type 0
-Leaves r port front frame hs e sent =
-    MatchBool (has port.untagged r.vlan) (LeavesUntagged front frame hs e sent) (LeavesTagged r front frame hs e sent)
 
 -- ---- how it is found
 

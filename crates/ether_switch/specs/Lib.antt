@@ -1,7 +1,9 @@
-pub mod VlanSets
+pub mod Ports
+pub mod Vlans
+pub mod SipHash
 pub mod BridgeKinds
 pub mod Arrivals
-pub mod Learning
+pub mod Stations
 pub mod Relaying
 pub mod Leaving
 pub mod History

@@ -1,12 +1,12 @@
 //! Frames that come in by a port.
-ghost use Rattle.std.specs.Prelude.{◌≡◌, ◌<◌, ◌^◌, List, IfOk};
+ghost use Rattle.std.specs.Prelude.{◌≡◌, ◌≢◌, ◌<◌, ◌^◌, List, IfOk};
 ghost use Rattle.etherparse.specs.Bytes.{number};
 ghost use Rattle.etherparse.specs.Header.{Header};
 ghost use Rattle.etherparse.specs.Vlan.{vlan_view};
 ghost use Rattle.ether_peel.specs.Grammar.Stack.{Ending, Walk};
 ghost use Rattle.ether_peel.specs.Walker.Start.{start_of};
 ghost use Rattle.ether_peel.specs.declared.start.Start.TheVariants as starts;
-ghost use Rattle.ether_switch.specs.Arrivals.{front_of, read_as, front_view, tagging_of, admits as admits_of, vlan_of, priority_of, is_drop_eligible as drop_eligible_of, is_station as is_station_of, is_group as is_group_of, refusal as refusal_of, admitted as admitted_of, arrival_in, arrival};
+ghost use Rattle.ether_switch.specs.Arrivals.{front_of, read_as, front_view, tagging_of, admits as admits_of, vlan_of, priority_of, is_drop_eligible as drop_eligible_of, is_station as is_station_of, is_group as is_group_of, has_second_tag as has_second_tag_of, refusal as refusal_of, arrived as arrived_of, arrival_in};
 
 use crate::{AcceptableFrames, BridgeKind, PortConfig, Vlan};
 use ether_base::big_endian::u64_of;
@@ -28,10 +28,12 @@ pub enum Discarded {
     Source,
     /// The port does not accept frames with such a tag, or frames without a tag (IEEE 802.1Q, 6.9).
     FrameType,
+    /// The port refuses a second tag, and the frame has one.
+    SecondTag,
     /// The port filters ingress, and is not a member of the frame's VLAN (IEEE 802.1Q, 8.6.2).
     NotAMember,
-    /// Its destination is a reserved address (IEEE 802.1Q, 8.6.3).
-    ReservedAddress,
+    /// The port is not forwarding (IEEE 802.1Q, 8.4).
+    PortState,
 }
 
 impl fmt::Display for Discarded {
@@ -48,8 +50,9 @@ impl fmt::Display for Discarded {
             Discarded::Source => "The frame's source is not the address of a station.",
             Discarded::FrameType =>
                 "The port does not take frames with such a tag, or without one.",
+            Discarded::SecondTag => "The port does not take frames with a second tag.",
             Discarded::NotAMember => "The port is not a member of the frame's VLAN.",
-            Discarded::ReservedAddress => "The frame's destination is reserved.",
+            Discarded::PortState => "The port is not forwarding.",
         })
     }
 }
@@ -64,9 +67,9 @@ pub(crate) enum Tagging {
     VlanTagged,
 }
 
-/// A frame that a port accepts. The addresses are numbers of 48 bits.
+/// What a bridge reads of a frame that comes in by a port. The addresses are numbers of 48 bits.
 #[derive(Clone, Copy, Debug)]
-pub(crate) struct Admitted {
+pub(crate) struct Arrived {
     pub vlan: Vlan,
     pub priority: VlanPcp,
     pub drop_eligible: bool,
@@ -74,34 +77,25 @@ pub(crate) struct Admitted {
     pub destination: u64,
 }
 
-/// Accepts a frame, or says why the bridge discards it.
-pub(crate) fn admit(
-    kind: BridgeKind,
-    port: &PortConfig,
-    frame: &[u8],
-) -> Result<Admitted, Discarded>
-    ensures addresses { IfOk result (λ a. (a.source < 2 ^ 48) × (a.destination < 2 ^ 48)) }
-    ensures value { (hs : List Header) (e : Ending) → Walk (start_of starts.Ethernet2) frame.now hs e
-        → result ≡ arrival kind port.now hs }
-{
-    match read_front(kind, frame) {
-        Ok(front) => admit_front(port, &front),
-        Err(reason) => Err(reason),
-    }
-}
-
-/// Does as `admit` with a frame whose header and tag were read.
-fn admit_front(port: &PortConfig, front: &EthernetFront) -> Result<Admitted, Discarded>
-    ensures addresses { IfOk result (λ a. (a.source < 2 ^ 48) × (a.destination < 2 ^ 48)) }
+/// Reads the VLAN, the priority and the addresses of a frame whose header and tag were read.
+pub(crate) fn arrive(port: &PortConfig, front: &EthernetFront) -> Result<Arrived, Discarded>
+    ensures addresses { IfOk result (λ a. (a.source < 2 ^ 48) × (a.destination < 2 ^ 48) × (a.source ≢ 0)) }
     ensures value { result ≡ arrival_in port.now (front_view front.now) (vlan_of port.now.pvid (front_view front.now)) }
 {
     let Some(vlan) = vlan_for(port.pvid, front) else {
         return Err(Discarded::ReservedIdentifier);
     };
-    match refusal(port, front, vlan) {
-        Some(reason) => Err(reason),
-        None => Ok(taken(port, front, vlan)),
+    let source = address_of(front.link.source);
+    if !is_station(source) {
+        return Err(Discarded::Source);
     }
+    Ok(Arrived {
+        vlan,
+        priority: priority(port.default_priority, front),
+        drop_eligible: is_drop_eligible(front),
+        source,
+        destination: address_of(front.link.destination),
+    })
 }
 
 /// The header of a frame, and the tag after it if that is of the bridge's kind.
@@ -134,33 +128,34 @@ fn vlan_for(pvid: Vlan, front: &EthernetFront) -> Option<Vlan>
     }
 }
 
-/// Why a port refuses a frame of a VLAN, if it refuses it.
-fn refusal(port: &PortConfig, front: &EthernetFront, vlan: Vlan) -> Option<Discarded>
-    ensures { result ≡ refusal_of port.now (front_view front.now) vlan }
+/// Why a port refuses a frame, if it refuses it. `is_member` says whether it is a member of the frame's VLAN.
+pub(crate) fn refusal(
+    kind: BridgeKind,
+    port: &PortConfig,
+    is_member: bool,
+    front: &EthernetFront,
+) -> Option<Discarded>
+    ensures { result ≡ refusal_of kind port.now is_member (front_view front.now) }
 {
-    if !is_station(address_of(front.link.source)) {
-        return Some(Discarded::Source);
-    }
     if !admits(port.frame_types, tagging_in(front)) {
         return Some(Discarded::FrameType);
     }
-    if port.ingress_filtering && !port.members.contains(vlan) {
+    if port.refuses_second_tag && has_second_tag(kind, front) {
+        return Some(Discarded::SecondTag);
+    }
+    if port.ingress_filtering && !is_member {
         return Some(Discarded::NotAMember);
     }
     None
 }
 
-/// The frame of a VLAN as a port accepts it.
-fn taken(port: &PortConfig, front: &EthernetFront, vlan: Vlan) -> Admitted
-    ensures addresses { (result.source < 2 ^ 48) × (result.destination < 2 ^ 48) }
-    ensures value { result ≡ admitted_of port.now (front_view front.now) vlan }
+/// Whether the tag of a frame is followed by another one of the bridge's kind.
+fn has_second_tag(kind: BridgeKind, front: &EthernetFront) -> bool
+    ensures { result ≡ has_second_tag_of kind (front_view front.now) }
 {
-    Admitted {
-        vlan,
-        priority: priority(port.default_priority, front),
-        drop_eligible: is_drop_eligible(front),
-        source: address_of(front.link.source),
-        destination: address_of(front.link.destination),
+    match front.vlan {
+        Some(tag) => tag.ether_type == kind.tpid(),
+        None => false,
     }
 }
 
@@ -203,6 +198,7 @@ fn admits(frame_types: AcceptableFrames, tagging: Tagging) -> bool
         AcceptableFrames::All => true,
         AcceptableFrames::OnlyVlanTagged => tagging == Tagging::VlanTagged,
         AcceptableFrames::OnlyUntaggedAndPriorityTagged => tagging != Tagging::VlanTagged,
+        AcceptableFrames::OnlyUntagged => tagging == Tagging::Untagged,
     }
 }
 
@@ -216,14 +212,14 @@ pub(crate) fn address_of(bytes: [u8; 6]) -> u64
 }
 
 /// Whether an address is that of a single station: not a group address, and not all zeros.
-fn is_station(address: u64) -> bool
+pub(crate) fn is_station(address: u64) -> bool
     ensures { result ≡ is_station_of address }
 {
     !is_group(address) && address != 0
 }
 
 /// Whether an address is a group address.
-pub(crate) fn is_group(address: u64) -> bool
+fn is_group(address: u64) -> bool
     ensures { result ≡ is_group_of address }
 {
     address / (1 << 40) % 2 == 1

@@ -1,25 +1,44 @@
 //! The forwarding of a bridge with VLANs (IEEE 802.1Q, in the edition of 2018). No call allocates memory.
 //!
-//! A [`Bridge`] receives a frame by a port: it learns the port of the frame's source in a [`StationTable`], and
-//! decides where the frame goes. [`Received::send`] makes the frame ready, in place, for each port by which it leaves.
+//! A [`Bridge`] receives a frame by a port: it learns the port of the frame's source in a table of [`StationBucket`]s,
+//! and decides by which ports the frame leaves. [`Received::make_tagged`] and [`Received::make_untagged`] make the
+//! frame ready, in place, once for each form in which it leaves.
 //!
 //! ```
 //! let vlan = Vlan::try_new(10)?;
-//! let (access, trunk) = (PortConfig::access(vlan), PortConfig::trunk());
+//! let (access, trunk) = (1, 2);
+//! let mut ports = PortSet::only(access);
+//! ports.insert(trunk);
+//! let states = PortStates {
+//!     learning: ports,
+//!     forwarding: ports,
+//!     ..PortStates::NONE
+//! };
+//! let mut vlans = [VlanConfig::NONE; 11]; // each at the index of its identifier
+//! vlans[10] = VlanConfig {
+//!     members: ports,
+//!     untagged: PortSet::only(access),
+//!     first_bucket: 0,
+//!     buckets: 64,
+//! };
 //! let bridge = Bridge {
 //!     kind: BridgeKind::Customer,
 //!     ageing_time: Bridge::AGEING_TIME,
+//!     key: [0x0706050403020100, 0x0F0E0D0C0B0A0908], // random numbers in earnest
+//!     ports: &states,
+//!     vlans: &vlans,
 //!     static_entries: &[],
+//!     forwarded: 0,
 //! };
-//! let mut table = StationTable::<64>::new();
+//! let mut table = [StationBucket::EMPTY; 64];
 //! let mut buffer = [
 //!     0x00, 0x00, 0x00, 0x00, // free
 //!     0xFF, 0xFF, 0xFF, 0xFF, 0xFF, 0xFF, 0x02, 0x00, 0x00, 0x00, 0x00, 0x01, 0x08, 0x06, // Ethernet II
 //!     0x00,
 //! ];
-//! if let Ok(received) = bridge.receive(&mut table, 0, 1, &access, &buffer[4..]) {
-//!     assert_eq!(rt; received.decision, Forwarding::Flood);
-//!     assert_eq!(rt; received.send(2, &trunk, &mut buffer), Some(0));
+//! if let Ok(received) = bridge.receive(&mut table, 0, access, &PortConfig::access(vlan), &buffer[4..]) {
+//!     assert!(rt; received.tagged == PortSet::only(trunk) && received.untagged == PortSet::NONE);
+//!     assert_eq!(rt; received.make_tagged(&mut buffer), Some(0));
 //!     assert_eq!(rt; buffer, [
 //!         0xFF, 0xFF, 0xFF, 0xFF, 0xFF, 0xFF, 0x02, 0x00, 0x00, 0x00, 0x00, 0x01, 0x81, 0x00, // Ethernet II
 //!         0x00, 0x0A, 0x08, 0x06, // VLAN
@@ -28,27 +47,33 @@
 //! }
 //! ```
 //!
-//! These parts of the standard are left out: spanning trees (the caller must not pass frames of a blocked port), the
-//! registration of VLANs and groups (frames to a group go to all members of the VLAN), shared learning (each VLAN
-//! learns for itself), and tables that map priorities.
+//! These parts of the standard are left out: the protocols of spanning trees and of the registration of VLANs and
+//! groups (the caller may have them: frames to reserved addresses are returned to it, port states and static entries
+//! are arguments), shared learning (each VLAN learns for itself), and tables that map priorities. No time to live
+//! stops a frame in a loop: without a spanning tree, a network with two ways from one port to another floods for ever.
 #![tactic(auto)]
 
 mod arrival;
 mod bridge;
 mod bridge_kind;
+mod forgetting;
 pub mod laws;
 mod port;
+mod port_set;
 mod received;
 mod retagging;
+mod sip_hash;
 mod stations;
 mod vlan;
-mod vlan_set;
+mod vlan_config;
 
 pub use arrival::Discarded;
 pub use bridge::{Bridge, StaticEntry};
 pub use bridge_kind::BridgeKind;
-pub use port::{AcceptableFrames, PortConfig};
-pub use received::{Forwarding, Received};
-pub use stations::{Sighting, StationBucket, StationTable};
+pub use forgetting::{Forgotten, forget};
+pub use port::{AcceptableFrames, PortConfig, PortStates};
+pub use port_set::PortSet;
+pub use received::Received;
+pub use stations::{Sighting, StationBucket};
 pub use vlan::{Vlan, VlanError};
-pub use vlan_set::VlanSet;
+pub use vlan_config::{VlanConfig, parts_are_in_order};

@@ -1,115 +1,47 @@
 //! Frames that a bridge has received, and in which form they leave.
-ghost use Rattle.std.specs.Prelude.{◌≡◌, ◌≤◌, List, length, drop, is_some, is_ok, ◌&&◌, IfSome, IfNone, OnSome};
+ghost use Rattle.std.specs.Prelude.{◌≡◌, ◌≤◌, List, length, drop, is_some, is_ok, IfSome, IfNone, OnSome};
 ghost use Rattle.etherparse.specs.Header.{Header};
 ghost use Rattle.ether_peel.specs.Grammar.Stack.{Ending, Walk};
 ghost use Rattle.ether_peel.specs.Walker.Start.{start_of};
 ghost use Rattle.ether_peel.specs.declared.start.Start.TheVariants as starts;
 ghost use Rattle.ether_switch.specs.Arrivals.{front_of};
-ghost use Rattle.ether_switch.specs.Leaving.{includes as includes_of, goes_to as goes_to_of, has_tag, LeavesTagged, LeavesUntagged, Leaves};
+ghost use Rattle.ether_switch.specs.Leaving.{has_tag, LeavesTagged, LeavesUntagged};
 
 use crate::arrival::read_front;
-use crate::{BridgeKind, PortConfig, Vlan, retagging};
+use crate::{BridgeKind, PortSet, Vlan, retagging};
 use etherparse::VlanPcp;
-
-/// Where a bridge sends a frame.
-#[derive(Clone, Copy, PartialEq, Eq, Debug)]
-pub enum Forwarding {
-    /// To one port.
-    Port(u16),
-    /// Nowhere: its destination is at the port by which it came in, or a static entry says so.
-    Discard,
-    /// To all ports except the one by which it came in.
-    Flood,
-}
 
 /// What a bridge knows of a frame that it has received.
 #[derive(Clone, Copy, Debug)]
 pub struct Received {
     /// The kind of the bridge.
     pub kind: BridgeKind,
-    /// The port by which it came in.
-    pub from: u16,
     /// Its VLAN.
     pub vlan: Vlan,
     /// Its priority: that of its tag, or else the port's default.
     pub priority: VlanPcp,
     /// Whether its tag says that it may be dropped first under congestion.
     pub drop_eligible: bool,
-    /// Where it goes.
-    pub decision: Forwarding,
+    /// Whether it is for the bridge itself, for example for its spanning tree: its destination is a reserved address
+    /// (IEEE 802.1Q, 8.6.3). It then leaves by no port.
+    pub reserved: bool,
+    /// The ports by which it leaves with the tag of its VLAN.
+    pub tagged: PortSet,
+    /// The ports by which it leaves without a tag.
+    pub untagged: PortSet,
 }
 
 impl Received {
-    /// Makes the frame ready to leave by a port, and returns the index in the buffer at which it then begins.
-    ///
-    /// The buffer has four free bytes, and then the frame as it was received. The frame leaves as `buffer[at..]`:
-    /// without its tag if its VLAN is in the port's untagged set, else with the tag of its VLAN. Only bytes before the
-    /// frame's payload change, so the time does not depend on its length.
-    ///
-    /// Returns `None`, leaving the buffer unchanged, if the frame does not leave by the port: the decision does not
-    /// include the port, or the port is not a member of the VLAN. The same is returned if the frame in the buffer is
-    /// too short for its header or its tag.
-    ///
-    /// If the frame leaves by many ports, call [`Received::tagged`] once, on a copy of the frame, for all ports that
-    /// send it with a tag, and [`Received::untagged`] once, on another copy, for all others.
-    ///
-    /// # Examples
-    ///
-    /// ```
-    /// let vlan = Vlan::try_new(10)?;
-    /// let received = Received {
-    ///     kind: BridgeKind::Customer,
-    ///     from: 1,
-    ///     vlan,
-    ///     priority: VlanPcp::ZERO,
-    ///     drop_eligible: false,
-    ///     decision: Forwarding::Flood,
-    /// };
-    /// let mut buffer = [
-    ///     0x00, 0x00, 0x00, 0x00, // free
-    ///     0x02, 0x00, 0x00, 0x00, 0x00, 0x01, 0x02, 0x00, 0x00, 0x00, 0x00, 0x02, 0x81, 0x00, // Ethernet II
-    ///     0x00, 0x0A, 0x08, 0x06, // VLAN
-    ///     0x00,
-    /// ];
-    /// assert_eq!(rt; received.send(1, &PortConfig::access(vlan), &mut buffer), None);
-    /// assert_eq!(rt; received.send(2, &PortConfig::access(vlan), &mut buffer), Some(8));
-    /// assert_eq!(rt; buffer[8..], [
-    ///     0x02, 0x00, 0x00, 0x00, 0x00, 0x01, 0x02, 0x00, 0x00, 0x00, 0x00, 0x02, 0x08, 0x06, // Ethernet II
-    ///     0x00,
-    /// ]);
-    /// ```
-    pub fn send(&self, to: u16, port: &PortConfig, buffer: &mut [u8]) -> Option<usize>
-        ensures sent { IfSome result (λ at. (hs : List Header) (e : Ending)
-            → Walk (start_of starts.Ethernet2) (drop 4 buffer.old) hs e
-            → Leaves self.now port.now (front_of self.now.kind hs) (drop 4 buffer.old) hs e (drop at buffer.new)) }
-        ensures goes { (hs : List Header) (e : Ending)
-            → Walk (start_of starts.Ethernet2) (drop 4 buffer.old) hs e
-            → is_some result ≡ (goes_to_of self.now to port.now && is_ok (front_of self.now.kind hs)) }
-        ensures kept { IfNone result (buffer.new ≡ buffer.old) }
-    {
-        if !self.goes_to(to, port) {
-            return None;
-        }
-        if port.untagged.contains(self.vlan) {
-            return self.untagged(buffer);
-        }
-        self.tagged(buffer)
-    }
-
-    /// Whether the frame leaves by the port with the number `to`.
-    pub fn goes_to(&self, to: u16, port: &PortConfig) -> bool
-        ensures { result ≡ goes_to_of self.now to port.now }
-    {
-        self.decision.includes(self.from, to) && port.members.contains(self.vlan)
-    }
-
     /// Makes the frame ready to leave with the tag of its VLAN, and returns the index in the buffer at which it then
     /// begins.
     ///
-    /// The buffer is that of [`Received::send`]. A tag of the bridge's kind keeps its priority, and gets the
-    /// identifier of the VLAN; a frame without such a tag gets one. Returns `None`, leaving the buffer unchanged, if
-    /// the frame is too short for its header or its tag.
-    pub fn tagged(&self, buffer: &mut [u8]) -> Option<usize>
+    /// The buffer has four free bytes, and then the frame as it was received. The frame leaves as `buffer[at..]`. Only
+    /// bytes before its payload change, so the time does not depend on its length. If it also leaves without a tag,
+    /// one of the two forms is made on a copy.
+    ///
+    /// A tag of the bridge's kind keeps its priority, and gets the identifier of the VLAN; a frame without such a tag
+    /// gets one. Returns `None`, leaving the buffer unchanged, if the frame is too short for its header or its tag.
+    pub fn make_tagged(&self, buffer: &mut [u8]) -> Option<usize>
         ensures sent { IfSome result (λ at. (hs : List Header) (e : Ending)
             → Walk (start_of starts.Ethernet2) (drop 4 buffer.old) hs e
             → LeavesTagged self.now (front_of self.now.kind hs) (drop 4 buffer.old) hs e (drop at buffer.new)) }
@@ -133,12 +65,12 @@ impl Received {
 
     /// Makes the frame ready to leave without a tag, and returns the index in the buffer at which it then begins.
     ///
-    /// The buffer is that of [`Received::send`]. Returns `None`, leaving the buffer unchanged, if the frame is too
-    /// short for its header or its tag.
+    /// The buffer is that of [`Received::make_tagged`]. Returns `None`, leaving the buffer unchanged, if the frame is
+    /// too short for its header or its tag.
     ///
     /// Only the first tag is taken off: a frame that came in with two tags of the bridge's kind leaves with the second
     /// one.
-    pub fn untagged(&self, buffer: &mut [u8]) -> Option<usize>
+    pub fn make_untagged(&self, buffer: &mut [u8]) -> Option<usize>
         ensures sent { IfSome result (λ at. (hs : List Header) (e : Ending)
             → Walk (start_of starts.Ethernet2) (drop 4 buffer.old) hs e
             → LeavesUntagged (front_of self.now.kind hs) (drop 4 buffer.old) hs e (drop at buffer.new)) }
@@ -172,18 +104,5 @@ fn is_tagged(kind: BridgeKind, buffer: &[u8]) -> Option<bool>
     match read_front(kind, &buffer[4..]) {
         Ok(front) => Some(front.vlan.is_some()),
         Err(_) => None,
-    }
-}
-
-impl Forwarding {
-    /// Whether a frame that came in by the port `from` leaves by the port `to`.
-    fn includes(self, from: u16, to: u16) -> bool
-        ensures { result ≡ includes_of self from to }
-    {
-        match self {
-            Forwarding::Port(number) => to == number,
-            Forwarding::Discard => false,
-            Forwarding::Flood => to != from,
-        }
     }
 }

@@ -1,1 +1,3 @@
 pub mod Joined
+pub mod Answered
+pub mod Numbered

@@ -3,16 +3,16 @@ ghost use Rattle.std.specs.Prelude.{◌≡◌, ◌^◌, ◌<◌, List, ℕ, leng
 ghost use Rattle.ether_pcap.specs.CaptureViews.{captured_packet_view, timestamp_view};
 ghost use Rattle.example_switch.specs.Reading.{IsReceived, seconds_of};
 
+use crate::port::Port;
 use ether_content::without_fcs;
 use ether_pcap::{CapturedPacket, LinkType, Timestamp};
-use ether_switch::PortConfig;
 
-/// When a frame came in, in seconds, and the number and the configuration of its port.
+/// When a frame came in, in seconds, and the number of its port and the port.
 #[derive(Clone, Copy, Debug)]
 pub(crate) struct Arrival {
-    pub time: u64,
-    pub from: u16,
-    pub port: PortConfig,
+    pub time: u32,
+    pub from: u8,
+    pub port: Port,
 }
 
 /// A frame that came in.
@@ -24,11 +24,8 @@ pub(crate) struct Arrived<'a> {
 
 /// The frame of a packet, which comes in by the port of its interface. `None` if it is not an Ethernet frame, or if
 /// its interface is not a port.
-pub(crate) fn read_packet<'a>(
-    ports: &[PortConfig],
-    packet: &CapturedPacket<'a>,
-) -> Option<Arrived<'a>>
-    requires { length ports.now < 2 ^ 16 }
+pub(crate) fn read_packet<'a>(ports: &[Port], packet: &CapturedPacket<'a>) -> Option<Arrived<'a>>
+    requires { length ports.now < 2 ^ 8 }
     ensures some { IfSome result (λ r. IsReceived ports.now (captured_packet_view packet.now)
         r.arrival r.frame.now) }
     ensures none { IfNone result ((arrival : Arrival) (frame : List ℕ)
@@ -41,7 +38,7 @@ pub(crate) fn read_packet<'a>(
     let port = ports.get(index)?;
     let arrival = Arrival {
         time: seconds(packet.time),
-        from: index as u16 + 1,
+        from: index as u8 + 1,
         port: *port,
     };
     Some(Arrived {
@@ -50,12 +47,12 @@ pub(crate) fn read_packet<'a>(
     })
 }
 
-/// The seconds of a time; 0 if there is no time.
-fn seconds(time: Option<Timestamp>) -> u64
+/// The seconds of a time, at most 2^32 - 1; 0 if there is no time.
+fn seconds(time: Option<Timestamp>) -> u32
     ensures { result ≡ seconds_of (option_map timestamp_view time) }
 {
     match time {
-        Some(time) => time.seconds,
+        Some(time) => time.seconds.min(u64::from(u32::MAX)) as u32,
         None => 0,
     }
 }

@@ -1,20 +1,18 @@
 //! The configuration of a bridge's port, as a struct of C.
 
-use etherpeel::ether_switch::{AcceptableFrames, PortConfig, Vlan, VlanSet};
+use etherpeel::ether_switch::{AcceptableFrames, PortConfig, Vlan};
 use etherpeel::VlanPcp;
 
 /// The configuration of a bridge's port: `etherpeel_port` in C.
 #[repr(C)]
 #[derive(Clone, Copy)]
 pub struct EtherPort {
-    /// The VLANs whose frames leave by the port.
-    pub members: VlanSet,
-    /// The VLANs whose frames leave without a tag.
-    pub untagged: VlanSet,
     /// The VLAN of a frame that comes in without a tag, or with a tag that has only a priority: 1 to 4094.
     pub pvid: u16,
-    /// Which frames it accepts: 0 all, 1 those with a tag that names a VLAN, 2 the others.
+    /// Which frames it accepts: 0 all, 1 those with a tag that names a VLAN, 2 the others, 3 those without a tag.
     pub frame_types: u8,
+    /// Whether it discards frames with a second tag of the bridge's kind: 0 if not.
+    pub refuses_second_tag: u8,
     /// Whether it discards frames of VLANs that it is not a member of: 0 if not.
     pub ingress_filtering: u8,
     /// The priority of a frame that comes in without a tag: 0 to 7.
@@ -22,7 +20,7 @@ pub struct EtherPort {
 }
 
 // as c/etherpeel.h lays it out
-const _: () = assert!(size_of::<EtherPort>() == 1032);
+const _: () = assert!(size_of::<EtherPort>() == 6);
 
 impl EtherPort {
     /// The configuration of the port, if its numbers fit their fields.
@@ -36,9 +34,8 @@ impl EtherPort {
         let frame_types = frame_types(self.frame_types)?;
         Some(PortConfig {
             pvid,
-            members: self.members,
-            untagged: self.untagged,
             frame_types,
+            refuses_second_tag: self.refuses_second_tag != 0,
             ingress_filtering: self.ingress_filtering != 0,
             default_priority,
         })
@@ -51,6 +48,7 @@ fn frame_types(number: u8) -> Option<AcceptableFrames> {
         0 => Some(AcceptableFrames::All),
         1 => Some(AcceptableFrames::OnlyVlanTagged),
         2 => Some(AcceptableFrames::OnlyUntaggedAndPriorityTagged),
+        3 => Some(AcceptableFrames::OnlyUntagged),
         _ => None,
     }
 }

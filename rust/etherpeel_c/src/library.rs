@@ -1,11 +1,11 @@
 //! What a program can ask of its library, to find out whether the two fit.
 
 use crate::{
-    EtherArp, EtherCaptureEnd, EtherCaptured, EtherEthernet2, EtherFault, EtherFed, EtherField,
-    EtherFilter, EtherFilterError, EtherFound, EtherFrame, EtherHeaders, EtherLinuxSll,
+    EtherArp, EtherBridge, EtherCaptureEnd, EtherCaptured, EtherEthernet2, EtherFault, EtherFed,
+    EtherField, EtherFilter, EtherFilterError, EtherFound, EtherFrame, EtherHeaders, EtherLinuxSll,
     EtherLinuxSll2, EtherMacsec, EtherPort, EtherReceived, EtherReplaceError, EtherUnit, EtherVlan,
 };
-use etherpeel::ether_switch::{Sighting, StationBucket};
+use etherpeel::ether_switch::{PortSet, PortStates, Sighting, StaticEntry, StationBucket, VlanConfig};
 
 /// The version of the library: 0x10000 times the major number, plus 0x100 times the minor number, plus the patch
 /// number.
@@ -56,6 +56,11 @@ pub extern "C" fn etherpeel_sizeof(number: u32) -> usize {
         20 => size_of::<EtherReceived>(),
         21 => size_of::<Sighting>(),
         22 => size_of::<StationBucket>(),
+        23 => size_of::<PortSet>(),
+        24 => size_of::<VlanConfig>(),
+        25 => size_of::<PortStates>(),
+        26 => size_of::<StaticEntry>(),
+        27 => size_of::<EtherBridge<'_>>(),
         _ => 0,
     }
 }

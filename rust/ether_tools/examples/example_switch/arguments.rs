@@ -1,5 +1,6 @@
 //! Reads the arguments, which are ports.
-use etherpeel::ether_switch::{PortConfig, Vlan};
+use crate::port::Port;
+use etherpeel::ether_switch::Vlan;
 use thiserror::Error;
 
 /// Why the program ends before all packets are read.
@@ -8,8 +9,8 @@ pub(crate) enum SwitchError {
     /// An argument is not a port.
     #[error("a port is `trunk` or the identifier of a VLAN, 1 to 4094")]
     Argument,
-    /// There are more than 65,535 ports.
-    #[error("there are at most 65,535 ports")]
+    /// There are more than 255 ports.
+    #[error("there are at most 255 ports")]
     Count,
     /// A packet is not an Ethernet frame, or its interface is not a port.
     #[error("a packet is an Ethernet frame of an interface that is a port")]
@@ -17,13 +18,13 @@ pub(crate) enum SwitchError {
 }
 
 /// The port in an argument.
-pub(crate) fn port_of(argument: &str) -> Result<PortConfig, SwitchError> {
+pub(crate) fn port_of(argument: &str) -> Result<Port, SwitchError> {
     if argument == "trunk" {
-        return Ok(PortConfig::trunk());
+        return Ok(Port::Trunk);
     }
     match argument.parse::<u16>() {
         Ok(number) => match Vlan::try_new(number) {
-            Ok(vlan) => Ok(PortConfig::access(vlan)),
+            Ok(vlan) => Ok(Port::Access(vlan)),
             Err(_) => Err(SwitchError::Argument),
         },
         Err(_) => Err(SwitchError::Argument),

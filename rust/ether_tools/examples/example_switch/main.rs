@@ -8,14 +8,16 @@
 
 mod arguments;
 mod lines;
+mod port;
 mod reading;
 
 use arguments::{SwitchError, port_of};
 use ether_tools::ether_capture::memory::Global;
 use ether_tools::streams;
 use etherpeel::ether_pcap::CapturePackets;
-use etherpeel::ether_switch::{Bridge, BridgeKind, StationTable};
-use lines::{BUCKETS, frame_lines};
+use etherpeel::ether_switch::{Bridge, BridgeKind};
+use lines::frame_lines;
+use port::{empty_table, states_of, vlans_of};
 use reading::read_packet;
 use std::error::Error;
 use std::io::{Read, Write};
@@ -26,23 +28,29 @@ fn run() -> Result<(), Box<dyn Error>> {
     for argument in streams::arguments()?.skip(1) {
         ports.push(port_of(&argument)?);
     }
-    if ports.len() >= 1 << 16 {
+    if ports.len() >= 1 << 8 {
         return Err(SwitchError::Count.into());
     }
     let mut capture = Vec::new();
     streams::input()?.read_to_end(&mut capture)?;
     let mut output = streams::output()?;
+    let states = states_of(ports.len() as u8);
+    let vlans = vlans_of(Global, &ports)?;
     let bridge = Bridge {
         kind: BridgeKind::Customer,
         ageing_time: Bridge::AGEING_TIME,
+        key: [0, 0], // a switch that reads what others send takes random numbers
+        ports: &states,
+        vlans: &vlans,
         static_entries: &[],
+        forwarded: 0,
     };
-    let mut table = StationTable::<BUCKETS>::new();
+    let mut table = empty_table(Global)?;
     for packet in CapturePackets::from_slice(&capture) {
         let Some(arrived) = read_packet(&ports, &packet?) else {
             return Err(SwitchError::Packet.into());
         };
-        let text = frame_lines(Global, &bridge, &mut table, &ports, &arrived.arrival, arrived.frame)?;
+        let text = frame_lines(Global, &bridge, &mut table, &arrived.arrival, arrived.frame)?;
         output.write_all(text.as_bytes())?;
     }
     Ok(())

@@ -1,15 +1,15 @@
 //! Reads the packets of a capture as frames that come in.
 
+use crate::port::Port;
 use etherpeel::ether_content::without_fcs;
 use etherpeel::ether_pcap::{CapturedPacket, LinkType, Timestamp};
-use etherpeel::ether_switch::PortConfig;
 
-/// When a frame came in, in seconds, and the number and the configuration of its port.
+/// When a frame came in, in seconds, and the number of its port and the port.
 #[derive(Clone, Copy, Debug)]
 pub(crate) struct Arrival {
-    pub time: u64,
-    pub from: u16,
-    pub port: PortConfig,
+    pub time: u32,
+    pub from: u8,
+    pub port: Port,
 }
 
 /// A frame that came in.
@@ -21,10 +21,7 @@ pub(crate) struct Arrived<'a> {
 
 /// The frame of a packet, which comes in by the port of its interface. `None` if it is not an Ethernet frame, or if
 /// its interface is not a port.
-pub(crate) fn read_packet<'a>(
-    ports: &[PortConfig],
-    packet: &CapturedPacket<'a>,
-) -> Option<Arrived<'a>> {
+pub(crate) fn read_packet<'a>(ports: &[Port], packet: &CapturedPacket<'a>) -> Option<Arrived<'a>> {
     if packet.link_type != LinkType::ETHERNET {
         return None;
     }
@@ -32,7 +29,7 @@ pub(crate) fn read_packet<'a>(
     let port = ports.get(index)?;
     let arrival = Arrival {
         time: seconds(packet.time),
-        from: index as u16 + 1,
+        from: index as u8 + 1,
         port: *port,
     };
     Some(Arrived {
@@ -41,10 +38,10 @@ pub(crate) fn read_packet<'a>(
     })
 }
 
-/// The seconds of a time; 0 if there is no time.
-fn seconds(time: Option<Timestamp>) -> u64 {
+/// The seconds of a time, at most 2^32 - 1; 0 if there is no time.
+fn seconds(time: Option<Timestamp>) -> u32 {
     match time {
-        Some(time) => time.seconds,
+        Some(time) => time.seconds.min(u64::from(u32::MAX)) as u32,
         None => 0,
     }
 }

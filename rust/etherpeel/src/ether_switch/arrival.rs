@@ -20,10 +20,12 @@ pub enum Discarded {
     Source,
     /// The port does not accept frames with such a tag, or frames without a tag (IEEE 802.1Q, 6.9).
     FrameType,
+    /// The port refuses a second tag, and the frame has one.
+    SecondTag,
     /// The port filters ingress, and is not a member of the frame's VLAN (IEEE 802.1Q, 8.6.2).
     NotAMember,
-    /// Its destination is a reserved address (IEEE 802.1Q, 8.6.3).
-    ReservedAddress,
+    /// The port is not forwarding (IEEE 802.1Q, 8.4).
+    PortState,
 }
 
 impl fmt::Display for Discarded {
@@ -35,8 +37,9 @@ impl fmt::Display for Discarded {
             Discarded::Source => "The frame's source is not the address of a station.",
             Discarded::FrameType =>
                 "The port does not take frames with such a tag, or without one.",
+            Discarded::SecondTag => "The port does not take frames with a second tag.",
             Discarded::NotAMember => "The port is not a member of the frame's VLAN.",
-            Discarded::ReservedAddress => "The frame's destination is reserved.",
+            Discarded::PortState => "The port is not forwarding.",
         })
     }
 }
@@ -51,9 +54,9 @@ pub(crate) enum Tagging {
     VlanTagged,
 }
 
-/// A frame that a port accepts. The addresses are numbers of 48 bits.
+/// What a bridge reads of a frame that comes in by a port. The addresses are numbers of 48 bits.
 #[derive(Clone, Copy, Debug)]
-pub(crate) struct Admitted {
+pub(crate) struct Arrived {
     pub vlan: Vlan,
     pub priority: VlanPcp,
     pub drop_eligible: bool,
@@ -61,29 +64,23 @@ pub(crate) struct Admitted {
     pub destination: u64,
 }
 
-/// Accepts a frame, or says why the bridge discards it.
+/// Reads the VLAN, the priority and the addresses of a frame whose header and tag were read.
 #[inline]
-pub(crate) fn admit(
-    kind: BridgeKind,
-    port: &PortConfig,
-    frame: &[u8],
-) -> Result<Admitted, Discarded> {
-    match read_front(kind, frame) {
-        Ok(front) => admit_front(port, &front),
-        Err(reason) => Err(reason),
-    }
-}
-
-/// Does as `admit` with a frame whose header and tag were read.
-#[inline]
-fn admit_front(port: &PortConfig, front: &EthernetFront) -> Result<Admitted, Discarded> {
+pub(crate) fn arrive(port: &PortConfig, front: &EthernetFront) -> Result<Arrived, Discarded> {
     let Some(vlan) = vlan_for(port.pvid, front) else {
         return Err(Discarded::ReservedIdentifier);
     };
-    match refusal(port, front, vlan) {
-        Some(reason) => Err(reason),
-        None => Ok(taken(port, front, vlan)),
+    let source = address_of(front.link.source);
+    if !is_station(source) {
+        return Err(Discarded::Source);
     }
+    Ok(Arrived {
+        vlan,
+        priority: priority(port.default_priority, front),
+        drop_eligible: is_drop_eligible(front),
+        source,
+        destination: address_of(front.link.destination),
+    })
 }
 
 /// The header of a frame, and the tag after it if that is of the bridge's kind.
@@ -113,30 +110,32 @@ fn vlan_for(pvid: Vlan, front: &EthernetFront) -> Option<Vlan> {
     }
 }
 
-/// Why a port refuses a frame of a VLAN, if it refuses it.
+/// Why a port refuses a frame, if it refuses it. `is_member` says whether it is a member of the frame's VLAN.
 #[inline]
-fn refusal(port: &PortConfig, front: &EthernetFront, vlan: Vlan) -> Option<Discarded> {
-    if !is_station(address_of(front.link.source)) {
-        return Some(Discarded::Source);
-    }
+pub(crate) fn refusal(
+    kind: BridgeKind,
+    port: &PortConfig,
+    is_member: bool,
+    front: &EthernetFront,
+) -> Option<Discarded> {
     if !admits(port.frame_types, tagging_in(front)) {
         return Some(Discarded::FrameType);
     }
-    if port.ingress_filtering && !port.members.contains(vlan) {
+    if port.refuses_second_tag && has_second_tag(kind, front) {
+        return Some(Discarded::SecondTag);
+    }
+    if port.ingress_filtering && !is_member {
         return Some(Discarded::NotAMember);
     }
     None
 }
 
-/// The frame of a VLAN as a port accepts it.
+/// Whether the tag of a frame is followed by another one of the bridge's kind.
 #[inline]
-fn taken(port: &PortConfig, front: &EthernetFront, vlan: Vlan) -> Admitted {
-    Admitted {
-        vlan,
-        priority: priority(port.default_priority, front),
-        drop_eligible: is_drop_eligible(front),
-        source: address_of(front.link.source),
-        destination: address_of(front.link.destination),
+fn has_second_tag(kind: BridgeKind, front: &EthernetFront) -> bool {
+    match front.vlan {
+        Some(tag) => tag.ether_type == kind.tpid(),
+        None => false,
     }
 }
 
@@ -175,6 +174,7 @@ fn admits(frame_types: AcceptableFrames, tagging: Tagging) -> bool {
         AcceptableFrames::All => true,
         AcceptableFrames::OnlyVlanTagged => tagging == Tagging::VlanTagged,
         AcceptableFrames::OnlyUntaggedAndPriorityTagged => tagging != Tagging::VlanTagged,
+        AcceptableFrames::OnlyUntagged => tagging == Tagging::Untagged,
     }
 }
 
@@ -187,12 +187,12 @@ pub(crate) fn address_of(bytes: [u8; 6]) -> u64 {
 
 /// Whether an address is that of a single station: not a group address, and not all zeros.
 #[inline]
-fn is_station(address: u64) -> bool {
+pub(crate) fn is_station(address: u64) -> bool {
     !is_group(address) && address != 0
 }
 
 /// Whether an address is a group address.
 #[inline]
-pub(crate) fn is_group(address: u64) -> bool {
+fn is_group(address: u64) -> bool {
     address / (1 << 40) % 2 == 1
 }

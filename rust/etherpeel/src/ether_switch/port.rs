@@ -1,65 +1,78 @@
 //! The configuration of a bridge's ports.
 
-use crate::ether_switch::{Vlan, VlanSet};
+use crate::ether_switch::{PortSet, Vlan};
 use crate::VlanPcp;
 
-/// Which frames a port accepts (IEEE 802.1Q, 6.9).
+/// Which frames a port accepts (IEEE 802.1Q, 6.9). A tag that names no VLAN has the identifier 0, and gives only a
+/// priority.
 #[derive(Clone, Copy, PartialEq, Eq, Debug)]
 pub enum AcceptableFrames {
     /// All frames.
     All,
     /// Frames with a tag that names a VLAN.
     OnlyVlanTagged,
-    /// Frames without a tag, and frames with a tag whose identifier is 0.
+    /// Frames without a tag, and frames with a tag that names no VLAN.
     OnlyUntaggedAndPriorityTagged,
+    /// Frames without a tag. (The standard has no such setting.)
+    OnlyUntagged,
 }
 
-/// The configuration of a bridge's port.
+/// The configuration of a bridge's port. Which VLANs it is a member of is part of
+/// [`VlanConfig`](crate::ether_switch::VlanConfig), and its state of [`PortStates`].
 #[derive(Clone, Copy, Debug)]
 pub struct PortConfig {
-    /// The VLAN of a frame that comes in without a tag, or with a tag that has only a priority (PVID).
+    /// The VLAN of a frame that comes in without a tag, or with a tag that names no VLAN (PVID).
     pub pvid: Vlan,
-    /// The VLANs whose frames leave by the port (IEEE 802.1Q, 8.8).
-    pub members: VlanSet,
-    /// The VLANs whose frames leave without a tag (IEEE 802.1Q, 8.8.2).
-    pub untagged: VlanSet,
     /// Which frames it accepts.
     pub frame_types: AcceptableFrames,
+    /// Whether it discards a frame whose tag is followed by another tag of the bridge's kind. If the bridge takes the
+    /// first tag off such a frame, the next bridge reads the second one.
+    pub refuses_second_tag: bool,
     /// Whether it discards incoming frames of VLANs that it is not a member of (IEEE 802.1Q, 8.6.2).
     pub ingress_filtering: bool,
     /// The priority of a frame that comes in without a tag (IEEE 802.1Q, 12.6).
     pub default_priority: VlanPcp,
 }
 
+/// What the ports of a bridge may do now (IEEE 802.1Q, 8.4).
+///
+/// A port that is discarding is in none of the first two sets, one that is learning in the first, and one that is
+/// forwarding in both. A port that is not authorized (IEEE 802.1X) is in none of them.
+///
+/// Each bit pattern is a value.
+#[repr(C)]
+#[derive(Clone, Copy, Debug)]
+pub struct PortStates {
+    /// The ports that learn the sources of the frames that they accept.
+    pub learning: PortSet,
+    /// The ports by which frames come in and leave.
+    pub forwarding: PortSet,
+    /// The ports that exchange no frames with each other, as those of a private VLAN.
+    pub isolated: PortSet,
+    /// The ports by which a copy of each frame that is passed on leaves, with the tag of its VLAN, whatever their state
+    /// and their VLANs are.
+    pub mirrors: PortSet,
+}
+
+impl PortStates {
+    /// All ports are discarding.
+    pub const NONE: PortStates = PortStates {
+        learning: PortSet::NONE,
+        forwarding: PortSet::NONE,
+        isolated: PortSet::NONE,
+        mirrors: PortSet::NONE,
+    };
+}
+
 impl PortConfig {
-    /// A port for stations of one VLAN. It accepts frames without a tag, or with a tag that has only a priority, and
-    /// sends frames without a tag.
-    ///
-    /// ```
-    /// # use etherpeel::*;
-    /// # use etherpeel::ether_peel::*;
-    /// # use etherpeel::ether_fields::*;
-    /// # use etherpeel::ether_sll2::*;
-    /// # use etherpeel::ether_packet::*;
-    /// # use etherpeel::ether_filter::*;
-    /// # use etherpeel::ether_pcap::*;
-    /// # use etherpeel::ether_content::*;
-    /// # use etherpeel::ether_switch::*;
-    /// # fn main() -> Result<(), Box<dyn std::error::Error>> {
-    /// let vlan = Vlan::try_new(10)?;
-    /// let port = PortConfig::access(vlan);
-    /// assert!(port.members.contains(vlan) && port.untagged.contains(vlan));
-    /// # Ok(())
-    /// # }
-    /// ```
+    /// A port for stations of one VLAN. It accepts only frames without a tag.
     ///
     /// <details><summary>Contract</summary>
     ///
     /// ```text
     /// ensures pvid { result.pvid ≡ vlan }
-    /// ensures members { (v : ℕ) → v < 4096 → has result.members v ≡ nat_eq v vlan }
-    /// ensures untagged { (v : ℕ) → v < 4096 → has result.untagged v ≡ nat_eq v vlan }
-    /// ensures frame_types { result.frame_types ≡ AcceptableFrames.OnlyUntaggedAndPriorityTagged }
+    /// ensures frame_types { result.frame_types ≡ AcceptableFrames.OnlyUntagged }
+    /// ensures refuses_second_tag { result.refuses_second_tag ≡ true }
     /// ensures ingress_filtering { result.ingress_filtering ≡ true }
     /// ensures default_priority { result.default_priority ≡ 0 }
     /// ```
@@ -67,45 +80,23 @@ impl PortConfig {
     /// </details>
     #[inline]
     pub fn access(vlan: Vlan) -> PortConfig {
-        let own = only(vlan);
         PortConfig {
             pvid: vlan,
-            members: own,
-            untagged: own,
-            frame_types: AcceptableFrames::OnlyUntaggedAndPriorityTagged,
+            frame_types: AcceptableFrames::OnlyUntagged,
+            refuses_second_tag: true,
             ingress_filtering: true,
             default_priority: VlanPcp::ZERO,
         }
     }
 
-    /// A port to another bridge: a member of all VLANs, whose frames leave with the tag of their VLAN.
-    ///
-    /// ```
-    /// # use etherpeel::*;
-    /// # use etherpeel::ether_peel::*;
-    /// # use etherpeel::ether_fields::*;
-    /// # use etherpeel::ether_sll2::*;
-    /// # use etherpeel::ether_packet::*;
-    /// # use etherpeel::ether_filter::*;
-    /// # use etherpeel::ether_pcap::*;
-    /// # use etherpeel::ether_content::*;
-    /// # use etherpeel::ether_switch::*;
-    /// # fn main() -> Result<(), Box<dyn std::error::Error>> {
-    /// let vlan = Vlan::try_new(10)?;
-    /// let port = PortConfig::trunk();
-    /// assert!(port.members.contains(vlan) && !port.untagged.contains(vlan));
-    /// # Ok(())
-    /// # }
-    /// ```
+    /// A port to another bridge. It accepts only frames with a tag that names a VLAN, and no second tag after it.
     ///
     /// <details><summary>Contract</summary>
     ///
     /// ```text
     /// ensures pvid { result.pvid ≡ 1 }
-    /// ensures members { (v : ℕ) → 1 ≤ v → v ≤ 4094 → has result.members v ≡ true }
-    /// ensures reserved { (has result.members 0 ≡ false) × (has result.members 4095 ≡ false) }
-    /// ensures untagged { (v : ℕ) → v < 4096 → has result.untagged v ≡ false }
     /// ensures frame_types { result.frame_types ≡ AcceptableFrames.OnlyVlanTagged }
+    /// ensures refuses_second_tag { result.refuses_second_tag ≡ true }
     /// ensures ingress_filtering { result.ingress_filtering ≡ true }
     /// ensures default_priority { result.default_priority ≡ 0 }
     /// ```
@@ -115,21 +106,12 @@ impl PortConfig {
     pub fn trunk() -> PortConfig {
         PortConfig {
             pvid: default_pvid(),
-            members: VlanSet::all(),
-            untagged: VlanSet::new(),
             frame_types: AcceptableFrames::OnlyVlanTagged,
+            refuses_second_tag: true,
             ingress_filtering: true,
             default_priority: VlanPcp::ZERO,
         }
     }
-}
-
-/// The set of one VLAN.
-#[inline]
-fn only(vlan: Vlan) -> VlanSet {
-    let mut set = VlanSet::new();
-    set.insert(vlan);
-    set
 }
 
 /// The initial VLAN of ports (IEEE 802.1Q, table 9-2).

@@ -1,61 +1,37 @@
 //! The stations that a bridge has learned.
 
-use arrayvec::ArrayVec;
+use crate::ether_switch::VlanConfig;
+use crate::ether_switch::arrival::is_station;
+use crate::ether_switch::sip_hash::sip_hash;
 
 /// A frame of a station: when it came in, and by which port.
 ///
 /// Each bit pattern is a value.
 #[repr(C)]
-#[derive(Clone, Copy, Debug, Default)]
+#[derive(Clone, Copy, PartialEq, Eq, Debug)]
 pub struct Sighting {
-    /// The VLAN identifier, 1 to 4094, times 2^48, plus the address, a number of 48 bits. 0 is not a station.
-    pub station: u64,
+    /// The address of the station, a number of 48 bits whose highest byte is the first one. 0 is not a station.
+    pub address: u64,
     /// The time in seconds, as the caller gave it.
-    pub time: u64,
+    pub time: u32,
     /// The number of the port.
-    pub port: u16,
+    pub port: u8,
 }
 
-/// The last sightings of up to four stations, the newest first. In a free place the station is 0.
+/// The last sightings of up to four stations. In a free place the address is 0.
 ///
 /// Each bit pattern is a value, so a table can be any memory that is initially 0.
 #[repr(C)]
-#[derive(Clone, Copy, Debug, Default)]
+#[derive(Clone, Copy, Debug)]
 pub struct StationBucket {
-    /// The newest one.
+    /// The first place.
     pub first: Sighting,
-    /// The second newest.
+    /// The second place.
     pub second: Sighting,
-    /// The third newest.
+    /// The third place.
     pub third: Sighting,
-    /// The oldest one.
+    /// The fourth place.
     pub fourth: Sighting,
-}
-
-/// The stations that a bridge has learned (IEEE 802.1Q, 8.7 and 8.8.3).
-///
-/// A station is an address in a VLAN, so one address in two VLANs is two stations. The table has `BUCKETS` buckets
-/// with places for four stations each. If a bucket is full, a new station replaces the one that was seen least
-/// recently. Each frame costs a look at two buckets, however many there are. With no buckets, nothing is learned.
-///
-/// A sender that uses many addresses of one bucket makes the bridge forget the other stations in it. Frames to these
-/// stations then go to all members of their VLAN, and no further.
-///
-/// ```
-/// # use etherpeel::*;
-/// # use etherpeel::ether_peel::*;
-/// # use etherpeel::ether_fields::*;
-/// # use etherpeel::ether_sll2::*;
-/// # use etherpeel::ether_packet::*;
-/// # use etherpeel::ether_filter::*;
-/// # use etherpeel::ether_pcap::*;
-/// # use etherpeel::ether_content::*;
-/// # use etherpeel::ether_switch::*;
-/// let mut table = StationTable::<1024>::new();
-/// ```
-#[derive(Debug)]
-pub struct StationTable<const BUCKETS: usize> {
-    pub(crate) buckets: ArrayVec<StationBucket, BUCKETS>,
 }
 
 impl StationBucket {
@@ -66,154 +42,250 @@ impl StationBucket {
         third: Sighting::NONE,
         fourth: Sighting::NONE,
     };
+
+    /// The sighting in the place of this number, 0 to 3.
+    #[inline]
+    fn place(&self, number: usize) -> Sighting {
+        match number {
+            0 => self.first,
+            1 => self.second,
+            2 => self.third,
+            _ => self.fourth,
+        }
+    }
+
+    /// Puts a sighting into the place of this number, 0 to 3.
+    #[inline]
+    fn set_place(&mut self, number: usize, sighting: Sighting) {
+        match number {
+            0 => self.first = sighting,
+            1 => self.second = sighting,
+            2 => self.third = sighting,
+            _ => self.fourth = sighting,
+        }
+    }
+
+    /// The sighting of a station.
+    #[inline]
+    fn sighting(&self, address: u64) -> Option<Sighting> {
+        if self.first.address == address {
+            return Some(self.first);
+        }
+        if self.second.address == address {
+            return Some(self.second);
+        }
+        if self.third.address == address {
+            return Some(self.third);
+        }
+        if self.fourth.address == address {
+            return Some(self.fourth);
+        }
+        None
+    }
+
+    /// The number of the place of a station.
+    #[inline]
+    fn place_of(&self, address: u64) -> Option<usize> {
+        if self.first.address == address {
+            return Some(0);
+        }
+        if self.second.address == address {
+            return Some(1);
+        }
+        if self.third.address == address {
+            return Some(2);
+        }
+        if self.fourth.address == address {
+            return Some(3);
+        }
+        None
+    }
+
+    /// The number of its first free place, where a sighting that has aged is free, too.
+    #[inline]
+    fn free_place(&self, ageing_time: u32, now: u32) -> Option<usize> {
+        if !self.first.is_live(ageing_time, now) {
+            return Some(0);
+        }
+        if !self.second.is_live(ageing_time, now) {
+            return Some(1);
+        }
+        if !self.third.is_live(ageing_time, now) {
+            return Some(2);
+        }
+        if !self.fourth.is_live(ageing_time, now) {
+            return Some(3);
+        }
+        None
+    }
+
+    /// How many of these sightings and a new one are at a port.
+    #[inline]
+    fn at_port(&self, new: &Sighting, port: u8) -> u8 {
+        u8::from(new.port == port)
+            + u8::from(self.first.port == port)
+            + u8::from(self.second.port == port)
+            + u8::from(self.third.port == port)
+            + u8::from(self.fourth.port == port)
+    }
+
+    /// Whether the sighting in one place leaves before the one in another place: with the new one, there are more at
+    /// its port, or as many, and it is older.
+    #[inline]
+    fn leaves_before(&self, new: &Sighting, one: usize, other: usize) -> bool {
+        let (one, other) = (self.place(one), self.place(other));
+        let (many, few) = (self.at_port(new, one.port), self.at_port(new, other.port));
+        few < many || (few == many && one.time < other.time)
+    }
+
+    /// The place, of two, whose sighting leaves first.
+    #[inline]
+    fn first_to_leave(&self, new: &Sighting, one: usize, other: usize) -> usize {
+        if self.leaves_before(new, other, one) {
+            other
+        } else {
+            one
+        }
+    }
+
+    /// The place of the sighting that leaves for a new one.
+    #[inline]
+    fn leaving(&self, new: &Sighting) -> usize {
+        let place = self.first_to_leave(new, 0, 1);
+        let place = self.first_to_leave(new, place, 2);
+        self.first_to_leave(new, place, 3)
+    }
+
+    /// The place for a new sighting.
+    #[inline]
+    fn place_for(&self, new: &Sighting, ageing_time: u32) -> usize {
+        if let Some(own) = self.place_of(new.address) {
+            return own;
+        }
+        if let Some(free) = self.free_place(ageing_time, new.time) {
+            return free;
+        }
+        self.leaving(new)
+    }
+
+    /// How many of its sightings are live.
+    #[inline]
+    fn live(&self, ageing_time: u32, now: u32) -> u8 {
+        u8::from(self.first.is_live(ageing_time, now))
+            + u8::from(self.second.is_live(ageing_time, now))
+            + u8::from(self.third.is_live(ageing_time, now))
+            + u8::from(self.fourth.is_live(ageing_time, now))
+    }
 }
 
 impl Sighting {
     /// A free place.
-    const NONE: Sighting = Sighting {
-        station: 0,
+    pub(crate) const NONE: Sighting = Sighting {
+        address: 0,
         time: 0,
         port: 0,
     };
-}
 
-impl<const BUCKETS: usize> StationTable<BUCKETS> {
-    /// A table that knows no station.
-    ///
-    /// <details><summary>Contract</summary>
-    ///
-    /// ```text
-    /// ensures { Knows BUCKETS result [] }
-    /// ```
-    ///
-    /// </details>
+    /// Whether it is a sighting of a station, at most the ageing time ago.
     #[inline]
-    pub fn new() -> StationTable<BUCKETS> {
-        let mut buckets = ArrayVec::new();
-        for _ in 0..BUCKETS {
-            buckets.push(StationBucket::EMPTY);
-        }
-        StationTable { buckets }
+    fn is_live(&self, ageing_time: u32, now: u32) -> bool {
+        self.address != 0 && now.saturating_sub(self.time) <= ageing_time
     }
 }
 
-impl<const BUCKETS: usize> Default for StationTable<BUCKETS> {
-    #[inline]
-    fn default() -> StationTable<BUCKETS> {
-        StationTable::new()
-    }
+/// The indexes of the two buckets of an address.
+#[inline]
+fn buckets_of(key: [u64; 2], vlan: &VlanConfig, address: u64) -> (usize, usize) {
+    let hash = sip_hash(key, (6 << 56) + address);
+    let first = scale(vlan.buckets, hash % (1 << 32));
+    let second = vlan.buckets / 2 + scale(vlan.buckets, hash / (1 << 32) % (1 << 32));
+    let start = vlan.first_bucket as usize;
+    (start + first as usize, start + second as usize)
 }
 
-/// The index of the bucket, of this many, that holds a station.
+/// The part of half of `buckets` buckets that a number below 2^32 is of 2^32.
 #[inline]
-fn place(station: u64, buckets: usize) -> usize {
-    let address = station % (1 << 48);
-    let vlan = station / (1 << 48);
-    ((vlan + address) % buckets as u64) as usize
+fn scale(buckets: u32, number: u64) -> u32 {
+    (number * u64::from(buckets - buckets / 2) / (1 << 32)) as u32
 }
 
-/// Learns a sighting.
+/// Whether a table of so many buckets has those of a VLAN.
 #[inline]
-pub(crate) fn learn_in(buckets: &mut [StationBucket], sighting: Sighting) {
-    if buckets.is_empty() {
+fn is_part_of(vlan: &VlanConfig, len: usize) -> bool {
+    0 < vlan.buckets && vlan.first_bucket as usize + vlan.buckets as usize <= len
+}
+
+/// Learns a sighting of a station in a VLAN.
+#[inline]
+pub(crate) fn learn(
+    table: &mut [StationBucket],
+    key: [u64; 2],
+    vlan: &VlanConfig,
+    sighting: Sighting,
+    ageing_time: u32,
+) {
+    if !is_part_of(vlan, table.len()) {
         return;
     }
-    let at = place(sighting.station, buckets.len());
-    buckets[at] = seen(&buckets[at], sighting);
+    let (first, second) = buckets_of(key, vlan, sighting.address);
+    let at = choose(table, &sighting, ageing_time, first, second);
+    let place = table[at].place_for(&sighting, ageing_time);
+    table[at].set_place(place, sighting);
 }
 
-/// The bucket with this sighting as its newest, without older ones of the same station.
+/// The index, of two, of the bucket for a sighting.
 #[inline]
-fn seen(bucket: &StationBucket, sighting: Sighting) -> StationBucket {
-    let station = sighting.station;
-    let first = other(bucket.first, station);
-    let second = other(bucket.second, station);
-    let third = other(bucket.third, station);
-    let fourth = other(bucket.fourth, station);
-    if first.station == 0 {
-        return StationBucket {
-            first: sighting,
-            second,
-            third,
-            fourth,
-        };
+fn choose(
+    table: &[StationBucket],
+    sighting: &Sighting,
+    ageing_time: u32,
+    first: usize,
+    second: usize,
+) -> usize {
+    let (one, other) = (&table[first], &table[second]);
+    if one.place_of(sighting.address).is_some() {
+        return first;
     }
-    if second.station == 0 {
-        return StationBucket {
-            first: sighting,
-            second: first,
-            third,
-            fourth,
-        };
+    if other.place_of(sighting.address).is_some() {
+        return second;
     }
-    if third.station == 0 {
-        return StationBucket {
-            first: sighting,
-            second: first,
-            third: second,
-            fourth,
-        };
-    }
-    StationBucket {
-        first: sighting,
-        second: first,
-        third: second,
-        fourth: third,
-    }
-}
-
-/// The sighting, or a free place if it is one of this station.
-#[inline]
-fn other(sighting: Sighting, station: u64) -> Sighting {
-    if sighting.station == station {
-        Sighting::NONE
+    if other.live(ageing_time, sighting.time) < one.live(ageing_time, sighting.time) {
+        second
     } else {
-        sighting
+        first
     }
 }
 
-/// The port at which a station was seen last, if that was at most the ageing time ago.
+/// The sighting of a station in a VLAN.
 #[inline]
-pub(crate) fn port_in(
-    buckets: &[StationBucket],
-    station: u64,
-    now: u64,
-    ageing_time: u64,
-) -> Option<u16> {
-    if buckets.is_empty() {
+pub(crate) fn find(
+    table: &[StationBucket],
+    key: [u64; 2],
+    vlan: &VlanConfig,
+    address: u64,
+) -> Option<Sighting> {
+    if !is_part_of(vlan, table.len()) || !is_station(address) {
         return None;
     }
-    let bucket = &buckets[place(station, buckets.len())];
-    match sighting_of(bucket, station) {
-        Some(sighting) => port_now(sighting, now, ageing_time),
-        None => None,
+    let (first, second) = buckets_of(key, vlan, address);
+    match table[first].sighting(address) {
+        Some(sighting) => Some(sighting),
+        None => table[second].sighting(address),
     }
 }
 
-/// The sighting of a station in a bucket.
+/// The port at which a station of a VLAN was seen last, if that was at most the ageing time ago.
 #[inline]
-fn sighting_of(bucket: &StationBucket, station: u64) -> Option<Sighting> {
-    if bucket.first.station == station {
-        return Some(bucket.first);
-    }
-    if bucket.second.station == station {
-        return Some(bucket.second);
-    }
-    if bucket.third.station == station {
-        return Some(bucket.third);
-    }
-    if bucket.fourth.station == station {
-        return Some(bucket.fourth);
-    }
-    None
-}
-
-/// The port of a sighting, if that was at most the ageing time ago.
-#[inline]
-fn port_now(sighting: Sighting, now: u64, ageing_time: u64) -> Option<u16> {
-    if now.saturating_sub(sighting.time) <= ageing_time {
-        Some(sighting.port)
-    } else {
-        None
+pub(crate) fn port_of(
+    table: &[StationBucket],
+    key: [u64; 2],
+    vlan: &VlanConfig,
+    address: u64,
+    ageing_time: u32,
+    now: u32,
+) -> Option<u8> {
+    match find(table, key, vlan, address) {
+        Some(sighting) if now.saturating_sub(sighting.time) <= ageing_time => Some(sighting.port),
+        _ => None,
     }
 }

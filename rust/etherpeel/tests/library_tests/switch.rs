@@ -1,5 +1,11 @@
 //! Tests of `ether_switch`.
 mod arriving;
+mod bridges;
 mod examples;
-mod history;
+mod forgetting;
+mod hashing;
+mod learning;
 mod leaving;
+mod relaying;
+mod reserved;
+mod states;

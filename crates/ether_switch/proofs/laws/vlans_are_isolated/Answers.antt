@@ -1,4 +1,4 @@
-use Rattle.ether_switch.proofs.Passing.{vlans_are_isolated}
+use Rattle.ether_switch.proofs.Joined.{vlans_are_isolated}
 use Rattle.ether_switch.proofs.laws.vlans_are_isolated.Goals as goal
 
 pub returns : goal.returns

@@ -1,18 +1,29 @@
-use Rattle.std.proofs.Common.{rules, ◌≡◌, List, ℕ, drop, sym, subst}
-use Rattle.std.specs.Prelude.{string_bytes}
-use Rattle.ether_peel.specs.Grammar.Stack.{Walk}
-use Rattle.ether_peel.specs.Walker.Start.{start_of}
-use Rattle.ether_peel.specs.declared.start.Start.TheVariants as starts
-use Rattle.example_switch.specs.Lines.{HasLine}
+use Rattle.std.proofs.Common.{sym, subst, ◌∙◌}
+use Rattle.example_switch.specs.Lines.{HasLine, tagged, untagged, passed}
 use Rattle.example_switch.proofs.Joined.{if_ok}
 use Rattle.example_switch.proofs.lines.line_to.Goals as goal
 
-pub returns : goal.returns
-returns c =
+pub returns-then-contains : goal.returns-then-contains
+returns-then-contains c =
     let a = c.args in
-    let frame : drop 4 c.as_mut_slice.result.now ≡ a.frame.now = search rules in
-    if_ok c.send_line.result _ _
-    (λ text line hs e walk.
-    subst (λ (l : List ℕ). HasLine a.received.now a.to a.port.now l hs e (string_bytes text)) frame
-    (line hs e (subst (λ (l : List ℕ). Walk (start_of starts.Ethernet2) l hs e) (sym frame) walk)))
-    c.send_line.ensures
+    if_ok c.line.result _ _
+    (λ text is hs e frame with_tag without.
+    subst (HasLine a.received.now a.number frame hs e) (sym is)
+    (tagged a.tagged.now (sym c.contains.ensures ∙ c.if-contains.true) with_tag))
+    c.line.ensures
+
+pub returns-then-contains-2 : goal.returns-then-contains-2
+returns-then-contains-2 c =
+    let a = c.args in
+    if_ok c.line-then-contains-2.result _ _
+    (λ text is hs e frame with_tag without.
+    subst (HasLine a.received.now a.number frame hs e) (sym is)
+    (untagged a.untagged.now (sym c.contains.ensures ∙ c.if-contains.false)
+    (sym c.contains-2.ensures ∙ c.if-contains-2.true) without))
+    c.line-then-contains-2.ensures
+
+pub returns : goal.returns
+returns c hs e frame with_tag without =
+    let a = c.args in
+    subst (HasLine a.received.now a.number frame hs e) (sym c.new.ensures.bytes)
+    (passed (sym c.contains.ensures ∙ c.if-contains.false) (sym c.contains-2.ensures ∙ c.if-contains-2.false))
