@@ -102,10 +102,10 @@ class Page:
         self.call("Emulation.setEmulatedMedia", features=[{"name": "prefers-color-scheme", "value": scheme}])
 
     def place(self, selector):
-        """The middle of an element."""
-        return self.evaluate(f"""(() => {{
+        """The middle of an element, once the page has drawn what is about to change."""
+        return self.evaluate(f"""new Promise((done) => requestAnimationFrame(() => requestAnimationFrame(() => {{
             const r = document.querySelector({json.dumps(selector)}).getBoundingClientRect();
-            return [r.x + r.width / 2, r.y + r.height / 2]; }})()""")
+            done([r.x + r.width / 2, r.y + r.height / 2]); }})))""")
 
     def point(self, selector):
         x, y = self.place(selector)
