@@ -614,8 +614,8 @@ typedef struct etherpeel_ports {
 /* How a VLAN of a bridge is set up. If it has no buckets, or if not all of them are in the table,
  * no station is learned. */
 typedef struct etherpeel_switch_vlan {
-    etherpeel_ports members;  /* the ports by which its frames leave (IEEE 802.1Q, 8.8.10) */
-    etherpeel_ports untagged; /* the ports by which they leave without a tag */
+    etherpeel_ports members;  /* the ports through which its frames leave (IEEE 802.1Q, 8.8.10) */
+    etherpeel_ports untagged; /* the ports through which they leave without a tag */
     uint32_t first_bucket;    /* the index, in the table of stations, of its first bucket */
     uint32_t buckets;         /* how many buckets it has */
 } etherpeel_switch_vlan;
@@ -624,14 +624,14 @@ typedef struct etherpeel_switch_vlan {
  * the first two sets, one that is learning in the first, one that is forwarding in both. */
 typedef struct etherpeel_port_states {
     etherpeel_ports learning;   /* those that learn the sources of the frames that they accept */
-    etherpeel_ports forwarding; /* those by which frames come in and leave */
+    etherpeel_ports forwarding; /* those through which frames come in and leave */
     etherpeel_ports isolated;   /* those that exchange no frames with each other */
-    etherpeel_ports mirrors;    /* those by which a copy of each frame leaves, with a tag */
+    etherpeel_ports mirrors;    /* those that get a copy of each frame, with a tag */
 } etherpeel_port_states;
 
 /* Where frames to an address in a VLAN go, whatever the bridge has learned (IEEE 802.1Q, 8.8.1). */
 typedef struct etherpeel_static_entry {
-    etherpeel_ports ports; /* those by which they leave, if these are members of the VLAN */
+    etherpeel_ports ports; /* those through which they leave, if these are members of the VLAN */
     uint8_t address[6];    /* of a station or a group */
     uint16_t vid;          /* the identifier of the VLAN */
 } etherpeel_static_entry;
@@ -662,8 +662,8 @@ typedef struct etherpeel_bridge {
 
 /* A frame that a bridge received, and where it goes. If it is discarded, all other fields are 0. */
 typedef struct etherpeel_received {
-    etherpeel_ports tagged;   /* the ports by which it leaves with the tag of its VLAN */
-    etherpeel_ports untagged; /* the ports by which it leaves without a tag */
+    etherpeel_ports tagged;   /* the ports through which it leaves with the tag of its VLAN */
+    etherpeel_ports untagged; /* the ports through which it leaves without a tag */
     uint16_t vid;             /* the identifier of its VLAN, 1 to 4094 */
     uint8_t kind;             /* of the bridge: enum etherpeel_bridge_kind */
     uint8_t priority;         /* of its tag, else the port's default */
@@ -672,7 +672,7 @@ typedef struct etherpeel_received {
     uint8_t discarded;        /* enum etherpeel_discarded */
 } etherpeel_received;
 
-/* A frame of a station: when it came in, and by which port. */
+/* A frame of a station: when it came in, and at which port. */
 typedef struct etherpeel_sighting {
     uint64_t address; /* its first byte is the highest of 48 bits; 0 if the place is free */
     uint32_t time;    /* in seconds, as the caller gave it */
@@ -1371,11 +1371,11 @@ static inline void etherpeel_ports_add(etherpeel_ports *ports, uint8_t port) {
  * Sets *received. A frame to a reserved address that the bridge does not forward is for the bridge
  * itself, whatever the port accepts and in whatever state it is: `reserved` is 1 then, and it
  * leaves by no port. Any other frame that is not discarded leaves by ports that are members of its
- * VLAN and forwarding, and not by the one by which it came in; nor by an isolated port, if that one
- * is isolated too. Of these ports, a frame with a static entry leaves by those of the entry, and
- * one to a station by the port at which the station was seen last in this VLAN, if that was at most
- * the ageing time ago; any other frame leaves by all of them. A copy leaves by each mirror but the
- * port by which the frame came in.
+ * VLAN and forwarding, and not by its own; nor by an isolated port, if its own is isolated too. Of
+ * these ports, a frame with a static entry leaves by those of the entry, and one to a station by
+ * the port at which the station was seen last in this VLAN, if that was at most the ageing time
+ * ago; any other frame leaves by all of them. A copy leaves by each mirror but the port through
+ * which the frame came in.
  * The source is learned in the part of the table that its VLAN has, if the port accepts the frame
  * and is learning. If both buckets of a station are full, the new station takes the place of one
  * whose port has most stations there.

@@ -154,7 +154,7 @@ def tcp(switches, with_ovs):
             network.link("left", "wire1", "h4", "o1")
             network.link("h4", "o2", "right", "wire2")
             for name in ("o1", "o2"):
-                network.do("h4", "ip", "link", "set", name, "mtu", "1500")  # by which Open vSwitch knows what is segmented
+                network.do("h4", "ip", "link", "set", name, "mtu", "1500")  # this tells Open vSwitch what is segmented
             ovs = OpenVSwitch(network, folder)
         else:
             network.link("left", "wire1", "right", "wire2")

@@ -8,7 +8,7 @@ import time
 PORTS = {1: "tagged=10", 2: "pvid=20:tagged=10", 3: "pvid=10", 4: "tagged=10,20"}
 ALL, STATION, OTHER = "ffffffffffff", "020000000001", "020000000002"
 BODY = "88b5" + "00" * 46
-# The name of a frame, the port by which it comes in, the frame, what leaves by which port, and what is counted there (IEEE 802.1Q, 6.9, 8.6, 9.6).
+# The name of a frame, the port through which it comes in, the frame, what leaves through which port, and what is counted there (IEEE 802.1Q, 6.9, 8.6, 9.6).
 ROWS = [
     ("a frame of a VLAN", 3, f"{ALL}{STATION}{BODY}", {1: "8100000a", 2: "8100000a", 4: "8100000a"}, ""),
     ("one with a priority and drop eligible", 1, f"{ALL}{STATION}8100d00a{BODY}", {2: "8100d00a", 3: "", 4: "8100d00a"}, ""),

@@ -2,7 +2,7 @@
 use Rattle.std.proofs.Common.{◌≡◌, ◌≢◌, ℕ, zero, suc, ◌+◌, ◌-◌, ◌*◌, ◌/◌, ◌%◌, ◌^◌, ◌<◌, ◌≤◌, ◌⊎◌, inl, inr, Bool, true, false, not, ◌&&◌, nat_eq, nat_le, nat_lt, if◌then◌else◌, List, [], ◌∷◌, ◌++◌, length, filter, find, set, get_or, Option, None, is_none, Result, Ok, Err, refl, sym, ap, subst, ◌∙◌, arith, get_or-set_other, get_or-set_same}
 use Rattle.std.specs.List.{list_any}
 use Rattle.std.specs.Prelude.{option_and_then, MatchBool}
-use Rattle.std.proofs.lemmas.Bool.{cases_eq, cases_lt, or_cases, eqb-true, eq-eqb, leb-true, ltb-true}
+use Rattle.std.proofs.lemmas.Bool.{and_parts, cases_eq, cases_lt, or_cases, eqb-true, eq-eqb, leb-true, ltb-true}
 use Rattle.std.proofs.lemmas.List.{length-set}
 use Rattle.std.proofs.Math.Nat.{mul_comm, mul-lt-mul_of_pos_right}
 use Rattle.std.proofs.lemmas.Nat.{div_below}
@@ -68,20 +68,12 @@ bucket_within key ageing vlan s table some =
     (nat_lt (count (is_live ageing s.time) (places_at table n)) (count (is_live ageing s.time) (places_at table m)))
     (first_within key vlan s.address some) (second_within key vlan s.address some)
 
-left : (a b : Bool) → (a && b) ≡ true → a ≡ true
-left true b e = refl
-left false b e = e
-
-right : (a b : Bool) → (a && b) ≡ true → b ≡ true
-right true b e = e
-right false b e = absurd cc
-
 -- a table that has the part of a VLAN
 pub has_part_is : (n : ℕ) (vlan : VlanConfig) → has_part n vlan ≡ true
     → (0 < vlan.buckets) × (vlan.first_bucket + vlan.buckets ≤ n)
 has_part_is n vlan is = (
-  ltb-true 0 vlan.buckets (left (nat_lt 0 vlan.buckets) (nat_le (vlan.first_bucket + vlan.buckets) n) is),
-  leb-true (vlan.first_bucket + vlan.buckets) n (right (nat_lt 0 vlan.buckets) _ is),
+  ltb-true 0 vlan.buckets (and_parts (nat_lt 0 vlan.buckets) (nat_le (vlan.first_bucket + vlan.buckets) n) is).0,
+  leb-true (vlan.first_bucket + vlan.buckets) n (and_parts (nat_lt 0 vlan.buckets) _ is).1,
 )
 
 -- ---- two tables with the same part
@@ -393,7 +385,7 @@ found_choice : (key : List ℕ) (vlan row : VlanConfig) (address : ℕ) (t u : L
     ≡ (if b then find (is_of address) (places_at u m ++ places_at u n) else None)
 found_choice key vlan row address t u false first len a is = refl
 found_choice key vlan row address t u true first len a is =
-    let has = has_part_is (length t) row (left (has_part (length t) row) (is_station address) is) in
+    let has = has_part_is (length t) row (and_parts (has_part (length t) row) (is_station address) is).0 in
     let in_part : (i : ℕ) → Within row i → Within vlan i =
     λ i w. record { least = omega (arith, first, w.least); most = omega (arith, first, len, w.most) } in
     let m = a.at (first_bucket key row address) (in_part _ (first_within key row address has.0)) in

@@ -1,7 +1,7 @@
 -- Which sighting leaves its bucket, and what is forgotten.
 use Rattle.std.proofs.Common.{◌≡◌, ◌≢◌, ℕ, zero, suc, ◌+◌, ◌<◌, ◌≤◌, ◌⊎◌, inl, inr, Bool, true, false, not, ◌&&◌, ◌||◌, nat_eq, if◌then◌else◌, List, [], ◌∷◌, ◌++◌, length, map, find, get_or, Option, Some, None, refl, sym, ap, subst, ◌∙◌, arith}
 use Rattle.std.specs.Prelude.{option_map, unwrap_or}
-use Rattle.std.proofs.lemmas.Bool.{cases_eq, or_cases, eqb-true, eq-eqb, ne_eqb, ltb-true, ltb-false}
+use Rattle.std.proofs.lemmas.Bool.{and_parts, cases_eq, or_cases, eqb-true, eq-eqb, ne_eqb, ltb-true, ltb-false}
 use Rattle.std.proofs.lemmas.List.Sums.{sum_by-cons}
 use Rattle.etherparse.specs.Bytes.{bit}
 use Rattle.ether_switch.specs.declared.forgetting.Forgotten.{Forgotten}
@@ -22,14 +22,6 @@ or_left : (a b : Bool) → (a || b) ≡ false → a ≡ false
 or_left true b e = e
 or_left false b e = refl
 
-and_left : (a b : Bool) → (a && b) ≡ true → a ≡ true
-and_left true b e = refl
-and_left false b e = e
-
-and_right : (a b : Bool) → (a && b) ≡ true → b ≡ true
-and_right true b e = e
-and_right false b e = absurd cc
-
 -- one of two places has a port with at least as many as the other
 record Fuller (all bucket : List Sighting) (m n k : ℕ) : Type 0 where
   first : crowd all bucket m ≤ crowd all bucket k
@@ -43,7 +35,7 @@ fuller_choice all bucket m n true is = record {
   first = elim (or_cases _ _ is) [
     | inl e ↦ let lt = ltb-true (crowd all bucket m) (crowd all bucket n) e in omega (arith, lt)
     | inr e ↦
-        let same = eqb-true (crowd all bucket m) (crowd all bucket n) (and_left _ _ e) in omega (arith, same)
+        let same = eqb-true (crowd all bucket m) (crowd all bucket n) (and_parts _ _ e).0 in omega (arith, same)
   ];
   second = omega arith;
   within = λ x y. y;
@@ -251,8 +243,8 @@ not_found_choice key vlan address which t s true some e =
 pub not_zero : (a : Bool) (address : ℕ) → (a && is_station address) ≡ true → address ≢ 0
 not_zero a address e z =
     let is : nat_eq address 0 ≡ true = eq-eqb address 0 z in
-    let station = and_right a (is_station address) e in
-    let some = and_right (not (is_group address)) (not (nat_eq address 0)) station in
+    let station = (and_parts a (is_station address) e).1 in
+    let some = (and_parts (not (is_group address)) (not (nat_eq address 0)) station).1 in
     let both : false ≡ true = sym (ap not is) ∙ some in cc
 
 pub forgotten_are_not_found : ForgottenAreNotFound

@@ -2,7 +2,7 @@
 use Rattle.std.proofs.Common.{◌≡◌, ◌≢◌, ℕ, zero, suc, ◌+◌, ◌-◌, ◌<◌, ◌≤◌, ◌⊎◌, inl, inr, Bool, true, false, ◌&&◌, ◌||◌, nat_eq, nat_le, nat_lt, if◌then◌else◌, List, [], ◌∷◌, ◌++◌, length, map, replicate, filter, find, set, get_or, Option, Some, None, Result, Ok, Err, refl, sym, ap, subst, ◌∙◌, arith}
 use Rattle.std.specs.Prelude.{option_and_then}
 use Rattle.std.specs.List.{list_any}
-use Rattle.std.proofs.lemmas.Bool.{cases_eq, cases_lt, eqb-true, eq-eqb, ne_eqb, leb-true}
+use Rattle.std.proofs.lemmas.Bool.{and_parts, cases_eq, cases_lt, eqb-true, eq-eqb, ne_eqb, leb-true}
 use Rattle.std.proofs.lemmas.List.{length-set}
 use Rattle.std.proofs.lemmas.List.Elements.{filter-append}
 use Rattle.ether_switch.specs.declared.arrival.Arrived.{Arrived}
@@ -328,10 +328,6 @@ found_choice key vlan address t history s true holds e =
     (λ c. ap (places_at t) (sym (eqb-true m n c))) e in
     lone_head (Last address history) _ h.0 s (holds refl) h.1
 
-part_left : (a b : Bool) → (a && b) ≡ true → a ≡ true
-part_left true b e = refl
-part_left false b e = e
-
 empty_table : (n i : ℕ) → get_or (replicate n no_sightings) i no_sightings ≡ no_sightings
 empty_table zero i = refl
 empty_table (suc n) zero = refl
@@ -345,7 +341,7 @@ last_sightings_are_found key vid vlan changes n address s own has_key e =
     found_choice key vlan address t (seen vid changes) s (part && is_station address)
     (λ is.
     all_hold key vid vlan address changes t0 (not_zero part address is) own has_key
-    (sym (ap (λ (k : ℕ). has_part k vlan) (table_len changes t0)) ∙ part_left part (is_station address) is)
+    (sym (ap (λ (k : ℕ). has_part k vlan) (table_len changes t0)) ∙ (and_parts part (is_station address) is).0)
     (empty_table n)) e
 
 known_by : (ageing now port : ℕ) (o : Option Sighting) → option_and_then (port_at ageing now) o ≡ Some port

@@ -1,7 +1,7 @@
 -- No frame crosses VLANs, at one bridge or over links between bridges.
 use Rattle.std.proofs.Common.{◌≡◌, ◌≢◌, ℕ, ◌<◌, ◌≤◌, ◌⊎◌, inl, inr, Bool, true, false, not, ◌&&◌, ◌||◌, nat_eq, if◌then◌else◌, List, [], ◌∷◌, Option, Some, None, Result, Ok, Err, refl, sym, ap, subst, ◌∙◌, arith}
 use Rattle.std.specs.Prelude.{IsSomeAnd}
-use Rattle.std.proofs.lemmas.Bool.{eqb-false, ne_eqb}
+use Rattle.std.proofs.lemmas.Bool.{and_parts, eqb-false, ne_eqb}
 use Rattle.etherparse.specs.Header.{Header}
 use Rattle.etherparse.specs.Vlan.{VlanValue}
 use Rattle.ether_peel.specs.Grammar.Stack.{Ending, Walk}
@@ -121,15 +121,7 @@ sent_by v table to frame sent p =
     sent_kept v p.received x to (is_for_bridge v.settings x.a.destination) p.is_port
     (goes p.received to (front_of v.settings.kind v.hs) frame v.hs p.ending sent p.leaves) x.answered_is
 
--- ---- by which ports it leaves
-
-and_left : (a b : Bool) → (a && b) ≡ true → a ≡ true
-and_left true b e = refl
-and_left false b e = e
-
-and_right : (a b : Bool) → (a && b) ≡ true → b ≡ true
-and_right true b e = e
-and_right false b e = absurd cc
+-- ---- through which ports it leaves
 
 not_false : (b : Bool) → not b ≡ true → b ≡ false
 not_false true e = sym e
@@ -139,9 +131,9 @@ no_mirror : (s m rest : Bool) → m ≡ false → ((s && m) || rest) ≡ true �
 no_mirror true m rest is e = sym (ap (λ (b : Bool). b || rest) is) ∙ e
 no_mirror false m rest is e = e
 
--- a port by which frames may leave is a member
+-- a port through which frames may leave is a member
 member_may : (m f e i : Bool) → (m && f && e && i) ≡ true → m ≡ true
-member_may m f e i is = and_left m f (and_left (m && f) e (and_left (m && f && e) i is))
+member_may m f e i is = (and_parts m f (and_parts (m && f) e (and_parts (m && f && e) i is).0).0).0
 
 record IsOf (v : Event) (a : Arrived) (to : ℕ) (untagged : Bool) : Type 0 where
   member : has (vlan_at v a.vlan).members to ≡ true
@@ -158,8 +150,8 @@ tagged_of v r s to lt mirror g =
     no_mirror (not (nat_eq to v.from)) (has v.settings.ports.mirrors to) (leaves && not (has vlan.untagged to))
     mirror (sym (s.answer.tagged to lt) ∙ g) in
     record {
-      member = member_may (has vlan.members to) _ _ _ (and_left may _ (and_left leaves _ plain));
-      form = not_false (has vlan.untagged to) (and_right leaves _ plain);
+      member = member_may (has vlan.members to) _ _ _ (and_parts may _ (and_parts leaves _ plain).0).0;
+      form = not_false (has vlan.untagged to) (and_parts leaves _ plain).1;
     }
 
 untagged_of : (v : Event) (r : Received) (s : Sent v r) (to : ℕ) → to < 256
@@ -171,10 +163,10 @@ untagged_of v r s to lt g =
     && goes_to (static_ports v.settings.entries s.a.vlan s.a.destination) s.known to in
     let all : (leaves && has vlan.untagged to && not (is_mirror v.settings.ports v.from to)) ≡ true =
     sym (s.answer.untagged to lt) ∙ g in
-    let both : (leaves && has vlan.untagged to) ≡ true = and_left (leaves && has vlan.untagged to) _ all in
+    let both : (leaves && has vlan.untagged to) ≡ true = (and_parts (leaves && has vlan.untagged to) _ all).0 in
     record {
-      member = member_may (has vlan.members to) _ _ _ (and_left may _ (and_left leaves _ both));
-      form = and_right leaves (has vlan.untagged to) both;
+      member = member_may (has vlan.members to) _ _ _ (and_parts may _ (and_parts leaves _ both).0).0;
+      form = (and_parts leaves (has vlan.untagged to) both).1;
     }
 
 member_of : (v : Event) (table : List StationBucket) (to : ℕ) (frame sent : List ℕ) (p : Passes v table to frame sent)

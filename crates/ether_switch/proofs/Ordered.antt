@@ -1,15 +1,11 @@
 -- The parts of VLANs that are in order.
 use Rattle.std.proofs.Common.{◌≡◌, ◌≢◌, ℕ, zero, suc, ◌+◌, ◌<◌, ◌≤◌, ◌⊎◌, inl, inr, Bool, true, false, ◌&&◌, ◌||◌, nat_eq, nat_le, if◌then◌else◌, List, [], ◌∷◌, get_or, refl, sym, ap, ◌∙◌, arith}
 use Rattle.std.specs.Prelude.{MatchBool}
-use Rattle.std.proofs.lemmas.Bool.{cases_lt, eqb-true, eqb-false, eq-eqb, leb-true, le-leb}
+use Rattle.std.proofs.lemmas.Bool.{and_parts, cases_lt, eqb-true, eqb-false, eq-eqb, leb-true, le-leb}
 use Rattle.ether_switch.specs.declared.vlan_config.VlanConfig.{VlanConfig}
 use Rattle.ether_switch.specs.History.{are_apart}
 use Rattle.ether_switch.specs.Laws.{PartsInOrderAreApart}
 use Rattle.ether_switch.specs.Vlans.{no_vlan, row_of, are_in_order}
-
-and_parts : (a b : Bool) → (a && b) ≡ true → (a ≡ true) × (b ≡ true)
-and_parts true b e = (refl, e)
-and_parts false b e = absurd cc
 
 -- the first one has no part, or the others begin at its end
 record Next (end : ℕ) (v : VlanConfig) (vlans : List VlanConfig) : Type 0 where

@@ -83,7 +83,7 @@ pub record OnlyTagsChange : Type 0 where
 
 -- ---- bridges that are joined
 
--- a bridge on the way of a frame: what comes in, what its table has, and the port by which the frame leaves
+-- a bridge on the way of a frame: what comes in, what its table has, and the port through which the frame leaves
 pub record Hop : Type 0 where
   pub event : Event
   pub table : List StationBucket
@@ -118,9 +118,9 @@ abbrev pub AllTagged : Hop → List Hop → Type 0
 AllTagged h [] = Unit {0}
 AllTagged h (next ∷ later) = ((vid : ℕ) → has (vlan_at h.event vid).untagged h.to ≡ false) × AllTagged next later
 
--- No frame crosses VLANs on its way over any number of links that fit, if the port by which it came in takes no second
--- tag, or if each VLAN is sent over each link with a tag: a port by which it leaves, mirrors aside, is one of the VLAN
--- in which it came in.
+-- No frame crosses VLANs on its way over any number of links that fit, if its first port takes no second tag, or if
+-- each VLAN is sent over each link with a tag: it leaves only through ports of the VLAN in which it came in, mirrors
+-- aside.
 abbrev pub VlansAreIsolatedOverLinks : Type 0
 VlansAreIsolatedOverLinks =
     (h : Hop) (later : List Hop) (frame sent : List ℕ)

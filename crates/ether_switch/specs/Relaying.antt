@@ -50,8 +50,8 @@ pub record Event : Type 0 where
   pub port : PortConfig
   pub hs : List Header
 
--- what is returned for a frame: its VLAN, its priority, whether it is for the bridge itself, and the ports by which it
--- leaves
+-- what is returned for a frame: its VLAN, its priority, whether it is for the bridge itself, and the ports through
+-- which it leaves
 pub record Answer : Type 0 where
   pub kind : BridgeKind
   pub vlan : ℕ
@@ -135,7 +135,7 @@ answered s from refused a known =
 
 -- ---- what is learned
 
--- when and by which port a frame's source was seen
+-- when and at which port a frame's source was seen
 abbrev pub sighting : (now from : ℕ) → Arrived → Sighting
 sighting now from a = record { address = a.source; time = now; port = from }
 

@@ -26,7 +26,7 @@ use ether_packet::EthernetFront;
 #[repr(C)]
 #[derive(Clone, Copy, Debug)]
 pub struct StaticEntry {
-    /// The ports by which they leave, if these are members of the VLAN.
+    /// The ports through which they leave, if these are members of the VLAN.
     pub ports: PortSet,
     /// The address of a station or a group.
     pub address: [u8; 6],
@@ -69,8 +69,8 @@ impl Bridge<'_> {
     /// is the port's own VLAN ([`PortConfig::pvid`]). A tag of another kind of bridge is payload, for example 0x88A8
     /// for a customer bridge.
     ///
-    /// A frame leaves only by ports that are members of its VLAN and forwarding, and not by the one by which it came
-    /// in. Of these ports, a frame to a station leaves by the one at which the station was seen last in this VLAN, if
+    /// A frame leaves only by ports that are members of its VLAN and forwarding, and not by the one through which it
+    /// came in. Of these ports, a frame to a station leaves by the one at which the station was seen last in this VLAN, if
     /// that was at most the ageing time ago. Any other frame leaves by all of them. A static entry has precedence.
     ///
     /// The source is learned in the part of the table that its VLAN has, if the port is learning and accepts the
@@ -268,7 +268,7 @@ impl Bridge<'_> {
         self.received(arrived, false, tagged, untagged)
     }
 
-    /// The ports by which a frame leaves, copies for mirrors aside.
+    /// The ports through which a frame leaves, copies for mirrors aside.
     fn leaves(&self, from: u8, arrived: &Arrived, vlan: &VlanConfig, known: Option<u8>) -> PortSet
         ensures { IsSet result (λ to. may_leave self.now.ports.now vlan.now from to
             && goes_to (static_ports_of self.now.static_entries.now arrived.now.vlan arrived.now.destination)
@@ -284,7 +284,7 @@ impl Bridge<'_> {
         }
     }
 
-    /// The ports by which frames of a VLAN from one port may leave.
+    /// The ports through which frames of a VLAN from one port may leave.
     fn open(&self, from: u8, vlan: &VlanConfig) -> PortSet
         ensures { IsSet result (λ to. may_leave self.now.ports.now vlan.now from to) }
     {

@@ -13,8 +13,8 @@ pub fn only_tags_change()
 {}
 
 /// No frame crosses VLANs on its way through bridges that are joined. A VLAN that one end of a link sends without a tag
-/// is the one that the other end gives to frames without a tag. And the port by which the frame came in takes no second
-/// tag ([`refuses_second_tag`](crate::PortConfig::refuses_second_tag)) or no tag at all
+/// is the one that the other end gives to frames without a tag. And the frame's first port takes no second tag
+/// ([`refuses_second_tag`](crate::PortConfig::refuses_second_tag)) or no tag at all
 /// ([`OnlyUntagged`](crate::AcceptableFrames::OnlyUntagged)), or no link carries a VLAN without a tag.
 pub fn vlans_are_isolated_over_links()
     ensures { VlansAreIsolatedOverLinks }

@@ -1,7 +1,7 @@
 //! The forwarding of a bridge with VLANs (IEEE 802.1Q, in the edition of 2018). No call allocates memory.
 //!
 //! A [`Bridge`] receives a frame by a port: it learns the port of the frame's source in a table of [`StationBucket`]s,
-//! and decides by which ports the frame leaves. [`Received::make_tagged`] and [`Received::make_untagged`] make the
+//! and decides through which ports the frame leaves. [`Received::make_tagged`] and [`Received::make_untagged`] make the
 //! frame ready, in place, once for each form in which it leaves.
 //!
 //! ```

@@ -6,7 +6,7 @@ use crate::VlanConfig;
 use crate::arrival::is_station;
 use crate::sip_hash::sip_hash;
 
-/// A frame of a station: when it came in, and by which port.
+/// A frame of a station: when it came in, and at which port.
 ///
 /// Each bit pattern is a value.
 #[repr(C)]

@@ -10,9 +10,9 @@ use crate::{PortSet, Vlan};
 #[repr(C)]
 #[derive(Clone, Copy, Debug)]
 pub struct VlanConfig {
-    /// The ports by which its frames leave: its member set (IEEE 802.1Q, 8.8.10).
+    /// The ports through which its frames leave: its member set (IEEE 802.1Q, 8.8.10).
     pub members: PortSet,
-    /// The ports by which its frames leave without a tag: its untagged set (IEEE 802.1Q, 8.8.2).
+    /// The ports through which its frames leave without a tag: its untagged set (IEEE 802.1Q, 8.8.2).
     pub untagged: PortSet,
     /// The index, in the table of stations, of the first bucket for this VLAN.
     pub first_bucket: u32,

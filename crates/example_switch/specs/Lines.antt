@@ -33,7 +33,7 @@ pub data HasLines (r : Received) (frame : List ℕ) (hs : List Header) (e : Endi
       → HasLines r frame hs e (number + 1) later
       → HasLines r frame hs e number (text ++ later)
 
--- .. by the answer of a bridge, which says by which ports the frame leaves: nothing for a discarded frame
+-- .. by the answer of a bridge, which says through which ports the frame leaves: nothing for a discarded frame
 abbrev pub Answers : Result Answer Discarded → (frame : List ℕ) (hs : List Header) (e : Ending)
     → (text : List ℕ) → Type 0
 Answers (Ok a) frame hs e text = (r : Received) × IsAnswer a r × HasLines r frame hs e 0 text

@@ -14,7 +14,7 @@ use crate::reading::Arrival;
 use ether_switch::{Bridge, Received, StationBucket};
 use std::alloc::{AllocError, Global};
 
-/// Passes a frame through a bridge, and returns a line for each port by which it leaves.
+/// Passes a frame through a bridge, and returns a line for each port through which it leaves.
 pub(crate) fn frame_lines(
     alloc: Global,
     bridge: &Bridge,
@@ -55,7 +55,7 @@ pub(crate) fn frame_lines(
     }
 }
 
-/// The lines for a frame that was received, one for each port by which it leaves.
+/// The lines for a frame that was received, one for each port through which it leaves.
 fn received_lines(alloc: Global, received: &Received, frame: &[u8]) -> Result<String, AllocError>
     ensures { IfOk result (λ text. (hs : List Header) (e : Ending)
         → Walk (start_of starts.Ethernet2) frame.now hs e

@@ -2,7 +2,7 @@
 //!
 //! Each argument is a port: `trunk`, or the identifier of the VLAN of an access port. Ports are numbered from 1 on, and
 //! there are at most 255. Standard input is a capture, pcap or pcapng. A frame of its first interface comes in by port
-//! 1, one of the second interface by port 2, and so on, at the time of the packet. For each port by which the frame
+//! 1, one of the second interface by port 2, and so on, at the time of the packet. For each port through which the frame
 //! leaves, a line is written: the number of the port, a space, and the bytes that leave, in hexadecimal digits.
 #![tactic(auto)]
 

@@ -10,9 +10,9 @@ use etherpeel::VlanPcp;
 #[repr(C)]
 #[derive(Clone, Copy)]
 pub struct EtherReceived {
-    /// The ports by which it leaves with the tag of its VLAN.
+    /// The ports through which it leaves with the tag of its VLAN.
     pub tagged: PortSet,
-    /// The ports by which it leaves without a tag.
+    /// The ports through which it leaves without a tag.
     pub untagged: PortSet,
     /// The identifier of its VLAN.
     pub vid: u16,

@@ -4,7 +4,7 @@ use crate::reading::Arrival;
 use etherpeel::ether_switch::{Bridge, Received, StationBucket};
 use ether_tools::ether_capture::memory::{Global, NoMemory as AllocError};
 
-/// Passes a frame through a bridge, and returns a line for each port by which it leaves.
+/// Passes a frame through a bridge, and returns a line for each port through which it leaves.
 pub(crate) fn frame_lines(
     alloc: Global,
     bridge: &Bridge,
@@ -24,7 +24,7 @@ pub(crate) fn frame_lines(
     }
 }
 
-/// The lines for a frame that was received, one for each port by which it leaves.
+/// The lines for a frame that was received, one for each port through which it leaves.
 fn received_lines(alloc: Global, received: &Received, frame: &[u8]) -> Result<String, AllocError> {
     let tagged = tagged_form(alloc, received, frame)?;
     let untagged = untagged_form(alloc, received, frame)?;

@@ -15,7 +15,7 @@ use crate::ether_packet::EthernetFront;
 #[repr(C)]
 #[derive(Clone, Copy, Debug)]
 pub struct StaticEntry {
-    /// The ports by which they leave, if these are members of the VLAN.
+    /// The ports through which they leave, if these are members of the VLAN.
     pub ports: PortSet,
     /// The address of a station or a group.
     pub address: [u8; 6],
@@ -58,8 +58,8 @@ impl Bridge<'_> {
     /// is the port's own VLAN ([`PortConfig::pvid`]). A tag of another kind of bridge is payload, for example 0x88A8
     /// for a customer bridge.
     ///
-    /// A frame leaves only by ports that are members of its VLAN and forwarding, and not by the one by which it came
-    /// in. Of these ports, a frame to a station leaves by the one at which the station was seen last in this VLAN, if
+    /// A frame leaves only by ports that are members of its VLAN and forwarding, and not by the one through which it
+    /// came in. Of these ports, a frame to a station leaves by the one at which the station was seen last in this VLAN, if
     /// that was at most the ageing time ago. Any other frame leaves by all of them. A static entry has precedence.
     ///
     /// The source is learned in the part of the table that its VLAN has, if the port is learning and accepts the
@@ -266,7 +266,7 @@ impl Bridge<'_> {
         self.received(arrived, false, tagged, untagged)
     }
 
-    /// The ports by which a frame leaves, copies for mirrors aside.
+    /// The ports through which a frame leaves, copies for mirrors aside.
     #[inline]
     fn leaves(&self, from: u8, arrived: &Arrived, vlan: &VlanConfig, known: Option<u8>) -> PortSet {
         let open = self.open(from, vlan);
@@ -279,7 +279,7 @@ impl Bridge<'_> {
         }
     }
 
-    /// The ports by which frames of a VLAN from one port may leave.
+    /// The ports through which frames of a VLAN from one port may leave.
     #[inline]
     fn open(&self, from: u8, vlan: &VlanConfig) -> PortSet {
         let mut open = vlan.members.intersection(&self.ports.forwarding);

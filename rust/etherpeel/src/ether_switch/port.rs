@@ -45,12 +45,12 @@ pub struct PortConfig {
 pub struct PortStates {
     /// The ports that learn the sources of the frames that they accept.
     pub learning: PortSet,
-    /// The ports by which frames come in and leave.
+    /// The ports through which frames come in and leave.
     pub forwarding: PortSet,
     /// The ports that exchange no frames with each other, as those of a private VLAN.
     pub isolated: PortSet,
-    /// The ports by which a copy of each frame that is passed on leaves, with the tag of its VLAN, whatever their state
-    /// and their VLANs are.
+    /// The ports that get a copy of each frame that is passed on, with the tag of its VLAN, whatever their state and
+    /// their VLANs are.
     pub mirrors: PortSet,
 }
 

@@ -18,9 +18,9 @@ pub struct Received {
     /// Whether it is for the bridge itself, for example for its spanning tree: its destination is a reserved address
     /// (IEEE 802.1Q, 8.6.3). It then leaves by no port.
     pub reserved: bool,
-    /// The ports by which it leaves with the tag of its VLAN.
+    /// The ports through which it leaves with the tag of its VLAN.
     pub tagged: PortSet,
-    /// The ports by which it leaves without a tag.
+    /// The ports through which it leaves without a tag.
     pub untagged: PortSet,
 }
 

@@ -4,7 +4,7 @@ use crate::ether_switch::VlanConfig;
 use crate::ether_switch::arrival::is_station;
 use crate::ether_switch::sip_hash::sip_hash;
 
-/// A frame of a station: when it came in, and by which port.
+/// A frame of a station: when it came in, and at which port.
 ///
 /// Each bit pattern is a value.
 #[repr(C)]

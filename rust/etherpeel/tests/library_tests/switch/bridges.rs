@@ -60,7 +60,7 @@ pub(crate) fn frame(destination: [u8; 6], source: [u8; 6]) -> [u8; 14] {
     [a, b, c, d, e, f, g, h, i, j, k, l, 0x08, 0x00]
 }
 
-/// The ports by which a frame leaves, with and without a tag, or why it is discarded.
+/// The ports through which a frame leaves, with and without a tag, or why it is discarded.
 pub(crate) fn leaves(found: Result<Received, Discarded>) -> Result<(PortSet, PortSet), Discarded> {
     match found {
         Ok(received) => Ok((received.tagged, received.untagged)),

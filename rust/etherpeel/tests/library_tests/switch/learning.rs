@@ -7,7 +7,7 @@ use etherpeel::ether_switch::{Bridge, PortConfig, PortSet, Sighting, StationBuck
 use crate::kit::Abort;
 use crate::kit::Fail;
 
-/// A frame from one station to another, by the last bytes of their addresses, and the ports by which it leaves.
+/// A frame from one station to another, by the last bytes of their addresses, and the ports through which it leaves.
 struct Row {
     name: &'static str,
     now: u32,

@@ -9,7 +9,7 @@ use crate::kit::Fail;
 
 const GROUP: [u8; 6] = [0x01, 0x00, 0x5E, 0x00, 0x00, 0x01];
 
-/// A frame, and the ports by which it leaves. Ports 1 to 5 are members of VLAN 10, and frames leave by 4 and 5 with a
+/// A frame, and the ports through which it leaves. Ports 1 to 5 are members of VLAN 10, and frames leave by 4 and 5 with a
 /// tag. The stations 01, 02 and 04 are at the ports of their numbers, and 20 is at port 5.
 struct Row {
     name: &'static str,

@@ -5,7 +5,7 @@ use etherpeel::ether_switch::{Discarded, PortConfig, PortSet, PortStates, Statio
 use crate::kit::Abort;
 use crate::kit::Fail;
 
-/// The states of ports, by which ports a frame from port 1 leaves, and whether its source is learned.
+/// The states of ports, through which ports a frame from port 1 leaves, and whether its source is learned.
 struct Row {
     name: &'static str,
     learning: &'static [u8],
