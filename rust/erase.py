@@ -21,8 +21,9 @@ CRATES = os.path.join(os.path.dirname(HERE), "crates")
 NAME = "etherpeel"
 CALLS, CALLS_NAME = "ether_c", "etherpeel_c"
 PROGRAMS, PROGRAMS_NAME = ["ether_text", "ether_stream", "ether_capture"], "ether_tools"  # what the programs are made of
-# What stands in the place of sources that take the runtime or an allocator.
-BY_HAND = [f"{PROGRAMS_NAME}/src/{path}.rs" for path in (
+# What stands in the place of sources that take the runtime or an allocator, and what Rattle has not.
+ERROR_SOURCES = "error_sources"
+BY_HAND = [f"{NAME}/src/{ERROR_SOURCES}.rs"] + [f"{PROGRAMS_NAME}/src/{path}.rs" for path in (
     "ether_text/noted", *(f"ether_capture/{it}" for it in ("capture_files", "copy_files", "count_table", "heap_memory", "heap_text", "interface_buffer", "memory", "options", "progress_line")),
 )] + [f"{PROGRAMS_NAME}/examples/{program}/main.rs" for program in ("example_switch", "example_vlan_rewriter")]
 # The programs among the examples, each with the libraries that are its modules; their `main`s are by hand.
@@ -209,7 +210,7 @@ def rooted(crate, text):
     end = next(i for i, line in enumerate(lines) if not line.startswith("//!"))
     if crate == FACADE:
         modules = ['#[cfg(feature = "std")]\nextern crate std;\n']
-        modules += [f"#[doc(hidden)]\npub mod {name};" for name in HIDDEN] + [f"mod {name};" for name in PRIVATE]
+        modules += [f"#[doc(hidden)]\npub mod {name};" for name in HIDDEN] + [f"mod {name};" for name in [*PRIVATE, ERROR_SOURCES]]
         return ROOT + "\n".join([*lines[:end], "", *modules, *(f"pub mod {name};" for name in OUTER), *lines[end:]])
     if crate == CALLS:
         return "\n".join([*lines[:end], CALLS_ROOT, *lines[end + 1:]])

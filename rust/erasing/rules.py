@@ -145,6 +145,28 @@ def clones(tokens):
         cut(tokens, i, end)
 
 
+# The errors that wrap another one. Their `impl Error` is by hand, in `error_sources.rs`.
+WRAPPING = {
+    *("HeaderSliceError", "PeelError", "PeelFault", "BuildError"),
+    *("RecordFault", "SectionError", "CaptureError", "CaptureFault"),
+}
+
+
+def sources(tokens):
+    """`Error` of Rattle has no method `source`. The empty `impl Error` of an error that wraps another one is deleted,
+    with the import if nothing else needs it: a file by hand has that `impl`."""
+    for name in WRAPPING:
+        for i, _ in places(tokens, f"Error for {name}"):
+            start = next(k for k in range(i, -1, -1) if tokens[k].text == "impl")
+            end = head_end(tokens, start)
+            if tokens[end].text != "{" or tokens[end + 1].text != "}":
+                raise Refused(tokens[i].line, "an impl of Error with members")
+            cut(tokens, start, end + 2)
+            if sum(t.text == "Error" for t in tokens) == 1:
+                for k, after in places(tokens, "use std::error::Error;"):
+                    cut(tokens, k, after)
+
+
 def inline_hints(tokens):
     """`#[inline]` stands before each function with a body but `fmt`. Rattle compiles all crates as one module, and so
     inlines across crates; cargo does so only where this says it may. It changes no result."""
@@ -171,5 +193,5 @@ def paths(tokens, crate, spelled):
 
 
 RULES = [
-    *(ghost_items, models, laws, contracts, tactics, layout_skips, dropping, formatters, clones, inline_hints),
+    *(ghost_items, models, laws, contracts, tactics, layout_skips, dropping, formatters, clones, sources, inline_hints),
 ]

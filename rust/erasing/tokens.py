@@ -136,7 +136,7 @@ def indent(token):
 
 
 def tidy(tokens, i):
-    """Leaves no empty line at the begin and end of braces, and no two anywhere, before the token at `i`."""
+    """Leaves no empty line at the begin and end of braces, none at the end, and no two anywhere, before the token at `i`."""
     token = tokens[i]
     token.before = re.sub(r"\n(?: *\n){2,}", "\n\n", token.before)
     if i and tokens[i - 1].text == "{":
@@ -145,6 +145,8 @@ def tidy(tokens, i):
             token.before = ""
     elif token.text == "}":
         token.before = re.sub(r"\n(?: *\n)+( *)$", r"\n\1", token.before)
+    elif token.kind == "end":
+        token.before = re.sub(r"\n\n$", "\n", token.before)
 
 
 def cut(tokens, start, end):

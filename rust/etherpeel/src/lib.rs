@@ -40,6 +40,7 @@ pub mod ether_base;
 mod ether_tags;
 mod ether_sll;
 mod ether_arp;
+mod error_sources;
 pub mod ether_peel;
 pub mod ether_fields;
 pub mod ether_sll2;

@@ -1,7 +1,6 @@
 //! Why a header can't be read from a slice, whatever its format.
 
 use crate::ether_base::err::LenError;
-use core::error::Error;
 use core::fmt::{self, Display};
 
 /// Why a header can't be read from a slice.
@@ -49,5 +48,3 @@ impl<E: Display> Display for HeaderSliceError<E> {
         }
     }
 }
-
-impl<E: Error> Error for HeaderSliceError<E> {}

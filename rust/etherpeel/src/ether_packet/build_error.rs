@@ -2,7 +2,6 @@
 
 use crate::ArpHardwareId;
 use crate::err::SliceWriteSpaceError;
-use core::error::Error;
 use core::fmt;
 
 /// Why a packet is not written. The target is then unchanged.
@@ -48,5 +47,3 @@ impl fmt::Display for BuildError {
         }
     }
 }
-
-impl Error for BuildError {}

@@ -1,7 +1,6 @@
 //! Why a unit is refused.
 
 use crate::err::{self, LenError};
-use core::error::Error;
 use core::fmt::{self, Display};
 
 /// Why a unit is refused. `Display` gives the text of the error within.
@@ -24,5 +23,3 @@ impl Display for PeelError {
         }
     }
 }
-
-impl Error for PeelError {}

@@ -1,7 +1,6 @@
 //! A unit that is refused, and where.
 
 use crate::ether_peel::PeelError;
-use core::error::Error;
 use core::fmt;
 
 /// A unit that is refused, which ends a walk.
@@ -58,5 +57,3 @@ impl fmt::Debug for PeelFault {
             .finish()
     }
 }
-
-impl Error for PeelFault {}

@@ -1,7 +1,6 @@
 //! Why a unit of a capture file can't be read.
 
 use crate::ether_pcap::{BlockError, BodyError, FileHeaderError, RecordError, SectionError};
-use core::error::Error;
 use core::fmt;
 
 /// Why a unit of a capture file can't be read.
@@ -90,5 +89,3 @@ impl fmt::Display for CaptureError {
         }
     }
 }
-
-impl Error for CaptureError {}

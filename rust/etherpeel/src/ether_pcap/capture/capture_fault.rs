@@ -1,7 +1,6 @@
 //! Why the packets of a capture file end before the file does.
 
 use crate::ether_pcap::CaptureError;
-use core::error::Error;
 use core::fmt;
 
 /// Why the packets of a capture file end before the file does, and where.
@@ -39,5 +38,3 @@ impl fmt::Display for CaptureFault {
         write!(f, "At byte {offset}: {error}")
     }
 }
-
-impl Error for CaptureFault {}

@@ -1,7 +1,6 @@
 //! Why the records of a file end before the file does.
 
 use crate::ether_pcap::RecordError;
-use core::error::Error;
 use core::fmt;
 
 /// Why the records of a file end before the file does, and where.
@@ -42,5 +41,3 @@ impl fmt::Display for RecordFault {
         write!(f, "At byte {offset}: {error}")
     }
 }
-
-impl Error for RecordFault {}

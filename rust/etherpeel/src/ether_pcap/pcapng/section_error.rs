@@ -2,7 +2,6 @@
 
 use crate::ether_pcap::BlockError;
 use crate::ether_pcap::hex_digits::EightDigits;
-use core::error::Error;
 use core::fmt;
 
 /// Why a slice does not begin with the section header of a pcapng file.
@@ -82,5 +81,3 @@ impl fmt::Display for SectionError {
         }
     }
 }
-
-impl Error for SectionError {}
