@@ -21,9 +21,14 @@ CRATES = os.path.join(os.path.dirname(HERE), "crates")
 NAME = "etherpeel"
 CALLS, CALLS_NAME = "ether_c", "etherpeel_c"
 PROGRAMS, PROGRAMS_NAME = ["ether_text", "ether_stream", "ether_capture"], "ether_tools"  # what the programs are made of
-# What stands in the place of sources that take the runtime or an allocator, and what Rattle has not.
-ERROR_SOURCES = "error_sources"
-BY_HAND = [f"{NAME}/src/{ERROR_SOURCES}.rs"] + [f"{PROGRAMS_NAME}/src/{path}.rs" for path in (
+# What stands in the place of sources that take the runtime or an allocator, and what the sources lack.
+ERROR_SOURCES, COMPAT = "error_sources", "compat"
+BY_HAND = [f"{NAME}/src/{path}.rs" for path in (
+    ERROR_SOURCES, COMPAT, *(f"{COMPAT}/{it}" for it in (
+        "err", "err/from_slice_error", "err/macsec", "err/packet", "err/packet/build_write_error", "err/packet/slice_error", "err/read_error",
+        "lax_link_ext_slice", "lax_macsec_slice", "lax_packet_headers", "lax_sliced_packet", "lax_walk", "net", "packet_builder",
+        "packet_headers", "payload_slice", "sliced_packet", "streams", "transport", "unchecked", "vlan_tags")),
+)] + [f"{PROGRAMS_NAME}/src/{path}.rs" for path in (
     "ether_text/noted", *(f"ether_capture/{it}" for it in ("capture_files", "copy_files", "count_table", "heap_memory", "heap_text", "interface_buffer", "memory", "options", "progress_line")),
 )] + [f"{PROGRAMS_NAME}/examples/{program}/main.rs" for program in ("example_switch", "example_vlan_rewriter")]
 # The programs among the examples, each with the libraries that are its modules; their `main`s are by hand.
@@ -43,6 +48,13 @@ EXAMPLES = [example for examples in TESTS.values() for example in examples]
 # Modules that are left out: laws, and the tests of a crate that is not in the result.
 LEFT_OUT, LEFT_OUT_OF_TESTS = {"laws"}, {"text"}
 LEFT_OUT_OF_PROGRAMS = {"laws", "noted", "main", "options", "capture_files", "copy_files", "count_table", "heap_memory", "heap_text", "interface_buffer", "progress_line"}
+
+# What modules have besides with the feature `compat`: names of files by hand.
+ADDED = {
+    f"{NAME}/src/lib.rs": "*",
+    f"{NAME}/src/ether_base/err.rs": "err::{FromSliceError, ReadError, packet}",
+    f"{NAME}/src/ether_base/err/macsec.rs": "err::macsec::HeaderReadError",
+}
 
 ROOT = """#![doc = include_str!("../README.md")]
 #![no_std]
@@ -211,11 +223,17 @@ def rooted(crate, text):
     if crate == FACADE:
         modules = ['#[cfg(feature = "std")]\nextern crate std;\n']
         modules += [f"#[doc(hidden)]\npub mod {name};" for name in HIDDEN] + [f"mod {name};" for name in [*PRIVATE, ERROR_SOURCES]]
-        return ROOT + "\n".join([*lines[:end], "", *modules, *(f"pub mod {name};" for name in OUTER), *lines[end:]])
+        modules += [*(f"pub mod {name};" for name in OUTER), f'#[cfg(feature = "{COMPAT}")]\npub mod {COMPAT};']
+        return ROOT + "\n".join([*lines[:end], "", *modules, *lines[end:]])
     if crate == CALLS:
         return "\n".join([*lines[:end], CALLS_ROOT, *lines[end + 1:]])
     modules = "".join(f"mod {name};\n" for name in TESTS[crate])
     return "\n".join([*lines[:end], TEST_ROOT + modules, *lines[end + 1:]])
+
+
+def added(path):
+    """The lines that a file of the result has besides."""
+    return f'\n#[cfg(feature = "{COMPAT}")]\npub use crate::{COMPAT}::{ADDED[path]};\n' if path in ADDED else ""
 
 
 def made(crates, known_too, home=None):
@@ -228,7 +246,8 @@ def made(crates, known_too, home=None):
             try:
                 erased = erase(text, crate, own, imports_of(crate, path, files), home, path[:-3] if crate in LIBRARIES else "")
                 is_root = path == "lib.rt" and crate in [FACADE, CALLS, *TESTS]
-                yield place(crate, path, home), rooted(crate, erased) if is_root else erased
+                there = place(crate, path, home)
+                yield there, (rooted(crate, erased) if is_root else erased) + added(there)
             except Refused as refused:
                 yield None, f"{os.path.relpath(source_folder(crate), os.path.dirname(HERE))}/{path}:{refused.line}: {refused.what}"
 

@@ -5,6 +5,8 @@ from .check import check
 from .rules import clones
 from .tokens import Refused, closing, joined, lex
 
+# Names that need an import of their own: that of another crate, and one that the root has, too, with the feature `compat`.
+ALONE = {"ArrayVec": "arrayvec", "PacketBuilder": "etherpeel::ether_packet"}
 LINE = re.compile(r"( *)(//[/!])(?: (.*)|)$")
 
 
@@ -33,7 +35,7 @@ def example(code, line, imports, names):
     check(tokens, names)
     body = joined(tokens).split("\n")
     head = [f"# use {path}::*;" for path in imports]
-    head += ["# use arrayvec::ArrayVec;"] * any(t.text == "ArrayVec" for t in tokens)
+    head += [f"# use {path}::{name};" for name, path in ALONE.items() if any(t.text == name for t in tokens)]
     if any(t.text == "OutputBuffer" for t in tokens) and all(path.startswith("etherpeel") for path in imports):
         return [*head, '# #[cfg(feature = "std")]', "# {", *body, "# }"]
     if any(t.text in ("?", "return") for t in tokens):

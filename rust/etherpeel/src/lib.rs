@@ -51,6 +51,8 @@ pub mod ether_content;
 pub mod ether_switch;
 pub mod ether_output;
 pub mod ether_format;
+#[cfg(feature = "compat")]
+pub mod compat;
 
 pub use crate::ether_arp::{ArpEthIpv4Packet, ArpPacket, ArpPacketSlice};
 pub use crate::ether_base::{
@@ -65,3 +67,6 @@ pub use crate::ether_tags::{
     MacsecHeaderSlice, MacsecPType, MacsecPayloadSlice, MacsecSlice, SingleVlanHeader,
     SingleVlanHeaderSlice, SingleVlanSlice, VlanHeader, VlanSlice,
 };
+
+#[cfg(feature = "compat")]
+pub use crate::compat::*;

@@ -13,3 +13,6 @@ pub use len_error::LenError;
 pub use slice_write_space_error::SliceWriteSpaceError;
 pub use value_too_big_error::ValueTooBigError;
 pub use value_type::ValueType;
+
+#[cfg(feature = "compat")]
+pub use crate::compat::err::{FromSliceError, ReadError, packet};

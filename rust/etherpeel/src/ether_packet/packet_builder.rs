@@ -32,6 +32,7 @@ pub enum PacketContent<'a> {
 /// # use etherpeel::ether_fields::*;
 /// # use etherpeel::ether_sll2::*;
 /// # use etherpeel::ether_packet::*;
+/// # use etherpeel::ether_packet::PacketBuilder;
 /// let tags = [LinkExtHeader::Vlan(SingleVlanHeader::from_bytes([0x00, 0x64, 0x00, 0x00]))];
 /// let packet = PacketBuilder {
 ///     link: LinkHeader::Ethernet2(Ethernet2Header::default()),

@@ -18,6 +18,7 @@ use crate::{ArpPacket, EtherType, LinkExtHeader, LinkHeader};
 /// # use etherpeel::ether_fields::*;
 /// # use etherpeel::ether_sll2::*;
 /// # use etherpeel::ether_packet::*;
+/// # use etherpeel::ether_packet::PacketBuilder;
 /// let frame = [
 ///     0xFF, 0xFF, 0xFF, 0xFF, 0xFF, 0xFF, 0x02, 0x00, 0x00, 0x00, 0x00, 0x01, 0x88, 0xA8, // Ethernet II
 ///     0x00, 0x0A, 0x81, 0x00, // VLAN

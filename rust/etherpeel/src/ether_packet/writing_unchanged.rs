@@ -26,6 +26,7 @@ impl<'a, 'b> PacketBuilder<'a, 'b> {
     /// # use etherpeel::ether_fields::*;
     /// # use etherpeel::ether_sll2::*;
     /// # use etherpeel::ether_packet::*;
+    /// # use etherpeel::ether_packet::PacketBuilder;
     /// # fn main() -> Result<(), Box<dyn std::error::Error>> {
     /// let tag = MacsecHeader {
     ///     ptype: MacsecPType::Unmodified(EtherType::IPV4),

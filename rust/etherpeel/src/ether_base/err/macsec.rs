@@ -16,3 +16,6 @@ pub use header_error::HeaderError;
 /// assert_eq!(error.clone().add_slice_offset(14), error);
 /// ```
 pub type HeaderSliceError = crate::ether_base::header_slice_error::HeaderSliceError<HeaderError>;
+
+#[cfg(feature = "compat")]
+pub use crate::compat::err::macsec::HeaderReadError;
