@@ -57,6 +57,13 @@ def cargo_version():
     return tuple(int(it) for it in re.search(r"(\d+)\.(\d+)", text).groups()), text
 
 
+def features():
+    """The names of the crate's features."""
+    with open(os.path.join(CRATE, "Cargo.toml"), encoding="utf-8") as file:
+        table = file.read().split("[features]\n", 1)[1].split("\n[", 1)[0]
+    return re.findall(r"^(\w+) = ", table, re.M)
+
+
 def oldest_rustc():
     """A compiler of the oldest version that the crates are for, as Debian's rustc-web is; None if there is none."""
     for folder in [*os.get_exec_path(), "/usr/bin"]:

@@ -95,9 +95,9 @@ def planted(fault, folder):
 def outcome(folder):
     """What becomes of a copy: it does not compile, is caught, or is not."""
     crate = os.path.join(folder, "etherpeel")
-    if building.cargo("build", "--tests", folder=crate)[1]:
+    if building.cargo("build", "--tests", "--all-features", folder=crate)[1]:
         return "does not compile"
-    if building.cargo("test", "--no-fail-fast", folder=crate, seconds=SECONDS, RUST_TEST_THREADS="2")[1]:
+    if building.cargo("test", "--all-features", "--no-fail-fast", folder=crate, seconds=SECONDS, RUST_TEST_THREADS="2")[1]:
         return "caught by the tests"
     if building.cargo("build", "--release", folder=os.path.join(folder, "drawn"))[1]:
         return "does not compile"

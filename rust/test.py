@@ -3,10 +3,10 @@
     python3 rust/test.py
 
 The script refuses each source of cases/refused.txt, and makes of each source of cases/taken.txt what stands there.
-What is committed is what it makes. With cargo the crate is built, its tests and examples are run, lints and
-documentation have no warning, and drawn frames are compared with a second walk (drawn.py). With a compiler of the oldest
-version that the crates are for, all targets are checked by it. What is left out is said, and why. The last line is
-'N passed, M failed'.
+What is committed is what it makes. With cargo the crate is built, also with each feature alone, its tests and examples
+are run, lints and documentation have no warning, and drawn frames are compared with a second walk (drawn.py). With a
+compiler of the oldest version that the crates are for, all targets are checked by it. What is left out is said, and
+why. The last line is 'N passed, M failed'.
 """
 import argparse
 import os
@@ -73,6 +73,8 @@ def committed_failures():
 def steps():
     """The calls of cargo: the folder, the words and the environment of each. `c/test.sh` tests the calls for C."""
     yield building.CRATE, ["build"], {}
+    for feature in building.features():
+        yield building.CRATE, ["check", "--features", feature], {}
     yield building.CRATE, ["test", "--all-features"], {}
     folders = {building.CRATE: ["--all-targets", "--all-features"], building.CALLS: [], building.PROGRAMS: ["--all-targets"]}
     if why := building.missing(building.PROGRAMS):
@@ -104,7 +106,8 @@ def cargo_counts():
             print(text[-4000:])
         said = f", {well} tests passed, {ill} failed" if counts else ""
         by = f" with {environment['RUSTC']}" if "RUSTC" in environment else ""
-        print(f"{os.path.basename(folder)}: cargo {words[0]}{by}: {'failed' if wrong else 'passed'}{said}", flush=True)
+        alone = f" of the feature {words[2]}" if words[1:2] == ["--features"] else ""
+        print(f"{os.path.basename(folder)}: cargo {words[0]}{alone}{by}: {'failed' if wrong else 'passed'}{said}", flush=True)
         passed, failed = passed + well + (not wrong), failed + ill + wrong
     return passed, failed
 

@@ -2,8 +2,9 @@
 //! steps, and `read` and `write` over the readers and writers of `std`.
 //!
 //! This module is **written by hand, and not proved**. It joins calls that are: [`Peel`](crate::ether_peel::Peel) reads
-//! a packet, and [`ether_packet::PacketBuilder`](crate::ether_packet::PacketBuilder) writes it. The root has the names of
-//! this module, too, and [`crate::err`] those of [`err`]. So this line in a manifest is all that such a program needs:
+//! a packet, and [`ether_packet::PacketBuilder`](crate::ether_packet::PacketBuilder) writes it. The root has the names
+//! of this module, too, and [`crate::err`] those of [`err`]. So this line in a manifest is all that such a program
+//! needs:
 //!
 //! ```toml
 //! etherparse = { package = "etherpeel", path = "..", features = ["compat"] }
