@@ -53,6 +53,9 @@ SAME = [
     (r".*/bridge\.rs: .*address % 16\).*  =>  .*address % 17\).*", RESERVED),
     (r".*/bridge_kind\.rs: .*\(address % 16, .*  =>  .*\(address % 17, .*", RESERVED),
     (r".*/retagging\.rs: ether_type: EtherType\(0\),  =>  .*", "a tag gets the ether type of the frame"),
+    (r".*/compat/.*\.rs: .*EtherType\(0\).*  =>  .*EtherType\(1\).*", "neither announces a header"),
+    (r".*/compat/.*\.rs: let mut bytes = \[0; (\w|::)+\];  =>  .*\[1; .*", "each byte that is used was written before"),
+    (r".*/compat/packet_builder\.rs: const MOST_.*", "there is room enough"),
 ]
 
 
