@@ -4,9 +4,9 @@
     python3 try.py CRATE         those of one crate
     python3 try.py CRATE WORD    the tests of one crate whose names have WORD
 
-The crate `library_tests` is the folder tests/library_tests. It needs no proof, so it is not in crates.txt, and its files
-end in .rt.txt. Here they are copied to a crate next to the others; with --format they are written back as `rt fmt` lays
-them out. A failed test is followed by what it printed. The last line is 'N passed, M failed'.
+The crates `library_tests` and `drawn_calls` are folders of tests. They need no proof, so they are not in crates.txt, and
+their files end in .rt.txt. Here they are copied to a crate next to the others; with --format they are written back as
+`rt fmt` lays them out. A failed test is followed by what it printed. The last line is 'N passed, M failed'.
 """
 import argparse
 import concurrent.futures
@@ -18,10 +18,11 @@ import sys
 import tempfile
 
 TOP = os.path.dirname(os.path.abspath(__file__))
-CRATES, SOURCES = f"{TOP}/crates", f"{TOP}/tests/library_tests/src"
-TESTS = "library_tests"
-LIBRARIES = ("ether_base ether_tags ether_sll ether_arp etherparse ether_peel ether_sll2 ether_text ether_packet ether_filter ether_pcap "
-             "ether_content ether_switch example_frames arrayvec")
+CRATES = f"{TOP}/crates"
+TESTS, CALLS = "library_tests", "drawn_calls"
+LIBRARIES = "ether_base ether_tags ether_sll ether_arp etherparse ether_peel ether_sll2 ether_packet ether_filter ether_pcap ether_content ether_switch arrayvec"
+# The crates that need no proof, each with the libraries that it uses.
+UNPROVED = {TESTS: f"{LIBRARIES} ether_text example_frames", CALLS: f"{LIBRARIES} ether_fields ether_output ether_format anyhow"}
 
 
 def has_tests(crate):
@@ -57,38 +58,59 @@ def files_of(folder):
     return sorted(os.path.relpath(f"{at}/{name}", folder) for at, _, names in os.walk(folder) for name in names)
 
 
-def copy_tests(room):
-    """Makes a repository in the folder `room` that also has the crate of tests, and returns its folder."""
+def sources(crate):
+    return f"{TOP}/tests/{crate}/src"
+
+
+def copy_tests(room, crate):
+    """Makes a repository in the folder `room` that also has a crate of tests, and returns its folder."""
     shutil.copytree(CRATES, f"{room}/crates", ignore=shutil.ignore_patterns("out"))
     with open(f"{TOP}/crates.txt", encoding="utf-8") as known, open(f"{room}/crates.txt", "w", encoding="utf-8") as file:
-        file.write(f"{known.read()}{TESTS}: {LIBRARIES}\n")
-    for path in files_of(SOURCES):
-        copy = f"{room}/crates/{TESTS}/src/{path.removesuffix('.txt')}"
+        file.write(f"{known.read()}{crate}: {UNPROVED[crate]}\n")
+    for path in files_of(sources(crate)):
+        copy = f"{room}/crates/{crate}/src/{path.removesuffix('.txt')}"
         os.makedirs(os.path.dirname(copy), exist_ok=True)
-        shutil.copyfile(f"{SOURCES}/{path}", copy)
-    return f"{room}/crates/{TESTS}"
+        shutil.copyfile(f"{sources(crate)}/{path}", copy)
+    return f"{room}/crates/{crate}"
 
 
-def lay_out(folder, write):
+def lay_out(folder, crate, write):
     """Runs `rt fmt` on the copied tests. Returns the files that it changes; `write` says that these are written back."""
     subprocess.run(["rt", "fmt"], cwd=folder, stdout=subprocess.DEVNULL, check=True)
     changed = []
-    for path in files_of(SOURCES):
-        with open(f"{folder}/src/{path.removesuffix('.txt')}", "rb") as copy, open(f"{SOURCES}/{path}", "rb") as source:
+    for path in files_of(sources(crate)):
+        with open(f"{folder}/src/{path.removesuffix('.txt')}", "rb") as copy, open(f"{sources(crate)}/{path}", "rb") as source:
             if copy.read() != source.read():
                 changed.append(path)
         if write:
-            shutil.copyfile(f"{folder}/src/{path.removesuffix('.txt')}", f"{SOURCES}/{path}")
+            shutil.copyfile(f"{folder}/src/{path.removesuffix('.txt')}", f"{sources(crate)}/{path}")
     return changed
 
 
 def try_library_tests(word=""):
     """The same as `try_tests`, of the tests that need no proof."""
     with tempfile.TemporaryDirectory() as room:
-        folder = copy_tests(room)
-        ill = [] if word else [f"{TESTS}: {path} is not in the layout of rt fmt" for path in lay_out(folder, False)]
+        folder = copy_tests(room, TESTS)
+        ill = [] if word else [f"{TESTS}: {path} is not in the layout of rt fmt" for path in lay_out(folder, TESTS, False)]
         text, passed, failed = run_tests(TESTS, folder, word)
         return "\n".join([*ill, text]), passed, failed + len(ill)
+
+
+def try_calls(*words):
+    """The lines that `drawn_calls` prints for these words, and what is wrong with its layout or its run."""
+    with tempfile.TemporaryDirectory() as room:
+        folder = copy_tests(room, CALLS)
+        ill = [f"{CALLS}: {path} is not in the layout of rt fmt" for path in lay_out(folder, CALLS, False)]
+        ran = subprocess.run(["rt", "try", "--steps", "1", "--seconds", "600", "--", *words], cwd=folder, stdin=subprocess.DEVNULL, capture_output=True, text=True)
+        if "checked: ended status=0" not in ran.stdout + ran.stderr:
+            ill.append(f"{CALLS} {' '.join(words)}:\n{(ran.stdout + ran.stderr)[-2000:]}")
+        return re.findall(r"^\d+ \d+$", ran.stdout, re.M), ill
+
+
+def try_some_calls():
+    """What is to be said of `drawn_calls` for one input of each kind, and how many runs passed and failed."""
+    _, ill = try_calls("0", "16", "16")
+    return "\n".join(ill or [f"{CALLS}: 16 inputs"]), int(not ill), len(ill)
 
 
 def try_tests(crate, word=""):
@@ -118,6 +140,9 @@ def jobs_of(crate, word=""):
     if crate == TESTS:
         yield try_library_tests, word
         return
+    if crate == CALLS:
+        yield try_some_calls,
+        return
     if has_tests(crate):
         yield try_tests, crate, word
     if not word and os.path.isfile(f"{CRATES}/{crate}/src/main.rt"):
@@ -125,7 +150,7 @@ def jobs_of(crate, word=""):
 
 
 def known():
-    return [TESTS, *sorted(os.listdir(CRATES))]
+    return [*UNPROVED, *sorted(os.listdir(CRATES))]
 
 
 def asked(given):
@@ -139,11 +164,13 @@ def main():
     words = argparse.ArgumentParser(description=__doc__, formatter_class=argparse.RawDescriptionHelpFormatter)
     words.add_argument("crate", metavar="CRATE", nargs="?", choices=known())
     words.add_argument("word", metavar="WORD", nargs="?", default="")
-    words.add_argument("--format", action="store_true", help="lay out tests/library_tests, and run nothing")
+    words.add_argument("--format", action="store_true", help="lay out the crates of tests, and run nothing")
     given = words.parse_args()
     if given.format:
-        with tempfile.TemporaryDirectory() as room:
-            return print(*lay_out(copy_tests(room), True), sep="\n")
+        for crate in UNPROVED:
+            with tempfile.TemporaryDirectory() as room:
+                print(*lay_out(copy_tests(room, crate), crate, True), sep="\n")
+        return 0
     passed, failed, jobs = 0, 0, asked(given)
     with concurrent.futures.ThreadPoolExecutor(len(os.sched_getaffinity(0))) as pool:
         for run in concurrent.futures.as_completed([pool.submit(*job) for job in jobs]):

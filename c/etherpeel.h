@@ -2,7 +2,8 @@
  *
  * Ethernet II, VLAN tags (IEEE 802.1Q), MACsec SecTags (IEEE 802.1AE), Linux cooked capture v1 and
  * v2, and ARP (RFC 826), each announced by the ether type of the header before it. For C99 and
- * C++11, on Linux on x86-64. Link with libetherpeel, static or shared: pkg-config etherpeel.
+ * C++11, on Linux on x86-64, aarch64 and s390x. Link with libetherpeel, static or shared:
+ * pkg-config etherpeel.
  *
  * What holds for every call:
  *
@@ -40,8 +41,9 @@
 #ifndef ETHERPEEL_H
 #define ETHERPEEL_H
 
-#if !defined(__linux__) || !defined(__x86_64__) || !defined(__LP64__)
-#error "etherpeel.h is for Linux on x86-64: the library passes slices and structs as they are there"
+#if !defined(__linux__) || !defined(__LP64__) || \
+    !(defined(__x86_64__) || defined(__aarch64__) || defined(__s390x__))
+#error "etherpeel.h is for Linux on x86-64, aarch64 and s390x: others may pass structs otherwise"
 #endif
 
 #include <stddef.h>

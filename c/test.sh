@@ -4,13 +4,14 @@
 # 'N passed, M failed'. CC, CXX and PYTHON name other programs; what needs one that is not there is left out, and a line says so. Without
 # a C compiler the clang of the kit links the shared library for Python. With the word `proved` both stand on what `rt ci` has just proved
 # and left in the crates' out/, so that nothing below the library is proved once more. With the word `cargo`, or where there is no `rt`,
-# the library is the one that cargo builds.
+# the library is the one that cargo builds. With the words `built LIBRARY` a static library of cargo for another processor is tested, from C
+# alone: CC, and CXX if it is named, compile for that processor, and the words of RUNNER run what they compile.
 usage() {
     sed -n '/^#!/d; /^#/!q; s/^# *//p' "$0"
     exit "$1"
 }
 case $#:${1:-} in
-0: | 1:proved | 1:cargo) ;;
+0: | 1:proved | 1:cargo | 2:built) ;;
 *:--help) usage 0 ;;
 *) usage 2 >&2 ;;
 esac
@@ -18,8 +19,11 @@ set -eu
 cd "$(dirname "$0")"
 export PYTHONDONTWRITEBYTECODE=1
 with=${1:-}
-if ! command -v rt > /dev/null; then with=cargo; fi
-if [ "$with" = cargo ]; then
+export RUNNER="${RUNNER:-}"
+if [ "$with" != built ] && ! command -v rt > /dev/null; then with=cargo; fi
+if [ "$with" = built ]; then
+    library=$2
+elif [ "$with" = cargo ]; then
     library=../rust/etherpeel_c/target/release/libetherpeel_c.a
     if ! python3 ../rust/building.py; then
         echo "left out: the library that cargo builds"
@@ -39,7 +43,7 @@ compiler_of() {
     shift
     printf '#include <stdint.h>\n#include <stdio.h>\nint main(void) { return 0; }\n' > "$work/probe.c"
     for compiler in "$@"; do
-        if [ -n "$compiler" ] && "$compiler" -x "$language" "$work/probe.c" -o "$work/probe" > /dev/null 2>&1 && "$work/probe"; then
+        if [ -n "$compiler" ] && "$compiler" -x "$language" "$work/probe.c" -o "$work/probe" > /dev/null 2>&1 && $RUNNER "$work/probe"; then
             echo "$compiler"
             return
         fi
@@ -49,7 +53,7 @@ compiler_of() {
 # the clang of the kit is in its toolchain, next to the page that `rt doc` names; it has no headers of its own, but links
 kit_clang=
 kit_linker=cc
-if [ "$with" != cargo ]; then
+if [ "$with" != cargo ] && [ "$with" != built ]; then
     toolchain=$(dirname "$(rt doc)")/toolchain
     kit_clang=$work/kit-clang
     kit_linker=$work/kit-linker
@@ -57,14 +61,22 @@ if [ "$with" != cargo ]; then
     printf '#!/bin/sh\nexec %s -nostdlib -fuse-ld=lld "$@" %s\n' "$toolchain/bin/clang" "$toolchain/lib/libgcc.a" > "$kit_linker"
     chmod +x "$kit_clang" "$kit_linker"
 fi
-cc=$(compiler_of c "${CC:-}" gcc cc clang "$kit_clang")
-cxx=$(compiler_of c++ "${CXX:-}" g++ c++ clang++ "$cc")
+if [ "$with" = built ]; then
+    cc=$(compiler_of c "$CC")
+    cxx=$(compiler_of c++ "${CXX:-}")
+else
+    cc=$(compiler_of c "${CC:-}" gcc cc clang "$kit_clang")
+    cxx=$(compiler_of c++ "${CXX:-}" g++ c++ clang++ "$cc")
+fi
 python=${PYTHON:-python3}
 if [ -z "$cc" ]; then
     echo "left out: the tests in C and C++, the examples, docs/C.md and the lines of the tool, since no C compiler was found that has the" \
         "headers of the C library"
 fi
-if ! "$python" -c 'import ctypes' > /dev/null 2>&1; then
+if [ "$with" = built ]; then
+    echo "left out: the sanitizers, the tests in Python, the lines of the tool and the commands of docs/C.md, since the library is for another processor"
+    python=
+elif ! "$python" -c 'import ctypes' > /dev/null 2>&1; then
     echo "left out: the tests in Python and the lines of the tool, since no Python with ctypes was found"
     python=
 fi
@@ -73,7 +85,9 @@ if [ -z "$cc$python" ]; then
     exit
 fi
 
-if [ "$with" = cargo ]; then
+if [ "$with" = built ]; then
+    build=true
+elif [ "$with" = cargo ]; then
     build="sh ../rust/build.sh etherpeel_c"
 elif [ "$with" = proved ]; then
     build="${python:-python3} library.py"
@@ -104,7 +118,7 @@ build_and_run() {
     out=$work/$2
     shift 2
     if "$@" tests/tests.c -x none -o "$out" "$library" > "$work/build.log" 2>&1; then
-        run "$name" "$out"
+        run "$name" $RUNNER "$out"
     else
         cat "$work/build.log"
         run "$name (not built)" false
@@ -135,7 +149,8 @@ callers_in_c() {
     else
         echo "left out: the tests in C++, since no C++ compiler was found"
     fi
-    for compiler in "$cc" $(compiler_of c clang); do
+    if [ "$with" = built ]; then set --; else set -- "$cc" $(compiler_of c clang); fi
+    for compiler in "$@"; do
         for sanitizer in address undefined; do
             flags="-fsanitize=$sanitizer -fno-sanitize-recover=all -g"
             if has "$compiler" $flags -x c; then
@@ -169,6 +184,10 @@ dask=
 if [ -n "$python" ]; then dask=$(python_with dask.distributed "$python" /usr/bin/python3); fi
 if [ -n "$cc" ]; then callers_in_c; fi
 if [ -n "$python" ]; then callers_in_python; fi
+if [ "$with" = built ] && [ -n "$cc" ]; then
+    run "The examples" sh tests/examples.sh "$cc" "$library" "" "$work"
+    run "docs/C.md" "${PYTHON:-python3}" tests/c_document.py "$cc" "$library" "$work/page"
+fi
 if [ -n "$cc" ] && [ -n "$python" ]; then
     run "The examples" sh tests/examples.sh "$cc" "$library" "$python" "$work"
     run "The VLANs of captures" "$python" tests/vlan_examples.py "$work/vlans" "$work/package" $dask

@@ -30,7 +30,7 @@ def cargo(*words, folder=CRATE, seconds=None, **environment):
     """What cargo printed, and its status. A call of more than so many seconds, if they are given, is ended, with status 1."""
     name, *others = words
     at = others.index("--") if "--" in others else len(others)
-    said = ["cargo", name, *others[:at], *debian(), *others[at:]]
+    said = ["cargo", name, *others[:at], *(debian() if name != "fmt" else []), *others[at:]]
     given = {**os.environ, "CARGO_TERM_COLOR": "never", **environment}
     with subprocess.Popen(said, cwd=folder, env=given, stdin=subprocess.DEVNULL, stdout=subprocess.PIPE, stderr=subprocess.PIPE, text=True,
                           errors="replace", start_new_session=True) as ran:
@@ -58,10 +58,10 @@ def cargo_version():
 
 
 def features():
-    """The names of the crate's features."""
+    """The names of the crate's features, but for that of its default ones."""
     with open(os.path.join(CRATE, "Cargo.toml"), encoding="utf-8") as file:
         table = file.read().split("[features]\n", 1)[1].split("\n[", 1)[0]
-    return re.findall(r"^(\w+) = ", table, re.M)
+    return [name for name in re.findall(r"^(\w+) = ", table, re.M) if name != "default"]
 
 
 def oldest_rustc():
@@ -75,8 +75,9 @@ def oldest_rustc():
     return None
 
 
-def has_clippy():
-    return subprocess.run(["cargo", "clippy", "--version"], capture_output=True).returncode == 0
+def has(command):
+    """Whether cargo has a command that may be left out."""
+    return subprocess.run(["cargo", command, "--version"], capture_output=True).returncode == 0
 
 
 if __name__ == "__main__":

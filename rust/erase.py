@@ -5,15 +5,17 @@
 
 reads `crates/*/src` and `tests/library_tests`, and writes `etherpeel`, the libraries with their tests, `etherpeel_c`, the
 calls for C, and `ether_tools`, the programs, below FOLDER or in the script's own folder. Each rule deletes, or respells
-one exact form (`erasing/rules.py`, `calls.py`). What is not known (`erasing/known.py`) is refused with its file and line,
-and then nothing is written.
+one exact form (`erasing/rules.py`, `calls.py`). What is not known (`erasing/known.py`), or could hide what Rust has
+(`erasing/hiding.py`), is refused with its file and line, and then nothing is written.
 """
 import argparse
+import functools
 import os
+import re
 import sys
 
 sys.dont_write_bytecode = True
-from erasing import calls, check, docs, programs, rules, testing  # noqa: E402
+from erasing import adding, calls, check, docs, hiding, programs, rules, testing  # noqa: E402
 from erasing.tokens import Refused, joined, lex  # noqa: E402
 
 HERE = os.path.dirname(os.path.abspath(__file__))
@@ -22,29 +24,51 @@ NAME = "etherpeel"
 CALLS, CALLS_NAME = "ether_c", "etherpeel_c"
 PROGRAMS, PROGRAMS_NAME = ["ether_text", "ether_stream", "ether_capture"], "ether_tools"  # what the programs are made of
 # What stands in the place of sources that take the runtime or an allocator, and what the sources lack.
-ERROR_SOURCES, COMPAT = "error_sources", "compat"
+ERROR_SOURCES, FUSED, SERIALIZED, COMPAT = "error_sources", "fused_iterators", "serialized", "compat"
 BY_HAND = [f"{NAME}/src/{path}.rs" for path in (
-    ERROR_SOURCES, COMPAT, *(f"{COMPAT}/{it}" for it in (
+    ERROR_SOURCES, f"{ERROR_SOURCES}/pcap", FUSED, SERIALIZED, COMPAT, *(f"{COMPAT}/{it}" for it in (
         "err", "err/from_slice_error", "err/macsec", "err/packet", "err/packet/build_write_error", "err/packet/slice_error", "err/read_error",
         "lax_link_ext_slice", "lax_macsec_slice", "lax_packet_headers", "lax_sliced_packet", "lax_walk", "net", "packet_builder",
         "packet_headers", "payload_slice", "sliced_packet", "streams", "transport", "unchecked", "vlan_tags")),
 )] + [f"{PROGRAMS_NAME}/src/{path}.rs" for path in (
     "ether_text/noted", *(f"ether_capture/{it}" for it in ("capture_files", "copy_files", "count_table", "heap_memory", "heap_text", "interface_buffer", "memory", "options", "progress_line")),
-)] + [f"{PROGRAMS_NAME}/examples/{program}/main.rs" for program in ("example_switch", "example_vlan_rewriter")]
-# The programs among the examples, each with the libraries that are its modules; their `main`s are by hand.
-EXAMPLE_PROGRAMS = {"example_switch": [], "example_vlan_rewriter": []}
+)]
+# The programs that are made, each with its folder; their `main`s are by hand. One is of tests.
+DRAWN = "drawn_calls"
+EXAMPLE_PROGRAMS = {
+    **{program: f"{PROGRAMS_NAME}/examples/{program}" for program in ("example_switch", "example_vlan_rewriter")},
+    DRAWN: f"drawn/src/bin/{DRAWN}",
+}
+BY_HAND += [f"{folder}/main.rs" for folder in EXAMPLE_PROGRAMS.values()]
 FACADE = "etherparse"  # the root of the result
 # A module without documentation: the facade has its names, but for numbers that tests and programs use.
 HIDDEN = ["ether_base"]
 PRIVATE = ["ether_tags", "ether_sll", "ether_arp"]  # private modules: the facade has their public names
-# Public modules.
-OUTER = ["ether_peel", "ether_fields", "ether_sll2", "ether_packet", "ether_filter", "ether_pcap", "ether_content", "ether_switch", "ether_output",
-         "ether_format"]
+# Public modules, and what the root says of each.
+OUTER = {
+    "ether_peel": "the walk through a frame, from header to header",
+    "ether_fields": "the fields of headers as a table, and the names of numbers",
+    "ether_sll2": "Linux cooked capture v2",
+    "ether_packet": "the headers of a frame in one value; packets that are built, and changed in place",
+    "ether_filter": "filters of packets, in words of pcap-filter(7)",
+    "ether_pcap": "capture files of the classic pcap format and of pcapng",
+    "ether_content": "captured packets, each read by its link type",
+    "ether_switch": "the forwarding of a bridge with VLANs",
+    "ether_output": "text on its way to a writer",
+    "ether_format": "captured packets as JSON, columns, lines for the eye",
+}
 LIBRARIES = [*HIDDEN, *PRIVATE, FACADE, *OUTER]
+# The feature without which a public module is not there, and a module of the tests.
+FEATURES = {
+    "ether_filter": "filter", "ether_pcap": "pcap", "ether_content": "content", "ether_switch": "switch",
+    **dict.fromkeys(["ether_fields", "ether_output", "ether_format"], "format"),
+}
+TEST_FEATURES = {"filter": "content", "pcap": "pcap", "switch": "switch"}
 # The crates of tests, which are below `tests/`, each with the examples that it tests.
 TESTS = {"library_tests": ["example_frames"]}
 TEST_SOURCES = os.path.join(os.path.dirname(HERE), "tests")
 EXAMPLES = [example for examples in TESTS.values() for example in examples]
+CRATE_NAMES = {*LIBRARIES, *EXAMPLES, *PROGRAMS, NAME, PROGRAMS_NAME}
 # Modules that are left out: laws, and the tests of a crate that is not in the result.
 LEFT_OUT, LEFT_OUT_OF_TESTS = {"laws"}, {"text"}
 LEFT_OUT_OF_PROGRAMS = {"laws", "noted", "main", "options", "capture_files", "copy_files", "count_table", "heap_memory", "heap_text", "interface_buffer", "progress_line"}
@@ -60,9 +84,10 @@ ROOT = """#![doc = include_str!("../README.md")]
 #![no_std]
 #![forbid(unsafe_code)]
 
-//! # Headers and views
-//!
 """
+# What is made keeps the layout of the sources, so that it can be compared with them; rustfmt lays out the rest.
+KEPT = "#[rustfmt::skip]\n"
+HEADERS, MODULES = "//! # Headers and views", "//! # Modules"
 CALLS_ROOT = """
 #![no_std]
 
@@ -81,7 +106,7 @@ mod kit;
 
 def source_folder(crate):
     """The folder of the sources of a crate. Those of tests end in .rt.txt, since they are no proved crate."""
-    return os.path.join(TEST_SOURCES if crate in TESTS else CRATES, crate, "src")
+    return os.path.join(TEST_SOURCES if crate in [*TESTS, DRAWN] else CRATES, crate, "src")
 
 
 def sources(crate, whole=False):
@@ -93,7 +118,7 @@ def sources(crate, whole=False):
         for name in sorted(names):
             path = os.path.relpath(os.path.join(folder, name), top).removesuffix(".txt")
             if whole or not left_out & set(path[:-3].split("/")):
-                with open(os.path.join(folder, name), encoding="utf-8") as file:
+                with open(os.path.join(folder, name), encoding="utf-8", newline="") as file:
                     yield path, file.read()
 
 
@@ -153,33 +178,56 @@ def public_modules(texts, path):
         yield "::".join(parts[:i + 1])
 
 
-def imports_of(crate, path, texts):
-    """What the examples of a file import: the root, the modules up to its crate's, and the public ones around it."""
+@functools.cache
+def shown(crate, module=""):
+    """The names that a crate, or a public module of it, shows."""
+    return docs.shown(lex(dict(sources(crate, True)).get(f"{module or 'lib'}.rt", "")))
+
+
+def scope_of(crate, path, texts, known):
+    """What the examples of a file may import: from the root, the modules up to that of the crate, and the public ones
+    in it, those around the file first."""
     at = LIBRARIES.index(crate) if crate in LIBRARIES else len(LIBRARIES)
-    below = [f"{NAME}::{name}" for name in OUTER if LIBRARIES.index(name) <= at]
+    paths = {NAME: shown(FACADE), **{f"{NAME}::{name}": shown(name) for name in OUTER if LIBRARIES.index(name) <= at}}
     if crate in PROGRAMS:
-        below += [f"{PROGRAMS_NAME}::{crate}"]
-    home = PROGRAMS_NAME if crate in PROGRAMS else NAME
-    return [NAME, *below, *(f"{home}::{crate}::{module}" for module in public_modules(texts, path))]
+        paths[f"{PROGRAMS_NAME}::{crate}"] = shown(crate)
+    home = f"{PROGRAMS_NAME if crate in PROGRAMS else NAME}::{crate}"
+    around = [*public_modules(texts, path)]
+    others = {module for path in texts for module in public_modules(texts, path)} - {*around}
+    for module in [*around, *sorted(others, key=lambda it: (it.count(":"), it))]:
+        names = shown(crate, module.replace("::", "/"))
+        if crate in HIDDEN and module.split("::")[0] in shown(FACADE):
+            paths[f"{NAME}::{module}"] = names
+        paths[f"{home}::{module}"] = names
+    return docs.Scope(paths, known.traits, crate in PROGRAMS)
 
 
-def erase(text, crate, own, imports=(), home=None, stem=""):
-    """The text of a source without its proofs; `own` are the names of all sources, `home` the program that it is a module of, `stem` its
-    own name in a library."""
+def erase(text, crate, known, scope=None, home=None, stem=""):
+    """The text of a source without its proofs, or None if it is left out; `known` is what all sources declare, `home` the program that it
+    is a module of, `stem` its own name in a library."""
     tokens = lex(text)
-    in_example = check.Names(own, "example")
+    if LEFT_OUT & set(stem.split("/")):
+        return hiding.check_left_out(tokens)
+    in_example = check.Names(known.names, "example")
     for token in tokens:
         begin = token.line - token.before.count("\n")
         module = "" if crate == FACADE else crate
-        token.before = docs.documentation(token.before, begin, module, imports, in_example)
+        token.before = docs.documentation(token.before, begin, module, scope, in_example)
     kind, own_rules, last_rules, spelled = kind_of(home or crate, stem)
     for rule in own_rules:
         rule(tokens)
     rules.paths(tokens, crate, spelled)
-    check.check(tokens, check.Names(own, kind))
+    names = check.Names(known.names, kind)
+    check.check(tokens, names)
+    hiding.check(tokens, known, names)
+    if crate == FACADE:
+        hiding.check_facade(tokens)
+    if stem in rules.STD:
+        hiding.check_left_out(tokens)
     for rule in last_rules:
         rule(tokens)
     rules.features(tokens)
+    rules.visibilities(tokens, spelled(crate, "crate"))
     return joined(tokens)
 
 
@@ -188,7 +236,7 @@ def kind_of(crate, stem):
     if stem in rules.STD:
         return "program", rules.RULES, [], std_path
     if crate in LIBRARIES:
-        return "library", rules.RULES, [], library_path
+        return "library", rules.RULES, adding.RULES, library_path
     if crate == CALLS:
         return "calls", calls.RULES, calls.LAST, calls_path
     if crate in PROGRAMS:
@@ -202,8 +250,7 @@ def place(crate, path, home=None):
     """The path of a source in the result."""
     stem = path[:-3] if path != "lib.rt" else ""
     if home:
-        below = "/".join(it for it in (crate if crate != home else "", stem) if it)
-        return f"{PROGRAMS_NAME}/examples/{home}/{below}.rs"
+        return f"{EXAMPLE_PROGRAMS[home]}/{stem}.rs"
     if crate == CALLS:
         return f"{CALLS_NAME}/src/{stem or 'lib'}.rs"
     if crate in PROGRAMS:
@@ -222,13 +269,39 @@ def rooted(crate, text):
     end = next(i for i, line in enumerate(lines) if not line.startswith("//!"))
     if crate == FACADE:
         modules = ['#[cfg(feature = "std")]\nextern crate std;\n']
-        modules += [f"#[doc(hidden)]\npub mod {name};" for name in HIDDEN] + [f"mod {name};" for name in [*PRIVATE, ERROR_SOURCES]]
-        modules += [*(f"pub mod {name};" for name in OUTER), f'#[cfg(feature = "{COMPAT}")]\npub mod {COMPAT};']
-        return ROOT + "\n".join([*lines[:end], "", *modules, *lines[end:]])
+        modules += [f"#[doc(hidden)]\n{KEPT}pub mod {name};" for name in HIDDEN] + [f"{KEPT}mod {name};" for name in PRIVATE]
+        modules += [f"mod {ERROR_SOURCES};", f"mod {FUSED};", f"{only_with('serde')}mod {SERIALIZED};"]
+        modules += [f"{only_with(FEATURES.get(name))}{KEPT}pub mod {name};" for name in OUTER]
+        modules += [f"{only_with(COMPAT)}pub mod {COMPAT};"]
+        return ROOT + "\n".join([*documentation(lines[:end]), "", *modules, *kept(lines[end:])])
     if crate == CALLS:
-        return "\n".join([*lines[:end], CALLS_ROOT, *lines[end + 1:]])
-    modules = "".join(f"mod {name};\n" for name in TESTS[crate])
-    return "\n".join([*lines[:end], TEST_ROOT + modules, *lines[end + 1:]])
+        return "\n".join([*lines[:end], CALLS_ROOT, *kept(lines[end + 1:])])
+    modules = "".join(f"{KEPT}mod {name};\n" for name in TESTS[crate])
+    named = lines[end + 1:]
+    names = [only_with(TEST_FEATURES.get(line[4:-1])) + it for line, it in zip(named, kept(named))]
+    return "\n".join([*lines[:end], TEST_ROOT + modules, *names])
+
+
+def kept(lines):
+    """Lines of a root whose layout, and that of the modules that they name, is that of the sources."""
+    return [(KEPT if re.match(r"(?:pub )?(?:mod|use) ", line) else "") + line for line in lines]
+
+
+def documentation(lines):
+    """The documentation of the root, from the facade's. The first paragraph is left out: the page of the package, which
+    stands before it, says it. Modules that are not always there are named with their features: no link leads nowhere."""
+    yield from [HEADERS, *lines[lines.index("//!"):], "//!", MODULES, "//!"]
+    yield "//! - [`err`], [`ether_type`], [`write_front`]: errors, numbers of ether types, bytes put at a slice's front"
+    named = {name: FEATURES.get(name) for name in OUTER} | {COMPAT: COMPAT}
+    told = {**OUTER, COMPAT: "names for programs that use etherparse"}
+    for name, feature in named.items():
+        text = f"- [`{name}`]: {told[name]}"
+        yield f'#![cfg_attr(feature = "{feature}", doc = "{text}")]' if feature else f"//! {text}"
+
+
+def only_with(feature):
+    """The line before what is there only with a feature, if it needs one."""
+    return f'#[cfg(feature = "{feature}")]\n' if feature else ""
 
 
 def added(path):
@@ -236,32 +309,42 @@ def added(path):
     return f'\n#[cfg(feature = "{COMPAT}")]\npub use crate::{COMPAT}::{ADDED[path]};\n' if path in ADDED else ""
 
 
-def made(crates, known_too, home=None):
-    """The files that are made of crates, each with its path in the result; what is refused has None for its path."""
-    texts = {crate: dict(sources(crate)) for crate in crates}
-    own = check.names_in(text for files in texts.values() for text in files.values())
-    own |= known_too | {*LIBRARIES, *EXAMPLES, *PROGRAMS, NAME, PROGRAMS_NAME}
-    for crate, files in texts.items():
-        for path, text in files.items():
+def made(crates, known, home=None):
+    """The files that are made of crates, each with its path in the result; what is refused has None for its path. `known` is what the
+    sources of these crates and of those below declare."""
+    for crate in crates:
+        files = dict(sources(crate))
+        for path, text in sources(crate, True):
+            stem = path[:-3] if crate in LIBRARIES or LEFT_OUT & set(path[:-3].split("/")) else ""
+            if path not in files and not stem:
+                continue  # another stands in its place
             try:
-                erased = erase(text, crate, own, imports_of(crate, path, files), home, path[:-3] if crate in LIBRARIES else "")
+                erased = erase(text, crate, known, scope_of(crate, path, files, known), home, stem)
                 is_root = path == "lib.rt" and crate in [FACADE, CALLS, *TESTS]
-                there = place(crate, path, home)
-                yield there, (rooted(crate, erased) if is_root else erased) + added(there)
+                if path in files:
+                    there = place(crate, path, home)
+                    yield there, (rooted(crate, erased) if is_root else erased) + added(there)
             except Refused as refused:
                 yield None, f"{os.path.relpath(source_folder(crate), os.path.dirname(HERE))}/{path}:{refused.line}: {refused.what}"
 
 
+def declared_in(crates, whole=False):
+    """What the sources of crates declare, also those that are left out if `whole`."""
+    return hiding.Sources((text for crate in crates for _, text in sources(crate, whole)), CRATE_NAMES)
+
+
 def result():
     """The files of the result, or SystemExit with all that was refused."""
-    found = list(made(LIBRARIES, set()))
-    known = check.names_in(text for crate in LIBRARIES for _, text in sources(crate))
-    found += made([CALLS], known)
-    found += made(PROGRAMS, known | check.names_in(text for crate in PROGRAMS for _, text in sources(crate, True)))
+    below = declared_in(LIBRARIES)
+    if unknown := {*adding.DERIVED, *adding.MUST_USE, *adding.SERIALIZED} - below.types:
+        sys.exit(f"rust/erasing/adding.py names {', '.join(sorted(unknown))}, which no source declares")
+    found = list(made(LIBRARIES, below))
+    found += made([CALLS], below | declared_in([CALLS]))
+    found += made(PROGRAMS, below | declared_in(PROGRAMS, True))
     for test, examples in TESTS.items():
-        found += made([test, *examples], known)
-    for program, libraries in EXAMPLE_PROGRAMS.items():
-        found += made([program, *libraries], known, program)
+        found += made([test, *examples], below | declared_in([test, *examples]))
+    for program in EXAMPLE_PROGRAMS:
+        found += made([program], below | declared_in([program], True), program)
     if refused := [text for path, text in found if path is None]:
         sys.exit("\n".join([*refused, "rust/erasing/known.py has what is known"]))
     with open(os.path.join(os.path.dirname(HERE), "NOTICE"), encoding="utf-8") as file:
@@ -272,7 +355,7 @@ def result():
 def stale(folder, files):
     """The Rust files in the folders of the result that are not made, but for those by hand."""
     made_too = [f"{PROGRAMS_NAME}/src/{crate}" for crate in PROGRAMS]
-    made_too += [f"{PROGRAMS_NAME}/examples/{program}" for program in EXAMPLE_PROGRAMS]
+    made_too += EXAMPLE_PROGRAMS.values()
     for top in (f"{NAME}/src", f"{CALLS_NAME}/src", *made_too, *(f"{NAME}/tests/{test}" for test in TESTS)):
         for at, _, names in os.walk(os.path.join(folder, top)):
             for name in names:

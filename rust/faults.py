@@ -4,7 +4,7 @@
 
 draws COUNT faults that compile, 60 if it is left out, from a fixed seed: a number, an operator, a Boolean, an order of
 bytes or a statement is another one, or is gone. Of each copy it runs the tests and examples, and compares 20,000 drawn
-frames (drawn.py). A fault that is not caught is printed; those of `SAME` change nothing, for the reason that stands
+frames (drawn.py) and what the public functions return for 50,000 drawn inputs (calls.py) with the crate's own. A fault that is not caught is printed; those of `SAME` change nothing, for the reason that stands
 there. The last line is 'N passed, M failed'. It takes some eleven minutes of processor time: it is no part of the gate.
 """
 import argparse
@@ -18,9 +18,10 @@ import tempfile
 
 sys.dont_write_bytecode = True
 import building  # noqa: E402
+import calls  # noqa: E402
 import drawn  # noqa: E402
 
-COUNT, FRAMES, WORKERS = 60, 20_000, 2
+COUNT, FRAMES, INPUTS, WORKERS = 60, 20_000, 50_000, 2
 SECONDS = 600  # a fault may make a test loop for ever
 SKIPPED = re.compile(r'//[^\n]*|"(?:\\.|[^"\\])*"|#!?\[[^\]]*\]|^ *(?:pub )?(?:use|mod) [^;]*;', re.M | re.S)
 CHANGES = [
@@ -104,8 +105,11 @@ def outcome(folder):
         return "caught by the tests"
     if building.cargo("build", "--release", folder=os.path.join(folder, "drawn"))[1]:
         return "does not compile"
-    told = list(drawn.failures(FRAMES, os.path.join(folder, "drawn", "target", "release", "drawn")))
-    return "not caught" if told.count(None) == len(told) else "caught by drawn frames"
+    release, own = (os.path.join(it, "target", "release") for it in (os.path.join(folder, "drawn"), drawn.FOLDER))
+    if any(drawn.failures(FRAMES, os.path.join(release, "drawn"))):
+        return "caught by drawn frames"
+    programs = [os.path.join(it, calls.NAME) for it in (own, release)]
+    return "caught by drawn calls" if any(calls.differences(programs, INPUTS)) else "not caught"
 
 
 def work(faults, folder, wanted):
@@ -130,6 +134,7 @@ def main():
     words = argparse.ArgumentParser(description=__doc__, formatter_class=argparse.RawDescriptionHelpFormatter)
     words.add_argument("count", metavar="COUNT", nargs="?", type=int, default=COUNT)
     count = words.parse_args().count
+    calls.built("--release")
     faults = list(all_places())
     random.Random(1).shuffle(faults)
     with tempfile.TemporaryDirectory() as folder, concurrent.futures.ThreadPoolExecutor(WORKERS) as pool:

@@ -124,15 +124,14 @@ def shortened(value):
     return text if len(text) <= WIDTH else f"{text[:WIDTH]}.. ({len(text)} characters)"
 
 
-def count(tried, word=""):
-    """Prints each run that ended otherwise than wanted, and how many there are of both kinds, of those whose names have a word. What is
-    found or wanted may be a call, which is made for these alone. Answers the exit status."""
+def count(tried, word="", each=1):
+    """Prints each run that ended otherwise than wanted, and how many there are of both kinds, of those whose names have a word. With a number N
+    only each Nth of these is made. What is found or wanted may be a call, which is made for these alone. Answers the exit status."""
     counts = {True: 0, False: 0}
-    for name, found, wanted in tried:
-        if word in name:
-            found, wanted = (it() if callable(it) else it for it in (found, wanted))
-            counts[found == wanted] += 1
-            if found != wanted:
-                print(f"{name}: {differences(found, wanted)}")
+    for name, found, wanted in itertools.islice((it for it in tried if word in it[0]), 0, None, each):
+        found, wanted = (it() if callable(it) else it for it in (found, wanted))
+        counts[found == wanted] += 1
+        if found != wanted:
+            print(f"{name}: {differences(found, wanted)}")
     print(f"{counts[True]} passed, {counts[False]} failed")
     return 1 if counts[False] or word and not counts[True] else 0

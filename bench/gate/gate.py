@@ -40,6 +40,8 @@ COMMANDS = {
     "network": [sys.executable, "tests/network.py", "crates/ether_c/out/libether_c.a", "crates/example_switch/out/example_switch"],
     "C by cargo": ["sh", "c/test.sh", "cargo"],
     "programs by cargo": [sys.executable, "rust/programs.py"],
+    "calls": [sys.executable, "rust/calls.py"],
+    "other processors": [sys.executable, "rust/processors.py"],
     "figures": [sys.executable, "bench/figures.py"],
     "page": [sys.executable, "page/test.py", "--proved"],
     "release": [sys.executable, "tests/release.py"],

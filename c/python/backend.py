@@ -8,6 +8,7 @@ import gzip
 import hashlib
 import io
 import os
+import re
 import subprocess
 import tarfile
 import zipfile
@@ -24,6 +25,8 @@ Author: the Jalkumfe developers
 License: MIT OR Apache-2.0
 Requires-Python: >=3.8
 """
+# Tables of a manifest that name files which the source archive does not have: cargo would refuse it.
+TARGETS = re.compile(rb"^\[\[(?:test|example)\]\]\n(?:.+\n)+\n", re.M)
 WHEEL = f"""Wheel-Version: 1.0
 Generator: backend.py
 Root-Is-Purelib: false
@@ -88,7 +91,7 @@ def build_sdist(sdist_directory, config_settings=None):
     files = {"PKG-INFO": METADATA.encode()}
     for name in source_files():
         with open(f"{top}/{name}", "rb") as file:
-            files[name] = file.read()
+            files[name] = TARGETS.sub(b"", file.read()) if name.endswith("Cargo.toml") else file.read()
     files["pyproject.toml"] = files["c/python/pyproject.toml"].replace(b'backend-path = ["."]', b'backend-path = ["c/python"]')
     packed = io.BytesIO()
     with tarfile.open(fileobj=packed, mode="w", format=tarfile.PAX_FORMAT) as made:

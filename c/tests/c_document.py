@@ -2,7 +2,8 @@
 
 The commands are run in order in a copy of the repository's files, with the library that is given in place of what `rt lib`
 makes, and without a network. What they print last is compared with the text after them; examples in C are compiled, examples in Python
-are run. What needs a program that is missing is left out, and a line says so.
+are run. What needs a program that is missing is left out, and a line says so. Where RUNNER has words that run what CC compiles, for another
+processor, only the examples in C are tried.
 """
 import os
 import re
@@ -36,6 +37,7 @@ int main(int argc, char **argv) {
 }
 """
 cc, library, work = words("CC", "LIBRARY", "FOLDER")
+runner = os.environ.get("RUNNER", "").split()
 clone, bin = f"{work}/clone", f"{work}/bin"
 counts = {True: 0, False: 0}
 
@@ -100,7 +102,7 @@ def moves(code):
     done = subprocess.run([cc, *WARNINGS, "-o", path, "-", "-x", "none", library], input=code + MOVING, capture_output=True, text=True)
     check("move_to_vlan is built", done.returncode == 0, done.stderr)
     for frame, wanted in MOVED.items() if done.returncode == 0 else ():
-        ran = subprocess.run([path, addresses + frame.replace(" ", "")], stdout=subprocess.PIPE, text=True)
+        ran = subprocess.run([*runner, path, addresses + frame.replace(" ", "")], stdout=subprocess.PIPE, text=True)
         found = (ran.stdout, ran.returncode)
         check(f"{frame} in the VLAN 7", found == (addresses + wanted.replace(" ", ""), 0), found)
 
@@ -111,6 +113,8 @@ def main():
     commands, expected, codes = [], {}, []
     ran = False  # whether the last block that prints something is among the commands
     for language, text in blocks():
+        if runner and language != "c":
+            continue
         lacking = missing("environment" if language == "python" else text)
         if language == "text":
             if ran:
@@ -128,7 +132,7 @@ def main():
             commands.append(f"environment/bin/python {name}\n")
         else:
             codes.append(text)
-    said = run(commands)
+    said = run(commands) if commands else []
     for i, text in expected.items():
         check(f"after {commands[i]}", i < len(said) and said[i].endswith(text), said[i] if i < len(said) else "")
     for code in codes:

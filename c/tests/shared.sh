@@ -1,5 +1,5 @@
 # The shared library exports what the header declares and nothing else, under its name, and the libraries need what docs/C.md says; and
-# the header is refused elsewhere than on Linux on x86-64: shared.sh CC LIBRARY SHARED FOLDER [cargo]
+# the header is refused where its structs are others: shared.sh CC LIBRARY SHARED FOLDER [proved | cargo | built]
 usage() {
     sed -n '/^#!/d; /^#/!q; s/^# *//p' "$0"
     exit "$1"
@@ -20,12 +20,17 @@ check() {
     fi
 }
 declared=$(sed -nE 's/^(uint32_t|size_t) (etherpeel_[a-z0-9_]+)\(.*/\2/p' etherpeel.h | sort)
-if command -v nm > "$work/shared.log" && command -v readelf > "$work/shared.log"; then
-    exported=$(nm -D --defined-only "$shared" | awk '$2 != "A" { sub(/@.*/, "", $3); print $3 }' | sort)
+nm=$("$cc" -print-prog-name=nm)
+readelf=$("$cc" -print-prog-name=readelf)
+if command -v "$nm" > "$work/shared.log" && command -v "$readelf" > "$work/shared.log"; then
+    exported=$("$nm" -D --defined-only "$shared" | awk '$2 != "A" { sub(/@.*/, "", $3); print $3 }' | sort)
     check "exported names" "$exported" "$declared"
-    check "soname" "$(readelf -d "$shared" | sed -n 's/.*SONAME.*\[\(.*\)\]/\1/p')" libetherpeel.so.3
-    needed=$(nm -D -u "$shared" | awk '$1 == "U" { sub(/@.*/, "", $2); printf "%s ", $2 }')
-    if [ "$with" = cargo ]; then
+    check "soname" "$("$readelf" -d "$shared" | sed -n 's/.*SONAME.*\[\(.*\)\]/\1/p')" libetherpeel.so.3
+    needed=$("$nm" -D -u "$shared" | awk '$1 == "U" { sub(/@.*/, "", $2); printf "%s ", $2 }')
+    if [ "$with" = built ]; then
+        # each word is one line
+        check "other names that the shared one needs" "$(printf '%s\n' $needed | grep -vxE 'abort|bcmp|memcpy|memset')" ""
+    elif [ "$with" = cargo ]; then
         check "names that the shared one needs" "$needed" 'abort bcmp memcpy memset '
         if command -v objdump > "$work/shared.log"; then
             later=$(objdump -d --no-show-raw-insn "$shared" | awk '{ print $2 }' |
@@ -34,13 +39,14 @@ if command -v nm > "$work/shared.log" && command -v readelf > "$work/shared.log"
         fi
     else
         check "names that the shared one needs" "$needed" 'memcpy memmove memset '
-        check "names that the static one needs" "$(nm -u "$library" | awk '$1 == "U" { printf "%s ", $2 }')" '__udivti3 memcpy memmove memset '
+        check "names that the static one needs" "$("$nm" -u "$library" | awk '$1 == "U" { printf "%s ", $2 }')" '__udivti3 memcpy memmove memset '
     fi
 else
     echo "left out: the names that the shared library exports, since nm and readelf were not found"
 fi
-for macro in __linux__ __x86_64__; do
-    refusal=$("$cc" -U$macro -x c -fsyntax-only etherpeel.h 2>&1 | grep -om 1 'is for Linux on x86-64')
-    check "without $macro" "$refusal" 'is for Linux on x86-64'
+for without in -U__linux__ -U__LP64__ "-U__x86_64__ -U__aarch64__ -U__s390x__"; do
+    # each word is one argument
+    refusal=$("$cc" $without -x c -fsyntax-only etherpeel.h 2>&1 | grep -om 1 'is for Linux on x86-64, aarch64 and s390x')
+    check "with $without" "$refusal" 'is for Linux on x86-64, aarch64 and s390x'
 done
 echo "$passed passed, $failed failed"

@@ -2,7 +2,7 @@
 import re
 
 from . import known
-from .tokens import CLOSING, Refused, closing, lex, opening
+from .tokens import CLOSING, Refused, closing, opening
 
 DECLARING = set("fn struct enum trait type const static mod macro_rules".split())
 
@@ -179,7 +179,7 @@ def check_range(tokens, i):
 
 def check_number(tokens, i):
     """Refuses what is no whole number, of a type that is known. The field of a tuple is one, too."""
-    has_point = tokens[i + 1].text == "." and tokens[i + 2].kind == "number" and tokens[i - 1].text != "."
+    has_point = tokens[i + 1].text == "." and tokens[i + 2].kind != "word" and tokens[i - 1].text != "."
     if not re.fullmatch(known.NUMBER, tokens[i].text) or has_point:
         raise Refused(tokens[i].line, f"the number {tokens[i].text}")
 
@@ -210,6 +210,9 @@ def check_mark(tokens, i, names):
         raise Refused(token.line, f"the mark {token.text}")
     if token.text in ("..", "..="):
         check_range(tokens, i)
+    after = tokens[i + 1].text
+    if token.text == "*" and after in ("const", "mut") or token.text == "&" and after == "raw" and tokens[i + 2].text in ("const", "mut"):
+        raise Refused(token.line, "a pointer")
     if token.text == "::" and not follows_path(tokens, i):
         raise Refused(token.line, "a path that does not begin with a name")
 
@@ -235,8 +238,3 @@ def check(tokens, names):
         elif token.kind == "word":
             check_word(tokens, i, names)
         i += 1
-
-
-def names_in(texts):
-    """The names that the sources declare."""
-    return set().union(*(declared(lex(text)) for text in texts))

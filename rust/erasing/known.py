@@ -86,5 +86,43 @@ PROGRAM_METHODS = set(
 # What the programs among the examples use besides.
 EXAMPLE_PROGRAM_MACROS = {"vec": "["}
 EXAMPLE_NAMES = {"AllocError", "NoMemory", "ether_tools", "ether_capture", "memory"}
-EXAMPLE_PATHS = {"hex::encode", "String::new", "Vec::new"}
-EXAMPLE_METHODS = set("as_str extend_from_slice map_err push_str".split())
+EXAMPLE_PATHS = {"hex::encode", "String::new", "Vec::new", "std::fmt::Write", "std::str::from_utf8", "ArrayVec::new", "fmt::Error"}
+EXAMPLE_METHODS = set("as_str chain extend_from_slice get_mut map_err push_str skip truncate try_push zip".split())
+
+# What a source may not declare or import as something else: what Rust's prelude and the language give to each module, ..
+PRELUDE = NAMES - {"Item"} | TYPES | set(
+    """AsMut AsRef AsyncFn AsyncFnMut AsyncFnOnce Box DoubleEndedIterator Drop ExactSizeIterator Extend Fn FnMut FnOnce
+    FromIterator Future IntoFuture IntoIterator Send Sized String Sync ToOwned ToString TryInto Unpin Vec
+    align_of align_of_val drop size_of size_of_val i8 i16 i32 i64 i128 isize f32 f64""".split()
+)
+# .. crates that the sources use, and modules of Rust by whose names paths begin.
+CRATES = set("alloc anyhow arrayvec clap core hex std thiserror".split())
+MODULES = set("env fmt io".split())
+# Associated types of traits of Rust.
+ASSOCIATED = {"Error", "Item"}
+
+# Methods that traits in Rust's prelude give to each type, or to each that derives them, and the one that `write!` calls.
+PRELUDE_METHODS = set(
+    """as_mut as_ref clamp clone clone_from clone_into cmp drop eq fmt ge gt hash into into_iter le lt max min ne
+    partial_cmp to_owned to_string try_into write_fmt""".split()
+)
+# Methods that a trait gives to the types that implement it.
+TRAIT_METHODS = {
+    "Error": set("cause description provide source type_id".split()),
+    "Iterator": set(
+        """advance_by all any array_chunks by_ref chain cloned collect copied count cycle enumerate filter filter_map find
+        find_map flat_map flatten fold for_each fuse inspect intersperse is_partitioned is_sorted is_sorted_by
+        is_sorted_by_key last map map_while map_windows max_by max_by_key min_by min_by_key next next_back next_chunk nth
+        nth_back partition peekable position product reduce rev rfind rfold rposition scan size_hint skip skip_while
+        step_by sum take take_while try_fold try_for_each unzip zip""".split()
+    ),
+}
+# Traits of Rust that a source may implement, each with the functions that it may write: Rust calls no others of them.
+IMPLS = {
+    **dict.fromkeys(["Copy", "Eq", "Error"], set()),
+    **dict.fromkeys(["Debug", "Display"], {"fmt"}),
+    **{"Clone": {"clone"}, "Default": {"default"}, "From": {"from"}, "Hash": {"hash"}, "Iterator": {"next", "size_hint"}},
+    **{"PartialEq": {"eq"}, "TryFrom": {"try_from"}, "Write": {"write_str"}},
+}
+# Methods of the sources' own traits that types of Rust have by these, and no type of Rust by itself.
+FOREIGN = set("add flush_all interfaces put put_line read_some remove_all start".split())

@@ -22,6 +22,16 @@ def unquestioned(tokens, last):
     del tokens[last + 1]
 
 
+def is_collection(tokens, i):
+    """Whether the variable at `i` was bound to a new text or list of Rust, and since then only its methods were called."""
+    j = i - 1
+    while j > 2 and tokens[j].text not in ("fn", tokens[i].text):
+        j -= 1
+    if tokens[j].text == tokens[i].text and tokens[j + 1].text == ".":
+        return is_collection(tokens, j)
+    return [t.text for t in tokens[j - 2:j]] == ["let", "mut"] and tokens[j + 1].text == "=" and tokens[j + 2].text in ("vec", "String", "Vec")
+
+
 def memory(tokens):
     """What takes memory is passed the allocator, and may be refused it. In Rust it takes that of std, and ends the program then."""
     for i, end in places(tokens, "use std::alloc::{AllocError, Global};"):
@@ -35,6 +45,8 @@ def memory(tokens):
     for call in ("buffer.extend_from_slice(", "bytes.extend_from_slice(", "rows.push(", "text.push_str("):
         for i, end in places(tokens, call):
             unquestioned(tokens, closing(tokens, end - 1))
+            if not is_collection(tokens, i):
+                raise Refused(tokens[i].line, f"{tokens[i].text}, which may be no list and no text of Rust")
     for i, end in places(tokens, "vec![in alloc;"):
         unquestioned(tokens, closing(tokens, i + 2))
         tokens[end].before = ""

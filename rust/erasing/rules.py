@@ -66,8 +66,8 @@ def contract(clauses, lead, follows):
         margin = len(indent(clause))
         lines += [first, *(line.lstrip() if line[:margin].strip() else line[margin:] for line in more)]
     needs = any(clause.text.startswith("requires") for clause in clauses)
-    said = ["", "The caller must meet each `requires`; otherwise the call may panic or return something else."] * needs
-    block = ["<details><summary>Contract</summary>", *said, "", "```text", *lines, "```", "", "</details>"]
+    said = "The call may panic, or return something else, if a `requires` of its contract is not met."
+    block = [*["# Panics", "", said, ""] * needs, "<details><summary>Contract</summary>", "", "```text", *lines, "```", "", "</details>"]
     return "".join(f"/// {line}".rstrip() + f"\n{lead}" for line in [""] * follows + block)
 
 
@@ -187,9 +187,19 @@ def paths(tokens, crate, spelled):
     for i in range(len(tokens) - 2, -1, -1):
         if tokens[i].kind != "word" or tokens[i + 1].text != "::" or i and tokens[i - 1].text == "::":
             continue
+        if tokens[i].text == "core":
+            raise Refused(tokens[i].line, "core, which sources call std")
         there = spelled(crate, tokens[i].text)
         if there:
             respell(tokens, i, i + 1, there)
+
+
+def visibilities(tokens, module):
+    """`pub(crate)` is up to the crate, which is a module now, if it is not a root: another crate must not see more of it, since a
+    method that it sees may hide another one."""
+    for i, _ in places(tokens, "pub(crate)"):
+        if module:
+            respell(tokens, i + 2, i + 3, f"in {module}")
 
 
 RULES = [

@@ -7,7 +7,7 @@ LEX = re.compile(
     re.X | re.S | re.A,
 )
 SPACE = re.compile(r"(?:[ \n]|//[^\n]*)*")
-GHOST = re.compile(r'"(?:\\.|[^"\\])*"|[{}();,]|.', re.S)  # in ghost text only strings and brackets are read
+GHOST = re.compile(r'"(?:\\.|[^"\\])*"|--|//|\{-|.', re.S)  # in ghost text only strings and brackets are read
 CLAUSE = re.compile(r"(?:requires|ensures\*?)\s*(?:\w+\s*)?\{", re.A)
 SWALLOWED = re.compile(r"\n\s*(?:pub|fn|impl|struct|enum|trait|mod|use|ghost|requires|ensures|let|return)\b")
 OPENING, CLOSING = "([{", ")]}"
@@ -32,6 +32,8 @@ def ghost_end(text, at, ends, line):
     """The place after the first of the marks `ends` outside brackets, or of the bracket that closes what is around."""
     depth = 0
     for m in GHOST.finditer(text, at):
+        if m[0] in ("--", "//", "{-", '"', "'"):
+            raise Refused(line + text.count("\n", at, m.start()), f"ghost text with {m[0]}")
         if m[0] in ("{", "("):
             depth += 1
         elif m[0] in ("}", ")"):
@@ -46,6 +48,8 @@ def ghost_end(text, at, ends, line):
 def lex(text, line=1):
     """The tokens of a source, and one more for its end. A ghost item or a clause is one token."""
     tokens, at = [], 0
+    if "\r" in text:
+        raise Refused(line + text[:text.index("\r")].count("\n"), "a carriage return")
     while True:
         space = SPACE.match(text, at)
         line += space[0].count("\n")

@@ -1,6 +1,6 @@
 //! Units, rests and faults as numbers and digits.
-use etherpeel::ether_peel::{PeelError, PeelFault, PeelUnit, RestKind};
 use etherpeel::err::{Layer, linux_sll, macsec};
+use etherpeel::ether_peel::{PeelError, PeelFault, PeelUnit, RestKind};
 use etherpeel::{ArpPacketSlice, LenSource, LinuxSllProtocolType, LinuxSllSlice, MacsecHeaderSlice};
 use std::fmt::Write;
 

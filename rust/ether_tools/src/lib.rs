@@ -1,6 +1,9 @@
 //! What the programs are made of: by a script [`ether_text`], [`ether_stream`] and most of [`ether_capture`]; by hand
 //! [`streams`], and what the head of a file says.
+#[rustfmt::skip]
 pub mod ether_capture;
+#[rustfmt::skip]
 pub mod ether_stream;
+#[rustfmt::skip]
 pub mod ether_text;
 pub mod streams;

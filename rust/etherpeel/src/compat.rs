@@ -14,7 +14,8 @@
 //! is always `None`. What is left out is in `docs/DIFFERENCES.md` of the repository.
 //!
 //! ```
-//! # use etherpeel::*;
+//! use etherpeel::{LinkSlice, SlicedPacket, VlanId, ether_type};
+//!
 //! # fn main() -> Result<(), Box<dyn std::error::Error>> {
 //! let packet = [
 //!     0xFF, 0xFF, 0xFF, 0xFF, 0xFF, 0xFF, 0x02, 0x00, 0x00, 0x00, 0x00, 0x01, 0x81, 0x00, // Ethernet II

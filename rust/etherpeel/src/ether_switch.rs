@@ -5,15 +5,10 @@
 //! frame ready, in place, once for each form in which it leaves.
 //!
 //! ```
-//! # use etherpeel::*;
-//! # use etherpeel::ether_peel::*;
-//! # use etherpeel::ether_fields::*;
-//! # use etherpeel::ether_sll2::*;
-//! # use etherpeel::ether_packet::*;
-//! # use etherpeel::ether_filter::*;
-//! # use etherpeel::ether_pcap::*;
-//! # use etherpeel::ether_content::*;
-//! # use etherpeel::ether_switch::*;
+//! use etherpeel::ether_switch::{
+//!     Bridge, BridgeKind, PortConfig, PortSet, PortStates, StationBucket, Vlan, VlanConfig,
+//! };
+//!
 //! # fn main() -> Result<(), Box<dyn std::error::Error>> {
 //! let vlan = Vlan::try_new(10)?;
 //! let (access, trunk) = (1, 2);

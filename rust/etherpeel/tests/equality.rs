@@ -5,16 +5,13 @@ use etherpeel::ether_sll2::{LinuxSll2HeaderSlice, LinuxSll2Slice};
 use etherpeel::*;
 
 // Bytes that are free are all different, so that one can't stand for another.
-const ETHERNET2: [u8; 20] = [
-    1, 2, 3, 4, 5, 6, 7, 9, 10, 11, 12, 13, 0x08, 0x00, 14, 15, 16, 17, 18, 19,
-];
+const ETHERNET2: [u8; 20] = [1, 2, 3, 4, 5, 6, 7, 9, 10, 11, 12, 13, 0x08, 0x00, 14, 15, 16, 17, 18, 19];
 const VLAN: [u8; 6] = [0xB1, 0x23, 0x08, 0x00, 1, 2];
 const MACSEC: [u8; 18] = [0x20, 0, 11, 12, 13, 14, 1, 2, 3, 4, 5, 6, 7, 9, 0x08, 0x00, 15, 16];
 const COOKED: [u8; 18] = [0, 4, 0, 1, 0, 6, 2, 3, 5, 7, 9, 10, 11, 12, 0x08, 0x00, 13, 14];
 const COOKED2: [u8; 22] = [0x08, 0, 0, 0, 1, 3, 5, 2, 0, 1, 4, 6, 7, 9, 10, 11, 12, 13, 14, 15, 16, 17];
-const ARP: [u8; 30] = [
-    0, 1, 8, 0, 6, 4, 0, 2, 3, 5, 7, 9, 10, 11, 12, 13, 14, 15, 16, 17, 18, 19, 20, 21, 22, 23, 24, 25, 26, 27,
-];
+const ARP: [u8; 30] =
+    [0, 1, 8, 0, 6, 4, 0, 2, 3, 5, 7, 9, 10, 11, 12, 13, 14, 15, 16, 17, 18, 19, 20, 21, 22, 23, 24, 25, 26, 27];
 
 /// A view of the bytes is equal to its clone, and to that of other bytes unless one of the first `$len` differs.
 macro_rules! compares {

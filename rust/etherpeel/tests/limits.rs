@@ -3,7 +3,7 @@
 use arrayvec::ArrayVec;
 use etherpeel::err::arp::{ArpHwAddrError, ArpProtoAddrError};
 use etherpeel::ether_filter::Filter;
-use etherpeel::ether_pcap::{CaptureInterface, CaptureReader, PcapRecord};
+use etherpeel::ether_pcap::{CaptureInterface, CapturePackets, CaptureReader, PcapRecord};
 use etherpeel::{ArpHardwareId, ArpOperation, ArpPacket, EtherType};
 
 #[test]
@@ -38,11 +38,20 @@ fn captured_bytes_of_an_edited_unit() {
     let file = [
         0xA1, 0xB2, 0xC3, 0xD4, 0x00, 0x02, 0x00, 0x04, 0x00, 0x00, 0x00, 0x00, // file header
         0x00, 0x00, 0x00, 0x00, 0x00, 0x00, 0xFF, 0xFF, 0x00, 0x00, 0x00, 0x01, //
-        0x00, 0x00, 0x00, 0x01, 0x00, 0x00, 0x00, 0x02, 0x00, 0x00, 0x00, 0x01, 0x00, 0x00, 0x00, 0x01, 0xFF, // record
+        0x00, 0x00, 0x00, 0x01, 0x00, 0x00, 0x00, 0x02, 0x00, 0x00, 0x00, 0x01, 0x00, 0x00, 0x00, 0x01,
+        0xFF, // record
     ];
     let mut reader = CaptureReader::new(ArrayVec::<CaptureInterface, 1>::new());
     assert!(reader.read(&file).is_ok());
     let packet = vec![0; MOST + 1];
     assert!(reader.edit_unit(&file[24..], &packet[..MOST], MOST as u64).is_some());
     assert!(reader.edit_unit(&file[24..], &packet, MOST as u64 + 1).is_none());
+}
+
+/// The number is a part of the documentation: it is what a caller has on the stack.
+#[cfg(target_pointer_width = "64")]
+#[test]
+fn size_of_the_packets_of_a_capture() {
+    assert_eq!(size_of::<CapturePackets>(), 98_360);
+    assert!(size_of::<CaptureReader<ArrayVec<CaptureInterface, 16>>>() < 512);
 }

@@ -2,9 +2,7 @@
 //! for `rust/faults.py`: in the sources a proof says it.
 use etherpeel::ether_pcap::{ByteOrder, EnhancedPacket, InterfaceDescription, LinkType, PcapngBlock, SectionHeader};
 
-const BYTES: [u8; 24] = [
-    1, 2, 3, 4, 5, 6, 7, 8, 9, 10, 11, 12, 13, 14, 15, 16, 17, 18, 19, 20, 21, 22, 23, 24,
-];
+const BYTES: [u8; 24] = [1, 2, 3, 4, 5, 6, 7, 8, 9, 10, 11, 12, 13, 14, 15, 16, 17, 18, 19, 20, 21, 22, 23, 24];
 /// A comment, and the end of the options.
 const OPTIONS: [u8; 12] = [0, 1, 0, 2, 0x41, 0x42, 0, 0, 0, 0, 0, 0];
 
@@ -39,12 +37,8 @@ fn sections_and_interfaces() {
         let read = SectionHeader::from_slice(&section).unwrap();
         assert_eq!((read.byte_order, read.block.block_len()), (byte_order, section.len()));
         for options in [&[][..], &OPTIONS] {
-            let interface = InterfaceDescription {
-                byte_order,
-                link_type: LinkType::ETHERNET,
-                snap_len: 0x0102_0304,
-                options,
-            };
+            let interface =
+                InterfaceDescription { byte_order, link_type: LinkType::ETHERNET, snap_len: 0x0102_0304, options };
             let written = [&interface.header_to_bytes()[..], options, &interface.trailer_to_bytes()].concat();
             let block = PcapngBlock::from_slice(byte_order, &written).unwrap();
             assert_eq!((block.block_len(), block.block_type), (written.len(), 1));

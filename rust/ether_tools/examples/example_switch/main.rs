@@ -6,9 +6,13 @@
 // The allocator has nothing in it here, the forms are those of the sources, and contracts used what nothing uses now.
 #![allow(clippy::all, dead_code, unused_imports, unused_variables)]
 
+#[rustfmt::skip]
 mod arguments;
+#[rustfmt::skip]
 mod lines;
+#[rustfmt::skip]
 mod port;
+#[rustfmt::skip]
 mod reading;
 
 use arguments::{SwitchError, port_of};

@@ -6,6 +6,7 @@
 //! Rattle.
 #![allow(unused_variables)] // the allocator, which has nothing in it here
 
+#[rustfmt::skip]
 mod rewriting;
 
 use ether_tools::ether_capture::memory::Global;

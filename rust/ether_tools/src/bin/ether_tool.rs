@@ -4,8 +4,8 @@
 use ether_tools::ether_text::tool::about::about;
 use ether_tools::ether_text::tool::program::run_program;
 use ether_tools::ether_text::{Noted, tell_failure};
-use etherpeel::ether_output::{OutputBuffer, Sink};
 use ether_tools::streams::{arguments, input, output};
+use etherpeel::ether_output::{OutputBuffer, Sink};
 use std::process::ExitCode;
 use std::{env, io};
 

@@ -11,12 +11,12 @@ pub struct Count {
 
 impl Count {
     /// The count of one packet that had `bytes` bytes.
-    pub(crate) fn of_packet(bytes: usize) -> Count {
+    pub(in crate::ether_capture) fn of_packet(bytes: usize) -> Count {
         Count { packets: 1, bytes }
     }
 
     /// This count with another packet, which had `bytes` bytes.
-    pub(crate) fn with(self, bytes: usize) -> Count {
+    pub(in crate::ether_capture) fn with(self, bytes: usize) -> Count {
         Count {
             packets: self.packets.saturating_add(1),
             bytes: self.bytes.saturating_add(bytes),

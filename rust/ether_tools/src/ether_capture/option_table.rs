@@ -32,12 +32,12 @@ pub enum Spelling {
 
 impl Spelling {
     /// Tests that an option is written by its name.
-    pub(crate) fn is_word(self) -> bool {
+    pub(in crate::ether_capture) fn is_word(self) -> bool {
         matches!(self, Spelling::Name | Spelling::Both(_))
     }
 
     /// Tests that an option is written by this letter.
-    pub(crate) fn has_letter(self, it: u8) -> bool {
+    pub(in crate::ether_capture) fn has_letter(self, it: u8) -> bool {
         match self {
             Spelling::Name => false,
             Spelling::Letter(letter) | Spelling::Both(letter) => letter == char::from(it),
@@ -45,13 +45,13 @@ impl Spelling {
     }
 
     /// Tests that `clap` adds an option.
-    pub(crate) fn is_added(self) -> bool {
+    pub(in crate::ether_capture) fn is_added(self) -> bool {
         matches!(self, Spelling::Both(_))
     }
 }
 
 /// All options, in the order of the help.
-pub(crate) fn all_options() -> &'static [OptionRow<&'static str>] {
+pub(in crate::ether_capture) fn all_options() -> &'static [OptionRow<&'static str>] {
     &OPTIONS
 }
 

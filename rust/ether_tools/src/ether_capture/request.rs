@@ -84,24 +84,24 @@ pub struct Listing<'a> {
 }
 
 /// What options ask for.
-pub(crate) struct Asked<'a> {
-    pub(crate) is_plain: bool,
-    pub(crate) is_write: bool,
-    pub(crate) is_shown: bool,
-    pub(crate) has_header: bool,
-    pub(crate) is_counted: bool,
-    pub(crate) edit: Option<PacketEdit>,
-    pub(crate) text: Option<&'a str>,
-    pub(crate) undecided: Option<Undecided>,
-    pub(crate) count: Option<NonZeroUsize>,
-    pub(crate) limit: Option<usize>,
-    pub(crate) format: Option<Format>,
-    pub(crate) fields: Option<Columns>,
+pub(in crate::ether_capture) struct Asked<'a> {
+    pub(in crate::ether_capture) is_plain: bool,
+    pub(in crate::ether_capture) is_write: bool,
+    pub(in crate::ether_capture) is_shown: bool,
+    pub(in crate::ether_capture) has_header: bool,
+    pub(in crate::ether_capture) is_counted: bool,
+    pub(in crate::ether_capture) edit: Option<PacketEdit>,
+    pub(in crate::ether_capture) text: Option<&'a str>,
+    pub(in crate::ether_capture) undecided: Option<Undecided>,
+    pub(in crate::ether_capture) count: Option<NonZeroUsize>,
+    pub(in crate::ether_capture) limit: Option<usize>,
+    pub(in crate::ether_capture) format: Option<Format>,
+    pub(in crate::ether_capture) fields: Option<Columns>,
     /// The columns whose texts are counted, if that is asked for and there are 32 at most.
-    pub(crate) counted: Option<Columns>,
-    pub(crate) input: Option<&'a str>,
-    pub(crate) output: Option<&'a str>,
-    pub(crate) files: Vec<&'a str>,
+    pub(in crate::ether_capture) counted: Option<Columns>,
+    pub(in crate::ether_capture) input: Option<&'a str>,
+    pub(in crate::ether_capture) output: Option<&'a str>,
+    pub(in crate::ether_capture) files: Vec<&'a str>,
 }
 
 impl<'a> Asked<'a> {
@@ -215,7 +215,7 @@ impl<'a> Asked<'a> {
     }
 
     /// What all options together ask for.
-    pub(crate) fn request(self) -> Result<Request<'a>, RequestError<'a>> {
+    pub(in crate::ether_capture) fn request(self) -> Result<Request<'a>, RequestError<'a>> {
         if let Some(usage) = self.fault() {
             return Err(RequestError::Usage(usage));
         }
@@ -368,7 +368,7 @@ fn line_of(columns: &Option<Columns>) -> Heading {
 
 /// The columns whose texts are counted: the length of the packet, and then these, or common ones. Returns `None` if
 /// nothing is counted, or if these would be more than 32.
-pub(crate) fn counted_of(is_counted: bool, fields: &Option<Columns>) -> Option<Columns> {
+pub(in crate::ether_capture) fn counted_of(is_counted: bool, fields: &Option<Columns>) -> Option<Columns> {
     if !is_counted {
         return None;
     }
@@ -380,7 +380,7 @@ pub(crate) fn counted_of(is_counted: bool, fields: &Option<Columns>) -> Option<C
 
 impl Heading {
     /// The columns whose names are written first, if a line of them is.
-    pub(crate) fn columns(&self) -> Option<Columns> {
+    pub(in crate::ether_capture) fn columns(&self) -> Option<Columns> {
         match self {
             Heading::Absent => None,
             Heading::Line(columns) | Heading::Statistics(_, columns) => Some(*columns),
@@ -388,7 +388,7 @@ impl Heading {
     }
 
     /// How counts are written, if they are asked for.
-    pub(crate) fn statistics(&self) -> Option<StatisticsFormat> {
+    pub(in crate::ether_capture) fn statistics(&self) -> Option<StatisticsFormat> {
         match self {
             Heading::Statistics(format, _) => Some(*format),
             Heading::Absent | Heading::Line(_) => None,
@@ -398,7 +398,7 @@ impl Heading {
 
 impl Request<'_> {
     /// How counts are written, if they are asked for.
-    pub(crate) fn statistics(&self) -> Option<StatisticsFormat> {
+    pub(in crate::ether_capture) fn statistics(&self) -> Option<StatisticsFormat> {
         match self {
             Request::Run(job) => job.heading.statistics(),
             Request::List(listing) => listing.heading.statistics(),
@@ -408,7 +408,7 @@ impl Request<'_> {
 }
 
 /// A name of a file, unless it is that of a standard stream.
-pub(crate) fn named(name: &str) -> Option<&str> {
+pub(in crate::ether_capture) fn named(name: &str) -> Option<&str> {
     if name == "-" {
         return None;
     }

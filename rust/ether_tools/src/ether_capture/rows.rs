@@ -145,7 +145,7 @@ fn write_key(column: &[u8], text: &[u8], key: &mut HeapText) -> Result<(), NoMem
 }
 
 /// The first field, and the text after the tab that ends it, if there is one.
-pub(crate) fn first_field(text: &[u8]) -> (&[u8], Option<&[u8]>) {
+pub(in crate::ether_capture) fn first_field(text: &[u8]) -> (&[u8], Option<&[u8]>) {
     match split_at(b'\t', text) {
         Some((field, after)) => (field, Some(after)),
         None => (text, None),

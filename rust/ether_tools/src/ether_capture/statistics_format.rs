@@ -14,7 +14,7 @@ pub enum StatisticsFormat {
 }
 
 /// Writes the line of a key and its count.
-pub(crate) fn write_statistic<W: Sink>(
+pub(in crate::ether_capture) fn write_statistic<W: Sink>(
     format: StatisticsFormat,
     key: &[u8],
     count: Count,

@@ -8,9 +8,11 @@ use etherpeel::ether_pcap::{CaptureReader, CapturedPacket, CopiedUnit, CopyMode,
 /// Writes what a copy has of a unit without a packet: the unit, the unit with another snap length or an unspecified
 /// section length, or nothing.
 ///
-/// <details><summary>Contract</summary>
+/// # Panics
 ///
-/// The caller must meet each `requires`; otherwise the call may panic or return something else.
+/// The call may panic, or return something else, if a `requires` of its contract is not met.
+///
+/// <details><summary>Contract</summary>
 ///
 /// ```text
 /// requires { IsUnitOf reader.now unit.now None }
@@ -47,9 +49,11 @@ pub fn write_other<T: InterfaceTable, W: Sink>(
 /// Writes the unit of a packet, edited if there is an edit for it. Returns `false` and writes nothing if it can't be
 /// edited.
 ///
-/// <details><summary>Contract</summary>
+/// # Panics
 ///
-/// The caller must meet each `requires`; otherwise the call may panic or return something else.
+/// The call may panic, or return something else, if a `requires` of its contract is not met.
+///
+/// <details><summary>Contract</summary>
 ///
 /// ```text
 /// requires { IsUnitOf reader.now unit.now (Some (captured_packet_view packet.now)) }

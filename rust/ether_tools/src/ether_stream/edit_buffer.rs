@@ -21,7 +21,7 @@ impl<B: Grow> EditBuffer<B> {
     }
 
     /// Edits a packet, if there is an edit. Returns `None` if the packet is unchanged.
-    pub(crate) fn edit(
+    pub(in crate::ether_stream) fn edit(
         &mut self,
         edit: Option<PacketEdit>,
         packet: &CapturedPacket<'_>,
@@ -33,7 +33,7 @@ impl<B: Grow> EditBuffer<B> {
     }
 
     /// The captured bytes of a packet that was edited here.
-    pub(crate) fn packet(&self, edited: &EditedPacket) -> &[u8] {
+    pub(in crate::ether_stream) fn packet(&self, edited: &EditedPacket) -> &[u8] {
         &self.memory.bytes()[edited.start..edited.end]
     }
 }

@@ -37,19 +37,19 @@ impl<B: Grow> InputBuffer<B> {
     }
 
     /// Takes all bytes.
-    pub(crate) fn clear(&mut self) {
+    pub(in crate::ether_stream) fn clear(&mut self) {
         self.start = 0;
         self.end = 0;
     }
 
     /// The number of bytes that are not taken yet.
-    pub(crate) fn len(&self) -> usize {
+    pub(in crate::ether_stream) fn len(&self) -> usize {
         self.end - self.start
     }
 
     /// Takes the units at the front, and writes what is made of each. Returns why the bytes that are left do not
     /// begin with a unit, or `None` if the requested number of packets was reached.
-    pub(crate) fn take_units<T: InterfaceTable, W: Sink>(
+    pub(in crate::ether_stream) fn take_units<T: InterfaceTable, W: Sink>(
         &mut self,
         progress: &mut Progress<T>,
         task: &Task,
@@ -64,7 +64,7 @@ impl<B: Grow> InputBuffer<B> {
     }
 
     /// Makes room for a unit of `len` bytes.
-    pub(crate) fn make_room(&mut self, len: usize) -> Result<(), NoMemory> {
+    pub(in crate::ether_stream) fn make_room(&mut self, len: usize) -> Result<(), NoMemory> {
         if self.memory.bytes().len() < len {
             self.memory.grow(len)?;
         }
@@ -86,7 +86,7 @@ impl<B: Grow> InputBuffer<B> {
     /// is no room.
     ///
     /// No text may wait in `out`.
-    pub(crate) fn read<R: Source, W: Sink>(
+    pub(in crate::ether_stream) fn read<R: Source, W: Sink>(
         &mut self,
         input: &mut InputReader<'_, R>,
         out: &OutputBuffer<'_, W>,

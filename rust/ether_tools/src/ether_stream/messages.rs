@@ -1,115 +1,115 @@
 //! What the program says of its words and of a run, but for names and numbers.
 
 /// The program, where a message has no name of a file.
-pub(crate) const PROGRAM: &str = "ether_capture";
+pub(in crate::ether_stream) const PROGRAM: &str = "ether_capture";
 
 /// What messages call standard input.
-pub(crate) const STANDARD_INPUT: &str = "standard input";
+pub(in crate::ether_stream) const STANDARD_INPUT: &str = "standard input";
 
 // ---- a file that is not read or written
 
-pub(crate) const NOT_OPENED: &str = "can't be opened";
+pub(in crate::ether_stream) const NOT_OPENED: &str = "can't be opened";
 
-pub(crate) const NOT_WRITTEN: &str = "can't be written";
+pub(in crate::ether_stream) const NOT_WRITTEN: &str = "can't be written";
 
-pub(crate) const NO_FILE: &str = ": there is no such file";
+pub(in crate::ether_stream) const NO_FILE: &str = ": there is no such file";
 
-pub(crate) const NO_FOLDER: &str = ": there is no such folder";
+pub(in crate::ether_stream) const NO_FOLDER: &str = ": there is no such folder";
 
-pub(crate) const NO_NAME: &str = ": its name is empty";
+pub(in crate::ether_stream) const NO_NAME: &str = ": its name is empty";
 
-pub(crate) const NO_SPACE: &str = ": no space is left";
+pub(in crate::ether_stream) const NO_SPACE: &str = ": no space is left";
 
-pub(crate) const DENIED: &str = ": permission denied";
+pub(in crate::ether_stream) const DENIED: &str = ": permission denied";
 
-pub(crate) const IS_FOLDER: &str = ": it is a folder";
+pub(in crate::ether_stream) const IS_FOLDER: &str = ": it is a folder";
 
 // ---- a capture that is not read to its end
 
-pub(crate) const UNREADABLE: &str = "can't be read";
+pub(in crate::ether_stream) const UNREADABLE: &str = "can't be read";
 
-pub(crate) const NO_MEMORY: &str = "out of memory";
+pub(in crate::ether_stream) const NO_MEMORY: &str = "out of memory";
 
 /// Why a packet can't be edited.
-pub(crate) const NOT_EDITED: &str =
+pub(in crate::ether_stream) const NOT_EDITED: &str =
     "This packet can't be written: its block has no number of captured bytes, or it would be too long.";
 
 // ---- a program for a file that this one can't read
 
-pub(crate) const GZIP: &str = " This looks like gzip: zcat unpacks it.";
+pub(in crate::ether_stream) const GZIP: &str = " This looks like gzip: zcat unpacks it.";
 
-pub(crate) const ZSTD: &str = " This looks like zstd: zstdcat unpacks it.";
+pub(in crate::ether_stream) const ZSTD: &str = " This looks like zstd: zstdcat unpacks it.";
 
-pub(crate) const XZ: &str = " This looks like xz: xzcat unpacks it.";
+pub(in crate::ether_stream) const XZ: &str = " This looks like xz: xzcat unpacks it.";
 
-pub(crate) const BZIP2: &str = " This looks like bzip2: bzcat unpacks it.";
+pub(in crate::ether_stream) const BZIP2: &str = " This looks like bzip2: bzcat unpacks it.";
 
-pub(crate) const LZ4: &str = " This looks like lz4: lz4cat unpacks it.";
+pub(in crate::ether_stream) const LZ4: &str = " This looks like lz4: lz4cat unpacks it.";
 
-pub(crate) const PCAP_VARIANT: &str = " This is a variant of pcap: editcap converts it.";
+pub(in crate::ether_stream) const PCAP_VARIANT: &str = " This is a variant of pcap: editcap converts it.";
 
-pub(crate) const OTHER_VERSION: &str = " editcap converts it.";
+pub(in crate::ether_stream) const OTHER_VERSION: &str = " editcap converts it.";
 
 // ---- options, as they are written
 
-pub(crate) const COUNT: &str = "-c";
+pub(in crate::ether_stream) const COUNT: &str = "-c";
 
-pub(crate) const CUT_TO_HEADERS: &str = "--cut-to-headers";
+pub(in crate::ether_stream) const CUT_TO_HEADERS: &str = "--cut-to-headers";
 
-pub(crate) const FIELDS: &str = "--fields";
+pub(in crate::ether_stream) const FIELDS: &str = "--fields";
 
-pub(crate) const FORMAT: &str = "--format";
+pub(in crate::ether_stream) const FORMAT: &str = "--format";
 
-pub(crate) const HEADER: &str = "--header";
+pub(in crate::ether_stream) const HEADER: &str = "--header";
 
-pub(crate) const LIMIT: &str = "--limit";
+pub(in crate::ether_stream) const LIMIT: &str = "--limit";
 
-pub(crate) const POP_VLAN: &str = "--pop-vlan";
+pub(in crate::ether_stream) const POP_VLAN: &str = "--pop-vlan";
 
-pub(crate) const PUSH_VLAN: &str = "--push-vlan";
+pub(in crate::ether_stream) const PUSH_VLAN: &str = "--push-vlan";
 
-pub(crate) const SELECT: &str = "--select";
+pub(in crate::ether_stream) const SELECT: &str = "--select";
 
-pub(crate) const SET_VLAN: &str = "--set-vlan";
+pub(in crate::ether_stream) const SET_VLAN: &str = "--set-vlan";
 
-pub(crate) const UNDECIDED: &str = "--undecided";
+pub(in crate::ether_stream) const UNDECIDED: &str = "--undecided";
 
 /// The options that ask for a copy.
-pub(crate) const COPIES: &str = "--write or -w";
+pub(in crate::ether_stream) const COPIES: &str = "--write or -w";
 
 // ---- the values that they take
 
-pub(crate) const PUSHED_TAG: &str = "a TPID of VLAN tags and an identifier up to 4095, as 0x8100:5";
+pub(in crate::ether_stream) const PUSHED_TAG: &str = "a TPID of VLAN tags and an identifier up to 4095, as 0x8100:5";
 
-pub(crate) const TWO_IDENTIFIERS: &str = "two identifiers up to 4095, as 5:6";
+pub(in crate::ether_stream) const TWO_IDENTIFIERS: &str = "two identifiers up to 4095, as 5:6";
 
-pub(crate) const PACKETS: &str = "a number from 1 to 4294967295";
+pub(in crate::ether_stream) const PACKETS: &str = "a number from 1 to 4294967295";
 
-pub(crate) const HEADERS: &str = "a number up to 4294967295";
+pub(in crate::ether_stream) const HEADERS: &str = "a number up to 4294967295";
 
-pub(crate) const KEEP_OR_DROP: &str = "keep or drop";
+pub(in crate::ether_stream) const KEEP_OR_DROP: &str = "keep or drop";
 
-pub(crate) const FORMATS: &str = "lines, brief or json";
+pub(in crate::ether_stream) const FORMATS: &str = "lines, brief or json";
 
-pub(crate) const COLUMNS: &str = "at most 32 columns, as vlan.vid,eth.src";
+pub(in crate::ether_stream) const COLUMNS: &str = "at most 32 columns, as vlan.vid,eth.src";
 
 // ---- wrong words
 
-pub(crate) const TRY_HELP: &str = "try --help";
+pub(in crate::ether_stream) const TRY_HELP: &str = "try --help";
 
-pub(crate) const NO_OPTION: &str = "there is no such option";
+pub(in crate::ether_stream) const NO_OPTION: &str = "there is no such option";
 
-pub(crate) const NO_VALUE: &str = "its value is missing";
+pub(in crate::ether_stream) const NO_VALUE: &str = "its value is missing";
 
-pub(crate) const TWICE: &str = "an option occurs twice, or has a value and takes none";
+pub(in crate::ether_stream) const TWICE: &str = "an option occurs twice, or has a value and takes none";
 
-pub(crate) const CLASH: &str = "these options do not go together";
+pub(in crate::ether_stream) const CLASH: &str = "these options do not go together";
 
-pub(crate) const SURPLUS: &str = "this is one FILE too many";
+pub(in crate::ether_stream) const SURPLUS: &str = "this is one FILE too many";
 
-pub(crate) const INPUT_TWICE: &str = "-: standard input can be read only once";
+pub(in crate::ether_stream) const INPUT_TWICE: &str = "-: standard input can be read only once";
 
-pub(crate) const EDITS: &str =
+pub(in crate::ether_stream) const EDITS: &str =
     "--cut-to-headers, --pop-vlan, --push-vlan and --set-vlan do not go together";
 
-pub(crate) const NO_COLUMN: &str = "there is no column";
+pub(in crate::ether_stream) const NO_COLUMN: &str = "there is no column";

@@ -7,7 +7,7 @@ use etherpeel::{EtherType, VlanId};
 
 /// An edit whose value is two numbers with a colon between them.
 #[derive(Clone, Copy)]
-pub(crate) enum TagEdit {
+pub(in crate::ether_stream) enum TagEdit {
     /// A VLAN tag is pushed: its TPID and its identifier.
     Push,
     /// The identifier of a VLAN tag is changed: from the first number to the second.
@@ -15,7 +15,7 @@ pub(crate) enum TagEdit {
 }
 
 /// The edit that a text means. Returns `None` if it means none.
-pub(crate) fn tag_edit_of(kind: TagEdit, text: &[u8]) -> Option<PacketEdit> {
+pub(in crate::ether_stream) fn tag_edit_of(kind: TagEdit, text: &[u8]) -> Option<PacketEdit> {
     let (first, second) = pair_of(text)?;
     match kind {
         TagEdit::Push => push_of(first, second),
@@ -60,7 +60,7 @@ fn pair_of(text: &[u8]) -> Option<(u32, u32)> {
 }
 
 /// The number of a text, if it has at most 32 bits.
-pub(crate) fn small_number(text: &[u8]) -> Option<u32> {
+pub(in crate::ether_stream) fn small_number(text: &[u8]) -> Option<u32> {
     match number_of(text) {
         Some(number) => number,
         None => None,

@@ -10,19 +10,11 @@ use etherpeel::ether_peel::{Feed, Start, feed, feed_limited};
 /// The numbers and the fault are those of [`feed`], or of [`feed_limited`] if there is a limit.
 ///
 /// ```
-/// # use etherpeel::*;
-/// # use etherpeel::ether_peel::*;
-/// # use etherpeel::ether_fields::*;
-/// # use etherpeel::ether_sll2::*;
-/// # use etherpeel::ether_packet::*;
-/// # use etherpeel::ether_filter::*;
-/// # use etherpeel::ether_pcap::*;
-/// # use etherpeel::ether_content::*;
-/// # use etherpeel::ether_switch::*;
-/// # use etherpeel::ether_output::*;
-/// # use etherpeel::ether_format::*;
-/// # use ether_tools::ether_text::*;
-/// # use arrayvec::ArrayVec;
+/// use etherpeel::ether_peel::Start;
+/// use etherpeel::ether_output::OutputBuffer;
+/// use ether_tools::ether_text::write_feed;
+/// use arrayvec::ArrayVec;
+///
 /// let frame = [
 ///     0xFF, 0xFF, 0xFF, 0xFF, 0xFF, 0xFF, 0x02, 0x00, 0x00, 0x00, 0x00, 0x01, 0x81, 0x00, // Ethernet II
 ///     0xB1, 0x23, 0x08, 0x00, // VLAN

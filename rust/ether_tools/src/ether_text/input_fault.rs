@@ -7,18 +7,8 @@ use std::fmt;
 /// text waited for the writer.
 ///
 /// ```
-/// # use etherpeel::*;
-/// # use etherpeel::ether_peel::*;
-/// # use etherpeel::ether_fields::*;
-/// # use etherpeel::ether_sll2::*;
-/// # use etherpeel::ether_packet::*;
-/// # use etherpeel::ether_filter::*;
-/// # use etherpeel::ether_pcap::*;
-/// # use etherpeel::ether_content::*;
-/// # use etherpeel::ether_switch::*;
-/// # use etherpeel::ether_output::*;
-/// # use etherpeel::ether_format::*;
-/// # use ether_tools::ether_text::*;
+/// use ether_tools::ether_text::InputFault;
+///
 /// assert_eq!(format!("{InputFault}").as_str(), "The reader has failed.");
 /// ```
 #[derive(Clone, Copy, PartialEq, Eq, Debug)]

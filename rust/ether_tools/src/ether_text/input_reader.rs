@@ -6,19 +6,10 @@ use etherpeel::ether_output::{OutputBuffer, Sink};
 /// A reader that is called at most `u64::MAX` times. After a fault it is not called again.
 ///
 /// ```
-/// # use etherpeel::*;
-/// # use etherpeel::ether_peel::*;
-/// # use etherpeel::ether_fields::*;
-/// # use etherpeel::ether_sll2::*;
-/// # use etherpeel::ether_packet::*;
-/// # use etherpeel::ether_filter::*;
-/// # use etherpeel::ether_pcap::*;
-/// # use etherpeel::ether_content::*;
-/// # use etherpeel::ether_switch::*;
-/// # use etherpeel::ether_output::*;
-/// # use etherpeel::ether_format::*;
-/// # use ether_tools::ether_text::*;
-/// # use arrayvec::ArrayVec;
+/// use etherpeel::ether_output::OutputBuffer;
+/// use ether_tools::ether_text::InputReader;
+/// use arrayvec::ArrayVec;
+///
 /// let mut bytes = [1, 2, 3].as_slice();
 /// let mut written = ArrayVec::<u8, 4>::new();
 /// let mut input = InputReader::new(&mut bytes);

@@ -43,18 +43,8 @@ impl<R: Read> Source for R {
 /// The bytes of a slice, which can be read without a fault.
 ///
 /// ```
-/// # use etherpeel::*;
-/// # use etherpeel::ether_peel::*;
-/// # use etherpeel::ether_fields::*;
-/// # use etherpeel::ether_sll2::*;
-/// # use etherpeel::ether_packet::*;
-/// # use etherpeel::ether_filter::*;
-/// # use etherpeel::ether_pcap::*;
-/// # use etherpeel::ether_content::*;
-/// # use etherpeel::ether_switch::*;
-/// # use etherpeel::ether_output::*;
-/// # use etherpeel::ether_format::*;
-/// # use ether_tools::ether_text::*;
+/// use ether_tools::ether_text::{SliceSource, Source};
+///
 /// let mut source = SliceSource::new(&[1, 2, 3]);
 /// let mut chunk = [0; 2];
 /// assert_eq!(source.read_some(&mut chunk), Ok(2));

@@ -3,18 +3,8 @@
 /// What a run found that has read all its input.
 ///
 /// ```
-/// # use etherpeel::*;
-/// # use etherpeel::ether_peel::*;
-/// # use etherpeel::ether_fields::*;
-/// # use etherpeel::ether_sll2::*;
-/// # use etherpeel::ether_packet::*;
-/// # use etherpeel::ether_filter::*;
-/// # use etherpeel::ether_pcap::*;
-/// # use etherpeel::ether_content::*;
-/// # use etherpeel::ether_switch::*;
-/// # use etherpeel::ether_output::*;
-/// # use etherpeel::ether_format::*;
-/// # use ether_tools::ether_text::*;
+/// use ether_tools::ether_text::Verdict;
+///
 /// assert_eq!(Verdict::AllAccepted.with(false), Verdict::SomeRefused);
 /// ```
 #[derive(Clone, Copy, PartialEq, Eq, Debug)]

@@ -10,19 +10,11 @@ use etherpeel::ether_peel::{Peel, PeelFault, Start};
 /// With a limit, at most that many VLAN tags and SecTags are read, as by [`Peel::with_limit`].
 ///
 /// ```
-/// # use etherpeel::*;
-/// # use etherpeel::ether_peel::*;
-/// # use etherpeel::ether_fields::*;
-/// # use etherpeel::ether_sll2::*;
-/// # use etherpeel::ether_packet::*;
-/// # use etherpeel::ether_filter::*;
-/// # use etherpeel::ether_pcap::*;
-/// # use etherpeel::ether_content::*;
-/// # use etherpeel::ether_switch::*;
-/// # use etherpeel::ether_output::*;
-/// # use etherpeel::ether_format::*;
-/// # use ether_tools::ether_text::*;
-/// # use arrayvec::ArrayVec;
+/// use etherpeel::ether_peel::Start;
+/// use etherpeel::ether_output::OutputBuffer;
+/// use ether_tools::ether_text::write_walk;
+/// use arrayvec::ArrayVec;
+///
 /// let frame = [
 ///     0xFF, 0xFF, 0xFF, 0xFF, 0xFF, 0xFF, 0x02, 0x00, 0x00, 0x00, 0x00, 0x01, 0x81, 0x00, // Ethernet II
 ///     0xB1, 0x23, 0x08, 0x00, // VLAN

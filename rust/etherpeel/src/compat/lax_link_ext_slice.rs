@@ -14,6 +14,7 @@ pub enum LaxLinkExtSlice<'a> {
 
 impl<'a> LaxLinkExtSlice<'a> {
     /// The length of the header in bytes.
+    #[must_use]
     pub fn header_len(&self) -> usize {
         match self {
             LaxLinkExtSlice::Vlan(slice) => slice.header_len(),
@@ -22,6 +23,7 @@ impl<'a> LaxLinkExtSlice<'a> {
     }
 
     /// The header as a value.
+    #[must_use]
     pub fn to_header(&self) -> LinkExtHeader {
         match self {
             LaxLinkExtSlice::Vlan(slice) => LinkExtHeader::Vlan(slice.to_header()),
@@ -30,6 +32,7 @@ impl<'a> LaxLinkExtSlice<'a> {
     }
 
     /// The payload, if it has an ether type: that of a VLAN tag always has, as no length of its own.
+    #[must_use]
     pub fn ether_payload(&self) -> Option<LaxEtherPayloadSlice<'a>> {
         match self {
             LaxLinkExtSlice::Vlan(slice) => Some(LaxEtherPayloadSlice::whole(slice.payload())),

@@ -79,6 +79,7 @@ impl<'a> LaxMacsecSlice<'a> {
     }
 
     /// The payload, if it is neither encrypted nor changed.
+    #[must_use]
     pub fn ether_payload(&self) -> Option<LaxEtherPayloadSlice<'a>> {
         match &self.payload {
             LaxMacsecPayloadSlice::Unmodified(payload) => Some(payload.clone()),
@@ -87,6 +88,7 @@ impl<'a> LaxMacsecSlice<'a> {
     }
 
     /// The ether type of the payload, if it is neither encrypted nor changed.
+    #[must_use]
     pub fn next_ether_type(&self) -> Option<EtherType> {
         self.header.next_ether_type()
     }

@@ -52,6 +52,7 @@ impl<'a> LaxPacketHeaders<'a> {
     }
 
     /// Reads a packet that begins with what an ether type announces.
+    #[must_use]
     pub fn from_ether_type(ether_type: EtherType, slice: &'a [u8]) -> LaxPacketHeaders<'a> {
         LaxPacketHeaders::of(LaxSlicedPacket::from_ether_type(ether_type, slice))
     }
@@ -68,6 +69,7 @@ impl<'a> LaxPacketHeaders<'a> {
     }
 
     /// The first VLAN tag, or the first two if there are more.
+    #[must_use]
     pub fn vlan(&self) -> Option<VlanHeader> {
         first_headers(self.link_exts.iter().filter_map(|link_ext| match link_ext {
             LinkExtHeader::Vlan(tag) => Some(*tag),
@@ -76,6 +78,7 @@ impl<'a> LaxPacketHeaders<'a> {
     }
 
     /// The identifiers of the VLAN tags, outermost first.
+    #[must_use]
     pub fn vlan_ids(&self) -> ArrayVec<VlanId, { LaxPacketHeaders::LINK_EXTS_CAP }> {
         let tags = self.link_exts.iter().filter_map(|link_ext| match link_ext {
             LinkExtHeader::Vlan(tag) => Some(tag.vlan_id),

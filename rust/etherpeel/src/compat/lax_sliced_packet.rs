@@ -54,6 +54,7 @@ impl<'a> LaxSlicedPacket<'a> {
     }
 
     /// Reads a packet that begins with what an ether type announces.
+    #[must_use]
     pub fn from_ether_type(ether_type: EtherType, slice: &'a [u8]) -> LaxSlicedPacket<'a> {
         let payload = EtherPayloadSlice { ether_type, len_source: LenSource::Slice, payload: slice };
         LaxSlicedPacket::walked(LinkSlice::EtherPayload(payload), 0)
@@ -81,6 +82,7 @@ impl<'a> LaxSlicedPacket<'a> {
 
     /// The payload of the last header of the link layer, if it has an ether type. An ARP packet is such a payload, with
     /// the bytes after it.
+    #[must_use]
     pub fn ether_payload(&self) -> Option<LaxEtherPayloadSlice<'a>> {
         match self.link_exts.last() {
             Some(link_ext) => link_ext.ether_payload(),
@@ -89,6 +91,7 @@ impl<'a> LaxSlicedPacket<'a> {
     }
 
     /// The first VLAN tag, or the first two if there are more.
+    #[must_use]
     pub fn vlan(&self) -> Option<VlanSlice<'a>> {
         first_slices(self.link_exts.iter().filter_map(|link_ext| match link_ext {
             LaxLinkExtSlice::Vlan(tag) => Some(tag.clone()),
@@ -97,6 +100,7 @@ impl<'a> LaxSlicedPacket<'a> {
     }
 
     /// The identifiers of the VLAN tags, outermost first.
+    #[must_use]
     pub fn vlan_ids(&self) -> ArrayVec<VlanId, { LaxSlicedPacket::LINK_EXTS_CAP }> {
         let tags = self.link_exts.iter().filter_map(|link_ext| match link_ext {
             LaxLinkExtSlice::Vlan(tag) => Some(tag.vlan_identifier()),

@@ -28,21 +28,25 @@ pub enum NetHeaders {
 
 impl<'a> NetSlice<'a> {
     /// Whether this is IP: never.
+    #[must_use]
     pub fn is_ip(&self) -> bool {
         false
     }
 
     /// Whether this is IPv4: never.
+    #[must_use]
     pub fn is_ipv4(&self) -> bool {
         false
     }
 
     /// Whether this is IPv6: never.
+    #[must_use]
     pub fn is_ipv6(&self) -> bool {
         false
     }
 
     /// The ARP packet.
+    #[must_use]
     pub fn arp_ref(&self) -> Option<&ArpPacketSlice<'a>> {
         let NetSlice::Arp(packet) = self;
         Some(packet)
@@ -51,27 +55,32 @@ impl<'a> NetSlice<'a> {
 
 impl NetHeaders {
     /// Whether this is IP: never.
+    #[must_use]
     pub fn is_ip(&self) -> bool {
         false
     }
 
     /// Whether this is IPv4: never.
+    #[must_use]
     pub fn is_ipv4(&self) -> bool {
         false
     }
 
     /// Whether this is IPv6: never.
+    #[must_use]
     pub fn is_ipv6(&self) -> bool {
         false
     }
 
     /// The ARP packet.
+    #[must_use]
     pub fn arp_ref(&self) -> Option<&ArpPacket> {
         let NetHeaders::Arp(packet) = self;
         Some(packet)
     }
 
     /// The number of bytes of the packet when it is written.
+    #[must_use]
     pub fn header_len(&self) -> usize {
         let NetHeaders::Arp(packet) = self;
         packet.packet_len()

@@ -22,7 +22,8 @@ const MOST_BYTES: usize = LinuxSllHeader::LEN + MOST_TAGS * SingleVlanHeader::LE
 /// [`ether_packet::PacketBuilder`].
 ///
 /// ```
-/// # use etherpeel::*;
+/// use etherpeel::{ArpEthIpv4Packet, ArpOperation, PacketBuilder, VlanId};
+///
 /// # fn main() -> Result<(), Box<dyn std::error::Error>> {
 /// let request = ArpEthIpv4Packet {
 ///     operation: ArpOperation::REQUEST,
@@ -54,12 +55,14 @@ pub struct PacketBuilderStep<LastStep> {
 
 impl PacketBuilder {
     /// Begins with an Ethernet II header.
+    #[must_use]
     pub fn ethernet2(source: [u8; 6], destination: [u8; 6]) -> PacketBuilderStep<Ethernet2Header> {
         let last = Ethernet2Header { source, destination, ether_type: EtherType(0) };
         PacketBuilderStep { link: LinkHeader::Ethernet2(last), tags: ArrayVec::new(), last }
     }
 
     /// Begins with a header of Linux cooked capture v1, of the hardware type Ethernet.
+    #[must_use]
     pub fn linux_sll(
         packet_type: LinuxSllPacketType,
         sender_address_valid_length: u16,
@@ -78,6 +81,7 @@ impl PacketBuilder {
 
 impl PacketBuilderStep<Ethernet2Header> {
     /// Adds one VLAN tag or two. Their ether types are set when the packet is written.
+    #[must_use]
     pub fn vlan(self, vlan: VlanHeader) -> PacketBuilderStep<VlanHeader> {
         let mut tags = self.tags;
         match vlan {
@@ -88,11 +92,13 @@ impl PacketBuilderStep<Ethernet2Header> {
     }
 
     /// Adds one VLAN tag, with the priority 0.
+    #[must_use]
     pub fn single_vlan(self, vlan_identifier: VlanId) -> PacketBuilderStep<VlanHeader> {
         self.vlan(VlanHeader::Single(tag_of(vlan_identifier)))
     }
 
     /// Adds two VLAN tags, with the priority 0.
+    #[must_use]
     pub fn double_vlan(
         self,
         outer_vlan_identifier: VlanId,
@@ -103,6 +109,7 @@ impl PacketBuilderStep<Ethernet2Header> {
     }
 
     /// Ends with an ARP packet.
+    #[must_use]
     pub fn arp(self, arp_packet: ArpPacket) -> PacketBuilderStep<ArpPacket> {
         self.ended(arp_packet)
     }
@@ -110,6 +117,7 @@ impl PacketBuilderStep<Ethernet2Header> {
 
 impl PacketBuilderStep<LinuxSllHeader> {
     /// Ends with an ARP packet.
+    #[must_use]
     pub fn arp(self, arp_packet: ArpPacket) -> PacketBuilderStep<ArpPacket> {
         self.ended(arp_packet)
     }
@@ -117,6 +125,7 @@ impl PacketBuilderStep<LinuxSllHeader> {
 
 impl PacketBuilderStep<VlanHeader> {
     /// Ends with an ARP packet.
+    #[must_use]
     pub fn arp(self, arp_packet: ArpPacket) -> PacketBuilderStep<ArpPacket> {
         self.ended(arp_packet)
     }
@@ -149,6 +158,7 @@ impl PacketBuilderStep<ArpPacket> {
     }
 
     /// The number of bytes of the packet.
+    #[must_use]
     pub fn size(&self) -> usize {
         self.packet().size()
     }

@@ -54,6 +54,7 @@ impl<'a> PacketHeaders<'a> {
     }
 
     /// The first VLAN tag, or the first two if there are more.
+    #[must_use]
     pub fn vlan(&self) -> Option<VlanHeader> {
         first_headers(self.link_exts.iter().filter_map(|link_ext| match link_ext {
             LinkExtHeader::Vlan(tag) => Some(*tag),
@@ -62,6 +63,7 @@ impl<'a> PacketHeaders<'a> {
     }
 
     /// The identifiers of the VLAN tags, outermost first.
+    #[must_use]
     pub fn vlan_ids(&self) -> ArrayVec<VlanId, { PacketHeaders::LINK_EXTS_CAP }> {
         let tags = self.link_exts.iter().filter_map(|link_ext| match link_ext {
             LinkExtHeader::Vlan(tag) => Some(tag.vlan_id),

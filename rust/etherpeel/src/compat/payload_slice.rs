@@ -36,6 +36,7 @@ pub enum LaxPayloadSlice<'a> {
 
 impl<'a> PayloadSlice<'a> {
     /// The bytes.
+    #[must_use]
     pub fn slice(&self) -> &'a [u8] {
         match self {
             PayloadSlice::Empty => &[],
@@ -47,6 +48,7 @@ impl<'a> PayloadSlice<'a> {
 
 impl<'a> LaxPayloadSlice<'a> {
     /// The bytes that are there.
+    #[must_use]
     pub fn slice(&self) -> &'a [u8] {
         match self {
             LaxPayloadSlice::Empty => &[],

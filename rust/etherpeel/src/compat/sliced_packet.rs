@@ -70,6 +70,7 @@ impl<'a> SlicedPacket<'a> {
     }
 
     /// The ether type of the payload after the headers that were read, if it has one. `None` after an ARP packet.
+    #[must_use]
     pub fn payload_ether_type(&self) -> Option<EtherType> {
         match self.net {
             Some(_) => None,
@@ -79,6 +80,7 @@ impl<'a> SlicedPacket<'a> {
 
     /// The payload of the last header of the link layer, if it has an ether type. An ARP packet is such a payload, with
     /// the bytes after it.
+    #[must_use]
     pub fn ether_payload(&self) -> Option<EtherPayloadSlice<'a>> {
         match self.link_exts.last() {
             Some(link_ext) => link_ext.ether_payload(),
@@ -87,11 +89,13 @@ impl<'a> SlicedPacket<'a> {
     }
 
     /// Whether the payload is a fragment of an IP packet: never, since IP is not read.
+    #[must_use]
     pub fn is_ip_payload_fragmented(&self) -> bool {
         false
     }
 
     /// The first VLAN tag, or the first two if there are more.
+    #[must_use]
     pub fn vlan(&self) -> Option<VlanSlice<'a>> {
         first_slices(self.link_exts.iter().filter_map(|link_ext| match link_ext {
             LinkExtSlice::Vlan(tag) => Some(tag.clone()),
@@ -100,6 +104,7 @@ impl<'a> SlicedPacket<'a> {
     }
 
     /// The identifiers of the VLAN tags, outermost first.
+    #[must_use]
     pub fn vlan_ids(&self) -> ArrayVec<VlanId, { SlicedPacket::LINK_EXTS_CAP }> {
         let tags = self.link_exts.iter().filter_map(|link_ext| match link_ext {
             LinkExtSlice::Vlan(tag) => Some(tag.vlan_identifier()),

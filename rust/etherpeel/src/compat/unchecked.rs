@@ -9,6 +9,7 @@ impl VlanId {
     /// # Panics
     ///
     /// If the number is more than [`MAX_U16`](Self::MAX_U16).
+    #[must_use]
     pub const fn new_unchecked(value: u16) -> VlanId {
         match VlanId::try_new(value) {
             Ok(id) => id,
@@ -23,6 +24,7 @@ impl VlanPcp {
     /// # Panics
     ///
     /// If the number is more than [`MAX_U8`](Self::MAX_U8).
+    #[must_use]
     pub const fn new_unchecked(value: u8) -> VlanPcp {
         match VlanPcp::try_new(value) {
             Ok(pcp) => pcp,
@@ -37,6 +39,7 @@ impl MacsecAn {
     /// # Panics
     ///
     /// If the value is more than [`MAX_U8`](Self::MAX_U8).
+    #[must_use]
     pub const fn new_unchecked(value: u8) -> MacsecAn {
         match MacsecAn::try_new(value) {
             Ok(an) => an,
@@ -51,6 +54,7 @@ impl MacsecShortLen {
     /// # Panics
     ///
     /// If the value is more than [`MAX_U8`](Self::MAX_U8).
+    #[must_use]
     pub const fn from_u8_unchecked(value: u8) -> MacsecShortLen {
         match MacsecShortLen::try_from_u8(value) {
             Ok(short_len) => short_len,
@@ -65,6 +69,7 @@ impl ArpPacket {
     /// # Panics
     ///
     /// Where [`new`](Self::new) returns an error.
+    #[must_use]
     pub fn new_unchecked(
         hw_addr_type: ArpHardwareId,
         proto_addr_type: EtherType,

@@ -5,9 +5,11 @@ use arrayvec::ArrayVec;
 
 /// Copies at most 255 bytes into an address.
 ///
-/// <details><summary>Contract</summary>
+/// # Panics
 ///
-/// The caller must meet each `requires`; otherwise the call may panic or return something else.
+/// The call may panic, or return something else, if a `requires` of its contract is not met.
+///
+/// <details><summary>Contract</summary>
 ///
 /// ```text
 /// requires { length bytes.now ≤ 255 }
@@ -16,6 +18,7 @@ use arrayvec::ArrayVec;
 /// ```
 ///
 /// </details>
+#[must_use]
 #[inline]
 pub fn address(bytes: &[u8]) -> ArrayVec<u8, 255> {
     let mut address = ArrayVec::new();
@@ -25,9 +28,11 @@ pub fn address(bytes: &[u8]) -> ArrayVec<u8, 255> {
 
 /// Replaces the bytes of an address by these, at most 255.
 ///
-/// <details><summary>Contract</summary>
+/// # Panics
 ///
-/// The caller must meet each `requires`; otherwise the call may panic or return something else.
+/// The call may panic, or return something else, if a `requires` of its contract is not met.
+///
+/// <details><summary>Contract</summary>
 ///
 /// ```text
 /// requires { length bytes.now ≤ 255 }
@@ -44,9 +49,11 @@ pub fn replace(address: &mut ArrayVec<u8, 255>, bytes: &[u8]) {
 
 /// Appends bytes to a list that has room for them.
 ///
-/// <details><summary>Contract</summary>
+/// # Panics
 ///
-/// The caller must meet each `requires`; otherwise the call may panic or return something else.
+/// The call may panic, or return something else, if a `requires` of its contract is not met.
+///
+/// <details><summary>Contract</summary>
 ///
 /// ```text
 /// requires { length bytes.old.items + length part.now ≤ N }

@@ -11,7 +11,8 @@ use core::net::Ipv4Addr;
 /// The request "who has 10.0.0.2?":
 ///
 /// ```
-/// # use etherpeel::*;
+/// use etherpeel::{ArpEthIpv4Packet, ArpOperation, ArpPacket};
+///
 /// # fn main() -> Result<(), Box<dyn std::error::Error>> {
 /// let request = ArpEthIpv4Packet {
 ///     operation: ArpOperation::REQUEST,
@@ -25,6 +26,7 @@ use core::net::Ipv4Addr;
 /// # Ok(())
 /// # }
 /// ```
+#[cfg_attr(feature = "serde", derive(serde::Serialize, serde::Deserialize))]
 #[derive(Clone, Copy, PartialEq, Eq, Hash, Debug)]
 pub struct ArpEthIpv4Packet {
     /// The operation: a request, a reply or another.
@@ -52,6 +54,7 @@ impl ArpEthIpv4Packet {
     /// ```
     ///
     /// </details>
+    #[must_use]
     #[inline]
     pub const fn sender_ipv4_addr(&self) -> Ipv4Addr {
         let [a, b, c, d] = self.sender_ipv4;
@@ -67,6 +70,7 @@ impl ArpEthIpv4Packet {
     /// ```
     ///
     /// </details>
+    #[must_use]
     #[inline]
     pub const fn target_ipv4_addr(&self) -> Ipv4Addr {
         let [a, b, c, d] = self.target_ipv4;
@@ -85,6 +89,7 @@ impl ArpEthIpv4Packet {
     /// ```
     ///
     /// </details>
+    #[must_use]
     #[inline]
     pub const fn to_bytes(&self) -> [u8; 28] {
         let front = arp_front::front_bytes(
@@ -115,6 +120,7 @@ impl ArpEthIpv4Packet {
     /// ```
     ///
     /// </details>
+    #[must_use]
     #[inline]
     pub fn to_arp_packet(&self) -> ArpPacket {
         ArpPacket::holding(

@@ -63,9 +63,11 @@ fn packet_len(packet: &[u8]) -> usize {
 
 /// The hardware type.
 ///
-/// <details><summary>Contract</summary>
+/// # Panics
 ///
-/// The caller must meet each `requires`; otherwise the call may panic or return something else.
+/// The call may panic, or return something else, if a `requires` of its contract is not met.
+///
+/// <details><summary>Contract</summary>
 ///
 /// ```text
 /// requires { 8 ≤ length packet.now }
@@ -73,6 +75,7 @@ fn packet_len(packet: &[u8]) -> usize {
 /// ```
 ///
 /// </details>
+#[must_use]
 #[inline]
 pub fn hw_addr_type(packet: &[u8]) -> ArpHardwareId {
     ArpHardwareId(u16_in(&packet[HARDWARE_TYPE]))
@@ -80,9 +83,11 @@ pub fn hw_addr_type(packet: &[u8]) -> ArpHardwareId {
 
 /// The protocol type.
 ///
-/// <details><summary>Contract</summary>
+/// # Panics
 ///
-/// The caller must meet each `requires`; otherwise the call may panic or return something else.
+/// The call may panic, or return something else, if a `requires` of its contract is not met.
+///
+/// <details><summary>Contract</summary>
 ///
 /// ```text
 /// requires { 8 ≤ length packet.now }
@@ -90,6 +95,7 @@ pub fn hw_addr_type(packet: &[u8]) -> ArpHardwareId {
 /// ```
 ///
 /// </details>
+#[must_use]
 #[inline]
 pub fn proto_addr_type(packet: &[u8]) -> EtherType {
     EtherType(u16_in(&packet[PROTOCOL_TYPE]))
@@ -97,9 +103,11 @@ pub fn proto_addr_type(packet: &[u8]) -> EtherType {
 
 /// The size of a hardware address in bytes.
 ///
-/// <details><summary>Contract</summary>
+/// # Panics
 ///
-/// The caller must meet each `requires`; otherwise the call may panic or return something else.
+/// The call may panic, or return something else, if a `requires` of its contract is not met.
+///
+/// <details><summary>Contract</summary>
 ///
 /// ```text
 /// requires { 8 ≤ length packet.now }
@@ -107,6 +115,7 @@ pub fn proto_addr_type(packet: &[u8]) -> EtherType {
 /// ```
 ///
 /// </details>
+#[must_use]
 #[inline]
 pub fn hw_addr_size(packet: &[u8]) -> u8 {
     packet[HARDWARE_SIZE]
@@ -114,9 +123,11 @@ pub fn hw_addr_size(packet: &[u8]) -> u8 {
 
 /// The size of a protocol address in bytes.
 ///
-/// <details><summary>Contract</summary>
+/// # Panics
 ///
-/// The caller must meet each `requires`; otherwise the call may panic or return something else.
+/// The call may panic, or return something else, if a `requires` of its contract is not met.
+///
+/// <details><summary>Contract</summary>
 ///
 /// ```text
 /// requires { 8 ≤ length packet.now }
@@ -124,6 +135,7 @@ pub fn hw_addr_size(packet: &[u8]) -> u8 {
 /// ```
 ///
 /// </details>
+#[must_use]
 #[inline]
 pub fn proto_addr_size(packet: &[u8]) -> u8 {
     packet[PROTOCOL_SIZE]
@@ -131,9 +143,11 @@ pub fn proto_addr_size(packet: &[u8]) -> u8 {
 
 /// The operation.
 ///
-/// <details><summary>Contract</summary>
+/// # Panics
 ///
-/// The caller must meet each `requires`; otherwise the call may panic or return something else.
+/// The call may panic, or return something else, if a `requires` of its contract is not met.
+///
+/// <details><summary>Contract</summary>
 ///
 /// ```text
 /// requires { 8 ≤ length packet.now }
@@ -141,6 +155,7 @@ pub fn proto_addr_size(packet: &[u8]) -> u8 {
 /// ```
 ///
 /// </details>
+#[must_use]
 #[inline]
 pub fn operation(packet: &[u8]) -> ArpOperation {
     ArpOperation(u16_in(&packet[OPERATION]))
@@ -148,9 +163,11 @@ pub fn operation(packet: &[u8]) -> ArpOperation {
 
 /// The sender's hardware address.
 ///
-/// <details><summary>Contract</summary>
+/// # Panics
 ///
-/// The caller must meet each `requires`; otherwise the call may panic or return something else.
+/// The call may panic, or return something else, if a `requires` of its contract is not met.
+///
+/// <details><summary>Contract</summary>
 ///
 /// ```text
 /// requires { BeginsWithArp packet.now }
@@ -160,6 +177,7 @@ pub fn operation(packet: &[u8]) -> ArpOperation {
 /// ```
 ///
 /// </details>
+#[must_use]
 #[inline]
 pub fn sender_hw_addr(packet: &[u8]) -> &[u8] {
     let hardware = usize::from(hw_addr_size(packet));
@@ -168,9 +186,11 @@ pub fn sender_hw_addr(packet: &[u8]) -> &[u8] {
 
 /// The sender's protocol address.
 ///
-/// <details><summary>Contract</summary>
+/// # Panics
 ///
-/// The caller must meet each `requires`; otherwise the call may panic or return something else.
+/// The call may panic, or return something else, if a `requires` of its contract is not met.
+///
+/// <details><summary>Contract</summary>
 ///
 /// ```text
 /// requires { BeginsWithArp packet.now }
@@ -180,6 +200,7 @@ pub fn sender_hw_addr(packet: &[u8]) -> &[u8] {
 /// ```
 ///
 /// </details>
+#[must_use]
 #[inline]
 pub fn sender_protocol_addr(packet: &[u8]) -> &[u8] {
     let start = FRONT_LEN + usize::from(hw_addr_size(packet));
@@ -188,9 +209,11 @@ pub fn sender_protocol_addr(packet: &[u8]) -> &[u8] {
 
 /// The target's hardware address.
 ///
-/// <details><summary>Contract</summary>
+/// # Panics
 ///
-/// The caller must meet each `requires`; otherwise the call may panic or return something else.
+/// The call may panic, or return something else, if a `requires` of its contract is not met.
+///
+/// <details><summary>Contract</summary>
 ///
 /// ```text
 /// requires { BeginsWithArp packet.now }
@@ -200,6 +223,7 @@ pub fn sender_protocol_addr(packet: &[u8]) -> &[u8] {
 /// ```
 ///
 /// </details>
+#[must_use]
 #[inline]
 pub fn target_hw_addr(packet: &[u8]) -> &[u8] {
     let hardware = usize::from(hw_addr_size(packet));
@@ -209,9 +233,11 @@ pub fn target_hw_addr(packet: &[u8]) -> &[u8] {
 
 /// The target's protocol address.
 ///
-/// <details><summary>Contract</summary>
+/// # Panics
 ///
-/// The caller must meet each `requires`; otherwise the call may panic or return something else.
+/// The call may panic, or return something else, if a `requires` of its contract is not met.
+///
+/// <details><summary>Contract</summary>
 ///
 /// ```text
 /// requires { BeginsWithArp packet.now }
@@ -221,6 +247,7 @@ pub fn target_hw_addr(packet: &[u8]) -> &[u8] {
 /// ```
 ///
 /// </details>
+#[must_use]
 #[inline]
 pub fn target_protocol_addr(packet: &[u8]) -> &[u8] {
     let protocol = usize::from(proto_addr_size(packet));

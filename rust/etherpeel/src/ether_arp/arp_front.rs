@@ -16,6 +16,7 @@
 /// ```
 ///
 /// </details>
+#[must_use]
 #[inline]
 pub const fn front_bytes(
     hw_addr_type: u16,

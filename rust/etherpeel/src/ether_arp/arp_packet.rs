@@ -20,7 +20,8 @@ const MAX_ADDR_LEN: usize = 255;
 /// The reply to a request for 10.0.0.2:
 ///
 /// ```
-/// # use etherpeel::*;
+/// use etherpeel::{ArpOperation, ArpPacket};
+///
 /// # fn main() -> Result<(), Box<dyn std::error::Error>> {
 /// let request = [
 ///     0, 1, 8, 0, 6, 4, // Ethernet and IPv4, whose addresses have 6 and 4 bytes
@@ -130,7 +131,7 @@ impl ArpPacket {
 
     /// The packet with these fields. The addresses of each kind have the same length, at most 255 bytes.
     #[inline]
-    pub(crate) fn holding(
+    pub(in crate::ether_arp) fn holding(
         hw_addr_type: ArpHardwareId,
         proto_addr_type: EtherType,
         operation: ArpOperation,
@@ -181,6 +182,7 @@ impl ArpPacket {
     /// ```
     ///
     /// </details>
+    #[must_use]
     #[inline]
     pub const fn hw_addr_size(&self) -> u8 {
         self.sender_hw_addr.len() as u8
@@ -196,6 +198,7 @@ impl ArpPacket {
     /// ```
     ///
     /// </details>
+    #[must_use]
     #[inline]
     pub const fn protocol_addr_size(&self) -> u8 {
         self.sender_protocol_addr.len() as u8
@@ -210,6 +213,7 @@ impl ArpPacket {
     /// ```
     ///
     /// </details>
+    #[must_use]
     #[inline]
     pub fn sender_hw_addr(&self) -> &[u8] {
         self.sender_hw_addr.as_slice()
@@ -224,6 +228,7 @@ impl ArpPacket {
     /// ```
     ///
     /// </details>
+    #[must_use]
     #[inline]
     pub fn sender_protocol_addr(&self) -> &[u8] {
         self.sender_protocol_addr.as_slice()
@@ -238,6 +243,7 @@ impl ArpPacket {
     /// ```
     ///
     /// </details>
+    #[must_use]
     #[inline]
     pub fn target_hw_addr(&self) -> &[u8] {
         self.target_hw_addr.as_slice()
@@ -252,6 +258,7 @@ impl ArpPacket {
     /// ```
     ///
     /// </details>
+    #[must_use]
     #[inline]
     pub fn target_protocol_addr(&self) -> &[u8] {
         self.target_protocol_addr.as_slice()
@@ -343,6 +350,7 @@ impl ArpPacket {
     /// ```
     ///
     /// </details>
+    #[must_use]
     #[inline]
     pub fn packet_len(&self) -> usize {
         8 + 2 * usize::from(self.hw_addr_size()) + 2 * usize::from(self.protocol_addr_size())
@@ -364,6 +372,7 @@ impl ArpPacket {
     /// ```
     ///
     /// </details>
+    #[must_use]
     #[inline]
     pub fn to_bytes(&self) -> ArrayVec<u8, 1028> {
         self.spelled()

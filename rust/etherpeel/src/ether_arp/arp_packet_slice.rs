@@ -10,7 +10,8 @@ use crate::ether_base::{ArpHardwareId, ArpOperation, EtherType};
 /// Two views are equal if their bytes are equal. A request, followed by padding:
 ///
 /// ```
-/// # use etherpeel::*;
+/// use etherpeel::{ArpOperation, ArpPacketSlice};
+///
 /// # fn main() -> Result<(), Box<dyn std::error::Error>> {
 /// let payload = [
 ///     0, 1, 8, 0, 6, 4, // Ethernet and IPv4, whose addresses have 6 and 4 bytes
@@ -70,6 +71,7 @@ impl<'a> ArpPacketSlice<'a> {
     /// ```
     ///
     /// </details>
+    #[must_use]
     #[inline]
     pub fn slice(&self) -> &'a [u8] {
         self.slice
@@ -84,6 +86,7 @@ impl<'a> ArpPacketSlice<'a> {
     /// ```
     ///
     /// </details>
+    #[must_use]
     #[inline]
     pub fn hw_addr_type(&self) -> ArpHardwareId {
         arp_fields::hw_addr_type(self.slice)
@@ -98,6 +101,7 @@ impl<'a> ArpPacketSlice<'a> {
     /// ```
     ///
     /// </details>
+    #[must_use]
     #[inline]
     pub fn proto_addr_type(&self) -> EtherType {
         arp_fields::proto_addr_type(self.slice)
@@ -114,6 +118,7 @@ impl<'a> ArpPacketSlice<'a> {
     /// ```
     ///
     /// </details>
+    #[must_use]
     #[inline]
     pub fn hw_addr_size(&self) -> u8 {
         arp_fields::hw_addr_size(self.slice)
@@ -130,6 +135,7 @@ impl<'a> ArpPacketSlice<'a> {
     /// ```
     ///
     /// </details>
+    #[must_use]
     #[inline]
     pub fn proto_addr_size(&self) -> u8 {
         arp_fields::proto_addr_size(self.slice)
@@ -144,6 +150,7 @@ impl<'a> ArpPacketSlice<'a> {
     /// ```
     ///
     /// </details>
+    #[must_use]
     #[inline]
     pub fn operation(&self) -> ArpOperation {
         arp_fields::operation(self.slice)
@@ -158,6 +165,7 @@ impl<'a> ArpPacketSlice<'a> {
     /// ```
     ///
     /// </details>
+    #[must_use]
     #[inline]
     pub fn sender_hw_addr(&self) -> &[u8] {
         arp_fields::sender_hw_addr(self.slice)
@@ -172,6 +180,7 @@ impl<'a> ArpPacketSlice<'a> {
     /// ```
     ///
     /// </details>
+    #[must_use]
     #[inline]
     pub fn sender_protocol_addr(&self) -> &[u8] {
         arp_fields::sender_protocol_addr(self.slice)
@@ -186,6 +195,7 @@ impl<'a> ArpPacketSlice<'a> {
     /// ```
     ///
     /// </details>
+    #[must_use]
     #[inline]
     pub fn target_hw_addr(&self) -> &[u8] {
         arp_fields::target_hw_addr(self.slice)
@@ -200,6 +210,7 @@ impl<'a> ArpPacketSlice<'a> {
     /// ```
     ///
     /// </details>
+    #[must_use]
     #[inline]
     pub fn target_protocol_addr(&self) -> &[u8] {
         arp_fields::target_protocol_addr(self.slice)
@@ -214,6 +225,7 @@ impl<'a> ArpPacketSlice<'a> {
     /// ```
     ///
     /// </details>
+    #[must_use]
     #[inline]
     pub fn to_packet(&self) -> ArpPacket {
         let bytes = self.slice;

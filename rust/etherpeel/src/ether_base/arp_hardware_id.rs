@@ -11,11 +11,13 @@ use core::fmt;
 /// four upper-case hexadecimal digits.
 ///
 /// ```
-/// # use etherpeel::*;
+/// use etherpeel::ArpHardwareId;
+///
 /// assert_eq!(ArpHardwareId::from(1), ArpHardwareId::ETHERNET);
 /// assert_eq!(ArpHardwareId::ETHERNET.name(), Some("Ethernet"));
 /// assert_eq!(ArpHardwareId(39).name(), None);
 /// ```
+#[cfg_attr(feature = "serde", derive(serde::Serialize, serde::Deserialize))]
 #[derive(Clone, Copy, PartialEq, Eq, PartialOrd, Ord, Hash, Default)]
 pub struct ArpHardwareId(pub u16);
 
@@ -308,6 +310,7 @@ impl ArpHardwareId {
     /// ```
     ///
     /// </details>
+    #[must_use]
     #[inline]
     pub fn name(&self) -> Option<&'static str> {
         self.assigned_name()

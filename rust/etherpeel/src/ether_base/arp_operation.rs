@@ -3,10 +3,12 @@
 /// The operation of an ARP packet (RFC 826), a number of 16 bits. Request and reply are constants.
 ///
 /// ```
-/// # use etherpeel::*;
+/// use etherpeel::ArpOperation;
+///
 /// assert_eq!(ArpOperation(1), ArpOperation::REQUEST);
 /// assert_eq!(ArpOperation(2), ArpOperation::REPLY);
 /// ```
+#[cfg_attr(feature = "serde", derive(serde::Serialize, serde::Deserialize))]
 #[derive(Clone, Copy, PartialEq, Eq, PartialOrd, Ord, Hash, Debug, Default)]
 pub struct ArpOperation(pub u16);
 

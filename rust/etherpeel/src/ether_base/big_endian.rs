@@ -10,6 +10,7 @@
 /// ```
 ///
 /// </details>
+#[must_use]
 #[inline]
 pub fn u16_of(bytes: [u8; 2]) -> u16 {
     u16::from_be_bytes(bytes)
@@ -25,6 +26,7 @@ pub fn u16_of(bytes: [u8; 2]) -> u16 {
 /// ```
 ///
 /// </details>
+#[must_use]
 #[inline]
 pub fn u32_of(bytes: [u8; 4]) -> u32 {
     u32::from_be_bytes(bytes)
@@ -40,6 +42,7 @@ pub fn u32_of(bytes: [u8; 4]) -> u32 {
 /// ```
 ///
 /// </details>
+#[must_use]
 #[inline]
 pub fn u64_of(bytes: [u8; 8]) -> u64 {
     u64::from_be_bytes(bytes)
@@ -56,6 +59,7 @@ pub fn u64_of(bytes: [u8; 8]) -> u64 {
 /// ```
 ///
 /// </details>
+#[must_use]
 #[inline(always)]
 pub fn u16_in(field: &[u8]) -> u16 {
     match field.first_chunk() {
@@ -74,6 +78,7 @@ pub fn u16_in(field: &[u8]) -> u16 {
 /// ```
 ///
 /// </details>
+#[must_use]
 #[inline(always)]
 pub fn u32_in(field: &[u8]) -> u32 {
     match field.first_chunk() {
@@ -92,6 +97,7 @@ pub fn u32_in(field: &[u8]) -> u32 {
 /// ```
 ///
 /// </details>
+#[must_use]
 #[inline(always)]
 pub fn u64_in(field: &[u8]) -> u64 {
     match field.first_chunk() {
@@ -110,6 +116,7 @@ pub fn u64_in(field: &[u8]) -> u64 {
 /// ```
 ///
 /// </details>
+#[must_use]
 #[inline(always)]
 pub fn u16_at(bytes: &[u8], at: usize) -> u16 {
     match array_at(bytes, at) {
@@ -128,6 +135,7 @@ pub fn u16_at(bytes: &[u8], at: usize) -> u16 {
 /// ```
 ///
 /// </details>
+#[must_use]
 #[inline(always)]
 pub fn u32_at(bytes: &[u8], at: usize) -> u32 {
     match array_at(bytes, at) {
@@ -146,6 +154,7 @@ pub fn u32_at(bytes: &[u8], at: usize) -> u32 {
 /// ```
 ///
 /// </details>
+#[must_use]
 #[inline(always)]
 pub fn u64_at(bytes: &[u8], at: usize) -> u64 {
     match array_at(bytes, at) {
@@ -165,6 +174,7 @@ pub fn u64_at(bytes: &[u8], at: usize) -> u64 {
 /// ```
 ///
 /// </details>
+#[must_use]
 #[inline(always)]
 pub fn array_at<const N: usize>(bytes: &[u8], at: usize) -> Option<[u8; N]> {
     match bytes.get(at..) {
@@ -201,6 +211,7 @@ fn number_of(bytes: &[u8]) -> u64 {
 /// ```
 ///
 /// </details>
+#[must_use]
 #[inline]
 pub fn bytes_of_u16(number: u16) -> [u8; 2] {
     number.to_be_bytes()
@@ -215,6 +226,7 @@ pub fn bytes_of_u16(number: u16) -> [u8; 2] {
 /// ```
 ///
 /// </details>
+#[must_use]
 #[inline]
 pub fn bytes_of_u32(number: u32) -> [u8; 4] {
     number.to_be_bytes()
@@ -229,6 +241,7 @@ pub fn bytes_of_u32(number: u32) -> [u8; 4] {
 /// ```
 ///
 /// </details>
+#[must_use]
 #[inline]
 pub fn bytes_of_u64(number: u64) -> [u8; 8] {
     number.to_be_bytes()

@@ -35,8 +35,8 @@ pub const VLAN_DOUBLE_TAGGED_FRAME: EtherType = EtherType(0x9100);
 /// description in parentheses if there is one.
 ///
 /// ```
-/// # use etherpeel::*;
-/// # use etherpeel::ether_base::ether_type::*;
+/// use etherpeel::EtherType;
+///
 /// assert_eq!(EtherType::from(0x0806), EtherType::ARP);
 /// assert_eq!(
 ///     EtherType::ARP.name(),
@@ -44,6 +44,7 @@ pub const VLAN_DOUBLE_TAGGED_FRAME: EtherType = EtherType(0x9100);
 /// );
 /// assert_eq!(EtherType(1500).name(), None);
 /// ```
+#[cfg_attr(feature = "serde", derive(serde::Serialize, serde::Deserialize))]
 #[derive(Clone, Copy, PartialEq, Eq, PartialOrd, Ord, Hash, Default)]
 pub struct EtherType(pub u16);
 
@@ -82,6 +83,7 @@ impl EtherType {
     /// ```
     ///
     /// </details>
+    #[must_use]
     #[inline]
     pub fn name(&self) -> Option<&'static str> {
         match *self {
@@ -104,8 +106,8 @@ impl EtherType {
     /// Returns whether the ether type is 0x8100, 0x88A8 or 0x9100, so that a VLAN tag follows the header.
     ///
     /// ```
-    /// # use etherpeel::*;
-    /// # use etherpeel::ether_base::ether_type::*;
+    /// use etherpeel::EtherType;
+    ///
     /// assert!(EtherType::PROVIDER_BRIDGING.announces_vlan());
     /// assert!(!EtherType::MACSEC.announces_vlan());
     /// ```
@@ -117,6 +119,7 @@ impl EtherType {
     /// ```
     ///
     /// </details>
+    #[must_use]
     #[inline(always)]
     pub fn announces_vlan(self) -> bool {
         self == EtherType::VLAN_TAGGED_FRAME

@@ -21,9 +21,11 @@ impl<E: Copy> HeaderSliceError<E> {
     ///
     /// A caller that passed only the tail of a slice uses it to report the place in the whole slice.
     ///
-    /// <details><summary>Contract</summary>
+    /// # Panics
     ///
-    /// The caller must meet each `requires`; otherwise the call may panic or return something else.
+    /// The call may panic, or return something else, if a `requires` of its contract is not met.
+    ///
+    /// <details><summary>Contract</summary>
     ///
     /// ```text
     /// requires { FitsMoved offset self }
@@ -31,6 +33,7 @@ impl<E: Copy> HeaderSliceError<E> {
     /// ```
     ///
     /// </details>
+    #[must_use]
     #[inline]
     pub const fn add_slice_offset(self, offset: usize) -> HeaderSliceError<E> {
         match self {

@@ -5,9 +5,11 @@
 /// Sources are ordered as they are listed.
 ///
 /// ```
-/// # use etherpeel::*;
+/// use etherpeel::LenSource;
+///
 /// assert!(LenSource::Slice < LenSource::MacsecShortLength);
 /// ```
+#[cfg_attr(feature = "serde", derive(serde::Serialize, serde::Deserialize))]
 #[derive(Clone, Copy, PartialEq, Eq, PartialOrd, Ord, Hash, Debug)]
 pub enum LenSource {
     /// The length of the slice.
@@ -29,7 +31,7 @@ pub enum LenSource {
 impl LenSource {
     /// The name of the source within the text of an error.
     #[inline]
-    pub(crate) fn name(&self) -> &'static str {
+    pub(in crate::ether_base) fn name(&self) -> &'static str {
         match self {
             LenSource::Slice => "slice length",
             LenSource::MacsecShortLength =>

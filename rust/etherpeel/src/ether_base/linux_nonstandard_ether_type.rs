@@ -9,7 +9,8 @@ use core::fmt;
 /// `Debug` shows `0x` and four upper-case digits, and the description in parentheses.
 ///
 /// ```
-/// # use etherpeel::*;
+/// use etherpeel::LinuxNonstandardEtherType;
+///
 /// let read = LinuxNonstandardEtherType::try_from(0x0C);
 /// assert_eq!(read, Ok(LinuxNonstandardEtherType::CAN));
 /// assert_eq!(LinuxNonstandardEtherType::try_from(0x0800), Err(()));

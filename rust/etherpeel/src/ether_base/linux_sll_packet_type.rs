@@ -8,12 +8,14 @@ use core::fmt;
 /// `Debug` shows the number, and its meaning in parentheses.
 ///
 /// ```
-/// # use etherpeel::*;
+/// use etherpeel::LinuxSllPacketType;
+///
 /// let read = LinuxSllPacketType::try_from(4);
 /// assert_eq!(read, Ok(LinuxSllPacketType::OUTGOING));
 /// assert!(LinuxSllPacketType::try_from(8).is_err());
 /// ```
-#[derive(Clone, Copy, PartialEq, Eq, Default)]
+#[cfg_attr(feature = "serde", derive(serde::Serialize, serde::Deserialize), serde(try_from = "u16", into = "u16"))]
+#[derive(Clone, Copy, PartialEq, Eq, Hash, Default)]
 pub struct LinuxSllPacketType(u16);
 
 impl LinuxSllPacketType {

@@ -6,11 +6,13 @@ use crate::ether_base::{ArpHardwareId, EtherType, LinuxNonstandardEtherType};
 /// The protocol type of Linux cooked capture v1: a number whose meaning depends on the hardware type of the link.
 ///
 /// ```
-/// # use etherpeel::*;
+/// use etherpeel::{ArpHardwareId, EtherType, LinuxSllProtocolType};
+///
 /// let read = LinuxSllProtocolType::try_from((ArpHardwareId::ETHERNET, 0x0800));
 /// assert_eq!(read, Ok(LinuxSllProtocolType::EtherType(EtherType::IPV4)));
 /// assert!(LinuxSllProtocolType::try_from((ArpHardwareId::SLIP, 0x0800)).is_err());
 /// ```
+#[cfg_attr(feature = "serde", derive(serde::Serialize, serde::Deserialize))]
 #[derive(Clone, Copy, PartialEq, Eq, PartialOrd, Ord, Hash, Debug)]
 pub enum LinuxSllProtocolType {
     /// A number without a meaning (IEEE 802.11 with radiotap, frame relay).

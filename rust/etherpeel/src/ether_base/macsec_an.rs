@@ -6,7 +6,8 @@ use core::fmt;
 /// The association number (AN) of a MACsec SecTag (IEEE 802.1AE, 9.6): 2 bits, 0 to 3.
 ///
 /// ```
-/// # use etherpeel::*;
+/// use etherpeel::MacsecAn;
+///
 /// # fn main() -> Result<(), Box<dyn std::error::Error>> {
 /// let number = MacsecAn::try_new(2)?;
 /// assert_eq!(number.value(), 2);
@@ -14,6 +15,7 @@ use core::fmt;
 /// # Ok(())
 /// # }
 /// ```
+#[cfg_attr(feature = "serde", derive(serde::Serialize, serde::Deserialize), serde(try_from = "u8", into = "u8"))]
 #[derive(Clone, Copy, PartialEq, Eq, PartialOrd, Ord, Hash, Debug, Default)]
 pub struct MacsecAn(u8);
 
@@ -58,6 +60,7 @@ impl MacsecAn {
     /// ```
     ///
     /// </details>
+    #[must_use]
     #[inline]
     pub const fn value(self) -> u8 {
         self.0

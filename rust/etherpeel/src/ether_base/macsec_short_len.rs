@@ -10,7 +10,8 @@ use core::fmt;
 /// [`MacsecShortLen::from_len`] makes them.
 ///
 /// ```
-/// # use etherpeel::*;
+/// use etherpeel::MacsecShortLen;
+///
 /// # fn main() -> Result<(), Box<dyn std::error::Error>> {
 /// let short_len = MacsecShortLen::try_from_u8(46)?;
 /// assert_eq!(short_len.value(), 46);
@@ -18,6 +19,7 @@ use core::fmt;
 /// # Ok(())
 /// # }
 /// ```
+#[cfg_attr(feature = "serde", derive(serde::Serialize, serde::Deserialize), serde(try_from = "u8", into = "u8"))]
 #[derive(Clone, Copy, PartialEq, Eq, PartialOrd, Ord, Hash, Debug, Default)]
 pub struct MacsecShortLen(u8);
 
@@ -66,6 +68,7 @@ impl MacsecShortLen {
     /// ```
     ///
     /// </details>
+    #[must_use]
     #[inline]
     pub fn from_len(len: usize) -> MacsecShortLen {
         if len <= MacsecShortLen::MAX_USIZE {
@@ -85,6 +88,7 @@ impl MacsecShortLen {
     /// ```
     ///
     /// </details>
+    #[must_use]
     #[inline]
     pub const fn value(self) -> u8 {
         self.0

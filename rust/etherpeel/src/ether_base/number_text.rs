@@ -6,12 +6,12 @@ use core::fmt;
 /// A number, shown as `0x` and four upper-case hexadecimal digits.
 ///
 /// ```
-/// # use etherpeel::*;
-/// # use etherpeel::ether_base::number_text::*;
+/// use etherpeel::ether_base::number_text::HexNumber;
+///
 /// let number = HexNumber(0x01AB);
 /// assert_eq!(format!("{number}").as_str(), "0x01AB");
 /// ```
-#[derive(Clone, Copy)]
+#[derive(Clone, Copy, Debug)]
 pub struct HexNumber(pub u16);
 
 impl fmt::Display for HexNumber {
@@ -23,7 +23,7 @@ impl fmt::Display for HexNumber {
 
 /// An ether type, shown with its description if it has one.
 #[derive(Clone, Copy)]
-pub(crate) struct ShownEtherType(pub EtherType);
+pub(in crate::ether_base) struct ShownEtherType(pub EtherType);
 
 impl fmt::Display for ShownEtherType {
     fn fmt(&self, f: &mut fmt::Formatter<'_>) -> fmt::Result {
@@ -37,7 +37,7 @@ impl fmt::Display for ShownEtherType {
 
 /// A hardware type, shown with its description if it has one.
 #[derive(Clone, Copy)]
-pub(crate) struct ShownArpHardwareId(pub ArpHardwareId);
+pub(in crate::ether_base) struct ShownArpHardwareId(pub ArpHardwareId);
 
 impl fmt::Display for ShownArpHardwareId {
     fn fmt(&self, f: &mut fmt::Formatter<'_>) -> fmt::Result {

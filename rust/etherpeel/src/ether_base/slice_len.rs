@@ -18,6 +18,7 @@ use crate::ether_base::err::{Layer, LenError};
 /// ```
 ///
 /// </details>
+#[must_use]
 #[inline]
 pub fn too_short(required_len: usize, len: usize, len_source: LenSource, layer: Layer) -> LenError {
     LenError {

@@ -6,7 +6,8 @@ use core::fmt;
 /// The VLAN identifier (VID) of a VLAN tag (IEEE 802.1Q, 9.6): 12 bits, 0 to 4095.
 ///
 /// ```
-/// # use etherpeel::*;
+/// use etherpeel::VlanId;
+///
 /// # fn main() -> Result<(), Box<dyn std::error::Error>> {
 /// let vlan = VlanId::try_new(100)?;
 /// assert_eq!(vlan.value(), 100);
@@ -14,6 +15,7 @@ use core::fmt;
 /// # Ok(())
 /// # }
 /// ```
+#[cfg_attr(feature = "serde", derive(serde::Serialize, serde::Deserialize), serde(try_from = "u16", into = "u16"))]
 #[derive(Clone, Copy, PartialEq, Eq, PartialOrd, Ord, Hash, Debug, Default)]
 pub struct VlanId(u16);
 
@@ -58,6 +60,7 @@ impl VlanId {
     /// ```
     ///
     /// </details>
+    #[must_use]
     #[inline]
     pub const fn value(self) -> u16 {
         self.0

@@ -6,7 +6,8 @@ use core::fmt;
 /// The priority code point (PCP) of a VLAN tag (IEEE 802.1Q, 9.6): 3 bits, 0 to 7.
 ///
 /// ```
-/// # use etherpeel::*;
+/// use etherpeel::VlanPcp;
+///
 /// # fn main() -> Result<(), Box<dyn std::error::Error>> {
 /// let priority = VlanPcp::try_new(5)?;
 /// assert_eq!(priority.value(), 5);
@@ -14,6 +15,7 @@ use core::fmt;
 /// # Ok(())
 /// # }
 /// ```
+#[cfg_attr(feature = "serde", derive(serde::Serialize, serde::Deserialize), serde(try_from = "u8", into = "u8"))]
 #[derive(Clone, Copy, PartialEq, Eq, PartialOrd, Ord, Hash, Debug, Default)]
 pub struct VlanPcp(u8);
 
@@ -58,6 +60,7 @@ impl VlanPcp {
     /// ```
     ///
     /// </details>
+    #[must_use]
     #[inline]
     pub const fn value(self) -> u8 {
         self.0

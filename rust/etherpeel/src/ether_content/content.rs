@@ -11,14 +11,10 @@ const FCS_LEN: usize = 4;
 /// The part of a packet that is walked, by its link type.
 ///
 /// ```
-/// # use etherpeel::*;
-/// # use etherpeel::ether_peel::*;
-/// # use etherpeel::ether_fields::*;
-/// # use etherpeel::ether_sll2::*;
-/// # use etherpeel::ether_packet::*;
-/// # use etherpeel::ether_filter::*;
-/// # use etherpeel::ether_pcap::*;
-/// # use etherpeel::ether_content::*;
+/// use etherpeel::ether_peel::Start;
+/// use etherpeel::ether_pcap::{CapturedPacket, LinkType};
+/// use etherpeel::ether_content::{Content, is_cut};
+///
 /// let packet = CapturedPacket {
 ///     time: None,
 ///     interface: None,
@@ -31,7 +27,7 @@ const FCS_LEN: usize = 4;
 /// assert_eq!(Content::of(&packet).frame(), Some((Start::Ethernet2, [0xFF; 14].as_slice())));
 /// assert!(is_cut(&packet));
 /// ```
-#[derive(Clone, Copy, Debug)]
+#[derive(Clone, Copy, PartialEq, Eq, Debug)]
 pub enum Content<'a> {
     /// A frame, and how its walk starts. The frame has a frame check sequence only if the start says so.
     Frame(Start, &'a [u8]),
@@ -57,6 +53,7 @@ impl<'a> Content<'a> {
     /// ```
     ///
     /// </details>
+    #[must_use]
     #[inline(always)]
     pub fn of(packet: &CapturedPacket<'a>) -> Content<'a> {
         if packet.link_type == LinkType::ETHERNET {
@@ -83,6 +80,7 @@ impl<'a> Content<'a> {
     /// ```
     ///
     /// </details>
+    #[must_use]
     #[inline(always)]
     pub fn is_unknown(self) -> bool {
         matches!(self, Content::Unknown)
@@ -101,6 +99,7 @@ impl<'a> Content<'a> {
     /// ```
     ///
     /// </details>
+    #[must_use]
     #[inline]
     pub fn frame(self) -> Option<(Start, &'a [u8])> {
         match self {
@@ -125,7 +124,7 @@ fn cooked_content(bytes: &[u8]) -> Content<'_> {
 
 /// The payload of a packet of cooked capture v2, and how its walk starts.
 #[inline]
-pub(crate) fn payload_of(bytes: &[u8]) -> Option<(Start, &[u8])> {
+pub(in crate::ether_content) fn payload_of(bytes: &[u8]) -> Option<(Start, &[u8])> {
     let Ok(packet) = LinuxSll2Slice::from_slice(bytes) else {
         return None;
     };
@@ -144,6 +143,7 @@ pub(crate) fn payload_of(bytes: &[u8]) -> Option<(Start, &[u8])> {
 /// ```
 ///
 /// </details>
+#[must_use]
 #[inline(always)]
 pub fn is_cut(packet: &CapturedPacket<'_>) -> bool {
     packet.packet.len() < packet.original_len as usize
@@ -165,14 +165,9 @@ fn has_fcs(packet: &CapturedPacket<'_>) -> bool {
 /// The captured bytes without those of the frame check sequence, if the capture gives its length.
 ///
 /// ```
-/// # use etherpeel::*;
-/// # use etherpeel::ether_peel::*;
-/// # use etherpeel::ether_fields::*;
-/// # use etherpeel::ether_sll2::*;
-/// # use etherpeel::ether_packet::*;
-/// # use etherpeel::ether_filter::*;
-/// # use etherpeel::ether_pcap::*;
-/// # use etherpeel::ether_content::*;
+/// use etherpeel::ether_pcap::{CapturedPacket, LinkType};
+/// use etherpeel::ether_content::without_fcs;
+///
 /// let packet = CapturedPacket {
 ///     time: None,
 ///     interface: None,
@@ -192,6 +187,7 @@ fn has_fcs(packet: &CapturedPacket<'_>) -> bool {
 /// ```
 ///
 /// </details>
+#[must_use]
 #[inline]
 pub fn without_fcs<'a>(packet: &CapturedPacket<'a>) -> &'a [u8] {
     &packet.packet[..whole_len(packet).min(packet.packet.len())]
@@ -199,7 +195,7 @@ pub fn without_fcs<'a>(packet: &CapturedPacket<'a>) -> &'a [u8] {
 
 /// The length of the packet before it was cut, without its frame check sequence.
 #[inline]
-pub(crate) fn whole_len(packet: &CapturedPacket<'_>) -> usize {
+pub(in crate::ether_content) fn whole_len(packet: &CapturedPacket<'_>) -> usize {
     let captured_len = packet.packet.len();
     captured_len
         .max(packet.original_len as usize)

@@ -9,14 +9,10 @@ use crate::{ArpHardwareId, EtherType, LinuxSllPacketType, LinuxSllProtocolType};
 /// such a header; here its protocol is read as an ether type.
 ///
 /// ```
-/// # use etherpeel::*;
-/// # use etherpeel::ether_peel::*;
-/// # use etherpeel::ether_fields::*;
-/// # use etherpeel::ether_sll2::*;
-/// # use etherpeel::ether_packet::*;
-/// # use etherpeel::ether_filter::*;
-/// # use etherpeel::ether_pcap::*;
-/// # use etherpeel::ether_content::*;
+/// use etherpeel::{ArpHardwareId, EtherType};
+/// use etherpeel::ether_pcap::{CapturedPacket, LinkType};
+/// use etherpeel::ether_content::Content;
+///
 /// let packet = CapturedPacket {
 ///     time: None,
 ///     interface: None,
@@ -36,7 +32,8 @@ use crate::{ArpHardwareId, EtherType, LinuxSllPacketType, LinuxSllProtocolType};
 ///     assert_eq!(payload, [0x45, 0x00].as_slice());
 /// }
 /// ```
-#[derive(Clone, Copy, PartialEq, Eq, Debug)]
+#[cfg_attr(feature = "serde", derive(serde::Serialize, serde::Deserialize))]
+#[derive(Clone, Copy, PartialEq, Eq, Hash, Debug)]
 pub struct CookedHeader {
     /// How the packet was sent: the number of a [`LinuxSllPacketType`], 0 to 7.
     pub packet_type: u16,
@@ -58,7 +55,7 @@ impl CookedHeader {
 /// Reads the header at the front of a packet of cooked capture v1. Returns `None` if the packet is read as a frame
 /// instead.
 #[inline]
-pub(crate) fn cooked_header(bytes: &[u8]) -> Option<CookedHeader> {
+pub(in crate::ether_content) fn cooked_header(bytes: &[u8]) -> Option<CookedHeader> {
     if bytes.len() < CookedHeader::LEN {
         return None;
     }

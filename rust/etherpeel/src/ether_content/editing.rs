@@ -10,7 +10,8 @@ use core::error::Error;
 use core::fmt;
 
 /// An edit of captured packets.
-#[derive(Clone, Copy, PartialEq, Eq, Debug)]
+#[cfg_attr(feature = "serde", derive(serde::Serialize, serde::Deserialize))]
+#[derive(Clone, Copy, PartialEq, Eq, Hash, Debug)]
 pub enum PacketEdit {
     /// Cuts a packet to its headers, as many bytes as [`headers_len`] returns.
     CutToHeaders,
@@ -45,6 +46,7 @@ impl PacketEdit {
     /// ```
     ///
     /// </details>
+    #[must_use]
     #[inline]
     pub fn growth(self) -> u32 {
         match self {
@@ -55,7 +57,8 @@ impl PacketEdit {
 }
 
 /// A packet after an edit.
-#[derive(Clone, Copy, PartialEq, Eq, Debug)]
+#[cfg_attr(feature = "serde", derive(serde::Serialize, serde::Deserialize))]
+#[derive(Clone, Copy, PartialEq, Eq, Hash, Debug)]
 pub struct EditedPacket {
     /// The index in the buffer at which its captured bytes begin.
     pub start: usize,
@@ -66,7 +69,7 @@ pub struct EditedPacket {
 }
 
 /// The buffer is too short for the packet that is to be edited.
-#[derive(Clone, Copy, PartialEq, Eq, Debug)]
+#[derive(Clone, Copy, PartialEq, Eq, Hash, Debug)]
 pub struct NoRoom;
 
 impl fmt::Display for NoRoom {
@@ -91,14 +94,9 @@ const FREE: usize = 4;
 /// The buffer does not have four bytes more than were captured of the packet.
 ///
 /// ```
-/// # use etherpeel::*;
-/// # use etherpeel::ether_peel::*;
-/// # use etherpeel::ether_fields::*;
-/// # use etherpeel::ether_sll2::*;
-/// # use etherpeel::ether_packet::*;
-/// # use etherpeel::ether_filter::*;
-/// # use etherpeel::ether_pcap::*;
-/// # use etherpeel::ether_content::*;
+/// use etherpeel::ether_pcap::{CapturedPacket, LinkType};
+/// use etherpeel::ether_content::{EditedPacket, PacketEdit, edit_packet};
+///
 /// # fn main() -> Result<(), Box<dyn std::error::Error>> {
 /// let packet = CapturedPacket {
 ///     time: None,

@@ -13,14 +13,9 @@ use crate::ether_sll2::{LinuxSll2Header, LinuxSll2Slice};
 /// A header that is refused is not counted, and a packet whose link type the walk does not know has no headers.
 ///
 /// ```
-/// # use etherpeel::*;
-/// # use etherpeel::ether_peel::*;
-/// # use etherpeel::ether_fields::*;
-/// # use etherpeel::ether_sll2::*;
-/// # use etherpeel::ether_packet::*;
-/// # use etherpeel::ether_filter::*;
-/// # use etherpeel::ether_pcap::*;
-/// # use etherpeel::ether_content::*;
+/// use etherpeel::ether_pcap::{CapturedPacket, LinkType};
+/// use etherpeel::ether_content::headers_len;
+///
 /// let packet = CapturedPacket {
 ///     time: None,
 ///     interface: None,
@@ -44,6 +39,7 @@ use crate::ether_sll2::{LinuxSll2Header, LinuxSll2Slice};
 /// ```
 ///
 /// </details>
+#[must_use]
 #[inline]
 pub fn headers_len(packet: &CapturedPacket<'_>) -> usize {
     match Content::of(packet) {

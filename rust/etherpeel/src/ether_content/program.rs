@@ -18,6 +18,7 @@ use crate::ether_sll2::LinuxSll2Header;
 /// ```
 ///
 /// </details>
+#[must_use]
 #[inline]
 pub fn selects(instructions: &[Instruction], packet: &CapturedPacket<'_>) -> bool {
     match Content::of(packet).frame() {
@@ -58,6 +59,7 @@ fn holds(
 /// ```
 ///
 /// </details>
+#[must_use]
 #[inline(always)]
 pub fn is_undecided(instructions: &[Instruction], packet: &CapturedPacket<'_>) -> bool {
     is_cut(packet) && leaves_open(instructions, packet)

@@ -10,14 +10,10 @@ use crate::ether_pcap::CapturedPacket;
 /// payload has no ether type.
 ///
 /// ```
-/// # use etherpeel::*;
-/// # use etherpeel::ether_peel::*;
-/// # use etherpeel::ether_fields::*;
-/// # use etherpeel::ether_sll2::*;
-/// # use etherpeel::ether_packet::*;
-/// # use etherpeel::ether_filter::*;
-/// # use etherpeel::ether_pcap::*;
-/// # use etherpeel::ether_content::*;
+/// use etherpeel::ether_filter::Filter;
+/// use etherpeel::ether_pcap::{CapturedPacket, LinkType};
+/// use etherpeel::ether_content::selects;
+///
 /// # fn main() -> Result<(), Box<dyn std::error::Error>> {
 /// let packet = CapturedPacket {
 ///     time: None,
@@ -44,6 +40,7 @@ use crate::ether_pcap::CapturedPacket;
 /// ```
 ///
 /// </details>
+#[must_use]
 #[inline]
 pub fn selects(filter: &Filter, packet: &CapturedPacket<'_>) -> bool {
     program::selects(filter.instructions(), packet)
@@ -56,14 +53,10 @@ pub fn selects(filter: &Filter, packet: &CapturedPacket<'_>) -> bool {
 /// count as bytes that may belong to headers.
 ///
 /// ```
-/// # use etherpeel::*;
-/// # use etherpeel::ether_peel::*;
-/// # use etherpeel::ether_fields::*;
-/// # use etherpeel::ether_sll2::*;
-/// # use etherpeel::ether_packet::*;
-/// # use etherpeel::ether_filter::*;
-/// # use etherpeel::ether_pcap::*;
-/// # use etherpeel::ether_content::*;
+/// use etherpeel::ether_filter::Filter;
+/// use etherpeel::ether_pcap::{CapturedPacket, LinkType};
+/// use etherpeel::ether_content::is_undecided;
+///
 /// # fn main() -> Result<(), Box<dyn std::error::Error>> {
 /// let packet = CapturedPacket {
 ///     time: None,
@@ -90,6 +83,7 @@ pub fn selects(filter: &Filter, packet: &CapturedPacket<'_>) -> bool {
 /// ```
 ///
 /// </details>
+#[must_use]
 #[inline(always)]
 pub fn is_undecided(filter: &Filter, packet: &CapturedPacket<'_>) -> bool {
     program::is_undecided(filter.instructions(), packet)

@@ -1,7 +1,7 @@
 //! How many bits of a header a field has.
 
 /// How many bits of its header a field has.
-#[derive(Clone, Copy, PartialEq, Eq, Debug)]
+#[derive(Clone, Copy, PartialEq, Eq, Hash, Debug)]
 pub enum Extent {
     /// None: its value is computed from others, or from where the header is.
     Computed,

@@ -5,7 +5,7 @@ use crate::ether_fields::kind::Kind;
 use crate::ether_fields::section::Section;
 
 /// A field of a header, or a member that a packet tells otherwise.
-#[derive(Clone, Copy, Debug)]
+#[derive(Clone, Copy, PartialEq, Eq, Hash, Debug)]
 pub struct Field {
     /// Its name in its section, as `vid`.
     pub name: &'static str,
@@ -49,9 +49,8 @@ impl Field {
     /// it.
     ///
     /// ```
-    /// # use etherpeel::*;
-    /// # use etherpeel::ether_peel::*;
-    /// # use etherpeel::ether_fields::*;
+    /// use etherpeel::ether_fields::{Field, Section};
+    ///
     /// let found = Field::of_number(11);
     /// assert_eq!(found.map(|(section, _)| section), Some(Section::Vlan));
     /// assert_eq!(found.map(|(_, field)| field.column), Some("vlan.vid"));
@@ -66,6 +65,7 @@ impl Field {
     /// ```
     ///
     /// </details>
+    #[must_use]
     #[inline]
     pub fn of_number(number: u32) -> Option<(Section, &'static Field)> {
         if number == 0 {

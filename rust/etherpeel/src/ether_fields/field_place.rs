@@ -6,7 +6,7 @@ use crate::ether_fields::section::Section;
 use arrayvec::ArrayVec;
 
 /// The number and the place of a field in its part of a unit.
-#[derive(Clone, Copy, PartialEq, Eq, Debug, Default)]
+#[derive(Clone, Copy, PartialEq, Eq, Hash, Debug, Default)]
 pub struct FieldPlace {
     /// Its number in `enum etherpeel_field_name` of C.
     pub number: u32,
@@ -32,6 +32,7 @@ const PLACE_LEN: usize = 5;
 /// ```
 ///
 /// </details>
+#[must_use]
 #[inline]
 pub fn places(section: Section, part: &Part) -> ArrayVec<FieldPlace, ROOM> {
     let mut places = ArrayVec::new();

@@ -1,7 +1,7 @@
 //! What the value of a field is.
 
 /// What the value of a field is.
-#[derive(Clone, Copy, PartialEq, Eq, Debug)]
+#[derive(Clone, Copy, PartialEq, Eq, Hash, Debug)]
 pub enum Kind {
     /// A number.
     Number,

@@ -2,7 +2,7 @@
 
 /// Names ether types.
 #[inline]
-pub(crate) fn ether_type_name(number: u64) -> Option<&'static str> {
+pub(in crate::ether_fields) fn ether_type_name(number: u64) -> Option<&'static str> {
     match number {
         0x0800 => Some("IPv4"),
         0x0806 => Some("ARP"),
@@ -30,7 +30,7 @@ pub(crate) fn ether_type_name(number: u64) -> Option<&'static str> {
 
 /// Names hardware types.
 #[inline]
-pub(crate) fn hardware_type_name(number: u64) -> Option<&'static str> {
+pub(in crate::ether_fields) fn hardware_type_name(number: u64) -> Option<&'static str> {
     match number {
         1 => Some("Ethernet"),
         512 => Some("PPP"),
@@ -47,7 +47,7 @@ pub(crate) fn hardware_type_name(number: u64) -> Option<&'static str> {
 
 /// Names packet types of cooked captures.
 #[inline]
-pub(crate) fn packet_type_name(number: u64) -> Option<&'static str> {
+pub(in crate::ether_fields) fn packet_type_name(number: u64) -> Option<&'static str> {
     match number {
         0 => Some("to us"),
         1 => Some("broadcast"),
@@ -60,7 +60,7 @@ pub(crate) fn packet_type_name(number: u64) -> Option<&'static str> {
 
 /// Names operations of ARP.
 #[inline]
-pub(crate) fn operation_name(number: u64) -> Option<&'static str> {
+pub(in crate::ether_fields) fn operation_name(number: u64) -> Option<&'static str> {
     match number {
         1 => Some("request"),
         2 => Some("reply"),
@@ -70,7 +70,7 @@ pub(crate) fn operation_name(number: u64) -> Option<&'static str> {
 
 /// Names link types of captures.
 #[inline]
-pub(crate) fn link_type_name(number: u64) -> Option<&'static str> {
+pub(in crate::ether_fields) fn link_type_name(number: u64) -> Option<&'static str> {
     match number {
         1 => Some("Ethernet"),
         113 => Some("Linux cooked capture v1"),

@@ -8,9 +8,8 @@ use crate::ether_fields::names::{
 /// The name of a number of this kind. Returns `None` if it has none here.
 ///
 /// ```
-/// # use etherpeel::*;
-/// # use etherpeel::ether_peel::*;
-/// # use etherpeel::ether_fields::*;
+/// use etherpeel::ether_fields::{Kind, name_of};
+///
 /// assert_eq!(name_of(Kind::EtherType, 0x0800), Some("IPv4"));
 /// assert_eq!(name_of(Kind::EtherType, 0xFFFF), None);
 /// ```
@@ -22,6 +21,7 @@ use crate::ether_fields::names::{
 /// ```
 ///
 /// </details>
+#[must_use]
 #[inline(always)]
 pub fn name_of(kind: Kind, number: u64) -> Option<&'static str> {
     match kind {

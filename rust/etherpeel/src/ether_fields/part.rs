@@ -1,7 +1,7 @@
 //! The parts of a unit that have fields.
 
 /// A part of a unit that has fields: the header, or what follows its payload.
-#[derive(Clone, Copy, PartialEq, Eq, Debug)]
+#[derive(Clone, Copy, PartialEq, Eq, Hash, Debug)]
 pub enum Part {
     /// A header, with these numbers of bits.
     Header(Sizes),
@@ -10,7 +10,7 @@ pub enum Part {
 }
 
 /// How many bits a header has in the fields that have not the same number of bits in each header.
-#[derive(Clone, Copy, PartialEq, Eq, Debug)]
+#[derive(Clone, Copy, PartialEq, Eq, Hash, Debug)]
 pub struct Sizes {
     /// The bits of a hardware address of ARP.
     pub hardware: u16,

@@ -4,7 +4,7 @@ use crate::ether_fields::field::Field;
 use crate::ether_fields::rows;
 
 /// A group of fields: those of the packet itself, of one kind of header, of all headers, or of how the walk ends.
-#[derive(Clone, Copy, PartialEq, Eq, Debug)]
+#[derive(Clone, Copy, PartialEq, Eq, Hash, Debug)]
 pub enum Section {
     /// The packet itself.
     Frame,
@@ -38,6 +38,7 @@ impl Section {
     /// ```
     ///
     /// </details>
+    #[must_use]
     #[inline]
     pub fn name(self) -> &'static str {
         match self {
@@ -64,6 +65,7 @@ impl Section {
     /// ```
     ///
     /// </details>
+    #[must_use]
     #[inline]
     pub fn of_name(name: &[u8]) -> Option<Section> {
         match name {
@@ -92,6 +94,7 @@ impl Section {
     /// ```
     ///
     /// </details>
+    #[must_use]
     #[inline(always)]
     pub fn fields(self) -> &'static [Field] {
         match self {

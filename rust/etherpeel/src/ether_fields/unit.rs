@@ -14,6 +14,7 @@ use crate::MacsecPType;
 /// ```
 ///
 /// </details>
+#[must_use]
 #[inline(always)]
 pub fn section_of(unit: &PeelUnit<'_>) -> Section {
     match unit {
@@ -34,6 +35,7 @@ pub fn section_of(unit: &PeelUnit<'_>) -> Section {
 /// ```
 ///
 /// </details>
+#[must_use]
 #[inline]
 pub fn sizes_of(unit: &PeelUnit<'_>) -> Sizes {
     match unit {

@@ -6,7 +6,7 @@ use crate::ether_filter::token::Token;
 
 /// A primitive whose last word is a number.
 #[derive(Clone, Copy)]
-pub(crate) enum Numbered {
+pub(in crate::ether_filter) enum Numbered {
     VlanId,
     OuterVlan,
     InnerVlan,
@@ -17,7 +17,7 @@ pub(crate) enum Numbered {
 
 /// A primitive whose last word is an address.
 #[derive(Clone, Copy)]
-pub(crate) enum Addressed {
+pub(in crate::ether_filter) enum Addressed {
     Source,
     Destination,
     Host,
@@ -25,7 +25,7 @@ pub(crate) enum Addressed {
 
 /// What may follow at a place of an expression.
 #[derive(Clone, Copy)]
-pub(crate) enum Awaited {
+pub(in crate::ether_filter) enum Awaited {
     Operand,
     Operator,
     /// The identifier after `vlan`, or what may follow an operand.
@@ -39,7 +39,7 @@ pub(crate) enum Awaited {
 
 /// What a word does to a primitive that is partly read.
 #[derive(Clone, Copy)]
-pub(crate) enum Step {
+pub(in crate::ether_filter) enum Step {
     /// It completes the primitive.
     Done(Primitive),
     /// The primitive goes on, and awaits this.
@@ -50,7 +50,7 @@ pub(crate) enum Step {
 
 /// What a word does as the first word of a primitive.
 #[inline]
-pub(crate) fn first_step(token: Token) -> Step {
+pub(in crate::ether_filter) fn first_step(token: Token) -> Step {
     match token {
         Token::Vlan => Step::More(Awaited::VlanId),
         Token::Outer => Step::More(Awaited::Vlan(Numbered::OuterVlan)),
@@ -70,7 +70,7 @@ pub(crate) fn first_step(token: Token) -> Step {
 
 /// What a word does to a primitive that awaits this.
 #[inline]
-pub(crate) fn next_step(awaited: Awaited, token: Token) -> Step {
+pub(in crate::ether_filter) fn next_step(awaited: Awaited, token: Token) -> Step {
     match (awaited, token) {
         (Awaited::Vlan(numbered), Token::Vlan) => Step::More(Awaited::Number(numbered)),
         (Awaited::Number(numbered), Token::Number(Some(number))) => with_number(numbered, number),
@@ -125,7 +125,7 @@ fn with_address(addressed: Addressed, address: u64) -> Primitive {
 
 /// The error for a word that does not fit where this is awaited.
 #[inline]
-pub(crate) fn kind_of(awaited: Awaited) -> FilterErrorKind {
+pub(in crate::ether_filter) fn kind_of(awaited: Awaited) -> FilterErrorKind {
     match awaited {
         Awaited::Operand => FilterErrorKind::ExpectedOperand,
         Awaited::Operator => FilterErrorKind::ExpectedOperator,

@@ -10,7 +10,7 @@ use crate::err::Layer;
 
 /// A length of the frame with which a packet might have further headers.
 #[derive(Clone, Copy)]
-pub(crate) struct Opening {
+pub(in crate::ether_filter) struct Opening {
     pub needed: usize,
     /// The layer of the unit that is refused for want of bytes. `None` if the frame ends in a frame check sequence,
     /// whose place is known only in the whole frame.
@@ -19,7 +19,7 @@ pub(crate) struct Opening {
 
 /// The length with which a packet might have further headers; `None` if its headers are known.
 #[inline]
-pub(crate) fn find_opening(packet: &Packet<'_>) -> Option<Opening> {
+pub(in crate::ether_filter) fn find_opening(packet: &Packet<'_>) -> Option<Opening> {
     let len = frame_len(packet.frame);
     let lost = lost(packet);
     if lost == 0 {
@@ -73,7 +73,7 @@ fn lost(packet: &Packet<'_>) -> usize {
 
 /// Whether a primitive matches a packet, if that is known.
 #[inline]
-pub(crate) fn known(
+pub(in crate::ether_filter) fn known(
     primitive: Primitive,
     packet: &Packet<'_>,
     seen: &Seen,
@@ -151,7 +151,7 @@ fn is_told(
 
 /// The value of two joined operands, in Kleene's logic; `None` is unknown.
 #[inline]
-pub(crate) fn joined_value(
+pub(in crate::ether_filter) fn joined_value(
     operator: Operator,
     left: Option<bool>,
     right: Option<bool>,

@@ -1,7 +1,8 @@
 //! Whether a packet matches, as far as its captured bytes tell.
 
 /// Whether a packet matches, as far as its captured bytes tell.
-#[derive(Clone, Copy, PartialEq, Eq, Debug)]
+#[cfg_attr(feature = "serde", derive(serde::Serialize, serde::Deserialize))]
+#[derive(Clone, Copy, PartialEq, Eq, Hash, Debug)]
 pub enum Decision {
     /// It matches, whatever the missing bytes are.
     Matches,

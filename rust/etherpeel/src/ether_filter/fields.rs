@@ -10,7 +10,7 @@ const BROADCAST: u64 = 0xFFFF_FFFF_FFFF;
 
 /// The fields of a header that primitives ask about.
 #[derive(Clone, Copy)]
-pub(crate) enum Fields {
+pub(in crate::ether_filter) enum Fields {
     /// The two addresses of an Ethernet II header.
     Link {
         destination: [u8; 6],
@@ -25,7 +25,7 @@ pub(crate) enum Fields {
 
 /// The fields of a unit's header.
 #[inline]
-pub(crate) fn read_fields(unit: &PeelUnit<'_>) -> Fields {
+pub(in crate::ether_filter) fn read_fields(unit: &PeelUnit<'_>) -> Fields {
     match unit {
         PeelUnit::Ethernet2(link) => Fields::Link {
             destination: link.destination(),
@@ -40,14 +40,14 @@ pub(crate) fn read_fields(unit: &PeelUnit<'_>) -> Fields {
 
 /// An address as one number, its first byte the most significant one.
 #[inline]
-pub(crate) fn address(bytes: [u8; 6]) -> u64 {
+pub(in crate::ether_filter) fn address(bytes: [u8; 6]) -> u64 {
     let [a, b, c, d, e, f] = bytes;
     u64_of([0, 0, a, b, c, d, e, f])
 }
 
 /// The ether type that announces the rest, if one does.
 #[inline]
-pub(crate) fn announced_type(kind: RestKind) -> Option<u16> {
+pub(in crate::ether_filter) fn announced_type(kind: RestKind) -> Option<u16> {
     match kind {
         RestKind::EtherType(EtherType(number)) => Some(number),
         _ => None,
@@ -56,7 +56,7 @@ pub(crate) fn announced_type(kind: RestKind) -> Option<u16> {
 
 /// Whether a link with these addresses makes a primitive match.
 #[inline]
-pub(crate) fn is_shown_by_link(primitive: Primitive, destination: u64, source: u64) -> bool {
+pub(in crate::ether_filter) fn is_shown_by_link(primitive: Primitive, destination: u64, source: u64) -> bool {
     match primitive {
         Primitive::Source(address) => address == source,
         Primitive::Destination(address) => address == destination,

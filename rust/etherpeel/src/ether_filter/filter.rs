@@ -12,7 +12,7 @@ use crate::ether_filter::token::token_of;
 use arrayvec::ArrayVec;
 
 /// The maximum number of words in an expression.
-pub(crate) const MAX_WORDS: usize = 192;
+pub(in crate::ether_filter) const MAX_WORDS: usize = 192;
 
 /// A filter of packets: an expression in words of pcap-filter(7).
 ///
@@ -46,12 +46,9 @@ pub(crate) const MAX_WORDS: usize = 192;
 /// No call allocates memory.
 ///
 /// ```
-/// # use etherpeel::*;
-/// # use etherpeel::ether_peel::*;
-/// # use etherpeel::ether_fields::*;
-/// # use etherpeel::ether_sll2::*;
-/// # use etherpeel::ether_packet::*;
-/// # use etherpeel::ether_filter::*;
+/// use etherpeel::ether_peel::Start;
+/// use etherpeel::ether_filter::{Filter, Packet};
+///
 /// let tagged_arp = [
 ///     0xFF, 0xFF, 0xFF, 0xFF, 0xFF, 0xFF, 0x02, 0x00, 0x00, 0x00, 0x00, 0x01, 0x81, 0x00, // Ethernet II
 ///     0x00, 0x05, 0x08, 0x06, // VLAN
@@ -70,7 +67,7 @@ pub(crate) const MAX_WORDS: usize = 192;
 ///     assert_eq!(matches, Ok(wanted));
 /// }
 /// ```
-#[derive(Debug)]
+#[derive(Clone, PartialEq, Eq, Hash, Debug)]
 pub struct Filter {
     /// The instructions of the expression's nodes: each operator's follows those of its operands.
     instructions: ArrayVec<Instruction, MAX_WORDS>,
@@ -116,6 +113,7 @@ impl Filter {
     /// ```
     ///
     /// </details>
+    #[must_use]
     #[inline]
     pub fn instructions(&self) -> &[Instruction] {
         self.instructions.as_slice()
@@ -132,6 +130,7 @@ impl Filter {
     /// ```
     ///
     /// </details>
+    #[must_use]
     #[inline]
     pub fn matches(&self, packet: &Packet<'_>) -> bool {
         filter_program::matches(self.instructions.as_slice(), packet)
@@ -151,12 +150,9 @@ impl Filter {
     /// the place of the sequence is not known before.
     ///
     /// ```
-    /// # use etherpeel::*;
-    /// # use etherpeel::ether_peel::*;
-    /// # use etherpeel::ether_fields::*;
-    /// # use etherpeel::ether_sll2::*;
-    /// # use etherpeel::ether_packet::*;
-    /// # use etherpeel::ether_filter::*;
+    /// use etherpeel::ether_peel::Start;
+    /// use etherpeel::ether_filter::{Decision, Filter, Packet};
+    ///
     /// let cut_in_tag = [
     ///     0xFF, 0xFF, 0xFF, 0xFF, 0xFF, 0xFF, 0x02, 0x00, 0x00, 0x00, 0x00, 0x01, 0x81, 0x00, // Ethernet II
     ///     0x00, 0x05, // the first bytes of a VLAN tag
@@ -190,6 +186,7 @@ impl Filter {
     /// ```
     ///
     /// </details>
+    #[must_use]
     #[inline]
     pub fn decide(&self, packet: &Packet<'_>) -> Decision {
         filter_program::decide(self.instructions.as_slice(), packet)

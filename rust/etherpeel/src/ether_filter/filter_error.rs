@@ -6,12 +6,8 @@ use core::fmt;
 /// Why a text is not an expression, and where.
 ///
 /// ```
-/// # use etherpeel::*;
-/// # use etherpeel::ether_peel::*;
-/// # use etherpeel::ether_fields::*;
-/// # use etherpeel::ether_sll2::*;
-/// # use etherpeel::ether_packet::*;
-/// # use etherpeel::ether_filter::*;
+/// use etherpeel::ether_filter::{Filter, FilterErrorKind};
+///
 /// # fn main() -> Result<(), Box<dyn std::error::Error>> {
 /// let Err(error) = Filter::parse(b"vlan 4096") else {
 ///     return Ok(());
@@ -25,7 +21,7 @@ use core::fmt;
 /// # Ok(())
 /// # }
 /// ```
-#[derive(Clone, Copy, PartialEq, Eq, Debug)]
+#[derive(Clone, Copy, PartialEq, Eq, Hash, Debug)]
 pub struct FilterError {
     /// The offset in bytes of the first word that does not fit. It is the length of the text if words are missing at
     /// the end.
@@ -35,7 +31,7 @@ pub struct FilterError {
 }
 
 /// What is expected at a place of an expression, or why a word does not fit there.
-#[derive(Clone, Copy, PartialEq, Eq, Debug)]
+#[derive(Clone, Copy, PartialEq, Eq, Hash, Debug)]
 pub enum FilterErrorKind {
     /// A primitive, `not` or `(` is expected.
     ExpectedOperand,

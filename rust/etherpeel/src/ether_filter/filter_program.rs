@@ -18,13 +18,9 @@ use arrayvec::ArrayVec;
 /// If the instructions are not those of a filter, nothing is claimed of the result.
 ///
 /// ```
-/// # use etherpeel::*;
-/// # use etherpeel::ether_peel::*;
-/// # use etherpeel::ether_fields::*;
-/// # use etherpeel::ether_sll2::*;
-/// # use etherpeel::ether_packet::*;
-/// # use etherpeel::ether_filter::*;
-/// # use etherpeel::ether_filter::filter_program::*;
+/// use etherpeel::ether_peel::Start;
+/// use etherpeel::ether_filter::{Filter, Packet, filter_program};
+///
 /// # fn main() -> Result<(), Box<dyn std::error::Error>> {
 /// let frame = [
 ///     0xFF, 0xFF, 0xFF, 0xFF, 0xFF, 0xFF, 0x02, 0x00, 0x00, 0x00, 0x00, 0x01, 0x81, 0x00, // Ethernet II
@@ -51,6 +47,7 @@ use arrayvec::ArrayVec;
 /// ```
 ///
 /// </details>
+#[must_use]
 #[inline]
 pub fn matches(instructions: &[Instruction], packet: &Packet<'_>) -> bool {
     if let Some(matches) = matches_by_lengths(instructions, packet) {
@@ -195,6 +192,7 @@ fn past_others(instructions: &[Instruction], begin: usize, id: u16) -> usize {
 /// ```
 ///
 /// </details>
+#[must_use]
 #[inline]
 pub fn decide(instructions: &[Instruction], packet: &Packet<'_>) -> Decision {
     let mut ids = [];
@@ -240,7 +238,7 @@ fn decide_seen(
 
 /// The instructions of an expression's nodes.
 #[inline]
-pub(crate) fn instructions_of(nodes: &[Node]) -> ArrayVec<Instruction, MAX_WORDS> {
+pub(in crate::ether_filter) fn instructions_of(nodes: &[Node]) -> ArrayVec<Instruction, MAX_WORDS> {
     let jumps = jumps_of(nodes);
     let past_tags = past_tags(nodes, &jumps);
     let mut instructions = ArrayVec::new();

@@ -11,21 +11,21 @@ use crate::ether_filter::primitive::Primitive;
 /// [`filter_program`](crate::ether_filter::filter_program) runs them on packets. Each bit pattern is a value. What the numbers mean
 /// may change with the version.
 #[repr(C)]
-#[derive(Clone, Copy, Debug, Default)]
+#[derive(Clone, Copy, PartialEq, Eq, Hash, Debug, Default)]
 pub struct Instruction {
     /// The number or the address in a primitive.
     operand: u64,
     /// The number of the node's kind.
     kind: u32,
-    pub(crate) jump: Jump,
+    pub(in crate::ether_filter) jump: Jump,
     /// The index at which the evaluation goes on if the packet has no VLAN tags.
-    pub(crate) past_tags: u8,
+    pub(in crate::ether_filter) past_tags: u8,
 }
 
 impl Instruction {
     /// The instruction of a node.
     #[inline]
-    pub(crate) fn of(node: Node, jump: Jump, past_tags: u8) -> Instruction {
+    pub(in crate::ether_filter) fn of(node: Node, jump: Jump, past_tags: u8) -> Instruction {
         let (kind, operand) = match node {
             Node::Test(primitive) => numbers_of(primitive),
             Node::Not => (15, 0),
@@ -42,7 +42,7 @@ impl Instruction {
 
     /// The primitive that the instruction tests; `None` for an operator.
     #[inline(always)]
-    pub(crate) fn primitive(&self) -> Option<Primitive> {
+    pub(in crate::ether_filter) fn primitive(&self) -> Option<Primitive> {
         let operand = self.operand;
         Some(match self.kind {
             0 => Primitive::Vlan,
@@ -66,7 +66,7 @@ impl Instruction {
 
     /// Whether it tests for VLAN tags.
     #[inline(always)]
-    pub(crate) fn asks_tags(&self) -> bool {
+    pub(in crate::ether_filter) fn asks_tags(&self) -> bool {
         match self.primitive() {
             Some(primitive) => is_of_tags(&primitive),
             None => false,
@@ -75,7 +75,7 @@ impl Instruction {
 
     /// Whether it tests for a VLAN tag with another identifier than this.
     #[inline(always)]
-    pub(crate) fn asks_other_id(&self, id: u16) -> bool {
+    pub(in crate::ether_filter) fn asks_other_id(&self, id: u16) -> bool {
         match self.primitive() {
             Some(Primitive::VlanId(wanted)) => wanted != id,
             _ => false,
@@ -91,6 +91,7 @@ impl Instruction {
     /// ```
     ///
     /// </details>
+    #[must_use]
     #[inline]
     pub fn node(&self) -> Option<Node> {
         match self.primitive() {

@@ -5,14 +5,14 @@ use crate::ether_filter::node::{Node, Operator};
 use crate::ether_filter::primitive::Primitive;
 
 /// The end of an evaluation: the expression holds.
-pub(crate) const HOLDS: u8 = 255;
+pub(in crate::ether_filter) const HOLDS: u8 = 255;
 
 /// The end of an evaluation: the expression does not hold.
 const FAILS: u8 = 254;
 
 /// Where the evaluation goes on after a primitive: the index of a node, or an end.
 #[repr(C)]
-#[derive(Clone, Copy, Debug, Default)]
+#[derive(Clone, Copy, PartialEq, Eq, Hash, Debug, Default)]
 pub struct Jump {
     if_true: u8,
     if_false: u8,
@@ -21,14 +21,14 @@ pub struct Jump {
 impl Jump {
     /// Where it goes on if the primitive matches, or if it does not.
     #[inline]
-    pub(crate) fn after(self, matches: bool) -> usize {
+    pub(in crate::ether_filter) fn after(self, matches: bool) -> usize {
         usize::from(if matches { self.if_true } else { self.if_false })
     }
 }
 
 /// The jumps after the primitives of an expression, each at the index of its node.
 #[inline]
-pub(crate) fn jumps_of(nodes: &[Node]) -> [Jump; MAX_WORDS] {
+pub(in crate::ether_filter) fn jumps_of(nodes: &[Node]) -> [Jump; MAX_WORDS] {
     let jump = Jump {
         if_true: HOLDS,
         if_false: FAILS,
@@ -41,7 +41,7 @@ pub(crate) fn jumps_of(nodes: &[Node]) -> [Jump; MAX_WORDS] {
 /// Where the evaluation of a packet without VLAN tags goes on after each primitive that asks for VLAN tags: past all
 /// those that directly follow it.
 #[inline]
-pub(crate) fn past_tags(nodes: &[Node], jumps: &[Jump; MAX_WORDS]) -> [u8; MAX_WORDS] {
+pub(in crate::ether_filter) fn past_tags(nodes: &[Node], jumps: &[Jump; MAX_WORDS]) -> [u8; MAX_WORDS] {
     let mut past = [0; MAX_WORDS];
     let mut at = nodes.len();
     while at > 0 {
@@ -72,7 +72,7 @@ fn asks_tags(node: Node) -> bool {
 
 /// Whether a primitive asks for VLAN tags.
 #[inline]
-pub(crate) fn is_of_tags(primitive: &Primitive) -> bool {
+pub(in crate::ether_filter) fn is_of_tags(primitive: &Primitive) -> bool {
     matches!(
         primitive,
         Primitive::Vlan | Primitive::VlanId(_) | Primitive::OuterVlan(_) | Primitive::InnerVlan(_)

@@ -6,7 +6,7 @@ use crate::ether_filter::seen::{Seen, is_seen};
 
 /// Whether a primitive matches a packet in which this was seen.
 #[inline(always)]
-pub(crate) fn matches_primitive(
+pub(in crate::ether_filter) fn matches_primitive(
     primitive: &Primitive,
     packet: &Packet<'_>,
     seen: &Seen,
@@ -21,7 +21,7 @@ pub(crate) fn matches_primitive(
 
 /// Whether a primitive asks about the two lengths of a packet.
 #[inline(always)]
-pub(crate) fn is_of_lengths(primitive: Primitive) -> bool {
+pub(in crate::ether_filter) fn is_of_lengths(primitive: Primitive) -> bool {
     matches!(
         primitive,
         Primitive::Cut | Primitive::Less(_) | Primitive::Greater(_)
@@ -30,7 +30,7 @@ pub(crate) fn is_of_lengths(primitive: Primitive) -> bool {
 
 /// Whether a primitive that asks about the two lengths of a packet matches.
 #[inline(always)]
-pub(crate) fn matches_lengths(primitive: &Primitive, packet: &Packet<'_>) -> bool {
+pub(in crate::ether_filter) fn matches_lengths(primitive: &Primitive, packet: &Packet<'_>) -> bool {
     match *primitive {
         Primitive::Cut => packet.captured_len < packet.original_len as usize,
         Primitive::Less(len) => packet.original_len <= len,

@@ -2,7 +2,7 @@
 use crate::ether_filter::primitive::Primitive;
 
 /// An operator between two operands.
-#[derive(Clone, Copy, Debug)]
+#[derive(Clone, Copy, PartialEq, Eq, Hash, Debug)]
 pub enum Operator {
     /// `and`
     And,
@@ -11,7 +11,7 @@ pub enum Operator {
 }
 
 /// A node of an expression in postfix order: each operator follows its operands.
-#[derive(Clone, Copy, Debug)]
+#[derive(Clone, Copy, PartialEq, Eq, Hash, Debug)]
 pub enum Node {
     /// A primitive.
     Test(Primitive),

@@ -7,12 +7,8 @@ const CAP: u64 = 1 << 48;
 /// is not a number, and `Some(None)` if the number does not fit in 32 bits.
 ///
 /// ```
-/// # use etherpeel::*;
-/// # use etherpeel::ether_peel::*;
-/// # use etherpeel::ether_fields::*;
-/// # use etherpeel::ether_sll2::*;
-/// # use etherpeel::ether_packet::*;
-/// # use etherpeel::ether_filter::*;
+/// use etherpeel::ether_filter::number_of;
+///
 /// assert_eq!(number_of(b"0x88A8"), Some(Some(34984)));
 /// assert_eq!(number_of(b"4294967296"), Some(None));
 /// assert_eq!(number_of(b"07"), None);
@@ -25,6 +21,7 @@ const CAP: u64 = 1 << 48;
 /// ```
 ///
 /// </details>
+#[must_use]
 #[inline]
 pub fn number_of(word: &[u8]) -> Option<Option<u32>> {
     let number = if word.len() > 1 && word[0] == b'0' {
@@ -43,7 +40,7 @@ pub fn number_of(word: &[u8]) -> Option<Option<u32>> {
 
 /// The address in a word, as one number: six pairs of hexadecimal digits, with colons between the pairs or without.
 #[inline]
-pub(crate) fn address_of(word: &[u8]) -> Option<u64> {
+pub(in crate::ether_filter) fn address_of(word: &[u8]) -> Option<u64> {
     if word.len() == 12 {
         return digits_of(word, 16);
     }

@@ -3,7 +3,7 @@
 /// A test of a packet, as the table of [`Filter`](crate::ether_filter::Filter) says.
 ///
 /// An address is one number, its first byte the most significant one.
-#[derive(Clone, Copy, Debug)]
+#[derive(Clone, Copy, PartialEq, Eq, Hash, Debug)]
 pub enum Primitive {
     /// `vlan`
     Vlan,

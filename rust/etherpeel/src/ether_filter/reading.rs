@@ -10,7 +10,7 @@ use arrayvec::ArrayVec;
 
 /// A part of an expression that is not complete yet.
 #[derive(Clone, Copy)]
-pub(crate) enum Pending {
+pub(in crate::ether_filter) enum Pending {
     /// A parenthesis that is not closed.
     Open,
     /// A negation without its operand.
@@ -27,7 +27,7 @@ impl Default for Pending {
 }
 
 /// An expression that is read up to some word.
-pub(crate) struct Reading {
+pub(in crate::ether_filter) struct Reading {
     /// The nodes of its complete parts.
     nodes: ArrayVec<Node, MAX_WORDS>,
     /// The incomplete parts, the innermost last.
@@ -45,6 +45,7 @@ impl Reading {
     /// ```
     ///
     /// </details>
+    #[must_use]
     #[inline]
     pub fn new() -> Reading {
         Reading {
@@ -56,9 +57,11 @@ impl Reading {
 
     /// Consumes the next word.
     ///
-    /// <details><summary>Contract</summary>
+    /// # Panics
     ///
-    /// The caller must meet each `requires`; otherwise the call may panic or return something else.
+    /// The call may panic, or return something else, if a `requires` of its contract is not met.
+    ///
+    /// <details><summary>Contract</summary>
     ///
     /// ```text
     /// requires { size_of (state_of self.old) < MAX_WORDS }
@@ -180,9 +183,11 @@ impl Reading {
 
     /// The nodes of the expression, if it is complete.
     ///
-    /// <details><summary>Contract</summary>
+    /// # Panics
     ///
-    /// The caller must meet each `requires`; otherwise the call may panic or return something else.
+    /// The call may panic, or return something else, if a `requires` of its contract is not met.
+    ///
+    /// <details><summary>Contract</summary>
     ///
     /// ```text
     /// requires { size_of (state_of self) ≤ MAX_WORDS }

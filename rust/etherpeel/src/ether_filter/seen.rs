@@ -8,14 +8,14 @@ use crate::EtherType;
 
 /// The two addresses of a link.
 #[derive(Clone, Copy)]
-pub(crate) struct Addresses {
+pub(in crate::ether_filter) struct Addresses {
     destination: [u8; 6],
     source: [u8; 6],
 }
 
 /// What the headers of a packet show, except for the identifiers of three VLAN tags or more.
 #[derive(Clone, Copy)]
-pub(crate) struct Seen {
+pub(in crate::ether_filter) struct Seen {
     is_refused: bool,
     has_sec_tag: bool,
     has_arp: bool,
@@ -35,7 +35,7 @@ pub(crate) struct Seen {
 impl Seen {
     /// What is known before the walk.
     #[inline(always)]
-    pub(crate) fn new() -> Seen {
+    pub(in crate::ether_filter) fn new() -> Seen {
         Seen {
             is_refused: false,
             has_sec_tag: false,
@@ -57,7 +57,7 @@ impl Seen {
 /// Walks through a packet, and keeps what its headers show, and in `ids` the identifiers of its VLAN tags. If `ids` is
 /// empty, the walk ends at the third tag.
 #[inline(always)]
-pub(crate) fn look(start: Start, frame: &[u8], seen: &mut Seen, ids: &mut [u64]) {
+pub(in crate::ether_filter) fn look(start: Start, frame: &[u8], seen: &mut Seen, ids: &mut [u64]) {
     let mut peel = Peel::new(start, frame);
     loop {
         let announced = announced_type(peel.kind());
@@ -124,7 +124,7 @@ fn take_inner(seen: &mut Seen, id: u16) {
 
 /// Whether a primitive about headers matches a packet in which this was seen.
 #[inline(always)]
-pub(crate) fn is_seen(primitive: &Primitive, seen: &Seen, ids: &[u64]) -> bool {
+pub(in crate::ether_filter) fn is_seen(primitive: &Primitive, seen: &Seen, ids: &[u64]) -> bool {
     match *primitive {
         Primitive::Vlan => seen.outer.is_some(),
         Primitive::VlanId(id) => is_vlan_id(id, seen, ids),
@@ -191,7 +191,7 @@ fn is_announced(number: u16, seen: &Seen) -> bool {
 
 /// What is known of the VLAN tags of a packet.
 #[derive(Clone, Copy)]
-pub(crate) enum Tags {
+pub(in crate::ether_filter) enum Tags {
     /// There is none.
     Untagged,
     /// There is one, with this identifier.
@@ -202,7 +202,7 @@ pub(crate) enum Tags {
 
 /// What is known of the VLAN tags of a packet, by what was seen in it.
 #[inline(always)]
-pub(crate) fn tags_seen(seen: &Seen) -> Tags {
+pub(in crate::ether_filter) fn tags_seen(seen: &Seen) -> Tags {
     match (seen.outer, seen.inner) {
         (None, _) => Tags::Untagged,
         (Some(id), None) => Tags::One(id),

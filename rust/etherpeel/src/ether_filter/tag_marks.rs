@@ -3,11 +3,11 @@
 use crate::EtherType;
 
 /// The number of words that have a bit for each identifier.
-pub(crate) const WORDS: usize = 64;
+pub(in crate::ether_filter) const WORDS: usize = 64;
 
 /// The ether types that announce VLAN tags.
 #[derive(Clone, Copy)]
-pub(crate) struct TagTypes {
+pub(in crate::ether_filter) struct TagTypes {
     /// 0x8100.
     pub customer: bool,
     /// 0x88A8.
@@ -18,7 +18,7 @@ pub(crate) struct TagTypes {
 
 /// Adds an identifier, if there is a word for it.
 #[inline(always)]
-pub(crate) fn mark(words: &mut [u64], id: u16) {
+pub(in crate::ether_filter) fn mark(words: &mut [u64], id: u16) {
     let at = usize::from(id / 64);
     if at < words.len() {
         words[at] |= 1 << (id % 64);
@@ -27,7 +27,7 @@ pub(crate) fn mark(words: &mut [u64], id: u16) {
 
 /// Whether an identifier was added.
 #[inline(always)]
-pub(crate) fn has_id(words: &[u64], id: u16) -> bool {
+pub(in crate::ether_filter) fn has_id(words: &[u64], id: u16) -> bool {
     match words.get(usize::from(id / 64)) {
         Some(word) => *word >> (id % 64) & 1 == 1,
         None => false,
@@ -36,7 +36,7 @@ pub(crate) fn has_id(words: &[u64], id: u16) -> bool {
 
 /// Adds an ether type, if there is one.
 #[inline(always)]
-pub(crate) fn set_type(types: &mut TagTypes, number: Option<u16>) {
+pub(in crate::ether_filter) fn set_type(types: &mut TagTypes, number: Option<u16>) {
     let Some(number) = number else {
         return;
     };
@@ -50,7 +50,7 @@ pub(crate) fn set_type(types: &mut TagTypes, number: Option<u16>) {
 
 /// Whether an ether type is among these.
 #[inline(always)]
-pub(crate) fn has_type(types: TagTypes, number: u16) -> bool {
+pub(in crate::ether_filter) fn has_type(types: TagTypes, number: u16) -> bool {
     match EtherType(number) {
         EtherType::VLAN_TAGGED_FRAME => types.customer,
         EtherType::PROVIDER_BRIDGING => types.service,

@@ -2,7 +2,7 @@
 
 /// The class of a character.
 #[derive(Clone, Copy)]
-pub(crate) enum Class {
+pub(in crate::ether_filter) enum Class {
     /// It separates words.
     Blank,
     /// It is a word of its own.
@@ -15,14 +15,14 @@ pub(crate) enum Class {
 
 /// The offsets in a text at which a word begins and ends.
 #[derive(Clone, Copy)]
-pub(crate) struct Word {
+pub(in crate::ether_filter) struct Word {
     pub start: usize,
     pub end: usize,
 }
 
 /// The first word of a text from the offset `from` on.
 #[inline]
-pub(crate) fn next_word(text: &[u8], from: usize) -> Option<Word> {
+pub(in crate::ether_filter) fn next_word(text: &[u8], from: usize) -> Option<Word> {
     let start = word_start(text, from);
     if start == text.len() {
         return None;

@@ -5,7 +5,7 @@ use crate::ether_filter::numeral::{address_of, number_of};
 
 /// What a word of an expression means.
 #[derive(Clone, Copy)]
-pub(crate) enum Token {
+pub(in crate::ether_filter) enum Token {
     Open,
     Close,
     Not,
@@ -151,7 +151,7 @@ const KEYWORDS: [Keyword; 26] = [
 
 /// What a word means.
 #[inline]
-pub(crate) fn token_of(word: &[u8]) -> Token {
+pub(in crate::ether_filter) fn token_of(word: &[u8]) -> Token {
     if let Some(token) = meaning_in(&KEYWORDS, word) {
         return token;
     }

@@ -21,7 +21,7 @@ use crate::{
 
 /// Writes a header, after a space.
 #[inline(always)]
-pub(crate) fn write_brief_header<W: Sink>(header: &FoundHeader<'_>, out: &mut OutputBuffer<'_, W>) {
+pub(in crate::ether_format) fn write_brief_header<W: Sink>(header: &FoundHeader<'_>, out: &mut OutputBuffer<'_, W>) {
     match header {
         FoundHeader::Walked(unit) => write_unit(unit, out),
         FoundHeader::Cooked(header) => write_cooked(header, out),
@@ -165,7 +165,7 @@ fn write_linux_sll2<W: Sink>(packet: &LinuxSll2Slice<'_>, out: &mut OutputBuffer
 
 /// Writes how the walk through a packet ends, after a space.
 #[inline]
-pub(crate) fn write_brief_end<W: Sink>(end: &End, out: &mut OutputBuffer<'_, W>) {
+pub(in crate::ether_format) fn write_brief_end<W: Sink>(end: &End, out: &mut OutputBuffer<'_, W>) {
     match end {
         End::Rest(start, end, kind) => write_rest(end.saturating_sub(*start), kind, out),
         End::Skipped(len) => write_skipped(*len, out),
@@ -243,7 +243,7 @@ fn write_cause<W: Sink>(cause: &Cause, out: &mut OutputBuffer<'_, W>) {
 
 /// Writes the number and the time of a packet; a hyphen if it has no time.
 #[inline]
-pub(crate) fn write_brief_front<W: Sink>(
+pub(in crate::ether_format) fn write_brief_front<W: Sink>(
     number: usize,
     moment: Option<Moment>,
     out: &mut OutputBuffer<'_, W>,
@@ -285,7 +285,7 @@ fn write_fraction<W: Sink>(nanoseconds: u32, out: &mut OutputBuffer<'_, W>) {
 
 /// Writes how much of a packet was captured, if that is not all, and ends the line.
 #[inline]
-pub(crate) fn write_brief_tail<W: Sink>(packet: &CapturedPacket<'_>, out: &mut OutputBuffer<'_, W>) {
+pub(in crate::ether_format) fn write_brief_tail<W: Sink>(packet: &CapturedPacket<'_>, out: &mut OutputBuffer<'_, W>) {
     if is_cut(packet) {
         write_number(out, b" (", packet.packet.len());
         write_number(out, b" of ", packet.original_len as usize);

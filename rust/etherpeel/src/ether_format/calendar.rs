@@ -16,7 +16,7 @@ const DAYS_OF_4_YEARS: u64 = 1_461;
 
 /// The date and the time of day of a time since 1970.
 #[inline]
-pub(crate) fn moment_of(time: Timestamp) -> Moment {
+pub(in crate::ether_format) fn moment_of(time: Timestamp) -> Moment {
     let (year, month, day) = date_of(DAYS_BEFORE_1970 + time.seconds / 86_400);
     let seconds = time.seconds % 86_400;
     Moment {

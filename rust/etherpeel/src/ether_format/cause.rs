@@ -23,7 +23,7 @@ pub enum Cause {
 impl Cause {
     /// What is wrong with a header of the walk.
     #[inline]
-    pub(crate) fn of(error: &PeelError) -> Cause {
+    pub(in crate::ether_format) fn of(error: &PeelError) -> Cause {
         match error {
             PeelError::Len(error) => {
                 Cause::Length(error.required_len, error.len, error.len_source)
@@ -35,7 +35,7 @@ impl Cause {
 
     /// What is wrong with a header of cooked capture v2.
     #[inline]
-    pub(crate) fn of_v2(error: &LinuxSll2Error) -> Cause {
+    pub(in crate::ether_format) fn of_v2(error: &LinuxSll2Error) -> Cause {
         match error {
             LinuxSll2Error::Len { required_len, len } => {
                 Cause::Length(*required_len, *len, LenSource::Slice)

@@ -7,18 +7,18 @@ use crate::ether_fields::{Field, Section};
 use crate::ether_output::{OutputBuffer, Sink};
 
 /// A column: a field of a section.
-#[derive(Clone, Copy, PartialEq, Eq, Debug)]
+#[derive(Clone, Copy, PartialEq, Eq, Hash, Debug)]
 pub struct Column {
     /// The section.
-    pub(crate) section: Section,
+    pub(in crate::ether_format) section: Section,
     /// The index of the field in its section, counted from 0.
-    pub(crate) index: u8,
+    pub(in crate::ether_format) index: u8,
 }
 
 impl Column {
     /// The column with this name, as `vlan.vid`. Returns `None` if no column has it.
     #[inline]
-    pub(crate) fn of_name(name: &[u8]) -> Option<Column> {
+    pub(in crate::ether_format) fn of_name(name: &[u8]) -> Option<Column> {
         let (section, member) = split_at(b'.', name)?;
         let section = Section::of_name(section)?;
         let index = index_of(section.fields(), member)?;
@@ -30,7 +30,7 @@ impl Column {
 
     /// Writes the name, as `vlan.vid`.
     #[inline]
-    pub(crate) fn write_name<W: Sink>(self, out: &mut OutputBuffer<'_, W>) {
+    pub(in crate::ether_format) fn write_name<W: Sink>(self, out: &mut OutputBuffer<'_, W>) {
         out.append(self.section.name().as_bytes());
         out.append(b".");
         if let Some(field) = self.section.fields().get(usize::from(self.index)) {
@@ -40,7 +40,7 @@ impl Column {
 
     /// Its value in a header.
     #[inline(always)]
-    pub(crate) fn in_found<'a>(self, found: &'a Found<'_>) -> Option<Value<'a>> {
+    pub(in crate::ether_format) fn in_found<'a>(self, found: &'a Found<'_>) -> Option<Value<'a>> {
         let index = usize::from(self.index);
         if self.section == found.section {
             return found.value(index);

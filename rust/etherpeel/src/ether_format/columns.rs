@@ -50,7 +50,7 @@ static COMMON: [Column; 8] = [
 /// between them: `frame.number`, `vlan.vid`. The sections are `frame`, the packet itself; `eth`, `sll`, `sll2`, `vlan`,
 /// `macsec` and `arp`, its headers; `headers`, the name and the place of each header; and how the walk through them
 /// ends, `rest` or `fault`.
-#[derive(Clone, Copy, PartialEq, Eq, Debug)]
+#[derive(Clone, Copy, PartialEq, Eq, Hash, Debug)]
 pub struct Columns {
     first: Column,
     others: [Column; MOST_OTHERS],
@@ -72,6 +72,7 @@ impl Columns {
     /// ```
     ///
     /// </details>
+    #[must_use]
     #[inline]
     pub fn of_names(text: &str) -> Option<Columns> {
         Columns::of_bytes(text.as_bytes())
@@ -79,7 +80,7 @@ impl Columns {
 
     /// .. that the bytes of a text name.
     #[inline]
-    pub(crate) fn of_bytes(text: &[u8]) -> Option<Columns> {
+    pub(in crate::ether_format) fn of_bytes(text: &[u8]) -> Option<Columns> {
         let (word, mut rest) = first_word(text);
         let mut columns = Columns::of_one(Column::of_name(word)?);
         while let Some(text) = rest {
@@ -100,6 +101,7 @@ impl Columns {
     /// ```
     ///
     /// </details>
+    #[must_use]
     #[inline]
     pub fn unknown_name(text: &str) -> Option<&str> {
         let mut rest = text;
@@ -125,6 +127,7 @@ impl Columns {
     /// ```
     ///
     /// </details>
+    #[must_use]
     #[inline]
     pub fn common() -> Columns {
         let mut others = [COMMON[1]; MOST_OTHERS];
@@ -151,6 +154,7 @@ impl Columns {
     /// ```
     ///
     /// </details>
+    #[must_use]
     #[inline]
     pub fn after_original(&self) -> Option<Columns> {
         let mut columns = Columns::of_one(Column {
@@ -187,13 +191,13 @@ impl Columns {
 
     /// The first column.
     #[inline]
-    pub(crate) fn first(&self) -> Column {
+    pub(in crate::ether_format) fn first(&self) -> Column {
         self.first
     }
 
     /// The columns after it.
     #[inline]
-    pub(crate) fn others(&self) -> &[Column] {
+    pub(in crate::ether_format) fn others(&self) -> &[Column] {
         &self.others[..self.count.min(MOST_OTHERS)]
     }
 

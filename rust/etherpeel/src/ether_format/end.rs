@@ -18,13 +18,13 @@ pub enum End {
 impl End {
     /// Whether no header is refused.
     #[inline]
-    pub(crate) fn is_accepted(&self) -> bool {
+    pub(in crate::ether_format) fn is_accepted(&self) -> bool {
         !matches!(self, End::Fault(_, _, _))
     }
 
     /// Its section.
     #[inline(always)]
-    pub(crate) fn section(&self) -> Section {
+    pub(in crate::ether_format) fn section(&self) -> Section {
         match self {
             End::Rest(_, _, _) | End::Skipped(_) => Section::Rest,
             End::Fault(_, _, _) => Section::Fault,

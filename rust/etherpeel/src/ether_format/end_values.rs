@@ -9,7 +9,7 @@ use crate::LinuxSllProtocolType;
 
 /// The value of a field of how a walk ends.
 #[inline(always)]
-pub(crate) fn end_value<'a>(end: &End, index: usize) -> Option<Value<'a>> {
+pub(in crate::ether_format) fn end_value<'a>(end: &End, index: usize) -> Option<Value<'a>> {
     match end {
         End::Rest(start, end, kind) => rest_value(*start, *end, kind, index),
         End::Skipped(len) => skipped_value(*len, index),
@@ -19,7 +19,7 @@ pub(crate) fn end_value<'a>(end: &End, index: usize) -> Option<Value<'a>> {
 
 /// The value of a field of what is left.
 #[inline(always)]
-pub(crate) fn rest_value<'a>(
+pub(in crate::ether_format) fn rest_value<'a>(
     start: usize,
     end: usize,
     kind: &RestKind,
@@ -36,7 +36,7 @@ pub(crate) fn rest_value<'a>(
 
 /// The value of a field of a packet that is skipped.
 #[inline(never)]
-pub(crate) fn skipped_value<'a>(len: usize, index: usize) -> Option<Value<'a>> {
+pub(in crate::ether_format) fn skipped_value<'a>(len: usize, index: usize) -> Option<Value<'a>> {
     match index {
         0 => Some(Value::Number(0)),
         1 => Some(Value::Number(len as u64)),
@@ -48,7 +48,7 @@ pub(crate) fn skipped_value<'a>(len: usize, index: usize) -> Option<Value<'a>> {
 
 /// The word for what a rest is announced as.
 #[inline]
-pub(crate) fn kind_word(kind: &RestKind) -> &'static str {
+pub(in crate::ether_format) fn kind_word(kind: &RestKind) -> &'static str {
     match kind {
         RestKind::Start => "start",
         RestKind::EtherType(_) => "ether_type",
@@ -96,7 +96,7 @@ fn protocol_value<'a>(protocol: &LinuxSllProtocolType) -> Value<'a> {
 
 /// The value of a field of a fault.
 #[inline(never)]
-pub(crate) fn fault_value<'a>(
+pub(in crate::ether_format) fn fault_value<'a>(
     start: usize,
     closed: bool,
     cause: &Cause,

@@ -3,7 +3,7 @@
 use crate::ether_format::Columns;
 
 /// How the text of a packet is formed.
-#[derive(Clone, Copy, PartialEq, Eq, Debug)]
+#[derive(Clone, Copy, PartialEq, Eq, Hash, Debug)]
 pub enum Format {
     /// A line of JSON (RFC 8259): an object with the packet's members, a list of its headers, and what is left or
     /// wrong.
@@ -18,17 +18,8 @@ impl Format {
     /// The format that a text names: `json`, `brief`, or columns, as [`Columns::of_names`] reads them.
     ///
     /// ```
-    /// # use etherpeel::*;
-    /// # use etherpeel::ether_peel::*;
-    /// # use etherpeel::ether_fields::*;
-    /// # use etherpeel::ether_sll2::*;
-    /// # use etherpeel::ether_packet::*;
-    /// # use etherpeel::ether_filter::*;
-    /// # use etherpeel::ether_pcap::*;
-    /// # use etherpeel::ether_content::*;
-    /// # use etherpeel::ether_switch::*;
-    /// # use etherpeel::ether_output::*;
-    /// # use etherpeel::ether_format::*;
+    /// use etherpeel::ether_format::Format;
+    ///
     /// assert_eq!(Format::of_text(b"json"), Some(Format::Json));
     /// assert!(Format::of_text(b"eth.src,vlan.vid").is_some());
     /// assert!(Format::of_text(b"xml").is_none());
@@ -42,6 +33,7 @@ impl Format {
     /// ```
     ///
     /// </details>
+    #[must_use]
     #[inline]
     pub fn of_text(text: &[u8]) -> Option<Format> {
         if text == b"json".as_slice() {

@@ -9,14 +9,14 @@ use crate::ether_peel::PeelUnit;
 use crate::SingleVlanSlice;
 
 /// The number of fields that each header has before its own: its name and its place.
-pub(crate) const PLACE_LEN: usize = 5;
+pub(in crate::ether_format) const PLACE_LEN: usize = 5;
 
 /// A header that is found in a packet, and where it is.
-pub(crate) struct Found<'a> {
+pub(in crate::ether_format) struct Found<'a> {
     /// Its section of fields.
-    pub(crate) section: Section,
-    pub(crate) place: Place,
-    pub(crate) header: FoundHeader<'a>,
+    pub(in crate::ether_format) section: Section,
+    pub(in crate::ether_format) place: Place,
+    pub(in crate::ether_format) header: FoundHeader<'a>,
 }
 
 /// A VLAN tag of zeros at offset 0, as the unused places of a list of a fixed capacity hold it.
@@ -42,7 +42,7 @@ impl<'a> Default for Found<'a> {
 impl Found<'_> {
     /// The value of a field of its section.
     #[inline(always)]
-    pub(crate) fn value(&self, index: usize) -> Option<Value<'_>> {
+    pub(in crate::ether_format) fn value(&self, index: usize) -> Option<Value<'_>> {
         if index < PLACE_LEN {
             return self.placed(index);
         }
@@ -51,7 +51,7 @@ impl Found<'_> {
 
     /// The value of a field of its name and its place.
     #[inline(never)]
-    pub(crate) fn placed(&self, index: usize) -> Option<Value<'static>> {
+    pub(in crate::ether_format) fn placed(&self, index: usize) -> Option<Value<'static>> {
         place_value(self.section, self.place, index)
     }
 }

@@ -7,7 +7,7 @@ use crate::ether_peel::PeelUnit;
 use crate::ether_sll2::LinuxSll2Slice;
 
 /// A header that is found in a packet.
-pub(crate) enum FoundHeader<'a> {
+pub(in crate::ether_format) enum FoundHeader<'a> {
     /// One of the walk.
     Walked(PeelUnit<'a>),
     /// One of cooked capture v1 that is not walked.
@@ -19,7 +19,7 @@ pub(crate) enum FoundHeader<'a> {
 impl FoundHeader<'_> {
     /// The value of one of its own fields.
     #[inline(always)]
-    pub(crate) fn own_value(&self, index: usize) -> Option<Value<'_>> {
+    pub(in crate::ether_format) fn own_value(&self, index: usize) -> Option<Value<'_>> {
         match self {
             FoundHeader::Walked(unit) => unit_value(unit, index),
             FoundHeader::Cooked(header) => cooked_column(header, index),

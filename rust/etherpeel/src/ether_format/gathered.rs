@@ -6,10 +6,10 @@ use arrayvec::ArrayVec;
 use crate::ether_fields::Section;
 
 /// How many headers there is room for.
-pub(crate) const ROOM: usize = 4;
+pub(in crate::ether_format) const ROOM: usize = 4;
 
 /// The first headers of a packet, in order.
-pub(crate) type Headers<'a> = ArrayVec<Found<'a>, ROOM>;
+pub(in crate::ether_format) type Headers<'a> = ArrayVec<Found<'a>, ROOM>;
 
 /// Sections that some headers have.
 #[derive(Clone, Copy)]
@@ -67,7 +67,7 @@ impl Sections {
 
 /// Gathers the first headers of a packet, and remembers which sections the later ones have.
 #[derive(Clone, Copy)]
-pub(crate) struct Gatherer {
+pub(in crate::ether_format) struct Gatherer {
     /// Whether there are headers for which there was no room.
     has_later: bool,
     /// Their sections.
@@ -77,13 +77,13 @@ pub(crate) struct Gatherer {
 impl Gatherer {
     /// Whether a column of a section can have a value in a header for which there was no room.
     #[inline(always)]
-    pub(crate) fn has(&self, section: Section) -> bool {
+    pub(in crate::ether_format) fn has(&self, section: Section) -> bool {
         self.has_later && self.later.has(section)
     }
 
     /// Makes a gatherer that has seen no header.
     #[inline]
-    pub(crate) fn new() -> Gatherer {
+    pub(in crate::ether_format) fn new() -> Gatherer {
         Gatherer {
             has_later: false,
             later: Sections::NONE,

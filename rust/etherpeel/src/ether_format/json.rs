@@ -12,7 +12,7 @@ use crate::ether_peel::PeelUnit;
 
 /// Writes the object of a packet up to its list of headers: its members, and the name of that list.
 #[inline]
-pub(crate) fn write_json_front<W: Sink>(
+pub(in crate::ether_format) fn write_json_front<W: Sink>(
     number: usize,
     packet: &CapturedPacket<'_>,
     out: &mut OutputBuffer<'_, W>,
@@ -23,7 +23,7 @@ pub(crate) fn write_json_front<W: Sink>(
 
 /// Writes a header as an object, after a comma unless it is the first.
 #[inline(always)]
-pub(crate) fn write_json_header<W: Sink>(
+pub(in crate::ether_format) fn write_json_header<W: Sink>(
     is_first: bool,
     found: &Found<'_>,
     out: &mut OutputBuffer<'_, W>,
@@ -58,7 +58,7 @@ fn write_unit<W: Sink>(unit: &PeelUnit<'_>, out: &mut OutputBuffer<'_, W>) {
 
 /// Writes the end of the list of headers, and how the walk through them ends.
 #[inline]
-pub(crate) fn write_json_end<W: Sink>(end: &End, out: &mut OutputBuffer<'_, W>) {
+pub(in crate::ether_format) fn write_json_end<W: Sink>(end: &End, out: &mut OutputBuffer<'_, W>) {
     match end {
         End::Rest(start, end, kind) => write_last(
             b"],\"rest\":",
@@ -84,7 +84,7 @@ fn write_last<W: Sink>(name: &[u8], members: &[Member<'_>], out: &mut OutputBuff
 
 /// Writes a comma, but not before the first of several.
 #[inline(always)]
-pub(crate) fn write_comma<W: Sink>(is_first: bool, out: &mut OutputBuffer<'_, W>) {
+pub(in crate::ether_format) fn write_comma<W: Sink>(is_first: bool, out: &mut OutputBuffer<'_, W>) {
     if !is_first {
         out.append(b",");
     }

@@ -11,7 +11,7 @@ use crate::ether_pcap::CapturedPacket;
 
 /// How a line is formed.
 #[derive(Clone, Copy)]
-pub(crate) enum Line {
+pub(in crate::ether_format) enum Line {
     Json,
     Brief,
 }
@@ -34,7 +34,7 @@ impl<'a, 'b, W: Sink> Visitor<'a, OutputBuffer<'b, W>> for LineHeaders {
 
 /// Writes a packet as a line, and returns whether no header of it is refused.
 #[inline(always)]
-pub(crate) fn write_line<W: Sink>(
+pub(in crate::ether_format) fn write_line<W: Sink>(
     line: Line,
     limit: Option<usize>,
     number: usize,

@@ -31,7 +31,7 @@ fn member<'a>(field: &Field, value: Option<Value<'a>>) -> Member<'a> {
 
 /// The members of a packet.
 #[inline(always)]
-pub(crate) fn packet<'a>(number: usize, packet: &CapturedPacket<'_>) -> [Member<'a>; 5] {
+pub(in crate::ether_format) fn packet<'a>(number: usize, packet: &CapturedPacket<'_>) -> [Member<'a>; 5] {
     [
         member(&rows::FRAME[0], packet_value(number, packet, 0)),
         member(&rows::FRAME[1], packet_value(number, packet, 1)),
@@ -43,7 +43,7 @@ pub(crate) fn packet<'a>(number: usize, packet: &CapturedPacket<'_>) -> [Member<
 
 /// The members that each header begins with: its name and its place.
 #[inline(always)]
-pub(crate) fn placed<'a>(section: Section, place: Place) -> [Member<'a>; 5] {
+pub(in crate::ether_format) fn placed<'a>(section: Section, place: Place) -> [Member<'a>; 5] {
     [
         member(&rows::HEADERS[0], place_value(section, place, 0)),
         member(&rows::HEADERS[1], place_value(section, place, 1)),
@@ -55,7 +55,7 @@ pub(crate) fn placed<'a>(section: Section, place: Place) -> [Member<'a>; 5] {
 
 /// The members of a header of Ethernet II.
 #[inline(always)]
-pub(crate) fn ethernet2<'a>(slice: &Ethernet2Slice<'_>) -> [Member<'a>; 4] {
+pub(in crate::ether_format) fn ethernet2<'a>(slice: &Ethernet2Slice<'_>) -> [Member<'a>; 4] {
     [
         member(&rows::ETH[5], ethernet2_value(slice, 0)),
         member(&rows::ETH[6], ethernet2_value(slice, 1)),
@@ -66,7 +66,7 @@ pub(crate) fn ethernet2<'a>(slice: &Ethernet2Slice<'_>) -> [Member<'a>; 4] {
 
 /// The members of a VLAN tag.
 #[inline(always)]
-pub(crate) fn vlan<'a>(slice: &SingleVlanSlice<'_>) -> [Member<'a>; 4] {
+pub(in crate::ether_format) fn vlan<'a>(slice: &SingleVlanSlice<'_>) -> [Member<'a>; 4] {
     [
         member(&rows::VLAN[5], vlan_value(slice, 0)),
         member(&rows::VLAN[6], vlan_value(slice, 1)),
@@ -77,7 +77,7 @@ pub(crate) fn vlan<'a>(slice: &SingleVlanSlice<'_>) -> [Member<'a>; 4] {
 
 /// The members of a SecTag.
 #[inline]
-pub(crate) fn macsec<'a>(tag: &MacsecHeaderSlice<'_>) -> [Member<'a>; 10] {
+pub(in crate::ether_format) fn macsec<'a>(tag: &MacsecHeaderSlice<'_>) -> [Member<'a>; 10] {
     [
         member(&rows::MACSEC[5], macsec_value(tag, 0)),
         member(&rows::MACSEC[7], macsec_value(tag, 2)),
@@ -94,7 +94,7 @@ pub(crate) fn macsec<'a>(tag: &MacsecHeaderSlice<'_>) -> [Member<'a>; 10] {
 
 /// The members of an ARP packet.
 #[inline]
-pub(crate) fn arp<'a>(packet: &'a ArpPacketSlice<'_>) -> [Member<'a>; 9] {
+pub(in crate::ether_format) fn arp<'a>(packet: &'a ArpPacketSlice<'_>) -> [Member<'a>; 9] {
     [
         member(&rows::ARP[5], arp_value(packet, 0)),
         member(&rows::ARP[6], arp_value(packet, 1)),
@@ -110,7 +110,7 @@ pub(crate) fn arp<'a>(packet: &'a ArpPacketSlice<'_>) -> [Member<'a>; 9] {
 
 /// The members of a header of Linux cooked capture v1.
 #[inline]
-pub(crate) fn linux_sll<'a>(slice: &'a LinuxSllSlice<'_>) -> [Member<'a>; 5] {
+pub(in crate::ether_format) fn linux_sll<'a>(slice: &'a LinuxSllSlice<'_>) -> [Member<'a>; 5] {
     [
         member(&rows::SLL[5], linux_sll_value(slice, 0)),
         member(&rows::SLL[6], linux_sll_value(slice, 1)),
@@ -122,7 +122,7 @@ pub(crate) fn linux_sll<'a>(slice: &'a LinuxSllSlice<'_>) -> [Member<'a>; 5] {
 
 /// The members of a header of Linux cooked capture v1 that is not walked.
 #[inline]
-pub(crate) fn cooked<'a>(header: &'a CookedHeader) -> [Member<'a>; 5] {
+pub(in crate::ether_format) fn cooked<'a>(header: &'a CookedHeader) -> [Member<'a>; 5] {
     [
         member(&rows::SLL[5], cooked_value(header, 0)),
         member(&rows::SLL[6], cooked_value(header, 1)),
@@ -134,7 +134,7 @@ pub(crate) fn cooked<'a>(header: &'a CookedHeader) -> [Member<'a>; 5] {
 
 /// The members of a header of Linux cooked capture v2.
 #[inline]
-pub(crate) fn linux_sll2<'a>(packet: &'a LinuxSll2Slice<'_>) -> [Member<'a>; 6] {
+pub(in crate::ether_format) fn linux_sll2<'a>(packet: &'a LinuxSll2Slice<'_>) -> [Member<'a>; 6] {
     [
         member(&rows::SLL2[5], linux_sll2_value(packet, 0)),
         member(&rows::SLL2[7], linux_sll2_value(packet, 2)),
@@ -147,7 +147,7 @@ pub(crate) fn linux_sll2<'a>(packet: &'a LinuxSll2Slice<'_>) -> [Member<'a>; 6] 
 
 /// The members of what is left.
 #[inline(always)]
-pub(crate) fn rest<'a>(start: usize, end: usize, kind: &RestKind) -> [Member<'a>; 4] {
+pub(in crate::ether_format) fn rest<'a>(start: usize, end: usize, kind: &RestKind) -> [Member<'a>; 4] {
     [
         member(&rows::REST[0], rest_value(start, end, kind, 0)),
         member(&rows::REST[1], rest_value(start, end, kind, 1)),
@@ -158,7 +158,7 @@ pub(crate) fn rest<'a>(start: usize, end: usize, kind: &RestKind) -> [Member<'a>
 
 /// The members of a packet that is skipped.
 #[inline]
-pub(crate) fn skipped<'a>(len: usize) -> [Member<'a>; 4] {
+pub(in crate::ether_format) fn skipped<'a>(len: usize) -> [Member<'a>; 4] {
     [
         member(&rows::REST[0], skipped_value(len, 0)),
         member(&rows::REST[1], skipped_value(len, 1)),
@@ -169,7 +169,7 @@ pub(crate) fn skipped<'a>(len: usize) -> [Member<'a>; 4] {
 
 /// The members of a fault.
 #[inline]
-pub(crate) fn fault<'a>(start: usize, closed: bool, cause: &Cause) -> [Member<'a>; 7] {
+pub(in crate::ether_format) fn fault<'a>(start: usize, closed: bool, cause: &Cause) -> [Member<'a>; 7] {
     [
         member(&rows::FAULT[0], fault_value(start, closed, cause, 0)),
         member(&rows::FAULT[1], fault_value(start, closed, cause, 1)),

@@ -1,7 +1,7 @@
 //! A time as a date and a time of day.
 
 /// A time as a date of the Gregorian calendar and a time of day (ISO 8601), in Coordinated Universal Time.
-#[derive(Clone, Copy, PartialEq, Eq, Debug)]
+#[derive(Clone, Copy, PartialEq, Eq, Hash, Debug)]
 pub struct Moment {
     /// The seconds since the beginning of 1970.
     pub seconds: u64,

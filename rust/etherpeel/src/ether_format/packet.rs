@@ -11,18 +11,11 @@ use crate::ether_pcap::CapturedPacket;
 /// With a limit, at most that many VLAN tags and SecTags are read.
 ///
 /// ```
-/// # use etherpeel::*;
-/// # use etherpeel::ether_peel::*;
-/// # use etherpeel::ether_fields::*;
-/// # use etherpeel::ether_sll2::*;
-/// # use etherpeel::ether_packet::*;
-/// # use etherpeel::ether_filter::*;
-/// # use etherpeel::ether_pcap::*;
-/// # use etherpeel::ether_content::*;
-/// # use etherpeel::ether_switch::*;
-/// # use etherpeel::ether_output::*;
-/// # use etherpeel::ether_format::*;
-/// # use arrayvec::ArrayVec;
+/// use etherpeel::ether_pcap::{CapturedPacket, LinkType, Timestamp};
+/// use etherpeel::ether_output::OutputBuffer;
+/// use etherpeel::ether_format::{Format, write_packet};
+/// use arrayvec::ArrayVec;
+///
 /// # #[cfg(feature = "std")]
 /// # {
 /// let packet = CapturedPacket {

@@ -4,11 +4,11 @@
 #[derive(Clone, Copy, Debug)]
 pub struct Place {
     /// Where it starts.
-    pub(crate) start: usize,
+    pub(in crate::ether_format) start: usize,
     /// Where it ends, and its payload starts.
-    pub(crate) header_end: usize,
+    pub(in crate::ether_format) header_end: usize,
     /// Where its payload ends.
-    pub(crate) payload_end: usize,
+    pub(in crate::ether_format) payload_end: usize,
     /// Whether bytes appended to the packet would lie outside its payload.
-    pub(crate) closed: bool,
+    pub(in crate::ether_format) closed: bool,
 }

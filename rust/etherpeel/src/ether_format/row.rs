@@ -27,7 +27,7 @@ struct RowPacket<'a> {
 ///
 /// One walk gathers the first headers for all columns. Only a column that has values in later headers walks again.
 #[inline]
-pub(crate) fn write_row<W: Sink>(
+pub(in crate::ether_format) fn write_row<W: Sink>(
     columns: &Columns,
     limit: Option<usize>,
     number: usize,

@@ -7,7 +7,7 @@ use crate::EtherType;
 
 /// Writes a value as JSON has it.
 #[inline(always)]
-pub(crate) fn write_json_value<W: Sink>(value: &Value<'_>, out: &mut OutputBuffer<'_, W>) {
+pub(in crate::ether_format) fn write_json_value<W: Sink>(value: &Value<'_>, out: &mut OutputBuffer<'_, W>) {
     match value {
         Value::Nothing => out.append(b"null"),
         Value::Number(number) => write_decimal(out, *number as usize),
@@ -26,7 +26,7 @@ pub(crate) fn write_json_value<W: Sink>(value: &Value<'_>, out: &mut OutputBuffe
 
 /// Writes a value as a column has it.
 #[inline(always)]
-pub(crate) fn write_column_value<W: Sink>(value: &Value<'_>, out: &mut OutputBuffer<'_, W>) {
+pub(in crate::ether_format) fn write_column_value<W: Sink>(value: &Value<'_>, out: &mut OutputBuffer<'_, W>) {
     match value {
         Value::Nothing => {}
         Value::Number(number) => write_decimal(out, *number as usize),
@@ -45,7 +45,7 @@ pub(crate) fn write_column_value<W: Sink>(value: &Value<'_>, out: &mut OutputBuf
 
 /// The first `len` bytes, or all if there are fewer.
 #[inline]
-pub(crate) fn first_of(bytes: &[u8], len: usize) -> &[u8] {
+pub(in crate::ether_format) fn first_of(bytes: &[u8], len: usize) -> &[u8] {
     &bytes[..len.min(bytes.len())]
 }
 
@@ -99,7 +99,7 @@ fn write_quoted_date<W: Sink>(moment: &Moment, out: &mut OutputBuffer<'_, W>) {
 
 /// Writes bytes in two hexadecimal digits each, with a colon between two.
 #[inline]
-pub(crate) fn write_colons<W: Sink>(bytes: &[u8], out: &mut OutputBuffer<'_, W>) {
+pub(in crate::ether_format) fn write_colons<W: Sink>(bytes: &[u8], out: &mut OutputBuffer<'_, W>) {
     if bytes.is_empty() {
         return;
     }
@@ -118,7 +118,7 @@ fn write_colons_after<W: Sink>(bytes: &[u8], out: &mut OutputBuffer<'_, W>) {
 
 /// Writes bytes in decimal digits, with a dot between two.
 #[inline]
-pub(crate) fn write_dotted<W: Sink>(bytes: &[u8], out: &mut OutputBuffer<'_, W>) {
+pub(in crate::ether_format) fn write_dotted<W: Sink>(bytes: &[u8], out: &mut OutputBuffer<'_, W>) {
     if bytes.is_empty() {
         return;
     }
@@ -152,7 +152,7 @@ fn quoted_mac(address: [u8; 6]) -> [u8; 19] {
 
 /// A MAC address.
 #[inline(always)]
-pub(crate) fn mac_text(address: [u8; 6]) -> [u8; 17] {
+pub(in crate::ether_format) fn mac_text(address: [u8; 6]) -> [u8; 17] {
     let a = digit_pair(address[0]);
     let b = digit_pair(address[1]);
     let c = digit_pair(address[2]);
@@ -167,7 +167,7 @@ pub(crate) fn mac_text(address: [u8; 6]) -> [u8; 17] {
 
 /// Writes a moment: its date as in ISO 8601, or without one its seconds, with nine decimals of the second.
 #[inline]
-pub(crate) fn write_moment<W: Sink>(moment: &Moment, out: &mut OutputBuffer<'_, W>) {
+pub(in crate::ether_format) fn write_moment<W: Sink>(moment: &Moment, out: &mut OutputBuffer<'_, W>) {
     if has_date(moment) {
         write_dated(moment, out);
     } else {
@@ -177,7 +177,7 @@ pub(crate) fn write_moment<W: Sink>(moment: &Moment, out: &mut OutputBuffer<'_, 
 
 /// Whether the year has at most four digits, as in RFC 3339.
 #[inline(always)]
-pub(crate) fn has_date(moment: &Moment) -> bool {
+pub(in crate::ether_format) fn has_date(moment: &Moment) -> bool {
     moment.year < 10_000
 }
 
@@ -207,7 +207,7 @@ fn fraction(nanoseconds: u32) -> [u8; 11] {
 
 /// Writes a date and a time of day.
 #[inline]
-pub(crate) fn write_date<W: Sink>(moment: &Moment, out: &mut OutputBuffer<'_, W>) {
+pub(in crate::ether_format) fn write_date<W: Sink>(moment: &Moment, out: &mut OutputBuffer<'_, W>) {
     write_decimal(out, moment.year as usize);
     out.append_array(month_to_second(moment));
 }
@@ -227,7 +227,7 @@ fn month_to_second(moment: &Moment) -> [u8; 15] {
 
 /// The two digits of a number below 100.
 #[inline(always)]
-pub(crate) fn two_digits(number: u8) -> [u8; 2] {
+pub(in crate::ether_format) fn two_digits(number: u8) -> [u8; 2] {
     [b'0' + number / 10, b'0' + number % 10]
 }
 
@@ -240,6 +240,7 @@ pub(crate) fn two_digits(number: u8) -> [u8; 2] {
 /// ```
 ///
 /// </details>
+#[must_use]
 #[inline(always)]
 pub fn nine_digits(number: u32) -> [u8; 9] {
     let first = b'0' + (number / 100_000_000 % 10) as u8;

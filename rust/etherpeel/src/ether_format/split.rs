@@ -11,6 +11,7 @@
 /// ```
 ///
 /// </details>
+#[must_use]
 #[inline]
 pub fn split_at(byte: u8, text: &[u8]) -> Option<(&[u8], &[u8])> {
     match text.iter().position(|it| *it == byte) {

@@ -3,7 +3,7 @@ use crate::ether_format::Moment;
 
 /// The value of a field.
 #[derive(Clone, Copy)]
-pub(crate) enum Value<'a> {
+pub(in crate::ether_format) enum Value<'a> {
     /// The header does not have it.
     Nothing,
     /// A number.
@@ -32,9 +32,9 @@ pub(crate) enum Value<'a> {
 
 /// A member of an object.
 #[derive(Clone, Copy)]
-pub(crate) struct Member<'a> {
+pub(in crate::ether_format) struct Member<'a> {
     /// Its name in JSON, with what precedes it.
-    pub(crate) key: &'static str,
+    pub(in crate::ether_format) key: &'static str,
     /// Its value.
-    pub(crate) value: Value<'a>,
+    pub(in crate::ether_format) value: Value<'a>,
 }

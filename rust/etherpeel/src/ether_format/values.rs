@@ -17,7 +17,7 @@ use crate::{
 
 /// The value of a field of a packet itself. Its date is computed only if it is that value.
 #[inline(always)]
-pub(crate) fn packet_value<'a>(
+pub(in crate::ether_format) fn packet_value<'a>(
     number: usize,
     packet: &CapturedPacket<'_>,
     index: usize,
@@ -34,7 +34,7 @@ pub(crate) fn packet_value<'a>(
 
 /// The moment of a time, if there is one.
 #[inline]
-pub(crate) fn moment_if(time: Option<Timestamp>) -> Option<Moment> {
+pub(in crate::ether_format) fn moment_if(time: Option<Timestamp>) -> Option<Moment> {
     match time {
         Some(time) => Some(moment_of(time)),
         None => None,
@@ -52,7 +52,7 @@ fn time_value<'a>(moment: Option<Moment>) -> Value<'a> {
 
 /// The value of a field of the name and the place of a header.
 #[inline(always)]
-pub(crate) fn place_value<'a>(section: Section, place: Place, index: usize) -> Option<Value<'a>> {
+pub(in crate::ether_format) fn place_value<'a>(section: Section, place: Place, index: usize) -> Option<Value<'a>> {
     match index {
         0 => Some(Value::Word(section.name())),
         1 => Some(Value::Number(place.start as u64)),
@@ -65,7 +65,7 @@ pub(crate) fn place_value<'a>(section: Section, place: Place, index: usize) -> O
 
 /// The value of a field of a unit.
 #[inline(always)]
-pub(crate) fn unit_value<'a>(unit: &'a PeelUnit<'_>, index: usize) -> Option<Value<'a>> {
+pub(in crate::ether_format) fn unit_value<'a>(unit: &'a PeelUnit<'_>, index: usize) -> Option<Value<'a>> {
     match unit {
         PeelUnit::Ethernet2(slice) => ethernet2_value(slice, index),
         PeelUnit::LinuxSll(slice) => linux_sll_column(slice, index),
@@ -95,7 +95,7 @@ fn number<'a>(number: u64) -> Option<Value<'a>> {
 
 /// The value of a field of an Ethernet II header.
 #[inline(always)]
-pub(crate) fn ethernet2_value<'a>(slice: &Ethernet2Slice<'_>, index: usize) -> Option<Value<'a>> {
+pub(in crate::ether_format) fn ethernet2_value<'a>(slice: &Ethernet2Slice<'_>, index: usize) -> Option<Value<'a>> {
     match index {
         0 => Some(Value::Mac(slice.destination())),
         1 => Some(Value::Mac(slice.source())),
@@ -116,7 +116,7 @@ fn fcs_value<'a>(fcs: Option<[u8; 4]>) -> Value<'a> {
 
 /// The value of a field of a VLAN tag.
 #[inline(always)]
-pub(crate) fn vlan_value<'a>(slice: &SingleVlanSlice<'_>, index: usize) -> Option<Value<'a>> {
+pub(in crate::ether_format) fn vlan_value<'a>(slice: &SingleVlanSlice<'_>, index: usize) -> Option<Value<'a>> {
     match index {
         0 => number(u64::from(slice.priority_code_point().value())),
         1 => number(u64::from(slice.drop_eligible_indicator())),
@@ -128,7 +128,7 @@ pub(crate) fn vlan_value<'a>(slice: &SingleVlanSlice<'_>, index: usize) -> Optio
 
 /// The value of a field of a SecTag.
 #[inline(always)]
-pub(crate) fn macsec_value<'a>(tag: &MacsecHeaderSlice<'_>, index: usize) -> Option<Value<'a>> {
+pub(in crate::ether_format) fn macsec_value<'a>(tag: &MacsecHeaderSlice<'_>, index: usize) -> Option<Value<'a>> {
     match index {
         0 => Some(Value::Word(payload_word(tag.ptype()))),
         2 => number(u64::from(tag.endstation_id())),
@@ -193,7 +193,7 @@ fn sci_value<'a>(sci: Option<u64>) -> Value<'a> {
 
 /// The value of a field of an ARP packet.
 #[inline(always)]
-pub(crate) fn arp_value<'a>(packet: &'a ArpPacketSlice<'_>, index: usize) -> Option<Value<'a>> {
+pub(in crate::ether_format) fn arp_value<'a>(packet: &'a ArpPacketSlice<'_>, index: usize) -> Option<Value<'a>> {
     match index {
         0 => number(u64::from(packet.hw_addr_type().0)),
         1 => Some(Value::Protocol(packet.proto_addr_type().0)),
@@ -220,7 +220,7 @@ fn protocol_address(protocol: EtherType, bytes: &[u8]) -> Value<'_> {
 
 /// The value of a field of a header of Linux cooked capture v1.
 #[inline(always)]
-pub(crate) fn linux_sll_value<'a>(slice: &'a LinuxSllSlice<'_>, index: usize) -> Option<Value<'a>> {
+pub(in crate::ether_format) fn linux_sll_value<'a>(slice: &'a LinuxSllSlice<'_>, index: usize) -> Option<Value<'a>> {
     let len = slice.sender_address_valid_length();
     match index {
         0 => number(u64::from(slice.packet_type_number())),
@@ -234,7 +234,7 @@ pub(crate) fn linux_sll_value<'a>(slice: &'a LinuxSllSlice<'_>, index: usize) ->
 
 /// The value of a field of a header of Linux cooked capture v1 that is not walked.
 #[inline(always)]
-pub(crate) fn cooked_value<'a>(header: &'a CookedHeader, index: usize) -> Option<Value<'a>> {
+pub(in crate::ether_format) fn cooked_value<'a>(header: &'a CookedHeader, index: usize) -> Option<Value<'a>> {
     let len = usize::from(header.address_len);
     match index {
         0 => number(u64::from(header.packet_type)),
@@ -248,13 +248,13 @@ pub(crate) fn cooked_value<'a>(header: &'a CookedHeader, index: usize) -> Option
 
 /// The first `len` of the 8 bytes of an address, or all if `len` is greater.
 #[inline]
-pub(crate) fn used(address: &[u8], len: usize) -> &[u8] {
+pub(in crate::ether_format) fn used(address: &[u8], len: usize) -> &[u8] {
     first_of(address, len)
 }
 
 /// The value of a field of a header of Linux cooked capture v2.
 #[inline(always)]
-pub(crate) fn linux_sll2_value<'a>(
+pub(in crate::ether_format) fn linux_sll2_value<'a>(
     packet: &'a LinuxSll2Slice<'_>,
     index: usize,
 ) -> Option<Value<'a>> {

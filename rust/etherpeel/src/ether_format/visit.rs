@@ -12,7 +12,7 @@ use crate::ether_peel::{Peel, RestKind, Start};
 use crate::ether_sll2::{LinuxSll2Header, LinuxSll2Slice};
 
 /// What takes the headers of a packet, one after the other, and writes to a target what it makes of them.
-pub(crate) trait Visitor<'a, T> {
+pub(in crate::ether_format) trait Visitor<'a, T> {
     /// Takes the next header.
     fn header(&mut self, found: Found<'a>, target: &mut T);
 }
@@ -20,7 +20,7 @@ pub(crate) trait Visitor<'a, T> {
 /// Shows a visitor the headers of a packet, and returns how the walk through them ends. With a limit, at most that many
 /// VLAN tags and SecTags are read.
 #[inline(always)]
-pub(crate) fn visit<'a, T, V: Visitor<'a, T>>(
+pub(in crate::ether_format) fn visit<'a, T, V: Visitor<'a, T>>(
     packet: &CapturedPacket<'a>,
     limit: Option<usize>,
     visitor: &mut V,

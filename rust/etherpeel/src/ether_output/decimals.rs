@@ -18,17 +18,9 @@ static PAIRS: [[u8; 2]; 100] = [
 /// Writes a number in decimal digits, without leading zeros.
 ///
 /// ```
-/// # use etherpeel::*;
-/// # use etherpeel::ether_peel::*;
-/// # use etherpeel::ether_fields::*;
-/// # use etherpeel::ether_sll2::*;
-/// # use etherpeel::ether_packet::*;
-/// # use etherpeel::ether_filter::*;
-/// # use etherpeel::ether_pcap::*;
-/// # use etherpeel::ether_content::*;
-/// # use etherpeel::ether_switch::*;
-/// # use etherpeel::ether_output::*;
-/// # use arrayvec::ArrayVec;
+/// use etherpeel::ether_output::{OutputBuffer, write_decimal};
+/// use arrayvec::ArrayVec;
+///
 /// # #[cfg(feature = "std")]
 /// # {
 /// let mut written = ArrayVec::<u8, 8>::new();
@@ -115,6 +107,7 @@ fn four_digits(number: usize) -> [u8; 4] {
 /// ```
 ///
 /// </details>
+#[must_use]
 #[inline(always)]
 pub fn eight_digits(number: u64) -> [u8; 8] {
     let high = four_digits((number / 10_000 % 10_000) as usize);

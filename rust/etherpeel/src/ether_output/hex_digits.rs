@@ -37,6 +37,7 @@ static PAIRS: [[u8; 2]; 256] = [
 /// ```
 ///
 /// </details>
+#[must_use]
 #[inline(always)]
 pub fn digit_pair(byte: u8) -> [u8; 2] {
     PAIRS[usize::from(byte)]
@@ -51,6 +52,7 @@ pub fn digit_pair(byte: u8) -> [u8; 2] {
 /// ```
 ///
 /// </details>
+#[must_use]
 #[inline(always)]
 pub fn hex_type(ether_type: EtherType) -> [u8; 6] {
     let number = ether_type.0;

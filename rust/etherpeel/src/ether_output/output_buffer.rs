@@ -12,17 +12,9 @@ const ROOM: usize = 65536;
 /// dropped.
 ///
 /// ```
-/// # use etherpeel::*;
-/// # use etherpeel::ether_peel::*;
-/// # use etherpeel::ether_fields::*;
-/// # use etherpeel::ether_sll2::*;
-/// # use etherpeel::ether_packet::*;
-/// # use etherpeel::ether_filter::*;
-/// # use etherpeel::ether_pcap::*;
-/// # use etherpeel::ether_content::*;
-/// # use etherpeel::ether_switch::*;
-/// # use etherpeel::ether_output::*;
-/// # use arrayvec::ArrayVec;
+/// use etherpeel::ether_output::OutputBuffer;
+/// use arrayvec::ArrayVec;
+///
 /// # #[cfg(feature = "std")]
 /// # {
 /// let mut written = ArrayVec::<u8, 64>::new();
@@ -33,6 +25,7 @@ const ROOM: usize = 65536;
 /// assert_eq!(written.as_slice(), b"rest 14 14 sealed\n".as_slice());
 /// # }
 /// ```
+#[derive(Debug)]
 pub struct OutputBuffer<'a, W> {
     writer: &'a mut W,
     waiting: ArrayVec<u8, ROOM>,
@@ -153,6 +146,7 @@ impl<'a, W: Sink> OutputBuffer<'a, W> {
     /// ```
     ///
     /// </details>
+    #[must_use]
     #[inline]
     pub fn waiting(&self) -> &[u8] {
         self.waiting.as_slice()
@@ -167,6 +161,7 @@ impl<'a, W: Sink> OutputBuffer<'a, W> {
     /// ```
     ///
     /// </details>
+    #[must_use]
     #[inline]
     pub fn has_waiting(&self) -> bool {
         !self.waiting.is_empty()

@@ -6,19 +6,11 @@ use core::fmt;
 /// The writer of an [`OutputBuffer`](crate::ether_output::OutputBuffer) has failed.
 ///
 /// ```
-/// # use etherpeel::*;
-/// # use etherpeel::ether_peel::*;
-/// # use etherpeel::ether_fields::*;
-/// # use etherpeel::ether_sll2::*;
-/// # use etherpeel::ether_packet::*;
-/// # use etherpeel::ether_filter::*;
-/// # use etherpeel::ether_pcap::*;
-/// # use etherpeel::ether_content::*;
-/// # use etherpeel::ether_switch::*;
-/// # use etherpeel::ether_output::*;
+/// use etherpeel::ether_output::OutputFault;
+///
 /// assert_eq!(format!("{OutputFault}").as_str(), "The writer has failed.");
 /// ```
-#[derive(Clone, Copy, PartialEq, Eq, Debug)]
+#[derive(Clone, Copy, PartialEq, Eq, Hash, Debug)]
 pub struct OutputFault;
 
 impl fmt::Display for OutputFault {

@@ -11,6 +11,7 @@ use crate::LenSource;
 /// ```
 ///
 /// </details>
+#[must_use]
 #[inline]
 pub fn source_of(source: LenSource) -> &'static str {
     match source {

@@ -7,17 +7,14 @@ use core::fmt;
 /// Why a packet is not written. The target is then unchanged.
 ///
 /// ```
-/// # use etherpeel::*;
-/// # use etherpeel::ether_peel::*;
-/// # use etherpeel::ether_fields::*;
-/// # use etherpeel::ether_sll2::*;
-/// # use etherpeel::ether_packet::*;
+/// use etherpeel::ether_packet::BuildError;
+///
 /// assert_eq!(
 ///     format!("{}", BuildError::Sealed(1)).as_str(),
 ///     "A header follows the SecTag at index 1, whose payload is encrypted or changed."
 /// );
 /// ```
-#[derive(Clone, Copy, PartialEq, Eq, Debug)]
+#[derive(Clone, Copy, PartialEq, Eq, Hash, Debug)]
 pub enum BuildError {
     /// The link is a cooked capture with this hardware type. It is not that of Ethernet, so the protocol type can't
     /// announce what follows.

@@ -6,17 +6,14 @@ use core::fmt;
 /// differences it is the first in this order.
 ///
 /// ```
-/// # use etherpeel::*;
-/// # use etherpeel::ether_peel::*;
-/// # use etherpeel::ether_fields::*;
-/// # use etherpeel::ether_sll2::*;
-/// # use etherpeel::ether_packet::*;
+/// use etherpeel::ether_packet::Difference;
+///
 /// assert_eq!(
 ///     format!("{}", Difference::EtherType).as_str(),
 ///     "the ether type"
 /// );
 /// ```
-#[derive(Clone, Copy, PartialEq, Eq, Debug)]
+#[derive(Clone, Copy, PartialEq, Eq, Hash, Debug)]
 pub enum Difference {
     /// The kind: one header is a VLAN tag and the other a SecTag, or one is of Ethernet II and the other of cooked
     /// capture.

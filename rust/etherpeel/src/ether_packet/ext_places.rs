@@ -3,8 +3,8 @@
 use core::fmt;
 
 /// A window of a frame: its offset, and its bytes.
-#[derive(Clone, Copy)]
-pub(crate) struct FrameWindow<'a> {
+#[derive(Clone, Copy, PartialEq, Eq)]
+pub(in crate::ether_packet) struct FrameWindow<'a> {
     pub start: usize,
     pub bytes: &'a [u8],
 }
@@ -20,23 +20,23 @@ impl fmt::Debug for FrameWindow<'_> {
 }
 
 /// Whether a tag is a VLAN tag or a SecTag.
-#[derive(Clone, Copy, Debug)]
-pub(crate) enum ExtKind {
+#[derive(Clone, Copy, PartialEq, Eq, Hash, Debug)]
+pub(in crate::ether_packet) enum ExtKind {
     Vlan,
     Macsec,
 }
 
 /// A tag, and the window in which it was read.
-#[derive(Clone, Copy, Debug)]
-pub(crate) struct ExtPlace<'a> {
+#[derive(Clone, Copy, PartialEq, Eq, Debug)]
+pub(in crate::ether_packet) struct ExtPlace<'a> {
     pub kind: ExtKind,
     pub place: FrameWindow<'a>,
 }
 
 /// Up to three tags in order. Three fields take fewer instructions than an `ArrayVec`, whose unused places have to be
 /// filled.
-#[derive(Debug)]
-pub(crate) struct ExtPlaces<'a> {
+#[derive(Clone, PartialEq, Eq, Debug)]
+pub(in crate::ether_packet) struct ExtPlaces<'a> {
     first: Option<ExtPlace<'a>>,
     second: Option<ExtPlace<'a>>,
     third: Option<ExtPlace<'a>>,
@@ -52,6 +52,7 @@ impl<'a> ExtPlaces<'a> {
     /// ```
     ///
     /// </details>
+    #[must_use]
     #[inline(always)]
     pub fn new() -> ExtPlaces<'a> {
         ExtPlaces {
@@ -63,9 +64,11 @@ impl<'a> ExtPlaces<'a> {
 
     /// Appends a tag.
     ///
-    /// <details><summary>Contract</summary>
+    /// # Panics
     ///
-    /// The caller must meet each `requires`; otherwise the call may panic or return something else.
+    /// The call may panic, or return something else, if a `requires` of its contract is not met.
+    ///
+    /// <details><summary>Contract</summary>
     ///
     /// ```text
     /// requires { length self.old < 3 }
@@ -91,6 +94,7 @@ impl<'a> ExtPlaces<'a> {
     /// ```
     ///
     /// </details>
+    #[must_use]
     #[inline(always)]
     pub fn get(&self, index: usize) -> Option<ExtPlace<'a>> {
         match index {
@@ -111,6 +115,7 @@ impl<'a> ExtPlaces<'a> {
     /// ```
     ///
     /// </details>
+    #[must_use]
     #[inline(always)]
     pub fn len(&self) -> usize {
         match (&self.first, &self.second, &self.third) {

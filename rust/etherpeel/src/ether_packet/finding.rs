@@ -5,15 +5,15 @@ use crate::LinkExtHeader;
 
 /// A VLAN tag or SecTag of a frame, and its offset.
 #[derive(Clone, Copy)]
-pub(crate) struct PlacedExt {
-    pub(crate) at: usize,
-    pub(crate) header: LinkExtHeader,
+pub(in crate::ether_packet) struct PlacedExt {
+    pub(in crate::ether_packet) at: usize,
+    pub(in crate::ether_packet) header: LinkExtHeader,
 }
 
 /// The VLAN tag or SecTag at an index, counted from the outermost one. The error is the number of VLAN tags and
 /// SecTags, if there is none at the index.
 #[inline]
-pub(crate) fn ext_at(start: Start, frame: &[u8], index: usize) -> Result<PlacedExt, usize> {
+pub(in crate::ether_packet) fn ext_at(start: Start, frame: &[u8], index: usize) -> Result<PlacedExt, usize> {
     let mut peel = Peel::new(start, frame);
     let mut count = 0;
     loop {

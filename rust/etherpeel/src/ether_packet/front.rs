@@ -6,7 +6,8 @@ use crate::ether_peel::Start;
 use crate::{Ethernet2Header, Ethernet2Slice, LinuxSllHeader, SingleVlanHeader};
 
 /// The first headers of an Ethernet II frame.
-#[derive(Clone, Copy, Debug)]
+#[cfg_attr(feature = "serde", derive(serde::Serialize, serde::Deserialize))]
+#[derive(Clone, Copy, PartialEq, Eq, Hash, Debug)]
 pub struct EthernetFront {
     /// The header of Ethernet II.
     pub link: Ethernet2Header,
@@ -22,11 +23,9 @@ pub struct EthernetFront {
 /// # Examples
 ///
 /// ```
-/// # use etherpeel::*;
-/// # use etherpeel::ether_peel::*;
-/// # use etherpeel::ether_fields::*;
-/// # use etherpeel::ether_sll2::*;
-/// # use etherpeel::ether_packet::*;
+/// use etherpeel::SingleVlanHeader;
+/// use etherpeel::ether_packet::ethernet_front;
+///
 /// let frame = [
 ///     0xFF, 0xFF, 0xFF, 0xFF, 0xFF, 0xFF, 0x02, 0x00, 0x00, 0x00, 0x00, 0x01, 0x81, 0x00, // Ethernet II
 ///     0xB1, 0x23, 0x08, 0x00, // VLAN
@@ -53,6 +52,7 @@ pub struct EthernetFront {
 /// ```
 ///
 /// </details>
+#[must_use]
 #[inline]
 pub fn ethernet_front(frame: &[u8]) -> Option<EthernetFront> {
     match Ethernet2Slice::from_slice_without_fcs(frame) {
@@ -72,11 +72,10 @@ pub fn ethernet_front(frame: &[u8]) -> Option<EthernetFront> {
 /// # Examples
 ///
 /// ```
-/// # use etherpeel::*;
-/// # use etherpeel::ether_peel::*;
-/// # use etherpeel::ether_fields::*;
-/// # use etherpeel::ether_sll2::*;
-/// # use etherpeel::ether_packet::*;
+/// use etherpeel::SingleVlanHeader;
+/// use etherpeel::ether_peel::Start;
+/// use etherpeel::ether_packet::outer_vlan;
+///
 /// let frame = [
 ///     0xFF, 0xFF, 0xFF, 0xFF, 0xFF, 0xFF, 0x02, 0x00, 0x00, 0x00, 0x00, 0x01, 0x81, 0x00, // Ethernet II
 ///     0xB1, 0x23, 0x08, 0x00, // VLAN
@@ -94,6 +93,7 @@ pub fn ethernet_front(frame: &[u8]) -> Option<EthernetFront> {
 /// ```
 ///
 /// </details>
+#[must_use]
 #[inline]
 pub fn outer_vlan(start: Start, frame: &[u8]) -> Option<SingleVlanHeader> {
     match require_tag(start, frame) {

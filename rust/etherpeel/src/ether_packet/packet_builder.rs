@@ -8,7 +8,7 @@ use crate::{
 };
 
 /// What follows the headers of a packet.
-#[derive(Debug)]
+#[derive(Clone, PartialEq, Eq, Debug)]
 pub enum PacketContent<'a> {
     /// A payload, and the ether type that announces it.
     Payload(EtherType, &'a [u8]),
@@ -27,12 +27,9 @@ pub enum PacketContent<'a> {
 /// [`MacsecHeader::set_payload_len`].
 ///
 /// ```
-/// # use etherpeel::*;
-/// # use etherpeel::ether_peel::*;
-/// # use etherpeel::ether_fields::*;
-/// # use etherpeel::ether_sll2::*;
-/// # use etherpeel::ether_packet::*;
-/// # use etherpeel::ether_packet::PacketBuilder;
+/// use etherpeel::{EtherType, Ethernet2Header, LinkExtHeader, LinkHeader, SingleVlanHeader};
+/// use etherpeel::ether_packet::{PacketBuilder, PacketContent};
+///
 /// let tags = [LinkExtHeader::Vlan(SingleVlanHeader::from_bytes([0x00, 0x64, 0x00, 0x00]))];
 /// let packet = PacketBuilder {
 ///     link: LinkHeader::Ethernet2(Ethernet2Header::default()),
@@ -53,7 +50,7 @@ pub enum PacketContent<'a> {
 /// assert_eq!(service_tag.write(&mut target), Ok(19));
 /// assert_eq!(target[12..], [0x88, 0xA8, 0x00, 0x64, 0x08, 0x00, 0x45]);
 /// ```
-#[derive(Debug)]
+#[derive(Clone, PartialEq, Eq, Debug)]
 pub struct PacketBuilder<'a, 'b> {
     /// The header of the link. If it is of cooked capture, its hardware type must be Ethernet.
     pub link: LinkHeader,
@@ -74,6 +71,7 @@ impl<'a, 'b> PacketBuilder<'a, 'b> {
     /// ```
     ///
     /// </details>
+    #[must_use]
     #[inline]
     pub fn size(&self) -> usize {
         let mut len = self.link.header_len() + content_len(&self.content);
@@ -299,7 +297,7 @@ fn write_link(target: &mut [u8], link: &LinkHeader, front: Front) {
 
 /// Writes the header of a link unchanged.
 #[inline]
-pub(crate) fn write_link_header(target: &mut [u8], link: &LinkHeader) {
+pub(in crate::ether_packet) fn write_link_header(target: &mut [u8], link: &LinkHeader) {
     match link {
         LinkHeader::Ethernet2(header) => put_at(target, 0, header.to_bytes()),
         LinkHeader::LinuxSll(header) => put_at(target, 0, header.to_bytes()),
@@ -308,7 +306,7 @@ pub(crate) fn write_link_header(target: &mut [u8], link: &LinkHeader) {
 
 /// Writes a tag from the offset `at` on.
 #[inline]
-pub(crate) fn write_ext(target: &mut [u8], at: usize, ext: &LinkExtHeader) {
+pub(in crate::ether_packet) fn write_ext(target: &mut [u8], at: usize, ext: &LinkExtHeader) {
     match ext {
         LinkExtHeader::Vlan(tag) => put_at(target, at, tag.to_bytes()),
         LinkExtHeader::Macsec(tag) => write_at(target, at, tag.to_bytes().as_slice()),
@@ -348,7 +346,7 @@ fn write_content(target: &mut [u8], len: usize, content: &PacketContent<'_>) -> 
 
 /// Writes an ARP packet that ends at the offset `end`, and returns the offset at which it starts.
 #[inline]
-pub(crate) fn write_arp(target: &mut [u8], end: usize, packet: &ArpPacket) -> usize {
+pub(in crate::ether_packet) fn write_arp(target: &mut [u8], end: usize, packet: &ArpPacket) -> usize {
     let at = end - packet.packet_len();
     write_at(target, at, packet.to_bytes().as_slice());
     at
@@ -356,7 +354,7 @@ pub(crate) fn write_arp(target: &mut [u8], end: usize, packet: &ArpPacket) -> us
 
 /// Writes bytes from the offset `at` on.
 #[inline]
-pub(crate) fn write_at(target: &mut [u8], at: usize, bytes: &[u8]) {
+pub(in crate::ether_packet) fn write_at(target: &mut [u8], at: usize, bytes: &[u8]) {
     target[at..at + bytes.len()].copy_from_slice(bytes);
 }
 
@@ -382,7 +380,7 @@ fn write_chunk<const N: usize>(target: &mut [u8], at: usize, bytes: &[u8]) {
 
 /// Does as `write_at` with an array, in one piece.
 #[inline(always)]
-pub(crate) fn put_at<const N: usize>(target: &mut [u8], at: usize, bytes: [u8; N]) {
+pub(in crate::ether_packet) fn put_at<const N: usize>(target: &mut [u8], at: usize, bytes: [u8; N]) {
     fill(&mut target[at..at + N], bytes);
 }
 

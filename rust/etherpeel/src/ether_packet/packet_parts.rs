@@ -13,12 +13,9 @@ use crate::{ArpPacket, EtherType, LinkExtHeader, LinkHeader};
 /// the trailer, nor what follows an ARP packet.
 ///
 /// ```
-/// # use etherpeel::*;
-/// # use etherpeel::ether_peel::*;
-/// # use etherpeel::ether_fields::*;
-/// # use etherpeel::ether_sll2::*;
-/// # use etherpeel::ether_packet::*;
-/// # use etherpeel::ether_packet::PacketBuilder;
+/// use etherpeel::ether_peel::Start;
+/// use etherpeel::ether_packet::{PacketBuilder, PacketSlice};
+///
 /// let frame = [
 ///     0xFF, 0xFF, 0xFF, 0xFF, 0xFF, 0xFF, 0x02, 0x00, 0x00, 0x00, 0x00, 0x01, 0x88, 0xA8, // Ethernet II
 ///     0x00, 0x0A, 0x81, 0x00, // VLAN
@@ -37,13 +34,13 @@ use crate::{ArpPacket, EtherType, LinkExtHeader, LinkHeader};
 /// };
 /// assert_eq!(inner.size(), 19);
 /// ```
-#[derive(Debug)]
+#[derive(Clone, PartialEq, Eq, Debug)]
 pub struct PacketParts<'a> {
     /// The header that the packet begins with.
     pub link: LinkHeader,
     // The first `tag_count` of these are the tags.
-    pub(crate) tags: [LinkExtHeader; PacketSlice::LINK_EXTS_CAP],
-    pub(crate) tag_count: usize,
+    pub(in crate::ether_packet) tags: [LinkExtHeader; PacketSlice::LINK_EXTS_CAP],
+    pub(in crate::ether_packet) tag_count: usize,
     /// The ARP packet, if there is one.
     pub arp: Option<ArpPacket>,
     /// The ether type that announces the rest. It is 0 if none does, as after a SecTag whose payload is encrypted.
@@ -66,6 +63,7 @@ impl<'a> PacketParts<'a> {
     /// ```
     ///
     /// </details>
+    #[must_use]
     #[inline]
     pub fn link_exts(&self) -> &[LinkExtHeader] {
         let tags = self.tags.as_slice();
@@ -80,11 +78,10 @@ impl<'a> PacketParts<'a> {
     /// are unchanged.
     ///
     /// ```
-    /// # use etherpeel::*;
-    /// # use etherpeel::ether_peel::*;
-    /// # use etherpeel::ether_fields::*;
-    /// # use etherpeel::ether_sll2::*;
-    /// # use etherpeel::ether_packet::*;
+    /// use etherpeel::{LinkExtHeader, SingleVlanHeader};
+    /// use etherpeel::ether_peel::Start;
+    /// use etherpeel::ether_packet::{PacketSlice, ReplaceError};
+    ///
     /// let frame = [
     ///     0xFF, 0xFF, 0xFF, 0xFF, 0xFF, 0xFF, 0x02, 0x00, 0x00, 0x00, 0x00, 0x01, 0x81, 0x00, // Ethernet II
     ///     0x00, 0x64, 0x08, 0x00, // VLAN
@@ -129,6 +126,7 @@ impl<'a> PacketParts<'a> {
     /// ```
     ///
     /// </details>
+    #[must_use]
     #[inline]
     pub fn builder(&self) -> PacketBuilder<'_, '_> {
         PacketBuilder {

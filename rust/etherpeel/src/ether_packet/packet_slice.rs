@@ -20,11 +20,10 @@ const LINK_EXTS_CAP: usize = 3;
 /// are read; further tags are part of the rest.
 ///
 /// ```
-/// # use etherpeel::*;
-/// # use etherpeel::ether_peel::*;
-/// # use etherpeel::ether_fields::*;
-/// # use etherpeel::ether_sll2::*;
-/// # use etherpeel::ether_packet::*;
+/// use etherpeel::EtherType;
+/// use etherpeel::ether_peel::{RestKind, Start};
+/// use etherpeel::ether_packet::PacketSlice;
+///
 /// let frame = [
 ///     0xFF, 0xFF, 0xFF, 0xFF, 0xFF, 0xFF, 0x02, 0x00, 0x00, 0x00, 0x00, 0x01, 0x88, 0xA8, // Ethernet II
 ///     0x00, 0x0A, 0x81, 0x00, // VLAN
@@ -40,7 +39,7 @@ const LINK_EXTS_CAP: usize = 3;
 /// assert_eq!(packet.rest_kind, RestKind::EtherType(EtherType::IPV4));
 /// assert_eq!(packet.rest, [0x45].as_slice());
 /// ```
-#[derive(Debug)]
+#[derive(Clone, PartialEq, Eq, Debug)]
 pub struct PacketSlice<'a> {
     read: PacketUnits<'a>,
     /// The bytes left to read in the last window: after a fault, in the window of the refused header.
@@ -71,6 +70,7 @@ impl<'a> PacketSlice<'a> {
     /// ```
     ///
     /// </details>
+    #[must_use]
     #[inline(always)]
     pub fn from_slice(start: Start, bytes: &'a [u8]) -> PacketSlice<'a> {
         let mut walk = PacketWalk {
@@ -105,6 +105,7 @@ impl<'a> PacketSlice<'a> {
     /// ```
     ///
     /// </details>
+    #[must_use]
     #[inline(always)]
     pub fn link(&self) -> Option<LinkSlice<'a>> {
         self.read.link()
@@ -120,6 +121,7 @@ impl<'a> PacketSlice<'a> {
     /// ```
     ///
     /// </details>
+    #[must_use]
     #[inline(always)]
     pub fn link_ext_count(&self) -> usize {
         self.read.ext_count()
@@ -134,6 +136,7 @@ impl<'a> PacketSlice<'a> {
     /// ```
     ///
     /// </details>
+    #[must_use]
     #[inline(always)]
     pub fn link_ext(&self, index: usize) -> Option<PacketExt<'a>> {
         self.read.ext(index)
@@ -142,11 +145,10 @@ impl<'a> PacketSlice<'a> {
     /// The VLAN tags and SecTags, outermost first.
     ///
     /// ```
-    /// # use etherpeel::*;
-    /// # use etherpeel::ether_peel::*;
-    /// # use etherpeel::ether_fields::*;
-    /// # use etherpeel::ether_sll2::*;
-    /// # use etherpeel::ether_packet::*;
+    /// use etherpeel::EtherType;
+    /// use etherpeel::ether_peel::Start;
+    /// use etherpeel::ether_packet::PacketSlice;
+    ///
     /// let tags = [
     ///     0x00, 0x0A, 0x81, 0x00, // VLAN
     ///     0x00, 0x64, 0x08, 0x00, // VLAN
@@ -164,6 +166,7 @@ impl<'a> PacketSlice<'a> {
     /// ```
     ///
     /// </details>
+    #[must_use]
     #[inline]
     pub fn link_exts(&self) -> ArrayVec<PacketExt<'a>, LINK_EXTS_CAP> {
         let mut exts = ArrayVec::new();
@@ -184,6 +187,7 @@ impl<'a> PacketSlice<'a> {
     /// ```
     ///
     /// </details>
+    #[must_use]
     #[inline(always)]
     pub fn arp(&self) -> Option<ArpPacketSlice<'a>> {
         self.read.arp()
@@ -198,6 +202,7 @@ impl<'a> PacketSlice<'a> {
     /// ```
     ///
     /// </details>
+    #[must_use]
     #[inline(always)]
     pub fn arp_offset(&self) -> Option<usize> {
         self.read.arp_offset()
@@ -215,6 +220,7 @@ impl<'a> PacketSlice<'a> {
     /// ```
     ///
     /// </details>
+    #[must_use]
     #[inline]
     pub fn vlan(&self) -> Option<VlanSlice<'a>> {
         let mut first = None;
@@ -244,6 +250,7 @@ impl<'a> PacketSlice<'a> {
     /// ```
     ///
     /// </details>
+    #[must_use]
     #[inline]
     pub fn vlan_ids(&self) -> ArrayVec<VlanId, LINK_EXTS_CAP> {
         let mut ids = ArrayVec::new();
@@ -259,11 +266,10 @@ impl<'a> PacketSlice<'a> {
     /// [`replace_link_ext`](crate::ether_packet::replace_link_ext) takes; `None` without a VLAN tag.
     ///
     /// ```
-    /// # use etherpeel::*;
-    /// # use etherpeel::ether_peel::*;
-    /// # use etherpeel::ether_fields::*;
-    /// # use etherpeel::ether_sll2::*;
-    /// # use etherpeel::ether_packet::*;
+    /// use etherpeel::EtherType;
+    /// use etherpeel::ether_peel::Start;
+    /// use etherpeel::ether_packet::PacketSlice;
+    ///
     /// let tags = [
     ///     0x00, 0x0A, 0x81, 0x00, // VLAN
     ///     0x00, 0x64, 0x08, 0x00, // VLAN
@@ -286,6 +292,7 @@ impl<'a> PacketSlice<'a> {
     /// ```
     ///
     /// </details>
+    #[must_use]
     #[inline]
     pub fn outermost_vlan(&self) -> Option<(usize, SingleVlanHeader)> {
         for index in 0..self.read.ext_count() {
@@ -305,6 +312,7 @@ impl<'a> PacketSlice<'a> {
     /// ```
     ///
     /// </details>
+    #[must_use]
     #[inline]
     pub fn macsec(&self) -> Option<MacsecSlice<'a>> {
         for index in 0..self.read.ext_count() {
@@ -327,6 +335,7 @@ impl<'a> PacketSlice<'a> {
     /// ```
     ///
     /// </details>
+    #[must_use]
     #[inline]
     pub fn ether_payload(&self) -> Option<EtherPayloadSlice<'a>> {
         match self.read.ext(self.read.ext_count().saturating_sub(1)) {
@@ -351,6 +360,7 @@ impl<'a> PacketSlice<'a> {
     /// ```
     ///
     /// </details>
+    #[must_use]
     #[inline]
     pub fn to_parts(&self) -> Option<PacketParts<'a>> {
         let ether_type = match self.rest_kind {
@@ -371,6 +381,7 @@ impl<'a> PacketSlice<'a> {
     /// ```
     ///
     /// </details>
+    #[must_use]
     #[inline]
     pub fn is_complete(&self) -> bool {
         self.fault.is_none()
@@ -386,11 +397,9 @@ impl<'a> PacketSlice<'a> {
     /// frame check sequence does not count: a cut frame has lost it, and is read as a frame without one.
     ///
     /// ```
-    /// # use etherpeel::*;
-    /// # use etherpeel::ether_peel::*;
-    /// # use etherpeel::ether_fields::*;
-    /// # use etherpeel::ether_sll2::*;
-    /// # use etherpeel::ether_packet::*;
+    /// use etherpeel::ether_peel::Start;
+    /// use etherpeel::ether_packet::PacketSlice;
+    ///
     /// let frame = [
     ///     0xFF, 0xFF, 0xFF, 0xFF, 0xFF, 0xFF, 0x02, 0x00, 0x00, 0x00, 0x00, 0x01, 0x81, 0x00, // Ethernet II
     ///     0xB1, 0x23, 0x08, 0x00, // VLAN
@@ -407,6 +416,7 @@ impl<'a> PacketSlice<'a> {
     /// ```
     ///
     /// </details>
+    #[must_use]
     #[inline]
     pub fn min_snap_len(&self) -> usize {
         self.read.min_snap_len()

@@ -10,7 +10,7 @@ use crate::{
 };
 
 /// The kind of the link's header at the front of a frame, if there is one.
-#[derive(Clone, Copy, Debug)]
+#[derive(Clone, Copy, PartialEq, Eq, Hash, Debug)]
 enum LinkKind {
     Missing,
     Ethernet2,
@@ -19,8 +19,8 @@ enum LinkKind {
 }
 
 /// The headers that were read from a frame, each with its window.
-#[derive(Debug)]
-pub(crate) struct PacketUnits<'a> {
+#[derive(Clone, PartialEq, Eq, Debug)]
+pub(in crate::ether_packet) struct PacketUnits<'a> {
     frame: &'a [u8],
     link: LinkKind,
     exts: ExtPlaces<'a>,
@@ -37,6 +37,7 @@ impl<'a> PacketUnits<'a> {
     /// ```
     ///
     /// </details>
+    #[must_use]
     #[inline(always)]
     pub fn new(frame: &'a [u8]) -> PacketUnits<'a> {
         PacketUnits {
@@ -49,9 +50,11 @@ impl<'a> PacketUnits<'a> {
 
     /// Appends a header that was read in a window.
     ///
-    /// <details><summary>Contract</summary>
+    /// # Panics
     ///
-    /// The caller must meet each `requires`; otherwise the call may panic or return something else.
+    /// The call may panic, or return something else, if a `requires` of its contract is not met.
+    ///
+    /// <details><summary>Contract</summary>
     ///
     /// ```text
     /// requires fits { HasPlace self.old unit.now place }
@@ -86,6 +89,7 @@ impl<'a> PacketUnits<'a> {
     /// ```
     ///
     /// </details>
+    #[must_use]
     #[inline(always)]
     pub fn link(&self) -> Option<LinkSlice<'a>> {
         match self.link {
@@ -106,6 +110,7 @@ impl<'a> PacketUnits<'a> {
     /// ```
     ///
     /// </details>
+    #[must_use]
     #[inline(always)]
     pub fn ext_count(&self) -> usize {
         self.exts.len()
@@ -121,6 +126,7 @@ impl<'a> PacketUnits<'a> {
     /// ```
     ///
     /// </details>
+    #[must_use]
     #[inline(always)]
     pub fn ext(&self, index: usize) -> Option<PacketExt<'a>> {
         match index {
@@ -149,6 +155,7 @@ impl<'a> PacketUnits<'a> {
     /// ```
     ///
     /// </details>
+    #[must_use]
     #[inline(always)]
     pub fn tag(&self, index: usize) -> Option<SingleVlanSlice<'a>> {
         match self.ext(index) {
@@ -172,6 +179,7 @@ impl<'a> PacketUnits<'a> {
     /// ```
     ///
     /// </details>
+    #[must_use]
     #[inline(always)]
     pub fn sec_tag(&self, index: usize) -> Option<MacsecSlice<'a>> {
         match self.ext(index) {
@@ -194,6 +202,7 @@ impl<'a> PacketUnits<'a> {
     /// ```
     ///
     /// </details>
+    #[must_use]
     #[inline(always)]
     pub fn arp(&self) -> Option<ArpPacketSlice<'a>> {
         match self.arp {
@@ -211,6 +220,7 @@ impl<'a> PacketUnits<'a> {
     /// ```
     ///
     /// </details>
+    #[must_use]
     #[inline(always)]
     pub fn arp_offset(&self) -> Option<usize> {
         match self.arp {
@@ -228,6 +238,7 @@ impl<'a> PacketUnits<'a> {
     /// ```
     ///
     /// </details>
+    #[must_use]
     #[inline]
     pub fn frame_after(&self, at: usize, len: usize) -> &'a [u8] {
         let frame = self.frame;
@@ -247,6 +258,7 @@ impl<'a> PacketUnits<'a> {
     /// ```
     ///
     /// </details>
+    #[must_use]
     #[inline]
     pub fn to_parts(
         &self,
@@ -284,6 +296,7 @@ impl<'a> PacketUnits<'a> {
     /// ```
     ///
     /// </details>
+    #[must_use]
     #[inline]
     pub fn min_snap_len(&self) -> usize {
         let (at, end) = tags_reach(self.link, &self.exts);

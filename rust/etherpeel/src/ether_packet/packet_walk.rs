@@ -5,7 +5,7 @@ use crate::ether_packet::packet_units::PacketUnits;
 use crate::ether_peel::{Peel, PeelFault};
 
 /// A walk, the headers that it has returned, and the fault if it has ended in one.
-pub(crate) struct PacketWalk<'a> {
+pub(in crate::ether_packet) struct PacketWalk<'a> {
     pub peel: Peel<'a>,
     pub read: PacketUnits<'a>,
     pub fault: Option<PeelFault>,
@@ -16,9 +16,11 @@ impl<'a> PacketWalk<'a> {
     /// instructions. Functions that read two headers each are too long to be inlined, and take twice as many as the
     /// loop.
     ///
-    /// <details><summary>Contract</summary>
+    /// # Panics
     ///
-    /// The caller must meet each `requires`; otherwise the call may panic or return something else.
+    /// The call may panic, or return something else, if a `requires` of its contract is not met.
+    ///
+    /// <details><summary>Contract</summary>
     ///
     /// ```text
     /// requires going { IsUnderWay self.old }

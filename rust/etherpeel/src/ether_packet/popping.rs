@@ -26,11 +26,10 @@ use crate::SingleVlanHeader;
 /// # Examples
 ///
 /// ```
-/// # use etherpeel::*;
-/// # use etherpeel::ether_peel::*;
-/// # use etherpeel::ether_fields::*;
-/// # use etherpeel::ether_sll2::*;
-/// # use etherpeel::ether_packet::*;
+/// use etherpeel::SingleVlanHeader;
+/// use etherpeel::ether_peel::Start;
+/// use etherpeel::ether_packet::pop_vlan;
+///
 /// # fn main() -> Result<(), Box<dyn std::error::Error>> {
 /// let mut frame = [
 ///     0xFF, 0xFF, 0xFF, 0xFF, 0xFF, 0xFF, 0x02, 0x00, 0x00, 0x00, 0x00, 0x01, 0x81, 0x00, // Ethernet II
@@ -79,7 +78,7 @@ pub fn pop_vlan(start: Start, frame: &mut [u8]) -> Result<SingleVlanHeader, TagE
 
 /// Requires that a VLAN tag follows the link's header.
 #[inline(always)]
-pub(crate) fn require_tag(start: Start, frame: &[u8]) -> Result<(), TagError> {
+pub(in crate::ether_packet) fn require_tag(start: Start, frame: &[u8]) -> Result<(), TagError> {
     let link = typed_link(start, frame)?;
     if !link.ether_type.announces_vlan() {
         return Err(TagError::NoVlan);

@@ -32,11 +32,10 @@ use crate::{EtherType, SingleVlanHeader};
 /// # Examples
 ///
 /// ```
-/// # use etherpeel::*;
-/// # use etherpeel::ether_peel::*;
-/// # use etherpeel::ether_fields::*;
-/// # use etherpeel::ether_sll2::*;
-/// # use etherpeel::ether_packet::*;
+/// use etherpeel::{EtherType, SingleVlanHeader, VlanId};
+/// use etherpeel::ether_peel::Start;
+/// use etherpeel::ether_packet::push_vlan;
+///
 /// # fn main() -> Result<(), Box<dyn std::error::Error>> {
 /// let mut buffer = [
 ///     0x00, 0x00, 0x00, 0x00, // free

@@ -7,17 +7,14 @@ use core::fmt;
 /// Why a header is not replaced. The frame is then unchanged.
 ///
 /// ```
-/// # use etherpeel::*;
-/// # use etherpeel::ether_peel::*;
-/// # use etherpeel::ether_fields::*;
-/// # use etherpeel::ether_sll2::*;
-/// # use etherpeel::ether_packet::*;
+/// use etherpeel::ether_packet::ReplaceError;
+///
 /// assert_eq!(
 ///     format!("{}", ReplaceError::NoLinkExt(1)).as_str(),
 ///     "There is no VLAN tag or SecTag at this index: the frame has 1."
 /// );
 /// ```
-#[derive(Clone, Copy, PartialEq, Eq, Debug)]
+#[derive(Clone, Copy, PartialEq, Eq, Hash, Debug)]
 pub enum ReplaceError {
     /// The frame does not begin with a link's header that can be read.
     NoLink,

@@ -25,11 +25,10 @@ use crate::{Ethernet2Slice, LinkExtHeader, LinkHeader, LinuxSllSlice};
 /// # Examples
 ///
 /// ```
-/// # use etherpeel::*;
-/// # use etherpeel::ether_peel::*;
-/// # use etherpeel::ether_fields::*;
-/// # use etherpeel::ether_sll2::*;
-/// # use etherpeel::ether_packet::*;
+/// use etherpeel::{LinkExtHeader, SingleVlanHeader};
+/// use etherpeel::ether_peel::Start;
+/// use etherpeel::ether_packet::replace_link_ext;
+///
 /// let mut frame = [
 ///     0xFF, 0xFF, 0xFF, 0xFF, 0xFF, 0xFF, 0x02, 0x00, 0x00, 0x00, 0x00, 0x01, 0x88, 0xA8, // Ethernet II
 ///     0x00, 0x0A, 0x81, 0x00, // VLAN
@@ -126,11 +125,10 @@ fn ext_difference(new: &LinkExtHeader, old: &LinkExtHeader) -> Option<Difference
 /// # Examples
 ///
 /// ```
-/// # use etherpeel::*;
-/// # use etherpeel::ether_peel::*;
-/// # use etherpeel::ether_fields::*;
-/// # use etherpeel::ether_sll2::*;
-/// # use etherpeel::ether_packet::*;
+/// use etherpeel::{EtherType, Ethernet2Header, LinkHeader};
+/// use etherpeel::ether_peel::Start;
+/// use etherpeel::ether_packet::replace_link;
+///
 /// let mut frame = [
 ///     0xFF, 0xFF, 0xFF, 0xFF, 0xFF, 0xFF, 0x02, 0x00, 0x00, 0x00, 0x00, 0x01, 0x81, 0x00, // Ethernet II
 ///     0xB1, 0x23, 0x08, 0x00, // VLAN

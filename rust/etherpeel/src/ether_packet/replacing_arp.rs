@@ -26,11 +26,10 @@ use crate::{ArpPacket, ArpPacketSlice};
 /// are left to [`replace_link`](crate::ether_packet::replace_link).
 ///
 /// ```
-/// # use etherpeel::*;
-/// # use etherpeel::ether_peel::*;
-/// # use etherpeel::ether_fields::*;
-/// # use etherpeel::ether_sll2::*;
-/// # use etherpeel::ether_packet::*;
+/// use etherpeel::{ArpEthIpv4Packet, ArpOperation};
+/// use etherpeel::ether_peel::Start;
+/// use etherpeel::ether_packet::replace_arp;
+///
 /// let mut frame = [
 ///     0xFF, 0xFF, 0xFF, 0xFF, 0xFF, 0xFF, 0x02, 0x00, 0x00, 0x00, 0x00, 0x01, 0x08, 0x06, // Ethernet II
 ///     0x00, 0x01, 0x08, 0x00, 0x06, 0x04, 0x00, 0x01, // ARP

@@ -28,11 +28,10 @@ struct IndexedVlan {
 /// # Examples
 ///
 /// ```
-/// # use etherpeel::*;
-/// # use etherpeel::ether_peel::*;
-/// # use etherpeel::ether_fields::*;
-/// # use etherpeel::ether_sll2::*;
-/// # use etherpeel::ether_packet::*;
+/// use etherpeel::VlanId;
+/// use etherpeel::ether_peel::Start;
+/// use etherpeel::ether_packet::find_vlan;
+///
 /// # fn main() -> Result<(), Box<dyn std::error::Error>> {
 /// let frame = [
 ///     0xFF, 0xFF, 0xFF, 0xFF, 0xFF, 0xFF, 0x02, 0x00, 0x00, 0x00, 0x00, 0x01, 0x88, 0xA8, // Ethernet II
@@ -56,6 +55,7 @@ struct IndexedVlan {
 /// ```
 ///
 /// </details>
+#[must_use]
 #[inline]
 pub fn find_vlan(start: Start, frame: &[u8], vlan_id: VlanId) -> Option<usize> {
     let found = outermost_with(start, frame, vlan_id)?;
@@ -72,11 +72,10 @@ pub fn find_vlan(start: Start, frame: &[u8], vlan_id: VlanId) -> Option<usize> {
 /// # Examples
 ///
 /// ```
-/// # use etherpeel::*;
-/// # use etherpeel::ether_peel::*;
-/// # use etherpeel::ether_fields::*;
-/// # use etherpeel::ether_sll2::*;
-/// # use etherpeel::ether_packet::*;
+/// use etherpeel::VlanId;
+/// use etherpeel::ether_peel::Start;
+/// use etherpeel::ether_packet::replace_vlan_id;
+///
 /// # fn main() -> Result<(), Box<dyn std::error::Error>> {
 /// let mut frame = [
 ///     0xFF, 0xFF, 0xFF, 0xFF, 0xFF, 0xFF, 0x02, 0x00, 0x00, 0x00, 0x00, 0x01, 0x88, 0xA8, // Ethernet II
@@ -131,11 +130,10 @@ pub fn replace_vlan_id(start: Start, frame: &mut [u8], from: VlanId, to: VlanId)
 /// # Examples
 ///
 /// ```
-/// # use etherpeel::*;
-/// # use etherpeel::ether_peel::*;
-/// # use etherpeel::ether_fields::*;
-/// # use etherpeel::ether_sll2::*;
-/// # use etherpeel::ether_packet::*;
+/// use etherpeel::VlanId;
+/// use etherpeel::ether_peel::Start;
+/// use etherpeel::ether_packet::set_vlan_id;
+///
 /// # fn main() -> Result<(), Box<dyn std::error::Error>> {
 /// let mut frame = [
 ///     0xFF, 0xFF, 0xFF, 0xFF, 0xFF, 0xFF, 0x02, 0x00, 0x00, 0x00, 0x00, 0x01, 0x81, 0x00, // Ethernet II
@@ -189,11 +187,10 @@ pub fn set_vlan_id(
 /// # Examples
 ///
 /// ```
-/// # use etherpeel::*;
-/// # use etherpeel::ether_peel::*;
-/// # use etherpeel::ether_fields::*;
-/// # use etherpeel::ether_sll2::*;
-/// # use etherpeel::ether_packet::*;
+/// use etherpeel::{VlanId, VlanPcp};
+/// use etherpeel::ether_peel::Start;
+/// use etherpeel::ether_packet::set_vlan_tag;
+///
 /// # fn main() -> Result<(), Box<dyn std::error::Error>> {
 /// let mut frame = [
 ///     0xFF, 0xFF, 0xFF, 0xFF, 0xFF, 0xFF, 0x02, 0x00, 0x00, 0x00, 0x00, 0x01, 0x81, 0x00, // Ethernet II
@@ -259,11 +256,10 @@ pub fn set_vlan_tag(
 /// # Examples
 ///
 /// ```
-/// # use etherpeel::*;
-/// # use etherpeel::ether_peel::*;
-/// # use etherpeel::ether_fields::*;
-/// # use etherpeel::ether_sll2::*;
-/// # use etherpeel::ether_packet::*;
+/// use etherpeel::EtherType;
+/// use etherpeel::ether_peel::Start;
+/// use etherpeel::ether_packet::set_tpid;
+///
 /// # fn main() -> Result<(), Box<dyn std::error::Error>> {
 /// let mut frame = [
 ///     0xFF, 0xFF, 0xFF, 0xFF, 0xFF, 0xFF, 0x02, 0x00, 0x00, 0x00, 0x00, 0x01, 0x81, 0x00, // Ethernet II

@@ -9,11 +9,9 @@ use crate::ether_peel::{Peel, PeelUnit, Start};
 /// A frame check sequence is not counted, nor is a header that is refused.
 ///
 /// ```
-/// # use etherpeel::*;
-/// # use etherpeel::ether_peel::*;
-/// # use etherpeel::ether_fields::*;
-/// # use etherpeel::ether_sll2::*;
-/// # use etherpeel::ether_packet::*;
+/// use etherpeel::ether_peel::Start;
+/// use etherpeel::ether_packet::min_snap_len;
+///
 /// let frame = [
 ///     0xFF, 0xFF, 0xFF, 0xFF, 0xFF, 0xFF, 0x02, 0x00, 0x00, 0x00, 0x00, 0x01, 0x81, 0x00, // Ethernet II
 ///     0xB1, 0x23, 0x08, 0x00, // VLAN
@@ -33,6 +31,7 @@ use crate::ether_peel::{Peel, PeelUnit, Start};
 /// ```
 ///
 /// </details>
+#[must_use]
 #[inline]
 pub fn min_snap_len(start: Start, frame: &[u8]) -> usize {
     reached(start, frame)

@@ -7,17 +7,15 @@ use core::fmt;
 /// Why a VLAN tag is not taken off, put in or changed. The frame is then unchanged.
 ///
 /// ```
-/// # use etherpeel::*;
-/// # use etherpeel::ether_peel::*;
-/// # use etherpeel::ether_fields::*;
-/// # use etherpeel::ether_sll2::*;
-/// # use etherpeel::ether_packet::*;
+/// use etherpeel::EtherType;
+/// use etherpeel::ether_packet::TagError;
+///
 /// assert_eq!(
 ///     format!("{}", TagError::Tpid(EtherType::IPV4)).as_str(),
 ///     "No VLAN tag is announced by the ether type 2048."
 /// );
 /// ```
-#[derive(Clone, Copy, PartialEq, Eq, Debug)]
+#[derive(Clone, Copy, PartialEq, Eq, Hash, Debug)]
 pub enum TagError {
     /// This ether type does not announce a VLAN tag: it is not 0x8100, 0x88A8 or 0x9100.
     Tpid(EtherType),

@@ -10,7 +10,7 @@ use crate::{
 
 /// A link's header whose payload has an ether type.
 #[derive(Clone, Copy)]
-pub(crate) struct TypedLink {
+pub(in crate::ether_packet) struct TypedLink {
     /// The length of the payload in bytes, without a frame check sequence.
     pub payload_len: usize,
     /// The ether type of the payload.
@@ -19,7 +19,7 @@ pub(crate) struct TypedLink {
 
 /// Reads the link's header at the front of a frame.
 #[inline(always)]
-pub(crate) fn typed_link(start: Start, frame: &[u8]) -> Result<TypedLink, TagError> {
+pub(in crate::ether_packet) fn typed_link(start: Start, frame: &[u8]) -> Result<TypedLink, TagError> {
     match start {
         Start::Ethernet2 => match Ethernet2Slice::from_slice_without_fcs(frame) {
             Ok(slice) => Ok(TypedLink {
@@ -66,6 +66,6 @@ fn other_hardware(frame: &[u8]) -> Option<ArpHardwareId> {
 
 /// The `N` bytes of a slice from the offset `at` on.
 #[inline(always)]
-pub(crate) fn chunk_at<const N: usize>(bytes: &[u8], at: usize) -> [u8; N] {
+pub(in crate::ether_packet) fn chunk_at<const N: usize>(bytes: &[u8], at: usize) -> [u8; N] {
     *bytes[at..at + N].first_chunk().unwrap()
 }

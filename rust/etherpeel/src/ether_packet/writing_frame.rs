@@ -16,6 +16,7 @@ impl<'a> PacketParts<'a> {
     /// ```
     ///
     /// </details>
+    #[must_use]
     #[inline]
     pub fn frame_len(&self) -> usize {
         let headers = PacketBuilder {
@@ -45,11 +46,10 @@ impl<'a> PacketParts<'a> {
     /// An ARP request with a VLAN tag, and 14 bytes of padding, which are kept when the VLAN ID is changed:
     ///
     /// ```
-    /// # use etherpeel::*;
-    /// # use etherpeel::ether_peel::*;
-    /// # use etherpeel::ether_fields::*;
-    /// # use etherpeel::ether_sll2::*;
-    /// # use etherpeel::ether_packet::*;
+    /// use etherpeel::{LinkExtHeader, SingleVlanHeader};
+    /// use etherpeel::ether_peel::Start;
+    /// use etherpeel::ether_packet::PacketSlice;
+    ///
     /// let frame = [
     ///     0xFF, 0xFF, 0xFF, 0xFF, 0xFF, 0xFF, 0x02, 0x00, 0x00, 0x00, 0x00, 0x01, 0x81, 0x00, // Ethernet II
     ///     0x00, 0x64, 0x08, 0x06, // VLAN

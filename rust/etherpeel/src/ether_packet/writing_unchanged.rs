@@ -21,12 +21,12 @@ impl<'a, 'b> PacketBuilder<'a, 'b> {
     /// The target is shorter than [`size`](Self::size). It is then unchanged.
     ///
     /// ```
-    /// # use etherpeel::*;
-    /// # use etherpeel::ether_peel::*;
-    /// # use etherpeel::ether_fields::*;
-    /// # use etherpeel::ether_sll2::*;
-    /// # use etherpeel::ether_packet::*;
-    /// # use etherpeel::ether_packet::PacketBuilder;
+    /// use etherpeel::{
+    ///     EtherType, Ethernet2Header, LinkExtHeader, LinkHeader, MacsecAn, MacsecHeader, MacsecPType,
+    ///     MacsecShortLen,
+    /// };
+    /// use etherpeel::ether_packet::{PacketBuilder, PacketContent};
+    ///
     /// # fn main() -> Result<(), Box<dyn std::error::Error>> {
     /// let tag = MacsecHeader {
     ///     ptype: MacsecPType::Unmodified(EtherType::IPV4),
@@ -79,7 +79,7 @@ impl<'a, 'b> PacketBuilder<'a, 'b> {
 
     /// Writes the headers one after the other, and then the content.
     #[inline]
-    pub(crate) fn write_parts(&self, target: &mut [u8]) {
+    pub(in crate::ether_packet) fn write_parts(&self, target: &mut [u8]) {
         write_link_header(target, &self.link);
         let mut at = self.link.header_len();
         for ext in self.link_exts {

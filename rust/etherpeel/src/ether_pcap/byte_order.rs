@@ -5,18 +5,14 @@ use crate::ether_base::big_endian::u64_of;
 /// The order of the bytes of each number in a capture file: that of the machine that wrote it.
 ///
 /// ```
-/// # use etherpeel::*;
-/// # use etherpeel::ether_peel::*;
-/// # use etherpeel::ether_fields::*;
-/// # use etherpeel::ether_sll2::*;
-/// # use etherpeel::ether_packet::*;
-/// # use etherpeel::ether_filter::*;
-/// # use etherpeel::ether_pcap::*;
+/// use etherpeel::ether_pcap::ByteOrder;
+///
 /// assert_eq!(ByteOrder::BigEndian.u16_of([0x02, 0x01]), 513);
 /// assert_eq!(ByteOrder::LittleEndian.u16_of([0x02, 0x01]), 258);
 /// assert_eq!(ByteOrder::LittleEndian.bytes_of_u16(258), [0x02, 0x01]);
 /// ```
-#[derive(Clone, Copy, PartialEq, Eq, Debug)]
+#[cfg_attr(feature = "serde", derive(serde::Serialize, serde::Deserialize))]
+#[derive(Clone, Copy, PartialEq, Eq, Hash, Debug)]
 pub enum ByteOrder {
     /// The most significant byte comes first.
     BigEndian,
@@ -34,6 +30,7 @@ impl ByteOrder {
     /// ```
     ///
     /// </details>
+    #[must_use]
     #[inline]
     pub fn u16_of(self, bytes: [u8; 2]) -> u16 {
         match self {
@@ -51,6 +48,7 @@ impl ByteOrder {
     /// ```
     ///
     /// </details>
+    #[must_use]
     #[inline]
     pub fn u32_of(self, bytes: [u8; 4]) -> u32 {
         match self {
@@ -68,6 +66,7 @@ impl ByteOrder {
     /// ```
     ///
     /// </details>
+    #[must_use]
     #[inline]
     pub fn u64_of(self, bytes: [u8; 8]) -> u64 {
         match self {
@@ -85,6 +84,7 @@ impl ByteOrder {
     /// ```
     ///
     /// </details>
+    #[must_use]
     #[inline]
     pub fn bytes_of_u16(self, number: u16) -> [u8; 2] {
         match self {
@@ -102,6 +102,7 @@ impl ByteOrder {
     /// ```
     ///
     /// </details>
+    #[must_use]
     #[inline]
     pub fn bytes_of_u32(self, number: u32) -> [u8; 4] {
         match self {
@@ -112,13 +113,13 @@ impl ByteOrder {
 
     /// The number in the two bytes from the offset `at` on.
     #[inline]
-    pub(crate) fn u16_at(self, bytes: &[u8], at: usize) -> u16 {
+    pub(in crate::ether_pcap) fn u16_at(self, bytes: &[u8], at: usize) -> u16 {
         self.u16_of([bytes[at], bytes[at + 1]])
     }
 
     /// The number in the four bytes from the offset `at` on.
     #[inline]
-    pub(crate) fn u32_at(self, bytes: &[u8], at: usize) -> u32 {
+    pub(in crate::ether_pcap) fn u32_at(self, bytes: &[u8], at: usize) -> u32 {
         self.u32_of([bytes[at], bytes[at + 1], bytes[at + 2], bytes[at + 3]])
     }
 }

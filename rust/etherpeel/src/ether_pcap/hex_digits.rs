@@ -4,7 +4,7 @@ use core::fmt;
 
 /// A number as eight upper-case hexadecimal digits.
 #[derive(Clone, Copy)]
-pub(crate) struct EightDigits(pub u32);
+pub(in crate::ether_pcap) struct EightDigits(pub u32);
 
 impl fmt::Display for EightDigits {
     fn fmt(&self, f: &mut fmt::Formatter<'_>) -> fmt::Result {

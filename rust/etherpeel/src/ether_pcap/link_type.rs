@@ -1,7 +1,8 @@
 //! What each packet of a capture begins with.
 
 /// What each packet of a capture begins with: a `LINKTYPE_` number of the tcpdump group. Any number is allowed.
-#[derive(Clone, Copy, PartialEq, Eq, Debug)]
+#[cfg_attr(feature = "serde", derive(serde::Serialize, serde::Deserialize))]
+#[derive(Clone, Copy, PartialEq, Eq, Hash, Debug)]
 pub struct LinkType(pub u16);
 
 impl LinkType {

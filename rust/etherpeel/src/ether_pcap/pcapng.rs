@@ -5,13 +5,13 @@
 //! [`SimplePacket`] has a packet of such an interface. All but simple packets can also be written.
 mod block_error;
 mod body_error;
-pub(crate) mod enhanced_packet;
+pub(in crate::ether_pcap) mod enhanced_packet;
 mod interface_description;
 mod pcapng_block;
 mod pcapng_option;
 mod section_error;
 mod section_header;
-pub(crate) mod simple_packet;
+pub(in crate::ether_pcap) mod simple_packet;
 
 pub use block_error::BlockError;
 pub use body_error::BodyError;

@@ -4,19 +4,19 @@ use crate::ether_pcap::ByteOrder;
 
 /// The bytes of a number of 32 bits.
 #[inline]
-pub(crate) fn word(order: ByteOrder, number: u32) -> [u8; 4] {
+pub(in crate::ether_pcap) fn word(order: ByteOrder, number: u32) -> [u8; 4] {
     order.bytes_of_u32(number)
 }
 
 /// Rounds a number of bytes up to a multiple of 4.
 #[inline]
-pub(crate) fn padded_len(len: usize) -> usize {
+pub(in crate::ether_pcap) fn padded_len(len: usize) -> usize {
     len.div_ceil(4) * 4
 }
 
 /// The four bytes of a length, modulo 2^32.
 #[inline]
-pub(crate) fn len_word(order: ByteOrder, len: usize) -> [u8; 4] {
+pub(in crate::ether_pcap) fn len_word(order: ByteOrder, len: usize) -> [u8; 4] {
     word(order, (len as u64 % 0x1_0000_0000) as u32)
 }
 
@@ -28,7 +28,7 @@ fn half_word(order: ByteOrder, number: u16) -> [u8; 2] {
 
 /// The bytes of two numbers of 16 bits.
 #[inline]
-pub(crate) fn half_words(order: ByteOrder, first: u16, second: u16) -> [u8; 4] {
+pub(in crate::ether_pcap) fn half_words(order: ByteOrder, first: u16, second: u16) -> [u8; 4] {
     let [a, b] = half_word(order, first);
     let [c, d] = half_word(order, second);
     [a, b, c, d]
@@ -36,7 +36,7 @@ pub(crate) fn half_words(order: ByteOrder, first: u16, second: u16) -> [u8; 4] {
 
 /// Joins four words.
 #[inline]
-pub(crate) fn four_words(a: [u8; 4], b: [u8; 4], c: [u8; 4], d: [u8; 4]) -> [u8; 16] {
+pub(in crate::ether_pcap) fn four_words(a: [u8; 4], b: [u8; 4], c: [u8; 4], d: [u8; 4]) -> [u8; 16] {
     let [a0, a1, a2, a3] = a;
     let [b0, b1, b2, b3] = b;
     let [c0, c1, c2, c3] = c;
@@ -48,7 +48,7 @@ pub(crate) fn four_words(a: [u8; 4], b: [u8; 4], c: [u8; 4], d: [u8; 4]) -> [u8;
 
 /// Joins three words.
 #[inline]
-pub(crate) fn three_words(a: [u8; 4], b: [u8; 4], c: [u8; 4]) -> [u8; 12] {
+pub(in crate::ether_pcap) fn three_words(a: [u8; 4], b: [u8; 4], c: [u8; 4]) -> [u8; 12] {
     let [a0, a1, a2, a3] = a;
     let [b0, b1, b2, b3] = b;
     let [c0, c1, c2, c3] = c;
@@ -57,7 +57,7 @@ pub(crate) fn three_words(a: [u8; 4], b: [u8; 4], c: [u8; 4]) -> [u8; 12] {
 
 /// Appends three words to four.
 #[inline]
-pub(crate) fn seven_words(front: [u8; 16], e: [u8; 4], f: [u8; 4], g: [u8; 4]) -> [u8; 28] {
+pub(in crate::ether_pcap) fn seven_words(front: [u8; 16], e: [u8; 4], f: [u8; 4], g: [u8; 4]) -> [u8; 28] {
     let [
         a0,
         a1,

@@ -32,8 +32,8 @@ const ZEROS: [u8; 1027] = [0; 1027];
 /// result takes 1,028 bytes of stack and its length, in the callee and in the caller.
 ///
 /// ```
-/// # use etherpeel::*;
-/// # use etherpeel::ether_peel::*;
+/// use etherpeel::ether_peel::{Start, completion};
+///
 /// let frame = [
 ///     0xFF, 0xFF, 0xFF, 0xFF, 0xFF, 0xFF, 0x02, 0x00, 0x00, 0x00, 0x00, 0x01, 0x08, 0x06, // Ethernet II
 ///     0x00, 0x01, 0x08, 0x00, 0x01, 0x02, // ARP: addresses of one and of two bytes
@@ -50,6 +50,7 @@ const ZEROS: [u8; 1027] = [0; 1027];
 /// ```
 ///
 /// </details>
+#[must_use]
 #[inline]
 pub fn completion(start: Start, bytes: &[u8]) -> Option<ArrayVec<u8, 1028>> {
     completed(start, bytes, None)
@@ -61,8 +62,8 @@ pub fn completion(start: Start, bytes: &[u8]) -> Option<ArrayVec<u8, 1028>> {
 /// It is also `None` if a tag that was cut short is beyond the limit, since that walk accepts the frame.
 ///
 /// ```
-/// # use etherpeel::*;
-/// # use etherpeel::ether_peel::*;
+/// use etherpeel::ether_peel::{Start, completion_limited};
+///
 /// let frame = [
 ///     0xFF, 0xFF, 0xFF, 0xFF, 0xFF, 0xFF, 0x02, 0x00, 0x00, 0x00, 0x00, 0x01, 0x81, 0x00, // Ethernet II
 ///     0xB1, 0x23, // VLAN
@@ -80,6 +81,7 @@ pub fn completion(start: Start, bytes: &[u8]) -> Option<ArrayVec<u8, 1028>> {
 /// ```
 ///
 /// </details>
+#[must_use]
 #[inline]
 pub fn completion_limited(start: Start, bytes: &[u8], limit: usize) -> Option<ArrayVec<u8, 1028>> {
     completed(start, bytes, Some(limit))

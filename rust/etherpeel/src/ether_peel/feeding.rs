@@ -13,8 +13,8 @@ use crate::ether_peel::{Feed, Peel, PeelError, PeelFault, Start};
 /// closed, so nothing is asked for.
 ///
 /// ```
-/// # use etherpeel::*;
-/// # use etherpeel::ether_peel::*;
+/// use etherpeel::ether_peel::{Start, feed};
+///
 /// let frame = [
 ///     0xFF, 0xFF, 0xFF, 0xFF, 0xFF, 0xFF, 0x02, 0x00, 0x00, 0x00, 0x00, 0x01, 0x81, 0x00, // Ethernet II
 ///     0xB1, 0x23, 0x08, 0x00, // VLAN
@@ -33,6 +33,7 @@ use crate::ether_peel::{Feed, Peel, PeelError, PeelFault, Start};
 /// ```
 ///
 /// </details>
+#[must_use]
 #[inline]
 pub fn feed(start: Start, bytes: &[u8]) -> Feed {
     fed(start, bytes, None)
@@ -43,8 +44,8 @@ pub fn feed(start: Start, bytes: &[u8]) -> Feed {
 /// It asks for no byte of the tags that it does not read.
 ///
 /// ```
-/// # use etherpeel::*;
-/// # use etherpeel::ether_peel::*;
+/// use etherpeel::ether_peel::{Start, feed_limited};
+///
 /// let frame = [
 ///     0xFF, 0xFF, 0xFF, 0xFF, 0xFF, 0xFF, 0x02, 0x00, 0x00, 0x00, 0x00, 0x01, 0x81, 0x00, // Ethernet II
 ///     0xB1, 0x23, 0x08, 0x00, // VLAN
@@ -63,6 +64,7 @@ pub fn feed(start: Start, bytes: &[u8]) -> Feed {
 /// ```
 ///
 /// </details>
+#[must_use]
 #[inline]
 pub fn feed_limited(start: Start, bytes: &[u8], limit: usize) -> Feed {
     fed(start, bytes, Some(limit))

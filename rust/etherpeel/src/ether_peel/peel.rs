@@ -24,8 +24,9 @@ enum First {
 /// The units borrow the frame, and outlive the walk. A frame of `n` bytes has at most `n / 4` units.
 ///
 /// ```
-/// # use etherpeel::*;
-/// # use etherpeel::ether_peel::*;
+/// use etherpeel::EtherType;
+/// use etherpeel::ether_peel::{Peel, PeelUnit, RestKind, Start};
+///
 /// let frame = [
 ///     0xFF, 0xFF, 0xFF, 0xFF, 0xFF, 0xFF, 0x02, 0x00, 0x00, 0x00, 0x00, 0x01, 0x81, 0x00, // Ethernet II
 ///     0xB1, 0x23, 0x08, 0x00, // VLAN
@@ -44,7 +45,8 @@ enum First {
 /// assert_eq!(peel.rest(), [0x45].as_slice());
 /// assert_eq!(peel.kind(), RestKind::EtherType(EtherType::IPV4));
 /// ```
-#[derive(Debug)]
+#[must_use = "iterators are lazy and do nothing unless consumed"]
+#[derive(Clone, Debug)]
 pub struct Peel<'a> {
     /// The window left to read.
     rest: &'a [u8],
@@ -88,8 +90,9 @@ impl<'a> Peel<'a> {
     /// the unit that [`Start::EtherType`] announces does.
     ///
     /// ```
-    /// # use etherpeel::*;
-    /// # use etherpeel::ether_peel::*;
+    /// use etherpeel::EtherType;
+    /// use etherpeel::ether_peel::{Peel, PeelUnit, RestKind, Start};
+    ///
     /// let tags = [
     ///     0x00, 0x01, 0x81, 0x00, // VLAN
     ///     0x00, 0x02, 0x08, 0x00, // VLAN
@@ -117,7 +120,7 @@ impl<'a> Peel<'a> {
 
     /// Begins a walk with a limit or without.
     #[inline(always)]
-    pub(crate) fn begin(start: Start, bytes: &'a [u8], limit: Option<usize>) -> Peel<'a> {
+    pub(in crate::ether_peel) fn begin(start: Start, bytes: &'a [u8], limit: Option<usize>) -> Peel<'a> {
         let (first, announced, kind) = match start {
             Start::Ethernet2 => (First::Ethernet2, UNANNOUNCED, RestKind::Start),
             Start::Ethernet2Fcs => (First::Ethernet2Fcs, UNANNOUNCED, RestKind::Start),
@@ -148,6 +151,7 @@ impl<'a> Peel<'a> {
     /// ```
     ///
     /// </details>
+    #[must_use]
     #[inline(always)]
     pub fn rest(&self) -> &'a [u8] {
         self.rest
@@ -163,6 +167,7 @@ impl<'a> Peel<'a> {
     /// ```
     ///
     /// </details>
+    #[must_use]
     #[inline(always)]
     pub fn offset(&self) -> usize {
         self.end - self.rest.len()
@@ -177,6 +182,7 @@ impl<'a> Peel<'a> {
     /// ```
     ///
     /// </details>
+    #[must_use]
     #[inline(always)]
     pub fn kind(&self) -> RestKind {
         self.kind
@@ -191,6 +197,7 @@ impl<'a> Peel<'a> {
     /// ```
     ///
     /// </details>
+    #[must_use]
     #[inline(always)]
     pub fn closed(&self) -> bool {
         self.is_closed
@@ -208,6 +215,7 @@ impl<'a> Peel<'a> {
     /// ```
     ///
     /// </details>
+    #[must_use]
     #[inline(always)]
     pub fn bound(&self) -> LenSource {
         self.bound
@@ -243,7 +251,7 @@ impl<'a> Iterator for Peel<'a> {
 impl<'a> Peel<'a> {
     /// Goes on at the refused unit, with a longer front of the frame.
     #[inline(always)]
-    pub(crate) fn go_on(&mut self, bytes: &'a [u8]) {
+    pub(in crate::ether_peel) fn go_on(&mut self, bytes: &'a [u8]) {
         self.rest = &bytes[self.offset()..];
         self.end = bytes.len();
         self.is_over = false;

@@ -4,7 +4,8 @@ use crate::err::{self, LenError};
 use core::fmt::{self, Display};
 
 /// Why a unit is refused. `Display` gives the text of the error within.
-#[derive(Clone, Copy, PartialEq, Eq, Debug)]
+#[cfg_attr(feature = "serde", derive(serde::Serialize, serde::Deserialize))]
+#[derive(Clone, Copy, PartialEq, Eq, Hash, Debug)]
 pub enum PeelError {
     /// The unit needs more bytes than there are.
     Len(LenError),

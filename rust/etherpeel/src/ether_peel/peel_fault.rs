@@ -6,7 +6,8 @@ use core::fmt;
 /// A unit that is refused, which ends a walk.
 ///
 /// `Display` gives `at offset O: ` and the text of the error.
-#[derive(Clone, Copy, PartialEq, Eq)]
+#[cfg_attr(feature = "serde", derive(serde::Serialize, serde::Deserialize))]
+#[derive(Clone, Copy, PartialEq, Eq, Hash)]
 pub struct PeelFault {
     /// Where the unit starts, in bytes from the start of the frame.
     pub offset: usize,
@@ -29,6 +30,7 @@ impl PeelFault {
     /// ```
     ///
     /// </details>
+    #[must_use]
     #[inline]
     pub fn missing(&self) -> Option<usize> {
         match &self.error {

@@ -2,7 +2,8 @@
 use crate::{EtherType, LinuxSllProtocolType};
 
 /// What the bytes that are left of a frame are announced as.
-#[derive(Clone, Copy, PartialEq, Eq, Debug)]
+#[cfg_attr(feature = "serde", derive(serde::Serialize, serde::Deserialize))]
+#[derive(Clone, Copy, PartialEq, Eq, Hash, Debug)]
 pub enum RestKind {
     /// The header that the frame begins with, which is not read yet.
     Start,

@@ -2,7 +2,8 @@
 use crate::EtherType;
 
 /// What a frame begins with.
-#[derive(Clone, Copy, PartialEq, Eq, Debug)]
+#[cfg_attr(feature = "serde", derive(serde::Serialize, serde::Deserialize))]
+#[derive(Clone, Copy, PartialEq, Eq, Hash, Debug)]
 pub enum Start {
     /// An Ethernet II header, of a frame without a frame check sequence.
     Ethernet2,

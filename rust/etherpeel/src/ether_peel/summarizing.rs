@@ -5,8 +5,9 @@ use crate::ether_peel::{Peel, PeelFault, Start, Summary};
 /// Walks through a frame to its end, and returns the result.
 ///
 /// ```
-/// # use etherpeel::*;
-/// # use etherpeel::ether_peel::*;
+/// use etherpeel::EtherType;
+/// use etherpeel::ether_peel::{RestKind, Start, summary};
+///
 /// let frame = [
 ///     0xFF, 0xFF, 0xFF, 0xFF, 0xFF, 0xFF, 0x02, 0x00, 0x00, 0x00, 0x00, 0x01, 0x81, 0x00, // Ethernet II
 ///     0xB1, 0x23, 0x08, 0x00, // VLAN
@@ -26,6 +27,7 @@ use crate::ether_peel::{Peel, PeelFault, Start, Summary};
 /// ```
 ///
 /// </details>
+#[must_use]
 #[inline(always)]
 pub fn summary(start: Start, bytes: &[u8]) -> Summary {
     summarized(start, bytes, None)
@@ -38,8 +40,9 @@ pub fn summary(start: Start, bytes: &[u8]) -> Summary {
 /// than `bytes.len() / 4` changes nothing.
 ///
 /// ```
-/// # use etherpeel::*;
-/// # use etherpeel::ether_peel::*;
+/// use etherpeel::EtherType;
+/// use etherpeel::ether_peel::{RestKind, Start, summary_limited};
+///
 /// let frame = [
 ///     0xFF, 0xFF, 0xFF, 0xFF, 0xFF, 0xFF, 0x02, 0x00, 0x00, 0x00, 0x00, 0x01, 0x81, 0x00, // Ethernet II
 ///     0xB1, 0x23, 0x08, 0x00, // VLAN
@@ -60,6 +63,7 @@ pub fn summary(start: Start, bytes: &[u8]) -> Summary {
 /// ```
 ///
 /// </details>
+#[must_use]
 #[inline(always)]
 pub fn summary_limited(start: Start, bytes: &[u8], limit: usize) -> Summary {
     summarized(start, bytes, Some(limit))
@@ -67,7 +71,7 @@ pub fn summary_limited(start: Start, bytes: &[u8], limit: usize) -> Summary {
 
 /// The result of the walk through a frame, with a limit on extensions or without.
 #[inline(always)]
-pub(crate) fn summarized(start: Start, bytes: &[u8], limit: Option<usize>) -> Summary {
+pub(in crate::ether_peel) fn summarized(start: Start, bytes: &[u8], limit: Option<usize>) -> Summary {
     let mut peel = Peel::begin(start, bytes, limit);
     let mut units = 0;
     loop {
@@ -88,8 +92,8 @@ pub(crate) fn summarized(start: Start, bytes: &[u8], limit: Option<usize>) -> Su
 /// many bytes it needs at least.
 ///
 /// ```
-/// # use etherpeel::*;
-/// # use etherpeel::ether_peel::*;
+/// use etherpeel::ether_peel::{Start, snap};
+///
 /// let frame = [
 ///     0xFF, 0xFF, 0xFF, 0xFF, 0xFF, 0xFF, 0x02, 0x00, 0x00, 0x00, 0x00, 0x01, 0x81, 0x00, // Ethernet II
 ///     0xB1, 0x23, 0x08, 0x00, // VLAN
@@ -99,9 +103,11 @@ pub(crate) fn summarized(start: Start, bytes: &[u8], limit: Option<usize>) -> Su
 /// assert_eq!(found.fault.as_ref().and_then(|fault| fault.missing()), Some(2));
 /// ```
 ///
-/// <details><summary>Contract</summary>
+/// # Panics
 ///
-/// The caller must meet each `requires`; otherwise the call may panic or return something else.
+/// The call may panic, or return something else, if a `requires` of its contract is not met.
+///
+/// <details><summary>Contract</summary>
 ///
 /// ```text
 /// requires { n ≤ length bytes.now }
@@ -109,6 +115,7 @@ pub(crate) fn summarized(start: Start, bytes: &[u8], limit: Option<usize>) -> Su
 /// ```
 ///
 /// </details>
+#[must_use]
 #[inline(always)]
 pub fn snap(start: Start, bytes: &[u8], n: usize) -> Summary {
     snapped(start, bytes, n, None)
@@ -119,8 +126,8 @@ pub fn snap(start: Start, bytes: &[u8], n: usize) -> Summary {
 /// `n` must be at most the length of the frame.
 ///
 /// ```
-/// # use etherpeel::*;
-/// # use etherpeel::ether_peel::*;
+/// use etherpeel::ether_peel::{Start, snap_limited};
+///
 /// let frame = [
 ///     0xFF, 0xFF, 0xFF, 0xFF, 0xFF, 0xFF, 0x02, 0x00, 0x00, 0x00, 0x00, 0x01, 0x81, 0x00, // Ethernet II
 ///     0xB1, 0x23, 0x08, 0x00, // VLAN
@@ -130,9 +137,11 @@ pub fn snap(start: Start, bytes: &[u8], n: usize) -> Summary {
 /// assert_eq!(found.fault.as_ref().and_then(|fault| fault.missing()), Some(2));
 /// ```
 ///
-/// <details><summary>Contract</summary>
+/// # Panics
 ///
-/// The caller must meet each `requires`; otherwise the call may panic or return something else.
+/// The call may panic, or return something else, if a `requires` of its contract is not met.
+///
+/// <details><summary>Contract</summary>
 ///
 /// ```text
 /// requires { n ≤ length bytes.now }
@@ -140,6 +149,7 @@ pub fn snap(start: Start, bytes: &[u8], n: usize) -> Summary {
 /// ```
 ///
 /// </details>
+#[must_use]
 #[inline(always)]
 pub fn snap_limited(start: Start, bytes: &[u8], n: usize, limit: usize) -> Summary {
     snapped(start, bytes, n, Some(limit))

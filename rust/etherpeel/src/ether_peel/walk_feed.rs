@@ -2,7 +2,8 @@
 use crate::ether_peel::PeelFault;
 
 /// The result of [`feed`](crate::ether_peel::feed): how often a walk asked for more bytes, how many it took, and how it ended.
-#[derive(Clone, Copy, PartialEq, Eq, Debug)]
+#[cfg_attr(feature = "serde", derive(serde::Serialize, serde::Deserialize))]
+#[derive(Clone, Copy, PartialEq, Eq, Hash, Debug)]
 pub struct Feed {
     /// How often the walk asked for more bytes and was given them.
     pub refusals: usize,

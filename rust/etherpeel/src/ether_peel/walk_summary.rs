@@ -2,7 +2,8 @@
 use crate::ether_peel::{PeelFault, RestKind};
 
 /// The result of the walk through a frame.
-#[derive(Clone, Copy, PartialEq, Eq, Debug)]
+#[cfg_attr(feature = "serde", derive(serde::Serialize, serde::Deserialize))]
+#[derive(Clone, Copy, PartialEq, Eq, Hash, Debug)]
 pub struct Summary {
     /// The number of units.
     pub units: usize,

@@ -17,8 +17,9 @@ use crate::err::{Layer, SliceWriteSpaceError};
 /// target's length, `layer` is [`Layer::EtherPayload`] and `layer_start_offset` is 0.
 ///
 /// ```
-/// # use etherpeel::*;
-/// # use etherpeel::ether_peel::*;
+/// use etherpeel::EtherType;
+/// use etherpeel::ether_peel::{Start, write_back};
+///
 /// # fn main() -> Result<(), Box<dyn std::error::Error>> {
 /// let frame = [
 ///     0x00, 0x46, 0x00, 0x00, 0x00, 0x01, 0x81, 0x00, // SecTag: names four bytes, has a reserved bit set
@@ -63,8 +64,9 @@ pub fn write_back(
 /// Those of [`write_back`], with the end of the window that this walk leaves.
 ///
 /// ```
-/// # use etherpeel::*;
-/// # use etherpeel::ether_peel::*;
+/// use etherpeel::EtherType;
+/// use etherpeel::ether_peel::{Start, write_back_limited};
+///
 /// # fn main() -> Result<(), Box<dyn std::error::Error>> {
 /// let tag = [
 ///     0x2C, 0xC0, 0x00, 0x00, 0x00, 0x01, // SecTag: has both reserved bits set

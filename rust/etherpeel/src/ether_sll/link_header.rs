@@ -6,7 +6,8 @@ use crate::ether_tags::Ethernet2Header;
 /// A link header: of Linux cooked capture v1, or of an Ethernet II frame.
 ///
 /// ```
-/// # use etherpeel::*;
+/// use etherpeel::{EtherType, Ethernet2Header, LinkHeader};
+///
 /// let mut link = LinkHeader::Ethernet2(Ethernet2Header::default());
 /// if let Some(header) = link.mut_ethernet2() {
 ///     header.ether_type = EtherType::IPV4;
@@ -14,7 +15,8 @@ use crate::ether_tags::Ethernet2Header;
 /// assert_eq!(link.header_len(), 14);
 /// assert_eq!(link.linux_sll(), None);
 /// ```
-#[derive(Clone, Copy, PartialEq, Eq, Debug)]
+#[cfg_attr(feature = "serde", derive(serde::Serialize, serde::Deserialize))]
+#[derive(Clone, Copy, PartialEq, Eq, Hash, Debug)]
 pub enum LinkHeader {
     /// A header of Linux cooked capture v1.
     LinuxSll(LinuxSllHeader),
@@ -32,6 +34,7 @@ impl LinkHeader {
     /// ```
     ///
     /// </details>
+    #[must_use]
     #[inline]
     pub fn ethernet2(self) -> Option<Ethernet2Header> {
         match self {
@@ -68,6 +71,7 @@ impl LinkHeader {
     /// ```
     ///
     /// </details>
+    #[must_use]
     #[inline]
     pub fn linux_sll(self) -> Option<LinuxSllHeader> {
         match self {
@@ -104,6 +108,7 @@ impl LinkHeader {
     /// ```
     ///
     /// </details>
+    #[must_use]
     #[inline]
     pub fn header_len(&self) -> usize {
         match self {

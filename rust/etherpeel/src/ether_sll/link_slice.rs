@@ -6,7 +6,8 @@ use crate::ether_tags::{EtherPayloadSlice, Ethernet2Slice, LinuxSllPayloadSlice}
 /// A view of a link's packet, of Ethernet II or Linux cooked capture v1, or of a payload without its header.
 ///
 /// ```
-/// # use etherpeel::*;
+/// use etherpeel::{EtherPayloadSlice, EtherType, LenSource, LinkSlice, LinuxSllSlice};
+///
 /// # fn main() -> Result<(), Box<dyn std::error::Error>> {
 /// let bytes = [0, 4, 0, 1, 0, 6, 2, 0, 0, 0, 0, 1, 0, 0, 0x08, 0x00, 0x45];
 /// let link = LinkSlice::LinuxSll(LinuxSllSlice::from_slice(&bytes)?);
@@ -41,6 +42,7 @@ impl<'a> LinkSlice<'a> {
     /// ```
     ///
     /// </details>
+    #[must_use]
     #[inline]
     pub fn to_header(&self) -> Option<LinkHeader> {
         match self {
@@ -62,6 +64,7 @@ impl<'a> LinkSlice<'a> {
     /// ```
     ///
     /// </details>
+    #[must_use]
     #[inline]
     pub fn ether_payload(&self) -> Option<EtherPayloadSlice<'a>> {
         match self {
@@ -84,6 +87,7 @@ impl<'a> LinkSlice<'a> {
     /// ```
     ///
     /// </details>
+    #[must_use]
     #[inline]
     pub fn sll_payload(&self) -> LinuxSllPayloadSlice<'a> {
         match self {

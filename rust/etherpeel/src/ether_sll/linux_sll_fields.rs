@@ -28,7 +28,7 @@ const PROTOCOL: usize = 14;
 /// Tests that a slice begins with a header whose packet type and hardware type are supported. Errors are those of
 /// `LinuxSllHeader::from_slice`.
 #[inline]
-pub(crate) fn require_header(slice: &[u8]) -> Result<(), HeaderSliceError> {
+pub(in crate::ether_sll) fn require_header(slice: &[u8]) -> Result<(), HeaderSliceError> {
     if slice.len() < LinuxSllHeader::LEN {
         return Err(HeaderSliceError::Len(too_short(
             LinuxSllHeader::LEN,
@@ -45,7 +45,7 @@ pub(crate) fn require_header(slice: &[u8]) -> Result<(), HeaderSliceError> {
 
 /// Tests that the packet type is supported, and then that the hardware type is. The error names the number.
 #[inline]
-pub(crate) fn require_content(bytes: &[u8]) -> Result<(), HeaderError> {
+pub(in crate::ether_sll) fn require_content(bytes: &[u8]) -> Result<(), HeaderError> {
     LinuxSllPacketType::try_from(packet_type_number(bytes))?;
     LinuxSllProtocolType::try_from((arp_hardware_type(bytes), protocol_number(bytes)))?;
     Ok(())
@@ -53,7 +53,7 @@ pub(crate) fn require_content(bytes: &[u8]) -> Result<(), HeaderError> {
 
 /// The packet type.
 #[inline(always)]
-pub(crate) fn packet_type(bytes: &[u8]) -> LinuxSllPacketType {
+pub(in crate::ether_sll) fn packet_type(bytes: &[u8]) -> LinuxSllPacketType {
     match LinuxSllPacketType::try_from(packet_type_number(bytes)) {
         Ok(packet_type) => packet_type,
         Err(_) => unreachable!(),
@@ -69,6 +69,7 @@ pub(crate) fn packet_type(bytes: &[u8]) -> LinuxSllPacketType {
 /// ```
 ///
 /// </details>
+#[must_use]
 #[inline(always)]
 pub fn arp_hardware_type(bytes: &[u8]) -> ArpHardwareId {
     ArpHardwareId(u16_at(bytes, HARDWARE_TYPE))
@@ -83,6 +84,7 @@ pub fn arp_hardware_type(bytes: &[u8]) -> ArpHardwareId {
 /// ```
 ///
 /// </details>
+#[must_use]
 #[inline]
 pub fn sender_address_valid_length(bytes: &[u8]) -> u16 {
     u16_at(bytes, ADDRESS_LENGTH)
@@ -97,6 +99,7 @@ pub fn sender_address_valid_length(bytes: &[u8]) -> u16 {
 /// ```
 ///
 /// </details>
+#[must_use]
 #[inline]
 pub fn sender_address_full(bytes: &[u8]) -> [u8; 8] {
     bytes_of_u64(u64_at(bytes, ADDRESS))
@@ -104,7 +107,7 @@ pub fn sender_address_full(bytes: &[u8]) -> [u8; 8] {
 
 /// The sender's address, or its first 8 bytes if it is longer.
 #[inline]
-pub(crate) fn sender_address(bytes: &[u8]) -> &[u8] {
+pub(in crate::ether_sll) fn sender_address(bytes: &[u8]) -> &[u8] {
     let valid = sender_address_valid_length(bytes);
     let len = if valid < 8 { usize::from(valid) } else { 8 };
     &bytes[ADDRESS..ADDRESS + len]
@@ -112,7 +115,7 @@ pub(crate) fn sender_address(bytes: &[u8]) -> &[u8] {
 
 /// The protocol type, in the variant that the hardware type gives it.
 #[inline(always)]
-pub(crate) fn protocol_type(bytes: &[u8]) -> LinuxSllProtocolType {
+pub(in crate::ether_sll) fn protocol_type(bytes: &[u8]) -> LinuxSllProtocolType {
     match LinuxSllProtocolType::try_from((arp_hardware_type(bytes), protocol_number(bytes))) {
         Ok(protocol_type) => protocol_type,
         Err(_) => unreachable!(),
@@ -121,7 +124,7 @@ pub(crate) fn protocol_type(bytes: &[u8]) -> LinuxSllProtocolType {
 
 /// The header with all its fields.
 #[inline]
-pub(crate) fn header(bytes: &[u8]) -> LinuxSllHeader {
+pub(in crate::ether_sll) fn header(bytes: &[u8]) -> LinuxSllHeader {
     LinuxSllHeader {
         packet_type: packet_type(bytes),
         arp_hrd_type: arp_hardware_type(bytes),
@@ -140,6 +143,7 @@ pub(crate) fn header(bytes: &[u8]) -> LinuxSllHeader {
 /// ```
 ///
 /// </details>
+#[must_use]
 #[inline(always)]
 pub fn packet_type_number(bytes: &[u8]) -> u16 {
     u16_at(bytes, PACKET_TYPE)
@@ -154,6 +158,7 @@ pub fn packet_type_number(bytes: &[u8]) -> u16 {
 /// ```
 ///
 /// </details>
+#[must_use]
 #[inline(always)]
 pub fn protocol_number(bytes: &[u8]) -> u16 {
     u16_at(bytes, PROTOCOL)

@@ -18,7 +18,8 @@ use crate::ether_base::{ArpHardwareId, LinuxSllPacketType, LinuxSllProtocolType,
 /// Public fields are not checked against each other.
 ///
 /// ```
-/// # use etherpeel::*;
+/// use etherpeel::{ArpHardwareId, EtherType, LinuxSllHeader, LinuxSllPacketType, LinuxSllProtocolType};
+///
 /// let bytes = [0, 4, 0, 1, 0, 6, 2, 0, 0, 0, 0, 1, 0, 0, 0x08, 0x00];
 /// let header = LinuxSllHeader {
 ///     packet_type: LinuxSllPacketType::OUTGOING,
@@ -30,7 +31,8 @@ use crate::ether_base::{ArpHardwareId, LinuxSllPacketType, LinuxSllProtocolType,
 /// assert_eq!(LinuxSllHeader::from_bytes(bytes), Ok(header));
 /// assert_eq!(header.to_bytes(), bytes);
 /// ```
-#[derive(Clone, Copy, PartialEq, Eq, Debug)]
+#[cfg_attr(feature = "serde", derive(serde::Serialize, serde::Deserialize))]
+#[derive(Clone, Copy, PartialEq, Eq, Hash, Debug)]
 pub struct LinuxSllHeader {
     /// The packet type: who sent the packet to whom.
     pub packet_type: LinuxSllPacketType,
@@ -114,6 +116,7 @@ impl LinuxSllHeader {
     /// ```
     ///
     /// </details>
+    #[must_use]
     #[inline]
     pub fn header_len(&self) -> usize {
         LinuxSllHeader::LEN
@@ -136,6 +139,7 @@ impl LinuxSllHeader {
     /// ```
     ///
     /// </details>
+    #[must_use]
     #[inline]
     pub fn to_bytes(&self) -> [u8; 16] {
         joined(

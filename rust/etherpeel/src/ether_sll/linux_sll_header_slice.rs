@@ -11,7 +11,10 @@ use crate::ether_base::{ArpHardwareId, LinuxSllPacketType, LinuxSllProtocolType}
 /// Two views are equal if their bytes are equal, wherever they are in memory.
 ///
 /// ```
-/// # use etherpeel::*;
+/// use etherpeel::{
+///     ArpHardwareId, EtherType, LinuxSllHeaderSlice, LinuxSllPacketType, LinuxSllProtocolType,
+/// };
+///
 /// # fn main() -> Result<(), Box<dyn std::error::Error>> {
 /// let bytes = [0, 4, 0, 1, 0, 6, 2, 0, 0, 0, 0, 1, 0, 0, 0x08, 0x00, 0x45];
 /// let header = LinuxSllHeaderSlice::from_slice(&bytes)?;
@@ -74,6 +77,7 @@ impl<'a> LinuxSllHeaderSlice<'a> {
     /// ```
     ///
     /// </details>
+    #[must_use]
     #[inline]
     pub fn slice(&self) -> &'a [u8] {
         self.slice
@@ -88,6 +92,7 @@ impl<'a> LinuxSllHeaderSlice<'a> {
     /// ```
     ///
     /// </details>
+    #[must_use]
     #[inline]
     pub fn packet_type(&self) -> LinuxSllPacketType {
         linux_sll_fields::packet_type(self.slice)
@@ -102,6 +107,7 @@ impl<'a> LinuxSllHeaderSlice<'a> {
     /// ```
     ///
     /// </details>
+    #[must_use]
     #[inline]
     pub fn packet_type_number(&self) -> u16 {
         linux_sll_fields::packet_type_number(self.slice)
@@ -116,6 +122,7 @@ impl<'a> LinuxSllHeaderSlice<'a> {
     /// ```
     ///
     /// </details>
+    #[must_use]
     #[inline]
     pub fn arp_hardware_type(&self) -> ArpHardwareId {
         linux_sll_fields::arp_hardware_type(self.slice)
@@ -130,6 +137,7 @@ impl<'a> LinuxSllHeaderSlice<'a> {
     /// ```
     ///
     /// </details>
+    #[must_use]
     #[inline]
     pub fn sender_address_valid_length(&self) -> u16 {
         linux_sll_fields::sender_address_valid_length(self.slice)
@@ -144,6 +152,7 @@ impl<'a> LinuxSllHeaderSlice<'a> {
     /// ```
     ///
     /// </details>
+    #[must_use]
     #[inline]
     pub fn sender_address_full(&self) -> [u8; 8] {
         linux_sll_fields::sender_address_full(self.slice)
@@ -158,6 +167,7 @@ impl<'a> LinuxSllHeaderSlice<'a> {
     /// ```
     ///
     /// </details>
+    #[must_use]
     #[inline]
     pub fn sender_address(&self) -> &'a [u8] {
         linux_sll_fields::sender_address(self.slice)
@@ -172,6 +182,7 @@ impl<'a> LinuxSllHeaderSlice<'a> {
     /// ```
     ///
     /// </details>
+    #[must_use]
     #[inline]
     pub fn protocol_type(&self) -> LinuxSllProtocolType {
         linux_sll_fields::protocol_type(self.slice)
@@ -186,6 +197,7 @@ impl<'a> LinuxSllHeaderSlice<'a> {
     /// ```
     ///
     /// </details>
+    #[must_use]
     #[inline]
     pub fn protocol_number(&self) -> u16 {
         linux_sll_fields::protocol_number(self.slice)
@@ -201,6 +213,7 @@ impl<'a> LinuxSllHeaderSlice<'a> {
     /// ```
     ///
     /// </details>
+    #[must_use]
     #[inline]
     pub fn to_header(&self) -> LinuxSllHeader {
         linux_sll_fields::header(self.slice)

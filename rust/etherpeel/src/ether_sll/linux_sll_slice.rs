@@ -12,7 +12,8 @@ use core::fmt;
 /// Two views are equal if their bytes are equal, wherever they are in memory.
 ///
 /// ```
-/// # use etherpeel::*;
+/// use etherpeel::{EtherType, LinuxSllPacketType, LinuxSllProtocolType, LinuxSllSlice};
+///
 /// # fn main() -> Result<(), Box<dyn std::error::Error>> {
 /// let bytes = [0, 4, 0, 1, 0, 6, 2, 0, 0, 0, 0, 1, 0, 0, 0x08, 0x00, 0x45];
 /// let packet = LinuxSllSlice::from_slice(&bytes)?;
@@ -67,6 +68,7 @@ impl<'a> LinuxSllSlice<'a> {
     /// ```
     ///
     /// </details>
+    #[must_use]
     #[inline]
     pub fn slice(&self) -> &'a [u8] {
         self.slice
@@ -81,6 +83,7 @@ impl<'a> LinuxSllSlice<'a> {
     /// ```
     ///
     /// </details>
+    #[must_use]
     #[inline(always)]
     pub fn packet_type(&self) -> LinuxSllPacketType {
         linux_sll_fields::packet_type(self.slice)
@@ -95,6 +98,7 @@ impl<'a> LinuxSllSlice<'a> {
     /// ```
     ///
     /// </details>
+    #[must_use]
     #[inline]
     pub fn packet_type_number(&self) -> u16 {
         linux_sll_fields::packet_type_number(self.slice)
@@ -109,6 +113,7 @@ impl<'a> LinuxSllSlice<'a> {
     /// ```
     ///
     /// </details>
+    #[must_use]
     #[inline]
     pub fn arp_hardware_type(&self) -> ArpHardwareId {
         linux_sll_fields::arp_hardware_type(self.slice)
@@ -123,6 +128,7 @@ impl<'a> LinuxSllSlice<'a> {
     /// ```
     ///
     /// </details>
+    #[must_use]
     #[inline]
     pub fn sender_address_valid_length(&self) -> u16 {
         linux_sll_fields::sender_address_valid_length(self.slice)
@@ -137,6 +143,7 @@ impl<'a> LinuxSllSlice<'a> {
     /// ```
     ///
     /// </details>
+    #[must_use]
     #[inline]
     pub fn sender_address_full(&self) -> [u8; 8] {
         linux_sll_fields::sender_address_full(self.slice)
@@ -151,6 +158,7 @@ impl<'a> LinuxSllSlice<'a> {
     /// ```
     ///
     /// </details>
+    #[must_use]
     #[inline]
     pub fn sender_address(&self) -> &'a [u8] {
         linux_sll_fields::sender_address(self.slice)
@@ -165,6 +173,7 @@ impl<'a> LinuxSllSlice<'a> {
     /// ```
     ///
     /// </details>
+    #[must_use]
     #[inline(always)]
     pub fn protocol_type(&self) -> LinuxSllProtocolType {
         linux_sll_fields::protocol_type(self.slice)
@@ -179,6 +188,7 @@ impl<'a> LinuxSllSlice<'a> {
     /// ```
     ///
     /// </details>
+    #[must_use]
     #[inline]
     pub fn protocol_number(&self) -> u16 {
         linux_sll_fields::protocol_number(self.slice)
@@ -194,6 +204,7 @@ impl<'a> LinuxSllSlice<'a> {
     /// ```
     ///
     /// </details>
+    #[must_use]
     #[inline]
     pub fn header_slice(&self) -> &[u8] {
         &self.slice[..LinuxSllHeader::LEN]
@@ -209,6 +220,7 @@ impl<'a> LinuxSllSlice<'a> {
     /// ```
     ///
     /// </details>
+    #[must_use]
     #[inline]
     pub fn to_header(&self) -> LinuxSllHeader {
         linux_sll_fields::header(self.slice)
@@ -224,6 +236,7 @@ impl<'a> LinuxSllSlice<'a> {
     /// ```
     ///
     /// </details>
+    #[must_use]
     #[inline]
     pub fn payload(&self) -> LinuxSllPayloadSlice<'a> {
         LinuxSllPayloadSlice {
@@ -241,6 +254,7 @@ impl<'a> LinuxSllSlice<'a> {
     /// ```
     ///
     /// </details>
+    #[must_use]
     #[inline]
     pub fn payload_slice(&self) -> &'a [u8] {
         let slice = self.slice;
@@ -256,6 +270,7 @@ impl<'a> LinuxSllSlice<'a> {
     /// ```
     ///
     /// </details>
+    #[must_use]
     #[inline]
     pub const fn header_len(&self) -> usize {
         LinuxSllHeader::LEN

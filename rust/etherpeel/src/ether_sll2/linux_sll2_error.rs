@@ -6,10 +6,8 @@ use core::fmt;
 /// Why bytes do not begin with a header of Linux cooked capture v2.
 ///
 /// ```
-/// # use etherpeel::*;
-/// # use etherpeel::ether_peel::*;
-/// # use etherpeel::ether_fields::*;
-/// # use etherpeel::ether_sll2::*;
+/// use etherpeel::ether_sll2::LinuxSll2Error;
+///
 /// let error = LinuxSll2Error::Len {
 ///     required_len: 20,
 ///     len: 19,
@@ -19,7 +17,7 @@ use core::fmt;
 ///     "A header of Linux cooked capture v2 needs 20 byte(s); only 19 are available."
 /// );
 /// ```
-#[derive(Clone, Copy, PartialEq, Eq, Debug)]
+#[derive(Clone, Copy, PartialEq, Eq, Hash, Debug)]
 pub enum LinuxSll2Error {
     /// The slice is too short.
     Len {

@@ -52,9 +52,11 @@ pub fn require_header(slice: &[u8]) -> Result<(), LinuxSll2Error> {
 
 /// Tests that the packet type is at most 7. The error has the packet type.
 ///
-/// <details><summary>Contract</summary>
+/// # Panics
 ///
-/// The caller must meet each `requires`; otherwise the call may panic or return something else.
+/// The call may panic, or return something else, if a `requires` of its contract is not met.
+///
+/// <details><summary>Contract</summary>
 ///
 /// ```text
 /// requires { 20 ≤ length bytes.now }
@@ -75,9 +77,11 @@ pub fn require_packet_type(bytes: &[u8]) -> Result<(), LinuxSll2Error> {
 
 /// The protocol type, in the variant that the hardware type gives it.
 ///
-/// <details><summary>Contract</summary>
+/// # Panics
 ///
-/// The caller must meet each `requires`; otherwise the call may panic or return something else.
+/// The call may panic, or return something else, if a `requires` of its contract is not met.
+///
+/// <details><summary>Contract</summary>
 ///
 /// ```text
 /// requires { 20 ≤ length bytes.now }
@@ -85,6 +89,7 @@ pub fn require_packet_type(bytes: &[u8]) -> Result<(), LinuxSll2Error> {
 /// ```
 ///
 /// </details>
+#[must_use]
 #[inline(always)]
 pub fn protocol_type(bytes: &[u8]) -> LinuxSllProtocolType {
     protocol_type_on(arp_hardware_type(bytes), protocol_number(bytes))
@@ -92,9 +97,11 @@ pub fn protocol_type(bytes: &[u8]) -> LinuxSllProtocolType {
 
 /// The index of the interface on the capturing machine.
 ///
-/// <details><summary>Contract</summary>
+/// # Panics
 ///
-/// The caller must meet each `requires`; otherwise the call may panic or return something else.
+/// The call may panic, or return something else, if a `requires` of its contract is not met.
+///
+/// <details><summary>Contract</summary>
 ///
 /// ```text
 /// requires { 20 ≤ length bytes.now }
@@ -102,6 +109,7 @@ pub fn protocol_type(bytes: &[u8]) -> LinuxSllProtocolType {
 /// ```
 ///
 /// </details>
+#[must_use]
 #[inline]
 pub fn interface_index(bytes: &[u8]) -> u32 {
     u32_in(&bytes[INTERFACE_INDEX])
@@ -109,9 +117,11 @@ pub fn interface_index(bytes: &[u8]) -> u32 {
 
 /// The ARPHRD_ type of the interface.
 ///
-/// <details><summary>Contract</summary>
+/// # Panics
 ///
-/// The caller must meet each `requires`; otherwise the call may panic or return something else.
+/// The call may panic, or return something else, if a `requires` of its contract is not met.
+///
+/// <details><summary>Contract</summary>
 ///
 /// ```text
 /// requires { 20 ≤ length bytes.now }
@@ -119,6 +129,7 @@ pub fn interface_index(bytes: &[u8]) -> u32 {
 /// ```
 ///
 /// </details>
+#[must_use]
 #[inline]
 pub fn arp_hardware_type(bytes: &[u8]) -> ArpHardwareId {
     ArpHardwareId(u16_in(&bytes[HARDWARE_TYPE]))
@@ -126,9 +137,11 @@ pub fn arp_hardware_type(bytes: &[u8]) -> ArpHardwareId {
 
 /// The packet type as a number.
 ///
-/// <details><summary>Contract</summary>
+/// # Panics
 ///
-/// The caller must meet each `requires`; otherwise the call may panic or return something else.
+/// The call may panic, or return something else, if a `requires` of its contract is not met.
+///
+/// <details><summary>Contract</summary>
 ///
 /// ```text
 /// requires { 20 ≤ length bytes.now }
@@ -136,6 +149,7 @@ pub fn arp_hardware_type(bytes: &[u8]) -> ArpHardwareId {
 /// ```
 ///
 /// </details>
+#[must_use]
 #[inline(always)]
 pub fn packet_type_number(bytes: &[u8]) -> u8 {
     byte_at(bytes, PACKET_TYPE)
@@ -143,9 +157,11 @@ pub fn packet_type_number(bytes: &[u8]) -> u8 {
 
 /// The protocol as a number.
 ///
-/// <details><summary>Contract</summary>
+/// # Panics
 ///
-/// The caller must meet each `requires`; otherwise the call may panic or return something else.
+/// The call may panic, or return something else, if a `requires` of its contract is not met.
+///
+/// <details><summary>Contract</summary>
 ///
 /// ```text
 /// requires { 20 ≤ length bytes.now }
@@ -153,6 +169,7 @@ pub fn packet_type_number(bytes: &[u8]) -> u8 {
 /// ```
 ///
 /// </details>
+#[must_use]
 #[inline(always)]
 pub fn protocol_number(bytes: &[u8]) -> u16 {
     u16_in(&bytes[PROTOCOL])
@@ -160,9 +177,11 @@ pub fn protocol_number(bytes: &[u8]) -> u16 {
 
 /// The packet type.
 ///
-/// <details><summary>Contract</summary>
+/// # Panics
 ///
-/// The caller must meet each `requires`; otherwise the call may panic or return something else.
+/// The call may panic, or return something else, if a `requires` of its contract is not met.
+///
+/// <details><summary>Contract</summary>
 ///
 /// ```text
 /// requires { HoldsLinuxSll2 bytes.now }
@@ -170,6 +189,7 @@ pub fn protocol_number(bytes: &[u8]) -> u16 {
 /// ```
 ///
 /// </details>
+#[must_use]
 #[inline(always)]
 pub fn packet_type(bytes: &[u8]) -> LinuxSllPacketType {
     match LinuxSllPacketType::try_from(u16::from(packet_type_number(bytes))) {
@@ -180,9 +200,11 @@ pub fn packet_type(bytes: &[u8]) -> LinuxSllPacketType {
 
 /// The length of the sender's address in bytes. May exceed 8, though the field holds only 8 bytes.
 ///
-/// <details><summary>Contract</summary>
+/// # Panics
 ///
-/// The caller must meet each `requires`; otherwise the call may panic or return something else.
+/// The call may panic, or return something else, if a `requires` of its contract is not met.
+///
+/// <details><summary>Contract</summary>
 ///
 /// ```text
 /// requires { 20 ≤ length bytes.now }
@@ -190,6 +212,7 @@ pub fn packet_type(bytes: &[u8]) -> LinuxSllPacketType {
 /// ```
 ///
 /// </details>
+#[must_use]
 #[inline]
 pub fn sender_address_valid_length(bytes: &[u8]) -> u8 {
     byte_at(bytes, ADDRESS_LENGTH)
@@ -197,9 +220,11 @@ pub fn sender_address_valid_length(bytes: &[u8]) -> u8 {
 
 /// All 8 bytes of the address field: the sender's address, truncated or padded.
 ///
-/// <details><summary>Contract</summary>
+/// # Panics
 ///
-/// The caller must meet each `requires`; otherwise the call may panic or return something else.
+/// The call may panic, or return something else, if a `requires` of its contract is not met.
+///
+/// <details><summary>Contract</summary>
 ///
 /// ```text
 /// requires { 20 ≤ length bytes.now }
@@ -207,6 +232,7 @@ pub fn sender_address_valid_length(bytes: &[u8]) -> u8 {
 /// ```
 ///
 /// </details>
+#[must_use]
 #[inline]
 pub fn sender_address_full(bytes: &[u8]) -> [u8; 8] {
     bytes_of_u64(u64_in(&bytes[ADDRESS..ADDRESS + 8]))
@@ -214,9 +240,11 @@ pub fn sender_address_full(bytes: &[u8]) -> [u8; 8] {
 
 /// The sender's address, or its first 8 bytes if it is longer.
 ///
-/// <details><summary>Contract</summary>
+/// # Panics
 ///
-/// The caller must meet each `requires`; otherwise the call may panic or return something else.
+/// The call may panic, or return something else, if a `requires` of its contract is not met.
+///
+/// <details><summary>Contract</summary>
 ///
 /// ```text
 /// requires { 20 ≤ length bytes.now }
@@ -224,6 +252,7 @@ pub fn sender_address_full(bytes: &[u8]) -> [u8; 8] {
 /// ```
 ///
 /// </details>
+#[must_use]
 #[inline]
 pub fn sender_address(bytes: &[u8]) -> &[u8] {
     let valid = sender_address_valid_length(bytes);
@@ -233,9 +262,11 @@ pub fn sender_address(bytes: &[u8]) -> &[u8] {
 
 /// The header with all its fields.
 ///
-/// <details><summary>Contract</summary>
+/// # Panics
 ///
-/// The caller must meet each `requires`; otherwise the call may panic or return something else.
+/// The call may panic, or return something else, if a `requires` of its contract is not met.
+///
+/// <details><summary>Contract</summary>
 ///
 /// ```text
 /// requires { HoldsLinuxSll2 bytes.now }
@@ -246,6 +277,7 @@ pub fn sender_address(bytes: &[u8]) -> &[u8] {
 /// ```
 ///
 /// </details>
+#[must_use]
 #[inline]
 pub fn header(bytes: &[u8]) -> LinuxSll2Header {
     LinuxSll2Header {

@@ -18,10 +18,9 @@ use crate::ether_base::{ArpHardwareId, LinuxSllPacketType, LinuxSllProtocolType}
 /// other.
 ///
 /// ```
-/// # use etherpeel::*;
-/// # use etherpeel::ether_peel::*;
-/// # use etherpeel::ether_fields::*;
-/// # use etherpeel::ether_sll2::*;
+/// use etherpeel::{ArpHardwareId, EtherType, LinuxSllPacketType, LinuxSllProtocolType};
+/// use etherpeel::ether_sll2::LinuxSll2Header;
+///
 /// let bytes = [
 ///     0x81, 0x00, 0x00, 0x00, 0x00, 0x00, 0x00, 0x03, 0x00, 0x01, 0x04, 0x06, // up to the address length
 ///     0x02, 0x00, 0x00, 0x00, 0x00, 0x01, 0x00, 0x00, // sender's address
@@ -37,7 +36,8 @@ use crate::ether_base::{ArpHardwareId, LinuxSllPacketType, LinuxSllProtocolType}
 /// assert_eq!(LinuxSll2Header::from_bytes(bytes), Ok(header));
 /// assert_eq!(header.to_bytes(), bytes);
 /// ```
-#[derive(Clone, Copy, PartialEq, Eq, Debug)]
+#[cfg_attr(feature = "serde", derive(serde::Serialize, serde::Deserialize))]
+#[derive(Clone, Copy, PartialEq, Eq, Hash, Debug)]
 pub struct LinuxSll2Header {
     /// The protocol of what follows the header. When a header is read, the hardware type decides which variant the
     /// number has.
@@ -118,6 +118,7 @@ impl LinuxSll2Header {
     /// ```
     ///
     /// </details>
+    #[must_use]
     #[inline]
     pub fn header_len(&self) -> usize {
         LinuxSll2Header::LEN
@@ -140,6 +141,7 @@ impl LinuxSll2Header {
     /// ```
     ///
     /// </details>
+    #[must_use]
     #[inline]
     pub fn to_bytes(&self) -> [u8; 20] {
         joined(

@@ -9,10 +9,9 @@ use crate::ether_base::{ArpHardwareId, LinuxSllPacketType, LinuxSllProtocolType}
 /// Two views are equal if their bytes are equal, including the reserved ones, wherever they are in memory.
 ///
 /// ```
-/// # use etherpeel::*;
-/// # use etherpeel::ether_peel::*;
-/// # use etherpeel::ether_fields::*;
-/// # use etherpeel::ether_sll2::*;
+/// use etherpeel::LinuxSllPacketType;
+/// use etherpeel::ether_sll2::LinuxSll2HeaderSlice;
+///
 /// # fn main() -> Result<(), Box<dyn std::error::Error>> {
 /// let bytes = [
 ///     0x81, 0x00, 0x00, 0x00, 0x00, 0x00, 0x00, 0x03, 0x00, 0x01, 0x04, 0x06, // up to the address length
@@ -74,6 +73,7 @@ impl<'a> LinuxSll2HeaderSlice<'a> {
     /// ```
     ///
     /// </details>
+    #[must_use]
     #[inline]
     pub fn slice(&self) -> &'a [u8] {
         self.slice
@@ -88,6 +88,7 @@ impl<'a> LinuxSll2HeaderSlice<'a> {
     /// ```
     ///
     /// </details>
+    #[must_use]
     #[inline]
     pub fn protocol_type(&self) -> LinuxSllProtocolType {
         linux_sll2_fields::protocol_type(self.slice)
@@ -102,6 +103,7 @@ impl<'a> LinuxSll2HeaderSlice<'a> {
     /// ```
     ///
     /// </details>
+    #[must_use]
     #[inline]
     pub fn protocol_number(&self) -> u16 {
         linux_sll2_fields::protocol_number(self.slice)
@@ -116,6 +118,7 @@ impl<'a> LinuxSll2HeaderSlice<'a> {
     /// ```
     ///
     /// </details>
+    #[must_use]
     #[inline]
     pub fn interface_index(&self) -> u32 {
         linux_sll2_fields::interface_index(self.slice)
@@ -130,6 +133,7 @@ impl<'a> LinuxSll2HeaderSlice<'a> {
     /// ```
     ///
     /// </details>
+    #[must_use]
     #[inline]
     pub fn arp_hardware_type(&self) -> ArpHardwareId {
         linux_sll2_fields::arp_hardware_type(self.slice)
@@ -144,6 +148,7 @@ impl<'a> LinuxSll2HeaderSlice<'a> {
     /// ```
     ///
     /// </details>
+    #[must_use]
     #[inline]
     pub fn packet_type(&self) -> LinuxSllPacketType {
         linux_sll2_fields::packet_type(self.slice)
@@ -158,6 +163,7 @@ impl<'a> LinuxSll2HeaderSlice<'a> {
     /// ```
     ///
     /// </details>
+    #[must_use]
     #[inline]
     pub fn packet_type_number(&self) -> u8 {
         linux_sll2_fields::packet_type_number(self.slice)
@@ -172,6 +178,7 @@ impl<'a> LinuxSll2HeaderSlice<'a> {
     /// ```
     ///
     /// </details>
+    #[must_use]
     #[inline]
     pub fn sender_address_valid_length(&self) -> u8 {
         linux_sll2_fields::sender_address_valid_length(self.slice)
@@ -186,6 +193,7 @@ impl<'a> LinuxSll2HeaderSlice<'a> {
     /// ```
     ///
     /// </details>
+    #[must_use]
     #[inline]
     pub fn sender_address_full(&self) -> [u8; 8] {
         linux_sll2_fields::sender_address_full(self.slice)
@@ -200,6 +208,7 @@ impl<'a> LinuxSll2HeaderSlice<'a> {
     /// ```
     ///
     /// </details>
+    #[must_use]
     #[inline]
     pub fn sender_address(&self) -> &'a [u8] {
         linux_sll2_fields::sender_address(self.slice)
@@ -215,6 +224,7 @@ impl<'a> LinuxSll2HeaderSlice<'a> {
     /// ```
     ///
     /// </details>
+    #[must_use]
     #[inline]
     pub fn to_header(&self) -> LinuxSll2Header {
         linux_sll2_fields::header(self.slice)

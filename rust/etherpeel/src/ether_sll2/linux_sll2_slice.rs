@@ -12,10 +12,9 @@ use core::fmt;
 /// Two views are equal if their bytes are equal, including the reserved ones, wherever they are in memory.
 ///
 /// ```
-/// # use etherpeel::*;
-/// # use etherpeel::ether_peel::*;
-/// # use etherpeel::ether_fields::*;
-/// # use etherpeel::ether_sll2::*;
+/// use etherpeel::ether_peel::{Peel, PeelUnit};
+/// use etherpeel::ether_sll2::LinuxSll2Slice;
+///
 /// # fn main() -> Result<(), Box<dyn std::error::Error>> {
 /// let bytes = [
 ///     0x81, 0x00, 0x00, 0x00, 0x00, 0x00, 0x00, 0x03, 0x00, 0x01, 0x04, 0x06, // up to the address length
@@ -75,6 +74,7 @@ impl<'a> LinuxSll2Slice<'a> {
     /// ```
     ///
     /// </details>
+    #[must_use]
     #[inline]
     pub fn slice(&self) -> &'a [u8] {
         self.slice
@@ -89,6 +89,7 @@ impl<'a> LinuxSll2Slice<'a> {
     /// ```
     ///
     /// </details>
+    #[must_use]
     #[inline(always)]
     pub fn protocol_type(&self) -> LinuxSllProtocolType {
         linux_sll2_fields::protocol_type(self.slice)
@@ -103,6 +104,7 @@ impl<'a> LinuxSll2Slice<'a> {
     /// ```
     ///
     /// </details>
+    #[must_use]
     #[inline]
     pub fn protocol_number(&self) -> u16 {
         linux_sll2_fields::protocol_number(self.slice)
@@ -117,6 +119,7 @@ impl<'a> LinuxSll2Slice<'a> {
     /// ```
     ///
     /// </details>
+    #[must_use]
     #[inline]
     pub fn interface_index(&self) -> u32 {
         linux_sll2_fields::interface_index(self.slice)
@@ -131,6 +134,7 @@ impl<'a> LinuxSll2Slice<'a> {
     /// ```
     ///
     /// </details>
+    #[must_use]
     #[inline]
     pub fn arp_hardware_type(&self) -> ArpHardwareId {
         linux_sll2_fields::arp_hardware_type(self.slice)
@@ -145,6 +149,7 @@ impl<'a> LinuxSll2Slice<'a> {
     /// ```
     ///
     /// </details>
+    #[must_use]
     #[inline(always)]
     pub fn packet_type(&self) -> LinuxSllPacketType {
         linux_sll2_fields::packet_type(self.slice)
@@ -159,6 +164,7 @@ impl<'a> LinuxSll2Slice<'a> {
     /// ```
     ///
     /// </details>
+    #[must_use]
     #[inline]
     pub fn packet_type_number(&self) -> u8 {
         linux_sll2_fields::packet_type_number(self.slice)
@@ -173,6 +179,7 @@ impl<'a> LinuxSll2Slice<'a> {
     /// ```
     ///
     /// </details>
+    #[must_use]
     #[inline]
     pub fn sender_address_valid_length(&self) -> u8 {
         linux_sll2_fields::sender_address_valid_length(self.slice)
@@ -187,6 +194,7 @@ impl<'a> LinuxSll2Slice<'a> {
     /// ```
     ///
     /// </details>
+    #[must_use]
     #[inline]
     pub fn sender_address_full(&self) -> [u8; 8] {
         linux_sll2_fields::sender_address_full(self.slice)
@@ -201,6 +209,7 @@ impl<'a> LinuxSll2Slice<'a> {
     /// ```
     ///
     /// </details>
+    #[must_use]
     #[inline]
     pub fn sender_address(&self) -> &'a [u8] {
         linux_sll2_fields::sender_address(self.slice)
@@ -216,6 +225,7 @@ impl<'a> LinuxSll2Slice<'a> {
     /// ```
     ///
     /// </details>
+    #[must_use]
     #[inline]
     pub fn header_slice(&self) -> &[u8] {
         &self.slice[..LinuxSll2Header::LEN]
@@ -230,6 +240,7 @@ impl<'a> LinuxSll2Slice<'a> {
     /// ```
     ///
     /// </details>
+    #[must_use]
     #[inline]
     pub fn header_len(&self) -> usize {
         LinuxSll2Header::LEN
@@ -245,6 +256,7 @@ impl<'a> LinuxSll2Slice<'a> {
     /// ```
     ///
     /// </details>
+    #[must_use]
     #[inline]
     pub fn to_header(&self) -> LinuxSll2Header {
         linux_sll2_fields::header(self.slice)
@@ -260,6 +272,7 @@ impl<'a> LinuxSll2Slice<'a> {
     /// ```
     ///
     /// </details>
+    #[must_use]
     #[inline]
     pub fn payload(&self) -> LinuxSllPayloadSlice<'a> {
         LinuxSllPayloadSlice {
@@ -277,6 +290,7 @@ impl<'a> LinuxSll2Slice<'a> {
     /// ```
     ///
     /// </details>
+    #[must_use]
     #[inline]
     pub fn payload_slice(&self) -> &'a [u8] {
         let slice = self.slice;
@@ -296,6 +310,7 @@ impl<'a> LinuxSll2Slice<'a> {
     /// ```
     ///
     /// </details>
+    #[must_use]
     #[inline]
     pub fn start(&self) -> Option<Start> {
         match self.protocol_type() {

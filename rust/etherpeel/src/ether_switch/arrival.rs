@@ -8,7 +8,7 @@ use core::error::Error;
 use core::fmt;
 
 /// Why a bridge discards a frame. Of several reasons the first in this order is named.
-#[derive(Clone, Copy, PartialEq, Eq, Debug)]
+#[derive(Clone, Copy, PartialEq, Eq, Hash, Debug)]
 pub enum Discarded {
     /// It has fewer than 14 bytes.
     NoHeader,
@@ -47,8 +47,8 @@ impl fmt::Display for Discarded {
 impl Error for Discarded {}
 
 /// How a frame names its VLAN (IEEE 802.1Q, 3).
-#[derive(Clone, Copy, PartialEq, Eq, Debug)]
-pub(crate) enum Tagging {
+#[derive(Clone, Copy, PartialEq, Eq, Hash, Debug)]
+pub(in crate::ether_switch) enum Tagging {
     Untagged,
     PriorityTagged,
     VlanTagged,
@@ -56,7 +56,7 @@ pub(crate) enum Tagging {
 
 /// What a bridge reads of a frame that comes in by a port. The addresses are numbers of 48 bits.
 #[derive(Clone, Copy, Debug)]
-pub(crate) struct Arrived {
+pub(in crate::ether_switch) struct Arrived {
     pub vlan: Vlan,
     pub priority: VlanPcp,
     pub drop_eligible: bool,
@@ -66,7 +66,7 @@ pub(crate) struct Arrived {
 
 /// Reads the VLAN, the priority and the addresses of a frame whose header and tag were read.
 #[inline]
-pub(crate) fn arrive(port: &PortConfig, front: &EthernetFront) -> Result<Arrived, Discarded> {
+pub(in crate::ether_switch) fn arrive(port: &PortConfig, front: &EthernetFront) -> Result<Arrived, Discarded> {
     let Some(vlan) = vlan_for(port.pvid, front) else {
         return Err(Discarded::ReservedIdentifier);
     };
@@ -85,7 +85,7 @@ pub(crate) fn arrive(port: &PortConfig, front: &EthernetFront) -> Result<Arrived
 
 /// The header of a frame, and the tag after it if that is of the bridge's kind.
 #[inline]
-pub(crate) fn read_front(kind: BridgeKind, frame: &[u8]) -> Result<EthernetFront, Discarded> {
+pub(in crate::ether_switch) fn read_front(kind: BridgeKind, frame: &[u8]) -> Result<EthernetFront, Discarded> {
     let Some(front) = ethernet_front(frame) else {
         return Err(Discarded::NoHeader);
     };
@@ -112,7 +112,7 @@ fn vlan_for(pvid: Vlan, front: &EthernetFront) -> Option<Vlan> {
 
 /// Why a port refuses a frame, if it refuses it. `is_member` says whether it is a member of the frame's VLAN.
 #[inline]
-pub(crate) fn refusal(
+pub(in crate::ether_switch) fn refusal(
     kind: BridgeKind,
     port: &PortConfig,
     is_member: bool,
@@ -180,14 +180,14 @@ fn admits(frame_types: AcceptableFrames, tagging: Tagging) -> bool {
 
 /// An address as one number, its first byte the most significant one.
 #[inline]
-pub(crate) fn address_of(bytes: [u8; 6]) -> u64 {
+pub(in crate::ether_switch) fn address_of(bytes: [u8; 6]) -> u64 {
     let [a, b, c, d, e, f] = bytes;
     u64_of([0, 0, a, b, c, d, e, f])
 }
 
 /// Whether an address is that of a single station: not a group address, and not all zeros.
 #[inline]
-pub(crate) fn is_station(address: u64) -> bool {
+pub(in crate::ether_switch) fn is_station(address: u64) -> bool {
     !is_group(address) && address != 0
 }
 

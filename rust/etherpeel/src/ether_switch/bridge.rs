@@ -12,8 +12,9 @@ use crate::ether_packet::EthernetFront;
 /// Where frames to an address in a VLAN go, whatever the bridge has learned (IEEE 802.1Q, 8.8.1).
 ///
 /// Each bit pattern is a value.
+#[cfg_attr(feature = "serde", derive(serde::Serialize, serde::Deserialize))]
 #[repr(C)]
-#[derive(Clone, Copy, Debug)]
+#[derive(Clone, Copy, PartialEq, Eq, Hash, Debug)]
 pub struct StaticEntry {
     /// The ports through which they leave, if these are members of the VLAN.
     pub ports: PortSet,
@@ -24,7 +25,7 @@ pub struct StaticEntry {
 }
 
 /// A bridge. Its ports, and what it has learned, are arguments of its calls.
-#[derive(Clone, Copy, Debug)]
+#[derive(Clone, Copy, PartialEq, Eq, Debug)]
 pub struct Bridge<'a> {
     /// Which tags it reads and writes.
     pub kind: BridgeKind,
@@ -80,15 +81,10 @@ impl Bridge<'_> {
     /// # Examples
     ///
     /// ```
-    /// # use etherpeel::*;
-    /// # use etherpeel::ether_peel::*;
-    /// # use etherpeel::ether_fields::*;
-    /// # use etherpeel::ether_sll2::*;
-    /// # use etherpeel::ether_packet::*;
-    /// # use etherpeel::ether_filter::*;
-    /// # use etherpeel::ether_pcap::*;
-    /// # use etherpeel::ether_content::*;
-    /// # use etherpeel::ether_switch::*;
+    /// use etherpeel::ether_switch::{
+    ///     Bridge, BridgeKind, PortConfig, PortSet, PortStates, StationBucket, Vlan, VlanConfig,
+    /// };
+    ///
     /// # fn main() -> Result<(), Box<dyn std::error::Error>> {
     /// let vlan = Vlan::try_new(10)?;
     /// let port = PortConfig::access(vlan);
@@ -195,6 +191,7 @@ impl Bridge<'_> {
     /// ```
     ///
     /// </details>
+    #[must_use]
     #[inline]
     pub fn sighting(
         &self,

@@ -3,7 +3,8 @@
 use crate::EtherType;
 
 /// A kind of bridge, by the tags that it reads and writes. A tag of the other kind is payload for it.
-#[derive(Clone, Copy, PartialEq, Eq, Debug)]
+#[cfg_attr(feature = "serde", derive(serde::Serialize, serde::Deserialize))]
+#[derive(Clone, Copy, PartialEq, Eq, Hash, Debug)]
 pub enum BridgeKind {
     /// A bridge with customer tags, which 0x8100 announces.
     Customer,
@@ -21,6 +22,7 @@ impl BridgeKind {
     /// ```
     ///
     /// </details>
+    #[must_use]
     #[inline]
     pub fn tpid(self) -> EtherType {
         match self {
@@ -31,7 +33,7 @@ impl BridgeKind {
 
     /// Whether the bridge forwards no frame to this address, a number of 48 bits (IEEE 802.1Q, tables 8-1 and 8-2).
     #[inline]
-    pub(crate) fn reserves(self, address: u64) -> bool {
+    pub(in crate::ether_switch) fn reserves(self, address: u64) -> bool {
         if address / 16 != 0x0180C200000 {
             return false;
         }

@@ -4,7 +4,7 @@ use crate::ether_switch::arrival::address_of;
 use crate::ether_switch::{Sighting, StationBucket};
 
 /// Which stations a table forgets.
-#[derive(Clone, Copy, Debug)]
+#[derive(Clone, Copy, PartialEq, Eq, Hash, Debug)]
 pub enum Forgotten {
     /// All of them.
     All,
@@ -20,15 +20,8 @@ pub enum Forgotten {
 /// asks for this when the topology changes, and so does a port that goes down or leaves a VLAN.
 ///
 /// ```
-/// # use etherpeel::*;
-/// # use etherpeel::ether_peel::*;
-/// # use etherpeel::ether_fields::*;
-/// # use etherpeel::ether_sll2::*;
-/// # use etherpeel::ether_packet::*;
-/// # use etherpeel::ether_filter::*;
-/// # use etherpeel::ether_pcap::*;
-/// # use etherpeel::ether_content::*;
-/// # use etherpeel::ether_switch::*;
+/// use etherpeel::ether_switch::{Forgotten, StationBucket, forget};
+///
 /// let mut table = [StationBucket::EMPTY; 8];
 /// forget(&mut table, Forgotten::Port(1));
 /// ```

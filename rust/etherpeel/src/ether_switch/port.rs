@@ -5,7 +5,8 @@ use crate::VlanPcp;
 
 /// Which frames a port accepts (IEEE 802.1Q, 6.9). A tag that names no VLAN has the identifier 0, and gives only a
 /// priority.
-#[derive(Clone, Copy, PartialEq, Eq, Debug)]
+#[cfg_attr(feature = "serde", derive(serde::Serialize, serde::Deserialize))]
+#[derive(Clone, Copy, PartialEq, Eq, Hash, Debug)]
 pub enum AcceptableFrames {
     /// All frames.
     All,
@@ -19,7 +20,8 @@ pub enum AcceptableFrames {
 
 /// The configuration of a bridge's port. Which VLANs it is a member of is part of
 /// [`VlanConfig`](crate::ether_switch::VlanConfig), and its state of [`PortStates`].
-#[derive(Clone, Copy, Debug)]
+#[cfg_attr(feature = "serde", derive(serde::Serialize, serde::Deserialize))]
+#[derive(Clone, Copy, PartialEq, Eq, Hash, Debug)]
 pub struct PortConfig {
     /// The VLAN of a frame that comes in without a tag, or with a tag that names no VLAN (PVID).
     pub pvid: Vlan,
@@ -40,8 +42,9 @@ pub struct PortConfig {
 /// forwarding in both. A port that is not authorized (IEEE 802.1X) is in none of them.
 ///
 /// Each bit pattern is a value.
+#[cfg_attr(feature = "serde", derive(serde::Serialize, serde::Deserialize))]
 #[repr(C)]
-#[derive(Clone, Copy, Debug)]
+#[derive(Clone, Copy, PartialEq, Eq, Hash, Debug)]
 pub struct PortStates {
     /// The ports that learn the sources of the frames that they accept.
     pub learning: PortSet,
@@ -78,6 +81,7 @@ impl PortConfig {
     /// ```
     ///
     /// </details>
+    #[must_use]
     #[inline]
     pub fn access(vlan: Vlan) -> PortConfig {
         PortConfig {
@@ -102,6 +106,7 @@ impl PortConfig {
     /// ```
     ///
     /// </details>
+    #[must_use]
     #[inline]
     pub fn trunk() -> PortConfig {
         PortConfig {

@@ -4,21 +4,15 @@
 /// bit 0 is the lowest.
 ///
 /// ```
-/// # use etherpeel::*;
-/// # use etherpeel::ether_peel::*;
-/// # use etherpeel::ether_fields::*;
-/// # use etherpeel::ether_sll2::*;
-/// # use etherpeel::ether_packet::*;
-/// # use etherpeel::ether_filter::*;
-/// # use etherpeel::ether_pcap::*;
-/// # use etherpeel::ether_content::*;
-/// # use etherpeel::ether_switch::*;
+/// use etherpeel::ether_switch::PortSet;
+///
 /// let mut set = PortSet::NONE;
 /// set.insert(3);
 /// assert!(set.contains(3) && !set.contains(4));
 /// ```
+#[cfg_attr(feature = "serde", derive(serde::Serialize, serde::Deserialize))]
 #[repr(C)]
-#[derive(Clone, Copy, PartialEq, Eq, Debug)]
+#[derive(Clone, Copy, PartialEq, Eq, Hash, Debug)]
 pub struct PortSet {
     /// The bits.
     pub words: [u64; 4],
@@ -37,6 +31,7 @@ impl PortSet {
     /// ```
     ///
     /// </details>
+    #[must_use]
     #[inline]
     pub fn only(port: u8) -> PortSet {
         let mut set = PortSet::NONE;
@@ -53,6 +48,7 @@ impl PortSet {
     /// ```
     ///
     /// </details>
+    #[must_use]
     #[inline]
     pub fn contains(&self, port: u8) -> bool {
         (self.words[port as usize / 64] >> (port % 64)) & 1 == 1
@@ -95,6 +91,7 @@ impl PortSet {
     /// ```
     ///
     /// </details>
+    #[must_use]
     #[inline]
     pub fn intersection(&self, other: &PortSet) -> PortSet {
         let [a, b, c, d] = self.words;
@@ -113,6 +110,7 @@ impl PortSet {
     /// ```
     ///
     /// </details>
+    #[must_use]
     #[inline]
     pub fn union(&self, other: &PortSet) -> PortSet {
         let [a, b, c, d] = self.words;
@@ -131,6 +129,7 @@ impl PortSet {
     /// ```
     ///
     /// </details>
+    #[must_use]
     #[inline]
     pub fn difference(&self, other: &PortSet) -> PortSet {
         let [a, b, c, d] = self.words;

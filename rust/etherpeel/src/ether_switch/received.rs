@@ -5,7 +5,8 @@ use crate::ether_switch::{BridgeKind, PortSet, Vlan, retagging};
 use crate::VlanPcp;
 
 /// What a bridge knows of a frame that it has received.
-#[derive(Clone, Copy, Debug)]
+#[cfg_attr(feature = "serde", derive(serde::Serialize, serde::Deserialize))]
+#[derive(Clone, Copy, PartialEq, Eq, Hash, Debug)]
 pub struct Received {
     /// The kind of the bridge.
     pub kind: BridgeKind,

@@ -8,7 +8,7 @@ use crate::{EtherType, SingleVlanHeader};
 /// Puts the tag of its VLAN into a frame without a tag, after four free bytes of a buffer. The frame then begins at
 /// index 0.
 #[inline]
-pub(crate) fn tag(frame: &Received, buffer: &mut [u8]) -> Result<(), TagError> {
+pub(in crate::ether_switch) fn tag(frame: &Received, buffer: &mut [u8]) -> Result<(), TagError> {
     let tag = SingleVlanHeader {
         pcp: frame.priority,
         drop_eligible_indicator: frame.drop_eligible,
@@ -20,14 +20,14 @@ pub(crate) fn tag(frame: &Received, buffer: &mut [u8]) -> Result<(), TagError> {
 
 /// Sets the identifier in the tag of a frame, after four bytes of a buffer.
 #[inline]
-pub(crate) fn rename(vlan: Vlan, buffer: &mut [u8]) -> Result<(), TagError> {
+pub(in crate::ether_switch) fn rename(vlan: Vlan, buffer: &mut [u8]) -> Result<(), TagError> {
     let (_, frame) = buffer.split_at_mut(4);
     set_vlan_id(Start::Ethernet2, frame, 0, vlan.id())
 }
 
 /// Takes the tag off a frame, after four bytes of a buffer. The frame then begins at index 8.
 #[inline]
-pub(crate) fn untag(buffer: &mut [u8]) -> Result<SingleVlanHeader, TagError> {
+pub(in crate::ether_switch) fn untag(buffer: &mut [u8]) -> Result<SingleVlanHeader, TagError> {
     let (_, frame) = buffer.split_at_mut(4);
     pop_vlan(Start::Ethernet2, frame)
 }

@@ -11,7 +11,7 @@ struct State {
 
 /// The hash of one word, the last one of a message, under a key.
 #[inline]
-pub(crate) fn sip_hash(key: [u64; 2], word: u64) -> u64 {
+pub(in crate::ether_switch) fn sip_hash(key: [u64; 2], word: u64) -> u64 {
     let state = initial(key);
     let state = round(State {
         d: state.d ^ word,

@@ -8,7 +8,7 @@ use crate::ether_switch::sip_hash::sip_hash;
 ///
 /// Each bit pattern is a value.
 #[repr(C)]
-#[derive(Clone, Copy, PartialEq, Eq, Debug)]
+#[derive(Clone, Copy, PartialEq, Eq, Hash, Debug)]
 pub struct Sighting {
     /// The address of the station, a number of 48 bits whose highest byte is the first one. 0 is not a station.
     pub address: u64,
@@ -22,7 +22,7 @@ pub struct Sighting {
 ///
 /// Each bit pattern is a value, so a table can be any memory that is initially 0.
 #[repr(C)]
-#[derive(Clone, Copy, Debug)]
+#[derive(Clone, Copy, PartialEq, Eq, Hash, Debug)]
 pub struct StationBucket {
     /// The first place.
     pub first: Sighting,
@@ -180,7 +180,7 @@ impl StationBucket {
 
 impl Sighting {
     /// A free place.
-    pub(crate) const NONE: Sighting = Sighting {
+    pub(in crate::ether_switch) const NONE: Sighting = Sighting {
         address: 0,
         time: 0,
         port: 0,
@@ -217,7 +217,7 @@ fn is_part_of(vlan: &VlanConfig, len: usize) -> bool {
 
 /// Learns a sighting of a station in a VLAN.
 #[inline]
-pub(crate) fn learn(
+pub(in crate::ether_switch) fn learn(
     table: &mut [StationBucket],
     key: [u64; 2],
     vlan: &VlanConfig,
@@ -258,7 +258,7 @@ fn choose(
 
 /// The sighting of a station in a VLAN.
 #[inline]
-pub(crate) fn find(
+pub(in crate::ether_switch) fn find(
     table: &[StationBucket],
     key: [u64; 2],
     vlan: &VlanConfig,
@@ -276,7 +276,7 @@ pub(crate) fn find(
 
 /// The port at which a station of a VLAN was seen last, if that was at most the ageing time ago.
 #[inline]
-pub(crate) fn port_of(
+pub(in crate::ether_switch) fn port_of(
     table: &[StationBucket],
     key: [u64; 2],
     vlan: &VlanConfig,

@@ -9,15 +9,8 @@ use core::fmt;
 /// In a tag, the identifier 0 means that the tag has only a priority, and 4095 is reserved (IEEE 802.1Q, table 9-2).
 ///
 /// ```
-/// # use etherpeel::*;
-/// # use etherpeel::ether_peel::*;
-/// # use etherpeel::ether_fields::*;
-/// # use etherpeel::ether_sll2::*;
-/// # use etherpeel::ether_packet::*;
-/// # use etherpeel::ether_filter::*;
-/// # use etherpeel::ether_pcap::*;
-/// # use etherpeel::ether_content::*;
-/// # use etherpeel::ether_switch::*;
+/// use etherpeel::ether_switch::{Vlan, VlanError};
+///
 /// # fn main() -> Result<(), Box<dyn std::error::Error>> {
 /// let vlan = Vlan::try_new(4094)?;
 /// assert_eq!(vlan.id().value(), 4094);
@@ -30,7 +23,7 @@ use core::fmt;
 pub struct Vlan(VlanId);
 
 /// This number is not the identifier of a VLAN, which is from 1 to 4094.
-#[derive(Clone, Copy, PartialEq, Eq, Debug)]
+#[derive(Clone, Copy, PartialEq, Eq, Hash, Debug)]
 pub struct VlanError(pub u16);
 
 impl Vlan {
@@ -71,6 +64,7 @@ impl Vlan {
     /// ```
     ///
     /// </details>
+    #[must_use]
     #[inline]
     pub fn id(self) -> VlanId {
         self.0

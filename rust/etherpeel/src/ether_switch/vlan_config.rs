@@ -5,8 +5,9 @@ use crate::ether_switch::{PortSet, Vlan};
 /// The configuration of one VLAN of a bridge.
 ///
 /// Each bit pattern is a value.
+#[cfg_attr(feature = "serde", derive(serde::Serialize, serde::Deserialize))]
 #[repr(C)]
-#[derive(Clone, Copy, Debug)]
+#[derive(Clone, Copy, PartialEq, Eq, Hash, Debug)]
 pub struct VlanConfig {
     /// The ports through which its frames leave: its member set (IEEE 802.1Q, 8.8.10).
     pub members: PortSet,
@@ -31,7 +32,7 @@ impl VlanConfig {
 
 /// The configuration of a VLAN, which is at the index of its identifier; that of a VLAN without ports if there is none.
 #[inline]
-pub(crate) fn row(vlans: &[VlanConfig], vlan: Vlan) -> &VlanConfig {
+pub(in crate::ether_switch) fn row(vlans: &[VlanConfig], vlan: Vlan) -> &VlanConfig {
     vlans
         .get(vlan.id().value() as usize)
         .unwrap_or(&VlanConfig::NONE)
@@ -41,15 +42,8 @@ pub(crate) fn row(vlans: &[VlanConfig], vlan: Vlan) -> &VlanConfig {
 /// VLANs have a bucket in common then.
 ///
 /// ```
-/// # use etherpeel::*;
-/// # use etherpeel::ether_peel::*;
-/// # use etherpeel::ether_fields::*;
-/// # use etherpeel::ether_sll2::*;
-/// # use etherpeel::ether_packet::*;
-/// # use etherpeel::ether_filter::*;
-/// # use etherpeel::ether_pcap::*;
-/// # use etherpeel::ether_content::*;
-/// # use etherpeel::ether_switch::*;
+/// use etherpeel::ether_switch::{VlanConfig, parts_are_in_order};
+///
 /// let part = |first_bucket, buckets| VlanConfig {
 ///     first_bucket,
 ///     buckets,
@@ -66,6 +60,7 @@ pub(crate) fn row(vlans: &[VlanConfig], vlan: Vlan) -> &VlanConfig {
 /// ```
 ///
 /// </details>
+#[must_use]
 #[inline]
 pub fn parts_are_in_order(vlans: &[VlanConfig]) -> bool {
     let mut end = 0;

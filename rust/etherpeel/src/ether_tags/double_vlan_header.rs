@@ -8,7 +8,8 @@ use crate::ether_base::EtherType;
 /// TPID of the inner tag.
 ///
 /// ```
-/// # use etherpeel::*;
+/// use etherpeel::{DoubleVlanHeader, EtherType, VlanId};
+///
 /// # fn main() -> Result<(), Box<dyn std::error::Error>> {
 /// let mut tags = DoubleVlanHeader::default();
 /// tags.outer.vlan_id = VlanId::try_new(10)?;
@@ -19,7 +20,8 @@ use crate::ether_base::EtherType;
 /// # Ok(())
 /// # }
 /// ```
-#[derive(Clone, Copy, PartialEq, Eq, Debug)]
+#[cfg_attr(feature = "serde", derive(serde::Serialize, serde::Deserialize))]
+#[derive(Clone, Copy, PartialEq, Eq, Hash, Debug)]
 pub struct DoubleVlanHeader {
     /// The tag that comes first; its ether type is the TPID of the inner tag.
     pub outer: SingleVlanHeader,

@@ -8,7 +8,8 @@ use core::fmt;
 /// Public fields are not checked against each other: in a packet the inner view is the payload of the outer one.
 ///
 /// ```
-/// # use etherpeel::*;
+/// use etherpeel::{DoubleVlanSlice, SingleVlanSlice};
+///
 /// # fn main() -> Result<(), Box<dyn std::error::Error>> {
 /// let bytes = [0x00, 0x0A, 0x81, 0x00, 0x00, 0x64, 0x08, 0x00, 0x45];
 /// let outer = SingleVlanSlice::from_slice(&bytes)?;
@@ -39,6 +40,7 @@ impl<'a> DoubleVlanSlice<'a> {
     /// ```
     ///
     /// </details>
+    #[must_use]
     #[inline]
     pub fn to_header(&self) -> DoubleVlanHeader {
         DoubleVlanHeader {
@@ -59,6 +61,7 @@ impl<'a> DoubleVlanSlice<'a> {
     /// ```
     ///
     /// </details>
+    #[must_use]
     #[inline]
     pub fn payload(&self) -> EtherPayloadSlice<'a> {
         self.inner.payload()
@@ -73,6 +76,7 @@ impl<'a> DoubleVlanSlice<'a> {
     /// ```
     ///
     /// </details>
+    #[must_use]
     #[inline]
     pub fn payload_slice(&self) -> &'a [u8] {
         self.inner.payload_slice()

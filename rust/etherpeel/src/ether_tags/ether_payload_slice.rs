@@ -6,7 +6,8 @@ use crate::ether_base::{EtherType, LenSource};
 /// Payloads are compared and ordered field by field. Public fields are not checked against each other.
 ///
 /// ```
-/// # use etherpeel::*;
+/// use etherpeel::{EtherPayloadSlice, EtherType, LenSource, SingleVlanSlice};
+///
 /// # fn main() -> Result<(), Box<dyn std::error::Error>> {
 /// let tag = SingleVlanSlice::from_slice(&[0xB1, 0x23, 0x08, 0x00, 0x45])?;
 /// let payload = EtherPayloadSlice {

@@ -17,9 +17,11 @@ const ETHER_TYPE: Range<usize> = 12..14;
 
 /// The destination MAC address (IEEE 802.3, 3.2.4).
 ///
-/// <details><summary>Contract</summary>
+/// # Panics
 ///
-/// The caller must meet each `requires`; otherwise the call may panic or return something else.
+/// The call may panic, or return something else, if a `requires` of its contract is not met.
+///
+/// <details><summary>Contract</summary>
 ///
 /// ```text
 /// requires { 14 ≤ length bytes.now }
@@ -27,6 +29,7 @@ const ETHER_TYPE: Range<usize> = 12..14;
 /// ```
 ///
 /// </details>
+#[must_use]
 #[inline]
 pub fn destination(bytes: &[u8]) -> [u8; 6] {
     address_at(bytes, DESTINATION)
@@ -34,9 +37,11 @@ pub fn destination(bytes: &[u8]) -> [u8; 6] {
 
 /// The source MAC address (IEEE 802.3, 3.2.5).
 ///
-/// <details><summary>Contract</summary>
+/// # Panics
 ///
-/// The caller must meet each `requires`; otherwise the call may panic or return something else.
+/// The call may panic, or return something else, if a `requires` of its contract is not met.
+///
+/// <details><summary>Contract</summary>
 ///
 /// ```text
 /// requires { 14 ≤ length bytes.now }
@@ -44,6 +49,7 @@ pub fn destination(bytes: &[u8]) -> [u8; 6] {
 /// ```
 ///
 /// </details>
+#[must_use]
 #[inline]
 pub fn source(bytes: &[u8]) -> [u8; 6] {
     address_at(bytes, SOURCE)
@@ -51,9 +57,11 @@ pub fn source(bytes: &[u8]) -> [u8; 6] {
 
 /// The ether type, which is a length if it is at most 1500 (IEEE 802.3, 3.2.6).
 ///
-/// <details><summary>Contract</summary>
+/// # Panics
 ///
-/// The caller must meet each `requires`; otherwise the call may panic or return something else.
+/// The call may panic, or return something else, if a `requires` of its contract is not met.
+///
+/// <details><summary>Contract</summary>
 ///
 /// ```text
 /// requires { 14 ≤ length bytes.now }
@@ -61,6 +69,7 @@ pub fn source(bytes: &[u8]) -> [u8; 6] {
 /// ```
 ///
 /// </details>
+#[must_use]
 #[inline]
 pub fn ether_type(bytes: &[u8]) -> EtherType {
     EtherType(u16_in(&bytes[ETHER_TYPE]))
@@ -68,9 +77,11 @@ pub fn ether_type(bytes: &[u8]) -> EtherType {
 
 /// The header with all its fields.
 ///
-/// <details><summary>Contract</summary>
+/// # Panics
 ///
-/// The caller must meet each `requires`; otherwise the call may panic or return something else.
+/// The call may panic, or return something else, if a `requires` of its contract is not met.
+///
+/// <details><summary>Contract</summary>
 ///
 /// ```text
 /// requires { 14 ≤ length bytes.now }
@@ -80,6 +91,7 @@ pub fn ether_type(bytes: &[u8]) -> EtherType {
 /// ```
 ///
 /// </details>
+#[must_use]
 #[inline]
 pub fn header(bytes: &[u8]) -> Ethernet2Header {
     Ethernet2Header {
@@ -92,9 +104,11 @@ pub fn header(bytes: &[u8]) -> Ethernet2Header {
 /// Whether two headers have the same bytes. They are compared as arrays of 8, 4 and 2 bytes, each in one piece; slices
 /// would be compared by a call.
 ///
-/// <details><summary>Contract</summary>
+/// # Panics
 ///
-/// The caller must meet each `requires`; otherwise the call may panic or return something else.
+/// The call may panic, or return something else, if a `requires` of its contract is not met.
+///
+/// <details><summary>Contract</summary>
 ///
 /// ```text
 /// requires first { length a.now ≡ 14 }
@@ -103,6 +117,7 @@ pub fn header(bytes: &[u8]) -> Ethernet2Header {
 /// ```
 ///
 /// </details>
+#[must_use]
 #[inline]
 pub fn are_same(a: &[u8], b: &[u8]) -> bool {
     [a[0], a[1], a[2], a[3], a[4], a[5], a[6], a[7]]

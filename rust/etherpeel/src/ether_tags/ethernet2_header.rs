@@ -17,7 +17,8 @@ use crate::ether_base::{EtherType, write_front};
 /// length, unchanged.
 ///
 /// ```
-/// # use etherpeel::*;
+/// use etherpeel::{EtherType, Ethernet2Header};
+///
 /// let header = Ethernet2Header {
 ///     source: [2, 0, 0, 0, 0, 1],
 ///     destination: [0xFF; 6],
@@ -27,7 +28,8 @@ use crate::ether_base::{EtherType, write_front};
 /// assert_eq!(header.to_bytes(), bytes);
 /// assert_eq!(Ethernet2Header::from_bytes(bytes), header);
 /// ```
-#[derive(Clone, Copy, PartialEq, Eq, Debug, Default)]
+#[cfg_attr(feature = "serde", derive(serde::Serialize, serde::Deserialize))]
+#[derive(Clone, Copy, PartialEq, Eq, Hash, Debug, Default)]
 pub struct Ethernet2Header {
     /// The source MAC address.
     pub source: [u8; 6],
@@ -103,6 +105,7 @@ impl Ethernet2Header {
     /// ```
     ///
     /// </details>
+    #[must_use]
     #[inline]
     pub fn from_bytes(bytes: [u8; 14]) -> Ethernet2Header {
         ethernet2_fields::header(&bytes)
@@ -117,6 +120,7 @@ impl Ethernet2Header {
     /// ```
     ///
     /// </details>
+    #[must_use]
     #[inline]
     pub fn header_len(&self) -> usize {
         Ethernet2Header::LEN
@@ -139,6 +143,7 @@ impl Ethernet2Header {
     /// ```
     ///
     /// </details>
+    #[must_use]
     #[inline]
     pub fn to_bytes(&self) -> [u8; 14] {
         joined(&self.destination, &self.source, self.ether_type.0)

@@ -10,7 +10,8 @@ use crate::ether_base::{EtherType, LenSource};
 /// Two views are equal if their bytes are equal, wherever they are in memory.
 ///
 /// ```
-/// # use etherpeel::*;
+/// use etherpeel::{EtherType, Ethernet2HeaderSlice};
+///
 /// # fn main() -> Result<(), Box<dyn std::error::Error>> {
 /// let bytes = [
 ///     255, 255, 255, 255, 255, 255, 2, 0, 0, 0, 0, 1, 0x08, 0x00, 0x45,
@@ -72,6 +73,7 @@ impl<'a> Ethernet2HeaderSlice<'a> {
     /// ```
     ///
     /// </details>
+    #[must_use]
     #[inline]
     pub fn slice(&self) -> &'a [u8] {
         // Its length is then a constant for the compiler.
@@ -87,6 +89,7 @@ impl<'a> Ethernet2HeaderSlice<'a> {
     /// ```
     ///
     /// </details>
+    #[must_use]
     #[inline]
     pub fn destination(&self) -> [u8; 6] {
         ethernet2_fields::destination(self.slice)
@@ -101,6 +104,7 @@ impl<'a> Ethernet2HeaderSlice<'a> {
     /// ```
     ///
     /// </details>
+    #[must_use]
     #[inline]
     pub fn source(&self) -> [u8; 6] {
         ethernet2_fields::source(self.slice)
@@ -115,6 +119,7 @@ impl<'a> Ethernet2HeaderSlice<'a> {
     /// ```
     ///
     /// </details>
+    #[must_use]
     #[inline]
     pub fn ether_type(&self) -> EtherType {
         ethernet2_fields::ether_type(self.slice)
@@ -130,6 +135,7 @@ impl<'a> Ethernet2HeaderSlice<'a> {
     /// ```
     ///
     /// </details>
+    #[must_use]
     #[inline]
     pub fn to_header(&self) -> Ethernet2Header {
         ethernet2_fields::header(self.slice)

@@ -14,7 +14,8 @@ const FCS_LEN: usize = 4;
 /// Two views are equal if their bytes are equal, and both or neither of them end in a frame check sequence.
 ///
 /// ```
-/// # use etherpeel::*;
+/// use etherpeel::{EtherType, Ethernet2Slice};
+///
 /// # fn main() -> Result<(), Box<dyn std::error::Error>> {
 /// let bytes = [
 ///     255, 255, 255, 255, 255, 255, 2, 0, 0, 0, 0, 1, 0x08, 0x00, 0x45,
@@ -110,6 +111,7 @@ impl<'a> Ethernet2Slice<'a> {
     /// ```
     ///
     /// </details>
+    #[must_use]
     #[inline]
     pub fn slice(&self) -> &'a [u8] {
         self.slice
@@ -124,6 +126,7 @@ impl<'a> Ethernet2Slice<'a> {
     /// ```
     ///
     /// </details>
+    #[must_use]
     #[inline]
     pub fn destination(&self) -> [u8; 6] {
         ethernet2_fields::destination(self.slice)
@@ -138,6 +141,7 @@ impl<'a> Ethernet2Slice<'a> {
     /// ```
     ///
     /// </details>
+    #[must_use]
     #[inline]
     pub fn source(&self) -> [u8; 6] {
         ethernet2_fields::source(self.slice)
@@ -152,6 +156,7 @@ impl<'a> Ethernet2Slice<'a> {
     /// ```
     ///
     /// </details>
+    #[must_use]
     #[inline]
     pub fn ether_type(&self) -> EtherType {
         ethernet2_fields::ether_type(self.slice)
@@ -166,6 +171,7 @@ impl<'a> Ethernet2Slice<'a> {
     /// ```
     ///
     /// </details>
+    #[must_use]
     #[inline]
     pub fn fcs(&self) -> Option<[u8; 4]> {
         if self.fcs_len == 0 {
@@ -184,6 +190,7 @@ impl<'a> Ethernet2Slice<'a> {
     /// ```
     ///
     /// </details>
+    #[must_use]
     #[inline]
     pub fn header_slice(&self) -> &[u8] {
         &self.slice[..Ethernet2Header::LEN]
@@ -199,6 +206,7 @@ impl<'a> Ethernet2Slice<'a> {
     /// ```
     ///
     /// </details>
+    #[must_use]
     #[inline]
     pub fn to_header(&self) -> Ethernet2Header {
         ethernet2_fields::header(self.slice)
@@ -216,6 +224,7 @@ impl<'a> Ethernet2Slice<'a> {
     /// ```
     ///
     /// </details>
+    #[must_use]
     #[inline]
     pub fn payload(&self) -> EtherPayloadSlice<'a> {
         EtherPayloadSlice {
@@ -234,6 +243,7 @@ impl<'a> Ethernet2Slice<'a> {
     /// ```
     ///
     /// </details>
+    #[must_use]
     #[inline]
     pub fn payload_slice(&self) -> &'a [u8] {
         let slice = self.slice;
@@ -249,6 +259,7 @@ impl<'a> Ethernet2Slice<'a> {
     /// ```
     ///
     /// </details>
+    #[must_use]
     #[inline]
     pub const fn header_len(&self) -> usize {
         Ethernet2Header::LEN

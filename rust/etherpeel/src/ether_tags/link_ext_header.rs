@@ -5,7 +5,8 @@ use crate::ether_tags::{MacsecHeader, SingleVlanHeader};
 /// A header between a link header and the payload of its frame: a VLAN tag or a MACsec SecTag.
 ///
 /// ```
-/// # use etherpeel::*;
+/// use etherpeel::{LinkExtHeader, MacsecHeader, SingleVlanHeader};
+///
 /// # fn main() -> Result<(), Box<dyn std::error::Error>> {
 /// let tag = SingleVlanHeader::from_bytes([0xB1, 0x23, 0x08, 0x00]);
 /// assert_eq!(LinkExtHeader::Vlan(tag).header_len(), 4);
@@ -14,7 +15,8 @@ use crate::ether_tags::{MacsecHeader, SingleVlanHeader};
 /// # Ok(())
 /// # }
 /// ```
-#[derive(Clone, Copy, PartialEq, Eq, Debug)]
+#[cfg_attr(feature = "serde", derive(serde::Serialize, serde::Deserialize))]
+#[derive(Clone, Copy, PartialEq, Eq, Hash, Debug)]
 pub enum LinkExtHeader {
     /// A VLAN tag.
     Vlan(SingleVlanHeader),
@@ -33,6 +35,7 @@ impl LinkExtHeader {
     /// ```
     ///
     /// </details>
+    #[must_use]
     #[inline]
     pub fn header_len(&self) -> usize {
         match self {

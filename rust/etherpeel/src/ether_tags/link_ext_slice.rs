@@ -5,7 +5,8 @@ use crate::ether_tags::{EtherPayloadSlice, LinkExtHeader, MacsecSlice, SingleVla
 /// A view of a VLAN tag or a MACsec SecTag, and of its payload.
 ///
 /// ```
-/// # use etherpeel::*;
+/// use etherpeel::{EtherPayloadSlice, EtherType, LenSource, LinkExtSlice, SingleVlanSlice};
+///
 /// # fn main() -> Result<(), Box<dyn std::error::Error>> {
 /// let tag = SingleVlanSlice::from_slice(&[0xB1, 0x23, 0x08, 0x00, 0x45])?;
 /// let ext = LinkExtSlice::Vlan(tag);
@@ -37,6 +38,7 @@ impl<'a> LinkExtSlice<'a> {
     /// ```
     ///
     /// </details>
+    #[must_use]
     #[inline]
     pub fn header_len(&self) -> usize {
         match self {
@@ -54,6 +56,7 @@ impl<'a> LinkExtSlice<'a> {
     /// ```
     ///
     /// </details>
+    #[must_use]
     #[inline]
     pub fn to_header(&self) -> LinkExtHeader {
         match self {
@@ -71,6 +74,7 @@ impl<'a> LinkExtSlice<'a> {
     /// ```
     ///
     /// </details>
+    #[must_use]
     #[inline]
     pub fn ether_payload(&self) -> Option<EtherPayloadSlice<'a>> {
         match self {

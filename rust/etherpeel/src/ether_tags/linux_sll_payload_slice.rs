@@ -8,7 +8,10 @@ use crate::ether_base::{EtherType, LenSource, LinuxSllProtocolType};
 /// Payloads are compared and ordered field by field. Public fields are not checked against each other.
 ///
 /// ```
-/// # use etherpeel::*;
+/// use etherpeel::{
+///     EtherPayloadSlice, EtherType, LenSource, LinuxSllPayloadSlice, LinuxSllProtocolType,
+/// };
+///
 /// let ipv4 = LinuxSllPayloadSlice {
 ///     protocol_type: LinuxSllProtocolType::EtherType(EtherType::IPV4),
 ///     payload: &[0x45],

@@ -40,9 +40,11 @@ const C: u32 = 2;
 
 /// The first byte, with the TCI and the association number.
 ///
-/// <details><summary>Contract</summary>
+/// # Panics
 ///
-/// The caller must meet each `requires`; otherwise the call may panic or return something else.
+/// The call may panic, or return something else, if a `requires` of its contract is not met.
+///
+/// <details><summary>Contract</summary>
 ///
 /// ```text
 /// requires { 2 ≤ length bytes.now }
@@ -50,6 +52,7 @@ const C: u32 = 2;
 /// ```
 ///
 /// </details>
+#[must_use]
 #[inline]
 pub fn tci_an(bytes: &[u8]) -> u8 {
     bytes[TCI_AN]
@@ -57,9 +60,11 @@ pub fn tci_an(bytes: &[u8]) -> u8 {
 
 /// Whether the version bit V is set.
 ///
-/// <details><summary>Contract</summary>
+/// # Panics
 ///
-/// The caller must meet each `requires`; otherwise the call may panic or return something else.
+/// The call may panic, or return something else, if a `requires` of its contract is not met.
+///
+/// <details><summary>Contract</summary>
 ///
 /// ```text
 /// requires { 2 ≤ length bytes.now }
@@ -67,6 +72,7 @@ pub fn tci_an(bytes: &[u8]) -> u8 {
 /// ```
 ///
 /// </details>
+#[must_use]
 #[inline]
 pub fn has_version_one(bytes: &[u8]) -> bool {
     is_set(bytes, V)
@@ -74,9 +80,11 @@ pub fn has_version_one(bytes: &[u8]) -> bool {
 
 /// Whether the end station bit ES is set.
 ///
-/// <details><summary>Contract</summary>
+/// # Panics
 ///
-/// The caller must meet each `requires`; otherwise the call may panic or return something else.
+/// The call may panic, or return something else, if a `requires` of its contract is not met.
+///
+/// <details><summary>Contract</summary>
 ///
 /// ```text
 /// requires { 2 ≤ length bytes.now }
@@ -84,6 +92,7 @@ pub fn has_version_one(bytes: &[u8]) -> bool {
 /// ```
 ///
 /// </details>
+#[must_use]
 #[inline]
 pub fn endstation_id(bytes: &[u8]) -> bool {
     is_set(bytes, ES)
@@ -91,9 +100,11 @@ pub fn endstation_id(bytes: &[u8]) -> bool {
 
 /// Whether the bit SC is set: the tag has an SCI.
 ///
-/// <details><summary>Contract</summary>
+/// # Panics
 ///
-/// The caller must meet each `requires`; otherwise the call may panic or return something else.
+/// The call may panic, or return something else, if a `requires` of its contract is not met.
+///
+/// <details><summary>Contract</summary>
 ///
 /// ```text
 /// requires { 2 ≤ length bytes.now }
@@ -101,6 +112,7 @@ pub fn endstation_id(bytes: &[u8]) -> bool {
 /// ```
 ///
 /// </details>
+#[must_use]
 #[inline]
 pub fn sci_present(bytes: &[u8]) -> bool {
     is_set(bytes, SC)
@@ -108,9 +120,11 @@ pub fn sci_present(bytes: &[u8]) -> bool {
 
 /// Whether the single copy broadcast bit SCB is set.
 ///
-/// <details><summary>Contract</summary>
+/// # Panics
 ///
-/// The caller must meet each `requires`; otherwise the call may panic or return something else.
+/// The call may panic, or return something else, if a `requires` of its contract is not met.
+///
+/// <details><summary>Contract</summary>
 ///
 /// ```text
 /// requires { 2 ≤ length bytes.now }
@@ -118,6 +132,7 @@ pub fn sci_present(bytes: &[u8]) -> bool {
 /// ```
 ///
 /// </details>
+#[must_use]
 #[inline]
 pub fn tci_scb(bytes: &[u8]) -> bool {
     is_set(bytes, SCB)
@@ -125,9 +140,11 @@ pub fn tci_scb(bytes: &[u8]) -> bool {
 
 /// Whether the bit E is set: the user data is encrypted.
 ///
-/// <details><summary>Contract</summary>
+/// # Panics
 ///
-/// The caller must meet each `requires`; otherwise the call may panic or return something else.
+/// The call may panic, or return something else, if a `requires` of its contract is not met.
+///
+/// <details><summary>Contract</summary>
 ///
 /// ```text
 /// requires { 2 ≤ length bytes.now }
@@ -135,6 +152,7 @@ pub fn tci_scb(bytes: &[u8]) -> bool {
 /// ```
 ///
 /// </details>
+#[must_use]
 #[inline]
 pub fn encrypted(bytes: &[u8]) -> bool {
     is_set(bytes, E)
@@ -142,9 +160,11 @@ pub fn encrypted(bytes: &[u8]) -> bool {
 
 /// Whether the bit C is set: the user data is changed.
 ///
-/// <details><summary>Contract</summary>
+/// # Panics
 ///
-/// The caller must meet each `requires`; otherwise the call may panic or return something else.
+/// The call may panic, or return something else, if a `requires` of its contract is not met.
+///
+/// <details><summary>Contract</summary>
 ///
 /// ```text
 /// requires { 2 ≤ length bytes.now }
@@ -152,6 +172,7 @@ pub fn encrypted(bytes: &[u8]) -> bool {
 /// ```
 ///
 /// </details>
+#[must_use]
 #[inline]
 pub fn userdata_changed(bytes: &[u8]) -> bool {
     is_set(bytes, C)
@@ -159,9 +180,11 @@ pub fn userdata_changed(bytes: &[u8]) -> bool {
 
 /// The association number AN.
 ///
-/// <details><summary>Contract</summary>
+/// # Panics
 ///
-/// The caller must meet each `requires`; otherwise the call may panic or return something else.
+/// The call may panic, or return something else, if a `requires` of its contract is not met.
+///
+/// <details><summary>Contract</summary>
 ///
 /// ```text
 /// requires { 2 ≤ length bytes.now }
@@ -169,6 +192,7 @@ pub fn userdata_changed(bytes: &[u8]) -> bool {
 /// ```
 ///
 /// </details>
+#[must_use]
 #[inline]
 pub fn association_number(bytes: &[u8]) -> MacsecAn {
     MacsecAn::try_new(bytes[TCI_AN] & 0x03).unwrap()
@@ -176,9 +200,11 @@ pub fn association_number(bytes: &[u8]) -> MacsecAn {
 
 /// The short length SL.
 ///
-/// <details><summary>Contract</summary>
+/// # Panics
 ///
-/// The caller must meet each `requires`; otherwise the call may panic or return something else.
+/// The call may panic, or return something else, if a `requires` of its contract is not met.
+///
+/// <details><summary>Contract</summary>
 ///
 /// ```text
 /// requires { 2 ≤ length bytes.now }
@@ -186,6 +212,7 @@ pub fn association_number(bytes: &[u8]) -> MacsecAn {
 /// ```
 ///
 /// </details>
+#[must_use]
 #[inline]
 pub fn short_len(bytes: &[u8]) -> MacsecShortLen {
     MacsecShortLen::try_from_u8(bytes[SHORT_LENGTH] & 0x3f).unwrap()
@@ -193,9 +220,11 @@ pub fn short_len(bytes: &[u8]) -> MacsecShortLen {
 
 /// The packet number PN.
 ///
-/// <details><summary>Contract</summary>
+/// # Panics
 ///
-/// The caller must meet each `requires`; otherwise the call may panic or return something else.
+/// The call may panic, or return something else, if a `requires` of its contract is not met.
+///
+/// <details><summary>Contract</summary>
 ///
 /// ```text
 /// requires { 6 ≤ length bytes.now }
@@ -203,6 +232,7 @@ pub fn short_len(bytes: &[u8]) -> MacsecShortLen {
 /// ```
 ///
 /// </details>
+#[must_use]
 #[inline]
 pub fn packet_nr(bytes: &[u8]) -> u32 {
     u32_in(&bytes[PACKET_NUMBER])
@@ -210,9 +240,11 @@ pub fn packet_nr(bytes: &[u8]) -> u32 {
 
 /// The secure channel identifier SCI, if SC is set.
 ///
-/// <details><summary>Contract</summary>
+/// # Panics
 ///
-/// The caller must meet each `requires`; otherwise the call may panic or return something else.
+/// The call may panic, or return something else, if a `requires` of its contract is not met.
+///
+/// <details><summary>Contract</summary>
 ///
 /// ```text
 /// requires { sec_tag_len (sec_tag_front_in bytes.now) ≤ length bytes.now }
@@ -220,6 +252,7 @@ pub fn packet_nr(bytes: &[u8]) -> u32 {
 /// ```
 ///
 /// </details>
+#[must_use]
 #[inline]
 pub fn sci(bytes: &[u8]) -> Option<u64> {
     if sci_present(bytes) {
@@ -232,9 +265,11 @@ pub fn sci(bytes: &[u8]) -> Option<u64> {
 /// Whether the user data is encrypted and changed, and its ether type if it is neither. The bytes are those of the tag
 /// alone, so that the ether type is at their end.
 ///
-/// <details><summary>Contract</summary>
+/// # Panics
 ///
-/// The caller must meet each `requires`; otherwise the call may panic or return something else.
+/// The call may panic, or return something else, if a `requires` of its contract is not met.
+///
+/// <details><summary>Contract</summary>
 ///
 /// ```text
 /// requires { length bytes.now ≡ sec_tag_len (sec_tag_front_in bytes.now) }
@@ -242,6 +277,7 @@ pub fn sci(bytes: &[u8]) -> Option<u64> {
 /// ```
 ///
 /// </details>
+#[must_use]
 #[inline]
 pub fn ptype(bytes: &[u8]) -> MacsecPType {
     match (encrypted(bytes), userdata_changed(bytes)) {
@@ -257,9 +293,11 @@ pub fn ptype(bytes: &[u8]) -> MacsecPType {
 
 /// Whether E and C are clear, so that the ether type of the user data follows the tag.
 ///
-/// <details><summary>Contract</summary>
+/// # Panics
 ///
-/// The caller must meet each `requires`; otherwise the call may panic or return something else.
+/// The call may panic, or return something else, if a `requires` of its contract is not met.
+///
+/// <details><summary>Contract</summary>
 ///
 /// ```text
 /// requires { 2 ≤ length bytes.now }
@@ -267,6 +305,7 @@ pub fn ptype(bytes: &[u8]) -> MacsecPType {
 /// ```
 ///
 /// </details>
+#[must_use]
 #[inline]
 pub fn is_unmodified(bytes: &[u8]) -> bool {
     !encrypted(bytes) && !userdata_changed(bytes)
@@ -274,9 +313,11 @@ pub fn is_unmodified(bytes: &[u8]) -> bool {
 
 /// Whether an ether type follows the tag, and the short length, which counts its 2 bytes, is only 1.
 ///
-/// <details><summary>Contract</summary>
+/// # Panics
 ///
-/// The caller must meet each `requires`; otherwise the call may panic or return something else.
+/// The call may panic, or return something else, if a `requires` of its contract is not met.
+///
+/// <details><summary>Contract</summary>
 ///
 /// ```text
 /// requires { 2 ≤ length bytes.now }
@@ -284,6 +325,7 @@ pub fn is_unmodified(bytes: &[u8]) -> bool {
 /// ```
 ///
 /// </details>
+#[must_use]
 #[inline]
 pub fn is_too_short(bytes: &[u8]) -> bool {
     is_unmodified(bytes) && short_len(bytes).value() == 1
@@ -291,9 +333,11 @@ pub fn is_too_short(bytes: &[u8]) -> bool {
 
 /// The length of the tag in bytes, with the ether type after it, 6 to 16.
 ///
-/// <details><summary>Contract</summary>
+/// # Panics
 ///
-/// The caller must meet each `requires`; otherwise the call may panic or return something else.
+/// The call may panic, or return something else, if a `requires` of its contract is not met.
+///
+/// <details><summary>Contract</summary>
 ///
 /// ```text
 /// requires { 2 ≤ length bytes.now }
@@ -301,6 +345,7 @@ pub fn is_too_short(bytes: &[u8]) -> bool {
 /// ```
 ///
 /// </details>
+#[must_use]
 #[inline]
 pub fn header_len(bytes: &[u8]) -> usize {
     tag_len(sci_present(bytes), is_unmodified(bytes))
@@ -308,9 +353,11 @@ pub fn header_len(bytes: &[u8]) -> usize {
 
 /// The length in bytes of the payload, without the ether type after the tag. `None` if the short length names none.
 ///
-/// <details><summary>Contract</summary>
+/// # Panics
 ///
-/// The caller must meet each `requires`; otherwise the call may panic or return something else.
+/// The call may panic, or return something else, if a `requires` of its contract is not met.
+///
+/// <details><summary>Contract</summary>
 ///
 /// ```text
 /// requires { 2 ≤ length bytes.now }
@@ -318,6 +365,7 @@ pub fn header_len(bytes: &[u8]) -> usize {
 /// ```
 ///
 /// </details>
+#[must_use]
 #[inline]
 pub fn expected_payload_len(bytes: &[u8]) -> Option<usize> {
     payload_len(short_len(bytes), is_unmodified(bytes))
@@ -332,6 +380,7 @@ pub fn expected_payload_len(bytes: &[u8]) -> Option<usize> {
 /// ```
 ///
 /// </details>
+#[must_use]
 #[inline]
 pub fn tag_len(has_sci: bool, is_unmodified: bool) -> usize {
     let sci = if has_sci { 8 } else { 0 };
@@ -349,6 +398,7 @@ pub fn tag_len(has_sci: bool, is_unmodified: bool) -> usize {
 /// ```
 ///
 /// </details>
+#[must_use]
 #[inline]
 pub fn payload_len(short_len: MacsecShortLen, is_unmodified: bool) -> Option<usize> {
     let named = usize::from(short_len.value());

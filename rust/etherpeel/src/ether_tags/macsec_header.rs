@@ -34,7 +34,8 @@ use crate::ether_base::{EtherType, MacsecAn, MacsecShortLen};
 /// Public fields are not checked against each other.
 ///
 /// ```
-/// # use etherpeel::*;
+/// use etherpeel::{EtherType, MacsecAn, MacsecHeader, MacsecPType, MacsecShortLen};
+///
 /// # fn main() -> Result<(), Box<dyn std::error::Error>> {
 /// let mut tag = MacsecHeader {
 ///     ptype: MacsecPType::Unmodified(EtherType::IPV4),
@@ -57,7 +58,8 @@ use crate::ether_base::{EtherType, MacsecAn, MacsecShortLen};
 /// # Ok(())
 /// # }
 /// ```
-#[derive(Clone, Copy, PartialEq, Eq, Debug)]
+#[cfg_attr(feature = "serde", derive(serde::Serialize, serde::Deserialize))]
+#[derive(Clone, Copy, PartialEq, Eq, Hash, Debug)]
 pub struct MacsecHeader {
     /// Whether the payload is encrypted and changed (bits E and C), and its ether type if it is neither.
     pub ptype: MacsecPType,
@@ -114,6 +116,7 @@ impl MacsecHeader {
     /// ```
     ///
     /// </details>
+    #[must_use]
     #[inline]
     pub fn encrypted(&self) -> bool {
         matches!(
@@ -131,6 +134,7 @@ impl MacsecHeader {
     /// ```
     ///
     /// </details>
+    #[must_use]
     #[inline]
     pub fn userdata_changed(&self) -> bool {
         matches!(self.ptype, MacsecPType::Encrypted | MacsecPType::Modified)
@@ -145,6 +149,7 @@ impl MacsecHeader {
     /// ```
     ///
     /// </details>
+    #[must_use]
     #[inline]
     pub fn next_ether_type(&self) -> Option<EtherType> {
         match self.ptype {
@@ -164,6 +169,7 @@ impl MacsecHeader {
     /// ```
     ///
     /// </details>
+    #[must_use]
     #[inline]
     pub fn header_len(&self) -> usize {
         macsec_fields::tag_len(self.sci.is_some(), self.next_ether_type().is_some())
@@ -179,6 +185,7 @@ impl MacsecHeader {
     /// ```
     ///
     /// </details>
+    #[must_use]
     #[inline]
     pub fn expected_payload_len(&self) -> Option<usize> {
         macsec_fields::payload_len(self.short_len, self.next_ether_type().is_some())
@@ -233,6 +240,7 @@ impl MacsecHeader {
     /// ```
     ///
     /// </details>
+    #[must_use]
     #[inline]
     pub fn to_bytes(&self) -> ArrayVec<u8, 16> {
         self.spelled()

@@ -11,7 +11,8 @@ use crate::ether_base::{EtherType, LenSource, MacsecAn, MacsecShortLen};
 /// Two views are equal if their bytes are equal, wherever they are in memory.
 ///
 /// ```
-/// # use etherpeel::*;
+/// use etherpeel::{EtherType, MacsecHeaderSlice};
+///
 /// # fn main() -> Result<(), Box<dyn std::error::Error>> {
 /// let bytes = [0x53, 0x2A, 0x01, 0x02, 0x03, 0x04, 0x08, 0x00, 0x45];
 /// let tag = MacsecHeaderSlice::from_slice(&bytes)?;
@@ -98,6 +99,7 @@ impl<'a> MacsecHeaderSlice<'a> {
     /// ```
     ///
     /// </details>
+    #[must_use]
     #[inline]
     pub fn slice(&self) -> &'a [u8] {
         self.slice
@@ -112,6 +114,7 @@ impl<'a> MacsecHeaderSlice<'a> {
     /// ```
     ///
     /// </details>
+    #[must_use]
     #[inline]
     pub fn tci_an_raw(&self) -> u8 {
         macsec_fields::tci_an(self.slice)
@@ -127,6 +130,7 @@ impl<'a> MacsecHeaderSlice<'a> {
     /// ```
     ///
     /// </details>
+    #[must_use]
     #[inline]
     pub fn endstation_id(&self) -> bool {
         macsec_fields::endstation_id(self.slice)
@@ -141,6 +145,7 @@ impl<'a> MacsecHeaderSlice<'a> {
     /// ```
     ///
     /// </details>
+    #[must_use]
     #[inline]
     pub fn tci_scb(&self) -> bool {
         macsec_fields::tci_scb(self.slice)
@@ -155,6 +160,7 @@ impl<'a> MacsecHeaderSlice<'a> {
     /// ```
     ///
     /// </details>
+    #[must_use]
     #[inline]
     pub fn encrypted(&self) -> bool {
         macsec_fields::encrypted(self.slice)
@@ -169,6 +175,7 @@ impl<'a> MacsecHeaderSlice<'a> {
     /// ```
     ///
     /// </details>
+    #[must_use]
     #[inline]
     pub fn userdata_changed(&self) -> bool {
         macsec_fields::userdata_changed(self.slice)
@@ -184,6 +191,7 @@ impl<'a> MacsecHeaderSlice<'a> {
     /// ```
     ///
     /// </details>
+    #[must_use]
     #[inline]
     pub fn is_unmodified(&self) -> bool {
         macsec_fields::is_unmodified(self.slice)
@@ -198,6 +206,7 @@ impl<'a> MacsecHeaderSlice<'a> {
     /// ```
     ///
     /// </details>
+    #[must_use]
     #[inline]
     pub fn ptype(&self) -> MacsecPType {
         macsec_fields::ptype(self.slice)
@@ -212,6 +221,7 @@ impl<'a> MacsecHeaderSlice<'a> {
     /// ```
     ///
     /// </details>
+    #[must_use]
     #[inline]
     pub fn an(&self) -> MacsecAn {
         macsec_fields::association_number(self.slice)
@@ -226,6 +236,7 @@ impl<'a> MacsecHeaderSlice<'a> {
     /// ```
     ///
     /// </details>
+    #[must_use]
     #[inline]
     pub fn short_len(&self) -> MacsecShortLen {
         macsec_fields::short_len(self.slice)
@@ -240,6 +251,7 @@ impl<'a> MacsecHeaderSlice<'a> {
     /// ```
     ///
     /// </details>
+    #[must_use]
     #[inline]
     pub fn packet_nr(&self) -> u32 {
         macsec_fields::packet_nr(self.slice)
@@ -254,6 +266,7 @@ impl<'a> MacsecHeaderSlice<'a> {
     /// ```
     ///
     /// </details>
+    #[must_use]
     #[inline]
     pub fn sci_present(&self) -> bool {
         macsec_fields::sci_present(self.slice)
@@ -268,6 +281,7 @@ impl<'a> MacsecHeaderSlice<'a> {
     /// ```
     ///
     /// </details>
+    #[must_use]
     #[inline]
     pub fn sci(&self) -> Option<u64> {
         macsec_fields::sci(self.slice)
@@ -282,6 +296,7 @@ impl<'a> MacsecHeaderSlice<'a> {
     /// ```
     ///
     /// </details>
+    #[must_use]
     #[inline]
     pub fn next_ether_type(&self) -> Option<EtherType> {
         match self.ptype() {
@@ -300,6 +315,7 @@ impl<'a> MacsecHeaderSlice<'a> {
     /// ```
     ///
     /// </details>
+    #[must_use]
     #[inline]
     pub fn header_len(&self) -> usize {
         self.slice.len()
@@ -315,6 +331,7 @@ impl<'a> MacsecHeaderSlice<'a> {
     /// ```
     ///
     /// </details>
+    #[must_use]
     #[inline]
     pub fn expected_payload_len(&self) -> Option<usize> {
         macsec_fields::expected_payload_len(self.slice)
@@ -329,6 +346,7 @@ impl<'a> MacsecHeaderSlice<'a> {
     /// ```
     ///
     /// </details>
+    #[must_use]
     #[inline]
     pub fn to_header(&self) -> MacsecHeader {
         MacsecHeader {

@@ -5,7 +5,8 @@ use crate::ether_base::EtherType;
 /// type if it is neither.
 ///
 /// ```
-/// # use etherpeel::*;
+/// use etherpeel::{EtherType, MacsecHeader, MacsecPType};
+///
 /// # fn main() -> Result<(), Box<dyn std::error::Error>> {
 /// let readable = MacsecHeader::from_slice(&[0x00, 0x00, 0, 0, 0, 1, 0x08, 0x00])?;
 /// assert_eq!(readable.ptype, MacsecPType::Unmodified(EtherType::IPV4));
@@ -14,6 +15,7 @@ use crate::ether_base::EtherType;
 /// # Ok(())
 /// # }
 /// ```
+#[cfg_attr(feature = "serde", derive(serde::Serialize, serde::Deserialize))]
 #[derive(Clone, Copy, PartialEq, Eq, Hash, Debug)]
 pub enum MacsecPType {
     /// E and C are clear: the payload is as it was before MACsec, and its ether type is at the end of the tag.

@@ -4,7 +4,8 @@ use crate::ether_tags::EtherPayloadSlice;
 /// A view of the payload after a MACsec SecTag.
 ///
 /// ```
-/// # use etherpeel::*;
+/// use etherpeel::{MacsecPayloadSlice, MacsecSlice};
+///
 /// # fn main() -> Result<(), Box<dyn std::error::Error>> {
 /// let encrypted = MacsecSlice::from_slice(&[0x0C, 0x00, 0, 0, 0, 1, 0xAA])?;
 /// assert_eq!(encrypted.payload, MacsecPayloadSlice::Modified(&[0xAA]));

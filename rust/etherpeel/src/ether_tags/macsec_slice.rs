@@ -11,7 +11,8 @@ use crate::ether_base::{EtherType, LenSource};
 /// Public fields are not checked against each other.
 ///
 /// ```
-/// # use etherpeel::*;
+/// use etherpeel::{EtherPayloadSlice, EtherType, LenSource, MacsecSlice};
+///
 /// # fn main() -> Result<(), Box<dyn std::error::Error>> {
 /// let bytes = [0x00, 0x03, 0, 0, 0, 1, 0x08, 0x00, 0x45, 0xEE];
 /// let packet = MacsecSlice::from_slice(&bytes)?;
@@ -82,6 +83,7 @@ impl<'a> MacsecSlice<'a> {
     /// ```
     ///
     /// </details>
+    #[must_use]
     #[inline]
     pub fn ether_payload(&self) -> Option<EtherPayloadSlice<'a>> {
         match self.payload {
@@ -100,6 +102,7 @@ impl<'a> MacsecSlice<'a> {
     /// ```
     ///
     /// </details>
+    #[must_use]
     #[inline]
     pub fn next_ether_type(&self) -> Option<EtherType> {
         self.header.next_ether_type()

@@ -27,7 +27,8 @@ use crate::ether_base::{EtherType, VlanId, VlanPcp};
 /// A next ether type of at most 1500 is a length (IEEE 802.3, 3.2.6). It is passed through unchanged.
 ///
 /// ```
-/// # use etherpeel::*;
+/// use etherpeel::{EtherType, SingleVlanHeader, VlanId};
+///
 /// # fn main() -> Result<(), Box<dyn std::error::Error>> {
 /// let mut tag = SingleVlanHeader::from_bytes([0xB1, 0x23, 0x08, 0x00]);
 /// assert_eq!(tag.pcp.value(), 5);
@@ -40,7 +41,8 @@ use crate::ether_base::{EtherType, VlanId, VlanPcp};
 /// # Ok(())
 /// # }
 /// ```
-#[derive(Clone, Copy, PartialEq, Eq, Debug, Default)]
+#[cfg_attr(feature = "serde", derive(serde::Serialize, serde::Deserialize))]
+#[derive(Clone, Copy, PartialEq, Eq, Hash, Debug, Default)]
 pub struct SingleVlanHeader {
     /// The priority code point (PCP).
     pub pcp: VlanPcp,
@@ -115,6 +117,7 @@ impl SingleVlanHeader {
     /// ```
     ///
     /// </details>
+    #[must_use]
     #[inline]
     pub fn from_bytes(bytes: [u8; 4]) -> SingleVlanHeader {
         vlan_fields::header(&bytes)
@@ -129,6 +132,7 @@ impl SingleVlanHeader {
     /// ```
     ///
     /// </details>
+    #[must_use]
     #[inline]
     pub fn header_len(&self) -> usize {
         SingleVlanHeader::LEN
@@ -150,6 +154,7 @@ impl SingleVlanHeader {
     /// ```
     ///
     /// </details>
+    #[must_use]
     #[inline]
     pub fn to_bytes(&self) -> [u8; 4] {
         let control = tag_control_of(self.pcp, self.drop_eligible_indicator, self.vlan_id);

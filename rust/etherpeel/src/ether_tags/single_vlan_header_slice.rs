@@ -11,7 +11,8 @@ use crate::ether_base::{EtherType, LenSource, VlanId, VlanPcp};
 /// Two views are equal if their bytes are equal, wherever they are in memory.
 ///
 /// ```
-/// # use etherpeel::*;
+/// use etherpeel::{EtherType, SingleVlanHeaderSlice};
+///
 /// # fn main() -> Result<(), Box<dyn std::error::Error>> {
 /// let tag = SingleVlanHeaderSlice::from_slice(&[0xB1, 0x23, 0x08, 0x00, 0x45])?;
 /// assert_eq!(tag.priority_code_point().value(), 5);
@@ -70,6 +71,7 @@ impl<'a> SingleVlanHeaderSlice<'a> {
     /// ```
     ///
     /// </details>
+    #[must_use]
     #[inline]
     pub fn slice(&self) -> &'a [u8] {
         // Its length is then a constant for the compiler.
@@ -85,6 +87,7 @@ impl<'a> SingleVlanHeaderSlice<'a> {
     /// ```
     ///
     /// </details>
+    #[must_use]
     #[inline]
     pub fn priority_code_point(&self) -> VlanPcp {
         vlan_fields::priority_code_point(self.slice)
@@ -99,6 +102,7 @@ impl<'a> SingleVlanHeaderSlice<'a> {
     /// ```
     ///
     /// </details>
+    #[must_use]
     #[inline]
     pub fn drop_eligible_indicator(&self) -> bool {
         vlan_fields::drop_eligible_indicator(self.slice)
@@ -113,6 +117,7 @@ impl<'a> SingleVlanHeaderSlice<'a> {
     /// ```
     ///
     /// </details>
+    #[must_use]
     #[inline]
     pub fn vlan_identifier(&self) -> VlanId {
         vlan_fields::vlan_identifier(self.slice)
@@ -127,6 +132,7 @@ impl<'a> SingleVlanHeaderSlice<'a> {
     /// ```
     ///
     /// </details>
+    #[must_use]
     #[inline]
     pub fn ether_type(&self) -> EtherType {
         vlan_fields::ether_type(self.slice)
@@ -141,6 +147,7 @@ impl<'a> SingleVlanHeaderSlice<'a> {
     /// ```
     ///
     /// </details>
+    #[must_use]
     #[inline]
     pub fn to_header(&self) -> SingleVlanHeader {
         vlan_fields::header(self.slice)

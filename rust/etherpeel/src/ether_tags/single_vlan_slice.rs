@@ -12,7 +12,8 @@ use core::fmt;
 /// Two views are equal if their bytes are equal, wherever they are in memory.
 ///
 /// ```
-/// # use etherpeel::*;
+/// use etherpeel::{EtherType, SingleVlanSlice};
+///
 /// # fn main() -> Result<(), Box<dyn std::error::Error>> {
 /// let tag = SingleVlanSlice::from_slice(&[0xB1, 0x23, 0x08, 0x00, 0x45])?;
 /// assert_eq!(tag.vlan_identifier().value(), 0x123);
@@ -66,6 +67,7 @@ impl<'a> SingleVlanSlice<'a> {
     /// ```
     ///
     /// </details>
+    #[must_use]
     #[inline]
     pub fn slice(&self) -> &'a [u8] {
         self.slice
@@ -81,6 +83,7 @@ impl<'a> SingleVlanSlice<'a> {
     /// ```
     ///
     /// </details>
+    #[must_use]
     #[inline]
     pub fn header_slice(&self) -> &[u8] {
         &self.slice[..SingleVlanHeader::LEN]
@@ -95,6 +98,7 @@ impl<'a> SingleVlanSlice<'a> {
     /// ```
     ///
     /// </details>
+    #[must_use]
     #[inline]
     pub fn priority_code_point(&self) -> VlanPcp {
         vlan_fields::priority_code_point(self.slice)
@@ -109,6 +113,7 @@ impl<'a> SingleVlanSlice<'a> {
     /// ```
     ///
     /// </details>
+    #[must_use]
     #[inline]
     pub fn drop_eligible_indicator(&self) -> bool {
         vlan_fields::drop_eligible_indicator(self.slice)
@@ -123,6 +128,7 @@ impl<'a> SingleVlanSlice<'a> {
     /// ```
     ///
     /// </details>
+    #[must_use]
     #[inline]
     pub fn vlan_identifier(&self) -> VlanId {
         vlan_fields::vlan_identifier(self.slice)
@@ -137,6 +143,7 @@ impl<'a> SingleVlanSlice<'a> {
     /// ```
     ///
     /// </details>
+    #[must_use]
     #[inline]
     pub fn ether_type(&self) -> EtherType {
         vlan_fields::ether_type(self.slice)
@@ -151,6 +158,7 @@ impl<'a> SingleVlanSlice<'a> {
     /// ```
     ///
     /// </details>
+    #[must_use]
     #[inline]
     pub fn to_header(&self) -> SingleVlanHeader {
         vlan_fields::header(self.slice)
@@ -167,6 +175,7 @@ impl<'a> SingleVlanSlice<'a> {
     /// ```
     ///
     /// </details>
+    #[must_use]
     #[inline]
     pub fn payload(&self) -> EtherPayloadSlice<'a> {
         EtherPayloadSlice {
@@ -185,6 +194,7 @@ impl<'a> SingleVlanSlice<'a> {
     /// ```
     ///
     /// </details>
+    #[must_use]
     #[inline]
     pub fn payload_slice(&self) -> &'a [u8] {
         let slice = self.slice;
@@ -200,6 +210,7 @@ impl<'a> SingleVlanSlice<'a> {
     /// ```
     ///
     /// </details>
+    #[must_use]
     #[inline]
     pub const fn header_len(&self) -> usize {
         SingleVlanHeader::LEN

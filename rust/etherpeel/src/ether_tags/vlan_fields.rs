@@ -15,9 +15,11 @@ const ETHER_TYPE: Range<usize> = 2..4;
 
 /// The priority code point.
 ///
-/// <details><summary>Contract</summary>
+/// # Panics
 ///
-/// The caller must meet each `requires`; otherwise the call may panic or return something else.
+/// The call may panic, or return something else, if a `requires` of its contract is not met.
+///
+/// <details><summary>Contract</summary>
 ///
 /// ```text
 /// requires { 4 ≤ length bytes.now }
@@ -25,6 +27,7 @@ const ETHER_TYPE: Range<usize> = 2..4;
 /// ```
 ///
 /// </details>
+#[must_use]
 #[inline]
 pub fn priority_code_point(bytes: &[u8]) -> VlanPcp {
     pcp_of(tag_control(bytes))
@@ -32,9 +35,11 @@ pub fn priority_code_point(bytes: &[u8]) -> VlanPcp {
 
 /// The drop eligible indicator.
 ///
-/// <details><summary>Contract</summary>
+/// # Panics
 ///
-/// The caller must meet each `requires`; otherwise the call may panic or return something else.
+/// The call may panic, or return something else, if a `requires` of its contract is not met.
+///
+/// <details><summary>Contract</summary>
 ///
 /// ```text
 /// requires { 4 ≤ length bytes.now }
@@ -42,6 +47,7 @@ pub fn priority_code_point(bytes: &[u8]) -> VlanPcp {
 /// ```
 ///
 /// </details>
+#[must_use]
 #[inline]
 pub fn drop_eligible_indicator(bytes: &[u8]) -> bool {
     dei_of(tag_control(bytes))
@@ -49,9 +55,11 @@ pub fn drop_eligible_indicator(bytes: &[u8]) -> bool {
 
 /// The VLAN identifier.
 ///
-/// <details><summary>Contract</summary>
+/// # Panics
 ///
-/// The caller must meet each `requires`; otherwise the call may panic or return something else.
+/// The call may panic, or return something else, if a `requires` of its contract is not met.
+///
+/// <details><summary>Contract</summary>
 ///
 /// ```text
 /// requires { 4 ≤ length bytes.now }
@@ -59,6 +67,7 @@ pub fn drop_eligible_indicator(bytes: &[u8]) -> bool {
 /// ```
 ///
 /// </details>
+#[must_use]
 #[inline]
 pub fn vlan_identifier(bytes: &[u8]) -> VlanId {
     vid_of(tag_control(bytes))
@@ -66,9 +75,11 @@ pub fn vlan_identifier(bytes: &[u8]) -> VlanId {
 
 /// The ether type of what follows the tag.
 ///
-/// <details><summary>Contract</summary>
+/// # Panics
 ///
-/// The caller must meet each `requires`; otherwise the call may panic or return something else.
+/// The call may panic, or return something else, if a `requires` of its contract is not met.
+///
+/// <details><summary>Contract</summary>
 ///
 /// ```text
 /// requires { 4 ≤ length bytes.now }
@@ -76,6 +87,7 @@ pub fn vlan_identifier(bytes: &[u8]) -> VlanId {
 /// ```
 ///
 /// </details>
+#[must_use]
 #[inline]
 pub fn ether_type(bytes: &[u8]) -> EtherType {
     EtherType(u16_in(&bytes[ETHER_TYPE]))
@@ -84,9 +96,11 @@ pub fn ether_type(bytes: &[u8]) -> EtherType {
 /// The tag with all its fields. The tag control information is read once, since three reads of it are compiled byte by
 /// byte.
 ///
-/// <details><summary>Contract</summary>
+/// # Panics
 ///
-/// The caller must meet each `requires`; otherwise the call may panic or return something else.
+/// The call may panic, or return something else, if a `requires` of its contract is not met.
+///
+/// <details><summary>Contract</summary>
 ///
 /// ```text
 /// requires { 4 ≤ length bytes.now }
@@ -95,6 +109,7 @@ pub fn ether_type(bytes: &[u8]) -> EtherType {
 /// ```
 ///
 /// </details>
+#[must_use]
 #[inline]
 pub fn header(bytes: &[u8]) -> SingleVlanHeader {
     let control = tag_control(bytes);
@@ -108,9 +123,11 @@ pub fn header(bytes: &[u8]) -> SingleVlanHeader {
 
 /// The bytes of a tag as an array, which is compared in one piece.
 ///
-/// <details><summary>Contract</summary>
+/// # Panics
 ///
-/// The caller must meet each `requires`; otherwise the call may panic or return something else.
+/// The call may panic, or return something else, if a `requires` of its contract is not met.
+///
+/// <details><summary>Contract</summary>
 ///
 /// ```text
 /// requires { length bytes.now ≡ 4 }
@@ -118,6 +135,7 @@ pub fn header(bytes: &[u8]) -> SingleVlanHeader {
 /// ```
 ///
 /// </details>
+#[must_use]
 #[inline]
 pub fn tag(bytes: &[u8]) -> [u8; 4] {
     [bytes[0], bytes[1], bytes[2], bytes[3]]
@@ -134,6 +152,7 @@ pub fn tag(bytes: &[u8]) -> [u8; 4] {
 /// ```
 ///
 /// </details>
+#[must_use]
 #[inline]
 pub fn tag_control_of(pcp: VlanPcp, drop_eligible: bool, vlan_id: VlanId) -> u16 {
     u16::from(pcp.value()) << 13 | (u16::from(drop_eligible) << 12 | vlan_id.value())
@@ -148,6 +167,7 @@ pub fn tag_control_of(pcp: VlanPcp, drop_eligible: bool, vlan_id: VlanId) -> u16
 /// ```
 ///
 /// </details>
+#[must_use]
 #[inline]
 pub fn bytes_of(control: u16, ether_type: u16) -> [u8; 4] {
     let high = bytes_of_u16(control);

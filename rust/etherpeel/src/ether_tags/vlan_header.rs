@@ -5,14 +5,16 @@ use crate::ether_base::EtherType;
 /// One VLAN tag or two.
 ///
 /// ```
-/// # use etherpeel::*;
+/// use etherpeel::{DoubleVlanHeader, EtherType, SingleVlanHeader, VlanHeader};
+///
 /// let outer = SingleVlanHeader::from_bytes([0x00, 0x0A, 0x81, 0x00]);
 /// let inner = SingleVlanHeader::from_bytes([0x00, 0x64, 0x08, 0x00]);
 /// let tags = VlanHeader::Double(DoubleVlanHeader { outer, inner });
 /// assert!(VlanHeader::VLAN_ETHER_TYPES.contains(&outer.ether_type));
 /// assert_eq!(tags.next_header(), EtherType::IPV4);
 /// ```
-#[derive(Clone, Copy, PartialEq, Eq, Debug)]
+#[cfg_attr(feature = "serde", derive(serde::Serialize, serde::Deserialize))]
+#[derive(Clone, Copy, PartialEq, Eq, Hash, Debug)]
 pub enum VlanHeader {
     /// One tag.
     Single(SingleVlanHeader),
@@ -38,6 +40,7 @@ impl VlanHeader {
     /// ```
     ///
     /// </details>
+    #[must_use]
     #[inline]
     pub fn next_header(&self) -> EtherType {
         match self {

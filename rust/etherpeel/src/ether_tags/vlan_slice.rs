@@ -5,7 +5,8 @@ use crate::ether_tags::{DoubleVlanSlice, EtherPayloadSlice, SingleVlanSlice, Vla
 /// A view of one VLAN tag or two, and of the payload of the last one.
 ///
 /// ```
-/// # use etherpeel::*;
+/// use etherpeel::{EtherType, SingleVlanSlice, VlanSlice};
+///
 /// # fn main() -> Result<(), Box<dyn std::error::Error>> {
 /// let bytes = [0xB1, 0x23, 0x08, 0x00, 0x45];
 /// let tags = VlanSlice::SingleVlan(SingleVlanSlice::from_slice(&bytes)?);
@@ -32,6 +33,7 @@ impl<'a> VlanSlice<'a> {
     /// ```
     ///
     /// </details>
+    #[must_use]
     #[inline]
     pub fn to_header(&self) -> VlanHeader {
         match self {
@@ -52,6 +54,7 @@ impl<'a> VlanSlice<'a> {
     /// ```
     ///
     /// </details>
+    #[must_use]
     #[inline]
     pub fn payload(&self) -> EtherPayloadSlice<'a> {
         match self {

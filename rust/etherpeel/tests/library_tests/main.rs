@@ -6,14 +6,27 @@
 
 #[path = "../kit/mod.rs"]
 mod kit;
+#[rustfmt::skip]
 mod example_frames;
 
+#[rustfmt::skip]
 mod checks;
+#[rustfmt::skip]
 mod examples;
+#[cfg(feature = "content")]
+#[rustfmt::skip]
 mod filter;
+#[rustfmt::skip]
 mod formats;
+#[rustfmt::skip]
 mod packet;
+#[cfg(feature = "pcap")]
+#[rustfmt::skip]
 mod pcap;
+#[rustfmt::skip]
 mod peel;
+#[cfg(feature = "switch")]
+#[rustfmt::skip]
 mod switch;
+#[rustfmt::skip]
 mod test_frames;

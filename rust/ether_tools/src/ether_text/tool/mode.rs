@@ -22,7 +22,7 @@ pub enum Mode {
 pub struct Usage;
 
 /// The mode that the words name, which are all words of a command but those of its limit.
-pub(crate) fn named_mode(words: &[&str]) -> Result<Mode, Usage> {
+pub(in crate::ether_text) fn named_mode(words: &[&str]) -> Result<Mode, Usage> {
     match words {
         [] => Ok(Mode::Eth),
         ["eth"] => Ok(Mode::Eth),

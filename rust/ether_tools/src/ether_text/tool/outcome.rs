@@ -57,7 +57,7 @@ pub fn status_of(outcome: &Result<Verdict, ToolFault>) -> u8 {
 pub const USAGE: &str = "usage: ether_tool eth | fcs | sll | type XXXX | feed [limit N]";
 
 /// What the program says of a line that names no frame, after the number of that line.
-pub(crate) const BAD_LINE: &str = "bad line";
+pub(in crate::ether_text) const BAD_LINE: &str = "bad line";
 
 /// A line that the program prints after the lines of all frames.
 #[derive(Clone, Copy, PartialEq, Eq, Debug)]

@@ -68,21 +68,11 @@ pub fn run_limited<R: Read, W: Write>(
 /// # Examples
 ///
 /// ```
-/// # use etherpeel::*;
-/// # use etherpeel::ether_peel::*;
-/// # use etherpeel::ether_fields::*;
-/// # use etherpeel::ether_sll2::*;
-/// # use etherpeel::ether_packet::*;
-/// # use etherpeel::ether_filter::*;
-/// # use etherpeel::ether_pcap::*;
-/// # use etherpeel::ether_content::*;
-/// # use etherpeel::ether_switch::*;
-/// # use etherpeel::ether_output::*;
-/// # use etherpeel::ether_format::*;
-/// # use ether_tools::ether_text::*;
-/// # use ether_tools::ether_text::tool::*;
-/// # use ether_tools::ether_text::tool::run::*;
-/// # use arrayvec::ArrayVec;
+/// use ether_tools::ether_text::Verdict;
+/// use ether_tools::ether_text::tool::run::run_slice;
+/// use ether_tools::ether_text::tool::mode::Mode;
+/// use arrayvec::ArrayVec;
+///
 /// let lines = b"ffffffffffff0200000000010800\n";
 /// let mut text = ArrayVec::<u8, 128>::new();
 /// let verdict = run_slice(Mode::Eth, None, lines, &mut text);
@@ -110,7 +100,7 @@ pub fn run_slice<W: Sink>(
 }
 
 /// What [`run`], [`run_limited`] and [`run_slice`] do.
-pub(crate) fn run_command<R: Source, W: Sink>(
+pub(in crate::ether_text) fn run_command<R: Source, W: Sink>(
     command: Command,
     reader: &mut R,
     writer: &mut W,

@@ -21,6 +21,7 @@ pub enum FromSliceError {
 
 impl FromSliceError {
     /// Returns a length error with `offset` added to its `layer_start_offset`, and others unchanged.
+    #[must_use]
     pub fn add_slice_offset(self, offset: usize) -> FromSliceError {
         match self {
             FromSliceError::Len(error) => FromSliceError::Len(error.add_offset(offset)),
@@ -29,6 +30,7 @@ impl FromSliceError {
     }
 
     /// The length error.
+    #[must_use]
     pub fn len(&self) -> Option<&LenError> {
         match self {
             FromSliceError::Len(error) => Some(error),
@@ -37,6 +39,7 @@ impl FromSliceError {
     }
 
     /// The error of a field of cooked capture.
+    #[must_use]
     pub fn linux_sll(&self) -> Option<&linux_sll::HeaderError> {
         match self {
             FromSliceError::LinuxSll(error) => Some(error),
@@ -45,6 +48,7 @@ impl FromSliceError {
     }
 
     /// The error of a field of a SecTag.
+    #[must_use]
     pub fn macsec(&self) -> Option<&macsec::HeaderError> {
         match self {
             FromSliceError::Macsec(error) => Some(error),

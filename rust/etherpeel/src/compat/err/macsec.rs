@@ -16,6 +16,7 @@ pub enum HeaderReadError {
 
 impl HeaderReadError {
     /// The error of the reader.
+    #[must_use]
     pub fn io_error(self) -> Option<io::Error> {
         match self {
             HeaderReadError::Io(error) => Some(error),
@@ -24,6 +25,7 @@ impl HeaderReadError {
     }
 
     /// The error of a field.
+    #[must_use]
     pub fn content_error(self) -> Option<HeaderError> {
         match self {
             HeaderReadError::Io(_) => None,

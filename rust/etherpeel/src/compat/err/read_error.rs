@@ -25,6 +25,7 @@ pub enum ReadError {
 
 impl ReadError {
     /// Returns a length error with `offset` added to its `layer_start_offset`, and others unchanged.
+    #[must_use]
     pub fn add_slice_offset(self, offset: usize) -> ReadError {
         match self {
             ReadError::Len(error) => ReadError::Len(error.add_offset(offset)),
@@ -33,6 +34,7 @@ impl ReadError {
     }
 
     /// The error of the reader.
+    #[must_use]
     pub fn io(self) -> Option<io::Error> {
         match self {
             ReadError::Io(error) => Some(error),
@@ -41,6 +43,7 @@ impl ReadError {
     }
 
     /// The length error.
+    #[must_use]
     pub fn len(self) -> Option<LenError> {
         match self {
             ReadError::Len(error) => Some(error),
@@ -49,6 +52,7 @@ impl ReadError {
     }
 
     /// The error of a field of cooked capture.
+    #[must_use]
     pub fn linux_sll(self) -> Option<linux_sll::HeaderError> {
         match self {
             ReadError::LinuxSll(error) => Some(error),
@@ -57,6 +61,7 @@ impl ReadError {
     }
 
     /// The error of a field of a SecTag.
+    #[must_use]
     pub fn macsec(self) -> Option<macsec::HeaderError> {
         match self {
             ReadError::Macsec(error) => Some(error),

@@ -7,11 +7,12 @@ use core::fmt;
 /// `Display` gives the name within a text, as `VLAN header`. Layers are ordered as they are listed.
 ///
 /// ```
-/// # use etherpeel::*;
-/// # use etherpeel::ether_base::err::*;
+/// use etherpeel::err::Layer;
+///
 /// assert_eq!(Layer::VlanHeader.error_title(), "VLAN Header Error");
 /// assert!(Layer::VlanHeader < Layer::MacsecHeader);
 /// ```
+#[cfg_attr(feature = "serde", derive(serde::Serialize, serde::Deserialize))]
 #[derive(Clone, Copy, PartialEq, Eq, PartialOrd, Ord, Hash, Debug)]
 pub enum Layer {
     /// The header of Linux cooked capture v1.
@@ -76,6 +77,7 @@ impl Layer {
     /// ```
     ///
     /// </details>
+    #[must_use]
     #[inline]
     pub fn error_title(&self) -> &'static str {
         match self {

@@ -10,8 +10,9 @@ use core::fmt;
 /// All lengths and offsets are in bytes.
 ///
 /// ```
-/// # use etherpeel::*;
-/// # use etherpeel::ether_base::err::*;
+/// use etherpeel::LenSource;
+/// use etherpeel::err::{Layer, LenError};
+///
 /// let error = LenError {
 ///     required_len: 4,
 ///     len: 2,
@@ -21,6 +22,7 @@ use core::fmt;
 /// };
 /// assert_eq!(error.add_offset(14).layer_start_offset, 14);
 /// ```
+#[cfg_attr(feature = "serde", derive(serde::Serialize, serde::Deserialize))]
 #[derive(Clone, Copy, PartialEq, Eq, Hash, Debug)]
 pub struct LenError {
     /// The length that the layer needs if `len` is smaller, and otherwise the greatest length that is allowed.
@@ -40,9 +42,11 @@ impl LenError {
     ///
     /// A caller that passed only the tail of a slice uses it to report the place in the whole slice.
     ///
-    /// <details><summary>Contract</summary>
+    /// # Panics
     ///
-    /// The caller must meet each `requires`; otherwise the call may panic or return something else.
+    /// The call may panic, or return something else, if a `requires` of its contract is not met.
+    ///
+    /// <details><summary>Contract</summary>
     ///
     /// ```text
     /// requires { self.layer_start_offset + offset < 2 ^ 64 }
@@ -50,6 +54,7 @@ impl LenError {
     /// ```
     ///
     /// </details>
+    #[must_use]
     #[inline]
     pub const fn add_offset(self, offset: usize) -> LenError {
         LenError {

@@ -8,9 +8,8 @@ pub use header_error::HeaderError;
 /// `Display` gives the text of the error within.
 ///
 /// ```
-/// # use etherpeel::*;
-/// # use etherpeel::ether_base::err::*;
-/// # use etherpeel::ether_base::err::linux_sll::*;
+/// use etherpeel::err::linux_sll::{HeaderError, HeaderSliceError};
+///
 /// let content = HeaderError::UnsupportedPacketTypeField { packet_type: 8 };
 /// let error = HeaderSliceError::Content(content);
 /// assert_eq!(error.clone().add_slice_offset(14), error);

@@ -9,8 +9,8 @@ use core::fmt;
 /// All lengths and offsets are in bytes.
 ///
 /// ```
-/// # use etherpeel::*;
-/// # use etherpeel::ether_base::err::*;
+/// use etherpeel::err::{Layer, SliceWriteSpaceError};
+///
 /// let error = SliceWriteSpaceError {
 ///     required_len: 14,
 ///     len: 13,

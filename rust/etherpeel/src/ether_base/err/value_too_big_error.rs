@@ -8,8 +8,9 @@ use core::hash::Hash;
 /// The value exceeds the field's maximum.
 ///
 /// ```
-/// # use etherpeel::*;
-/// # use etherpeel::ether_base::err::*;
+/// use etherpeel::VlanPcp;
+/// use etherpeel::err::{ValueTooBigError, ValueType};
+///
 /// let refused = ValueTooBigError {
 ///     actual: 8,
 ///     max_allowed: 7,

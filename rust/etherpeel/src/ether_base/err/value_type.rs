@@ -7,8 +7,8 @@ use core::fmt;
 /// `Display` gives the name within a text, as `VLAN ID`. Fields are ordered as they are listed.
 ///
 /// ```
-/// # use etherpeel::*;
-/// # use etherpeel::ether_base::err::*;
+/// use etherpeel::err::ValueType;
+///
 /// let field = ValueType::VlanId;
 /// assert_eq!(format!("{field}").as_str(), "VLAN ID");
 /// ```

@@ -8,7 +8,7 @@ use crate::ether_pcap::{
 
 /// Reads the block at the front of bytes that do not begin with a section header.
 #[inline(always)]
-pub(crate) fn read_block<'a, T: InterfaceTable>(
+pub(in crate::ether_pcap) fn read_block<'a, T: InterfaceTable>(
     byte_order: ByteOrder,
     interfaces: &mut T,
     bytes: &'a [u8],
@@ -131,7 +131,7 @@ fn first_of(of_packet: Option<u8>, of_interface: Option<u8>) -> Option<u8> {
 
 /// The interface with this number, counted from 0.
 #[inline]
-pub(crate) fn interface_at(interfaces: &[CaptureInterface], number: u32) -> Option<CaptureInterface> {
+pub(in crate::ether_pcap) fn interface_at(interfaces: &[CaptureInterface], number: u32) -> Option<CaptureInterface> {
     let index = number as usize;
     if index < interfaces.len() {
         Some(interfaces[index])

@@ -6,14 +6,8 @@ use core::fmt;
 /// Why a unit of a capture file can't be read.
 ///
 /// ```
-/// # use etherpeel::*;
-/// # use etherpeel::ether_peel::*;
-/// # use etherpeel::ether_fields::*;
-/// # use etherpeel::ether_sll2::*;
-/// # use etherpeel::ether_packet::*;
-/// # use etherpeel::ether_filter::*;
-/// # use etherpeel::ether_pcap::*;
-/// # use etherpeel::ether_pcap::capture::*;
+/// use etherpeel::ether_pcap::{CaptureError, RecordError};
+///
 /// let error = CaptureError::Record(RecordError::Len {
 ///     required_len: 76,
 ///     len: 20,
@@ -24,7 +18,7 @@ use core::fmt;
 ///     "A packet of a pcapng file names interface 3, which its section does not describe."
 /// );
 /// ```
-#[derive(Clone, Copy, PartialEq, Eq, Debug)]
+#[derive(Clone, Copy, PartialEq, Eq, Hash, Debug)]
 pub enum CaptureError {
     /// The file begins neither with the header of a classic file nor with the type of a section header.
     File(FileHeaderError),
@@ -54,6 +48,7 @@ impl CaptureError {
     /// ```
     ///
     /// </details>
+    #[must_use]
     #[inline]
     pub fn required_len(&self) -> Option<usize> {
         match self {

@@ -6,14 +6,8 @@ use core::fmt;
 /// Why the packets of a capture file end before the file does, and where.
 ///
 /// ```
-/// # use etherpeel::*;
-/// # use etherpeel::ether_peel::*;
-/// # use etherpeel::ether_fields::*;
-/// # use etherpeel::ether_sll2::*;
-/// # use etherpeel::ether_packet::*;
-/// # use etherpeel::ether_filter::*;
-/// # use etherpeel::ether_pcap::*;
-/// # use etherpeel::ether_pcap::capture::*;
+/// use etherpeel::ether_pcap::{CaptureError, CaptureFault};
+///
 /// let fault = CaptureFault {
 ///     offset: 24,
 ///     error: CaptureError::NoInterface(3),
@@ -23,7 +17,7 @@ use core::fmt;
 ///     "At byte 24: A packet of a pcapng file names interface 3, which its section does not describe."
 /// );
 /// ```
-#[derive(Clone, Copy, PartialEq, Eq, Debug)]
+#[derive(Clone, Copy, PartialEq, Eq, Hash, Debug)]
 pub struct CaptureFault {
     /// The offset in bytes, from the start of the file, of the file header, record or block that can't be read.
     pub offset: usize,

@@ -3,7 +3,8 @@
 use crate::ether_pcap::{BodyError, ByteOrder, InterfaceDescription, LinkType, Timestamp};
 
 /// What a section of a pcapng file says of an interface, as far as its packets need it.
-#[derive(Clone, Copy, Debug)]
+#[cfg_attr(feature = "serde", derive(serde::Serialize, serde::Deserialize))]
+#[derive(Clone, Copy, PartialEq, Eq, Hash, Debug)]
 pub struct CaptureInterface {
     /// The link type of its packets.
     pub link_type: LinkType,
@@ -52,6 +53,7 @@ impl CaptureInterface {
     /// ```
     ///
     /// </details>
+    #[must_use]
     #[inline]
     pub fn time(&self, ticks: u64) -> Option<Timestamp> {
         let time = time(units(self.time_resolution), ticks);

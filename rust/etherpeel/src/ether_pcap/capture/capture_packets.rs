@@ -14,14 +14,8 @@ const MAX_INTERFACES: usize = 4_096;
 /// The packets of a capture file of either format in memory, one after the other, and then the fault if there is one.
 ///
 /// ```
-/// # use etherpeel::*;
-/// # use etherpeel::ether_peel::*;
-/// # use etherpeel::ether_fields::*;
-/// # use etherpeel::ether_sll2::*;
-/// # use etherpeel::ether_packet::*;
-/// # use etherpeel::ether_filter::*;
-/// # use etherpeel::ether_pcap::*;
-/// # use etherpeel::ether_pcap::capture::*;
+/// use etherpeel::ether_pcap::CapturePackets;
+///
 /// let file = [
 ///     0xA1, 0xB2, 0xC3, 0xD4, 0x00, 0x02, 0x00, 0x04, 0x00, 0x00, 0x00, 0x00, // file header
 ///     0x00, 0x00, 0x00, 0x00, 0x00, 0x00, 0xFF, 0xFF, 0x00, 0x00, 0x00, 0x01, //
@@ -34,6 +28,8 @@ const MAX_INTERFACES: usize = 4_096;
 /// }
 /// assert_eq!(packets.offset(), 41);
 /// ```
+#[must_use = "iterators are lazy and do nothing unless consumed"]
+#[derive(Clone, Debug)]
 pub struct CapturePackets<'a> {
     reader: CaptureReader<Interfaces>,
     rest: &'a [u8],
@@ -73,6 +69,7 @@ impl<'a> CapturePackets<'a> {
     /// ```
     ///
     /// </details>
+    #[must_use]
     #[inline]
     pub fn rest(&self) -> &'a [u8] {
         self.rest
@@ -87,6 +84,7 @@ impl<'a> CapturePackets<'a> {
     /// ```
     ///
     /// </details>
+    #[must_use]
     #[inline]
     pub fn offset(&self) -> usize {
         self.offset

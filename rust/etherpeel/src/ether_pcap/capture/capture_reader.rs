@@ -9,8 +9,8 @@ use crate::ether_pcap::{
 };
 
 /// How far a file was read.
-#[derive(Clone, Copy)]
-pub(crate) enum Progress {
+#[derive(Clone, Copy, Debug)]
+pub(in crate::ether_pcap) enum Progress {
     /// Nothing.
     Nothing,
     /// The header of a classic file.
@@ -26,15 +26,9 @@ pub(crate) enum Progress {
 /// describe as many interfaces as `T` has room for.
 ///
 /// ```
-/// # use etherpeel::*;
-/// # use etherpeel::ether_peel::*;
-/// # use etherpeel::ether_fields::*;
-/// # use etherpeel::ether_sll2::*;
-/// # use etherpeel::ether_packet::*;
-/// # use etherpeel::ether_filter::*;
-/// # use etherpeel::ether_pcap::*;
-/// # use etherpeel::ether_pcap::capture::*;
-/// # use arrayvec::ArrayVec;
+/// use etherpeel::ether_pcap::{CaptureInterface, CaptureReader, Timestamp};
+/// use arrayvec::ArrayVec;
+///
 /// # fn main() -> Result<(), Box<dyn std::error::Error>> {
 /// let file = [
 ///     0xA1, 0xB2, 0xC3, 0xD4, 0x00, 0x02, 0x00, 0x04, 0x00, 0x00, 0x00, 0x00, // file header
@@ -59,6 +53,7 @@ pub(crate) enum Progress {
 /// # Ok(())
 /// # }
 /// ```
+#[derive(Clone, Debug)]
 pub struct CaptureReader<T: InterfaceTable> {
     progress: Progress,
     interfaces: T,
@@ -74,6 +69,7 @@ impl<T: InterfaceTable> CaptureReader<T> {
     /// ```
     ///
     /// </details>
+    #[must_use]
     #[inline]
     pub fn new(interfaces: T) -> CaptureReader<T> {
         CaptureReader {
@@ -91,6 +87,7 @@ impl<T: InterfaceTable> CaptureReader<T> {
     /// ```
     ///
     /// </details>
+    #[must_use]
     #[inline]
     pub fn has_begun(&self) -> bool {
         !matches!(self.progress, Progress::Nothing)
@@ -138,15 +135,9 @@ impl<T: InterfaceTable> CaptureReader<T> {
     /// longer than [`PcapngBlock::MAX_LEN`]. If the unit is not a packet, nothing is claimed of the result.
     ///
     /// ```
-    /// # use etherpeel::*;
-    /// # use etherpeel::ether_peel::*;
-    /// # use etherpeel::ether_fields::*;
-    /// # use etherpeel::ether_sll2::*;
-    /// # use etherpeel::ether_packet::*;
-    /// # use etherpeel::ether_filter::*;
-    /// # use etherpeel::ether_pcap::*;
-    /// # use etherpeel::ether_pcap::capture::*;
-    /// # use arrayvec::ArrayVec;
+    /// use etherpeel::ether_pcap::{CaptureInterface, CaptureReader, EditedUnit};
+    /// use arrayvec::ArrayVec;
+    ///
     /// # fn main() -> Result<(), Box<dyn std::error::Error>> {
     /// let file = [
     ///     0xA1, 0xB2, 0xC3, 0xD4, 0x00, 0x02, 0x00, 0x04, 0x00, 0x00, 0x00, 0x00, // file header
@@ -178,6 +169,7 @@ impl<T: InterfaceTable> CaptureReader<T> {
     /// ```
     ///
     /// </details>
+    #[must_use]
     #[inline]
     pub fn edit_unit<'a>(
         &self,
@@ -206,15 +198,9 @@ impl<T: InterfaceTable> CaptureReader<T> {
     /// and a custom block of type [`PcapngBlock::UNCOPIED_CUSTOM`] is left out.
     ///
     /// ```
-    /// # use etherpeel::*;
-    /// # use etherpeel::ether_peel::*;
-    /// # use etherpeel::ether_fields::*;
-    /// # use etherpeel::ether_sll2::*;
-    /// # use etherpeel::ether_packet::*;
-    /// # use etherpeel::ether_filter::*;
-    /// # use etherpeel::ether_pcap::*;
-    /// # use etherpeel::ether_pcap::capture::*;
-    /// # use arrayvec::ArrayVec;
+    /// use etherpeel::ether_pcap::{CaptureInterface, CaptureReader, CopiedUnit, CopyMode};
+    /// use arrayvec::ArrayVec;
+    ///
     /// # fn main() -> Result<(), Box<dyn std::error::Error>> {
     /// let file = [
     ///     0xA1, 0xB2, 0xC3, 0xD4, 0x00, 0x02, 0x00, 0x04, 0x00, 0x00, 0x00, 0x00, // file header
@@ -241,6 +227,7 @@ impl<T: InterfaceTable> CaptureReader<T> {
     /// ```
     ///
     /// </details>
+    #[must_use]
     #[inline]
     pub fn copy_unit<'a>(&self, mode: CopyMode, unit: &'a [u8]) -> CopiedUnit<'a> {
         match mode {
@@ -275,6 +262,7 @@ impl<T: InterfaceTable> CaptureReader<T> {
     /// ```
     ///
     /// </details>
+    #[must_use]
     #[inline]
     pub fn copies_packet(&self, mode: CopyMode, unit: &[u8], packet: &CapturedPacket<'_>) -> bool {
         match (mode, self.progress) {

@@ -1,7 +1,8 @@
 //! How a capture is copied.
 
 /// How the units of a capture are copied.
-#[derive(Clone, Copy, PartialEq, Eq, Debug)]
+#[cfg_attr(feature = "serde", derive(serde::Serialize, serde::Deserialize))]
+#[derive(Clone, Copy, PartialEq, Eq, Hash, Debug)]
 pub enum CopyMode {
     /// Byte for byte.
     Exact,

@@ -6,7 +6,7 @@ use crate::ether_pcap::{ByteOrder, CapturedPacket, CopiedUnit, FileHeader, PcapR
 
 /// The file header with its snap length raised.
 #[inline]
-pub(crate) fn changed_header<'a>(header: &FileHeader, raise: u32, unit: &'a [u8]) -> CopiedUnit<'a> {
+pub(in crate::ether_pcap) fn changed_header<'a>(header: &FileHeader, raise: u32, unit: &'a [u8]) -> CopiedUnit<'a> {
     if unit.len() < FileHeader::LEN {
         return CopiedUnit::Same(unit);
     }
@@ -16,7 +16,7 @@ pub(crate) fn changed_header<'a>(header: &FileHeader, raise: u32, unit: &'a [u8]
 
 /// The section header without a section length.
 #[inline]
-pub(crate) fn changed_section<'a>(unit: &'a [u8]) -> CopiedUnit<'a> {
+pub(in crate::ether_pcap) fn changed_section<'a>(unit: &'a [u8]) -> CopiedUnit<'a> {
     if unit.len() < 24 {
         return CopiedUnit::Same(unit);
     }
@@ -28,7 +28,7 @@ pub(crate) fn changed_section<'a>(unit: &'a [u8]) -> CopiedUnit<'a> {
 
 /// What a copy has for a block that is neither a section header nor a packet.
 #[inline]
-pub(crate) fn changed_block<'a>(order: ByteOrder, raise: u32, block: &'a [u8]) -> CopiedUnit<'a> {
+pub(in crate::ether_pcap) fn changed_block<'a>(order: ByteOrder, raise: u32, block: &'a [u8]) -> CopiedUnit<'a> {
     if block.len() < 4 {
         return CopiedUnit::Same(block);
     }
@@ -51,7 +51,7 @@ fn changed_interface<'a>(order: ByteOrder, raise: u32, block: &'a [u8]) -> Copie
 
 /// Tests that a packet's block still has that packet after snap lengths are raised.
 #[inline]
-pub(crate) fn keeps_block(
+pub(in crate::ether_pcap) fn keeps_block(
     order: ByteOrder,
     raise: u32,
     block: &[u8],

@@ -5,7 +5,7 @@ use crate::ether_pcap::{ByteOrder, EditedUnit, FileHeader, PcapRecord, PcapngBlo
 
 /// The record with other captured bytes and another original length.
 #[inline]
-pub(crate) fn edited_record<'a>(
+pub(in crate::ether_pcap) fn edited_record<'a>(
     header: &FileHeader,
     unit: &[u8],
     packet: &'a [u8],
@@ -29,7 +29,7 @@ pub(crate) fn edited_record<'a>(
 /// The block with other captured bytes and another original length. `None` for a simple packet, and if the block would
 /// be too long.
 #[inline]
-pub(crate) fn edited_block<'a>(
+pub(in crate::ether_pcap) fn edited_block<'a>(
     order: ByteOrder,
     block: &'a [u8],
     packet: &'a [u8],

@@ -17,6 +17,7 @@ pub trait InterfaceTable {
     /// ```
     ///
     /// </details>
+    #[must_use]
     fn interfaces(&self) -> &[CaptureInterface];
 
     /// Appends an interface. If there is no room, appends nothing and returns `false`.

@@ -17,14 +17,8 @@ use crate::ether_pcap::{ByteOrder, FileHeaderError, LinkType, TimestampResolutio
 /// length of the frame check sequence in units of two bytes. Bits 16 to 25 and 27 are reserved and ignored.
 ///
 /// ```
-/// # use etherpeel::*;
-/// # use etherpeel::ether_peel::*;
-/// # use etherpeel::ether_fields::*;
-/// # use etherpeel::ether_sll2::*;
-/// # use etherpeel::ether_packet::*;
-/// # use etherpeel::ether_filter::*;
-/// # use etherpeel::ether_pcap::*;
-/// # use etherpeel::ether_pcap::classic::*;
+/// use etherpeel::ether_pcap::{ByteOrder, FileHeader, LinkType, TimestampResolution};
+///
 /// # fn main() -> Result<(), Box<dyn std::error::Error>> {
 /// let bytes = [
 ///     0xD4, 0xC3, 0xB2, 0xA1, 0x02, 0x00, 0x04, 0x00, 0x00, 0x00, 0x00, 0x00, //
@@ -40,7 +34,8 @@ use crate::ether_pcap::{ByteOrder, FileHeaderError, LinkType, TimestampResolutio
 /// # Ok(())
 /// # }
 /// ```
-#[derive(Clone, Copy, PartialEq, Eq, Debug)]
+#[cfg_attr(feature = "serde", derive(serde::Serialize, serde::Deserialize))]
+#[derive(Clone, Copy, PartialEq, Eq, Hash, Debug)]
 pub struct FileHeader {
     /// The order of the bytes of each number in the file.
     pub byte_order: ByteOrder,
@@ -116,6 +111,7 @@ impl FileHeader {
     /// ```
     ///
     /// </details>
+    #[must_use]
     #[inline]
     pub fn to_bytes(&self) -> [u8; 24] {
         let order = self.byte_order;

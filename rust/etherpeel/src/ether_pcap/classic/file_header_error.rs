@@ -7,20 +7,14 @@ use core::fmt;
 /// Why a slice does not begin with the header of a classic pcap file.
 ///
 /// ```
-/// # use etherpeel::*;
-/// # use etherpeel::ether_peel::*;
-/// # use etherpeel::ether_fields::*;
-/// # use etherpeel::ether_sll2::*;
-/// # use etherpeel::ether_packet::*;
-/// # use etherpeel::ether_filter::*;
-/// # use etherpeel::ether_pcap::*;
-/// # use etherpeel::ether_pcap::classic::*;
+/// use etherpeel::ether_pcap::FileHeaderError;
+///
 /// assert_eq!(
 ///     format!("{}", FileHeaderError::Magic(0x0A0D_0D0A)).as_str(),
 ///     "The magic number 0x0A0D0D0A is not that of a pcap file."
 /// );
 /// ```
-#[derive(Clone, Copy, PartialEq, Eq, Debug)]
+#[derive(Clone, Copy, PartialEq, Eq, Hash, Debug)]
 pub enum FileHeaderError {
     /// The slice is too short.
     Len {

@@ -15,14 +15,8 @@ use crate::ether_pcap::{ByteOrder, FileHeader, RecordError, TimestampResolution}
 /// Each number is in the byte order of the file.
 ///
 /// ```
-/// # use etherpeel::*;
-/// # use etherpeel::ether_peel::*;
-/// # use etherpeel::ether_fields::*;
-/// # use etherpeel::ether_sll2::*;
-/// # use etherpeel::ether_packet::*;
-/// # use etherpeel::ether_filter::*;
-/// # use etherpeel::ether_pcap::*;
-/// # use etherpeel::ether_pcap::classic::*;
+/// use etherpeel::ether_pcap::{ByteOrder, FileHeader, LinkType, PcapRecord, TimestampResolution};
+///
 /// # fn main() -> Result<(), Box<dyn std::error::Error>> {
 /// let file = FileHeader {
 ///     byte_order: ByteOrder::BigEndian,
@@ -122,6 +116,7 @@ impl<'a> PcapRecord<'a> {
     /// ```
     ///
     /// </details>
+    #[must_use]
     #[inline]
     pub fn record_len(&self) -> usize {
         PcapRecord::HEADER_LEN + self.packet.len()
@@ -137,6 +132,7 @@ impl<'a> PcapRecord<'a> {
     /// ```
     ///
     /// </details>
+    #[must_use]
     #[inline]
     pub fn nanoseconds(&self, resolution: TimestampResolution) -> u64 {
         let fraction = u64::from(self.fraction);
@@ -153,14 +149,8 @@ impl<'a> PcapRecord<'a> {
     /// captured length of 4 GiB or more is written modulo 2^32.
     ///
     /// ```
-    /// # use etherpeel::*;
-    /// # use etherpeel::ether_peel::*;
-    /// # use etherpeel::ether_fields::*;
-    /// # use etherpeel::ether_sll2::*;
-    /// # use etherpeel::ether_packet::*;
-    /// # use etherpeel::ether_filter::*;
-    /// # use etherpeel::ether_pcap::*;
-    /// # use etherpeel::ether_pcap::classic::*;
+    /// use etherpeel::ether_pcap::{ByteOrder, PcapRecord};
+    ///
     /// let record = PcapRecord {
     ///     seconds: 1_700_000_000,
     ///     fraction: 5,
@@ -184,6 +174,7 @@ impl<'a> PcapRecord<'a> {
     /// ```
     ///
     /// </details>
+    #[must_use]
     #[inline]
     pub fn header_to_bytes(&self, byte_order: ByteOrder) -> [u8; 16] {
         joined(

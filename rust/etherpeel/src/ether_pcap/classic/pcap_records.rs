@@ -5,14 +5,8 @@ use crate::ether_pcap::{FileHeader, FileHeaderError, PcapRecord, RecordFault};
 /// The records of a classic pcap file in memory, one after the other, and then the fault if there is one.
 ///
 /// ```
-/// # use etherpeel::*;
-/// # use etherpeel::ether_peel::*;
-/// # use etherpeel::ether_fields::*;
-/// # use etherpeel::ether_sll2::*;
-/// # use etherpeel::ether_packet::*;
-/// # use etherpeel::ether_filter::*;
-/// # use etherpeel::ether_pcap::*;
-/// # use etherpeel::ether_pcap::classic::*;
+/// use etherpeel::ether_pcap::{LinkType, PcapRecords};
+///
 /// # fn main() -> Result<(), Box<dyn std::error::Error>> {
 /// let file = [
 ///     0xA1, 0xB2, 0xC3, 0xD4, 0x00, 0x02, 0x00, 0x04, 0x00, 0x00, 0x00, 0x00, // file header
@@ -29,7 +23,8 @@ use crate::ether_pcap::{FileHeader, FileHeaderError, PcapRecord, RecordFault};
 /// # Ok(())
 /// # }
 /// ```
-#[derive(Debug)]
+#[must_use = "iterators are lazy and do nothing unless consumed"]
+#[derive(Clone, Debug)]
 pub struct PcapRecords<'a> {
     header: FileHeader,
     rest: &'a [u8],
@@ -75,6 +70,7 @@ impl<'a> PcapRecords<'a> {
     /// ```
     ///
     /// </details>
+    #[must_use]
     #[inline]
     pub fn header(&self) -> FileHeader {
         self.header
@@ -89,6 +85,7 @@ impl<'a> PcapRecords<'a> {
     /// ```
     ///
     /// </details>
+    #[must_use]
     #[inline]
     pub fn rest(&self) -> &'a [u8] {
         self.rest
@@ -103,6 +100,7 @@ impl<'a> PcapRecords<'a> {
     /// ```
     ///
     /// </details>
+    #[must_use]
     #[inline]
     pub fn offset(&self) -> usize {
         self.offset

@@ -6,14 +6,8 @@ use core::fmt;
 /// Why a slice does not begin with a record of a classic pcap file.
 ///
 /// ```
-/// # use etherpeel::*;
-/// # use etherpeel::ether_peel::*;
-/// # use etherpeel::ether_fields::*;
-/// # use etherpeel::ether_sll2::*;
-/// # use etherpeel::ether_packet::*;
-/// # use etherpeel::ether_filter::*;
-/// # use etherpeel::ether_pcap::*;
-/// # use etherpeel::ether_pcap::classic::*;
+/// use etherpeel::ether_pcap::RecordError;
+///
 /// let error = RecordError::Len {
 ///     required_len: 76,
 ///     len: 20,
@@ -23,7 +17,7 @@ use core::fmt;
 ///     "A record of a pcap file needs 76 byte(s); only 20 are available."
 /// );
 /// ```
-#[derive(Clone, Copy, PartialEq, Eq, Debug)]
+#[derive(Clone, Copy, PartialEq, Eq, Hash, Debug)]
 pub enum RecordError {
     /// The slice is too short.
     Len {

@@ -6,14 +6,8 @@ use core::fmt;
 /// Why the records of a file end before the file does, and where.
 ///
 /// ```
-/// # use etherpeel::*;
-/// # use etherpeel::ether_peel::*;
-/// # use etherpeel::ether_fields::*;
-/// # use etherpeel::ether_sll2::*;
-/// # use etherpeel::ether_packet::*;
-/// # use etherpeel::ether_filter::*;
-/// # use etherpeel::ether_pcap::*;
-/// # use etherpeel::ether_pcap::classic::*;
+/// use etherpeel::ether_pcap::{RecordError, RecordFault};
+///
 /// let fault = RecordFault {
 ///     offset: 24,
 ///     error: RecordError::Len {
@@ -26,7 +20,7 @@ use core::fmt;
 ///     "At byte 24: A record of a pcap file needs 16 byte(s); only 3 are available."
 /// );
 /// ```
-#[derive(Clone, Copy, PartialEq, Eq, Debug)]
+#[derive(Clone, Copy, PartialEq, Eq, Hash, Debug)]
 pub struct RecordFault {
     /// The offset of the record, from the start of the file.
     pub offset: usize,

@@ -3,17 +3,12 @@
 /// The resolution of a file's timestamps: the unit of the second number of each. The file's magic number gives it.
 ///
 /// ```
-/// # use etherpeel::*;
-/// # use etherpeel::ether_peel::*;
-/// # use etherpeel::ether_fields::*;
-/// # use etherpeel::ether_sll2::*;
-/// # use etherpeel::ether_packet::*;
-/// # use etherpeel::ether_filter::*;
-/// # use etherpeel::ether_pcap::*;
-/// # use etherpeel::ether_pcap::classic::*;
+/// use etherpeel::ether_pcap::TimestampResolution;
+///
 /// assert_eq!(TimestampResolution::of_magic(0xA1B2_3C4D), Some(TimestampResolution::Nanoseconds));
 /// ```
-#[derive(Clone, Copy, PartialEq, Eq, Debug)]
+#[cfg_attr(feature = "serde", derive(serde::Serialize, serde::Deserialize))]
+#[derive(Clone, Copy, PartialEq, Eq, Hash, Debug)]
 pub enum TimestampResolution {
     /// Microseconds, with the magic number 0xA1B2C3D4.
     Microseconds,
@@ -32,6 +27,7 @@ impl TimestampResolution {
     /// ```
     ///
     /// </details>
+    #[must_use]
     #[inline]
     pub fn of_magic(magic: u32) -> Option<TimestampResolution> {
         match magic {
@@ -50,6 +46,7 @@ impl TimestampResolution {
     /// ```
     ///
     /// </details>
+    #[must_use]
     #[inline]
     pub fn magic(self) -> u32 {
         match self {

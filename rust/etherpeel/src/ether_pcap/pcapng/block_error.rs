@@ -6,20 +6,14 @@ use core::fmt;
 /// Why a slice does not begin with a block of a pcapng file.
 ///
 /// ```
-/// # use etherpeel::*;
-/// # use etherpeel::ether_peel::*;
-/// # use etherpeel::ether_fields::*;
-/// # use etherpeel::ether_sll2::*;
-/// # use etherpeel::ether_packet::*;
-/// # use etherpeel::ether_filter::*;
-/// # use etherpeel::ether_pcap::*;
-/// # use etherpeel::ether_pcap::pcapng::*;
+/// use etherpeel::ether_pcap::BlockError;
+///
 /// assert_eq!(
 ///     format!("{}", BlockError::TotalLen(13)).as_str(),
 ///     "A block of a pcapng file cannot have 13 byte(s)."
 /// );
 /// ```
-#[derive(Clone, Copy, PartialEq, Eq, Debug)]
+#[derive(Clone, Copy, PartialEq, Eq, Hash, Debug)]
 pub enum BlockError {
     /// The slice is too short.
     Len {

@@ -6,20 +6,14 @@ use core::fmt;
 /// Why the body of a block of a pcapng file can't be read.
 ///
 /// ```
-/// # use etherpeel::*;
-/// # use etherpeel::ether_peel::*;
-/// # use etherpeel::ether_fields::*;
-/// # use etherpeel::ether_sll2::*;
-/// # use etherpeel::ether_packet::*;
-/// # use etherpeel::ether_filter::*;
-/// # use etherpeel::ether_pcap::*;
-/// # use etherpeel::ether_pcap::pcapng::*;
+/// use etherpeel::ether_pcap::BodyError;
+///
 /// assert_eq!(
 ///     format!("{}", BodyError::CapturedLen(262_145)).as_str(),
 ///     "A block of a pcapng file cannot have 262145 captured byte(s), the maximum is 262144."
 /// );
 /// ```
-#[derive(Clone, Copy, PartialEq, Eq, Debug)]
+#[derive(Clone, Copy, PartialEq, Eq, Hash, Debug)]
 pub enum BodyError {
     /// The body is too short for its fields, or for its captured bytes.
     Len {

@@ -20,14 +20,8 @@ const FLAGS: u16 = 2;
 /// ```
 ///
 /// ```
-/// # use etherpeel::*;
-/// # use etherpeel::ether_peel::*;
-/// # use etherpeel::ether_fields::*;
-/// # use etherpeel::ether_sll2::*;
-/// # use etherpeel::ether_packet::*;
-/// # use etherpeel::ether_filter::*;
-/// # use etherpeel::ether_pcap::*;
-/// # use etherpeel::ether_pcap::pcapng::*;
+/// use etherpeel::ether_pcap::{ByteOrder, EnhancedPacket};
+///
 /// # fn main() -> Result<(), Box<dyn std::error::Error>> {
 /// let body = [
 ///     0x00, 0x00, 0x00, 0x00, 0x00, 0x00, 0x00, 0x01, 0x00, 0x00, 0x00, 0x02, //
@@ -113,6 +107,7 @@ impl<'a> EnhancedPacket<'a> {
     /// ```
     ///
     /// </details>
+    #[must_use]
     #[inline]
     pub fn padding_len(&self) -> usize {
         padded_len(self.packet.len()) - self.packet.len()
@@ -135,14 +130,8 @@ impl<'a> EnhancedPacket<'a> {
     /// or more is written modulo 2^32.
     ///
     /// ```
-    /// # use etherpeel::*;
-    /// # use etherpeel::ether_peel::*;
-    /// # use etherpeel::ether_fields::*;
-    /// # use etherpeel::ether_sll2::*;
-    /// # use etherpeel::ether_packet::*;
-    /// # use etherpeel::ether_filter::*;
-    /// # use etherpeel::ether_pcap::*;
-    /// # use etherpeel::ether_pcap::pcapng::*;
+    /// use etherpeel::ether_pcap::{ByteOrder, EnhancedPacket};
+    ///
     /// let packet = EnhancedPacket {
     ///     interface: 0,
     ///     time: 4_294_967_298,
@@ -168,6 +157,7 @@ impl<'a> EnhancedPacket<'a> {
     /// ```
     ///
     /// </details>
+    #[must_use]
     #[inline]
     pub fn header_to_bytes(&self, byte_order: ByteOrder) -> [u8; 28] {
         seven_words(
@@ -192,6 +182,7 @@ impl<'a> EnhancedPacket<'a> {
     /// ```
     ///
     /// </details>
+    #[must_use]
     #[inline]
     pub fn trailer_to_bytes(&self, byte_order: ByteOrder) -> [u8; 4] {
         word(byte_order, self.block_len())
@@ -208,6 +199,7 @@ impl<'a> EnhancedPacket<'a> {
     /// ```
     ///
     /// </details>
+    #[must_use]
     #[inline]
     pub fn fcs_len(&self, byte_order: ByteOrder) -> Option<u8> {
         let flags = u32_option(byte_order, self.options, FLAGS)?;
@@ -220,7 +212,7 @@ impl<'a> EnhancedPacket<'a> {
 
 /// Reads a body whose interface has four bytes if `is_enhanced`, else two.
 #[inline]
-pub(crate) fn packet_of_body<'a>(
+pub(in crate::ether_pcap) fn packet_of_body<'a>(
     byte_order: ByteOrder,
     is_enhanced: bool,
     body: &'a [u8],

@@ -26,14 +26,8 @@ const TIME_OFFSET: u16 = 14;
 /// The interfaces of a section are counted from 0 in the order of their blocks.
 ///
 /// ```
-/// # use etherpeel::*;
-/// # use etherpeel::ether_peel::*;
-/// # use etherpeel::ether_fields::*;
-/// # use etherpeel::ether_sll2::*;
-/// # use etherpeel::ether_packet::*;
-/// # use etherpeel::ether_filter::*;
-/// # use etherpeel::ether_pcap::*;
-/// # use etherpeel::ether_pcap::pcapng::*;
+/// use etherpeel::ether_pcap::{ByteOrder, InterfaceDescription, LinkType};
+///
 /// # fn main() -> Result<(), Box<dyn std::error::Error>> {
 /// let body = [
 ///     0x00, 0x01, 0x00, 0x00, 0x00, 0x04, 0x00, 0x00, // link type, snap length
@@ -102,14 +96,8 @@ impl<'a> InterfaceDescription<'a> {
     /// GiB or more is written modulo 2^32.
     ///
     /// ```
-    /// # use etherpeel::*;
-    /// # use etherpeel::ether_peel::*;
-    /// # use etherpeel::ether_fields::*;
-    /// # use etherpeel::ether_sll2::*;
-    /// # use etherpeel::ether_packet::*;
-    /// # use etherpeel::ether_filter::*;
-    /// # use etherpeel::ether_pcap::*;
-    /// # use etherpeel::ether_pcap::pcapng::*;
+    /// use etherpeel::ether_pcap::{ByteOrder, InterfaceDescription, LinkType};
+    ///
     /// let options = InterfaceDescription::nanosecond_options(ByteOrder::BigEndian);
     /// let interface = InterfaceDescription {
     ///     byte_order: ByteOrder::BigEndian,
@@ -133,6 +121,7 @@ impl<'a> InterfaceDescription<'a> {
     /// ```
     ///
     /// </details>
+    #[must_use]
     #[inline]
     pub fn header_to_bytes(&self) -> [u8; 16] {
         four_words(
@@ -152,6 +141,7 @@ impl<'a> InterfaceDescription<'a> {
     /// ```
     ///
     /// </details>
+    #[must_use]
     #[inline]
     pub fn trailer_to_bytes(&self) -> [u8; 4] {
         len_word(self.byte_order, 20 + self.options.len())
@@ -167,6 +157,7 @@ impl<'a> InterfaceDescription<'a> {
     /// ```
     ///
     /// </details>
+    #[must_use]
     #[inline]
     pub fn nanosecond_options(byte_order: ByteOrder) -> [u8; 12] {
         three_words(
@@ -187,6 +178,7 @@ impl<'a> InterfaceDescription<'a> {
     /// ```
     ///
     /// </details>
+    #[must_use]
     #[inline]
     pub fn option(&self, code: u16) -> Option<&'a [u8]> {
         option_value(self.byte_order, self.options, code)
@@ -203,6 +195,7 @@ impl<'a> InterfaceDescription<'a> {
     /// ```
     ///
     /// </details>
+    #[must_use]
     #[inline]
     pub fn fcs_len(&self) -> Option<u8> {
         byte_option(self.byte_order, self.options, FCS_LEN)
@@ -219,6 +212,7 @@ impl<'a> InterfaceDescription<'a> {
     /// ```
     ///
     /// </details>
+    #[must_use]
     #[inline]
     pub fn time_resolution(&self) -> Option<u8> {
         byte_option(self.byte_order, self.options, TIME_RESOLUTION)
@@ -235,6 +229,7 @@ impl<'a> InterfaceDescription<'a> {
     /// ```
     ///
     /// </details>
+    #[must_use]
     #[inline]
     pub fn time_offset(&self) -> Option<u64> {
         u64_option(self.byte_order, self.options, TIME_OFFSET)

@@ -15,14 +15,8 @@ use crate::ether_pcap::{BlockError, ByteOrder};
 /// Padding, if there is any, is part of `body`: where it begins depends on the type of the block.
 ///
 /// ```
-/// # use etherpeel::*;
-/// # use etherpeel::ether_peel::*;
-/// # use etherpeel::ether_fields::*;
-/// # use etherpeel::ether_sll2::*;
-/// # use etherpeel::ether_packet::*;
-/// # use etherpeel::ether_filter::*;
-/// # use etherpeel::ether_pcap::*;
-/// # use etherpeel::ether_pcap::pcapng::*;
+/// use etherpeel::ether_pcap::{ByteOrder, PcapngBlock};
+///
 /// # fn main() -> Result<(), Box<dyn std::error::Error>> {
 /// let bytes = [
 ///     0x00, 0x00, 0x00, 0x03, 0x00, 0x00, 0x00, 0x10, 0x00, 0x00, 0x00, 0x00, 0x00, 0x00, 0x00, 0x10, //
@@ -128,6 +122,7 @@ impl<'a> PcapngBlock<'a> {
     /// ```
     ///
     /// </details>
+    #[must_use]
     #[inline]
     pub fn block_len(&self) -> usize {
         PcapngBlock::MIN_LEN + self.body.len()

@@ -5,7 +5,7 @@ use crate::ether_pcap::word_bytes::padded_len;
 
 /// A view of an option of a block: its code and its value, without the padding.
 #[derive(Clone, Copy)]
-pub(crate) struct PcapngOption<'a> {
+pub(in crate::ether_pcap) struct PcapngOption<'a> {
     pub code: u16,
     pub value: &'a [u8],
 }
@@ -23,6 +23,7 @@ impl<'a> PcapngOption<'a> {
     /// ```
     ///
     /// </details>
+    #[must_use]
     #[inline]
     pub fn first(byte_order: ByteOrder, slice: &'a [u8]) -> Option<PcapngOption<'a>> {
         if slice.len() < 4 {
@@ -51,6 +52,7 @@ impl<'a> PcapngOption<'a> {
     /// ```
     ///
     /// </details>
+    #[must_use]
     #[inline]
     pub fn option_len(&self) -> usize {
         4 + padded_len(self.value.len())
@@ -59,7 +61,7 @@ impl<'a> PcapngOption<'a> {
 
 /// The bytes from the offset `place` on; none if there are fewer bytes.
 #[inline]
-pub(crate) fn bytes_from(bytes: &[u8], place: usize) -> &[u8] {
+pub(in crate::ether_pcap) fn bytes_from(bytes: &[u8], place: usize) -> &[u8] {
     if bytes.len() < place {
         &bytes[bytes.len()..]
     } else {
@@ -69,7 +71,7 @@ pub(crate) fn bytes_from(bytes: &[u8], place: usize) -> &[u8] {
 
 /// The value of the first option with this code.
 #[inline]
-pub(crate) fn option_value(byte_order: ByteOrder, options: &[u8], code: u16) -> Option<&[u8]> {
+pub(in crate::ether_pcap) fn option_value(byte_order: ByteOrder, options: &[u8], code: u16) -> Option<&[u8]> {
     let mut rest = options;
     while let Some(option) = PcapngOption::first(byte_order, rest) {
         if option.code == code {
@@ -82,7 +84,7 @@ pub(crate) fn option_value(byte_order: ByteOrder, options: &[u8], code: u16) -> 
 
 /// The number in the first option with this code, if its value has four bytes.
 #[inline]
-pub(crate) fn u32_option(byte_order: ByteOrder, options: &[u8], code: u16) -> Option<u32> {
+pub(in crate::ether_pcap) fn u32_option(byte_order: ByteOrder, options: &[u8], code: u16) -> Option<u32> {
     match option_value(byte_order, options, code) {
         Some([a, b, c, d]) => Some(byte_order.u32_of([*a, *b, *c, *d])),
         _ => None,
@@ -91,7 +93,7 @@ pub(crate) fn u32_option(byte_order: ByteOrder, options: &[u8], code: u16) -> Op
 
 /// The number in the first option with this code, if its value has eight bytes.
 #[inline]
-pub(crate) fn u64_option(byte_order: ByteOrder, options: &[u8], code: u16) -> Option<u64> {
+pub(in crate::ether_pcap) fn u64_option(byte_order: ByteOrder, options: &[u8], code: u16) -> Option<u64> {
     match option_value(byte_order, options, code) {
         Some([a, b, c, d, e, f, g, h]) => {
             Some(byte_order.u64_of([*a, *b, *c, *d, *e, *f, *g, *h]))

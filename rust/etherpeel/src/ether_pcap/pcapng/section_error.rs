@@ -7,20 +7,14 @@ use core::fmt;
 /// Why a slice does not begin with the section header of a pcapng file.
 ///
 /// ```
-/// # use etherpeel::*;
-/// # use etherpeel::ether_peel::*;
-/// # use etherpeel::ether_fields::*;
-/// # use etherpeel::ether_sll2::*;
-/// # use etherpeel::ether_packet::*;
-/// # use etherpeel::ether_filter::*;
-/// # use etherpeel::ether_pcap::*;
-/// # use etherpeel::ether_pcap::pcapng::*;
+/// use etherpeel::ether_pcap::SectionError;
+///
 /// assert_eq!(
 ///     format!("{}", SectionError::Magic(0x1A2B_3C4E)).as_str(),
 ///     "The byte-order magic 0x1A2B3C4E is not that of a pcapng file."
 /// );
 /// ```
-#[derive(Clone, Copy, PartialEq, Eq, Debug)]
+#[derive(Clone, Copy, PartialEq, Eq, Hash, Debug)]
 pub enum SectionError {
     /// The slice is too short for a type, a length and a byte-order magic.
     Len {

@@ -7,14 +7,8 @@ use crate::ether_pcap::{ByteOrder, PcapngBlock, SectionError};
 /// byte order of its section, which reaches to the next section header. The section length in it is not read.
 ///
 /// ```
-/// # use etherpeel::*;
-/// # use etherpeel::ether_peel::*;
-/// # use etherpeel::ether_fields::*;
-/// # use etherpeel::ether_sll2::*;
-/// # use etherpeel::ether_packet::*;
-/// # use etherpeel::ether_filter::*;
-/// # use etherpeel::ether_pcap::*;
-/// # use etherpeel::ether_pcap::pcapng::*;
+/// use etherpeel::ether_pcap::{ByteOrder, SectionHeader};
+///
 /// # fn main() -> Result<(), Box<dyn std::error::Error>> {
 /// let bytes = [
 ///     0x0A, 0x0D, 0x0D, 0x0A, 0x1C, 0x00, 0x00, 0x00, 0x4D, 0x3C, 0x2B, 0x1A, 0x01, 0x00, 0x00, 0x00, //
@@ -96,14 +90,8 @@ impl<'a> SectionHeader<'a> {
     /// options.
     ///
     /// ```
-    /// # use etherpeel::*;
-    /// # use etherpeel::ether_peel::*;
-    /// # use etherpeel::ether_fields::*;
-    /// # use etherpeel::ether_sll2::*;
-    /// # use etherpeel::ether_packet::*;
-    /// # use etherpeel::ether_filter::*;
-    /// # use etherpeel::ether_pcap::*;
-    /// # use etherpeel::ether_pcap::pcapng::*;
+    /// use etherpeel::ether_pcap::{ByteOrder, SectionHeader};
+    ///
     /// let bytes = SectionHeader::to_bytes(ByteOrder::LittleEndian);
     /// let wanted = [
     ///     0x0A, 0x0D, 0x0D, 0x0A, 0x1C, 0x00, 0x00, 0x00, 0x4D, 0x3C, 0x2B, 0x1A, 0x01, 0x00, 0x00, 0x00, //
@@ -123,6 +111,7 @@ impl<'a> SectionHeader<'a> {
     /// ```
     ///
     /// </details>
+    #[must_use]
     #[inline]
     pub fn to_bytes(byte_order: ByteOrder) -> [u8; 28] {
         let total_len = word(byte_order, 28);

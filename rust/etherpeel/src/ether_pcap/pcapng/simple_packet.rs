@@ -6,14 +6,8 @@ use crate::ether_pcap::{BodyError, ByteOrder, PcapRecord};
 /// the first interface of its section.
 ///
 /// ```
-/// # use etherpeel::*;
-/// # use etherpeel::ether_peel::*;
-/// # use etherpeel::ether_fields::*;
-/// # use etherpeel::ether_sll2::*;
-/// # use etherpeel::ether_packet::*;
-/// # use etherpeel::ether_filter::*;
-/// # use etherpeel::ether_pcap::*;
-/// # use etherpeel::ether_pcap::pcapng::*;
+/// use etherpeel::ether_pcap::{ByteOrder, SimplePacket};
+///
 /// # fn main() -> Result<(), Box<dyn std::error::Error>> {
 /// let body = [0x00, 0x00, 0x00, 0x3C, 0xFF, 0xFF, 0x00, 0x00];
 /// let packet = SimplePacket::from_body(ByteOrder::BigEndian, 2, &body)?;
@@ -88,7 +82,7 @@ impl<'a> SimplePacket<'a> {
 
 /// The number of captured bytes of a packet with this original length. A snap length of 0 is no limit.
 #[inline]
-pub(crate) fn captured_len(snap_len: u32, original_len: u32) -> u32 {
+pub(in crate::ether_pcap) fn captured_len(snap_len: u32, original_len: u32) -> u32 {
     if snap_len == 0 {
         original_len
     } else {

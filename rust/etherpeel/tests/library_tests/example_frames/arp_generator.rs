@@ -22,18 +22,9 @@ pub const REQUEST_LEN: usize = 46;
 /// # Examples
 ///
 /// ```
-/// # use etherpeel::*;
-/// # use etherpeel::ether_peel::*;
-/// # use etherpeel::ether_fields::*;
-/// # use etherpeel::ether_sll2::*;
-/// # use etherpeel::ether_packet::*;
-/// # use etherpeel::ether_filter::*;
-/// # use etherpeel::ether_pcap::*;
-/// # use etherpeel::ether_content::*;
-/// # use etherpeel::ether_switch::*;
-/// # use etherpeel::ether_output::*;
-/// # use etherpeel::ether_format::*;
-/// # use etherpeel::example_frames::arp_generator::*;
+/// use etherpeel::VlanId;
+/// use etherpeel::example_frames::arp_generator::{REQUEST_LEN, write_arp_request};
+///
 /// # fn main() -> Result<(), Box<dyn std::error::Error>> {
 /// let mut frame = [0; REQUEST_LEN];
 /// let sender_mac = [0x02, 0x00, 0x00, 0x00, 0x00, 0x01];

@@ -15,18 +15,9 @@ use etherpeel::ether_peel::Start;
 /// # Examples
 ///
 /// ```
-/// # use etherpeel::*;
-/// # use etherpeel::ether_peel::*;
-/// # use etherpeel::ether_fields::*;
-/// # use etherpeel::ether_sll2::*;
-/// # use etherpeel::ether_packet::*;
-/// # use etherpeel::ether_filter::*;
-/// # use etherpeel::ether_pcap::*;
-/// # use etherpeel::ether_content::*;
-/// # use etherpeel::ether_switch::*;
-/// # use etherpeel::ether_output::*;
-/// # use etherpeel::ether_format::*;
-/// # use etherpeel::example_frames::snap_checker::*;
+/// use etherpeel::ether_peel::Start;
+/// use etherpeel::example_frames::snap_checker::keeps_all_headers;
+///
 /// let frame = [
 ///     0xFF, 0xFF, 0xFF, 0xFF, 0xFF, 0xFF, 0x02, 0x00, 0x00, 0x00, 0x00, 0x01, 0x81, 0x00, // Ethernet II
 ///     0xB1, 0x23, 0x08, 0x00, // VLAN

@@ -18,6 +18,7 @@ pub enum BuildWriteError {
 
 impl BuildWriteError {
     /// The error of the writer.
+    #[must_use]
     pub fn io(&self) -> Option<&io::Error> {
         match self {
             BuildWriteError::Io(error) => Some(error),

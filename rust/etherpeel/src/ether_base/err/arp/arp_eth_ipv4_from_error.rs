@@ -8,9 +8,8 @@ use core::fmt;
 /// Why an ARP packet is not one of Ethernet and IPv4. Each variant holds what the packet has instead.
 ///
 /// ```
-/// # use etherpeel::*;
-/// # use etherpeel::ether_base::err::*;
-/// # use etherpeel::ether_base::err::arp::*;
+/// use etherpeel::err::arp::ArpEthIpv4FromError;
+///
 /// let error = ArpEthIpv4FromError::NonMatchingHwAddrSize(8);
 /// assert_eq!(
 ///     format!("{error}").as_str(),

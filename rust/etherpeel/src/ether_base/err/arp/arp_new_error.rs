@@ -9,9 +9,8 @@ use core::fmt;
 /// `Display` gives the text of the error within.
 ///
 /// ```
-/// # use etherpeel::*;
-/// # use etherpeel::ether_base::err::*;
-/// # use etherpeel::ether_base::err::arp::*;
+/// use etherpeel::err::arp::{ArpHwAddrError, ArpNewError};
+///
 /// let error = ArpNewError::HwAddr(ArpHwAddrError::LenTooBig(256));
 /// assert_eq!(
 ///     format!("{error}").as_str(),

@@ -6,9 +6,8 @@ use core::fmt;
 /// Why two protocol addresses do not fit into one ARP packet, which has one length byte for both (RFC 826).
 ///
 /// ```
-/// # use etherpeel::*;
-/// # use etherpeel::ether_base::err::*;
-/// # use etherpeel::ether_base::err::arp::*;
+/// use etherpeel::err::arp::ArpProtoAddrError;
+///
 /// let error = ArpProtoAddrError::LenTooBig(256);
 /// assert_eq!(
 ///     format!("{error}").as_str(),

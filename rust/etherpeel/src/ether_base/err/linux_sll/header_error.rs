@@ -8,12 +8,13 @@ use core::fmt;
 /// A field of a header of Linux cooked capture v1 has a value that is not supported.
 ///
 /// ```
-/// # use etherpeel::*;
-/// # use etherpeel::ether_base::err::*;
-/// # use etherpeel::ether_base::err::linux_sll::*;
+/// use etherpeel::LinuxSllPacketType;
+/// use etherpeel::err::linux_sll::HeaderError;
+///
 /// let refused = HeaderError::UnsupportedPacketTypeField { packet_type: 8 };
 /// assert_eq!(LinuxSllPacketType::try_from(8), Err(refused));
 /// ```
+#[cfg_attr(feature = "serde", derive(serde::Serialize, serde::Deserialize))]
 #[derive(Clone, Copy, PartialEq, Eq, Hash, Debug)]
 pub enum HeaderError {
     /// The packet type is above 7.

@@ -6,15 +6,15 @@ use core::fmt;
 /// A field of a MACsec SecTag (IEEE 802.1AE) has a value that is not allowed.
 ///
 /// ```
-/// # use etherpeel::*;
-/// # use etherpeel::ether_base::err::*;
-/// # use etherpeel::ether_base::err::macsec::*;
+/// use etherpeel::err::macsec::HeaderError;
+///
 /// let error = HeaderError::UnexpectedVersion;
 /// assert_eq!(
 ///     format!("{error}").as_str(),
 ///     "MACsec Header Error: Encountered '1' as MACsec version in the MACsec SecTag header (must be '0')."
 /// );
 /// ```
+#[cfg_attr(feature = "serde", derive(serde::Serialize, serde::Deserialize))]
 #[derive(Clone, Copy, PartialEq, Eq, Hash, Debug)]
 pub enum HeaderError {
     /// The version bit V is 1.

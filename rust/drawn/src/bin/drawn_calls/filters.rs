@@ -1,0 +1,151 @@
+//! Filters.
+use crate::draw::Draw;
+use crate::text::Text;
+use crate::walks::drawn_frame;
+use arrayvec::ArrayVec;
+use etherpeel::ether_filter::{Filter, Packet, filter_program, number_of};
+use std::fmt::{self, Write};
+
+/// The words of a drawn filter.
+pub(crate) type Words = ArrayVec<u8, 512>;
+
+static PRIMITIVES: [&[u8]; 20] = [
+    b"vlan",
+    b"vlan 5",
+    b"outer vlan 0x10",
+    b"inner vlan 4095",
+    b"macsec",
+    b"ether proto 0x8100",
+    b"ether proto 2054",
+    b"arp",
+    b"ip",
+    b"ip6",
+    b"ether broadcast",
+    b"ether multicast",
+    b"refused",
+    b"cut",
+    b"less 60",
+    b"greater 40",
+    b"ether src 02:00:00:00:00:01",
+    b"ether dst ffffffffffff",
+    b"ether host 00:11:22:33:44:55",
+    b"vlan 4096",
+];
+
+static WORDS: [&[u8]; 12] = [
+    b"ether",
+    b"vlan",
+    b"and",
+    b"or",
+    b"not",
+    b"(",
+    b")",
+    b"0x",
+    b"007",
+    b"4294967296",
+    b"&&",
+    b"0xFFFFFFFF",
+];
+
+/// Calls what reads filters and decides by them.
+pub(crate) fn calls(draw: &mut Draw, text: &mut Text) -> fmt::Result {
+    let mut words = Words::new();
+    add_filter(draw, &mut words);
+    let word = word_of(draw);
+    writeln!(text, "{:?} {:?}", number_of(word), number_of(&word[1..]))?;
+    match Filter::parse(words.as_slice()) {
+        Ok(filter) => decided(draw, &filter, text),
+        Err(error) => writeln!(text, "{error:?} {error} {}", error.kind),
+    }
+}
+
+fn word_of(draw: &mut Draw) -> &'static [u8] {
+    match WORDS.get(draw.below(12)) {
+        Some(word) => word,
+        None => b"12",
+    }
+}
+
+/// Adds the words of a filter, of which one in eight has a wrong word.
+pub(crate) fn add_filter(draw: &mut Draw, words: &mut Words) {
+    let joined: &[u8] = if draw.flag() { b" and " } else { b" || " };
+    let terms = 1 + draw.below(4);
+    for term in 0..terms {
+        if term > 0 {
+            add(words, joined);
+        }
+        add_term(draw, words);
+    }
+    if draw.one_in(8) {
+        add(words, b" ");
+        add(words, word_of(draw));
+    }
+}
+
+fn add_term(draw: &mut Draw, words: &mut Words) {
+    let (is_negated, is_group) = (draw.one_in(4), draw.one_in(4));
+    if is_negated {
+        add(words, b"not ");
+    }
+    if is_group {
+        add(words, b"(");
+        add(words, primitive_of(draw));
+        add(words, b" or !");
+    }
+    add(words, primitive_of(draw));
+    if is_group {
+        add(words, b")");
+    }
+}
+
+fn primitive_of(draw: &mut Draw) -> &'static [u8] {
+    match PRIMITIVES.get(draw.below(20)) {
+        Some(words) => words,
+        None => b"arp",
+    }
+}
+
+fn add(words: &mut Words, more: &[u8]) {
+    for byte in more {
+        let _ = words.try_push(*byte);
+    }
+}
+
+fn decided(draw: &mut Draw, filter: &Filter, text: &mut Text) -> fmt::Result {
+    writeln!(text, "{filter:?}")?;
+    for instruction in filter.instructions() {
+        writeln!(text, "{instruction:?} {:?}", instruction.node())?;
+    }
+    for _ in 0..3u8 {
+        let (start, frame) = drawn_frame(draw);
+        let whole = frame.as_slice();
+        let captured = if draw.flag() {
+            whole
+        } else {
+            &whole[..draw.below(whole.len() + 1)]
+        };
+        let packet = Packet {
+            start,
+            frame: captured,
+            captured_len: captured.len(),
+            original_len: (whole.len() + draw.below(3)) as u32,
+        };
+        writeln!(
+            text,
+            "{packet:?} {} {:?}",
+            filter.matches(&packet),
+            filter.decide(&packet)
+        )?;
+        writeln!(
+            text,
+            "{}",
+            filter_program::matches(filter.instructions(), &packet)
+        )?;
+        writeln!(
+            text,
+            "{:?}",
+            filter_program::decide(filter.instructions(), &packet)
+        )?;
+    }
+    Ok(())
+}
