@@ -20,6 +20,7 @@ import tempfile
 TOP = os.path.dirname(os.path.abspath(__file__))
 CRATES = f"{TOP}/crates"
 TESTS, CALLS = "library_tests", "drawn_calls"
+SECONDS = 3600  # for the calls
 LIBRARIES = "ether_base ether_tags ether_sll ether_arp etherparse ether_peel ether_sll2 ether_packet ether_filter ether_pcap ether_content ether_switch arrayvec"
 # The crates that need no proof, each with the libraries that it uses.
 UNPROVED = {TESTS: f"{LIBRARIES} ether_text example_frames", CALLS: f"{LIBRARIES} ether_fields ether_output ether_format anyhow"}
@@ -101,7 +102,7 @@ def try_calls(*words):
     with tempfile.TemporaryDirectory() as room:
         folder = copy_tests(room, CALLS)
         ill = [f"{CALLS}: {path} is not in the layout of rt fmt" for path in lay_out(folder, CALLS, False)]
-        ran = subprocess.run(["rt", "try", "--steps", "1", "--seconds", "600", "--", *words], cwd=folder, stdin=subprocess.DEVNULL, capture_output=True, text=True)
+        ran = subprocess.run(["rt", "try", "--steps", "1", "--seconds", str(SECONDS), "--", *words], cwd=folder, stdin=subprocess.DEVNULL, capture_output=True, text=True)
         if "checked: ended status=0" not in ran.stdout + ran.stderr:
             ill.append(f"{CALLS} {' '.join(words)}:\n{(ran.stdout + ran.stderr)[-2000:]}")
         return re.findall(r"^\d+ \d+$", ran.stdout, re.M), ill

@@ -2,16 +2,16 @@
 
     python3 rust/calls.py [COUNT]
 
-The program tests/drawn_calls calls each public function with what it draws for an input, and prints a digest of all that
-is returned. It runs as Rattle runs it before any proof (`python3 try.py drawn_calls`), for a few inputs of each kind, and
-as cargo builds it, with the same digests. cargo's optimised build and its unoptimised one, which checks for overflow,
-are compared for COUNT inputs, 20,000 if it is left out. Of the first input that differs the first line that differs is
-printed. valgrind says which lines of the crate are run, and each public function must be among them. The last line is
-'N passed, M failed'.
+The program tests/drawn_calls calls public functions with what it draws for an input, and prints digests of all that they
+return. It runs for COUNT inputs, 200,000 if that is left out: as Rattle runs it before any proof (`python3 try.py
+drawn_calls`), as cargo's optimised build, and as its unoptimised one, which checks for overflow. All three have to print
+the same. If cargo's builds differ, the first line that does is printed. valgrind says which lines of the crate are run,
+and each public function must be among them. The last line is 'N passed, M failed'.
 """
 import argparse
 import collections
 import importlib
+import itertools
 import os
 import re
 import shutil
@@ -27,8 +27,7 @@ import erase  # noqa: E402
 NAME = "drawn_calls"
 FOLDER = os.path.join(building.HERE, "drawn")
 SOURCES = os.path.join(building.CRATE, "src")
-COUNT, PER_LINE, SLOW = 20_000, 1000, 1600
-KINDS, EACH = 16, 20  # kinds of inputs, and how many of each run in Rattle
+COUNT, PER_LINE, SLOW = 200_000, 1000, 1600
 SECONDS = 600  # a program with a fault may loop for ever
 
 
@@ -120,12 +119,12 @@ def count(failures):
     return passed, failed
 
 
-def rattle_failures(program):
-    """For each line that Rattle prints None, or that it is not one of the program's."""
-    lines, ill = importlib.import_module("try").try_calls("0", str(KINDS * EACH), str(KINDS))
+def rattle_failures(program, count):
+    """For each line that the program prints None, or that Rattle prints another one."""
+    lines, ill = importlib.import_module("try").try_calls("0", str(count), str(PER_LINE))
     yield from ill
-    for line, own in zip(lines, printed(program, 0, KINDS * EACH, KINDS)):
-        yield None if line == own else f"the inputs from {line.split()[0]} on differ from those in Rattle"
+    for own, line in itertools.zip_longest(printed(program, 0, count, PER_LINE)[:-1], lines):
+        yield None if line == own else f"{own}, and in Rattle {line}"
 
 
 def main():
@@ -138,7 +137,7 @@ def main():
     fast, slow = built("--release"), built()
     counts = [count(differences([fast, slow], said.count))]
     if shutil.which("rt"):
-        counts += [count(rattle_failures(fast))]
+        counts += [count(rattle_failures(fast, said.count))]
     else:
         print("left out: what they return in Rattle, since rt was not found")
     if shutil.which("valgrind"):

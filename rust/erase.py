@@ -5,7 +5,8 @@
 
 reads `crates/*/src` and `tests/library_tests`, and writes `etherpeel`, the libraries with their tests, `etherpeel_c`, the
 calls for C, and `ether_tools`, the programs, below FOLDER or in the script's own folder. Each rule deletes, or respells
-one exact form (`erasing/rules.py`, `calls.py`). What is not known (`erasing/known.py`), or could hide what Rust has
+one exact form (`erasing/rules.py`, `calls.py`). The words of contracts lead to pages of their definitions, which are made
+of `crates/*/specs` (`erasing/linking.py`, `pages.py`). What is not known (`erasing/known.py`), or could hide what Rust has
 (`erasing/hiding.py`), is refused with its file and line, and then nothing is written.
 """
 import argparse
@@ -15,7 +16,7 @@ import re
 import sys
 
 sys.dont_write_bytecode = True
-from erasing import adding, calls, check, docs, hiding, programs, rules, testing  # noqa: E402
+from erasing import adding, calls, check, declaring, definitions, docs, hiding, linking, pages, programs, rules, testing  # noqa: E402
 from erasing.tokens import Refused, joined, lex  # noqa: E402
 
 HERE = os.path.dirname(os.path.abspath(__file__))
@@ -23,7 +24,7 @@ CRATES = os.path.join(os.path.dirname(HERE), "crates")
 NAME = "etherpeel"
 CALLS, CALLS_NAME = "ether_c", "etherpeel_c"
 PROGRAMS, PROGRAMS_NAME = ["ether_text", "ether_stream", "ether_capture"], "ether_tools"  # what the programs are made of
-# What stands in the place of sources that take the runtime or an allocator, and what the sources lack.
+# By hand: what replaces sources that take the runtime or an allocator, and what the sources lack.
 ERROR_SOURCES, FUSED, SERIALIZED, COMPAT = "error_sources", "fused_iterators", "serialized", "compat"
 BY_HAND = [f"{NAME}/src/{path}.rs" for path in (
     ERROR_SOURCES, f"{ERROR_SOURCES}/pcap", FUSED, SERIALIZED, COMPAT, *(f"{COMPAT}/{it}" for it in (
@@ -58,6 +59,15 @@ OUTER = {
     "ether_format": "captured packets as JSON, columns, lines for the eye",
 }
 LIBRARIES = [*HIDDEN, *PRIVATE, FACADE, *OUTER]
+# The pages of definitions, which are there for documentation alone, and what they say of themselves.
+DEFINITIONS = "definitions"
+DEFINED = {
+    "ether_base": "bytes and the numbers that they spell, the formats of headers, and why a header is refused",
+    "ether_tags": "views of Ethernet II frames, VLAN tags and MACsec SecTags",
+    "ether_sll": "views of Linux cooked capture v1",
+    "ether_arp": "views of ARP packets",
+    **OUTER,
+}
 # The feature without which a public module is not there, and a module of the tests.
 FEATURES = {
     "ether_filter": "filter", "ether_pcap": "pcap", "ether_content": "content", "ether_switch": "switch",
@@ -122,8 +132,22 @@ def sources(crate, whole=False):
                     yield path, file.read()
 
 
+@functools.cache
+def book():
+    """The definitions of the libraries."""
+    texts = {}
+    for crate in LIBRARIES:
+        top = os.path.join(CRATES, crate, "specs")
+        for path in (os.path.join(folder, name) for folder, _, names in sorted(os.walk(top)) for name in sorted(names)):
+            module = os.path.relpath(path, CRATES).removesuffix(".antt").replace(os.sep, ".")
+            with open(path, encoding="utf-8") as file:
+                texts[module.removesuffix(".Lib")] = file.read()
+    public = public_names()
+    return definitions.Book(texts, [declaring.types(crate, sources(crate), public) for crate in LIBRARIES])
+
+
 def library_path(crate, word):
-    """What stands in the place of the first word of a path in the library, if another does."""
+    """What replaces the first word of a path in the library, or None."""
     if word == "crate":
         return None if crate == FACADE else f"crate::{crate}"
     if word in LIBRARIES:
@@ -184,6 +208,16 @@ def shown(crate, module=""):
     return docs.shown(lex(dict(sources(crate, True)).get(f"{module or 'lib'}.rt", "")))
 
 
+def public_names():
+    """The names that the result shows, in its root or in public modules."""
+    names = set(OUTER).union(shown(FACADE), *map(shown, OUTER))
+    for crate in LIBRARIES:
+        texts = dict(sources(crate))
+        modules = {module.replace("::", "/") for path in texts for module in public_modules(texts, path)}
+        names = names.union(*(shown(crate, module) for module in modules))
+    return names
+
+
 def scope_of(crate, path, texts, known):
     """What the examples of a file may import: from the root, the modules up to that of the crate, and the public ones
     in it, those around the file first."""
@@ -214,6 +248,8 @@ def erase(text, crate, known, scope=None, home=None, stem=""):
         module = "" if crate == FACADE else crate
         token.before = docs.documentation(token.before, begin, module, scope, in_example)
     kind, own_rules, last_rules, spelled = kind_of(home or crate, stem)
+    if crate in LIBRARIES:
+        linking.link(tokens, book(), known.names)
     for rule in own_rules:
         rule(tokens)
     rules.paths(tokens, crate, spelled)
@@ -242,7 +278,7 @@ def kind_of(crate, stem):
     if crate in PROGRAMS:
         return "program", programs.RULES, [], programs_path
     if crate in EXAMPLE_PROGRAMS:
-        return "example program", programs.EXAMPLE_RULES, [], example_path
+        return "test program" if crate == DRAWN else "example program", programs.EXAMPLE_RULES, [], example_path
     return "test", testing.RULES, [], test_path
 
 
@@ -272,7 +308,7 @@ def rooted(crate, text):
         modules += [f"#[doc(hidden)]\n{KEPT}pub mod {name};" for name in HIDDEN] + [f"{KEPT}mod {name};" for name in PRIVATE]
         modules += [f"mod {ERROR_SOURCES};", f"mod {FUSED};", f"{only_with('serde')}mod {SERIALIZED};"]
         modules += [f"{only_with(FEATURES.get(name))}{KEPT}pub mod {name};" for name in OUTER]
-        modules += [f"{only_with(COMPAT)}pub mod {COMPAT};"]
+        modules += [f"{only_with(COMPAT)}pub mod {COMPAT};", f"#[cfg(doc)]\n{KEPT}pub mod {DEFINITIONS};"]
         return ROOT + "\n".join([*documentation(lines[:end]), "", *modules, *kept(lines[end:])])
     if crate == CALLS:
         return "\n".join([*lines[:end], CALLS_ROOT, *kept(lines[end + 1:])])
@@ -289,11 +325,12 @@ def kept(lines):
 
 def documentation(lines):
     """The documentation of the root, from the facade's. The first paragraph is left out: the page of the package, which
-    stands before it, says it. Modules that are not always there are named with their features: no link leads nowhere."""
+    comes before it, says it. Modules that are not always there are named with their features: no link leads nowhere."""
     yield from [HEADERS, *lines[lines.index("//!"):], "//!", MODULES, "//!"]
     yield "//! - [`err`], [`ether_type`], [`write_front`]: errors, numbers of ether types, bytes put at a slice's front"
     named = {name: FEATURES.get(name) for name in OUTER} | {COMPAT: COMPAT}
-    told = {**OUTER, COMPAT: "names for programs that use etherparse"}
+    named[DEFINITIONS] = None
+    told = {**OUTER, COMPAT: "names for programs that use etherparse", DEFINITIONS: "the words of the contracts"}
     for name, feature in named.items():
         text = f"- [`{name}`]: {told[name]}"
         yield f'#![cfg_attr(feature = "{feature}", doc = "{text}")]' if feature else f"//! {text}"
@@ -317,7 +354,7 @@ def made(crates, known, home=None):
         for path, text in sources(crate, True):
             stem = path[:-3] if crate in LIBRARIES or LEFT_OUT & set(path[:-3].split("/")) else ""
             if path not in files and not stem:
-                continue  # another stands in its place
+                continue  # another replaces it
             try:
                 erased = erase(text, crate, known, scope_of(crate, path, files, known), home, stem)
                 is_root = path == "lib.rt" and crate in [FACADE, CALLS, *TESTS]
@@ -326,6 +363,18 @@ def made(crates, known, home=None):
                     yield there, (rooted(crate, erased) if is_root else erased) + added(there)
             except Refused as refused:
                 yield None, f"{os.path.relpath(source_folder(crate), os.path.dirname(HERE))}/{path}:{refused.line}: {refused.what}"
+
+
+def defined(files):
+    """The pages of the definitions to which files of the result lead, and what is refused of them."""
+    texts = (text for crate in LIBRARIES for _, text in sources(crate))
+    types = linking.types(texts, book())
+    made_of, refused = pages.made([text for path, text in files if path], book(), DEFINED, types)
+    below = [name for name in made_of if name]
+    for name, lines in made_of.items():
+        path = f"{NAME}/src/{DEFINITIONS}/{name}.rs" if name else f"{NAME}/src/{DEFINITIONS}.rs"
+        yield path, pages.source(lines, [] if name else below)
+    yield from ((None, text) for text in refused)
 
 
 def declared_in(crates, whole=False):
@@ -339,6 +388,7 @@ def result():
     if unknown := {*adding.DERIVED, *adding.MUST_USE, *adding.SERIALIZED} - below.types:
         sys.exit(f"rust/erasing/adding.py names {', '.join(sorted(unknown))}, which no source declares")
     found = list(made(LIBRARIES, below))
+    found += defined(found)
     found += made([CALLS], below | declared_in([CALLS]))
     found += made(PROGRAMS, below | declared_in(PROGRAMS, True))
     for test, examples in TESTS.items():

@@ -4,7 +4,7 @@
 
 draws COUNT faults that compile, 60 if it is left out, from a fixed seed: a number, an operator, a Boolean, an order of
 bytes or a statement is another one, or is gone. Of each copy it runs the tests and examples, and compares 20,000 drawn
-frames (drawn.py) and what the public functions return for 50,000 drawn inputs (calls.py) with the crate's own. A fault that is not caught is printed; those of `SAME` change nothing, for the reason that stands
+frames (drawn.py) and what the public functions return for 50,000 drawn inputs (calls.py) with the crate's own. A fault that is not caught is printed; those of `SAME` change nothing, for the reason that is given
 there. The last line is 'N passed, M failed'. It takes some eleven minutes of processor time: it is no part of the gate.
 """
 import argparse

@@ -30,11 +30,7 @@ EMULATED = ["aarch64", "s390x"]
 TOP = os.path.dirname(building.HERE)
 RUSTC, STANDARD = "/usr/bin/rustc", "libstd-rust-web-dev"
 SLOW = ["stations"]  # tests of the crate that are built with optimisation
-# How many inputs drawn_calls has, under qemu or not, and how many of these are in a line.
-INPUTS = {True: 4_000, False: 500}
-# A test of sums of buckets, which overflow a `usize` of 32 bits. Later inputs of drawn_calls have seconds that it cuts.
-OVERFLOWS = "switch::learning::a_vlan_learns_only_in_a_part_that_the_table_has"
-PER_LINE = 500
+INPUTS, PER_LINE = 20_000, 500  # of drawn_calls
 # Debian's compiler_builtins of these processors names what unwinds a panic, and the library for C, which aborts, has none.
 LINKED = "-Wl,--defsym=rust_eh_personality=0"
 EACH = 16  # which part of the tests of ether_capture is run
@@ -197,17 +193,12 @@ def script(path, *words):
     return path
 
 
-def skipped(name):
-    """The words for a test that is left out."""
-    return [] if name in EMULATED else ["--", "--skip", OVERFLOWS]
-
-
 def crate(name):
     """The tests of the crate."""
     passed = failed = 0
     said = ""
     for words, more in tests_of_the_crate():
-        text, status = called([*words, *skipped(name)], building.CRATE, [name], **more)
+        text, status = called(words, building.CRATE, [name], **more)
         counts = re.findall(r"^test result: \w+\. (\d+) passed; (\d+) failed", text, re.M)
         ill = sum(int(it[1]) for it in counts)
         passed, failed = passed + sum(int(it[0]) for it in counts), failed + ill + (bool(status) and not ill)
@@ -215,18 +206,17 @@ def crate(name):
     return passed, failed, said
 
 
-def digests(words, count):
-    """The lines of drawn_calls for so many inputs."""
-    ran = subprocess.run([*words, "0", str(count), str(PER_LINE)], stdin=subprocess.DEVNULL, stdout=subprocess.PIPE,
+def digests(words):
+    """The lines of drawn_calls."""
+    ran = subprocess.run([*words, "0", str(INPUTS), str(PER_LINE)], stdin=subprocess.DEVNULL, stdout=subprocess.PIPE,
                          stderr=subprocess.STDOUT, text=True, timeout=SECONDS)
     return ran.stdout.splitlines() + ([f"status {ran.returncode}"] if ran.returncode else [])
 
 
 def drawn_calls(name):
     """The lines of drawn_calls, compared with those of this processor."""
-    count = INPUTS[name in EMULATED]
-    wanted = digests([os.path.join(drawn.FOLDER, "target", "release", "drawn_calls")], count)
-    found = digests([*emulator(name), made(drawn.FOLDER, name, "debug", "drawn_calls")], count)
+    wanted = digests([os.path.join(drawn.FOLDER, "target", "release", "drawn_calls")])
+    found = digests([*emulator(name), made(drawn.FOLDER, name, "debug", "drawn_calls")])
     wrong = [f"{one}, and here {other}" for one, other in itertools.zip_longest(found, wanted) if one != other]
     return len(wanted) - len(wrong), len(wrong), "\n".join(wrong[:5])
 
@@ -253,7 +243,7 @@ def program(test, words=()):
 def parts(name):
     """The tests that a processor runs: what is said of each, and what runs it."""
     yield "the tests of the crate", crate
-    yield f"{INPUTS[name in EMULATED]:,} inputs of drawn_calls", drawn_calls
+    yield f"{INPUTS:,} inputs of drawn_calls", drawn_calls
     if name in EMULATED:
         yield "the library for C", library
         yield "ether_tool", program("ether_tool")
@@ -263,8 +253,6 @@ def parts(name):
 def tried(name):
     """How many tests of a processor passed and failed."""
     passed = failed = 0
-    if skipped(name):
-        print(f"left out: {name}: {OVERFLOWS}, and later inputs of drawn_calls, since sums and seconds exceed 32 bits there")
     for what, run in parts(name):
         well, ill, said = run(name)
         lines = [f"{name}: {it}" for it in said.splitlines()] + [f"{name}: {what}: {well} passed, {ill} failed"]

@@ -2,11 +2,11 @@
 
     python3 rust/test.py
 
-The script refuses each source of cases/refused.txt, and makes of each source of cases/taken.txt what stands there.
+The script refuses each source of cases/refused.txt, and makes of each source of cases/taken.txt what is below it.
 What is committed is what it makes. With cargo each source of cases/meant.txt returns what it was seen to return in
 Rattle, the crate is built, also with no feature and with each alone, its tests and examples are run, also as they are
-copied (copied.py), lints and documentation have no warning, each public type has its traits (surface.py), and drawn
-frames are compared with a second walk (drawn.py). With a compiler of the oldest version that the
+copied (copied.py), lints and documentation have no warning, each word of a contract leads to its definition
+(defined.py), each public type has its traits (surface.py), and drawn frames are compared with a second walk (drawn.py). With a compiler of the oldest version that the
 crates are for, all targets are checked by it. What is left out is said, and why. The last line is 'N passed, M failed'.
 """
 import argparse
@@ -19,6 +19,7 @@ import tempfile
 sys.dont_write_bytecode = True
 import building  # noqa: E402
 import copied  # noqa: E402
+import defined  # noqa: E402
 import drawn  # noqa: E402
 import erase  # noqa: E402
 import examples  # noqa: E402
@@ -63,7 +64,7 @@ def case_failures():
 
 
 def meaning_failures():
-    """For each case of cases/meant.txt None, or what is wrong. Its function `shown` returns in Rattle what stands there."""
+    """For each case of cases/meant.txt None, or what is wrong. Its function `shown` returns in Rattle what is below it."""
     for title, sources, wanted in cases("meant.txt"):
         modules = "".join(f"mod {crate} {{\n{text}}}\n" for (crate, _), text in zip(sources, outcomes(sources)))
         program = f'{modules}fn main() {{ println!("means {{}}", {sources[0][0]}::shown()); }}\n'
@@ -92,13 +93,16 @@ def committed_failures():
 def steps():
     """The calls of cargo: the folder, the words and the environment of each. `c/test.sh` tests the calls for C."""
     yield building.CRATE, ["build"], {}
-    for feature in ["", *building.features()]:
-        yield building.CRATE, ["test", "--no-default-features", "--features", feature], {}
+    for feature in building.features():
+        yield building.CRATE, ["check", "--all-targets", "--no-default-features", "--features", feature], {}
+    yield building.CRATE, ["test", "--no-default-features"], {}
     yield building.CRATE, ["test", "--all-features"], {}
-    folders = {building.CRATE: ["--all-targets", "--all-features"], building.CALLS: [], building.PROGRAMS: ["--all-targets"]}
-    if why := building.missing(building.PROGRAMS):
-        print(f"left out: the lints and the documentation of the programs, since {why}")
-        del folders[building.PROGRAMS]
+    folders = {building.CRATE: ["--all-targets", "--all-features"], building.CALLS: []}
+    for folder in (building.PROGRAMS, os.path.join(HERE, "properties")):
+        if why := building.missing(folder):
+            print(f"left out: the lints and the documentation of {os.path.basename(folder)}, since {why}")
+        else:
+            folders[folder] = ["--all-targets"]
     oldest, version = building.oldest_rustc(), "{}.{}".format(*building.OLDEST)
     if not oldest:
         print(f"left out: what the oldest compiler makes of the crates, since no rustc {version} was found")
@@ -126,7 +130,7 @@ def cargo_counts():
             print(text[-4000:])
         said = f", {well} tests passed, {ill} failed" if counts else ""
         by = f" with {environment['RUSTC']}" if "RUSTC" in environment else ""
-        alone = f" with {words[3] and 'only the feature ' or 'no feature'}{words[3]}" if "--features" in words else ""
+        alone = f" with only the feature {words[-1]}" if "--features" in words else ""
         print(f"{os.path.basename(folder)}: cargo {words[0]}{alone}{by}: {'failed' if wrong else 'passed'}{said}", flush=True)
         passed, failed = passed + well + (not wrong), failed + ill + wrong
     return passed, failed
@@ -148,7 +152,7 @@ def main():
     if why := building.missing():
         print(f"left out: what cargo does with the crate, since {why}")
     else:
-        counts += [count(meaning_failures()), cargo_counts(), count(surface.failures()), count(copied.failures())]
+        counts += [count(meaning_failures()), cargo_counts(), count(defined.failures()), count(surface.failures()), count(copied.failures())]
         counts += [count(examples.failures()), count(drawn.failures(drawn.COUNT, drawn.built()))]
     passed, failed = (sum(it) for it in zip(*counts))
     print(f"{passed} passed, {failed} failed")

@@ -41,6 +41,7 @@ COMMANDS = {
     "C by cargo": ["sh", "c/test.sh", "cargo"],
     "programs by cargo": [sys.executable, "rust/programs.py"],
     "calls": [sys.executable, "rust/calls.py"],
+    "properties": [sys.executable, "rust/properties.py"],
     "other processors": [sys.executable, "rust/processors.py"],
     "figures": [sys.executable, "bench/figures.py"],
     "page": [sys.executable, "page/test.py", "--proved"],

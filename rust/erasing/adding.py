@@ -86,7 +86,7 @@ def returned(tokens, i):
 
 
 def must_use(tokens):
-    """`#[must_use]` stands before each public function that only returns something, and before types that do nothing
+    """`#[must_use]` is written before each public function that only returns something, and before types that do nothing
     by themselves. A `Result` and such a type have it already."""
     for i in range(len(tokens) - 1, -1, -1):
         if tokens[i].kind == "word" and tokens[i].text in ("struct", "enum") and tokens[i + 1].text in MUST_USE:

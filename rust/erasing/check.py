@@ -58,12 +58,13 @@ class Names:
 
     def __init__(self, own, where):
         tests, calls = (where == it for it in ("test", "calls"))
-        programs = where in ("program", "example program")
-        self.words = {"rt", "macro_rules"} if tests else {"extern"} if calls else set()
+        programs = where in ("program", "example program", "test program")
+        macros = where in ("test", "test program")
+        self.words = {"rt", "macro_rules"} if tests else {"macro_rules"} if macros else {"extern"} if calls else set()
         self.texts = (known.PROGRAM_TEXTS,) if programs else ()
         self.attributes = known.ATTRIBUTES + (known.CALL_ATTRIBUTES if calls else [])
-        self.marks = known.MARKS | ({"$"} if tests else set())
-        besides = {"test": ["TEST"], "calls": ["CALL"], "program": ["PROGRAM"], "example program": ["PROGRAM", "EXAMPLE"]}.get(where, [])
+        self.marks = known.MARKS | ({"$"} if macros else set())
+        besides = {"test": ["TEST"], "calls": ["CALL"], "program": ["PROGRAM"], "example program": ["PROGRAM", "EXAMPLE"], "test program": ["PROGRAM", "EXAMPLE"]}.get(where, [])
         names, paths, methods = ({one for it in besides for one in getattr(known, f"{it}_{what}")} for what in ("NAMES", "PATHS", "METHODS"))
         self.own = own | known.NAMES | names
         self.paths = known.PATHS | paths
@@ -71,7 +72,8 @@ class Names:
         self.methods = known.METHODS | own | methods
         self.macros = {**known.MACROS, **(known.EXAMPLE_MACROS if tests or where == "example" else {})}
         self.macros |= known.CALL_MACROS if calls else known.PROGRAM_MACROS if programs else {}
-        self.macros |= {**dict.fromkeys(own, ""), **known.TEST_MACROS} if tests else known.EXAMPLE_PROGRAM_MACROS if where == "example program" else {}
+        self.macros |= dict.fromkeys(own, "") if macros else {}
+        self.macros |= known.TEST_MACROS if tests else known.EXAMPLE_PROGRAM_MACROS if where == "example program" else {}
 
     def check_path(self, segments, line):
         path = "::".join(segments)
@@ -123,7 +125,7 @@ def after_angles(tokens, i):
 
 
 def check_word(tokens, i, names):
-    """Refuses a word that is neither known nor declared, where it stands."""
+    """Refuses a word that is neither known nor declared, at its place."""
     token, before, after = tokens[i], tokens[i - 1].text if i else "", tokens[i + 1].text
     word = token.text
     if word in known.REFUSED - names.words and not (word in known.WEAK and before in ("fn", ".")):
@@ -132,10 +134,10 @@ def check_word(tokens, i, names):
         raise Refused(token.line, "the type of a function")
     if word == "let" and before in ("if", "while", "&"):
         check_let(tokens, i)
-    if after == "::" and before not in ("::", ".") and word not in known.KEYWORDS - known.HEADS:
+    if after == "::" and before not in ("::", ".", "$") and word not in known.KEYWORDS - known.HEADS:
         for segments in path_at(tokens, i)[0]:
             names.check_path(segments, token.line)
-    elif word in known.KEYWORDS or before in ("::", "fn") or before == "." and after not in ("(", "::"):
+    elif word in known.KEYWORDS or before in ("::", "fn", "$") or before == "." and after not in ("(", "::"):
         pass
     elif after == "!" and tokens[i + 2].text in ("(", "[", "{"):
         start = names.macros.get(word)

@@ -198,10 +198,23 @@ def check_methods(tokens, sources, names):
 
 
 def check_hints(tokens, brace):
-    """Refuses a `size_hint` whose body is no pair that begins with 0: Rust takes memory for the first number."""
+    """Refuses a `size_hint` whose value is no pair that begins with 0: Rust takes memory for the first number."""
     for i, end in places(tokens[:closing(tokens, brace)], "fn size_hint(&self) -> (usize, Option<usize>) {"):
-        if i > brace and ([t.text for t in tokens[end:end + 3]] != ["(", "0", ","] or tokens[closing(tokens, end) + 1].text != "}"):
+        last = closing(tokens, end - 1)
+        at = value_at(tokens, end, last)
+        is_pair = [t.text for t in tokens[at:at + 3]] == ["(", "0", ","] and closing(tokens, at) + 1 == last
+        if i > brace and (not is_pair or any(t.text == "return" for t in tokens[end:last])):
             raise Refused(tokens[i].line, "a size_hint that may promise items")
+
+
+def value_at(tokens, begin, end):
+    """Where the value of a block begins: after its last statement."""
+    at = k = begin
+    while k < end:
+        if tokens[k].text == ";":
+            at = k + 1
+        k = closing(tokens, k) + 1 if tokens[k].text in ("(", "[", "{") else k + 1
+    return at
 
 
 def rust_methods(kind, sources):

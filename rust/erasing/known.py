@@ -49,7 +49,7 @@ METHODS = set(
     to_be_bytes to_digit to_le_bytes try_extend_from_slice unwrap unwrap_or wrapping_add write_str""".split()
 )
 
-# What tests use besides: they have std, and `tests/kit` of the result stands in for the runtime.
+# What tests use besides: they have std, and `tests/kit` of the result replaces the runtime.
 TEST_MACROS = {"stringify": "($", "write": "(text,", "format_args": "("}
 TEST_NAMES = set("ArrayString kit Fail Abort HostRuntime AllocError AllocGlobal DefaultHasher Ordering drop".split())
 TEST_PATHS = set(
@@ -86,7 +86,7 @@ PROGRAM_METHODS = set(
 # What the programs among the examples use besides.
 EXAMPLE_PROGRAM_MACROS = {"vec": "["}
 EXAMPLE_NAMES = {"AllocError", "NoMemory", "ether_tools", "ether_capture", "memory"}
-EXAMPLE_PATHS = {"hex::encode", "String::new", "Vec::new", "std::fmt::Write", "std::str::from_utf8", "ArrayVec::new", "fmt::Error"}
+EXAMPLE_PATHS = {"std::net::Ipv4Addr", "hex::encode", "String::new", "Vec::new", "std::fmt::Write", "std::str::from_utf8", "ArrayVec::new", "fmt::Error"}
 EXAMPLE_METHODS = set("as_str chain extend_from_slice get_mut map_err push_str skip truncate try_push zip".split())
 
 # What a source may not declare or import as something else: what Rust's prelude and the language give to each module, ..
@@ -125,4 +125,4 @@ IMPLS = {
     **{"PartialEq": {"eq"}, "TryFrom": {"try_from"}, "Write": {"write_str"}},
 }
 # Methods of the sources' own traits that types of Rust have by these, and no type of Rust by itself.
-FOREIGN = set("add flush_all interfaces put put_line read_some remove_all start".split())
+FOREIGN = set("add add_to flush_all interfaces put put_line read_some remove_all start".split())

@@ -4,7 +4,7 @@ from .tokens import Refused, closing, places, respell
 
 
 def allocators(tokens):
-    """The allocator is a parameter. In Rust it is the one of std, and what stands for it has nothing in it."""
+    """The allocator is a parameter. In Rust it is the one of std, and what replaces it has nothing in it."""
     for i, end in places(tokens, "use std::alloc::Global;"):
         respell(tokens, i, end, "use crate::memory::Global;")
 

@@ -1,6 +1,12 @@
 """The rules. Each deletes, or respells one exact form, in the tokens of one file; RULES has their order."""
+from textwrap import wrap
+
 from .known import DERIVES
 from .tokens import Refused, closing, cut, drop, head_end, indent, item_start, lex, opening, places, respell, tidy
+
+
+COLUMNS = 110  # of lines of links
+NOTATION = "[Notation](crate::definitions::notation)"
 
 
 def ghost_items(tokens):
@@ -11,7 +17,7 @@ def ghost_items(tokens):
 
 
 def models(tokens):
-    """An `impl Model for T` says what a `T` stands for in contracts. It is deleted; all its members were ghost."""
+    """An `impl Model for T` says what a `T` means in contracts. It is deleted; all its members were ghost."""
     for i, _ in places(tokens, "impl"):
         end = head_end(tokens, i)
         if any(t.text == "Model" for t in tokens[i:end]):
@@ -67,8 +73,17 @@ def contract(clauses, lead, follows):
         lines += [first, *(line.lstrip() if line[:margin].strip() else line[margin:] for line in more)]
     needs = any(clause.text.startswith("requires") for clause in clauses)
     said = "The call may panic, or return something else, if a `requires` of its contract is not met."
-    block = [*["# Panics", "", said, ""] * needs, "<details><summary>Contract</summary>", "", "```text", *lines, "```", "", "</details>"]
+    folded = ["<details><summary>Contract</summary>", "", "```text", *lines, "```", "", *words(clauses), "</details>"]
+    block = [*["# Panics", "", said, ""] * needs, *folded]
     return "".join(f"/// {line}".rstrip() + f"\n{lead}" for line in [""] * follows + block)
+
+
+def words(clauses):
+    """The lines that lead from clauses to the definitions of their words, if these are linked."""
+    links = [clause.links for clause in clauses if clause.links is not None]
+    found = {word: link for it in links for word, link in it.items()}
+    text = f"Words: {', '.join(found.values())}. {NOTATION}" if found else NOTATION
+    return [*wrap(text, COLUMNS, break_long_words=False, break_on_hyphens=False), ""] if links else []
 
 
 def contracts(tokens):
@@ -168,7 +183,7 @@ def sources(tokens):
 
 
 def inline_hints(tokens):
-    """`#[inline]` stands before each function with a body but `fmt`. Rattle compiles all crates as one module, and so
+    """`#[inline]` is written before each function with a body but `fmt`. Rattle compiles all crates as one module, and so
     inlines across crates; cargo does so only where this says it may. It changes no result."""
     for i in range(len(tokens) - 1, -1, -1):
         if tokens[i].text != "fn" or tokens[i + 1].text == "fmt" or tokens[head_end(tokens, i)].text != "{":

@@ -17,7 +17,7 @@ def test_modules(tokens):
 
 
 def test_functions(tokens):
-    """A test is passed the runtime. In Rust it is passed nothing, and makes what stands in for it."""
+    """A test is passed the runtime. In Rust it is passed nothing, and makes what replaces it."""
     for pattern in ("(rt: HostRuntime)", "(rt: HostRuntime,)"):
         for i, end in places(tokens, pattern):
             start = item_start(tokens, i - 2)

@@ -14,7 +14,7 @@ OPENING, CLOSING = "([{", ")]}"
 
 
 class Refused(Exception):
-    """What the script does not know, and the line where it stands."""
+    """What the script does not know, and its line."""
 
     def __init__(self, line, what):
         super().__init__(what)
@@ -22,10 +22,11 @@ class Refused(Exception):
 
 
 class Token:
-    __slots__ = ("kind", "text", "line", "before")
+    __slots__ = ("kind", "text", "line", "before", "links")
 
     def __init__(self, kind, text, line, before):
         self.kind, self.text, self.line, self.before = kind, text, line, before
+        self.links = None  # of a clause whose words are linked: each with its link
 
 
 def ghost_end(text, at, ends, line):

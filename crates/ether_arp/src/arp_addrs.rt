@@ -16,16 +16,6 @@ pub fn address(bytes: &[u8]) -> ArrayVec<u8, 255>
     address
 }
 
-/// Replaces the bytes of an address by these, at most 255.
-pub fn replace(address: &mut ArrayVec<u8, 255>, bytes: &[u8])
-    requires { length bytes.now ≤ 255 }
-    ensures items { address.new.items ≡ bytes.now }
-    ensures bytes { IsBytes address.new.items }
-{
-    address.clear();
-    append(address, bytes);
-}
-
 /// Appends bytes to a list that has room for them.
 pub fn append<const N: usize>(bytes: &mut ArrayVec<u8, N>, part: &[u8])
     requires { length bytes.old.items + length part.now ≤ N }

@@ -280,8 +280,8 @@ impl ArpPacket {
         if len > MAX_ADDR_LEN {
             return Err(ArpHwAddrError::LenTooBig(len));
         }
-        arp_addrs::replace(&mut self.sender_hw_addr, sender_hw_addr);
-        arp_addrs::replace(&mut self.target_hw_addr, target_hw_addr);
+        self.sender_hw_addr = arp_addrs::address(sender_hw_addr);
+        self.target_hw_addr = arp_addrs::address(target_hw_addr);
         Ok(())
     }
 
@@ -312,8 +312,8 @@ impl ArpPacket {
         if len > MAX_ADDR_LEN {
             return Err(ArpProtoAddrError::LenTooBig(len));
         }
-        arp_addrs::replace(&mut self.sender_protocol_addr, sender_protocol_addr);
-        arp_addrs::replace(&mut self.target_protocol_addr, target_protocol_addr);
+        self.sender_protocol_addr = arp_addrs::address(sender_protocol_addr);
+        self.target_protocol_addr = arp_addrs::address(target_protocol_addr);
         Ok(())
     }
 

@@ -31,9 +31,9 @@ pub(crate) fn write_statistic<W: Sink>(
         StatisticsFormat::Text => {
             out.append(key);
             out.append(b"\t");
-            write_decimal(out, count.packets);
+            write_decimal(out, count.packets as u64);
             out.append(b"\t");
-            write_decimal(out, count.bytes);
+            write_decimal(out, count.bytes as u64);
             out.append(b"\n");
         }
         StatisticsFormat::Json => {
@@ -43,9 +43,9 @@ pub(crate) fn write_statistic<W: Sink>(
             out.append(b"\",\"value\":\"");
             out.append(text);
             out.append(b"\",\"packets\":");
-            write_decimal(out, count.packets);
+            write_decimal(out, count.packets as u64);
             out.append(b",\"bytes\":");
-            write_decimal(out, count.bytes);
+            write_decimal(out, count.bytes as u64);
             out.append(b"}\n");
         }
     }

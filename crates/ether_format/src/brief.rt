@@ -75,11 +75,11 @@ fn write_ethernet2<W: Sink>(slice: &Ethernet2Slice<'_>, out: &mut OutputBuffer<'
 fn write_vlan<W: Sink>(slice: &SingleVlanSlice<'_>, out: &mut OutputBuffer<'_, W>)
     ensures { Takes W.contents W.can_fail out.old (brief_vlan (vlan_of slice.now)) out.new }
 {
-    write_number(out, b" vlan ", usize::from(slice.vlan_identifier().value()));
+    write_number(out, b" vlan ", u64::from(slice.vlan_identifier().value()));
     write_number(
         out,
         b" pcp ",
-        usize::from(slice.priority_code_point().value()),
+        u64::from(slice.priority_code_point().value()),
     );
     if slice.drop_eligible_indicator() {
         out.append(b" dei");
@@ -90,8 +90,8 @@ fn write_vlan<W: Sink>(slice: &SingleVlanSlice<'_>, out: &mut OutputBuffer<'_, W
 fn write_macsec<W: Sink>(tag: &MacsecHeaderSlice<'_>, out: &mut OutputBuffer<'_, W>)
     ensures { Takes W.contents W.can_fail out.old (brief_macsec (sec_tag_of (tag_bytes tag.now))) out.new }
 {
-    write_number(out, b" macsec an ", usize::from(tag.an().value()));
-    write_number(out, b" pn ", tag.packet_nr() as usize);
+    write_number(out, b" macsec an ", u64::from(tag.an().value()));
+    write_number(out, b" pn ", tag.packet_nr() as u64);
 }
 
 /// Writes an ARP packet: as a request, a reply, or another operation by its number.
@@ -135,7 +135,7 @@ fn write_arp_other<W: Sink>(packet: &ArpPacketSlice<'_>, out: &mut OutputBuffer<
     ensures { Takes W.contents W.can_fail out.old (arp_other (arp_of packet.now)) out.new }
 {
     let protocol = packet.proto_addr_type();
-    write_number(out, b" ARP op ", usize::from(packet.operation().0));
+    write_number(out, b" ARP op ", u64::from(packet.operation().0));
     out.append(b" from ");
     write_address(protocol, packet.sender_protocol_addr(), out);
     out.append(b" to ");
@@ -171,7 +171,7 @@ fn write_sender<W: Sink>(
 )
     ensures { Takes W.contents W.can_fail out.old (cooked_text packet_type (take len address.now)) out.new }
 {
-    write_number(out, b" cooked type ", packet_type);
+    write_number(out, b" cooked type ", packet_type as u64);
     out.append(b" from ");
     write_colons(first_of(address, len), out);
 }
@@ -180,7 +180,7 @@ fn write_sender<W: Sink>(
 fn write_cooked<W: Sink>(header: &CookedHeader, out: &mut OutputBuffer<'_, W>)
     ensures { Takes W.contents W.can_fail out.old (brief_header (headers.LinuxSll (cooked_view header.now))) out.new }
 {
-    write_number(out, b" cooked type ", usize::from(header.packet_type));
+    write_number(out, b" cooked type ", u64::from(header.packet_type));
     out.append(b" from ");
     write_colons(used(&header.address, usize::from(header.address_len)), out);
 }
@@ -191,7 +191,7 @@ fn write_linux_sll2<W: Sink>(packet: &LinuxSll2Slice<'_>, out: &mut OutputBuffer
 {
     let packet_type = usize::from(packet.packet_type_number());
     let len = usize::from(packet.sender_address_valid_length());
-    write_number(out, b" if ", packet.interface_index() as usize);
+    write_number(out, b" if ", packet.interface_index() as u64);
     write_sender(packet_type, &packet.sender_address_full(), len, out);
 }
 
@@ -229,7 +229,7 @@ fn write_rest<W: Sink>(len: usize, kind: &RestKind, out: &mut OutputBuffer<'_, W
 fn write_len<W: Sink>(len: usize, out: &mut OutputBuffer<'_, W>)
     ensures { Takes W.contents W.can_fail out.old (codes " " ++ (decimal len ++ codes " bytes")) out.new }
 {
-    write_number(out, b" ", len);
+    write_number(out, b" ", len as u64);
     out.append(b" bytes");
 }
 
@@ -248,7 +248,7 @@ fn write_type<W: Sink>(ether_type: EtherType, out: &mut OutputBuffer<'_, W>)
 fn write_skipped<W: Sink>(len: usize, out: &mut OutputBuffer<'_, W>)
     ensures { Takes W.contents W.can_fail out.old (codes " skipped " ++ (decimal len ++ codes " bytes")) out.new }
 {
-    write_number(out, b" skipped ", len);
+    write_number(out, b" skipped ", len as u64);
     out.append(b" bytes");
 }
 
@@ -256,7 +256,7 @@ fn write_skipped<W: Sink>(len: usize, out: &mut OutputBuffer<'_, W>)
 fn write_fault<W: Sink>(start: usize, cause: &Cause, out: &mut OutputBuffer<'_, W>)
     ensures { Takes W.contents W.can_fail out.old (fault_text start cause.now) out.new }
 {
-    write_number(out, b" fault at ", start);
+    write_number(out, b" fault at ", start as u64);
     out.append(b": ");
     write_cause(cause, out);
 }
@@ -267,14 +267,14 @@ fn write_cause<W: Sink>(cause: &Cause, out: &mut OutputBuffer<'_, W>)
 {
     match cause {
         Cause::Length(required, available, _) => {
-            write_number(out, b"needs ", *required);
-            write_number(out, b" bytes, has ", *available);
+            write_number(out, b"needs ", *required as u64);
+            write_number(out, b" bytes, has ", *available as u64);
         }
         Cause::UnknownPacketType(number) => {
-            write_number(out, b"packet type ", usize::from(*number));
+            write_number(out, b"packet type ", u64::from(*number));
         }
         Cause::UnknownHardwareType(number) => {
-            write_number(out, b"hardware type ", usize::from(*number));
+            write_number(out, b"hardware type ", u64::from(*number));
         }
         Cause::Version => out.append(b"version 1 of MACsec"),
         Cause::ShortLength => out.append(b"short length 1"),
@@ -289,7 +289,7 @@ pub(crate) fn write_brief_front<W: Sink>(
 )
     ensures { Takes W.contents W.can_fail out.old (brief_front number moment) out.new }
 {
-    write_decimal(out, number);
+    write_decimal(out, number as u64);
     out.append(b" ");
     match moment {
         Some(moment) => write_brief_moment(&moment, out),
@@ -303,7 +303,7 @@ fn write_brief_moment<W: Sink>(moment: &Moment, out: &mut OutputBuffer<'_, W>)
     ensures { Takes W.contents W.can_fail out.old (brief_moment moment.now) out.new }
 {
     if !has_date(moment) {
-        write_decimal(out, moment.seconds as usize);
+        write_decimal(out, moment.seconds);
         out.append(b".");
         write_fraction(moment.nanoseconds, out);
         return;
@@ -331,8 +331,8 @@ pub(crate) fn write_brief_tail<W: Sink>(packet: &CapturedPacket<'_>, out: &mut O
     ensures { Takes W.contents W.can_fail out.old (brief_cut (captured_packet_view packet.now) ++ codes "\n") out.new }
 {
     if is_cut(packet) {
-        write_number(out, b" (", packet.packet.len());
-        write_number(out, b" of ", packet.original_len as usize);
+        write_number(out, b" (", packet.packet.len() as u64);
+        write_number(out, b" of ", packet.original_len as u64);
         out.append(b" bytes)");
     }
     out.append(b"\n");

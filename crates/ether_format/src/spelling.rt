@@ -20,8 +20,8 @@ pub(crate) fn write_json_value<W: Sink>(value: &Value<'_>, out: &mut OutputBuffe
 {
     match value {
         Value::Nothing => out.append(b"null"),
-        Value::Number(number) => write_decimal(out, *number as usize),
-        Value::Protocol(number) => write_decimal(out, usize::from(*number)),
+        Value::Number(number) => write_decimal(out, *number),
+        Value::Protocol(number) => write_decimal(out, u64::from(*number)),
         Value::Flag(holds) => out.append(flag_text(*holds).as_bytes()),
         Value::Mac(address) => out.append_array(quoted_mac(*address)),
         Value::Four(bytes) => write_quoted_bytes(bytes, out),
@@ -41,7 +41,7 @@ pub(crate) fn write_column_value<W: Sink>(value: &Value<'_>, out: &mut OutputBuf
 {
     match value {
         Value::Nothing => {}
-        Value::Number(number) => write_decimal(out, *number as usize),
+        Value::Number(number) => write_decimal(out, *number),
         Value::Protocol(number) => out.append(&hex_type(EtherType(*number))),
         Value::Flag(holds) => out.append(flag_text(*holds).as_bytes()),
         Value::Mac(address) => out.append_array(mac_text(*address)),
@@ -148,7 +148,7 @@ pub(crate) fn write_dotted<W: Sink>(bytes: &[u8], out: &mut OutputBuffer<'_, W>)
     if bytes.is_empty() {
         return;
     }
-    write_decimal(out, usize::from(bytes[0]));
+    write_decimal(out, u64::from(bytes[0]));
     write_dots_after(&bytes[1..], out);
 }
 
@@ -158,7 +158,7 @@ fn write_dots_after<W: Sink>(bytes: &[u8], out: &mut OutputBuffer<'_, W>)
 {
     for byte in bytes {
         out.append(b".");
-        write_decimal(out, usize::from(*byte));
+        write_decimal(out, u64::from(*byte));
     }
 }
 
@@ -227,7 +227,7 @@ fn write_dated<W: Sink>(moment: &Moment, out: &mut OutputBuffer<'_, W>)
 fn write_seconds<W: Sink>(moment: &Moment, out: &mut OutputBuffer<'_, W>)
     ensures { Takes W.contents W.can_fail out.old (seconds_text moment.now) out.new }
 {
-    write_decimal(out, moment.seconds as usize);
+    write_decimal(out, moment.seconds);
     out.append(b".");
     out.append_array(nine_digits(moment.nanoseconds));
 }
@@ -247,7 +247,7 @@ fn fraction(nanoseconds: u32) -> [u8; 11]
 pub(crate) fn write_date<W: Sink>(moment: &Moment, out: &mut OutputBuffer<'_, W>)
     ensures { Takes W.contents W.can_fail out.old (date_text moment.now) out.new }
 {
-    write_decimal(out, moment.year as usize);
+    write_decimal(out, moment.year);
     out.append_array(month_to_second(moment));
 }
 

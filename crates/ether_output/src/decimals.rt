@@ -28,7 +28,7 @@ static PAIRS: [[u8; 2]; 100] = [
 /// assert_eq!(rt; written.as_slice(), b"1024".as_slice());
 /// ```
 #[inline(always)]
-pub fn write_decimal<W: Sink>(out: &mut OutputBuffer<'_, W>, number: usize)
+pub fn write_decimal<W: Sink>(out: &mut OutputBuffer<'_, W>, number: u64)
     ensures { Takes W.contents W.can_fail out.old (decimal number) out.new }
 {
     if number < 10 {
@@ -42,7 +42,7 @@ pub fn write_decimal<W: Sink>(out: &mut OutputBuffer<'_, W>, number: usize)
 
 /// Writes a number of any length: first the digits before the last four, then the last four.
 #[inline(never)]
-fn write_long_decimal<W: Sink>(out: &mut OutputBuffer<'_, W>, number: usize)
+fn write_long_decimal<W: Sink>(out: &mut OutputBuffer<'_, W>, number: u64)
     ensures { Takes W.contents W.can_fail out.old (decimal number) out.new }
 {
     if number < 10_000 {
@@ -58,7 +58,7 @@ fn write_long_decimal<W: Sink>(out: &mut OutputBuffer<'_, W>, number: usize)
 
 /// Writes a number of up to four digits.
 #[inline(always)]
-fn write_short_decimal<W: Sink>(out: &mut OutputBuffer<'_, W>, number: usize)
+fn write_short_decimal<W: Sink>(out: &mut OutputBuffer<'_, W>, number: u64)
     requires { number < 10000 }
     ensures { Takes W.contents W.can_fail out.old (decimal number) out.new }
 {
@@ -76,7 +76,7 @@ fn write_short_decimal<W: Sink>(out: &mut OutputBuffer<'_, W>, number: usize)
 
 /// The decimal digit of a number below 10, as a character of ASCII.
 #[inline(always)]
-fn digit(number: usize) -> u8
+fn digit(number: u64) -> u8
     requires { number < 10 }
     ensures { result ≡ 48 + number }
 {
@@ -85,16 +85,16 @@ fn digit(number: usize) -> u8
 
 /// The two digits of a number below 100, with a leading zero.
 #[inline(always)]
-fn digit_pair(number: usize) -> [u8; 2]
+fn digit_pair(number: u64) -> [u8; 2]
     requires { number < 100 }
     ensures { result ≡ two_digits number }
 {
-    PAIRS[number]
+    PAIRS[number as usize]
 }
 
 /// The four digits of a number below 10,000, with leading zeros.
 #[inline(always)]
-fn four_digits(number: usize) -> [u8; 4]
+fn four_digits(number: u64) -> [u8; 4]
     requires { number < 10000 }
     ensures { result ≡ two_digits (number / 100) ++ two_digits (number % 100) }
 {
@@ -108,15 +108,15 @@ fn four_digits(number: usize) -> [u8; 4]
 pub fn eight_digits(number: u64) -> [u8; 8]
     ensures { result ≡ eight_digits number }
 {
-    let high = four_digits((number / 10_000 % 10_000) as usize);
-    let low = four_digits((number % 10_000) as usize);
+    let high = four_digits(number / 10_000 % 10_000);
+    let low = four_digits(number % 10_000);
     [
         high[0], high[1], high[2], high[3], low[0], low[1], low[2], low[3],
     ]
 }
 
 /// Writes a word with the spaces around it, and a number in decimal digits.
-pub fn write_number<W: Sink>(out: &mut OutputBuffer<'_, W>, word: &[u8], number: usize)
+pub fn write_number<W: Sink>(out: &mut OutputBuffer<'_, W>, word: &[u8], number: u64)
     ensures { Takes W.contents W.can_fail out.old (word.now ++ decimal number) out.new }
 {
     out.append(word);

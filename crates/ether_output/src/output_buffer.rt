@@ -100,7 +100,11 @@ impl<'a, W: Sink> OutputBuffer<'a, W> {
         }
     }
 
-    /// Returns [`OutputFault`] if the writer has failed since the buffer was made.
+    /// Tests that the writer has not failed since the buffer was made.
+    ///
+    /// # Errors
+    ///
+    /// [`OutputFault`] if it has.
     pub fn check(&self) -> Result<(), OutputFault>
         ensures ok { OnOk result (self.now.has_failed ≡ false) }
         ensures failed { OnErr result (self.now.has_failed ≡ true) }

@@ -19,11 +19,19 @@ pub trait Sink {
     ghost is_flushed: { Self → Type 0 };
 
     /// Writes all of `bytes`.
+    ///
+    /// # Errors
+    ///
+    /// [`OutputFault`] if the sink has not taken all of them.
     fn put(&mut self, bytes: &[u8]) -> Result<(), OutputFault>
         ensures ok { OnOk result (Appends (contents self.old) (contents self.new) bytes.now) }
         ensures failed { OnErr result can_fail };
 
     /// Flushes the sink.
+    ///
+    /// # Errors
+    ///
+    /// [`OutputFault`] if the sink could not be flushed.
     fn flush_all(&mut self) -> Result<(), OutputFault>
         ensures kept { Keeps (contents self.old) (contents self.new) }
         ensures flushed { OnOk result (is_flushed self.new) }

@@ -228,6 +228,16 @@ impl<'a> Iterator for Peel<'a> {
             First::LinuxSll => self.linux_sll(),
         }
     }
+
+    /// At most one unit for each four bytes left, and a fault.
+    fn size_hint(&self) -> (usize, Option<usize>) {
+        let most = if !self.is_over {
+            self.rest.len() / 4 + 1
+        } else {
+            0
+        };
+        (0, Some(most))
+    }
 }
 
 /// The steps of a walk that is not over, one for each kind of unit that can be announced.

@@ -128,7 +128,7 @@ fn write_told<W: Sink>(word: &[u8], number: usize, out: &mut OutputBuffer<'_, W>
     ensures { Takes W.contents W.can_fail out.old (told word.now number) out.new }
 {
     out.append(word);
-    write_decimal(out, number);
+    write_decimal(out, number as u64);
 }
 
 /// Whether the packet has no lines of a walk.
@@ -155,13 +155,13 @@ fn write_packet_line<W: Sink>(
         return;
     }
     out.append(b"frame ");
-    write_decimal(out, count.saturating_add(1));
+    write_decimal(out, count.saturating_add(1) as u64);
     write_time(packet.time, out);
-    write_decimal(out, usize::from(packet.link_type.0));
+    write_decimal(out, u64::from(packet.link_type.0));
     out.append(b" captured ");
-    write_decimal(out, packet.packet.len());
+    write_decimal(out, packet.packet.len() as u64);
     out.append(b" original ");
-    write_decimal(out, packet.original_len as usize);
+    write_decimal(out, packet.original_len as u64);
     write_mark(is_cut(packet), b" cut", out);
     write_mark(content.is_unknown(), b" skipped", out);
     out.append(b"\n");
@@ -214,7 +214,7 @@ fn write_other_time<W: Sink>(time: Timestamp, out: &mut OutputBuffer<'_, W>)
         (codes " time " ++ (time_text (Some (timestamp_view time)) ++ codes " link ")) out.new }
 {
     out.append(b" time ");
-    write_decimal(out, time.seconds as usize);
+    write_decimal(out, time.seconds);
     out.append(b".");
     out.append(&nine_digits(time.nanoseconds));
     out.append(b" link ");

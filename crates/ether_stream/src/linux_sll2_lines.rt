@@ -49,13 +49,13 @@ fn write_header<W: Sink>(packet: &LinuxSll2Slice<'_>, out: &mut OutputBuffer<'_,
     ensures { Takes W.contents W.can_fail out.old (linux_sll2_text (linux_sll2_of packet.now) ++ codes "\n") out.new }
 {
     write_number(out, b"linux_sll2 ", 0);
-    write_number(out, b" packet ", usize::from(packet.packet_type_number()));
-    write_number(out, b" hw ", usize::from(packet.arp_hardware_type().0));
-    write_number(out, b" if ", packet.interface_index() as usize);
+    write_number(out, b" packet ", u64::from(packet.packet_type_number()));
+    write_number(out, b" hw ", u64::from(packet.arp_hardware_type().0));
+    write_number(out, b" if ", packet.interface_index() as u64);
     write_number(
         out,
         b" alen ",
-        usize::from(packet.sender_address_valid_length()),
+        u64::from(packet.sender_address_valid_length()),
     );
     out.append(b" addr ");
     out.append(&hex_long(packet.sender_address_full()));
@@ -71,14 +71,14 @@ fn write_refusal<W: Sink>(error: &LinuxSll2Error, out: &mut OutputBuffer<'_, W>)
     write_number(out, b"fault ", 0);
     match error {
         LinuxSll2Error::Len { required_len, len } => {
-            write_number(out, b" open length ", *required_len);
-            write_number(out, b" ", *len);
+            write_number(out, b" open length ", *required_len as u64);
+            write_number(out, b" ", *len as u64);
             out.append(b" slice");
         }
         LinuxSll2Error::PacketType(number) => write_number(
             out,
             b" open content sll_packet_type ",
-            usize::from(*number),
+            u64::from(*number),
         ),
     }
 }

@@ -45,6 +45,7 @@ pub fn ether_type(bytes: &[u8]) -> EtherType
 }
 
 /// The header with all its fields.
+#[inline(always)]
 pub fn header(bytes: &[u8]) -> Ethernet2Header
     requires { 14 ≤ length bytes.now }
     ensures fields { result ≡ ethernet2_header_of bytes.now }

@@ -76,6 +76,10 @@ impl Ethernet2Header {
     }
 
     /// The same as [`Ethernet2Header::from_slice`], under its older name.
+    ///
+    /// # Errors
+    ///
+    /// Those of [`Ethernet2Header::from_slice`].
     pub fn read_from_slice(slice: &[u8]) -> Result<(Ethernet2Header, &[u8]), LenError>
         ensures accepted { IfOk result (λ answer. Accepts sources.Slice slice.now kinds.Ethernet2) }
         ensures fields { IfOk result (λ answer. answer.0 ≡ ethernet2_header_of slice.now) }

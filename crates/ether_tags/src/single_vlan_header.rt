@@ -84,6 +84,10 @@ impl SingleVlanHeader {
     }
 
     /// The same as [`SingleVlanHeader::from_slice`], under its older name.
+    ///
+    /// # Errors
+    ///
+    /// Those of [`SingleVlanHeader::from_slice`].
     pub fn read_from_slice(slice: &[u8]) -> Result<(SingleVlanHeader, &[u8]), LenError>
         ensures accepted { IfOk result (λ answer. Accepts sources.Slice slice.now kinds.Vlan) }
         ensures value { IfOk result

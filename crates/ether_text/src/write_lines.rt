@@ -63,7 +63,7 @@ fn write_ethernet2<W: Sink>(out: &mut OutputBuffer<'_, W>, start: usize, slice: 
         (ethernet2_view_text start (ethernet2_of slice.now.bytes) (fcs_of slice.now)) out.new }
 {
     out.append(b"ethernet2 ");
-    write_decimal(out, start);
+    write_decimal(out, start as u64);
     out.append_array(ethernet2_fields(slice));
     write_fcs(out, slice.fcs());
 }
@@ -98,13 +98,13 @@ fn write_fcs<W: Sink>(out: &mut OutputBuffer<'_, W>, fcs: Option<[u8; 4]>)
 fn write_linux_sll<W: Sink>(out: &mut OutputBuffer<'_, W>, start: usize, slice: &LinuxSllSlice<'_>)
     ensures { Takes W.contents W.can_fail out.old (linux_sll_text start (linux_sll_of slice.now)) out.new }
 {
-    write_number(out, b"linux_sll ", start);
-    write_number(out, b" packet ", usize::from(slice.packet_type_number()));
-    write_number(out, b" hw ", usize::from(slice.arp_hardware_type().0));
+    write_number(out, b"linux_sll ", start as u64);
+    write_number(out, b" packet ", u64::from(slice.packet_type_number()));
+    write_number(out, b" hw ", u64::from(slice.arp_hardware_type().0));
     write_number(
         out,
         b" alen ",
-        usize::from(slice.sender_address_valid_length()),
+        u64::from(slice.sender_address_valid_length()),
     );
     out.append(b" addr ");
     out.append(&hex_long(slice.sender_address_full()));
@@ -118,13 +118,13 @@ fn write_vlan<W: Sink>(out: &mut OutputBuffer<'_, W>, start: usize, slice: &Sing
     ensures { Takes W.contents W.can_fail out.old (vlan_text start (vlan_of slice.now)) out.new }
 {
     out.append(b"vlan ");
-    write_decimal(out, start);
+    write_decimal(out, start as u64);
     out.append(b" pcp ");
-    write_decimal(out, usize::from(slice.priority_code_point().value()));
+    write_decimal(out, u64::from(slice.priority_code_point().value()));
     out.append(b" dei ");
-    write_decimal(out, usize::from(slice.drop_eligible_indicator()));
+    write_decimal(out, u64::from(slice.drop_eligible_indicator()));
     out.append(b" vid ");
-    write_decimal(out, usize::from(slice.vlan_identifier().value()));
+    write_decimal(out, u64::from(slice.vlan_identifier().value()));
     out.append(b" ");
     out.append_array(hex_type(slice.ether_type()));
 }
@@ -140,17 +140,17 @@ fn write_macsec<W: Sink>(
     ensures { Takes W.contents W.can_fail out.old
         (macsec_text start (sec_tag_of (tag_bytes tag.now)) len closed) out.new }
 {
-    write_number(out, b"macsec ", start);
+    write_number(out, b"macsec ", start as u64);
     out.append(b" ");
     write_payload_type(out, tag.ptype());
-    write_number(out, b" es ", usize::from(tag.endstation_id()));
-    write_number(out, b" scb ", usize::from(tag.tci_scb()));
-    write_number(out, b" an ", usize::from(tag.an().value()));
-    write_number(out, b" sl ", usize::from(tag.short_len().value()));
-    write_number(out, b" pn ", tag.packet_nr() as usize);
+    write_number(out, b" es ", u64::from(tag.endstation_id()));
+    write_number(out, b" scb ", u64::from(tag.tci_scb()));
+    write_number(out, b" an ", u64::from(tag.an().value()));
+    write_number(out, b" sl ", u64::from(tag.short_len().value()));
+    write_number(out, b" pn ", tag.packet_nr() as u64);
     out.append(b" sci ");
     write_sci(out, tag.sci());
-    write_number(out, b" window ", len);
+    write_number(out, b" window ", len as u64);
     out.append(b" ");
     out.append(mark_of(closed).as_bytes());
 }
@@ -184,13 +184,13 @@ fn write_sci<W: Sink>(out: &mut OutputBuffer<'_, W>, sci: Option<u64>)
 fn write_arp<W: Sink>(out: &mut OutputBuffer<'_, W>, start: usize, slice: &ArpPacketSlice<'_>)
     ensures { Takes W.contents W.can_fail out.old (arp_text start (arp_of slice.now)) out.new }
 {
-    write_number(out, b"arp ", start);
-    write_number(out, b" hw ", usize::from(slice.hw_addr_type().0));
+    write_number(out, b"arp ", start as u64);
+    write_number(out, b" hw ", u64::from(slice.hw_addr_type().0));
     out.append(b" proto ");
     out.append_array(hex_type(slice.proto_addr_type()));
-    write_number(out, b" hlen ", usize::from(slice.hw_addr_size()));
-    write_number(out, b" plen ", usize::from(slice.proto_addr_size()));
-    write_number(out, b" op ", usize::from(slice.operation().0));
+    write_number(out, b" hlen ", u64::from(slice.hw_addr_size()));
+    write_number(out, b" plen ", u64::from(slice.proto_addr_size()));
+    write_number(out, b" op ", u64::from(slice.operation().0));
 }
 
 /// Writes the line of what is left of an accepted frame: the offsets of its start and its end, and what it is
@@ -200,9 +200,9 @@ pub fn write_rest<W: Sink>(out: &mut OutputBuffer<'_, W>, start: usize, end: usi
     ensures { Takes W.contents W.can_fail out.old (rest_view_text start end kind ++ codes "\n") out.new }
 {
     out.append(b"rest ");
-    write_decimal(out, start);
+    write_decimal(out, start as u64);
     out.append(b" ");
-    write_decimal(out, end);
+    write_decimal(out, end as u64);
     write_kind(out, kind);
     out.append(b"\n");
 }
@@ -250,8 +250,8 @@ fn write_protocol<W: Sink>(out: &mut OutputBuffer<'_, W>, protocol: LinuxSllProt
 pub fn write_counts<W: Sink>(out: &mut OutputBuffer<'_, W>, refusals: usize, taken: usize)
     ensures { Takes W.contents W.can_fail out.old (feed_text refusals taken ++ codes "\n") out.new }
 {
-    write_number(out, b"feed refusals ", refusals);
-    write_number(out, b" taken ", taken);
+    write_number(out, b"feed refusals ", refusals as u64);
+    write_number(out, b" taken ", taken as u64);
     out.append(b"\n");
 }
 
@@ -260,7 +260,7 @@ pub fn write_fault<W: Sink>(out: &mut OutputBuffer<'_, W>, fault: &PeelFault)
     ensures { Takes W.contents W.can_fail out.old (fault_view_text fault.now ++ codes "\n") out.new }
 {
     out.append(b"fault ");
-    write_decimal(out, fault.offset);
+    write_decimal(out, fault.offset as u64);
     out.append(b" ");
     out.append(mark_of(fault.closed).as_bytes());
     out.append(b" ");
@@ -284,9 +284,9 @@ fn write_len_error<W: Sink>(out: &mut OutputBuffer<'_, W>, error: &LenError)
     ensures { Takes W.contents W.can_fail out.old (len_view_text error.now) out.new }
 {
     out.append(b"length ");
-    write_decimal(out, error.required_len);
+    write_decimal(out, error.required_len as u64);
     out.append(b" ");
-    write_decimal(out, error.len);
+    write_decimal(out, error.len as u64);
     out.append(b" ");
     out.append(source_of(error.len_source).as_bytes());
 }
@@ -300,13 +300,13 @@ fn write_linux_sll_error<W: Sink>(
 {
     match error {
         err::linux_sll::HeaderError::UnsupportedPacketTypeField { packet_type } => {
-            write_number(out, b"content sll_packet_type ", usize::from(*packet_type));
+            write_number(out, b"content sll_packet_type ", u64::from(*packet_type));
         }
         err::linux_sll::HeaderError::UnsupportedArpHardwareId { arp_hardware_type } => {
             write_number(
                 out,
                 b"content sll_hardware_type ",
-                usize::from(arp_hardware_type.0),
+                u64::from(arp_hardware_type.0),
             );
         }
     }

@@ -44,6 +44,7 @@
 #![cfg_attr(feature = "format", doc = "- [`ether_output`]: text on its way to a writer")]
 #![cfg_attr(feature = "format", doc = "- [`ether_format`]: captured packets as JSON, columns, lines for the eye")]
 #![cfg_attr(feature = "compat", doc = "- [`compat`]: names for programs that use etherparse")]
+//! - [`definitions`]: the words of the contracts
 
 #[cfg(feature = "std")]
 extern crate std;
@@ -90,6 +91,9 @@ pub mod ether_output;
 pub mod ether_format;
 #[cfg(feature = "compat")]
 pub mod compat;
+#[cfg(doc)]
+#[rustfmt::skip]
+pub mod definitions;
 
 #[rustfmt::skip]
 pub use crate::ether_arp::{ArpEthIpv4Packet, ArpPacket, ArpPacketSlice};

@@ -206,3 +206,27 @@ fn iterators_over_captures_end_for_ever() {
     }
     assert_fused(ether_pcap::CapturePackets::from_slice(&[]), (0, 1));
 }
+
+/// A walk has at most one unit for each four bytes, and a fault; nothing follows the fault.
+#[test]
+fn a_walk_bounds_its_items() {
+    let mut walk = ether_peel::Peel::new(ether_peel::Start::Ethernet2, &[0; 13]);
+    assert_eq!(walk.size_hint(), (0, Some(4)));
+    assert!(walk.next().is_some_and(|it| it.is_err()));
+    assert_eq!(walk.size_hint(), (0, Some(0)));
+}
+
+/// A capture has at most one packet for each byte, a classic one a record for each 16 bytes, and a fault.
+#[cfg(feature = "pcap")]
+#[test]
+fn captures_bound_their_items() {
+    let mut packets = ether_pcap::CapturePackets::from_slice(&[0; 4]);
+    assert_eq!(packets.size_hint(), (0, Some(5)));
+    assert!(packets.next().is_some_and(|it| it.is_err()));
+    assert_eq!(packets.size_hint(), (0, Some(0)));
+    let mut file = [0; 41];
+    file[..8].copy_from_slice(&[0xA1, 0xB2, 0xC3, 0xD4, 0, 2, 0, 4]);
+    file[23] = 1;
+    let records = ether_pcap::PcapRecords::from_slice(&file).unwrap();
+    assert_eq!(records.size_hint(), (0, Some(2)));
+}

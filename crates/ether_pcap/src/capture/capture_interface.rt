@@ -28,6 +28,10 @@ pub struct CaptureInterface {
 
 impl CaptureInterface {
     /// The interface that the body of an interface description describes.
+    ///
+    /// # Errors
+    ///
+    /// Those of [`InterfaceDescription::from_body`](crate::InterfaceDescription::from_body).
     pub fn from_body(byte_order: ByteOrder, body: &[u8]) -> Result<CaptureInterface, BodyError>
         ensures interface { IfOk result (λ i. Describes (order_of byte_order) body.now (capture_interface_view i)) }
         ensures refused { IfErr result (λ e. RefusesInterface body.now (body_refusal_view e)) }

@@ -116,4 +116,14 @@ impl<'a> Iterator for PcapRecords<'a> {
             }
         }
     }
+
+    /// At most one record for each 16 bytes left, and a fault.
+    fn size_hint(&self) -> (usize, Option<usize>) {
+        let most = if !self.is_over {
+            self.rest.len() / 16 + 1
+        } else {
+            0
+        };
+        (0, Some(most))
+    }
 }

@@ -80,7 +80,7 @@ fn write_last_line<W: Sink>(line: LastLine, out: &mut OutputBuffer<'_, W>)
         LastLine::Usage => out.append(USAGE.as_bytes()),
         LastLine::BadLine(number) => {
             out.append(b"line ");
-            write_decimal(out, number as usize);
+            write_decimal(out, number);
             out.append(b": ");
             out.append(BAD_LINE.as_bytes());
         }

@@ -130,7 +130,7 @@ fn write_undecided<W: Sink>(undecided: Option<usize>, out: &mut OutputBuffer<'_,
 /// Writes a number after its word.
 fn write_told<W: Sink>(word: &[u8], number: usize, out: &mut OutputBuffer<'_, W>) {
     out.append(word);
-    write_decimal(out, number);
+    write_decimal(out, number as u64);
 }
 
 /// Whether the packet has no lines of a walk.
@@ -159,13 +159,13 @@ fn write_packet_line<W: Sink>(
         return;
     }
     out.append(b"frame ");
-    write_decimal(out, count.saturating_add(1));
+    write_decimal(out, count.saturating_add(1) as u64);
     write_time(packet.time, out);
-    write_decimal(out, usize::from(packet.link_type.0));
+    write_decimal(out, u64::from(packet.link_type.0));
     out.append(b" captured ");
-    write_decimal(out, packet.packet.len());
+    write_decimal(out, packet.packet.len() as u64);
     out.append(b" original ");
-    write_decimal(out, packet.original_len as usize);
+    write_decimal(out, packet.original_len as u64);
     write_mark(is_cut(packet), b" cut", out);
     write_mark(content.is_unknown(), b" skipped", out);
     out.append(b"\n");
@@ -206,7 +206,7 @@ fn recent_time(time: Timestamp) -> [u8; 32] {
 #[inline(never)]
 fn write_other_time<W: Sink>(time: Timestamp, out: &mut OutputBuffer<'_, W>) {
     out.append(b" time ");
-    write_decimal(out, time.seconds as usize);
+    write_decimal(out, time.seconds);
     out.append(b".");
     out.append(&nine_digits(time.nanoseconds));
     out.append(b" link ");

@@ -16,9 +16,9 @@ use crate::ether_text::hex_long;
 #[inline(never)]
 pub fn write_linux_sll<W: Sink>(header: &CookedHeader, out: &mut OutputBuffer<'_, W>) {
     write_number(out, b"linux_sll ", 0);
-    write_number(out, b" packet ", usize::from(header.packet_type));
-    write_number(out, b" hw ", usize::from(header.hardware_type.0));
-    write_number(out, b" alen ", usize::from(header.address_len));
+    write_number(out, b" packet ", u64::from(header.packet_type));
+    write_number(out, b" hw ", u64::from(header.hardware_type.0));
+    write_number(out, b" alen ", u64::from(header.address_len));
     out.append(b" addr ");
     out.append(&address_digits(&header.address));
     out.append(b" ");

@@ -54,7 +54,7 @@ fn write_view<W: Sink>(
 #[inline(always)]
 fn write_ethernet2<W: Sink>(out: &mut OutputBuffer<'_, W>, start: usize, slice: &Ethernet2Slice<'_>) {
     out.append(b"ethernet2 ");
-    write_decimal(out, start);
+    write_decimal(out, start as u64);
     out.append_array(ethernet2_fields(slice));
     write_fcs(out, slice.fcs());
 }
@@ -83,13 +83,13 @@ fn write_fcs<W: Sink>(out: &mut OutputBuffer<'_, W>, fcs: Option<[u8; 4]>) {
 
 /// Writes the text of a header of Linux cooked capture.
 fn write_linux_sll<W: Sink>(out: &mut OutputBuffer<'_, W>, start: usize, slice: &LinuxSllSlice<'_>) {
-    write_number(out, b"linux_sll ", start);
-    write_number(out, b" packet ", usize::from(slice.packet_type_number()));
-    write_number(out, b" hw ", usize::from(slice.arp_hardware_type().0));
+    write_number(out, b"linux_sll ", start as u64);
+    write_number(out, b" packet ", u64::from(slice.packet_type_number()));
+    write_number(out, b" hw ", u64::from(slice.arp_hardware_type().0));
     write_number(
         out,
         b" alen ",
-        usize::from(slice.sender_address_valid_length()),
+        u64::from(slice.sender_address_valid_length()),
     );
     out.append(b" addr ");
     out.append(&hex_long(slice.sender_address_full()));
@@ -101,13 +101,13 @@ fn write_linux_sll<W: Sink>(out: &mut OutputBuffer<'_, W>, start: usize, slice: 
 #[inline(always)]
 fn write_vlan<W: Sink>(out: &mut OutputBuffer<'_, W>, start: usize, slice: &SingleVlanSlice<'_>) {
     out.append(b"vlan ");
-    write_decimal(out, start);
+    write_decimal(out, start as u64);
     out.append(b" pcp ");
-    write_decimal(out, usize::from(slice.priority_code_point().value()));
+    write_decimal(out, u64::from(slice.priority_code_point().value()));
     out.append(b" dei ");
-    write_decimal(out, usize::from(slice.drop_eligible_indicator()));
+    write_decimal(out, u64::from(slice.drop_eligible_indicator()));
     out.append(b" vid ");
-    write_decimal(out, usize::from(slice.vlan_identifier().value()));
+    write_decimal(out, u64::from(slice.vlan_identifier().value()));
     out.append(b" ");
     out.append_array(hex_type(slice.ether_type()));
 }
@@ -120,17 +120,17 @@ fn write_macsec<W: Sink>(
     len: usize,
     closed: bool,
 ) {
-    write_number(out, b"macsec ", start);
+    write_number(out, b"macsec ", start as u64);
     out.append(b" ");
     write_payload_type(out, tag.ptype());
-    write_number(out, b" es ", usize::from(tag.endstation_id()));
-    write_number(out, b" scb ", usize::from(tag.tci_scb()));
-    write_number(out, b" an ", usize::from(tag.an().value()));
-    write_number(out, b" sl ", usize::from(tag.short_len().value()));
-    write_number(out, b" pn ", tag.packet_nr() as usize);
+    write_number(out, b" es ", u64::from(tag.endstation_id()));
+    write_number(out, b" scb ", u64::from(tag.tci_scb()));
+    write_number(out, b" an ", u64::from(tag.an().value()));
+    write_number(out, b" sl ", u64::from(tag.short_len().value()));
+    write_number(out, b" pn ", tag.packet_nr() as u64);
     out.append(b" sci ");
     write_sci(out, tag.sci());
-    write_number(out, b" window ", len);
+    write_number(out, b" window ", len as u64);
     out.append(b" ");
     out.append(mark_of(closed).as_bytes());
 }
@@ -158,13 +158,13 @@ fn write_sci<W: Sink>(out: &mut OutputBuffer<'_, W>, sci: Option<u64>) {
 
 /// Writes the text of an ARP packet.
 fn write_arp<W: Sink>(out: &mut OutputBuffer<'_, W>, start: usize, slice: &ArpPacketSlice<'_>) {
-    write_number(out, b"arp ", start);
-    write_number(out, b" hw ", usize::from(slice.hw_addr_type().0));
+    write_number(out, b"arp ", start as u64);
+    write_number(out, b" hw ", u64::from(slice.hw_addr_type().0));
     out.append(b" proto ");
     out.append_array(hex_type(slice.proto_addr_type()));
-    write_number(out, b" hlen ", usize::from(slice.hw_addr_size()));
-    write_number(out, b" plen ", usize::from(slice.proto_addr_size()));
-    write_number(out, b" op ", usize::from(slice.operation().0));
+    write_number(out, b" hlen ", u64::from(slice.hw_addr_size()));
+    write_number(out, b" plen ", u64::from(slice.proto_addr_size()));
+    write_number(out, b" op ", u64::from(slice.operation().0));
 }
 
 /// Writes the line of what is left of an accepted frame: the offsets of its start and its end, and what it is
@@ -180,9 +180,9 @@ fn write_arp<W: Sink>(out: &mut OutputBuffer<'_, W>, start: usize, slice: &ArpPa
 #[inline(always)]
 pub fn write_rest<W: Sink>(out: &mut OutputBuffer<'_, W>, start: usize, end: usize, kind: RestKind) {
     out.append(b"rest ");
-    write_decimal(out, start);
+    write_decimal(out, start as u64);
     out.append(b" ");
-    write_decimal(out, end);
+    write_decimal(out, end as u64);
     write_kind(out, kind);
     out.append(b"\n");
 }
@@ -232,8 +232,8 @@ fn write_protocol<W: Sink>(out: &mut OutputBuffer<'_, W>, protocol: LinuxSllProt
 ///
 /// </details>
 pub fn write_counts<W: Sink>(out: &mut OutputBuffer<'_, W>, refusals: usize, taken: usize) {
-    write_number(out, b"feed refusals ", refusals);
-    write_number(out, b" taken ", taken);
+    write_number(out, b"feed refusals ", refusals as u64);
+    write_number(out, b" taken ", taken as u64);
     out.append(b"\n");
 }
 
@@ -248,7 +248,7 @@ pub fn write_counts<W: Sink>(out: &mut OutputBuffer<'_, W>, refusals: usize, tak
 /// </details>
 pub fn write_fault<W: Sink>(out: &mut OutputBuffer<'_, W>, fault: &PeelFault) {
     out.append(b"fault ");
-    write_decimal(out, fault.offset);
+    write_decimal(out, fault.offset as u64);
     out.append(b" ");
     out.append(mark_of(fault.closed).as_bytes());
     out.append(b" ");
@@ -268,9 +268,9 @@ fn write_error<W: Sink>(out: &mut OutputBuffer<'_, W>, error: &PeelError) {
 /// Writes the text of a length error.
 fn write_len_error<W: Sink>(out: &mut OutputBuffer<'_, W>, error: &LenError) {
     out.append(b"length ");
-    write_decimal(out, error.required_len);
+    write_decimal(out, error.required_len as u64);
     out.append(b" ");
-    write_decimal(out, error.len);
+    write_decimal(out, error.len as u64);
     out.append(b" ");
     out.append(source_of(error.len_source).as_bytes());
 }
@@ -282,13 +282,13 @@ fn write_linux_sll_error<W: Sink>(
 ) {
     match error {
         err::linux_sll::HeaderError::UnsupportedPacketTypeField { packet_type } => {
-            write_number(out, b"content sll_packet_type ", usize::from(*packet_type));
+            write_number(out, b"content sll_packet_type ", u64::from(*packet_type));
         }
         err::linux_sll::HeaderError::UnsupportedArpHardwareId { arp_hardware_type } => {
             write_number(
                 out,
                 b"content sll_hardware_type ",
-                usize::from(arp_hardware_type.0),
+                u64::from(arp_hardware_type.0),
             );
         }
     }

@@ -17,6 +17,8 @@ use arrayvec::ArrayVec;
 /// ensures bytes { IsBytes result.items }
 /// ```
 ///
+/// Words: [`IsBytes`](crate::definitions::ether_base#def.IsBytes). [Notation](crate::definitions::notation)
+///
 /// </details>
 #[must_use]
 #[inline]
@@ -24,27 +26,6 @@ pub fn address(bytes: &[u8]) -> ArrayVec<u8, 255> {
     let mut address = ArrayVec::new();
     append(&mut address, bytes);
     address
-}
-
-/// Replaces the bytes of an address by these, at most 255.
-///
-/// # Panics
-///
-/// The call may panic, or return something else, if a `requires` of its contract is not met.
-///
-/// <details><summary>Contract</summary>
-///
-/// ```text
-/// requires { length bytes.now ≤ 255 }
-/// ensures items { address.new.items ≡ bytes.now }
-/// ensures bytes { IsBytes address.new.items }
-/// ```
-///
-/// </details>
-#[inline]
-pub fn replace(address: &mut ArrayVec<u8, 255>, bytes: &[u8]) {
-    address.clear();
-    append(address, bytes);
 }
 
 /// Appends bytes to a list that has room for them.
@@ -60,6 +41,8 @@ pub fn replace(address: &mut ArrayVec<u8, 255>, bytes: &[u8]) {
 /// ensures items { bytes.new.items ≡ bytes.old.items ++ part.now }
 /// ensures len { length bytes.new.items ≡ length bytes.old.items + length part.now }
 /// ```
+///
+/// [Notation](crate::definitions::notation)
 ///
 /// </details>
 #[inline]

@@ -53,6 +53,8 @@ impl ArpEthIpv4Packet {
     /// ensures { ipv4_octets result ≡ self.now.sender_ipv4 }
     /// ```
     ///
+    /// [Notation](crate::definitions::notation)
+    ///
     /// </details>
     #[must_use]
     #[inline]
@@ -68,6 +70,8 @@ impl ArpEthIpv4Packet {
     /// ```text
     /// ensures { ipv4_octets result ≡ self.now.target_ipv4 }
     /// ```
+    ///
+    /// [Notation](crate::definitions::notation)
     ///
     /// </details>
     #[must_use]
@@ -87,6 +91,11 @@ impl ArpEthIpv4Packet {
     /// ensures len { length result ≡ 28 }
     /// ensures fits { FitsArp (eth_ipv4_view self.now) }
     /// ```
+    ///
+    /// Words: [`eth_ipv4_bytes`](crate::definitions::ether_arp#def.eth_ipv4_bytes),
+    /// [`arp_bytes`](crate::definitions::ether_base#def.arp_bytes),
+    /// [`eth_ipv4_view`](crate::definitions::ether_arp#def.eth_ipv4_view),
+    /// [`FitsArp`](crate::definitions::ether_base#def.FitsArp). [Notation](crate::definitions::notation)
     ///
     /// </details>
     #[must_use]
@@ -118,6 +127,11 @@ impl ArpEthIpv4Packet {
     /// ensures reads_back { (r : Result ArpEthIpv4Packet from_error)
     ///     → AnswersEthIpv4 result r → r ≡ Ok self.now }
     /// ```
+    ///
+    /// Words: [`eth_ipv4_view`](crate::definitions::ether_arp#def.eth_ipv4_view),
+    /// [`arp_bytes`](crate::definitions::ether_base#def.arp_bytes),
+    /// [`eth_ipv4_bytes`](crate::definitions::ether_arp#def.eth_ipv4_bytes), `from_error` (`ArpEthIpv4FromError`),
+    /// [`AnswersEthIpv4`](crate::definitions::ether_arp#def.AnswersEthIpv4). [Notation](crate::definitions::notation)
     ///
     /// </details>
     #[must_use]

@@ -37,6 +37,12 @@ const FRONT_LEN: usize = 8;
 /// ensures short { IfErr result (λ e. length slice.now < e.required_len) }
 /// ```
 ///
+/// Words: [`arp_len`](crate::definitions::ether_base#def.arp_len),
+/// [`arp_front_in`](crate::definitions::ether_base#def.arp_front_in),
+/// [`BeginsWithArp`](crate::definitions::ether_arp#def.BeginsWithArp),
+/// [`IsRefusedLen`](crate::definitions::ether_base#def.IsRefusedLen),
+/// [`kinds.Arp`](crate::definitions::ether_base#def.Kind). [Notation](crate::definitions::notation)
+///
 /// </details>
 #[inline]
 pub fn packet(slice: &[u8]) -> Result<&[u8], LenError> {
@@ -74,6 +80,9 @@ fn packet_len(packet: &[u8]) -> usize {
 /// ensures { result.0 ≡ (arp_front_in packet.now).hardware_type }
 /// ```
 ///
+/// Words: [`arp_front_in`](crate::definitions::ether_base#def.arp_front_in).
+/// [Notation](crate::definitions::notation)
+///
 /// </details>
 #[must_use]
 #[inline]
@@ -93,6 +102,9 @@ pub fn hw_addr_type(packet: &[u8]) -> ArpHardwareId {
 /// requires { 8 ≤ length packet.now }
 /// ensures { result.0 ≡ (arp_front_in packet.now).protocol_type }
 /// ```
+///
+/// Words: [`arp_front_in`](crate::definitions::ether_base#def.arp_front_in).
+/// [Notation](crate::definitions::notation)
 ///
 /// </details>
 #[must_use]
@@ -114,6 +126,9 @@ pub fn proto_addr_type(packet: &[u8]) -> EtherType {
 /// ensures { result ≡ (arp_front_in packet.now).hardware_size }
 /// ```
 ///
+/// Words: [`arp_front_in`](crate::definitions::ether_base#def.arp_front_in).
+/// [Notation](crate::definitions::notation)
+///
 /// </details>
 #[must_use]
 #[inline]
@@ -134,6 +149,9 @@ pub fn hw_addr_size(packet: &[u8]) -> u8 {
 /// ensures { result ≡ (arp_front_in packet.now).protocol_size }
 /// ```
 ///
+/// Words: [`arp_front_in`](crate::definitions::ether_base#def.arp_front_in).
+/// [Notation](crate::definitions::notation)
+///
 /// </details>
 #[must_use]
 #[inline]
@@ -153,6 +171,9 @@ pub fn proto_addr_size(packet: &[u8]) -> u8 {
 /// requires { 8 ≤ length packet.now }
 /// ensures { result.0 ≡ (arp_front_in packet.now).operation }
 /// ```
+///
+/// Words: [`arp_front_in`](crate::definitions::ether_base#def.arp_front_in).
+/// [Notation](crate::definitions::notation)
 ///
 /// </details>
 #[must_use]
@@ -175,6 +196,10 @@ pub fn operation(packet: &[u8]) -> ArpOperation {
 /// ensures len { length result.now ≡ (arp_front_in packet.now).hardware_size }
 /// ensures fits { length result.now ≤ 255 }
 /// ```
+///
+/// Words: [`BeginsWithArp`](crate::definitions::ether_arp#def.BeginsWithArp),
+/// [`arp_of`](crate::definitions::ether_base#def.arp_of),
+/// [`arp_front_in`](crate::definitions::ether_base#def.arp_front_in). [Notation](crate::definitions::notation)
 ///
 /// </details>
 #[must_use]
@@ -199,6 +224,10 @@ pub fn sender_hw_addr(packet: &[u8]) -> &[u8] {
 /// ensures fits { length result.now ≤ 255 }
 /// ```
 ///
+/// Words: [`BeginsWithArp`](crate::definitions::ether_arp#def.BeginsWithArp),
+/// [`arp_of`](crate::definitions::ether_base#def.arp_of),
+/// [`arp_front_in`](crate::definitions::ether_base#def.arp_front_in). [Notation](crate::definitions::notation)
+///
 /// </details>
 #[must_use]
 #[inline]
@@ -221,6 +250,10 @@ pub fn sender_protocol_addr(packet: &[u8]) -> &[u8] {
 /// ensures len { length result.now ≡ (arp_front_in packet.now).hardware_size }
 /// ensures fits { length result.now ≤ 255 }
 /// ```
+///
+/// Words: [`BeginsWithArp`](crate::definitions::ether_arp#def.BeginsWithArp),
+/// [`arp_of`](crate::definitions::ether_base#def.arp_of),
+/// [`arp_front_in`](crate::definitions::ether_base#def.arp_front_in). [Notation](crate::definitions::notation)
 ///
 /// </details>
 #[must_use]
@@ -245,6 +278,10 @@ pub fn target_hw_addr(packet: &[u8]) -> &[u8] {
 /// ensures len { length result.now ≡ (arp_front_in packet.now).protocol_size }
 /// ensures fits { length result.now ≤ 255 }
 /// ```
+///
+/// Words: [`BeginsWithArp`](crate::definitions::ether_arp#def.BeginsWithArp),
+/// [`arp_of`](crate::definitions::ether_base#def.arp_of),
+/// [`arp_front_in`](crate::definitions::ether_base#def.arp_front_in). [Notation](crate::definitions::notation)
 ///
 /// </details>
 #[must_use]

@@ -15,6 +15,11 @@
 ///     (result ≡ spelled 8 (arp_front_number front)) × FitsArpFront front }
 /// ```
 ///
+/// Words: [`ArpFront`](crate::definitions::ether_base#def.ArpFront),
+/// [`spelled`](crate::definitions::ether_base#def.spelled),
+/// [`arp_front_number`](crate::definitions::ether_base#def.arp_front_number),
+/// [`FitsArpFront`](crate::definitions::ether_base#def.FitsArpFront). [Notation](crate::definitions::notation)
+///
 /// </details>
 #[must_use]
 #[inline]

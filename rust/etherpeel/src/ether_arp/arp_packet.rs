@@ -87,6 +87,9 @@ impl ArpPacket {
     /// }) }
     /// ```
     ///
+    /// Words: [`AnswersAddrs`](crate::definitions::ether_arp#def.AnswersAddrs).
+    /// [Notation](crate::definitions::notation)
+    ///
     /// </details>
     #[inline]
     pub fn new(
@@ -166,6 +169,11 @@ impl ArpPacket {
     /// ensures short { IfErr result (λ e. length slice.now < e.required_len) }
     /// ```
     ///
+    /// Words: [`Accepts`](crate::definitions::ether_base#def.Accepts), `sources` (`LenSource`),
+    /// [`kinds.Arp`](crate::definitions::ether_base#def.Kind), [`Means`](crate::definitions::ether_base#def.Means),
+    /// [`headers.Arp`](crate::definitions::ether_base#def.Header),
+    /// [`IsRefusedLen`](crate::definitions::ether_base#def.IsRefusedLen). [Notation](crate::definitions::notation)
+    ///
     /// </details>
     #[inline]
     pub fn from_slice(slice: &[u8]) -> Result<ArpPacket, LenError> {
@@ -180,6 +188,8 @@ impl ArpPacket {
     /// ensures sender { result ≡ length self.now.sender_hardware }
     /// ensures target { result ≡ length self.now.target_hardware }
     /// ```
+    ///
+    /// [Notation](crate::definitions::notation)
     ///
     /// </details>
     #[must_use]
@@ -197,6 +207,8 @@ impl ArpPacket {
     /// ensures target { result ≡ length self.now.target_protocol }
     /// ```
     ///
+    /// [Notation](crate::definitions::notation)
+    ///
     /// </details>
     #[must_use]
     #[inline]
@@ -211,6 +223,8 @@ impl ArpPacket {
     /// ```text
     /// ensures { result.now ≡ self.now.sender_hardware }
     /// ```
+    ///
+    /// [Notation](crate::definitions::notation)
     ///
     /// </details>
     #[must_use]
@@ -227,6 +241,8 @@ impl ArpPacket {
     /// ensures { result.now ≡ self.now.sender_protocol }
     /// ```
     ///
+    /// [Notation](crate::definitions::notation)
+    ///
     /// </details>
     #[must_use]
     #[inline]
@@ -242,6 +258,8 @@ impl ArpPacket {
     /// ensures { result.now ≡ self.now.target_hardware }
     /// ```
     ///
+    /// [Notation](crate::definitions::notation)
+    ///
     /// </details>
     #[must_use]
     #[inline]
@@ -256,6 +274,8 @@ impl ArpPacket {
     /// ```text
     /// ensures { result.now ≡ self.now.target_protocol }
     /// ```
+    ///
+    /// [Notation](crate::definitions::notation)
     ///
     /// </details>
     #[must_use]
@@ -283,6 +303,9 @@ impl ArpPacket {
     /// ensures unchanged { OnErr result (self.new ≡ self.old) }
     /// ```
     ///
+    /// Words: [`AnswersHwAddrs`](crate::definitions::ether_arp#def.AnswersHwAddrs).
+    /// [Notation](crate::definitions::notation)
+    ///
     /// </details>
     #[inline]
     pub fn set_hw_addrs(
@@ -297,8 +320,8 @@ impl ArpPacket {
         if len > MAX_ADDR_LEN {
             return Err(ArpHwAddrError::LenTooBig(len));
         }
-        arp_addrs::replace(&mut self.sender_hw_addr, sender_hw_addr);
-        arp_addrs::replace(&mut self.target_hw_addr, target_hw_addr);
+        self.sender_hw_addr = arp_addrs::address(sender_hw_addr);
+        self.target_hw_addr = arp_addrs::address(target_hw_addr);
         Ok(())
     }
 
@@ -321,6 +344,9 @@ impl ArpPacket {
     /// ensures unchanged { OnErr result (self.new ≡ self.old) }
     /// ```
     ///
+    /// Words: [`AnswersProtoAddrs`](crate::definitions::ether_arp#def.AnswersProtoAddrs).
+    /// [Notation](crate::definitions::notation)
+    ///
     /// </details>
     #[inline]
     pub fn set_protocol_addrs(
@@ -335,8 +361,8 @@ impl ArpPacket {
         if len > MAX_ADDR_LEN {
             return Err(ArpProtoAddrError::LenTooBig(len));
         }
-        arp_addrs::replace(&mut self.sender_protocol_addr, sender_protocol_addr);
-        arp_addrs::replace(&mut self.target_protocol_addr, target_protocol_addr);
+        self.sender_protocol_addr = arp_addrs::address(sender_protocol_addr);
+        self.target_protocol_addr = arp_addrs::address(target_protocol_addr);
         Ok(())
     }
 
@@ -348,6 +374,9 @@ impl ArpPacket {
     /// ensures value { result ≡ arp_len (arp_front_of self.now) }
     /// ensures bound { result ≤ 1028 }
     /// ```
+    ///
+    /// Words: [`arp_len`](crate::definitions::ether_base#def.arp_len),
+    /// [`arp_front_of`](crate::definitions::ether_base#def.arp_front_of). [Notation](crate::definitions::notation)
     ///
     /// </details>
     #[must_use]
@@ -370,6 +399,14 @@ impl ArpPacket {
     ///     → Accepts sources.Slice (result.items ++ more) kinds.Arp }
     /// ensures read { (more : List ℕ) → Means (result.items ++ more) (headers.Arp self.now) }
     /// ```
+    ///
+    /// Words: [`arp_bytes`](crate::definitions::ether_base#def.arp_bytes),
+    /// [`arp_len`](crate::definitions::ether_base#def.arp_len),
+    /// [`arp_front_of`](crate::definitions::ether_base#def.arp_front_of),
+    /// [`FitsArp`](crate::definitions::ether_base#def.FitsArp),
+    /// [`Accepts`](crate::definitions::ether_base#def.Accepts), `sources` (`LenSource`),
+    /// [`kinds.Arp`](crate::definitions::ether_base#def.Kind), [`Means`](crate::definitions::ether_base#def.Means),
+    /// [`headers.Arp`](crate::definitions::ether_base#def.Header). [Notation](crate::definitions::notation)
     ///
     /// </details>
     #[must_use]
@@ -418,6 +455,9 @@ impl ArpPacket {
     /// ```text
     /// ensures { AnswersEthIpv4 self.now result }
     /// ```
+    ///
+    /// Words: [`AnswersEthIpv4`](crate::definitions::ether_arp#def.AnswersEthIpv4).
+    /// [Notation](crate::definitions::notation)
     ///
     /// </details>
     #[inline]

@@ -53,6 +53,14 @@ impl<'a> ArpPacketSlice<'a> {
     /// ensures short { IfErr result (λ e. length slice.now < e.required_len) }
     /// ```
     ///
+    /// Words: [`arp_len`](crate::definitions::ether_base#def.arp_len),
+    /// [`arp_front_in`](crate::definitions::ether_base#def.arp_front_in),
+    /// [`Accepts`](crate::definitions::ether_base#def.Accepts), `sources` (`LenSource`),
+    /// [`kinds.Arp`](crate::definitions::ether_base#def.Kind), [`Means`](crate::definitions::ether_base#def.Means),
+    /// [`headers.Arp`](crate::definitions::ether_base#def.Header),
+    /// [`arp_of`](crate::definitions::ether_base#def.arp_of),
+    /// [`IsRefusedLen`](crate::definitions::ether_base#def.IsRefusedLen). [Notation](crate::definitions::notation)
+    ///
     /// </details>
     #[inline]
     pub fn from_slice(slice: &'a [u8]) -> Result<ArpPacketSlice<'a>, LenError> {
@@ -70,6 +78,9 @@ impl<'a> ArpPacketSlice<'a> {
     /// ensures len { length result.now ≡ arp_len (arp_front_in self.now) }
     /// ```
     ///
+    /// Words: [`arp_len`](crate::definitions::ether_base#def.arp_len),
+    /// [`arp_front_in`](crate::definitions::ether_base#def.arp_front_in). [Notation](crate::definitions::notation)
+    ///
     /// </details>
     #[must_use]
     #[inline]
@@ -85,6 +96,8 @@ impl<'a> ArpPacketSlice<'a> {
     /// ensures { result.0 ≡ (arp_of self.now).hardware_type }
     /// ```
     ///
+    /// Words: [`arp_of`](crate::definitions::ether_base#def.arp_of). [Notation](crate::definitions::notation)
+    ///
     /// </details>
     #[must_use]
     #[inline]
@@ -99,6 +112,8 @@ impl<'a> ArpPacketSlice<'a> {
     /// ```text
     /// ensures { result.0 ≡ (arp_of self.now).protocol_type }
     /// ```
+    ///
+    /// Words: [`arp_of`](crate::definitions::ether_base#def.arp_of). [Notation](crate::definitions::notation)
     ///
     /// </details>
     #[must_use]
@@ -117,6 +132,9 @@ impl<'a> ArpPacketSlice<'a> {
     /// ensures target { result ≡ length (arp_of self.now).target_hardware }
     /// ```
     ///
+    /// Words: [`arp_front_in`](crate::definitions::ether_base#def.arp_front_in),
+    /// [`arp_of`](crate::definitions::ether_base#def.arp_of). [Notation](crate::definitions::notation)
+    ///
     /// </details>
     #[must_use]
     #[inline]
@@ -134,6 +152,9 @@ impl<'a> ArpPacketSlice<'a> {
     /// ensures target { result ≡ length (arp_of self.now).target_protocol }
     /// ```
     ///
+    /// Words: [`arp_front_in`](crate::definitions::ether_base#def.arp_front_in),
+    /// [`arp_of`](crate::definitions::ether_base#def.arp_of). [Notation](crate::definitions::notation)
+    ///
     /// </details>
     #[must_use]
     #[inline]
@@ -148,6 +169,8 @@ impl<'a> ArpPacketSlice<'a> {
     /// ```text
     /// ensures { result.0 ≡ (arp_of self.now).operation }
     /// ```
+    ///
+    /// Words: [`arp_of`](crate::definitions::ether_base#def.arp_of). [Notation](crate::definitions::notation)
     ///
     /// </details>
     #[must_use]
@@ -164,6 +187,8 @@ impl<'a> ArpPacketSlice<'a> {
     /// ensures { result.now ≡ (arp_of self.now).sender_hardware }
     /// ```
     ///
+    /// Words: [`arp_of`](crate::definitions::ether_base#def.arp_of). [Notation](crate::definitions::notation)
+    ///
     /// </details>
     #[must_use]
     #[inline]
@@ -178,6 +203,8 @@ impl<'a> ArpPacketSlice<'a> {
     /// ```text
     /// ensures { result.now ≡ (arp_of self.now).sender_protocol }
     /// ```
+    ///
+    /// Words: [`arp_of`](crate::definitions::ether_base#def.arp_of). [Notation](crate::definitions::notation)
     ///
     /// </details>
     #[must_use]
@@ -194,6 +221,8 @@ impl<'a> ArpPacketSlice<'a> {
     /// ensures { result.now ≡ (arp_of self.now).target_hardware }
     /// ```
     ///
+    /// Words: [`arp_of`](crate::definitions::ether_base#def.arp_of). [Notation](crate::definitions::notation)
+    ///
     /// </details>
     #[must_use]
     #[inline]
@@ -209,6 +238,8 @@ impl<'a> ArpPacketSlice<'a> {
     /// ensures { result.now ≡ (arp_of self.now).target_protocol }
     /// ```
     ///
+    /// Words: [`arp_of`](crate::definitions::ether_base#def.arp_of). [Notation](crate::definitions::notation)
+    ///
     /// </details>
     #[must_use]
     #[inline]
@@ -223,6 +254,8 @@ impl<'a> ArpPacketSlice<'a> {
     /// ```text
     /// ensures { result ≡ arp_of self.now }
     /// ```
+    ///
+    /// Words: [`arp_of`](crate::definitions::ether_base#def.arp_of). [Notation](crate::definitions::notation)
     ///
     /// </details>
     #[must_use]

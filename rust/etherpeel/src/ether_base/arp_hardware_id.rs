@@ -309,6 +309,9 @@ impl ArpHardwareId {
     /// ensures { option_copied result ≡ arp_hardware_description self.now.0 }
     /// ```
     ///
+    /// Words: [`arp_hardware_description`](crate::definitions::ether_base#def.arp_hardware_description).
+    /// [Notation](crate::definitions::notation)
+    ///
     /// </details>
     #[must_use]
     #[inline]

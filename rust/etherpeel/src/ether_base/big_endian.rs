@@ -9,6 +9,9 @@
 /// ensures bytes { IsBytes bytes }
 /// ```
 ///
+/// Words: [`number`](crate::definitions::ether_base#def.number),
+/// [`IsBytes`](crate::definitions::ether_base#def.IsBytes). [Notation](crate::definitions::notation)
+///
 /// </details>
 #[must_use]
 #[inline]
@@ -24,6 +27,9 @@ pub fn u16_of(bytes: [u8; 2]) -> u16 {
 /// ensures value { result ≡ number bytes }
 /// ensures bytes { IsBytes bytes }
 /// ```
+///
+/// Words: [`number`](crate::definitions::ether_base#def.number),
+/// [`IsBytes`](crate::definitions::ether_base#def.IsBytes). [Notation](crate::definitions::notation)
 ///
 /// </details>
 #[must_use]
@@ -41,6 +47,9 @@ pub fn u32_of(bytes: [u8; 4]) -> u32 {
 /// ensures bytes { IsBytes bytes }
 /// ```
 ///
+/// Words: [`number`](crate::definitions::ether_base#def.number),
+/// [`IsBytes`](crate::definitions::ether_base#def.IsBytes). [Notation](crate::definitions::notation)
+///
 /// </details>
 #[must_use]
 #[inline]
@@ -57,6 +66,8 @@ pub fn u64_of(bytes: [u8; 8]) -> u64 {
 /// ensures value { result ≡ number (take 2 field.now) }
 /// ensures field { length field.now ≤ 2 → result ≡ number field.now }
 /// ```
+///
+/// Words: [`number`](crate::definitions::ether_base#def.number). [Notation](crate::definitions::notation)
 ///
 /// </details>
 #[must_use]
@@ -77,6 +88,8 @@ pub fn u16_in(field: &[u8]) -> u16 {
 /// ensures field { length field.now ≤ 4 → result ≡ number field.now }
 /// ```
 ///
+/// Words: [`number`](crate::definitions::ether_base#def.number). [Notation](crate::definitions::notation)
+///
 /// </details>
 #[must_use]
 #[inline(always)]
@@ -95,6 +108,8 @@ pub fn u32_in(field: &[u8]) -> u32 {
 /// ensures value { result ≡ number (take 8 field.now) }
 /// ensures field { length field.now ≤ 8 → result ≡ number field.now }
 /// ```
+///
+/// Words: [`number`](crate::definitions::ether_base#def.number). [Notation](crate::definitions::notation)
 ///
 /// </details>
 #[must_use]
@@ -115,6 +130,8 @@ pub fn u64_in(field: &[u8]) -> u64 {
 /// ensures { result ≡ number (slice_range bytes.now at (at + 2)) }
 /// ```
 ///
+/// Words: [`number`](crate::definitions::ether_base#def.number). [Notation](crate::definitions::notation)
+///
 /// </details>
 #[must_use]
 #[inline(always)]
@@ -133,6 +150,8 @@ pub fn u16_at(bytes: &[u8], at: usize) -> u16 {
 /// ```text
 /// ensures { result ≡ number (slice_range bytes.now at (at + 4)) }
 /// ```
+///
+/// Words: [`number`](crate::definitions::ether_base#def.number). [Notation](crate::definitions::notation)
 ///
 /// </details>
 #[must_use]
@@ -153,6 +172,8 @@ pub fn u32_at(bytes: &[u8], at: usize) -> u32 {
 /// ensures { result ≡ number (slice_range bytes.now at (at + 8)) }
 /// ```
 ///
+/// Words: [`number`](crate::definitions::ether_base#def.number). [Notation](crate::definitions::notation)
+///
 /// </details>
 #[must_use]
 #[inline(always)]
@@ -172,6 +193,8 @@ pub fn u64_at(bytes: &[u8], at: usize) -> u64 {
 /// ensures within { IfSome result (λ _. at + N ≤ length bytes.now) }
 /// ensures none { IfNone result (length bytes.now < at + N) }
 /// ```
+///
+/// [Notation](crate::definitions::notation)
 ///
 /// </details>
 #[must_use]
@@ -210,6 +233,8 @@ fn number_of(bytes: &[u8]) -> u64 {
 /// ensures { result ≡ spelled 2 number }
 /// ```
 ///
+/// Words: [`spelled`](crate::definitions::ether_base#def.spelled). [Notation](crate::definitions::notation)
+///
 /// </details>
 #[must_use]
 #[inline]
@@ -225,6 +250,8 @@ pub fn bytes_of_u16(number: u16) -> [u8; 2] {
 /// ensures { result ≡ spelled 4 number }
 /// ```
 ///
+/// Words: [`spelled`](crate::definitions::ether_base#def.spelled). [Notation](crate::definitions::notation)
+///
 /// </details>
 #[must_use]
 #[inline]
@@ -239,6 +266,8 @@ pub fn bytes_of_u32(number: u32) -> [u8; 4] {
 /// ```text
 /// ensures { result ≡ spelled 8 number }
 /// ```
+///
+/// Words: [`spelled`](crate::definitions::ether_base#def.spelled). [Notation](crate::definitions::notation)
 ///
 /// </details>
 #[must_use]

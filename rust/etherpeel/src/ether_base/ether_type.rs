@@ -82,6 +82,9 @@ impl EtherType {
     /// ensures { option_copied result ≡ ether_type_description self.now.0 }
     /// ```
     ///
+    /// Words: [`ether_type_description`](crate::definitions::ether_base#def.ether_type_description).
+    /// [Notation](crate::definitions::notation)
+    ///
     /// </details>
     #[must_use]
     #[inline]
@@ -117,6 +120,9 @@ impl EtherType {
     /// ```text
     /// ensures { result ≡ is_vlan_ether_type self.0 }
     /// ```
+    ///
+    /// Words: [`is_vlan_ether_type`](crate::definitions::ether_base#def.is_vlan_ether_type).
+    /// [Notation](crate::definitions::notation)
     ///
     /// </details>
     #[must_use]

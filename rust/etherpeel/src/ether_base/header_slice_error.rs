@@ -32,6 +32,9 @@ impl<E: Copy> HeaderSliceError<E> {
     /// ensures { result ≡ moved offset self }
     /// ```
     ///
+    /// Words: [`FitsMoved`](crate::definitions::ether_base#def.FitsMoved),
+    /// [`moved`](crate::definitions::ether_base#def.moved). [Notation](crate::definitions::notation)
+    ///
     /// </details>
     #[must_use]
     #[inline]

@@ -49,6 +49,9 @@ impl LinuxSllProtocolType {
     /// ensures { self.new ≡ with_number self.old value }
     /// ```
     ///
+    /// Words: [`with_number`](crate::definitions::ether_base#def.with_number).
+    /// [Notation](crate::definitions::notation)
+    ///
     /// </details>
     #[inline]
     pub fn change_value(&mut self, value: u16) {

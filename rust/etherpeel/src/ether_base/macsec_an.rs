@@ -36,6 +36,8 @@ impl MacsecAn {
     /// ensures err { IfErr result (λ e. e ≡ too_big value 3 ValueType.MacsecAn) }
     /// ```
     ///
+    /// Words: [`too_big`](crate::definitions::ether_base#def.too_big). [Notation](crate::definitions::notation)
+    ///
     /// </details>
     #[inline]
     pub const fn try_new(value: u8) -> Result<MacsecAn, ValueTooBigError<u8>> {
@@ -58,6 +60,8 @@ impl MacsecAn {
     /// ensures value { result ≡ self }
     /// ensures bound { result ≤ 3 }
     /// ```
+    ///
+    /// [Notation](crate::definitions::notation)
     ///
     /// </details>
     #[must_use]

@@ -43,6 +43,8 @@ impl MacsecShortLen {
     /// ensures err { IfErr result (λ e. e ≡ too_big value 63 ValueType.MacsecShortLen) }
     /// ```
     ///
+    /// Words: [`too_big`](crate::definitions::ether_base#def.too_big). [Notation](crate::definitions::notation)
+    ///
     /// </details>
     #[inline]
     pub const fn try_from_u8(value: u8) -> Result<MacsecShortLen, ValueTooBigError<u8>> {
@@ -67,6 +69,8 @@ impl MacsecShortLen {
     /// ensures unnamed { 63 < len → result ≡ 0 }
     /// ```
     ///
+    /// [Notation](crate::definitions::notation)
+    ///
     /// </details>
     #[must_use]
     #[inline]
@@ -86,6 +90,8 @@ impl MacsecShortLen {
     /// ensures value { result ≡ self }
     /// ensures bound { result ≤ 63 }
     /// ```
+    ///
+    /// [Notation](crate::definitions::notation)
     ///
     /// </details>
     #[must_use]

@@ -17,6 +17,8 @@ use crate::ether_base::err::{Layer, LenError};
 /// } }
 /// ```
 ///
+/// [Notation](crate::definitions::notation)
+///
 /// </details>
 #[must_use]
 #[inline]

@@ -36,6 +36,8 @@ impl VlanId {
     /// ensures err { IfErr result (λ e. e ≡ too_big value 4095 ValueType.VlanId) }
     /// ```
     ///
+    /// Words: [`too_big`](crate::definitions::ether_base#def.too_big). [Notation](crate::definitions::notation)
+    ///
     /// </details>
     #[inline]
     pub const fn try_new(value: u16) -> Result<VlanId, ValueTooBigError<u16>> {
@@ -58,6 +60,8 @@ impl VlanId {
     /// ensures value { result ≡ self }
     /// ensures bound { result ≤ 4095 }
     /// ```
+    ///
+    /// [Notation](crate::definitions::notation)
     ///
     /// </details>
     #[must_use]

@@ -36,6 +36,8 @@ impl VlanPcp {
     /// ensures err { IfErr result (λ e. e ≡ too_big value 7 ValueType.VlanPcp) }
     /// ```
     ///
+    /// Words: [`too_big`](crate::definitions::ether_base#def.too_big). [Notation](crate::definitions::notation)
+    ///
     /// </details>
     #[inline]
     pub const fn try_new(value: u8) -> Result<VlanPcp, ValueTooBigError<u8>> {
@@ -58,6 +60,8 @@ impl VlanPcp {
     /// ensures value { result ≡ self }
     /// ensures bound { result ≤ 7 }
     /// ```
+    ///
+    /// [Notation](crate::definitions::notation)
     ///
     /// </details>
     #[must_use]

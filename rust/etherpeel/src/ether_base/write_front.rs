@@ -12,6 +12,8 @@ use crate::ether_base::err::{Layer, SliceWriteSpaceError};
 /// ensures kept { length slice.old < N → result.now ≡ slice.old }
 /// ```
 ///
+/// [Notation](crate::definitions::notation)
+///
 /// </details>
 #[inline]
 pub fn put<const N: usize>(bytes: [u8; N], slice: &mut [u8]) -> &mut [u8] {
@@ -34,6 +36,9 @@ pub fn put<const N: usize>(bytes: [u8; N], slice: &mut [u8]) -> &mut [u8] {
 /// ensures* writes_back { sem 𝓛 (LendsRest (take required_len slice.old) slice.entry result) }
 /// ensures answers { AnswersRest required_len layer slice.old result }
 /// ```
+///
+/// Words: [`LendsRest`](crate::definitions::ether_base#def.LendsRest),
+/// [`AnswersRest`](crate::definitions::ether_base#def.AnswersRest). [Notation](crate::definitions::notation)
 ///
 /// </details>
 #[inline]

@@ -52,6 +52,11 @@ impl<'a> Content<'a> {
     /// ensures { content_view result ≡ content_of (captured_packet_view packet.now) }
     /// ```
     ///
+    /// Words: [`content_view`](crate::definitions::ether_content#def.content_view),
+    /// [`content_of`](crate::definitions::ether_content#def.content_of),
+    /// [`captured_packet_view`](crate::definitions::ether_pcap#def.captured_packet_view).
+    /// [Notation](crate::definitions::notation)
+    ///
     /// </details>
     #[must_use]
     #[inline(always)]
@@ -79,6 +84,9 @@ impl<'a> Content<'a> {
     /// ensures { result ≡ is_unknown (content_view self.entry) }
     /// ```
     ///
+    /// Words: [`is_unknown`](crate::definitions::ether_content#def.is_unknown),
+    /// [`content_view`](crate::definitions::ether_content#def.content_view). [Notation](crate::definitions::notation)
+    ///
     /// </details>
     #[must_use]
     #[inline(always)]
@@ -97,6 +105,11 @@ impl<'a> Content<'a> {
     /// ensures none { result ≡ None → (next : Next) (bytes : List ℕ) → IsWalked (content_view self.entry) next bytes
     ///     → ⊥ }
     /// ```
+    ///
+    /// Words: [`IsWalked`](crate::definitions::ether_content#def.IsWalked),
+    /// [`content_view`](crate::definitions::ether_content#def.content_view),
+    /// [`next_of`](crate::definitions::ether_peel#def.next_of), [`Next`](crate::definitions::ether_peel#def.Next).
+    /// [Notation](crate::definitions::notation)
     ///
     /// </details>
     #[must_use]
@@ -142,6 +155,10 @@ pub(in crate::ether_content) fn payload_of(bytes: &[u8]) -> Option<(Start, &[u8]
 /// ensures { result ≡ is_cut (captured_packet_view packet.now) }
 /// ```
 ///
+/// Words: [`is_cut`](crate::definitions::ether_content#def.is_cut),
+/// [`captured_packet_view`](crate::definitions::ether_pcap#def.captured_packet_view).
+/// [Notation](crate::definitions::notation)
+///
 /// </details>
 #[must_use]
 #[inline(always)]
@@ -185,6 +202,10 @@ fn has_fcs(packet: &CapturedPacket<'_>) -> bool {
 /// ```text
 /// ensures { result.now ≡ without_fcs (captured_packet_view packet.now) }
 /// ```
+///
+/// Words: [`without_fcs`](crate::definitions::ether_content#def.without_fcs),
+/// [`captured_packet_view`](crate::definitions::ether_pcap#def.captured_packet_view).
+/// [Notation](crate::definitions::notation)
 ///
 /// </details>
 #[must_use]

@@ -45,6 +45,9 @@ impl PacketEdit {
     /// ensures { result ≡ growth (edit_view self) }
     /// ```
     ///
+    /// Words: [`growth`](crate::definitions::ether_content#def.growth),
+    /// [`edit_view`](crate::definitions::ether_content#def.edit_view). [Notation](crate::definitions::notation)
+    ///
     /// </details>
     #[must_use]
     #[inline]
@@ -132,6 +135,11 @@ const FREE: usize = 4;
 /// ensures room { OnOk result (length packet.now.packet.now + 4 ≤ length buffer.old) }
 /// ensures no_room { OnErr result (length buffer.old < length packet.now.packet.now + 4) }
 /// ```
+///
+/// Words: [`Edits`](crate::definitions::ether_content#def.Edits),
+/// [`edit_view`](crate::definitions::ether_content#def.edit_view),
+/// [`captured_packet_view`](crate::definitions::ether_pcap#def.captured_packet_view),
+/// [`edited_view`](crate::definitions::ether_content#def.edited_view). [Notation](crate::definitions::notation)
 ///
 /// </details>
 #[inline]

@@ -38,6 +38,11 @@ use crate::ether_sll2::{LinuxSll2Header, LinuxSll2Slice};
 /// ensures { HeadersTake (content_of (captured_packet_view packet.now)) result }
 /// ```
 ///
+/// Words: [`HeadersTake`](crate::definitions::ether_content#def.HeadersTake),
+/// [`content_of`](crate::definitions::ether_content#def.content_of),
+/// [`captured_packet_view`](crate::definitions::ether_pcap#def.captured_packet_view).
+/// [Notation](crate::definitions::notation)
+///
 /// </details>
 #[must_use]
 #[inline]

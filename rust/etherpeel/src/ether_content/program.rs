@@ -17,6 +17,12 @@ use crate::ether_sll2::LinuxSll2Header;
 ///     ↔ Selects x (captured_packet_view packet.now) }
 /// ```
 ///
+/// Words: [`Expression`](crate::definitions::ether_filter#def.Expression),
+/// [`IsProgramOf`](crate::definitions::ether_filter#def.IsProgramOf),
+/// [`Selects`](crate::definitions::ether_content#def.Selects),
+/// [`captured_packet_view`](crate::definitions::ether_pcap#def.captured_packet_view).
+/// [Notation](crate::definitions::notation)
+///
 /// </details>
 #[must_use]
 #[inline]
@@ -57,6 +63,12 @@ fn holds(
 /// ensures { (x : Expression) → IsProgramOf instructions.now x → IsTrue result
 ///     ↔ IsUndecided x (captured_packet_view packet.now) }
 /// ```
+///
+/// Words: [`Expression`](crate::definitions::ether_filter#def.Expression),
+/// [`IsProgramOf`](crate::definitions::ether_filter#def.IsProgramOf),
+/// [`IsUndecided`](crate::definitions::ether_content#def.IsUndecided),
+/// [`captured_packet_view`](crate::definitions::ether_pcap#def.captured_packet_view).
+/// [Notation](crate::definitions::notation)
 ///
 /// </details>
 #[must_use]

@@ -39,6 +39,10 @@ use crate::ether_pcap::CapturedPacket;
 /// ensures { IsTrue result ↔ Selects filter.now (captured_packet_view packet.now) }
 /// ```
 ///
+/// Words: [`Selects`](crate::definitions::ether_content#def.Selects),
+/// [`captured_packet_view`](crate::definitions::ether_pcap#def.captured_packet_view).
+/// [Notation](crate::definitions::notation)
+///
 /// </details>
 #[must_use]
 #[inline]
@@ -81,6 +85,10 @@ pub fn selects(filter: &Filter, packet: &CapturedPacket<'_>) -> bool {
 /// ```text
 /// ensures { IsTrue result ↔ IsUndecided filter.now (captured_packet_view packet.now) }
 /// ```
+///
+/// Words: [`IsUndecided`](crate::definitions::ether_content#def.IsUndecided),
+/// [`captured_packet_view`](crate::definitions::ether_pcap#def.captured_packet_view).
+/// [Notation](crate::definitions::notation)
 ///
 /// </details>
 #[must_use]

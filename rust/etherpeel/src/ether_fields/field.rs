@@ -64,6 +64,10 @@ impl Field {
     /// ensures column { IfSome result (λ it. it.1.now.column.now ≡ column_name it.0 (field_view it.1.now)) }
     /// ```
     ///
+    /// Words: [`field_view`](crate::definitions::ether_fields#def.field_view),
+    /// [`field_numbered`](crate::definitions::ether_fields#def.field_numbered),
+    /// [`column_name`](crate::definitions::ether_fields#def.column_name). [Notation](crate::definitions::notation)
+    ///
     /// </details>
     #[must_use]
     #[inline]

@@ -31,6 +31,9 @@ const PLACE_LEN: usize = 5;
 /// ensures { result.items ≡ placed part.now 0 (drop 5 (section_rows section)) }
 /// ```
 ///
+/// Words: [`placed`](crate::definitions::ether_fields#def.placed),
+/// [`section_rows`](crate::definitions::ether_fields#def.section_rows). [Notation](crate::definitions::notation)
+///
 /// </details>
 #[must_use]
 #[inline]

@@ -20,6 +20,9 @@ use crate::ether_fields::names::{
 /// ensures { option_map (λ s. s.now) result ≡ description_in (names_of kind) number }
 /// ```
 ///
+/// Words: [`description_in`](crate::definitions::ether_base#def.description_in),
+/// [`names_of`](crate::definitions::ether_fields#def.names_of). [Notation](crate::definitions::notation)
+///
 /// </details>
 #[must_use]
 #[inline(always)]

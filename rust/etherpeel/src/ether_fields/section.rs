@@ -37,6 +37,9 @@ impl Section {
     /// ensures { result.now ≡ section_name self }
     /// ```
     ///
+    /// Words: [`section_name`](crate::definitions::ether_fields#def.section_name).
+    /// [Notation](crate::definitions::notation)
+    ///
     /// </details>
     #[must_use]
     #[inline]
@@ -63,6 +66,9 @@ impl Section {
     /// ensures some { IfSome result (λ it. section_name it ≡ name.now) }
     /// ensures none { IfNone result ((it : DeclaredSection) → section_name it ≢ name.now) }
     /// ```
+    ///
+    /// Words: [`section_name`](crate::definitions::ether_fields#def.section_name), `DeclaredSection` (`Section`).
+    /// [Notation](crate::definitions::notation)
     ///
     /// </details>
     #[must_use]
@@ -92,6 +98,11 @@ impl Section {
     /// ensures keys { map (λ f. f.key.now) result.now ≡ keys_of (section_rows self) }
     /// ensures columns { map (λ f. f.column.now) result.now ≡ map (column_name self) (section_rows self) }
     /// ```
+    ///
+    /// Words: [`field_view`](crate::definitions::ether_fields#def.field_view),
+    /// [`section_rows`](crate::definitions::ether_fields#def.section_rows),
+    /// [`keys_of`](crate::definitions::ether_fields#def.keys_of),
+    /// [`column_name`](crate::definitions::ether_fields#def.column_name). [Notation](crate::definitions::notation)
     ///
     /// </details>
     #[must_use]

@@ -13,6 +13,9 @@ use crate::MacsecPType;
 /// ensures { result ≡ header_section (unit_header unit.now) }
 /// ```
 ///
+/// Words: [`header_section`](crate::definitions::ether_fields#def.header_section),
+/// [`unit_header`](crate::definitions::ether_peel#def.unit_header). [Notation](crate::definitions::notation)
+///
 /// </details>
 #[must_use]
 #[inline(always)]
@@ -33,6 +36,9 @@ pub fn section_of(unit: &PeelUnit<'_>) -> Section {
 /// ```text
 /// ensures { result ≡ header_sizes (unit_header unit.now) }
 /// ```
+///
+/// Words: [`header_sizes`](crate::definitions::ether_fields#def.header_sizes),
+/// [`unit_header`](crate::definitions::ether_peel#def.unit_header). [Notation](crate::definitions::notation)
 ///
 /// </details>
 #[must_use]

@@ -92,6 +92,9 @@ impl Filter {
     /// ensures err { IfErr result (RefusesText text.now) }
     /// ```
     ///
+    /// Words: [`IsExpressionOf`](crate::definitions::ether_filter#def.IsExpressionOf),
+    /// [`RefusesText`](crate::definitions::ether_filter#def.RefusesText). [Notation](crate::definitions::notation)
+    ///
     /// </details>
     #[inline]
     pub fn parse(text: &[u8]) -> Result<Filter, FilterError> {
@@ -112,6 +115,9 @@ impl Filter {
     /// ensures { IsProgramOf result.now self.now }
     /// ```
     ///
+    /// Words: [`IsProgramOf`](crate::definitions::ether_filter#def.IsProgramOf).
+    /// [Notation](crate::definitions::notation)
+    ///
     /// </details>
     #[must_use]
     #[inline]
@@ -128,6 +134,12 @@ impl Filter {
     /// ensures { (hs : List Header) (e : Ending) → Walk (start_of packet.now.start) packet.now.frame.now hs e
     ///     → IsTrue result ↔ Holds self.now (walked packet.now hs e) }
     /// ```
+    ///
+    /// Words: [`Header`](crate::definitions::ether_base#def.Header),
+    /// [`Ending`](crate::definitions::ether_peel#def.Ending), [`Walk`](crate::definitions::ether_peel#def.Walk),
+    /// [`start_of`](crate::definitions::ether_peel#def.start_of),
+    /// [`Holds`](crate::definitions::ether_filter#def.Holds),
+    /// [`walked`](crate::definitions::ether_filter#def.walked). [Notation](crate::definitions::notation)
     ///
     /// </details>
     #[must_use]
@@ -184,6 +196,15 @@ impl Filter {
     /// ensures needs { (n : ℕ) → result ≡ Decision.Needs n → StaysUnknown packet.now n self.now }
     /// ensures waits { (n : ℕ) → result ≡ Decision.Needs n → WaitsUntil packet.now n }
     /// ```
+    ///
+    /// Words: [`Header`](crate::definitions::ether_base#def.Header),
+    /// [`Ending`](crate::definitions::ether_peel#def.Ending), [`Walk`](crate::definitions::ether_peel#def.Walk),
+    /// [`start_of`](crate::definitions::ether_peel#def.start_of),
+    /// [`Says`](crate::definitions::ether_filter#def.Says),
+    /// [`AtCompletions`](crate::definitions::ether_filter#def.AtCompletions),
+    /// [`Holds`](crate::definitions::ether_filter#def.Holds),
+    /// [`StaysUnknown`](crate::definitions::ether_filter#def.StaysUnknown),
+    /// [`WaitsUntil`](crate::definitions::ether_filter#def.WaitsUntil). [Notation](crate::definitions::notation)
     ///
     /// </details>
     #[must_use]

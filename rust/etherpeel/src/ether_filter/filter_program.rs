@@ -46,6 +46,13 @@ use arrayvec::ArrayVec;
 ///     ↔ Holds x (walked packet.now hs e) }
 /// ```
 ///
+/// Words: [`Expression`](crate::definitions::ether_filter#def.Expression),
+/// [`IsProgramOf`](crate::definitions::ether_filter#def.IsProgramOf),
+/// [`Header`](crate::definitions::ether_base#def.Header), [`Ending`](crate::definitions::ether_peel#def.Ending),
+/// [`Walk`](crate::definitions::ether_peel#def.Walk), [`start_of`](crate::definitions::ether_peel#def.start_of),
+/// [`Holds`](crate::definitions::ether_filter#def.Holds),
+/// [`walked`](crate::definitions::ether_filter#def.walked). [Notation](crate::definitions::notation)
+///
 /// </details>
 #[must_use]
 #[inline]
@@ -190,6 +197,13 @@ fn past_others(instructions: &[Instruction], begin: usize, id: u16) -> usize {
 ///     → (d : Decision) → (result ≡ d) ↔ Says packet.now hs e x d }
 /// ensures bytes { IsBytes packet.now.frame.now }
 /// ```
+///
+/// Words: [`Expression`](crate::definitions::ether_filter#def.Expression),
+/// [`IsProgramOf`](crate::definitions::ether_filter#def.IsProgramOf),
+/// [`Header`](crate::definitions::ether_base#def.Header), [`Ending`](crate::definitions::ether_peel#def.Ending),
+/// [`Walk`](crate::definitions::ether_peel#def.Walk), [`start_of`](crate::definitions::ether_peel#def.start_of),
+/// [`Says`](crate::definitions::ether_filter#def.Says), [`IsBytes`](crate::definitions::ether_base#def.IsBytes).
+/// [Notation](crate::definitions::notation)
 ///
 /// </details>
 #[must_use]

@@ -90,6 +90,9 @@ impl Instruction {
     /// ensures { result ≡ node_numbered self.now.kind self.now.operand }
     /// ```
     ///
+    /// Words: [`node_numbered`](crate::definitions::ether_filter#def.node_numbered).
+    /// [Notation](crate::definitions::notation)
+    ///
     /// </details>
     #[must_use]
     #[inline]

@@ -20,6 +20,8 @@ const CAP: u64 = 1 << 48;
 /// ensures { result ≡ number_in word.now }
 /// ```
 ///
+/// Words: [`number_in`](crate::definitions::ether_filter#def.number_in). [Notation](crate::definitions::notation)
+///
 /// </details>
 #[must_use]
 #[inline]

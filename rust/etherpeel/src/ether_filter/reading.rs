@@ -44,6 +44,9 @@ impl Reading {
     /// ensures { state_of result ≡ begun }
     /// ```
     ///
+    /// Words: [`state_of`](crate::definitions::ether_filter#def.state_of),
+    /// [`begun`](crate::definitions::ether_filter#def.begun). [Notation](crate::definitions::notation)
+    ///
     /// </details>
     #[must_use]
     #[inline]
@@ -68,6 +71,10 @@ impl Reading {
     /// ensures { MatchResult result (λ _. taken (state_of self.old) token ≡ Ok (state_of self.new))
     ///     (λ kind. taken (state_of self.old) token ≡ Err kind) }
     /// ```
+    ///
+    /// Words: [`size_of`](crate::definitions::ether_filter#def.size_of),
+    /// [`state_of`](crate::definitions::ether_filter#def.state_of),
+    /// [`taken`](crate::definitions::ether_filter#def.taken). [Notation](crate::definitions::notation)
     ///
     /// </details>
     #[inline]
@@ -194,6 +201,10 @@ impl Reading {
     /// ensures { MatchResult result (λ ns. ended (state_of self) ≡ Ok ns.items)
     ///     (λ kind. ended (state_of self) ≡ Err kind) }
     /// ```
+    ///
+    /// Words: [`size_of`](crate::definitions::ether_filter#def.size_of),
+    /// [`state_of`](crate::definitions::ether_filter#def.state_of),
+    /// [`ended`](crate::definitions::ether_filter#def.ended). [Notation](crate::definitions::notation)
     ///
     /// </details>
     #[inline]

@@ -53,11 +53,11 @@ fn write_ethernet2<W: Sink>(slice: &Ethernet2Slice<'_>, out: &mut OutputBuffer<'
 /// Writes ` vlan VID pcp PCP`, and ` dei` if that bit is set.
 #[inline]
 fn write_vlan<W: Sink>(slice: &SingleVlanSlice<'_>, out: &mut OutputBuffer<'_, W>) {
-    write_number(out, b" vlan ", usize::from(slice.vlan_identifier().value()));
+    write_number(out, b" vlan ", u64::from(slice.vlan_identifier().value()));
     write_number(
         out,
         b" pcp ",
-        usize::from(slice.priority_code_point().value()),
+        u64::from(slice.priority_code_point().value()),
     );
     if slice.drop_eligible_indicator() {
         out.append(b" dei");
@@ -67,8 +67,8 @@ fn write_vlan<W: Sink>(slice: &SingleVlanSlice<'_>, out: &mut OutputBuffer<'_, W
 /// Writes ` macsec an AN pn PN`: the association number and the packet number.
 #[inline]
 fn write_macsec<W: Sink>(tag: &MacsecHeaderSlice<'_>, out: &mut OutputBuffer<'_, W>) {
-    write_number(out, b" macsec an ", usize::from(tag.an().value()));
-    write_number(out, b" pn ", tag.packet_nr() as usize);
+    write_number(out, b" macsec an ", u64::from(tag.an().value()));
+    write_number(out, b" pn ", tag.packet_nr() as u64);
 }
 
 /// Writes an ARP packet: as a request, a reply, or another operation by its number.
@@ -108,7 +108,7 @@ fn write_arp_reply<W: Sink>(packet: &ArpPacketSlice<'_>, out: &mut OutputBuffer<
 #[inline]
 fn write_arp_other<W: Sink>(packet: &ArpPacketSlice<'_>, out: &mut OutputBuffer<'_, W>) {
     let protocol = packet.proto_addr_type();
-    write_number(out, b" ARP op ", usize::from(packet.operation().0));
+    write_number(out, b" ARP op ", u64::from(packet.operation().0));
     out.append(b" from ");
     write_address(protocol, packet.sender_protocol_addr(), out);
     out.append(b" to ");
@@ -141,7 +141,7 @@ fn write_sender<W: Sink>(
     len: usize,
     out: &mut OutputBuffer<'_, W>,
 ) {
-    write_number(out, b" cooked type ", packet_type);
+    write_number(out, b" cooked type ", packet_type as u64);
     out.append(b" from ");
     write_colons(first_of(address, len), out);
 }
@@ -149,7 +149,7 @@ fn write_sender<W: Sink>(
 /// Writes a header of cooked capture v1 that is not walked.
 #[inline]
 fn write_cooked<W: Sink>(header: &CookedHeader, out: &mut OutputBuffer<'_, W>) {
-    write_number(out, b" cooked type ", usize::from(header.packet_type));
+    write_number(out, b" cooked type ", u64::from(header.packet_type));
     out.append(b" from ");
     write_colons(used(&header.address, usize::from(header.address_len)), out);
 }
@@ -159,7 +159,7 @@ fn write_cooked<W: Sink>(header: &CookedHeader, out: &mut OutputBuffer<'_, W>) {
 fn write_linux_sll2<W: Sink>(packet: &LinuxSll2Slice<'_>, out: &mut OutputBuffer<'_, W>) {
     let packet_type = usize::from(packet.packet_type_number());
     let len = usize::from(packet.sender_address_valid_length());
-    write_number(out, b" if ", packet.interface_index() as usize);
+    write_number(out, b" if ", packet.interface_index() as u64);
     write_sender(packet_type, &packet.sender_address_full(), len, out);
 }
 
@@ -194,7 +194,7 @@ fn write_rest<W: Sink>(len: usize, kind: &RestKind, out: &mut OutputBuffer<'_, W
 /// Writes ` LEN bytes`.
 #[inline]
 fn write_len<W: Sink>(len: usize, out: &mut OutputBuffer<'_, W>) {
-    write_number(out, b" ", len);
+    write_number(out, b" ", len as u64);
     out.append(b" bytes");
 }
 
@@ -210,14 +210,14 @@ fn write_type<W: Sink>(ether_type: EtherType, out: &mut OutputBuffer<'_, W>) {
 /// Writes ` skipped LEN bytes`.
 #[inline]
 fn write_skipped<W: Sink>(len: usize, out: &mut OutputBuffer<'_, W>) {
-    write_number(out, b" skipped ", len);
+    write_number(out, b" skipped ", len as u64);
     out.append(b" bytes");
 }
 
 /// Writes ` fault at START: CAUSE`.
 #[inline]
 fn write_fault<W: Sink>(start: usize, cause: &Cause, out: &mut OutputBuffer<'_, W>) {
-    write_number(out, b" fault at ", start);
+    write_number(out, b" fault at ", start as u64);
     out.append(b": ");
     write_cause(cause, out);
 }
@@ -227,14 +227,14 @@ fn write_fault<W: Sink>(start: usize, cause: &Cause, out: &mut OutputBuffer<'_, 
 fn write_cause<W: Sink>(cause: &Cause, out: &mut OutputBuffer<'_, W>) {
     match cause {
         Cause::Length(required, available, _) => {
-            write_number(out, b"needs ", *required);
-            write_number(out, b" bytes, has ", *available);
+            write_number(out, b"needs ", *required as u64);
+            write_number(out, b" bytes, has ", *available as u64);
         }
         Cause::UnknownPacketType(number) => {
-            write_number(out, b"packet type ", usize::from(*number));
+            write_number(out, b"packet type ", u64::from(*number));
         }
         Cause::UnknownHardwareType(number) => {
-            write_number(out, b"hardware type ", usize::from(*number));
+            write_number(out, b"hardware type ", u64::from(*number));
         }
         Cause::Version => out.append(b"version 1 of MACsec"),
         Cause::ShortLength => out.append(b"short length 1"),
@@ -248,7 +248,7 @@ pub(in crate::ether_format) fn write_brief_front<W: Sink>(
     moment: Option<Moment>,
     out: &mut OutputBuffer<'_, W>,
 ) {
-    write_decimal(out, number);
+    write_decimal(out, number as u64);
     out.append(b" ");
     match moment {
         Some(moment) => write_brief_moment(&moment, out),
@@ -261,7 +261,7 @@ pub(in crate::ether_format) fn write_brief_front<W: Sink>(
 #[inline]
 fn write_brief_moment<W: Sink>(moment: &Moment, out: &mut OutputBuffer<'_, W>) {
     if !has_date(moment) {
-        write_decimal(out, moment.seconds as usize);
+        write_decimal(out, moment.seconds);
         out.append(b".");
         write_fraction(moment.nanoseconds, out);
         return;
@@ -287,8 +287,8 @@ fn write_fraction<W: Sink>(nanoseconds: u32, out: &mut OutputBuffer<'_, W>) {
 #[inline]
 pub(in crate::ether_format) fn write_brief_tail<W: Sink>(packet: &CapturedPacket<'_>, out: &mut OutputBuffer<'_, W>) {
     if is_cut(packet) {
-        write_number(out, b" (", packet.packet.len());
-        write_number(out, b" of ", packet.original_len as usize);
+        write_number(out, b" (", packet.packet.len() as u64);
+        write_number(out, b" of ", packet.original_len as u64);
         out.append(b" bytes)");
     }
     out.append(b"\n");

@@ -71,6 +71,10 @@ impl Columns {
     /// ensures none { IfNone result ((columns : List ColumnValue) → ¬ (AreColumns text.now columns)) }
     /// ```
     ///
+    /// Words: [`AreColumns`](crate::definitions::ether_format#def.AreColumns),
+    /// [`columns_view`](crate::definitions::ether_format#def.columns_view),
+    /// [`ColumnValue`](crate::definitions::ether_format#def.ColumnValue). [Notation](crate::definitions::notation)
+    ///
     /// </details>
     #[must_use]
     #[inline]
@@ -100,6 +104,9 @@ impl Columns {
     /// ensures { IsUnknownIn (slice_split (λ b. b == 44) text.now) (option_map (λ s. s.now) result) }
     /// ```
     ///
+    /// Words: [`IsUnknownIn`](crate::definitions::ether_format#def.IsUnknownIn).
+    /// [Notation](crate::definitions::notation)
+    ///
     /// </details>
     #[must_use]
     #[inline]
@@ -125,6 +132,10 @@ impl Columns {
     /// ```text
     /// ensures { columns_view result ≡ common_columns }
     /// ```
+    ///
+    /// Words: [`columns_view`](crate::definitions::ether_format#def.columns_view),
+    /// [`common_columns`](crate::definitions::ether_format#def.common_columns).
+    /// [Notation](crate::definitions::notation)
     ///
     /// </details>
     #[must_use]
@@ -152,6 +163,10 @@ impl Columns {
     /// ensures some { IfSome result (λ it. columns_view it ≡ original_column ∷ columns_view self.now) }
     /// ensures none { IfNone result (32 ≤ length (columns_view self.now)) }
     /// ```
+    ///
+    /// Words: [`columns_view`](crate::definitions::ether_format#def.columns_view),
+    /// [`original_column`](crate::definitions::ether_format#def.original_column).
+    /// [Notation](crate::definitions::notation)
     ///
     /// </details>
     #[must_use]
@@ -208,6 +223,10 @@ impl Columns {
     /// ```text
     /// ensures { Takes W.contents W.can_fail out.old (heading_text (columns_view self.now)) out.new }
     /// ```
+    ///
+    /// Words: [`Takes`](crate::definitions::ether_output#def.Takes),
+    /// [`heading_text`](crate::definitions::ether_format#def.heading_text),
+    /// [`columns_view`](crate::definitions::ether_format#def.columns_view). [Notation](crate::definitions::notation)
     ///
     /// </details>
     #[inline]

@@ -32,6 +32,9 @@ impl Format {
     /// ensures none { IfNone result ((it : Format) → ¬ (NamesFormat text.now it)) }
     /// ```
     ///
+    /// Words: [`NamesFormat`](crate::definitions::ether_format#def.NamesFormat).
+    /// [Notation](crate::definitions::notation)
+    ///
     /// </details>
     #[must_use]
     #[inline]

@@ -47,6 +47,11 @@ use crate::ether_pcap::CapturedPacket;
 ///     out.old out.new result }
 /// ```
 ///
+/// Words: [`TakesAnswer`](crate::definitions::ether_output#def.TakesAnswer),
+/// [`HasText`](crate::definitions::ether_format#def.HasText),
+/// [`captured_packet_view`](crate::definitions::ether_pcap#def.captured_packet_view).
+/// [Notation](crate::definitions::notation)
+///
 /// </details>
 #[inline(never)]
 pub fn write_packet<W: Sink>(

@@ -10,8 +10,8 @@ use crate::EtherType;
 pub(in crate::ether_format) fn write_json_value<W: Sink>(value: &Value<'_>, out: &mut OutputBuffer<'_, W>) {
     match value {
         Value::Nothing => out.append(b"null"),
-        Value::Number(number) => write_decimal(out, *number as usize),
-        Value::Protocol(number) => write_decimal(out, usize::from(*number)),
+        Value::Number(number) => write_decimal(out, *number),
+        Value::Protocol(number) => write_decimal(out, u64::from(*number)),
         Value::Flag(holds) => out.append(flag_text(*holds).as_bytes()),
         Value::Mac(address) => out.append_array(quoted_mac(*address)),
         Value::Four(bytes) => write_quoted_bytes(bytes, out),
@@ -29,7 +29,7 @@ pub(in crate::ether_format) fn write_json_value<W: Sink>(value: &Value<'_>, out:
 pub(in crate::ether_format) fn write_column_value<W: Sink>(value: &Value<'_>, out: &mut OutputBuffer<'_, W>) {
     match value {
         Value::Nothing => {}
-        Value::Number(number) => write_decimal(out, *number as usize),
+        Value::Number(number) => write_decimal(out, *number),
         Value::Protocol(number) => out.append(&hex_type(EtherType(*number))),
         Value::Flag(holds) => out.append(flag_text(*holds).as_bytes()),
         Value::Mac(address) => out.append_array(mac_text(*address)),
@@ -122,7 +122,7 @@ pub(in crate::ether_format) fn write_dotted<W: Sink>(bytes: &[u8], out: &mut Out
     if bytes.is_empty() {
         return;
     }
-    write_decimal(out, usize::from(bytes[0]));
+    write_decimal(out, u64::from(bytes[0]));
     write_dots_after(&bytes[1..], out);
 }
 
@@ -131,7 +131,7 @@ pub(in crate::ether_format) fn write_dotted<W: Sink>(bytes: &[u8], out: &mut Out
 fn write_dots_after<W: Sink>(bytes: &[u8], out: &mut OutputBuffer<'_, W>) {
     for byte in bytes {
         out.append(b".");
-        write_decimal(out, usize::from(*byte));
+        write_decimal(out, u64::from(*byte));
     }
 }
 
@@ -191,7 +191,7 @@ fn write_dated<W: Sink>(moment: &Moment, out: &mut OutputBuffer<'_, W>) {
 /// Writes the seconds since the beginning of 1970, with nine decimals.
 #[inline]
 fn write_seconds<W: Sink>(moment: &Moment, out: &mut OutputBuffer<'_, W>) {
-    write_decimal(out, moment.seconds as usize);
+    write_decimal(out, moment.seconds);
     out.append(b".");
     out.append_array(nine_digits(moment.nanoseconds));
 }
@@ -208,7 +208,7 @@ fn fraction(nanoseconds: u32) -> [u8; 11] {
 /// Writes a date and a time of day.
 #[inline]
 pub(in crate::ether_format) fn write_date<W: Sink>(moment: &Moment, out: &mut OutputBuffer<'_, W>) {
-    write_decimal(out, moment.year as usize);
+    write_decimal(out, moment.year);
     out.append_array(month_to_second(moment));
 }
 
@@ -238,6 +238,9 @@ pub(in crate::ether_format) fn two_digits(number: u8) -> [u8; 2] {
 /// ```text
 /// ensures { result ≡ nine_digits number }
 /// ```
+///
+/// Words: [`nine_digits`](crate::definitions::ether_format#def.nine_digits).
+/// [Notation](crate::definitions::notation)
 ///
 /// </details>
 #[must_use]

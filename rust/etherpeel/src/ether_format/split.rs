@@ -10,6 +10,8 @@
 /// ensures none { IfNone result (All (λ it. (it == byte) ≡ false) text.now) }
 /// ```
 ///
+/// Words: [`SplitsAt`](crate::definitions::ether_format#def.SplitsAt). [Notation](crate::definitions::notation)
+///
 /// </details>
 #[must_use]
 #[inline]

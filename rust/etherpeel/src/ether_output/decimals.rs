@@ -37,9 +37,11 @@ static PAIRS: [[u8; 2]; 100] = [
 /// ensures { Takes W.contents W.can_fail out.old (decimal number) out.new }
 /// ```
 ///
+/// Words: [`Takes`](crate::definitions::ether_output#def.Takes). [Notation](crate::definitions::notation)
+///
 /// </details>
 #[inline(always)]
-pub fn write_decimal<W: Sink>(out: &mut OutputBuffer<'_, W>, number: usize) {
+pub fn write_decimal<W: Sink>(out: &mut OutputBuffer<'_, W>, number: u64) {
     if number < 10 {
         out.append_array([digit(number)]);
     } else if number < 100 {
@@ -51,7 +53,7 @@ pub fn write_decimal<W: Sink>(out: &mut OutputBuffer<'_, W>, number: usize) {
 
 /// Writes a number of any length: first the digits before the last four, then the last four.
 #[inline(never)]
-fn write_long_decimal<W: Sink>(out: &mut OutputBuffer<'_, W>, number: usize) {
+fn write_long_decimal<W: Sink>(out: &mut OutputBuffer<'_, W>, number: u64) {
     if number < 10_000 {
         write_short_decimal(out, number);
     } else if number < 100_000_000 {
@@ -65,7 +67,7 @@ fn write_long_decimal<W: Sink>(out: &mut OutputBuffer<'_, W>, number: usize) {
 
 /// Writes a number of up to four digits.
 #[inline(always)]
-fn write_short_decimal<W: Sink>(out: &mut OutputBuffer<'_, W>, number: usize) {
+fn write_short_decimal<W: Sink>(out: &mut OutputBuffer<'_, W>, number: u64) {
     if number < 10 {
         out.append_array([digit(number)]);
     } else if number < 100 {
@@ -80,19 +82,19 @@ fn write_short_decimal<W: Sink>(out: &mut OutputBuffer<'_, W>, number: usize) {
 
 /// The decimal digit of a number below 10, as a character of ASCII.
 #[inline(always)]
-fn digit(number: usize) -> u8 {
+fn digit(number: u64) -> u8 {
     b'0' + number as u8
 }
 
 /// The two digits of a number below 100, with a leading zero.
 #[inline(always)]
-fn digit_pair(number: usize) -> [u8; 2] {
-    PAIRS[number]
+fn digit_pair(number: u64) -> [u8; 2] {
+    PAIRS[number as usize]
 }
 
 /// The four digits of a number below 10,000, with leading zeros.
 #[inline(always)]
-fn four_digits(number: usize) -> [u8; 4] {
+fn four_digits(number: u64) -> [u8; 4] {
     let high = digit_pair(number / 100);
     let low = digit_pair(number % 100);
     [high[0], high[1], low[0], low[1]]
@@ -106,12 +108,15 @@ fn four_digits(number: usize) -> [u8; 4] {
 /// ensures { result ≡ eight_digits number }
 /// ```
 ///
+/// Words: [`eight_digits`](crate::definitions::ether_output#def.eight_digits).
+/// [Notation](crate::definitions::notation)
+///
 /// </details>
 #[must_use]
 #[inline(always)]
 pub fn eight_digits(number: u64) -> [u8; 8] {
-    let high = four_digits((number / 10_000 % 10_000) as usize);
-    let low = four_digits((number % 10_000) as usize);
+    let high = four_digits(number / 10_000 % 10_000);
+    let low = four_digits(number % 10_000);
     [
         high[0], high[1], high[2], high[3], low[0], low[1], low[2], low[3],
     ]
@@ -125,9 +130,11 @@ pub fn eight_digits(number: u64) -> [u8; 8] {
 /// ensures { Takes W.contents W.can_fail out.old (word.now ++ decimal number) out.new }
 /// ```
 ///
+/// Words: [`Takes`](crate::definitions::ether_output#def.Takes). [Notation](crate::definitions::notation)
+///
 /// </details>
 #[inline]
-pub fn write_number<W: Sink>(out: &mut OutputBuffer<'_, W>, word: &[u8], number: usize) {
+pub fn write_number<W: Sink>(out: &mut OutputBuffer<'_, W>, word: &[u8], number: u64) {
     out.append(word);
     write_decimal(out, number);
 }

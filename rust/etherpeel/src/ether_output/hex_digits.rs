@@ -36,6 +36,8 @@ static PAIRS: [[u8; 2]; 256] = [
 /// ensures { result ≡ hex_byte false byte }
 /// ```
 ///
+/// Words: [`hex_byte`](crate::definitions::ether_base#def.hex_byte). [Notation](crate::definitions::notation)
+///
 /// </details>
 #[must_use]
 #[inline(always)]
@@ -50,6 +52,8 @@ pub fn digit_pair(byte: u8) -> [u8; 2] {
 /// ```text
 /// ensures { result ≡ hex_number ether_type.0 }
 /// ```
+///
+/// Words: [`hex_number`](crate::definitions::ether_base#def.hex_number). [Notation](crate::definitions::notation)
 ///
 /// </details>
 #[must_use]

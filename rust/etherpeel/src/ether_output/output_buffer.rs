@@ -44,6 +44,8 @@ impl<'a, W: Sink> OutputBuffer<'a, W> {
     /// ensures fresh { result.has_failed ≡ false }
     /// ```
     ///
+    /// [Notation](crate::definitions::notation)
+    ///
     /// </details>
     #[inline]
     pub fn new(writer: &'a mut W) -> Self {
@@ -65,6 +67,8 @@ impl<'a, W: Sink> OutputBuffer<'a, W> {
     /// ensures { Takes W.contents W.can_fail self.old bytes.now self.new }
     /// ```
     ///
+    /// Words: [`Takes`](crate::definitions::ether_output#def.Takes). [Notation](crate::definitions::notation)
+    ///
     /// </details>
     #[inline(always)]
     pub fn append(&mut self, bytes: &[u8]) {
@@ -81,6 +85,8 @@ impl<'a, W: Sink> OutputBuffer<'a, W> {
     /// ```text
     /// ensures { Takes W.contents W.can_fail self.old bytes.entry self.new }
     /// ```
+    ///
+    /// Words: [`Takes`](crate::definitions::ether_output#def.Takes). [Notation](crate::definitions::notation)
     ///
     /// </details>
     #[inline(always)]
@@ -118,7 +124,11 @@ impl<'a, W: Sink> OutputBuffer<'a, W> {
         }
     }
 
-    /// Returns [`OutputFault`] if the writer has failed since the buffer was made.
+    /// Tests that the writer has not failed since the buffer was made.
+    ///
+    /// # Errors
+    ///
+    /// [`OutputFault`] if it has.
     ///
     /// <details><summary>Contract</summary>
     ///
@@ -126,6 +136,8 @@ impl<'a, W: Sink> OutputBuffer<'a, W> {
     /// ensures ok { OnOk result (self.now.has_failed ≡ false) }
     /// ensures failed { OnErr result (self.now.has_failed ≡ true) }
     /// ```
+    ///
+    /// [Notation](crate::definitions::notation)
     ///
     /// </details>
     #[inline]
@@ -145,6 +157,8 @@ impl<'a, W: Sink> OutputBuffer<'a, W> {
     /// ensures fits { length result.now ≤ ROOM }
     /// ```
     ///
+    /// Words: `ROOM` (65536). [Notation](crate::definitions::notation)
+    ///
     /// </details>
     #[must_use]
     #[inline]
@@ -159,6 +173,8 @@ impl<'a, W: Sink> OutputBuffer<'a, W> {
     /// ```text
     /// ensures { IsFalse result ↔ (self.now.waiting.items ≡ []) }
     /// ```
+    ///
+    /// [Notation](crate::definitions::notation)
     ///
     /// </details>
     #[must_use]
@@ -183,6 +199,9 @@ impl<'a, W: Sink> OutputBuffer<'a, W> {
     /// ensures waiting { OnErr result (self.new.waiting.items ≡ self.old.waiting.items) }
     /// ensures untouched { self.old.has_failed ≡ true → self.new.writer ≡ self.old.writer }
     /// ```
+    ///
+    /// Words: [`WritesOut`](crate::definitions::ether_output#def.WritesOut),
+    /// [`Marks`](crate::definitions::ether_output#def.Marks). [Notation](crate::definitions::notation)
     ///
     /// </details>
     #[inline]
@@ -215,6 +234,9 @@ impl<'a, W: Sink> OutputBuffer<'a, W> {
     /// ensures marks { Marks W.can_fail self.old self.new }
     /// ensures untouched { self.old.has_failed ≡ true → self.new.writer ≡ self.old.writer }
     /// ```
+    ///
+    /// Words: [`WritesOut`](crate::definitions::ether_output#def.WritesOut),
+    /// [`Marks`](crate::definitions::ether_output#def.Marks). [Notation](crate::definitions::notation)
     ///
     /// </details>
     #[inline]

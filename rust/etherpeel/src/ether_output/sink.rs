@@ -9,6 +9,10 @@ use crate::ether_output::OutputFault;
 pub trait Sink {
     /// Writes all of `bytes`.
     ///
+    /// # Errors
+    ///
+    /// [`OutputFault`] if the sink has not taken all of them.
+    ///
     /// <details><summary>Contract</summary>
     ///
     /// ```text
@@ -16,10 +20,17 @@ pub trait Sink {
     /// ensures failed { OnErr result can_fail }
     /// ```
     ///
+    /// Words: `contents` (the bytes that the sink holds, if they are known), `can_fail` (what holds if a call fails).
+    /// [Notation](crate::definitions::notation)
+    ///
     /// </details>
     fn put(&mut self, bytes: &[u8]) -> Result<(), OutputFault>;
 
     /// Flushes the sink.
+    ///
+    /// # Errors
+    ///
+    /// [`OutputFault`] if the sink could not be flushed.
     ///
     /// <details><summary>Contract</summary>
     ///
@@ -28,6 +39,9 @@ pub trait Sink {
     /// ensures flushed { OnOk result (is_flushed self.new) }
     /// ensures failed { OnErr result can_fail }
     /// ```
+    ///
+    /// Words: `contents` (the bytes that the sink holds, if they are known), `is_flushed` (what holds of a sink whose
+    /// last call was a flush), `can_fail` (what holds if a call fails). [Notation](crate::definitions::notation)
     ///
     /// </details>
     fn flush_all(&mut self) -> Result<(), OutputFault>;

@@ -10,6 +10,9 @@ use crate::LenSource;
 /// ensures { result.now ≡ source_text source }
 /// ```
 ///
+/// Words: [`source_text`](crate::definitions::ether_output#def.source_text).
+/// [Notation](crate::definitions::notation)
+///
 /// </details>
 #[must_use]
 #[inline]

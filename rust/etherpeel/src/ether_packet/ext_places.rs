@@ -51,6 +51,8 @@ impl<'a> ExtPlaces<'a> {
     /// ensures { result ≡ [] }
     /// ```
     ///
+    /// [Notation](crate::definitions::notation)
+    ///
     /// </details>
     #[must_use]
     #[inline(always)]
@@ -75,6 +77,8 @@ impl<'a> ExtPlaces<'a> {
     /// ensures { self.new ≡ self.old ++ tag.entry ∷ [] }
     /// ```
     ///
+    /// [Notation](crate::definitions::notation)
+    ///
     /// </details>
     #[inline(always)]
     pub fn push(&mut self, tag: ExtPlace<'a>) {
@@ -92,6 +96,8 @@ impl<'a> ExtPlaces<'a> {
     /// ```text
     /// ensures { result ≡ slice_get self.now index }
     /// ```
+    ///
+    /// [Notation](crate::definitions::notation)
     ///
     /// </details>
     #[must_use]
@@ -113,6 +119,8 @@ impl<'a> ExtPlaces<'a> {
     /// ensures value { result ≡ length self.now }
     /// ensures most { length self.now ≤ 3 }
     /// ```
+    ///
+    /// [Notation](crate::definitions::notation)
     ///
     /// </details>
     #[must_use]

@@ -51,6 +51,15 @@ pub struct EthernetFront {
 ///     → outer_tag hs ≡ option_and_then (λ f. option_map vlan_view f.vlan) result }
 /// ```
 ///
+/// Words: [`Header`](crate::definitions::ether_base#def.Header),
+/// [`Ending`](crate::definitions::ether_peel#def.Ending), [`Walk`](crate::definitions::ether_peel#def.Walk),
+/// [`start_of`](crate::definitions::ether_peel#def.start_of),
+/// [`first_ethernet2`](crate::definitions::ether_packet#def.first_ethernet2),
+/// [`ethernet2_view`](crate::definitions::ether_tags#def.ethernet2_view),
+/// [`link_type`](crate::definitions::ether_packet#def.link_type),
+/// [`outer_tag`](crate::definitions::ether_packet#def.outer_tag),
+/// [`vlan_view`](crate::definitions::ether_tags#def.vlan_view). [Notation](crate::definitions::notation)
+///
 /// </details>
 #[must_use]
 #[inline]
@@ -91,6 +100,12 @@ pub fn ethernet_front(frame: &[u8]) -> Option<EthernetFront> {
 /// ensures { (hs : List Header) (e : Ending) → Walk (start_of start) frame.now hs e
 ///     → outer_tag hs ≡ option_map vlan_view result }
 /// ```
+///
+/// Words: [`Header`](crate::definitions::ether_base#def.Header),
+/// [`Ending`](crate::definitions::ether_peel#def.Ending), [`Walk`](crate::definitions::ether_peel#def.Walk),
+/// [`start_of`](crate::definitions::ether_peel#def.start_of),
+/// [`outer_tag`](crate::definitions::ether_packet#def.outer_tag),
+/// [`vlan_view`](crate::definitions::ether_tags#def.vlan_view). [Notation](crate::definitions::notation)
 ///
 /// </details>
 #[must_use]

@@ -70,6 +70,9 @@ impl<'a, 'b> PacketBuilder<'a, 'b> {
     /// ensures { result ≡ packet_len self.now }
     /// ```
     ///
+    /// Words: [`packet_len`](crate::definitions::ether_packet#def.packet_len).
+    /// [Notation](crate::definitions::notation)
+    ///
     /// </details>
     #[must_use]
     #[inline]
@@ -104,6 +107,15 @@ impl<'a, 'b> PacketBuilder<'a, 'b> {
     /// ensures accepted { OnOk result (AcceptsPacket self.now target.old) }
     /// ensures kept { OnErr result (target.new ≡ target.old) }
     /// ```
+    ///
+    /// Words: [`IsWritten`](crate::definitions::ether_packet#def.IsWritten),
+    /// [`RefusesPacket`](crate::definitions::ether_packet#def.RefusesPacket),
+    /// [`IsEthernet`](crate::definitions::ether_packet#def.IsEthernet),
+    /// [`IsChain`](crate::definitions::ether_packet#def.IsChain),
+    /// [`inner_headers`](crate::definitions::ether_packet#def.inner_headers),
+    /// [`RefusesSpace`](crate::definitions::ether_packet#def.RefusesSpace),
+    /// [`AcceptsPacket`](crate::definitions::ether_packet#def.AcceptsPacket).
+    /// [Notation](crate::definitions::notation)
     ///
     /// </details>
     #[inline]

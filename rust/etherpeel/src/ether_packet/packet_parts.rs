@@ -62,6 +62,9 @@ impl<'a> PacketParts<'a> {
     /// ensures { result.now ≡ parts_exts self.now }
     /// ```
     ///
+    /// Words: [`parts_exts`](crate::definitions::ether_packet#def.parts_exts).
+    /// [Notation](crate::definitions::notation)
+    ///
     /// </details>
     #[must_use]
     #[inline]
@@ -105,6 +108,9 @@ impl<'a> PacketParts<'a> {
     /// ensures others { self.new ≡ record self.old { tags = self.new.tags } }
     /// ```
     ///
+    /// Words: [`parts_exts`](crate::definitions::ether_packet#def.parts_exts),
+    /// [`IsNoExt`](crate::definitions::ether_packet#def.IsNoExt). [Notation](crate::definitions::notation)
+    ///
     /// </details>
     #[inline]
     pub fn set_link_ext(&mut self, index: usize, ext: &LinkExtHeader) -> Result<(), ReplaceError> {
@@ -124,6 +130,9 @@ impl<'a> PacketParts<'a> {
     /// ```text
     /// ensures { IsBuilderOf self.now result }
     /// ```
+    ///
+    /// Words: [`IsBuilderOf`](crate::definitions::ether_packet#def.IsBuilderOf).
+    /// [Notation](crate::definitions::notation)
     ///
     /// </details>
     #[must_use]

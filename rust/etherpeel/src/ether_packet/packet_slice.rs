@@ -69,6 +69,12 @@ impl<'a> PacketSlice<'a> {
     /// ensures front { IsFrontOfUnlimited start bytes.now link_exts_cap }
     /// ```
     ///
+    /// Words: [`IsPacket`](crate::definitions::ether_packet#def.IsPacket),
+    /// [`packet_start`](crate::definitions::ether_packet#def.packet_start),
+    /// [`IsFrontOfUnlimited`](crate::definitions::ether_peel#def.IsFrontOfUnlimited),
+    /// [`link_exts_cap`](crate::definitions::ether_packet#def.link_exts_cap).
+    /// [Notation](crate::definitions::notation)
+    ///
     /// </details>
     #[must_use]
     #[inline(always)]
@@ -104,6 +110,8 @@ impl<'a> PacketSlice<'a> {
     /// ensures { result ≡ link_of self.now.read.units }
     /// ```
     ///
+    /// Words: [`link_of`](crate::definitions::ether_packet#def.link_of). [Notation](crate::definitions::notation)
+    ///
     /// </details>
     #[must_use]
     #[inline(always)]
@@ -120,6 +128,10 @@ impl<'a> PacketSlice<'a> {
     /// ensures most { result ≤ link_exts_cap }
     /// ```
     ///
+    /// Words: [`exts_of`](crate::definitions::ether_packet#def.exts_of),
+    /// [`link_exts_cap`](crate::definitions::ether_packet#def.link_exts_cap).
+    /// [Notation](crate::definitions::notation)
+    ///
     /// </details>
     #[must_use]
     #[inline(always)]
@@ -134,6 +146,9 @@ impl<'a> PacketSlice<'a> {
     /// ```text
     /// ensures { ViewsExtIf (slice_get (exts_of self.now.read.units) index) result }
     /// ```
+    ///
+    /// Words: [`ViewsExtIf`](crate::definitions::ether_packet#def.ViewsExtIf),
+    /// [`exts_of`](crate::definitions::ether_packet#def.exts_of). [Notation](crate::definitions::notation)
     ///
     /// </details>
     #[must_use]
@@ -165,6 +180,9 @@ impl<'a> PacketSlice<'a> {
     /// ensures { ViewsExts (exts_of self.now.read.units) result.items }
     /// ```
     ///
+    /// Words: [`ViewsExts`](crate::definitions::ether_packet#def.ViewsExts),
+    /// [`exts_of`](crate::definitions::ether_packet#def.exts_of). [Notation](crate::definitions::notation)
+    ///
     /// </details>
     #[must_use]
     #[inline]
@@ -186,6 +204,8 @@ impl<'a> PacketSlice<'a> {
     /// ensures { result ≡ arp_view self.now.read.units }
     /// ```
     ///
+    /// Words: [`arp_view`](crate::definitions::ether_packet#def.arp_view). [Notation](crate::definitions::notation)
+    ///
     /// </details>
     #[must_use]
     #[inline(always)]
@@ -200,6 +220,9 @@ impl<'a> PacketSlice<'a> {
     /// ```text
     /// ensures { result ≡ arp_offset self.now.read.units }
     /// ```
+    ///
+    /// Words: [`arp_offset`](crate::definitions::ether_packet#def.arp_offset).
+    /// [Notation](crate::definitions::notation)
     ///
     /// </details>
     #[must_use]
@@ -218,6 +241,9 @@ impl<'a> PacketSlice<'a> {
     /// ```text
     /// ensures { result ≡ first_tags (vlans_of self.now.read.units) }
     /// ```
+    ///
+    /// Words: [`first_tags`](crate::definitions::ether_packet#def.first_tags),
+    /// [`vlans_of`](crate::definitions::ether_packet#def.vlans_of). [Notation](crate::definitions::notation)
     ///
     /// </details>
     #[must_use]
@@ -248,6 +274,10 @@ impl<'a> PacketSlice<'a> {
     /// ```text
     /// ensures { result.items ≡ vlan_ids_of (packet_headers self.now) }
     /// ```
+    ///
+    /// Words: [`vlan_ids_of`](crate::definitions::ether_packet#def.vlan_ids_of),
+    /// [`packet_headers`](crate::definitions::ether_packet#def.packet_headers).
+    /// [Notation](crate::definitions::notation)
     ///
     /// </details>
     #[must_use]
@@ -291,6 +321,11 @@ impl<'a> PacketSlice<'a> {
     ///     (λ found. IsOutermost (packet_headers self.now) found.0 (vlan_view found.1)) }
     /// ```
     ///
+    /// Words: [`vlan_ids_of`](crate::definitions::ether_packet#def.vlan_ids_of),
+    /// [`packet_headers`](crate::definitions::ether_packet#def.packet_headers),
+    /// [`IsOutermost`](crate::definitions::ether_packet#def.IsOutermost),
+    /// [`vlan_view`](crate::definitions::ether_tags#def.vlan_view). [Notation](crate::definitions::notation)
+    ///
     /// </details>
     #[must_use]
     #[inline]
@@ -310,6 +345,9 @@ impl<'a> PacketSlice<'a> {
     /// ```text
     /// ensures { ViewsSecTagIf (slice_get (sec_tags_of self.now.read.units) 0) result }
     /// ```
+    ///
+    /// Words: [`ViewsSecTagIf`](crate::definitions::ether_packet#def.ViewsSecTagIf),
+    /// [`sec_tags_of`](crate::definitions::ether_packet#def.sec_tags_of). [Notation](crate::definitions::notation)
     ///
     /// </details>
     #[must_use]
@@ -333,6 +371,10 @@ impl<'a> PacketSlice<'a> {
     /// ```text
     /// ensures { HoldsPayload (link_of self.now.read.units) (last_ext self.now.read.units) result }
     /// ```
+    ///
+    /// Words: [`HoldsPayload`](crate::definitions::ether_packet#def.HoldsPayload),
+    /// [`link_of`](crate::definitions::ether_packet#def.link_of),
+    /// [`last_ext`](crate::definitions::ether_packet#def.last_ext). [Notation](crate::definitions::notation)
     ///
     /// </details>
     #[must_use]
@@ -359,6 +401,10 @@ impl<'a> PacketSlice<'a> {
     ///     (λ parts. ArePartsOf parts self.now) }
     /// ```
     ///
+    /// Words: [`has_link`](crate::definitions::ether_packet#def.has_link),
+    /// [`packet_headers`](crate::definitions::ether_packet#def.packet_headers),
+    /// [`ArePartsOf`](crate::definitions::ether_packet#def.ArePartsOf). [Notation](crate::definitions::notation)
+    ///
     /// </details>
     #[must_use]
     #[inline]
@@ -379,6 +425,9 @@ impl<'a> PacketSlice<'a> {
     /// ensures value { IsTrue result ↔ (self.now.fault ≡ None) }
     /// ensures accepted { TellsAccepted self.now result }
     /// ```
+    ///
+    /// Words: [`TellsAccepted`](crate::definitions::ether_packet#def.TellsAccepted).
+    /// [Notation](crate::definitions::notation)
     ///
     /// </details>
     #[must_use]
@@ -414,6 +463,10 @@ impl<'a> PacketSlice<'a> {
     /// ensures value { result ≡ reach 0 (packet_headers self.now) }
     /// ensures least { SnapsAt self.now result }
     /// ```
+    ///
+    /// Words: [`reach`](crate::definitions::ether_peel#def.reach),
+    /// [`packet_headers`](crate::definitions::ether_packet#def.packet_headers),
+    /// [`SnapsAt`](crate::definitions::ether_packet#def.SnapsAt). [Notation](crate::definitions::notation)
     ///
     /// </details>
     #[must_use]

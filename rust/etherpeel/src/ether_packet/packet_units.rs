@@ -36,6 +36,8 @@ impl<'a> PacketUnits<'a> {
     /// ensures { result ≡ record { frame = frame.now; units = [] } }
     /// ```
     ///
+    /// [Notation](crate::definitions::notation)
+    ///
     /// </details>
     #[must_use]
     #[inline(always)]
@@ -61,6 +63,11 @@ impl<'a> PacketUnits<'a> {
     /// requires readable { IsReadable (kind_read unit.now) place }
     /// ensures { self.new ≡ read_with self.old (kind_read unit.now) place.entry }
     /// ```
+    ///
+    /// Words: [`HasPlace`](crate::definitions::ether_packet#def.HasPlace),
+    /// [`IsReadable`](crate::definitions::ether_packet#def.IsReadable),
+    /// [`kind_read`](crate::definitions::ether_packet#def.kind_read),
+    /// [`read_with`](crate::definitions::ether_packet#def.read_with). [Notation](crate::definitions::notation)
     ///
     /// </details>
     #[inline(always)]
@@ -88,6 +95,8 @@ impl<'a> PacketUnits<'a> {
     /// ensures { result ≡ link_of self.now.units }
     /// ```
     ///
+    /// Words: [`link_of`](crate::definitions::ether_packet#def.link_of). [Notation](crate::definitions::notation)
+    ///
     /// </details>
     #[must_use]
     #[inline(always)]
@@ -109,6 +118,8 @@ impl<'a> PacketUnits<'a> {
     /// ensures most { result ≤ 3 }
     /// ```
     ///
+    /// Words: [`exts_of`](crate::definitions::ether_packet#def.exts_of). [Notation](crate::definitions::notation)
+    ///
     /// </details>
     #[must_use]
     #[inline(always)]
@@ -124,6 +135,9 @@ impl<'a> PacketUnits<'a> {
     /// ```text
     /// ensures { ViewsExtIf (slice_get (exts_of self.now.units) index) result }
     /// ```
+    ///
+    /// Words: [`ViewsExtIf`](crate::definitions::ether_packet#def.ViewsExtIf),
+    /// [`exts_of`](crate::definitions::ether_packet#def.exts_of). [Notation](crate::definitions::notation)
     ///
     /// </details>
     #[must_use]
@@ -154,6 +168,9 @@ impl<'a> PacketUnits<'a> {
     /// ensures { result ≡ option_and_then vlan_of_unit (slice_get (exts_of self.now.units) index) }
     /// ```
     ///
+    /// Words: [`vlan_of_unit`](crate::definitions::ether_packet#def.vlan_of_unit),
+    /// [`exts_of`](crate::definitions::ether_packet#def.exts_of). [Notation](crate::definitions::notation)
+    ///
     /// </details>
     #[must_use]
     #[inline(always)]
@@ -178,6 +195,10 @@ impl<'a> PacketUnits<'a> {
     ///     result }
     /// ```
     ///
+    /// Words: [`ViewsSecTagIf`](crate::definitions::ether_packet#def.ViewsSecTagIf),
+    /// [`macsec_of_unit`](crate::definitions::ether_packet#def.macsec_of_unit),
+    /// [`exts_of`](crate::definitions::ether_packet#def.exts_of). [Notation](crate::definitions::notation)
+    ///
     /// </details>
     #[must_use]
     #[inline(always)]
@@ -201,6 +222,8 @@ impl<'a> PacketUnits<'a> {
     /// ensures { result ≡ arp_view self.now.units }
     /// ```
     ///
+    /// Words: [`arp_view`](crate::definitions::ether_packet#def.arp_view). [Notation](crate::definitions::notation)
+    ///
     /// </details>
     #[must_use]
     #[inline(always)]
@@ -219,6 +242,9 @@ impl<'a> PacketUnits<'a> {
     /// ensures { result ≡ arp_offset self.now.units }
     /// ```
     ///
+    /// Words: [`arp_offset`](crate::definitions::ether_packet#def.arp_offset).
+    /// [Notation](crate::definitions::notation)
+    ///
     /// </details>
     #[must_use]
     #[inline(always)]
@@ -236,6 +262,8 @@ impl<'a> PacketUnits<'a> {
     /// ```text
     /// ensures { result.now ≡ drop (at + len) self.now.frame }
     /// ```
+    ///
+    /// [Notation](crate::definitions::notation)
     ///
     /// </details>
     #[must_use]
@@ -256,6 +284,10 @@ impl<'a> PacketUnits<'a> {
     ///     (λ p. HaveHeaders p (map header_of self.now.units) × (p.ether_type ≡ ether_type)
     ///     × (p.rest.now ≡ rest.now) × (p.trailer.now ≡ trailer.now)) }
     /// ```
+    ///
+    /// Words: [`has_link`](crate::definitions::ether_packet#def.has_link),
+    /// [`header_of`](crate::definitions::ether_packet#def.header_of),
+    /// [`HaveHeaders`](crate::definitions::ether_packet#def.HaveHeaders). [Notation](crate::definitions::notation)
     ///
     /// </details>
     #[must_use]
@@ -294,6 +326,9 @@ impl<'a> PacketUnits<'a> {
     /// ```text
     /// ensures { result ≡ reach 0 (map header_of self.now.units) }
     /// ```
+    ///
+    /// Words: [`reach`](crate::definitions::ether_peel#def.reach),
+    /// [`header_of`](crate::definitions::ether_packet#def.header_of). [Notation](crate::definitions::notation)
     ///
     /// </details>
     #[must_use]

@@ -28,6 +28,10 @@ impl<'a> PacketWalk<'a> {
     /// ensures { EndsAnyhow self.old self.new }
     /// ```
     ///
+    /// Words: [`IsUnderWay`](crate::definitions::ether_packet#def.IsUnderWay),
+    /// [`headers_left`](crate::definitions::ether_packet#def.headers_left),
+    /// [`EndsAnyhow`](crate::definitions::ether_packet#def.EndsAnyhow). [Notation](crate::definitions::notation)
+    ///
     /// </details>
     #[inline(always)]
     pub fn read_all(&mut self) {

@@ -61,6 +61,14 @@ use crate::SingleVlanHeader;
 /// ensures kept { OnErr result (frame.new ≡ frame.old) }
 /// ```
 ///
+/// Words: [`Header`](crate::definitions::ether_base#def.Header),
+/// [`Ending`](crate::definitions::ether_peel#def.Ending), [`Walk`](crate::definitions::ether_peel#def.Walk),
+/// [`start_of`](crate::definitions::ether_peel#def.start_of),
+/// [`IsPopped`](crate::definitions::ether_packet#def.IsPopped),
+/// [`vlan_view`](crate::definitions::ether_tags#def.vlan_view),
+/// [`outer_tag`](crate::definitions::ether_packet#def.outer_tag),
+/// [`RefusesPop`](crate::definitions::ether_packet#def.RefusesPop). [Notation](crate::definitions::notation)
+///
 /// </details>
 #[inline]
 pub fn pop_vlan(start: Start, frame: &mut [u8]) -> Result<SingleVlanHeader, TagError> {

@@ -71,6 +71,15 @@ use crate::{EtherType, SingleVlanHeader};
 /// ensures kept { OnErr result (buffer.new ≡ buffer.old) }
 /// ```
 ///
+/// Words: [`Header`](crate::definitions::ether_base#def.Header),
+/// [`Ending`](crate::definitions::ether_peel#def.Ending), [`Walk`](crate::definitions::ether_peel#def.Walk),
+/// [`start_of`](crate::definitions::ether_peel#def.start_of),
+/// [`IsPushed`](crate::definitions::ether_packet#def.IsPushed),
+/// [`vlan_view`](crate::definitions::ether_tags#def.vlan_view),
+/// [`is_vlan_ether_type`](crate::definitions::ether_base#def.is_vlan_ether_type),
+/// [`link_type`](crate::definitions::ether_packet#def.link_type),
+/// [`RefusesPush`](crate::definitions::ether_packet#def.RefusesPush). [Notation](crate::definitions::notation)
+///
 /// </details>
 #[inline]
 pub fn push_vlan(

@@ -54,6 +54,13 @@ use crate::{Ethernet2Slice, LinkExtHeader, LinkHeader, LinuxSllSlice};
 /// ensures kept { OnErr result (frame.new ≡ frame.old) }
 /// ```
 ///
+/// Words: [`Header`](crate::definitions::ether_base#def.Header),
+/// [`Ending`](crate::definitions::ether_peel#def.Ending), [`Walk`](crate::definitions::ether_peel#def.Walk),
+/// [`start_of`](crate::definitions::ether_peel#def.start_of),
+/// [`ReplacesExt`](crate::definitions::ether_packet#def.ReplacesExt),
+/// [`ext_header_view`](crate::definitions::ether_tags#def.ext_header_view),
+/// [`RefusesExt`](crate::definitions::ether_packet#def.RefusesExt). [Notation](crate::definitions::notation)
+///
 /// </details>
 #[inline]
 pub fn replace_link_ext(
@@ -155,6 +162,12 @@ fn ext_difference(new: &LinkExtHeader, old: &LinkExtHeader) -> Option<Difference
 ///     → Walk (start_with start limit) frame.old hs e → RefusesLink hs header.now error) }
 /// ensures kept { OnErr result (frame.new ≡ frame.old) }
 /// ```
+///
+/// Words: [`Header`](crate::definitions::ether_base#def.Header),
+/// [`Ending`](crate::definitions::ether_peel#def.Ending), [`Walk`](crate::definitions::ether_peel#def.Walk),
+/// [`start_with`](crate::definitions::ether_peel#def.start_with),
+/// [`ReplacesLink`](crate::definitions::ether_packet#def.ReplacesLink),
+/// [`RefusesLink`](crate::definitions::ether_packet#def.RefusesLink). [Notation](crate::definitions::notation)
 ///
 /// </details>
 #[inline]

@@ -61,6 +61,12 @@ use crate::{ArpPacket, ArpPacketSlice};
 /// ensures kept { OnErr result (frame.new ≡ frame.old) }
 /// ```
 ///
+/// Words: [`Header`](crate::definitions::ether_base#def.Header),
+/// [`Ending`](crate::definitions::ether_peel#def.Ending), [`Walk`](crate::definitions::ether_peel#def.Walk),
+/// [`packet_start`](crate::definitions::ether_packet#def.packet_start),
+/// [`ReplacesArp`](crate::definitions::ether_packet#def.ReplacesArp),
+/// [`RefusesArp`](crate::definitions::ether_packet#def.RefusesArp). [Notation](crate::definitions::notation)
+///
 /// </details>
 #[inline]
 pub fn replace_arp(start: Start, frame: &mut [u8], packet: &ArpPacket) -> Result<(), ReplaceError> {

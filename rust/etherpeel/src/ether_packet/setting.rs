@@ -54,6 +54,12 @@ struct IndexedVlan {
 ///     → Walk (start_of start) frame.now hs e → LacksVlan hs vlan_id) }
 /// ```
 ///
+/// Words: [`Header`](crate::definitions::ether_base#def.Header),
+/// [`Ending`](crate::definitions::ether_peel#def.Ending), [`Walk`](crate::definitions::ether_peel#def.Walk),
+/// [`start_of`](crate::definitions::ether_peel#def.start_of),
+/// [`FindsVlan`](crate::definitions::ether_packet#def.FindsVlan),
+/// [`LacksVlan`](crate::definitions::ether_packet#def.LacksVlan). [Notation](crate::definitions::notation)
+///
 /// </details>
 #[must_use]
 #[inline]
@@ -101,6 +107,13 @@ pub fn find_vlan(start: Start, frame: &[u8], vlan_id: VlanId) -> Option<usize> {
 ///     → Walk (start_of start) frame.old hs e → LacksVlan hs from) }
 /// ensures kept { IfNone result (frame.new ≡ frame.old) }
 /// ```
+///
+/// Words: [`Header`](crate::definitions::ether_base#def.Header),
+/// [`Ending`](crate::definitions::ether_peel#def.Ending), [`Walk`](crate::definitions::ether_peel#def.Walk),
+/// [`start_of`](crate::definitions::ether_peel#def.start_of),
+/// [`FindsVlan`](crate::definitions::ether_packet#def.FindsVlan),
+/// [`SetsTag`](crate::definitions::ether_packet#def.SetsTag),
+/// [`LacksVlan`](crate::definitions::ether_packet#def.LacksVlan). [Notation](crate::definitions::notation)
 ///
 /// </details>
 #[inline]
@@ -157,6 +170,12 @@ pub fn replace_vlan_id(start: Start, frame: &mut [u8], from: VlanId, to: VlanId)
 ///     → Walk (start_of start) frame.old hs e → RefusesTag hs index error) }
 /// ensures kept { OnErr result (frame.new ≡ frame.old) }
 /// ```
+///
+/// Words: [`Header`](crate::definitions::ether_base#def.Header),
+/// [`Ending`](crate::definitions::ether_peel#def.Ending), [`Walk`](crate::definitions::ether_peel#def.Walk),
+/// [`start_of`](crate::definitions::ether_peel#def.start_of),
+/// [`SetsTag`](crate::definitions::ether_packet#def.SetsTag),
+/// [`RefusesTag`](crate::definitions::ether_packet#def.RefusesTag). [Notation](crate::definitions::notation)
 ///
 /// </details>
 #[inline]
@@ -216,6 +235,12 @@ pub fn set_vlan_id(
 ///     → Walk (start_of start) frame.old hs e → RefusesTag hs index error) }
 /// ensures kept { OnErr result (frame.new ≡ frame.old) }
 /// ```
+///
+/// Words: [`Header`](crate::definitions::ether_base#def.Header),
+/// [`Ending`](crate::definitions::ether_peel#def.Ending), [`Walk`](crate::definitions::ether_peel#def.Walk),
+/// [`start_of`](crate::definitions::ether_peel#def.start_of),
+/// [`SetsTag`](crate::definitions::ether_packet#def.SetsTag), [`bit`](crate::definitions::ether_base#def.bit),
+/// [`RefusesTag`](crate::definitions::ether_packet#def.RefusesTag). [Notation](crate::definitions::notation)
 ///
 /// </details>
 #[inline]
@@ -282,6 +307,12 @@ pub fn set_vlan_tag(
 ///     → Walk (start_of start) frame.old hs e → RefusesTpid hs index tpid.0 error) }
 /// ensures kept { OnErr result (frame.new ≡ frame.old) }
 /// ```
+///
+/// Words: [`Header`](crate::definitions::ether_base#def.Header),
+/// [`Ending`](crate::definitions::ether_peel#def.Ending), [`Walk`](crate::definitions::ether_peel#def.Walk),
+/// [`start_of`](crate::definitions::ether_peel#def.start_of),
+/// [`SetsTpid`](crate::definitions::ether_packet#def.SetsTpid),
+/// [`RefusesTpid`](crate::definitions::ether_packet#def.RefusesTpid). [Notation](crate::definitions::notation)
 ///
 /// </details>
 #[inline]

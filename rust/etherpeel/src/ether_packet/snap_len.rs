@@ -30,6 +30,12 @@ use crate::ether_peel::{Peel, PeelUnit, Start};
 /// ensures within { result ≤ length frame.now }
 /// ```
 ///
+/// Words: [`Header`](crate::definitions::ether_base#def.Header),
+/// [`Ending`](crate::definitions::ether_peel#def.Ending), [`Walk`](crate::definitions::ether_peel#def.Walk),
+/// [`start_of`](crate::definitions::ether_peel#def.start_of),
+/// [`reach`](crate::definitions::ether_peel#def.reach), [`has_fcs`](crate::definitions::ether_peel#def.has_fcs),
+/// [`IsLeastSnap`](crate::definitions::ether_packet#def.IsLeastSnap). [Notation](crate::definitions::notation)
+///
 /// </details>
 #[must_use]
 #[inline]

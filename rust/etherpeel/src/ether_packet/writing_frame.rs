@@ -15,6 +15,9 @@ impl<'a> PacketParts<'a> {
     /// ensures { result ≡ counted_size self.now }
     /// ```
     ///
+    /// Words: [`counted_size`](crate::definitions::ether_packet#def.counted_size).
+    /// [Notation](crate::definitions::notation)
+    ///
     /// </details>
     #[must_use]
     #[inline]
@@ -81,6 +84,11 @@ impl<'a> PacketParts<'a> {
     /// ensures refused { IfErr result (RefusesFrame self.now target.old) }
     /// ensures kept { OnErr result (target.new ≡ target.old) }
     /// ```
+    ///
+    /// Words: [`IsFrameWritten`](crate::definitions::ether_packet#def.IsFrameWritten),
+    /// [`IsWholeFrame`](crate::definitions::ether_packet#def.IsWholeFrame),
+    /// [`IsChangedFrame`](crate::definitions::ether_packet#def.IsChangedFrame),
+    /// [`RefusesFrame`](crate::definitions::ether_packet#def.RefusesFrame). [Notation](crate::definitions::notation)
     ///
     /// </details>
     #[inline]

@@ -60,6 +60,10 @@ impl<'a, 'b> PacketBuilder<'a, 'b> {
     /// ensures kept { OnErr result (target.new ≡ target.old) }
     /// ```
     ///
+    /// Words: [`IsWrittenUnchanged`](crate::definitions::ether_packet#def.IsWrittenUnchanged),
+    /// [`RefusesUnchanged`](crate::definitions::ether_packet#def.RefusesUnchanged).
+    /// [Notation](crate::definitions::notation)
+    ///
     /// </details>
     #[inline]
     pub fn write_unchanged(&self, target: &mut [u8]) -> Result<usize, SliceWriteSpaceError> {

@@ -29,6 +29,9 @@ impl ByteOrder {
     /// ensures { result ≡ number_in (order_of self) bytes }
     /// ```
     ///
+    /// Words: [`number_in`](crate::definitions::ether_pcap#def.number_in),
+    /// [`order_of`](crate::definitions::ether_pcap#def.order_of). [Notation](crate::definitions::notation)
+    ///
     /// </details>
     #[must_use]
     #[inline]
@@ -46,6 +49,9 @@ impl ByteOrder {
     /// ```text
     /// ensures { result ≡ number_in (order_of self) bytes }
     /// ```
+    ///
+    /// Words: [`number_in`](crate::definitions::ether_pcap#def.number_in),
+    /// [`order_of`](crate::definitions::ether_pcap#def.order_of). [Notation](crate::definitions::notation)
     ///
     /// </details>
     #[must_use]
@@ -65,6 +71,9 @@ impl ByteOrder {
     /// ensures { result ≡ number_in (order_of self) bytes }
     /// ```
     ///
+    /// Words: [`number_in`](crate::definitions::ether_pcap#def.number_in),
+    /// [`order_of`](crate::definitions::ether_pcap#def.order_of). [Notation](crate::definitions::notation)
+    ///
     /// </details>
     #[must_use]
     #[inline]
@@ -83,6 +92,9 @@ impl ByteOrder {
     /// ensures { number_in (order_of self) result ≡ number }
     /// ```
     ///
+    /// Words: [`number_in`](crate::definitions::ether_pcap#def.number_in),
+    /// [`order_of`](crate::definitions::ether_pcap#def.order_of). [Notation](crate::definitions::notation)
+    ///
     /// </details>
     #[must_use]
     #[inline]
@@ -100,6 +112,9 @@ impl ByteOrder {
     /// ```text
     /// ensures { number_in (order_of self) result ≡ number }
     /// ```
+    ///
+    /// Words: [`number_in`](crate::definitions::ether_pcap#def.number_in),
+    /// [`order_of`](crate::definitions::ether_pcap#def.order_of). [Notation](crate::definitions::notation)
     ///
     /// </details>
     #[must_use]

@@ -49,6 +49,10 @@ const ZEROS: [u8; 1027] = [0; 1027];
 ///     (λ fill. Completes (start_of start) bytes.now fill.items) }
 /// ```
 ///
+/// Words: [`NothingToComplete`](crate::definitions::ether_peel#def.NothingToComplete),
+/// [`start_of`](crate::definitions::ether_peel#def.start_of),
+/// [`Completes`](crate::definitions::ether_peel#def.Completes). [Notation](crate::definitions::notation)
+///
 /// </details>
 #[must_use]
 #[inline]
@@ -79,6 +83,10 @@ pub fn completion(start: Start, bytes: &[u8]) -> Option<ArrayVec<u8, 1028>> {
 /// ensures { MatchOption result (NothingToComplete (limited_start start limit) bytes.now)
 ///     (λ fill. Completes (limited_start start limit) bytes.now fill.items) }
 /// ```
+///
+/// Words: [`NothingToComplete`](crate::definitions::ether_peel#def.NothingToComplete),
+/// [`limited_start`](crate::definitions::ether_peel#def.limited_start),
+/// [`Completes`](crate::definitions::ether_peel#def.Completes). [Notation](crate::definitions::notation)
 ///
 /// </details>
 #[must_use]

@@ -32,6 +32,9 @@ use crate::ether_peel::{Feed, Peel, PeelError, PeelFault, Start};
 /// ensures { IsFeed (start_of start) bytes.now result }
 /// ```
 ///
+/// Words: [`IsFeed`](crate::definitions::ether_peel#def.IsFeed),
+/// [`start_of`](crate::definitions::ether_peel#def.start_of). [Notation](crate::definitions::notation)
+///
 /// </details>
 #[must_use]
 #[inline]
@@ -62,6 +65,9 @@ pub fn feed(start: Start, bytes: &[u8]) -> Feed {
 /// ```text
 /// ensures { IsFeed (limited_start start limit) bytes.now result }
 /// ```
+///
+/// Words: [`IsFeed`](crate::definitions::ether_peel#def.IsFeed),
+/// [`limited_start`](crate::definitions::ether_peel#def.limited_start). [Notation](crate::definitions::notation)
 ///
 /// </details>
 #[must_use]

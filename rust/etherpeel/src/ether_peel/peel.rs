@@ -77,6 +77,10 @@ impl<'a> Peel<'a> {
     /// ensures walk { FacesWalk (start_of start) bytes.now result }
     /// ```
     ///
+    /// Words: [`begun`](crate::definitions::ether_peel#def.begun),
+    /// [`start_of`](crate::definitions::ether_peel#def.start_of),
+    /// [`FacesWalk`](crate::definitions::ether_peel#def.FacesWalk). [Notation](crate::definitions::notation)
+    ///
     /// </details>
     #[inline(always)]
     pub fn new(start: Start, bytes: &'a [u8]) -> Peel<'a> {
@@ -111,6 +115,10 @@ impl<'a> Peel<'a> {
     /// ensures state { result ≡ begun (limited_start start limit) bytes.now }
     /// ensures walk { FacesWalk (limited_start start limit) bytes.now result }
     /// ```
+    ///
+    /// Words: [`begun`](crate::definitions::ether_peel#def.begun),
+    /// [`limited_start`](crate::definitions::ether_peel#def.limited_start),
+    /// [`FacesWalk`](crate::definitions::ether_peel#def.FacesWalk). [Notation](crate::definitions::notation)
     ///
     /// </details>
     #[inline(always)]
@@ -150,6 +158,8 @@ impl<'a> Peel<'a> {
     /// ensures { result.now ≡ self.now.rest }
     /// ```
     ///
+    /// [Notation](crate::definitions::notation)
+    ///
     /// </details>
     #[must_use]
     #[inline(always)]
@@ -166,6 +176,8 @@ impl<'a> Peel<'a> {
     /// ensures fits { self.now.offset + length self.now.rest < 2 ^ 64 }
     /// ```
     ///
+    /// [Notation](crate::definitions::notation)
+    ///
     /// </details>
     #[must_use]
     #[inline(always)]
@@ -181,6 +193,8 @@ impl<'a> Peel<'a> {
     /// ensures { result ≡ kind_shown self.now.expected }
     /// ```
     ///
+    /// Words: [`kind_shown`](crate::definitions::ether_peel#def.kind_shown). [Notation](crate::definitions::notation)
+    ///
     /// </details>
     #[must_use]
     #[inline(always)]
@@ -195,6 +209,8 @@ impl<'a> Peel<'a> {
     /// ```text
     /// ensures { result ≡ self.now.closed }
     /// ```
+    ///
+    /// [Notation](crate::definitions::notation)
     ///
     /// </details>
     #[must_use]
@@ -213,6 +229,8 @@ impl<'a> Peel<'a> {
     /// ```text
     /// ensures { result ≡ self.now.bound }
     /// ```
+    ///
+    /// [Notation](crate::definitions::notation)
     ///
     /// </details>
     #[must_use]
@@ -244,6 +262,17 @@ impl<'a> Iterator for Peel<'a> {
             First::Ethernet2Fcs => self.ethernet2_fcs(),
             First::LinuxSll => self.linux_sll(),
         }
+    }
+
+    /// At most one unit for each four bytes left, and a fault.
+    #[inline]
+    fn size_hint(&self) -> (usize, Option<usize>) {
+        let most = if !self.is_over {
+            self.rest.len() / 4 + 1
+        } else {
+            0
+        };
+        (0, Some(most))
     }
 }
 

@@ -29,6 +29,8 @@ impl PeelFault {
     /// ensures { MatchOption result ((n : ℕ) → Misses self.now n → ⊥) (Misses self.now) }
     /// ```
     ///
+    /// Words: [`Misses`](crate::definitions::ether_peel#def.Misses). [Notation](crate::definitions::notation)
+    ///
     /// </details>
     #[must_use]
     #[inline]

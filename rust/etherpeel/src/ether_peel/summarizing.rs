@@ -26,6 +26,9 @@ use crate::ether_peel::{Peel, PeelFault, Start, Summary};
 /// ensures { IsSummary (start_of start) bytes.now result }
 /// ```
 ///
+/// Words: [`IsSummary`](crate::definitions::ether_peel#def.IsSummary),
+/// [`start_of`](crate::definitions::ether_peel#def.start_of). [Notation](crate::definitions::notation)
+///
 /// </details>
 #[must_use]
 #[inline(always)]
@@ -61,6 +64,11 @@ pub fn summary(start: Start, bytes: &[u8]) -> Summary {
 /// ensures front { IsFrontOfUnlimited start bytes.now limit }
 /// ensures spare { length bytes.now / 4 < limit → IsSummary (start_of start) bytes.now result }
 /// ```
+///
+/// Words: [`IsSummary`](crate::definitions::ether_peel#def.IsSummary),
+/// [`limited_start`](crate::definitions::ether_peel#def.limited_start),
+/// [`IsFrontOfUnlimited`](crate::definitions::ether_peel#def.IsFrontOfUnlimited),
+/// [`start_of`](crate::definitions::ether_peel#def.start_of). [Notation](crate::definitions::notation)
 ///
 /// </details>
 #[must_use]
@@ -114,6 +122,9 @@ pub(in crate::ether_peel) fn summarized(start: Start, bytes: &[u8], limit: Optio
 /// ensures { IsCutSummary (start_of start) bytes.now n result }
 /// ```
 ///
+/// Words: [`IsCutSummary`](crate::definitions::ether_peel#def.IsCutSummary),
+/// [`start_of`](crate::definitions::ether_peel#def.start_of). [Notation](crate::definitions::notation)
+///
 /// </details>
 #[must_use]
 #[inline(always)]
@@ -147,6 +158,9 @@ pub fn snap(start: Start, bytes: &[u8], n: usize) -> Summary {
 /// requires { n ≤ length bytes.now }
 /// ensures { IsCutSummary (limited_start start limit) bytes.now n result }
 /// ```
+///
+/// Words: [`IsCutSummary`](crate::definitions::ether_peel#def.IsCutSummary),
+/// [`limited_start`](crate::definitions::ether_peel#def.limited_start). [Notation](crate::definitions::notation)
 ///
 /// </details>
 #[must_use]

@@ -46,6 +46,10 @@ use crate::err::{Layer, SliceWriteSpaceError};
 /// ensures kept { IfErr result (λ _. target.new ≡ target.old) }
 /// ```
 ///
+/// Words: [`WritesBack`](crate::definitions::ether_peel#def.WritesBack),
+/// [`start_of`](crate::definitions::ether_peel#def.start_of),
+/// [`RefusesBack`](crate::definitions::ether_peel#def.RefusesBack). [Notation](crate::definitions::notation)
+///
 /// </details>
 #[inline]
 pub fn write_back(
@@ -89,6 +93,10 @@ pub fn write_back(
 /// ensures refused { IfErr result (RefusesBack (limited_start start limit) bytes.now target.old) }
 /// ensures kept { IfErr result (λ _. target.new ≡ target.old) }
 /// ```
+///
+/// Words: [`WritesBack`](crate::definitions::ether_peel#def.WritesBack),
+/// [`limited_start`](crate::definitions::ether_peel#def.limited_start),
+/// [`RefusesBack`](crate::definitions::ether_peel#def.RefusesBack). [Notation](crate::definitions::notation)
 ///
 /// </details>
 #[inline]

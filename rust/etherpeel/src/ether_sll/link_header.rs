@@ -33,6 +33,9 @@ impl LinkHeader {
     /// ensures { result ≡ ethernet2_header self }
     /// ```
     ///
+    /// Words: [`ethernet2_header`](crate::definitions::ether_sll#def.ethernet2_header).
+    /// [Notation](crate::definitions::notation)
+    ///
     /// </details>
     #[must_use]
     #[inline]
@@ -52,6 +55,10 @@ impl LinkHeader {
     /// ensures value { option_copied_mut result ≡ ethernet2_header self.old }
     /// ```
     ///
+    /// Words: [`LendsEthernet2`](crate::definitions::ether_sll#def.LendsEthernet2),
+    /// [`ethernet2_header`](crate::definitions::ether_sll#def.ethernet2_header).
+    /// [Notation](crate::definitions::notation)
+    ///
     /// </details>
     #[inline]
     pub fn mut_ethernet2(&mut self) -> Option<&mut Ethernet2Header> {
@@ -69,6 +76,9 @@ impl LinkHeader {
     /// ```text
     /// ensures { result ≡ linux_sll_header self }
     /// ```
+    ///
+    /// Words: [`linux_sll_header`](crate::definitions::ether_sll#def.linux_sll_header).
+    /// [Notation](crate::definitions::notation)
     ///
     /// </details>
     #[must_use]
@@ -89,6 +99,10 @@ impl LinkHeader {
     /// ensures value { option_copied_mut result ≡ linux_sll_header self.old }
     /// ```
     ///
+    /// Words: [`LendsLinuxSll`](crate::definitions::ether_sll#def.LendsLinuxSll),
+    /// [`linux_sll_header`](crate::definitions::ether_sll#def.linux_sll_header).
+    /// [Notation](crate::definitions::notation)
+    ///
     /// </details>
     #[inline]
     pub fn mut_linux_sll(&mut self) -> Option<&mut LinuxSllHeader> {
@@ -106,6 +120,9 @@ impl LinkHeader {
     /// ```text
     /// ensures { result ≡ link_header_len self.now }
     /// ```
+    ///
+    /// Words: [`link_header_len`](crate::definitions::ether_sll#def.link_header_len).
+    /// [Notation](crate::definitions::notation)
     ///
     /// </details>
     #[must_use]

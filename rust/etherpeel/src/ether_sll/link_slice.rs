@@ -41,6 +41,9 @@ impl<'a> LinkSlice<'a> {
     /// ensures { header_value result ≡ link_value self.now }
     /// ```
     ///
+    /// Words: [`header_value`](crate::definitions::ether_sll#def.header_value),
+    /// [`link_value`](crate::definitions::ether_sll#def.link_value). [Notation](crate::definitions::notation)
+    ///
     /// </details>
     #[must_use]
     #[inline]
@@ -62,6 +65,11 @@ impl<'a> LinkSlice<'a> {
     ///     (λ p. (told_ether_type (link_protocol self.now) ≡ Some p.ether_type.0)
     ///     × (p.len_source ≡ link_source self.now) × (p.payload.now ≡ link_payload self.now)) }
     /// ```
+    ///
+    /// Words: [`told_ether_type`](crate::definitions::ether_base#def.told_ether_type),
+    /// [`link_protocol`](crate::definitions::ether_sll#def.link_protocol),
+    /// [`link_source`](crate::definitions::ether_sll#def.link_source),
+    /// [`link_payload`](crate::definitions::ether_sll#def.link_payload). [Notation](crate::definitions::notation)
     ///
     /// </details>
     #[must_use]
@@ -85,6 +93,9 @@ impl<'a> LinkSlice<'a> {
     /// ensures protocol { result.protocol_type ≡ link_protocol self.now }
     /// ensures bytes { result.payload.now ≡ link_payload self.now }
     /// ```
+    ///
+    /// Words: [`link_protocol`](crate::definitions::ether_sll#def.link_protocol),
+    /// [`link_payload`](crate::definitions::ether_sll#def.link_payload). [Notation](crate::definitions::notation)
     ///
     /// </details>
     #[must_use]

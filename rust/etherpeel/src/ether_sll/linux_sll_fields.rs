@@ -68,6 +68,9 @@ pub(in crate::ether_sll) fn packet_type(bytes: &[u8]) -> LinuxSllPacketType {
 /// ensures { result.0 ≡ (linux_sll_of bytes.now).hardware_type }
 /// ```
 ///
+/// Words: [`linux_sll_of`](crate::definitions::ether_base#def.linux_sll_of).
+/// [Notation](crate::definitions::notation)
+///
 /// </details>
 #[must_use]
 #[inline(always)]
@@ -83,6 +86,9 @@ pub fn arp_hardware_type(bytes: &[u8]) -> ArpHardwareId {
 /// ensures { result ≡ (linux_sll_of bytes.now).address_len }
 /// ```
 ///
+/// Words: [`linux_sll_of`](crate::definitions::ether_base#def.linux_sll_of).
+/// [Notation](crate::definitions::notation)
+///
 /// </details>
 #[must_use]
 #[inline]
@@ -97,6 +103,9 @@ pub fn sender_address_valid_length(bytes: &[u8]) -> u16 {
 /// ```text
 /// ensures { result ≡ spelled 8 (linux_sll_of bytes.now).address }
 /// ```
+///
+/// Words: [`spelled`](crate::definitions::ether_base#def.spelled),
+/// [`linux_sll_of`](crate::definitions::ether_base#def.linux_sll_of). [Notation](crate::definitions::notation)
 ///
 /// </details>
 #[must_use]
@@ -142,6 +151,9 @@ pub(in crate::ether_sll) fn header(bytes: &[u8]) -> LinuxSllHeader {
 /// ensures { result ≡ (linux_sll_of bytes.now).packet_type }
 /// ```
 ///
+/// Words: [`linux_sll_of`](crate::definitions::ether_base#def.linux_sll_of).
+/// [Notation](crate::definitions::notation)
+///
 /// </details>
 #[must_use]
 #[inline(always)]
@@ -156,6 +168,9 @@ pub fn packet_type_number(bytes: &[u8]) -> u16 {
 /// ```text
 /// ensures { result ≡ (linux_sll_of bytes.now).protocol }
 /// ```
+///
+/// Words: [`linux_sll_of`](crate::definitions::ether_base#def.linux_sll_of).
+/// [Notation](crate::definitions::notation)
 ///
 /// </details>
 #[must_use]

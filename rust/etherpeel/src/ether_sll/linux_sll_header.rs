@@ -78,6 +78,15 @@ impl LinuxSllHeader {
     /// ensures short { IfErr result (λ e. OnLen e (λ _. length slice.now < 16)) }
     /// ```
     ///
+    /// Words: [`Accepts`](crate::definitions::ether_base#def.Accepts), `sources` (`LenSource`),
+    /// [`kinds.LinuxSll`](crate::definitions::ether_base#def.Kind),
+    /// [`Means`](crate::definitions::ether_base#def.Means),
+    /// [`headers.LinuxSll`](crate::definitions::ether_base#def.Header),
+    /// [`linux_sll_view`](crate::definitions::ether_sll#def.linux_sll_view),
+    /// [`protocol_type_of_header`](crate::definitions::ether_sll#def.protocol_type_of_header),
+    /// [`IsRefusedSll`](crate::definitions::ether_sll#def.IsRefusedSll),
+    /// [`OnLen`](crate::definitions::ether_base#def.OnLen). [Notation](crate::definitions::notation)
+    ///
     /// </details>
     #[inline]
     pub fn from_slice(slice: &[u8]) -> Result<(LinuxSllHeader, &[u8]), HeaderSliceError> {
@@ -100,6 +109,10 @@ impl LinuxSllHeader {
     /// ensures inverse { IfOk result (λ h. linux_sll_bytes (linux_sll_view h) ≡ bytes) }
     /// ```
     ///
+    /// Words: [`AnswersHeader`](crate::definitions::ether_sll#def.AnswersHeader),
+    /// [`linux_sll_bytes`](crate::definitions::ether_base#def.linux_sll_bytes),
+    /// [`linux_sll_view`](crate::definitions::ether_sll#def.linux_sll_view). [Notation](crate::definitions::notation)
+    ///
     /// </details>
     #[inline]
     pub fn from_bytes(bytes: [u8; 16]) -> Result<LinuxSllHeader, HeaderError> {
@@ -114,6 +127,8 @@ impl LinuxSllHeader {
     /// ```text
     /// ensures { result ≡ 16 }
     /// ```
+    ///
+    /// [Notation](crate::definitions::notation)
     ///
     /// </details>
     #[must_use]
@@ -137,6 +152,12 @@ impl LinuxSllHeader {
     /// ensures read_back { (r : Result LinuxSllHeader header_error) → AnswersHeader result r
     ///     → ((r ≡ Ok self.now) ↔ HasOwnType self.now) }
     /// ```
+    ///
+    /// Words: [`linux_sll_bytes`](crate::definitions::ether_base#def.linux_sll_bytes),
+    /// [`linux_sll_view`](crate::definitions::ether_sll#def.linux_sll_view),
+    /// [`FitsLinuxSll`](crate::definitions::ether_base#def.FitsLinuxSll), `header_error` (`HeaderError`),
+    /// [`AnswersHeader`](crate::definitions::ether_sll#def.AnswersHeader),
+    /// [`HasOwnType`](crate::definitions::ether_sll#def.HasOwnType). [Notation](crate::definitions::notation)
     ///
     /// </details>
     #[must_use]
@@ -165,6 +186,11 @@ impl LinuxSllHeader {
     ///     (LendsRest (linux_sll_bytes (linux_sll_view self.now)) slice.entry result) }
     /// ensures answers { AnswersRest 16 Layer.LinuxSllHeader slice.old result }
     /// ```
+    ///
+    /// Words: [`LendsRest`](crate::definitions::ether_base#def.LendsRest),
+    /// [`linux_sll_bytes`](crate::definitions::ether_base#def.linux_sll_bytes),
+    /// [`linux_sll_view`](crate::definitions::ether_sll#def.linux_sll_view),
+    /// [`AnswersRest`](crate::definitions::ether_base#def.AnswersRest). [Notation](crate::definitions::notation)
     ///
     /// </details>
     #[inline]

@@ -58,6 +58,14 @@ impl<'a> LinuxSllHeaderSlice<'a> {
     /// ensures short { IfErr result (λ e. OnLen e (λ _. length slice.now < 16)) }
     /// ```
     ///
+    /// Words: [`Accepts`](crate::definitions::ether_base#def.Accepts), `sources` (`LenSource`),
+    /// [`kinds.LinuxSll`](crate::definitions::ether_base#def.Kind),
+    /// [`Means`](crate::definitions::ether_base#def.Means),
+    /// [`headers.LinuxSll`](crate::definitions::ether_base#def.Header),
+    /// [`linux_sll_of`](crate::definitions::ether_base#def.linux_sll_of),
+    /// [`IsRefusedSll`](crate::definitions::ether_sll#def.IsRefusedSll),
+    /// [`OnLen`](crate::definitions::ether_base#def.OnLen). [Notation](crate::definitions::notation)
+    ///
     /// </details>
     #[inline]
     pub fn from_slice(slice: &'a [u8]) -> Result<LinuxSllHeaderSlice<'a>, HeaderSliceError> {
@@ -76,6 +84,8 @@ impl<'a> LinuxSllHeaderSlice<'a> {
     /// ensures len { length result.now ≡ 16 }
     /// ```
     ///
+    /// [Notation](crate::definitions::notation)
+    ///
     /// </details>
     #[must_use]
     #[inline]
@@ -90,6 +100,9 @@ impl<'a> LinuxSllHeaderSlice<'a> {
     /// ```text
     /// ensures { result ≡ (linux_sll_of self.now).packet_type }
     /// ```
+    ///
+    /// Words: [`linux_sll_of`](crate::definitions::ether_base#def.linux_sll_of).
+    /// [Notation](crate::definitions::notation)
     ///
     /// </details>
     #[must_use]
@@ -106,6 +119,9 @@ impl<'a> LinuxSllHeaderSlice<'a> {
     /// ensures { result ≡ (linux_sll_of self.now).packet_type }
     /// ```
     ///
+    /// Words: [`linux_sll_of`](crate::definitions::ether_base#def.linux_sll_of).
+    /// [Notation](crate::definitions::notation)
+    ///
     /// </details>
     #[must_use]
     #[inline]
@@ -120,6 +136,9 @@ impl<'a> LinuxSllHeaderSlice<'a> {
     /// ```text
     /// ensures { result.0 ≡ (linux_sll_of self.now).hardware_type }
     /// ```
+    ///
+    /// Words: [`linux_sll_of`](crate::definitions::ether_base#def.linux_sll_of).
+    /// [Notation](crate::definitions::notation)
     ///
     /// </details>
     #[must_use]
@@ -136,6 +155,9 @@ impl<'a> LinuxSllHeaderSlice<'a> {
     /// ensures { result ≡ (linux_sll_of self.now).address_len }
     /// ```
     ///
+    /// Words: [`linux_sll_of`](crate::definitions::ether_base#def.linux_sll_of).
+    /// [Notation](crate::definitions::notation)
+    ///
     /// </details>
     #[must_use]
     #[inline]
@@ -150,6 +172,9 @@ impl<'a> LinuxSllHeaderSlice<'a> {
     /// ```text
     /// ensures { result ≡ spelled 8 (linux_sll_of self.now).address }
     /// ```
+    ///
+    /// Words: [`spelled`](crate::definitions::ether_base#def.spelled),
+    /// [`linux_sll_of`](crate::definitions::ether_base#def.linux_sll_of). [Notation](crate::definitions::notation)
     ///
     /// </details>
     #[must_use]
@@ -166,6 +191,9 @@ impl<'a> LinuxSllHeaderSlice<'a> {
     /// ensures { result.now ≡ valid_address self.now }
     /// ```
     ///
+    /// Words: [`valid_address`](crate::definitions::ether_sll#def.valid_address).
+    /// [Notation](crate::definitions::notation)
+    ///
     /// </details>
     #[must_use]
     #[inline]
@@ -180,6 +208,9 @@ impl<'a> LinuxSllHeaderSlice<'a> {
     /// ```text
     /// ensures { result ≡ protocol_type_of_header self.now }
     /// ```
+    ///
+    /// Words: [`protocol_type_of_header`](crate::definitions::ether_sll#def.protocol_type_of_header).
+    /// [Notation](crate::definitions::notation)
     ///
     /// </details>
     #[must_use]
@@ -196,6 +227,9 @@ impl<'a> LinuxSllHeaderSlice<'a> {
     /// ensures { result ≡ (linux_sll_of self.now).protocol }
     /// ```
     ///
+    /// Words: [`linux_sll_of`](crate::definitions::ether_base#def.linux_sll_of).
+    /// [Notation](crate::definitions::notation)
+    ///
     /// </details>
     #[must_use]
     #[inline]
@@ -211,6 +245,11 @@ impl<'a> LinuxSllHeaderSlice<'a> {
     /// ensures view { linux_sll_view result ≡ linux_sll_of self.now }
     /// ensures protocol { result.protocol_type ≡ protocol_type_of_header self.now }
     /// ```
+    ///
+    /// Words: [`linux_sll_view`](crate::definitions::ether_sll#def.linux_sll_view),
+    /// [`linux_sll_of`](crate::definitions::ether_base#def.linux_sll_of),
+    /// [`protocol_type_of_header`](crate::definitions::ether_sll#def.protocol_type_of_header).
+    /// [Notation](crate::definitions::notation)
     ///
     /// </details>
     #[must_use]

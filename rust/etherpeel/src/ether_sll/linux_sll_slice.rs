@@ -52,6 +52,14 @@ impl<'a> LinuxSllSlice<'a> {
     /// ensures short { IfErr result (λ e. OnLen e (λ _. length slice.now < 16)) }
     /// ```
     ///
+    /// Words: [`Accepts`](crate::definitions::ether_base#def.Accepts), `sources` (`LenSource`),
+    /// [`kinds.LinuxSll`](crate::definitions::ether_base#def.Kind),
+    /// [`Means`](crate::definitions::ether_base#def.Means),
+    /// [`headers.LinuxSll`](crate::definitions::ether_base#def.Header),
+    /// [`linux_sll_of`](crate::definitions::ether_base#def.linux_sll_of),
+    /// [`IsRefusedSll`](crate::definitions::ether_sll#def.IsRefusedSll),
+    /// [`OnLen`](crate::definitions::ether_base#def.OnLen). [Notation](crate::definitions::notation)
+    ///
     /// </details>
     #[inline]
     pub fn from_slice(slice: &'a [u8]) -> Result<LinuxSllSlice<'a>, HeaderSliceError> {
@@ -66,6 +74,8 @@ impl<'a> LinuxSllSlice<'a> {
     /// ```text
     /// ensures { result.now ≡ self.now }
     /// ```
+    ///
+    /// [Notation](crate::definitions::notation)
     ///
     /// </details>
     #[must_use]
@@ -82,6 +92,9 @@ impl<'a> LinuxSllSlice<'a> {
     /// ensures { result ≡ (linux_sll_of self.now).packet_type }
     /// ```
     ///
+    /// Words: [`linux_sll_of`](crate::definitions::ether_base#def.linux_sll_of).
+    /// [Notation](crate::definitions::notation)
+    ///
     /// </details>
     #[must_use]
     #[inline(always)]
@@ -96,6 +109,9 @@ impl<'a> LinuxSllSlice<'a> {
     /// ```text
     /// ensures { result ≡ (linux_sll_of self.now).packet_type }
     /// ```
+    ///
+    /// Words: [`linux_sll_of`](crate::definitions::ether_base#def.linux_sll_of).
+    /// [Notation](crate::definitions::notation)
     ///
     /// </details>
     #[must_use]
@@ -112,6 +128,9 @@ impl<'a> LinuxSllSlice<'a> {
     /// ensures { result.0 ≡ (linux_sll_of self.now).hardware_type }
     /// ```
     ///
+    /// Words: [`linux_sll_of`](crate::definitions::ether_base#def.linux_sll_of).
+    /// [Notation](crate::definitions::notation)
+    ///
     /// </details>
     #[must_use]
     #[inline]
@@ -126,6 +145,9 @@ impl<'a> LinuxSllSlice<'a> {
     /// ```text
     /// ensures { result ≡ (linux_sll_of self.now).address_len }
     /// ```
+    ///
+    /// Words: [`linux_sll_of`](crate::definitions::ether_base#def.linux_sll_of).
+    /// [Notation](crate::definitions::notation)
     ///
     /// </details>
     #[must_use]
@@ -142,6 +164,9 @@ impl<'a> LinuxSllSlice<'a> {
     /// ensures { result ≡ spelled 8 (linux_sll_of self.now).address }
     /// ```
     ///
+    /// Words: [`spelled`](crate::definitions::ether_base#def.spelled),
+    /// [`linux_sll_of`](crate::definitions::ether_base#def.linux_sll_of). [Notation](crate::definitions::notation)
+    ///
     /// </details>
     #[must_use]
     #[inline]
@@ -156,6 +181,9 @@ impl<'a> LinuxSllSlice<'a> {
     /// ```text
     /// ensures { result.now ≡ valid_address self.now }
     /// ```
+    ///
+    /// Words: [`valid_address`](crate::definitions::ether_sll#def.valid_address).
+    /// [Notation](crate::definitions::notation)
     ///
     /// </details>
     #[must_use]
@@ -172,6 +200,9 @@ impl<'a> LinuxSllSlice<'a> {
     /// ensures { result ≡ protocol_type_of_header self.now }
     /// ```
     ///
+    /// Words: [`protocol_type_of_header`](crate::definitions::ether_sll#def.protocol_type_of_header).
+    /// [Notation](crate::definitions::notation)
+    ///
     /// </details>
     #[must_use]
     #[inline(always)]
@@ -186,6 +217,9 @@ impl<'a> LinuxSllSlice<'a> {
     /// ```text
     /// ensures { result ≡ (linux_sll_of self.now).protocol }
     /// ```
+    ///
+    /// Words: [`linux_sll_of`](crate::definitions::ether_base#def.linux_sll_of).
+    /// [Notation](crate::definitions::notation)
     ///
     /// </details>
     #[must_use]
@@ -203,6 +237,8 @@ impl<'a> LinuxSllSlice<'a> {
     /// ensures len { length result.now ≡ 16 }
     /// ```
     ///
+    /// [Notation](crate::definitions::notation)
+    ///
     /// </details>
     #[must_use]
     #[inline]
@@ -219,6 +255,11 @@ impl<'a> LinuxSllSlice<'a> {
     /// ensures protocol { result.protocol_type ≡ protocol_type_of_header self.now }
     /// ```
     ///
+    /// Words: [`linux_sll_view`](crate::definitions::ether_sll#def.linux_sll_view),
+    /// [`linux_sll_of`](crate::definitions::ether_base#def.linux_sll_of),
+    /// [`protocol_type_of_header`](crate::definitions::ether_sll#def.protocol_type_of_header).
+    /// [Notation](crate::definitions::notation)
+    ///
     /// </details>
     #[must_use]
     #[inline]
@@ -234,6 +275,9 @@ impl<'a> LinuxSllSlice<'a> {
     /// ensures protocol { result.protocol_type ≡ protocol_type_of_header self.now }
     /// ensures bytes { result.payload.now ≡ slice_range self.now 16 (length self.now) }
     /// ```
+    ///
+    /// Words: [`protocol_type_of_header`](crate::definitions::ether_sll#def.protocol_type_of_header).
+    /// [Notation](crate::definitions::notation)
     ///
     /// </details>
     #[must_use]
@@ -253,6 +297,8 @@ impl<'a> LinuxSllSlice<'a> {
     /// ensures { result.now ≡ slice_range self.now 16 (length self.now) }
     /// ```
     ///
+    /// [Notation](crate::definitions::notation)
+    ///
     /// </details>
     #[must_use]
     #[inline]
@@ -268,6 +314,8 @@ impl<'a> LinuxSllSlice<'a> {
     /// ```text
     /// ensures { result ≡ 16 }
     /// ```
+    ///
+    /// [Notation](crate::definitions::notation)
     ///
     /// </details>
     #[must_use]

@@ -38,6 +38,10 @@ const ADDRESS: usize = 12;
 /// ensures short { IfErr result (IsShort slice.now) }
 /// ```
 ///
+/// Words: [`HoldsLinuxSll2`](crate::definitions::ether_sll2#def.HoldsLinuxSll2),
+/// [`IsRefusedSll2`](crate::definitions::ether_sll2#def.IsRefusedSll2),
+/// [`IsShort`](crate::definitions::ether_sll2#def.IsShort). [Notation](crate::definitions::notation)
+///
 /// </details>
 #[inline]
 pub fn require_header(slice: &[u8]) -> Result<(), LinuxSll2Error> {
@@ -65,6 +69,10 @@ pub fn require_header(slice: &[u8]) -> Result<(), LinuxSll2Error> {
 /// ensures short { IfErr result (IsShort bytes.now) }
 /// ```
 ///
+/// Words: [`HoldsLinuxSll2`](crate::definitions::ether_sll2#def.HoldsLinuxSll2),
+/// [`IsRefusedSll2`](crate::definitions::ether_sll2#def.IsRefusedSll2),
+/// [`IsShort`](crate::definitions::ether_sll2#def.IsShort). [Notation](crate::definitions::notation)
+///
 /// </details>
 #[inline]
 pub fn require_packet_type(bytes: &[u8]) -> Result<(), LinuxSll2Error> {
@@ -88,6 +96,9 @@ pub fn require_packet_type(bytes: &[u8]) -> Result<(), LinuxSll2Error> {
 /// ensures { result ≡ protocol_of_header bytes.now }
 /// ```
 ///
+/// Words: [`protocol_of_header`](crate::definitions::ether_sll2#def.protocol_of_header).
+/// [Notation](crate::definitions::notation)
+///
 /// </details>
 #[must_use]
 #[inline(always)]
@@ -107,6 +118,9 @@ pub fn protocol_type(bytes: &[u8]) -> LinuxSllProtocolType {
 /// requires { 20 ≤ length bytes.now }
 /// ensures { result ≡ (linux_sll2_of bytes.now).interface_index }
 /// ```
+///
+/// Words: [`linux_sll2_of`](crate::definitions::ether_sll2#def.linux_sll2_of).
+/// [Notation](crate::definitions::notation)
 ///
 /// </details>
 #[must_use]
@@ -128,6 +142,9 @@ pub fn interface_index(bytes: &[u8]) -> u32 {
 /// ensures { result.0 ≡ (linux_sll2_of bytes.now).hardware_type }
 /// ```
 ///
+/// Words: [`linux_sll2_of`](crate::definitions::ether_sll2#def.linux_sll2_of).
+/// [Notation](crate::definitions::notation)
+///
 /// </details>
 #[must_use]
 #[inline]
@@ -147,6 +164,9 @@ pub fn arp_hardware_type(bytes: &[u8]) -> ArpHardwareId {
 /// requires { 20 ≤ length bytes.now }
 /// ensures { result ≡ (linux_sll2_of bytes.now).packet_type }
 /// ```
+///
+/// Words: [`linux_sll2_of`](crate::definitions::ether_sll2#def.linux_sll2_of).
+/// [Notation](crate::definitions::notation)
 ///
 /// </details>
 #[must_use]
@@ -168,6 +188,9 @@ pub fn packet_type_number(bytes: &[u8]) -> u8 {
 /// ensures { result ≡ (linux_sll2_of bytes.now).protocol }
 /// ```
 ///
+/// Words: [`linux_sll2_of`](crate::definitions::ether_sll2#def.linux_sll2_of).
+/// [Notation](crate::definitions::notation)
+///
 /// </details>
 #[must_use]
 #[inline(always)]
@@ -187,6 +210,9 @@ pub fn protocol_number(bytes: &[u8]) -> u16 {
 /// requires { HoldsLinuxSll2 bytes.now }
 /// ensures { result ≡ (linux_sll2_of bytes.now).packet_type }
 /// ```
+///
+/// Words: [`HoldsLinuxSll2`](crate::definitions::ether_sll2#def.HoldsLinuxSll2),
+/// [`linux_sll2_of`](crate::definitions::ether_sll2#def.linux_sll2_of). [Notation](crate::definitions::notation)
 ///
 /// </details>
 #[must_use]
@@ -211,6 +237,9 @@ pub fn packet_type(bytes: &[u8]) -> LinuxSllPacketType {
 /// ensures { result ≡ (linux_sll2_of bytes.now).address_len }
 /// ```
 ///
+/// Words: [`linux_sll2_of`](crate::definitions::ether_sll2#def.linux_sll2_of).
+/// [Notation](crate::definitions::notation)
+///
 /// </details>
 #[must_use]
 #[inline]
@@ -231,6 +260,9 @@ pub fn sender_address_valid_length(bytes: &[u8]) -> u8 {
 /// ensures { result ≡ spelled 8 (linux_sll2_of bytes.now).address }
 /// ```
 ///
+/// Words: [`spelled`](crate::definitions::ether_base#def.spelled),
+/// [`linux_sll2_of`](crate::definitions::ether_sll2#def.linux_sll2_of). [Notation](crate::definitions::notation)
+///
 /// </details>
 #[must_use]
 #[inline]
@@ -250,6 +282,9 @@ pub fn sender_address_full(bytes: &[u8]) -> [u8; 8] {
 /// requires { 20 ≤ length bytes.now }
 /// ensures { result.now ≡ valid_address bytes.now }
 /// ```
+///
+/// Words: [`valid_address`](crate::definitions::ether_sll2#def.valid_address).
+/// [Notation](crate::definitions::notation)
 ///
 /// </details>
 #[must_use]
@@ -275,6 +310,12 @@ pub fn sender_address(bytes: &[u8]) -> &[u8] {
 /// ensures protocol { result.protocol_type ≡ protocol_of_header bytes.now }
 /// ensures bytes { IsBytes bytes.now }
 /// ```
+///
+/// Words: [`HoldsLinuxSll2`](crate::definitions::ether_sll2#def.HoldsLinuxSll2),
+/// [`linux_sll2_view`](crate::definitions::ether_sll2#def.linux_sll2_view),
+/// [`linux_sll2_of`](crate::definitions::ether_sll2#def.linux_sll2_of),
+/// [`protocol_of_header`](crate::definitions::ether_sll2#def.protocol_of_header),
+/// [`IsBytes`](crate::definitions::ether_base#def.IsBytes). [Notation](crate::definitions::notation)
 ///
 /// </details>
 #[must_use]

@@ -82,6 +82,13 @@ impl LinuxSll2Header {
     /// ensures short { IfErr result (IsShort slice.now) }
     /// ```
     ///
+    /// Words: [`AcceptsLinuxSll2`](crate::definitions::ether_sll2#def.AcceptsLinuxSll2),
+    /// [`BeginsLinuxSll2`](crate::definitions::ether_sll2#def.BeginsLinuxSll2),
+    /// [`linux_sll2_view`](crate::definitions::ether_sll2#def.linux_sll2_view),
+    /// [`protocol_of_header`](crate::definitions::ether_sll2#def.protocol_of_header),
+    /// [`IsRefusedSll2`](crate::definitions::ether_sll2#def.IsRefusedSll2),
+    /// [`IsShort`](crate::definitions::ether_sll2#def.IsShort). [Notation](crate::definitions::notation)
+    ///
     /// </details>
     #[inline]
     pub fn from_slice(slice: &[u8]) -> Result<(LinuxSll2Header, &[u8]), LinuxSll2Error> {
@@ -102,6 +109,11 @@ impl LinuxSll2Header {
     /// ensures inverse { IfOk result (λ h. linux_sll2_bytes (linux_sll2_view h) ≡ cleared bytes) }
     /// ```
     ///
+    /// Words: [`AnswersHeader`](crate::definitions::ether_sll2#def.AnswersHeader),
+    /// [`linux_sll2_bytes`](crate::definitions::ether_sll2#def.linux_sll2_bytes),
+    /// [`linux_sll2_view`](crate::definitions::ether_sll2#def.linux_sll2_view),
+    /// [`cleared`](crate::definitions::ether_sll2#def.cleared). [Notation](crate::definitions::notation)
+    ///
     /// </details>
     #[inline]
     pub fn from_bytes(bytes: [u8; 20]) -> Result<LinuxSll2Header, LinuxSll2Error> {
@@ -116,6 +128,8 @@ impl LinuxSll2Header {
     /// ```text
     /// ensures { result ≡ 20 }
     /// ```
+    ///
+    /// [Notation](crate::definitions::notation)
     ///
     /// </details>
     #[must_use]
@@ -139,6 +153,12 @@ impl LinuxSll2Header {
     /// ensures read_back { (r : Result LinuxSll2Header sll2_error) → AnswersHeader result r
     ///     → ((r ≡ Ok self.now) ↔ HasOwnType self.now) }
     /// ```
+    ///
+    /// Words: [`linux_sll2_bytes`](crate::definitions::ether_sll2#def.linux_sll2_bytes),
+    /// [`linux_sll2_view`](crate::definitions::ether_sll2#def.linux_sll2_view),
+    /// [`FitsLinuxSll2`](crate::definitions::ether_sll2#def.FitsLinuxSll2), `sll2_error` (`LinuxSll2Error`),
+    /// [`AnswersHeader`](crate::definitions::ether_sll2#def.AnswersHeader),
+    /// [`HasOwnType`](crate::definitions::ether_sll2#def.HasOwnType). [Notation](crate::definitions::notation)
     ///
     /// </details>
     #[must_use]

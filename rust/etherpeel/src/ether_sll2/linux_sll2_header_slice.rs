@@ -54,6 +54,12 @@ impl<'a> LinuxSll2HeaderSlice<'a> {
     /// ensures short { IfErr result (IsShort slice.now) }
     /// ```
     ///
+    /// Words: [`AcceptsLinuxSll2`](crate::definitions::ether_sll2#def.AcceptsLinuxSll2),
+    /// [`BeginsLinuxSll2`](crate::definitions::ether_sll2#def.BeginsLinuxSll2),
+    /// [`linux_sll2_of`](crate::definitions::ether_sll2#def.linux_sll2_of),
+    /// [`IsRefusedSll2`](crate::definitions::ether_sll2#def.IsRefusedSll2),
+    /// [`IsShort`](crate::definitions::ether_sll2#def.IsShort). [Notation](crate::definitions::notation)
+    ///
     /// </details>
     #[inline]
     pub fn from_slice(slice: &'a [u8]) -> Result<LinuxSll2HeaderSlice<'a>, LinuxSll2Error> {
@@ -72,6 +78,8 @@ impl<'a> LinuxSll2HeaderSlice<'a> {
     /// ensures len { length result.now ≡ 20 }
     /// ```
     ///
+    /// [Notation](crate::definitions::notation)
+    ///
     /// </details>
     #[must_use]
     #[inline]
@@ -86,6 +94,9 @@ impl<'a> LinuxSll2HeaderSlice<'a> {
     /// ```text
     /// ensures { result ≡ protocol_of_header self.now }
     /// ```
+    ///
+    /// Words: [`protocol_of_header`](crate::definitions::ether_sll2#def.protocol_of_header).
+    /// [Notation](crate::definitions::notation)
     ///
     /// </details>
     #[must_use]
@@ -102,6 +113,9 @@ impl<'a> LinuxSll2HeaderSlice<'a> {
     /// ensures { result ≡ (linux_sll2_of self.now).protocol }
     /// ```
     ///
+    /// Words: [`linux_sll2_of`](crate::definitions::ether_sll2#def.linux_sll2_of).
+    /// [Notation](crate::definitions::notation)
+    ///
     /// </details>
     #[must_use]
     #[inline]
@@ -116,6 +130,9 @@ impl<'a> LinuxSll2HeaderSlice<'a> {
     /// ```text
     /// ensures { result ≡ (linux_sll2_of self.now).interface_index }
     /// ```
+    ///
+    /// Words: [`linux_sll2_of`](crate::definitions::ether_sll2#def.linux_sll2_of).
+    /// [Notation](crate::definitions::notation)
     ///
     /// </details>
     #[must_use]
@@ -132,6 +149,9 @@ impl<'a> LinuxSll2HeaderSlice<'a> {
     /// ensures { result.0 ≡ (linux_sll2_of self.now).hardware_type }
     /// ```
     ///
+    /// Words: [`linux_sll2_of`](crate::definitions::ether_sll2#def.linux_sll2_of).
+    /// [Notation](crate::definitions::notation)
+    ///
     /// </details>
     #[must_use]
     #[inline]
@@ -146,6 +166,9 @@ impl<'a> LinuxSll2HeaderSlice<'a> {
     /// ```text
     /// ensures { result ≡ (linux_sll2_of self.now).packet_type }
     /// ```
+    ///
+    /// Words: [`linux_sll2_of`](crate::definitions::ether_sll2#def.linux_sll2_of).
+    /// [Notation](crate::definitions::notation)
     ///
     /// </details>
     #[must_use]
@@ -162,6 +185,9 @@ impl<'a> LinuxSll2HeaderSlice<'a> {
     /// ensures { result ≡ (linux_sll2_of self.now).packet_type }
     /// ```
     ///
+    /// Words: [`linux_sll2_of`](crate::definitions::ether_sll2#def.linux_sll2_of).
+    /// [Notation](crate::definitions::notation)
+    ///
     /// </details>
     #[must_use]
     #[inline]
@@ -176,6 +202,9 @@ impl<'a> LinuxSll2HeaderSlice<'a> {
     /// ```text
     /// ensures { result ≡ (linux_sll2_of self.now).address_len }
     /// ```
+    ///
+    /// Words: [`linux_sll2_of`](crate::definitions::ether_sll2#def.linux_sll2_of).
+    /// [Notation](crate::definitions::notation)
     ///
     /// </details>
     #[must_use]
@@ -192,6 +221,9 @@ impl<'a> LinuxSll2HeaderSlice<'a> {
     /// ensures { result ≡ spelled 8 (linux_sll2_of self.now).address }
     /// ```
     ///
+    /// Words: [`spelled`](crate::definitions::ether_base#def.spelled),
+    /// [`linux_sll2_of`](crate::definitions::ether_sll2#def.linux_sll2_of). [Notation](crate::definitions::notation)
+    ///
     /// </details>
     #[must_use]
     #[inline]
@@ -206,6 +238,9 @@ impl<'a> LinuxSll2HeaderSlice<'a> {
     /// ```text
     /// ensures { result.now ≡ valid_address self.now }
     /// ```
+    ///
+    /// Words: [`valid_address`](crate::definitions::ether_sll2#def.valid_address).
+    /// [Notation](crate::definitions::notation)
     ///
     /// </details>
     #[must_use]
@@ -222,6 +257,11 @@ impl<'a> LinuxSll2HeaderSlice<'a> {
     /// ensures view { linux_sll2_view result ≡ linux_sll2_of self.now }
     /// ensures protocol { result.protocol_type ≡ protocol_of_header self.now }
     /// ```
+    ///
+    /// Words: [`linux_sll2_view`](crate::definitions::ether_sll2#def.linux_sll2_view),
+    /// [`linux_sll2_of`](crate::definitions::ether_sll2#def.linux_sll2_of),
+    /// [`protocol_of_header`](crate::definitions::ether_sll2#def.protocol_of_header).
+    /// [Notation](crate::definitions::notation)
     ///
     /// </details>
     #[must_use]

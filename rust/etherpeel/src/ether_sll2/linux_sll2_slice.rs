@@ -58,6 +58,12 @@ impl<'a> LinuxSll2Slice<'a> {
     /// ensures short { IfErr result (IsShort slice.now) }
     /// ```
     ///
+    /// Words: [`AcceptsLinuxSll2`](crate::definitions::ether_sll2#def.AcceptsLinuxSll2),
+    /// [`BeginsLinuxSll2`](crate::definitions::ether_sll2#def.BeginsLinuxSll2),
+    /// [`linux_sll2_of`](crate::definitions::ether_sll2#def.linux_sll2_of),
+    /// [`IsRefusedSll2`](crate::definitions::ether_sll2#def.IsRefusedSll2),
+    /// [`IsShort`](crate::definitions::ether_sll2#def.IsShort). [Notation](crate::definitions::notation)
+    ///
     /// </details>
     #[inline]
     pub fn from_slice(slice: &'a [u8]) -> Result<LinuxSll2Slice<'a>, LinuxSll2Error> {
@@ -72,6 +78,8 @@ impl<'a> LinuxSll2Slice<'a> {
     /// ```text
     /// ensures { result.now ≡ self.now }
     /// ```
+    ///
+    /// [Notation](crate::definitions::notation)
     ///
     /// </details>
     #[must_use]
@@ -88,6 +96,9 @@ impl<'a> LinuxSll2Slice<'a> {
     /// ensures { result ≡ protocol_of_header self.now }
     /// ```
     ///
+    /// Words: [`protocol_of_header`](crate::definitions::ether_sll2#def.protocol_of_header).
+    /// [Notation](crate::definitions::notation)
+    ///
     /// </details>
     #[must_use]
     #[inline(always)]
@@ -102,6 +113,9 @@ impl<'a> LinuxSll2Slice<'a> {
     /// ```text
     /// ensures { result ≡ (linux_sll2_of self.now).protocol }
     /// ```
+    ///
+    /// Words: [`linux_sll2_of`](crate::definitions::ether_sll2#def.linux_sll2_of).
+    /// [Notation](crate::definitions::notation)
     ///
     /// </details>
     #[must_use]
@@ -118,6 +132,9 @@ impl<'a> LinuxSll2Slice<'a> {
     /// ensures { result ≡ (linux_sll2_of self.now).interface_index }
     /// ```
     ///
+    /// Words: [`linux_sll2_of`](crate::definitions::ether_sll2#def.linux_sll2_of).
+    /// [Notation](crate::definitions::notation)
+    ///
     /// </details>
     #[must_use]
     #[inline]
@@ -132,6 +149,9 @@ impl<'a> LinuxSll2Slice<'a> {
     /// ```text
     /// ensures { result.0 ≡ (linux_sll2_of self.now).hardware_type }
     /// ```
+    ///
+    /// Words: [`linux_sll2_of`](crate::definitions::ether_sll2#def.linux_sll2_of).
+    /// [Notation](crate::definitions::notation)
     ///
     /// </details>
     #[must_use]
@@ -148,6 +168,9 @@ impl<'a> LinuxSll2Slice<'a> {
     /// ensures { result ≡ (linux_sll2_of self.now).packet_type }
     /// ```
     ///
+    /// Words: [`linux_sll2_of`](crate::definitions::ether_sll2#def.linux_sll2_of).
+    /// [Notation](crate::definitions::notation)
+    ///
     /// </details>
     #[must_use]
     #[inline(always)]
@@ -162,6 +185,9 @@ impl<'a> LinuxSll2Slice<'a> {
     /// ```text
     /// ensures { result ≡ (linux_sll2_of self.now).packet_type }
     /// ```
+    ///
+    /// Words: [`linux_sll2_of`](crate::definitions::ether_sll2#def.linux_sll2_of).
+    /// [Notation](crate::definitions::notation)
     ///
     /// </details>
     #[must_use]
@@ -178,6 +204,9 @@ impl<'a> LinuxSll2Slice<'a> {
     /// ensures { result ≡ (linux_sll2_of self.now).address_len }
     /// ```
     ///
+    /// Words: [`linux_sll2_of`](crate::definitions::ether_sll2#def.linux_sll2_of).
+    /// [Notation](crate::definitions::notation)
+    ///
     /// </details>
     #[must_use]
     #[inline]
@@ -193,6 +222,9 @@ impl<'a> LinuxSll2Slice<'a> {
     /// ensures { result ≡ spelled 8 (linux_sll2_of self.now).address }
     /// ```
     ///
+    /// Words: [`spelled`](crate::definitions::ether_base#def.spelled),
+    /// [`linux_sll2_of`](crate::definitions::ether_sll2#def.linux_sll2_of). [Notation](crate::definitions::notation)
+    ///
     /// </details>
     #[must_use]
     #[inline]
@@ -207,6 +239,9 @@ impl<'a> LinuxSll2Slice<'a> {
     /// ```text
     /// ensures { result.now ≡ valid_address self.now }
     /// ```
+    ///
+    /// Words: [`valid_address`](crate::definitions::ether_sll2#def.valid_address).
+    /// [Notation](crate::definitions::notation)
     ///
     /// </details>
     #[must_use]
@@ -224,6 +259,8 @@ impl<'a> LinuxSll2Slice<'a> {
     /// ensures len { length result.now ≡ 20 }
     /// ```
     ///
+    /// [Notation](crate::definitions::notation)
+    ///
     /// </details>
     #[must_use]
     #[inline]
@@ -238,6 +275,8 @@ impl<'a> LinuxSll2Slice<'a> {
     /// ```text
     /// ensures { result ≡ 20 }
     /// ```
+    ///
+    /// [Notation](crate::definitions::notation)
     ///
     /// </details>
     #[must_use]
@@ -255,6 +294,11 @@ impl<'a> LinuxSll2Slice<'a> {
     /// ensures protocol { result.protocol_type ≡ protocol_of_header self.now }
     /// ```
     ///
+    /// Words: [`linux_sll2_view`](crate::definitions::ether_sll2#def.linux_sll2_view),
+    /// [`linux_sll2_of`](crate::definitions::ether_sll2#def.linux_sll2_of),
+    /// [`protocol_of_header`](crate::definitions::ether_sll2#def.protocol_of_header).
+    /// [Notation](crate::definitions::notation)
+    ///
     /// </details>
     #[must_use]
     #[inline]
@@ -270,6 +314,9 @@ impl<'a> LinuxSll2Slice<'a> {
     /// ensures protocol { result.protocol_type ≡ protocol_of_header self.now }
     /// ensures bytes { result.payload.now ≡ slice_range self.now 20 (length self.now) }
     /// ```
+    ///
+    /// Words: [`protocol_of_header`](crate::definitions::ether_sll2#def.protocol_of_header).
+    /// [Notation](crate::definitions::notation)
     ///
     /// </details>
     #[must_use]
@@ -288,6 +335,8 @@ impl<'a> LinuxSll2Slice<'a> {
     /// ```text
     /// ensures { result.now ≡ slice_range self.now 20 (length self.now) }
     /// ```
+    ///
+    /// [Notation](crate::definitions::notation)
     ///
     /// </details>
     #[must_use]
@@ -308,6 +357,8 @@ impl<'a> LinuxSll2Slice<'a> {
     /// ```text
     /// ensures { result ≡ start_in self.now }
     /// ```
+    ///
+    /// Words: [`start_in`](crate::definitions::ether_sll2#def.start_in). [Notation](crate::definitions::notation)
     ///
     /// </details>
     #[must_use]

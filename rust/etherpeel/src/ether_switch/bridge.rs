@@ -141,6 +141,15 @@ impl Bridge<'_> {
     ///     Returns (answer event table.old) result × (table.new ≡ after event table.old) }
     /// ```
     ///
+    /// Words: [`Header`](crate::definitions::ether_base#def.Header),
+    /// [`Ending`](crate::definitions::ether_peel#def.Ending), [`Walk`](crate::definitions::ether_peel#def.Walk),
+    /// [`start_of`](crate::definitions::ether_peel#def.start_of), `starts` (`Start`),
+    /// [`Event`](crate::definitions::ether_switch#def.Event),
+    /// [`settings_of`](crate::definitions::ether_switch#def.settings_of),
+    /// [`Returns`](crate::definitions::ether_switch#def.Returns),
+    /// [`answer`](crate::definitions::ether_switch#def.answer),
+    /// [`after`](crate::definitions::ether_switch#def.after). [Notation](crate::definitions::notation)
+    ///
     /// </details>
     #[inline]
     pub fn receive(
@@ -189,6 +198,10 @@ impl Bridge<'_> {
     /// ```text
     /// ensures { result ≡ sighting_of self.now.key (row_of self.now.vlans.now vlan) (number address) table.now }
     /// ```
+    ///
+    /// Words: [`sighting_of`](crate::definitions::ether_switch#def.sighting_of),
+    /// [`row_of`](crate::definitions::ether_switch#def.row_of),
+    /// [`number`](crate::definitions::ether_base#def.number). [Notation](crate::definitions::notation)
     ///
     /// </details>
     #[must_use]

@@ -21,6 +21,8 @@ impl BridgeKind {
     /// ensures { result.0 ≡ tpid_of self }
     /// ```
     ///
+    /// Words: [`tpid_of`](crate::definitions::ether_switch#def.tpid_of). [Notation](crate::definitions::notation)
+    ///
     /// </details>
     #[must_use]
     #[inline]

@@ -32,6 +32,8 @@ pub enum Forgotten {
 /// ensures { table.new ≡ map (without_of which) table.old }
 /// ```
 ///
+/// Words: [`without_of`](crate::definitions::ether_switch#def.without). [Notation](crate::definitions::notation)
+///
 /// </details>
 #[inline]
 pub fn forget(table: &mut [StationBucket], which: Forgotten) {

@@ -80,6 +80,8 @@ impl PortConfig {
     /// ensures default_priority { result.default_priority ≡ 0 }
     /// ```
     ///
+    /// [Notation](crate::definitions::notation)
+    ///
     /// </details>
     #[must_use]
     #[inline]
@@ -104,6 +106,8 @@ impl PortConfig {
     /// ensures ingress_filtering { result.ingress_filtering ≡ true }
     /// ensures default_priority { result.default_priority ≡ 0 }
     /// ```
+    ///
+    /// [Notation](crate::definitions::notation)
     ///
     /// </details>
     #[must_use]

@@ -30,6 +30,8 @@ impl PortSet {
     /// ensures { (p : ℕ) → p < 256 → has result p ≡ nat_eq p port }
     /// ```
     ///
+    /// Words: [`has`](crate::definitions::ether_switch#def.has). [Notation](crate::definitions::notation)
+    ///
     /// </details>
     #[must_use]
     #[inline]
@@ -47,6 +49,8 @@ impl PortSet {
     /// ensures { result ≡ has self.now port }
     /// ```
     ///
+    /// Words: [`has`](crate::definitions::ether_switch#def.has). [Notation](crate::definitions::notation)
+    ///
     /// </details>
     #[must_use]
     #[inline]
@@ -62,6 +66,8 @@ impl PortSet {
     /// ensures { (p : ℕ) → p < 256 → has self.new p ≡ (nat_eq p port || has self.old p) }
     /// ```
     ///
+    /// Words: [`has`](crate::definitions::ether_switch#def.has). [Notation](crate::definitions::notation)
+    ///
     /// </details>
     #[inline]
     pub fn insert(&mut self, port: u8) {
@@ -76,6 +82,8 @@ impl PortSet {
     /// ensures { (p : ℕ) → p < 256 → has self.new p ≡ (not (nat_eq p port) && has self.old p) }
     /// ```
     ///
+    /// Words: [`has`](crate::definitions::ether_switch#def.has). [Notation](crate::definitions::notation)
+    ///
     /// </details>
     #[inline]
     pub fn remove(&mut self, port: u8) {
@@ -89,6 +97,8 @@ impl PortSet {
     /// ```text
     /// ensures { (p : ℕ) → p < 256 → has result p ≡ (has self.now p && has other.now p) }
     /// ```
+    ///
+    /// Words: [`has`](crate::definitions::ether_switch#def.has). [Notation](crate::definitions::notation)
     ///
     /// </details>
     #[must_use]
@@ -109,6 +119,8 @@ impl PortSet {
     /// ensures { (p : ℕ) → p < 256 → has result p ≡ (has self.now p || has other.now p) }
     /// ```
     ///
+    /// Words: [`has`](crate::definitions::ether_switch#def.has). [Notation](crate::definitions::notation)
+    ///
     /// </details>
     #[must_use]
     #[inline]
@@ -127,6 +139,8 @@ impl PortSet {
     /// ```text
     /// ensures { (p : ℕ) → p < 256 → has result p ≡ (has self.now p && not (has other.now p)) }
     /// ```
+    ///
+    /// Words: [`has`](crate::definitions::ether_switch#def.has). [Notation](crate::definitions::notation)
     ///
     /// </details>
     #[must_use]

@@ -48,6 +48,12 @@ impl Received {
     /// ensures kept { IfNone result (buffer.new ≡ buffer.old) }
     /// ```
     ///
+    /// Words: [`Header`](crate::definitions::ether_base#def.Header),
+    /// [`Ending`](crate::definitions::ether_peel#def.Ending), [`Walk`](crate::definitions::ether_peel#def.Walk),
+    /// [`start_of`](crate::definitions::ether_peel#def.start_of), `starts` (`Start`),
+    /// [`LeavesTagged`](crate::definitions::ether_switch#def.LeavesTagged),
+    /// [`front_of`](crate::definitions::ether_switch#def.front_of). [Notation](crate::definitions::notation)
+    ///
     /// </details>
     #[inline]
     pub fn make_tagged(&self, buffer: &mut [u8]) -> Option<usize> {
@@ -83,6 +89,12 @@ impl Received {
     ///     → is_some result ≡ is_ok (front_of self.now.kind hs) }
     /// ensures kept { IfNone result (buffer.new ≡ buffer.old) }
     /// ```
+    ///
+    /// Words: [`Header`](crate::definitions::ether_base#def.Header),
+    /// [`Ending`](crate::definitions::ether_peel#def.Ending), [`Walk`](crate::definitions::ether_peel#def.Walk),
+    /// [`start_of`](crate::definitions::ether_peel#def.start_of), `starts` (`Start`),
+    /// [`LeavesUntagged`](crate::definitions::ether_switch#def.LeavesUntagged),
+    /// [`front_of`](crate::definitions::ether_switch#def.front_of). [Notation](crate::definitions::notation)
     ///
     /// </details>
     #[inline]

@@ -212,7 +212,7 @@ fn scale(buckets: u32, number: u64) -> u32 {
 /// Whether a table of so many buckets has those of a VLAN.
 #[inline]
 fn is_part_of(vlan: &VlanConfig, len: usize) -> bool {
-    0 < vlan.buckets && vlan.first_bucket as usize + vlan.buckets as usize <= len
+    0 < vlan.buckets && u64::from(vlan.first_bucket) + u64::from(vlan.buckets) <= len as u64
 }
 
 /// Learns a sighting of a station in a VLAN.

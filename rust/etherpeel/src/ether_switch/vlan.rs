@@ -41,6 +41,8 @@ impl Vlan {
     /// ensures err { IfErr result (λ error. error.0 ≡ id) }
     /// ```
     ///
+    /// [Notation](crate::definitions::notation)
+    ///
     /// </details>
     #[inline]
     pub fn try_new(id: u16) -> Result<Vlan, VlanError> {
@@ -62,6 +64,8 @@ impl Vlan {
     /// ensures least { 1 ≤ result }
     /// ensures greatest { result ≤ 4094 }
     /// ```
+    ///
+    /// [Notation](crate::definitions::notation)
     ///
     /// </details>
     #[must_use]

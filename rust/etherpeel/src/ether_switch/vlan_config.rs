@@ -59,6 +59,9 @@ pub(in crate::ether_switch) fn row(vlans: &[VlanConfig], vlan: Vlan) -> &VlanCon
 /// ensures { result ≡ are_in_order 0 vlans.now }
 /// ```
 ///
+/// Words: [`are_in_order`](crate::definitions::ether_switch#def.are_in_order).
+/// [Notation](crate::definitions::notation)
+///
 /// </details>
 #[must_use]
 #[inline]

@@ -39,6 +39,9 @@ impl<'a> DoubleVlanSlice<'a> {
     /// ensures inner { vlan_view result.inner ≡ vlan_of self.now.inner }
     /// ```
     ///
+    /// Words: [`vlan_view`](crate::definitions::ether_tags#def.vlan_view),
+    /// [`vlan_of`](crate::definitions::ether_base#def.vlan_of). [Notation](crate::definitions::notation)
+    ///
     /// </details>
     #[must_use]
     #[inline]
@@ -60,6 +63,9 @@ impl<'a> DoubleVlanSlice<'a> {
     /// ensures bytes { result.payload.now ≡ slice_range self.now.inner 4 (length self.now.inner) }
     /// ```
     ///
+    /// Words: [`vlan_of`](crate::definitions::ether_base#def.vlan_of), `sources` (`LenSource`).
+    /// [Notation](crate::definitions::notation)
+    ///
     /// </details>
     #[must_use]
     #[inline]
@@ -74,6 +80,8 @@ impl<'a> DoubleVlanSlice<'a> {
     /// ```text
     /// ensures { result.now ≡ slice_range self.now.inner 4 (length self.now.inner) }
     /// ```
+    ///
+    /// [Notation](crate::definitions::notation)
     ///
     /// </details>
     #[must_use]

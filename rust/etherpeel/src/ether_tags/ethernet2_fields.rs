@@ -28,6 +28,9 @@ const ETHER_TYPE: Range<usize> = 12..14;
 /// ensures { result ≡ spelled 6 (ethernet2_of bytes.now).destination }
 /// ```
 ///
+/// Words: [`spelled`](crate::definitions::ether_base#def.spelled),
+/// [`ethernet2_of`](crate::definitions::ether_base#def.ethernet2_of). [Notation](crate::definitions::notation)
+///
 /// </details>
 #[must_use]
 #[inline]
@@ -48,6 +51,9 @@ pub fn destination(bytes: &[u8]) -> [u8; 6] {
 /// ensures { result ≡ spelled 6 (ethernet2_of bytes.now).source }
 /// ```
 ///
+/// Words: [`spelled`](crate::definitions::ether_base#def.spelled),
+/// [`ethernet2_of`](crate::definitions::ether_base#def.ethernet2_of). [Notation](crate::definitions::notation)
+///
 /// </details>
 #[must_use]
 #[inline]
@@ -67,6 +73,9 @@ pub fn source(bytes: &[u8]) -> [u8; 6] {
 /// requires { 14 ≤ length bytes.now }
 /// ensures { result.0 ≡ (ethernet2_of bytes.now).ether_type }
 /// ```
+///
+/// Words: [`ethernet2_of`](crate::definitions::ether_base#def.ethernet2_of).
+/// [Notation](crate::definitions::notation)
 ///
 /// </details>
 #[must_use]
@@ -90,9 +99,14 @@ pub fn ether_type(bytes: &[u8]) -> EtherType {
 /// ensures bytes { IsBytes bytes.now }
 /// ```
 ///
+/// Words: [`ethernet2_header_of`](crate::definitions::ether_tags#def.ethernet2_header_of),
+/// [`ethernet2_view`](crate::definitions::ether_tags#def.ethernet2_view),
+/// [`ethernet2_of`](crate::definitions::ether_base#def.ethernet2_of),
+/// [`IsBytes`](crate::definitions::ether_base#def.IsBytes). [Notation](crate::definitions::notation)
+///
 /// </details>
 #[must_use]
-#[inline]
+#[inline(always)]
 pub fn header(bytes: &[u8]) -> Ethernet2Header {
     Ethernet2Header {
         source: address_at(bytes, SOURCE),
@@ -115,6 +129,8 @@ pub fn header(bytes: &[u8]) -> Ethernet2Header {
 /// requires second { length b.now ≡ 14 }
 /// ensures { result ≡ pointwise ◌==◌ a.now b.now }
 /// ```
+///
+/// [Notation](crate::definitions::notation)
 ///
 /// </details>
 #[must_use]

@@ -66,6 +66,14 @@ impl Ethernet2Header {
     /// ensures short { OnErr result (length slice.now < 14) }
     /// ```
     ///
+    /// Words: [`Accepts`](crate::definitions::ether_base#def.Accepts), `sources` (`LenSource`),
+    /// [`kinds.Ethernet2`](crate::definitions::ether_base#def.Kind),
+    /// [`ethernet2_header_of`](crate::definitions::ether_tags#def.ethernet2_header_of),
+    /// [`Means`](crate::definitions::ether_base#def.Means),
+    /// [`headers.Ethernet2`](crate::definitions::ether_base#def.Header),
+    /// [`ethernet2_view`](crate::definitions::ether_tags#def.ethernet2_view),
+    /// [`IsRefusedLen`](crate::definitions::ether_base#def.IsRefusedLen). [Notation](crate::definitions::notation)
+    ///
     /// </details>
     #[inline]
     pub fn from_slice(slice: &[u8]) -> Result<(Ethernet2Header, &[u8]), LenError> {
@@ -74,6 +82,10 @@ impl Ethernet2Header {
     }
 
     /// The same as [`Ethernet2Header::from_slice`], under its older name.
+    ///
+    /// # Errors
+    ///
+    /// Those of [`Ethernet2Header::from_slice`].
     ///
     /// <details><summary>Contract</summary>
     ///
@@ -87,6 +99,14 @@ impl Ethernet2Header {
     /// ensures refused { IfErr result (IsRefusedLen slice.now kinds.Ethernet2) }
     /// ensures short { OnErr result (length slice.now < 14) }
     /// ```
+    ///
+    /// Words: [`Accepts`](crate::definitions::ether_base#def.Accepts), `sources` (`LenSource`),
+    /// [`kinds.Ethernet2`](crate::definitions::ether_base#def.Kind),
+    /// [`ethernet2_header_of`](crate::definitions::ether_tags#def.ethernet2_header_of),
+    /// [`Means`](crate::definitions::ether_base#def.Means),
+    /// [`headers.Ethernet2`](crate::definitions::ether_base#def.Header),
+    /// [`ethernet2_view`](crate::definitions::ether_tags#def.ethernet2_view),
+    /// [`IsRefusedLen`](crate::definitions::ether_base#def.IsRefusedLen). [Notation](crate::definitions::notation)
     ///
     /// </details>
     #[inline]
@@ -104,6 +124,12 @@ impl Ethernet2Header {
     /// ensures inverse { ethernet2_bytes (ethernet2_view result) ≡ bytes }
     /// ```
     ///
+    /// Words: [`ethernet2_header_of`](crate::definitions::ether_tags#def.ethernet2_header_of),
+    /// [`IsEthernet2`](crate::definitions::ether_base#def.IsEthernet2),
+    /// [`ethernet2_view`](crate::definitions::ether_tags#def.ethernet2_view),
+    /// [`ethernet2_bytes`](crate::definitions::ether_base#def.ethernet2_bytes).
+    /// [Notation](crate::definitions::notation)
+    ///
     /// </details>
     #[must_use]
     #[inline]
@@ -118,6 +144,8 @@ impl Ethernet2Header {
     /// ```text
     /// ensures { result ≡ 14 }
     /// ```
+    ///
+    /// [Notation](crate::definitions::notation)
     ///
     /// </details>
     #[must_use]
@@ -142,6 +170,16 @@ impl Ethernet2Header {
     /// ensures same { ethernet2_header_of result ≡ self.now }
     /// ```
     ///
+    /// Words: [`ethernet2_bytes`](crate::definitions::ether_base#def.ethernet2_bytes),
+    /// [`ethernet2_view`](crate::definitions::ether_tags#def.ethernet2_view),
+    /// [`FitsEthernet2`](crate::definitions::ether_base#def.FitsEthernet2),
+    /// [`Ethernet2Value`](crate::definitions::ether_base#def.Ethernet2Value),
+    /// [`IsEthernet2`](crate::definitions::ether_base#def.IsEthernet2),
+    /// [`Accepts`](crate::definitions::ether_base#def.Accepts), `sources` (`LenSource`),
+    /// [`kinds.Ethernet2`](crate::definitions::ether_base#def.Kind),
+    /// [`ethernet2_header_of`](crate::definitions::ether_tags#def.ethernet2_header_of).
+    /// [Notation](crate::definitions::notation)
+    ///
     /// </details>
     #[must_use]
     #[inline]
@@ -163,6 +201,11 @@ impl Ethernet2Header {
     ///     (LendsRest (ethernet2_bytes (ethernet2_view self.now)) slice.entry result) }
     /// ensures answers { AnswersRest 14 Layer.Ethernet2Header slice.old result }
     /// ```
+    ///
+    /// Words: [`LendsRest`](crate::definitions::ether_base#def.LendsRest),
+    /// [`ethernet2_bytes`](crate::definitions::ether_base#def.ethernet2_bytes),
+    /// [`ethernet2_view`](crate::definitions::ether_tags#def.ethernet2_view),
+    /// [`AnswersRest`](crate::definitions::ether_base#def.AnswersRest). [Notation](crate::definitions::notation)
     ///
     /// </details>
     #[inline]

@@ -47,6 +47,13 @@ impl<'a> Ethernet2HeaderSlice<'a> {
     /// ensures short { OnErr result (length slice.now < 14) }
     /// ```
     ///
+    /// Words: [`Accepts`](crate::definitions::ether_base#def.Accepts), `sources` (`LenSource`),
+    /// [`kinds.Ethernet2`](crate::definitions::ether_base#def.Kind),
+    /// [`Means`](crate::definitions::ether_base#def.Means),
+    /// [`headers.Ethernet2`](crate::definitions::ether_base#def.Header),
+    /// [`ethernet2_of`](crate::definitions::ether_base#def.ethernet2_of),
+    /// [`IsRefusedLen`](crate::definitions::ether_base#def.IsRefusedLen). [Notation](crate::definitions::notation)
+    ///
     /// </details>
     #[inline]
     pub fn from_slice(slice: &'a [u8]) -> Result<Ethernet2HeaderSlice<'a>, LenError> {
@@ -72,6 +79,8 @@ impl<'a> Ethernet2HeaderSlice<'a> {
     /// ensures len { length result.now ≡ 14 }
     /// ```
     ///
+    /// [Notation](crate::definitions::notation)
+    ///
     /// </details>
     #[must_use]
     #[inline]
@@ -88,6 +97,9 @@ impl<'a> Ethernet2HeaderSlice<'a> {
     /// ensures { result ≡ spelled 6 (ethernet2_of self.now).destination }
     /// ```
     ///
+    /// Words: [`spelled`](crate::definitions::ether_base#def.spelled),
+    /// [`ethernet2_of`](crate::definitions::ether_base#def.ethernet2_of). [Notation](crate::definitions::notation)
+    ///
     /// </details>
     #[must_use]
     #[inline]
@@ -102,6 +114,9 @@ impl<'a> Ethernet2HeaderSlice<'a> {
     /// ```text
     /// ensures { result ≡ spelled 6 (ethernet2_of self.now).source }
     /// ```
+    ///
+    /// Words: [`spelled`](crate::definitions::ether_base#def.spelled),
+    /// [`ethernet2_of`](crate::definitions::ether_base#def.ethernet2_of). [Notation](crate::definitions::notation)
     ///
     /// </details>
     #[must_use]
@@ -118,6 +133,9 @@ impl<'a> Ethernet2HeaderSlice<'a> {
     /// ensures { result.0 ≡ (ethernet2_of self.now).ether_type }
     /// ```
     ///
+    /// Words: [`ethernet2_of`](crate::definitions::ether_base#def.ethernet2_of).
+    /// [Notation](crate::definitions::notation)
+    ///
     /// </details>
     #[must_use]
     #[inline]
@@ -133,6 +151,10 @@ impl<'a> Ethernet2HeaderSlice<'a> {
     /// ensures fields { result ≡ ethernet2_header_of self.now }
     /// ensures value { ethernet2_view result ≡ ethernet2_of self.now }
     /// ```
+    ///
+    /// Words: [`ethernet2_header_of`](crate::definitions::ether_tags#def.ethernet2_header_of),
+    /// [`ethernet2_view`](crate::definitions::ether_tags#def.ethernet2_view),
+    /// [`ethernet2_of`](crate::definitions::ether_base#def.ethernet2_of). [Notation](crate::definitions::notation)
     ///
     /// </details>
     #[must_use]

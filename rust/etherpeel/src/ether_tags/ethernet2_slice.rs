@@ -52,6 +52,14 @@ impl<'a> Ethernet2Slice<'a> {
     /// ensures short { OnErr result (length slice.now < 14) }
     /// ```
     ///
+    /// Words: [`payload_of`](crate::definitions::ether_tags#def.payload_of),
+    /// [`Accepts`](crate::definitions::ether_base#def.Accepts), `sources` (`LenSource`),
+    /// [`kinds.Ethernet2`](crate::definitions::ether_base#def.Kind),
+    /// [`Means`](crate::definitions::ether_base#def.Means),
+    /// [`headers.Ethernet2`](crate::definitions::ether_base#def.Header),
+    /// [`ethernet2_of`](crate::definitions::ether_base#def.ethernet2_of),
+    /// [`IsRefusedLen`](crate::definitions::ether_base#def.IsRefusedLen). [Notation](crate::definitions::notation)
+    ///
     /// </details>
     #[inline]
     pub fn from_slice_without_fcs(slice: &'a [u8]) -> Result<Ethernet2Slice<'a>, LenError> {
@@ -85,6 +93,13 @@ impl<'a> Ethernet2Slice<'a> {
     /// ensures short { OnErr result (length slice.now < 18) }
     /// ```
     ///
+    /// Words: [`Accepts`](crate::definitions::ether_base#def.Accepts), `sources` (`LenSource`),
+    /// [`kinds.Ethernet2Fcs`](crate::definitions::ether_base#def.Kind),
+    /// [`Means`](crate::definitions::ether_base#def.Means),
+    /// [`headers.Ethernet2Fcs`](crate::definitions::ether_base#def.Header),
+    /// [`ethernet2_of`](crate::definitions::ether_base#def.ethernet2_of),
+    /// [`IsRefusedLen`](crate::definitions::ether_base#def.IsRefusedLen). [Notation](crate::definitions::notation)
+    ///
     /// </details>
     #[inline]
     pub fn from_slice_with_crc32_fcs(slice: &'a [u8]) -> Result<Ethernet2Slice<'a>, LenError> {
@@ -110,6 +125,8 @@ impl<'a> Ethernet2Slice<'a> {
     /// ensures { result.now ≡ self.now.bytes }
     /// ```
     ///
+    /// [Notation](crate::definitions::notation)
+    ///
     /// </details>
     #[must_use]
     #[inline]
@@ -124,6 +141,9 @@ impl<'a> Ethernet2Slice<'a> {
     /// ```text
     /// ensures { result ≡ spelled 6 (ethernet2_of self.now.bytes).destination }
     /// ```
+    ///
+    /// Words: [`spelled`](crate::definitions::ether_base#def.spelled),
+    /// [`ethernet2_of`](crate::definitions::ether_base#def.ethernet2_of). [Notation](crate::definitions::notation)
     ///
     /// </details>
     #[must_use]
@@ -140,6 +160,9 @@ impl<'a> Ethernet2Slice<'a> {
     /// ensures { result ≡ spelled 6 (ethernet2_of self.now.bytes).source }
     /// ```
     ///
+    /// Words: [`spelled`](crate::definitions::ether_base#def.spelled),
+    /// [`ethernet2_of`](crate::definitions::ether_base#def.ethernet2_of). [Notation](crate::definitions::notation)
+    ///
     /// </details>
     #[must_use]
     #[inline]
@@ -155,6 +178,9 @@ impl<'a> Ethernet2Slice<'a> {
     /// ensures { result.0 ≡ (ethernet2_of self.now.bytes).ether_type }
     /// ```
     ///
+    /// Words: [`ethernet2_of`](crate::definitions::ether_base#def.ethernet2_of).
+    /// [Notation](crate::definitions::notation)
+    ///
     /// </details>
     #[must_use]
     #[inline]
@@ -169,6 +195,8 @@ impl<'a> Ethernet2Slice<'a> {
     /// ```text
     /// ensures { result ≡ fcs_of self.now }
     /// ```
+    ///
+    /// Words: [`fcs_of`](crate::definitions::ether_tags#def.fcs_of). [Notation](crate::definitions::notation)
     ///
     /// </details>
     #[must_use]
@@ -189,6 +217,8 @@ impl<'a> Ethernet2Slice<'a> {
     /// ensures len { length result.now ≡ 14 }
     /// ```
     ///
+    /// [Notation](crate::definitions::notation)
+    ///
     /// </details>
     #[must_use]
     #[inline]
@@ -204,6 +234,10 @@ impl<'a> Ethernet2Slice<'a> {
     /// ensures fields { result ≡ ethernet2_header_of self.now.bytes }
     /// ensures value { ethernet2_view result ≡ ethernet2_of self.now.bytes }
     /// ```
+    ///
+    /// Words: [`ethernet2_header_of`](crate::definitions::ether_tags#def.ethernet2_header_of),
+    /// [`ethernet2_view`](crate::definitions::ether_tags#def.ethernet2_view),
+    /// [`ethernet2_of`](crate::definitions::ether_base#def.ethernet2_of). [Notation](crate::definitions::notation)
     ///
     /// </details>
     #[must_use]
@@ -222,6 +256,9 @@ impl<'a> Ethernet2Slice<'a> {
     /// ensures len_source { result.len_source ≡ sources.Slice }
     /// ensures bytes { result.payload.now ≡ payload_of self.now }
     /// ```
+    ///
+    /// Words: [`ethernet2_of`](crate::definitions::ether_base#def.ethernet2_of), `sources` (`LenSource`),
+    /// [`payload_of`](crate::definitions::ether_tags#def.payload_of). [Notation](crate::definitions::notation)
     ///
     /// </details>
     #[must_use]
@@ -242,6 +279,8 @@ impl<'a> Ethernet2Slice<'a> {
     /// ensures { result.now ≡ payload_of self.now }
     /// ```
     ///
+    /// Words: [`payload_of`](crate::definitions::ether_tags#def.payload_of). [Notation](crate::definitions::notation)
+    ///
     /// </details>
     #[must_use]
     #[inline]
@@ -257,6 +296,8 @@ impl<'a> Ethernet2Slice<'a> {
     /// ```text
     /// ensures { result ≡ 14 }
     /// ```
+    ///
+    /// [Notation](crate::definitions::notation)
     ///
     /// </details>
     #[must_use]

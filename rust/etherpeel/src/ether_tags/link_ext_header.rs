@@ -34,6 +34,9 @@ impl LinkExtHeader {
     /// ensures bound { result ≤ 16 }
     /// ```
     ///
+    /// Words: [`ext_header_len`](crate::definitions::ether_tags#def.ext_header_len).
+    /// [Notation](crate::definitions::notation)
+    ///
     /// </details>
     #[must_use]
     #[inline]

@@ -37,6 +37,9 @@ impl<'a> LinkExtSlice<'a> {
     /// ensures { result ≡ ext_slice_len self.now }
     /// ```
     ///
+    /// Words: [`ext_slice_len`](crate::definitions::ether_tags#def.ext_slice_len).
+    /// [Notation](crate::definitions::notation)
+    ///
     /// </details>
     #[must_use]
     #[inline]
@@ -55,6 +58,10 @@ impl<'a> LinkExtSlice<'a> {
     /// ensures { ext_header_view result ≡ ext_slice_header self.now }
     /// ```
     ///
+    /// Words: [`ext_header_view`](crate::definitions::ether_tags#def.ext_header_view),
+    /// [`ext_slice_header`](crate::definitions::ether_tags#def.ext_slice_header).
+    /// [Notation](crate::definitions::notation)
+    ///
     /// </details>
     #[must_use]
     #[inline]
@@ -72,6 +79,9 @@ impl<'a> LinkExtSlice<'a> {
     /// ```text
     /// ensures { HoldsExtPayload self.now result }
     /// ```
+    ///
+    /// Words: [`HoldsExtPayload`](crate::definitions::ether_tags#def.HoldsExtPayload).
+    /// [Notation](crate::definitions::notation)
     ///
     /// </details>
     #[must_use]

@@ -51,6 +51,8 @@ const C: u32 = 2;
 /// ensures { result ≡ slice_index bytes.now 0 }
 /// ```
 ///
+/// [Notation](crate::definitions::notation)
+///
 /// </details>
 #[must_use]
 #[inline]
@@ -70,6 +72,10 @@ pub fn tci_an(bytes: &[u8]) -> u8 {
 /// requires { 2 ≤ length bytes.now }
 /// ensures { bit result ≡ (sec_tag_front_in bytes.now).version }
 /// ```
+///
+/// Words: [`bit`](crate::definitions::ether_base#def.bit),
+/// [`sec_tag_front_in`](crate::definitions::ether_base#def.sec_tag_front_in).
+/// [Notation](crate::definitions::notation)
 ///
 /// </details>
 #[must_use]
@@ -91,6 +97,10 @@ pub fn has_version_one(bytes: &[u8]) -> bool {
 /// ensures { bit result ≡ (sec_tag_front_in bytes.now).end_station }
 /// ```
 ///
+/// Words: [`bit`](crate::definitions::ether_base#def.bit),
+/// [`sec_tag_front_in`](crate::definitions::ether_base#def.sec_tag_front_in).
+/// [Notation](crate::definitions::notation)
+///
 /// </details>
 #[must_use]
 #[inline]
@@ -110,6 +120,10 @@ pub fn endstation_id(bytes: &[u8]) -> bool {
 /// requires { 2 ≤ length bytes.now }
 /// ensures { bit result ≡ (sec_tag_front_in bytes.now).sci_present }
 /// ```
+///
+/// Words: [`bit`](crate::definitions::ether_base#def.bit),
+/// [`sec_tag_front_in`](crate::definitions::ether_base#def.sec_tag_front_in).
+/// [Notation](crate::definitions::notation)
 ///
 /// </details>
 #[must_use]
@@ -131,6 +145,10 @@ pub fn sci_present(bytes: &[u8]) -> bool {
 /// ensures { bit result ≡ (sec_tag_front_in bytes.now).single_copy_broadcast }
 /// ```
 ///
+/// Words: [`bit`](crate::definitions::ether_base#def.bit),
+/// [`sec_tag_front_in`](crate::definitions::ether_base#def.sec_tag_front_in).
+/// [Notation](crate::definitions::notation)
+///
 /// </details>
 #[must_use]
 #[inline]
@@ -150,6 +168,10 @@ pub fn tci_scb(bytes: &[u8]) -> bool {
 /// requires { 2 ≤ length bytes.now }
 /// ensures { bit result ≡ (sec_tag_front_in bytes.now).encrypted }
 /// ```
+///
+/// Words: [`bit`](crate::definitions::ether_base#def.bit),
+/// [`sec_tag_front_in`](crate::definitions::ether_base#def.sec_tag_front_in).
+/// [Notation](crate::definitions::notation)
 ///
 /// </details>
 #[must_use]
@@ -171,6 +193,10 @@ pub fn encrypted(bytes: &[u8]) -> bool {
 /// ensures { bit result ≡ (sec_tag_front_in bytes.now).changed }
 /// ```
 ///
+/// Words: [`bit`](crate::definitions::ether_base#def.bit),
+/// [`sec_tag_front_in`](crate::definitions::ether_base#def.sec_tag_front_in).
+/// [Notation](crate::definitions::notation)
+///
 /// </details>
 #[must_use]
 #[inline]
@@ -190,6 +216,9 @@ pub fn userdata_changed(bytes: &[u8]) -> bool {
 /// requires { 2 ≤ length bytes.now }
 /// ensures { result ≡ (sec_tag_front_in bytes.now).association_number }
 /// ```
+///
+/// Words: [`sec_tag_front_in`](crate::definitions::ether_base#def.sec_tag_front_in).
+/// [Notation](crate::definitions::notation)
 ///
 /// </details>
 #[must_use]
@@ -211,6 +240,9 @@ pub fn association_number(bytes: &[u8]) -> MacsecAn {
 /// ensures { result ≡ (sec_tag_front_in bytes.now).short_len }
 /// ```
 ///
+/// Words: [`sec_tag_front_in`](crate::definitions::ether_base#def.sec_tag_front_in).
+/// [Notation](crate::definitions::notation)
+///
 /// </details>
 #[must_use]
 #[inline]
@@ -231,6 +263,8 @@ pub fn short_len(bytes: &[u8]) -> MacsecShortLen {
 /// ensures { result ≡ (sec_tag_of bytes.now).packet_number }
 /// ```
 ///
+/// Words: [`sec_tag_of`](crate::definitions::ether_base#def.sec_tag_of). [Notation](crate::definitions::notation)
+///
 /// </details>
 #[must_use]
 #[inline]
@@ -250,6 +284,10 @@ pub fn packet_nr(bytes: &[u8]) -> u32 {
 /// requires { sec_tag_len (sec_tag_front_in bytes.now) ≤ length bytes.now }
 /// ensures { result ≡ (sec_tag_of bytes.now).sci }
 /// ```
+///
+/// Words: [`sec_tag_len`](crate::definitions::ether_base#def.sec_tag_len),
+/// [`sec_tag_front_in`](crate::definitions::ether_base#def.sec_tag_front_in),
+/// [`sec_tag_of`](crate::definitions::ether_base#def.sec_tag_of). [Notation](crate::definitions::notation)
 ///
 /// </details>
 #[must_use]
@@ -275,6 +313,11 @@ pub fn sci(bytes: &[u8]) -> Option<u64> {
 /// requires { length bytes.now ≡ sec_tag_len (sec_tag_front_in bytes.now) }
 /// ensures { payload_type_view result ≡ (sec_tag_of bytes.now).payload_type }
 /// ```
+///
+/// Words: [`sec_tag_len`](crate::definitions::ether_base#def.sec_tag_len),
+/// [`sec_tag_front_in`](crate::definitions::ether_base#def.sec_tag_front_in),
+/// [`payload_type_view`](crate::definitions::ether_tags#def.payload_type_view),
+/// [`sec_tag_of`](crate::definitions::ether_base#def.sec_tag_of). [Notation](crate::definitions::notation)
 ///
 /// </details>
 #[must_use]
@@ -304,6 +347,10 @@ pub fn ptype(bytes: &[u8]) -> MacsecPType {
 /// ensures { IsTrue result ↔ IsUnmodified (sec_tag_front_in bytes.now) }
 /// ```
 ///
+/// Words: [`IsUnmodified`](crate::definitions::ether_tags#def.IsUnmodified),
+/// [`sec_tag_front_in`](crate::definitions::ether_base#def.sec_tag_front_in).
+/// [Notation](crate::definitions::notation)
+///
 /// </details>
 #[must_use]
 #[inline]
@@ -323,6 +370,10 @@ pub fn is_unmodified(bytes: &[u8]) -> bool {
 /// requires { 2 ≤ length bytes.now }
 /// ensures { IsTrue result ↔ IsTooShort (sec_tag_front_in bytes.now) }
 /// ```
+///
+/// Words: [`IsTooShort`](crate::definitions::ether_base#def.IsTooShort),
+/// [`sec_tag_front_in`](crate::definitions::ether_base#def.sec_tag_front_in).
+/// [Notation](crate::definitions::notation)
 ///
 /// </details>
 #[must_use]
@@ -344,6 +395,10 @@ pub fn is_too_short(bytes: &[u8]) -> bool {
 /// ensures { result ≡ sec_tag_len (sec_tag_front_in bytes.now) }
 /// ```
 ///
+/// Words: [`sec_tag_len`](crate::definitions::ether_base#def.sec_tag_len),
+/// [`sec_tag_front_in`](crate::definitions::ether_base#def.sec_tag_front_in).
+/// [Notation](crate::definitions::notation)
+///
 /// </details>
 #[must_use]
 #[inline]
@@ -364,6 +419,10 @@ pub fn header_len(bytes: &[u8]) -> usize {
 /// ensures { result ≡ known_payload_len (sec_tag_front_in bytes.now) }
 /// ```
 ///
+/// Words: [`known_payload_len`](crate::definitions::ether_base#def.known_payload_len),
+/// [`sec_tag_front_in`](crate::definitions::ether_base#def.sec_tag_front_in).
+/// [Notation](crate::definitions::notation)
+///
 /// </details>
 #[must_use]
 #[inline]
@@ -378,6 +437,8 @@ pub fn expected_payload_len(bytes: &[u8]) -> Option<usize> {
 /// ```text
 /// ensures { result ≡ 6 + 8 * bit has_sci + 2 * bit is_unmodified }
 /// ```
+///
+/// Words: [`bit`](crate::definitions::ether_base#def.bit). [Notation](crate::definitions::notation)
 ///
 /// </details>
 #[must_use]
@@ -396,6 +457,9 @@ pub fn tag_len(has_sci: bool, is_unmodified: bool) -> usize {
 /// ```text
 /// ensures { result ≡ known_len (2 * bit is_unmodified) short_len }
 /// ```
+///
+/// Words: [`known_len`](crate::definitions::ether_base#def.known_len),
+/// [`bit`](crate::definitions::ether_base#def.bit). [Notation](crate::definitions::notation)
 ///
 /// </details>
 #[must_use]

@@ -101,6 +101,14 @@ impl MacsecHeader {
     /// ensures short { IfErr result (λ e. OnLen e (λ n. length slice.now < n.required_len)) }
     /// ```
     ///
+    /// Words: [`AcceptsHeader`](crate::definitions::ether_base#def.AcceptsHeader), `sources` (`LenSource`),
+    /// [`kinds.Macsec`](crate::definitions::ether_base#def.Kind),
+    /// [`Means`](crate::definitions::ether_base#def.Means),
+    /// [`headers.Macsec`](crate::definitions::ether_base#def.Header),
+    /// [`sec_tag_view`](crate::definitions::ether_tags#def.sec_tag_view),
+    /// [`IsRefusedTag`](crate::definitions::ether_tags#def.IsRefusedTag),
+    /// [`OnLen`](crate::definitions::ether_base#def.OnLen). [Notation](crate::definitions::notation)
+    ///
     /// </details>
     #[inline]
     pub fn from_slice(slice: &[u8]) -> Result<MacsecHeader, HeaderSliceError> {
@@ -114,6 +122,11 @@ impl MacsecHeader {
     /// ```text
     /// ensures { bit result ≡ encrypted_of (payload_type_view self.now.ptype) }
     /// ```
+    ///
+    /// Words: [`bit`](crate::definitions::ether_base#def.bit),
+    /// [`encrypted_of`](crate::definitions::ether_base#def.encrypted_of),
+    /// [`payload_type_view`](crate::definitions::ether_tags#def.payload_type_view).
+    /// [Notation](crate::definitions::notation)
     ///
     /// </details>
     #[must_use]
@@ -133,6 +146,11 @@ impl MacsecHeader {
     /// ensures { bit result ≡ changed_of (payload_type_view self.now.ptype) }
     /// ```
     ///
+    /// Words: [`bit`](crate::definitions::ether_base#def.bit),
+    /// [`changed_of`](crate::definitions::ether_base#def.changed_of),
+    /// [`payload_type_view`](crate::definitions::ether_tags#def.payload_type_view).
+    /// [Notation](crate::definitions::notation)
+    ///
     /// </details>
     #[must_use]
     #[inline]
@@ -147,6 +165,11 @@ impl MacsecHeader {
     /// ```text
     /// ensures { number_of result ≡ readable_type (payload_type_view self.now.ptype) }
     /// ```
+    ///
+    /// Words: [`number_of`](crate::definitions::ether_tags#def.number_of),
+    /// [`readable_type`](crate::definitions::ether_tags#def.readable_type),
+    /// [`payload_type_view`](crate::definitions::ether_tags#def.payload_type_view).
+    /// [Notation](crate::definitions::notation)
     ///
     /// </details>
     #[must_use]
@@ -168,6 +191,9 @@ impl MacsecHeader {
     /// ensures bound { result ≤ 16 }
     /// ```
     ///
+    /// Words: [`sec_tag_len`](crate::definitions::ether_base#def.sec_tag_len),
+    /// [`header_front`](crate::definitions::ether_tags#def.header_front). [Notation](crate::definitions::notation)
+    ///
     /// </details>
     #[must_use]
     #[inline]
@@ -183,6 +209,9 @@ impl MacsecHeader {
     /// ```text
     /// ensures { result ≡ known_payload_len (header_front self.now) }
     /// ```
+    ///
+    /// Words: [`known_payload_len`](crate::definitions::ether_base#def.known_payload_len),
+    /// [`header_front`](crate::definitions::ether_tags#def.header_front). [Notation](crate::definitions::notation)
     ///
     /// </details>
     #[must_use]
@@ -206,6 +235,11 @@ impl MacsecHeader {
     ///     ≡ (if nat_eq self.new.short_len 0 then None else Some payload_len) }
     /// ensures others { self.new ≡ record self.old { short_len = self.new.short_len } }
     /// ```
+    ///
+    /// Words: [`short_len_for`](crate::definitions::ether_tags#def.short_len_for),
+    /// [`payload_type_view`](crate::definitions::ether_tags#def.payload_type_view),
+    /// [`known_payload_len`](crate::definitions::ether_base#def.known_payload_len),
+    /// [`header_front`](crate::definitions::ether_tags#def.header_front). [Notation](crate::definitions::notation)
     ///
     /// </details>
     #[inline]
@@ -238,6 +272,19 @@ impl MacsecHeader {
     /// ensures refused { (more : List ℕ) → IsTooShort (header_front self.now)
     ///     → RefusesHeader sources.Slice (result.items ++ more) kinds.Macsec InvalidShortLen }
     /// ```
+    ///
+    /// Words: [`sec_tag_bytes`](crate::definitions::ether_base#def.sec_tag_bytes),
+    /// [`sec_tag_view`](crate::definitions::ether_tags#def.sec_tag_view),
+    /// [`sec_tag_len`](crate::definitions::ether_base#def.sec_tag_len),
+    /// [`header_front`](crate::definitions::ether_tags#def.header_front),
+    /// [`FitsSecTag`](crate::definitions::ether_base#def.FitsSecTag),
+    /// [`Means`](crate::definitions::ether_base#def.Means),
+    /// [`headers.Macsec`](crate::definitions::ether_base#def.Header),
+    /// [`IsTooShort`](crate::definitions::ether_base#def.IsTooShort),
+    /// [`AcceptsHeader`](crate::definitions::ether_base#def.AcceptsHeader), `sources` (`LenSource`),
+    /// [`kinds.Macsec`](crate::definitions::ether_base#def.Kind),
+    /// [`RefusesHeader`](crate::definitions::ether_base#def.RefusesHeader),
+    /// [`InvalidShortLen`](crate::definitions::ether_base#def.Refusal). [Notation](crate::definitions::notation)
     ///
     /// </details>
     #[must_use]

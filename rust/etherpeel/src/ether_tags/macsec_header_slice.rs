@@ -59,6 +59,18 @@ impl<'a> MacsecHeaderSlice<'a> {
     /// ensures short { IfErr result (λ e. OnLen e (λ n. length slice.now < n.required_len)) }
     /// ```
     ///
+    /// Words: [`tag_bytes`](crate::definitions::ether_tags#def.tag_bytes),
+    /// [`tag_in`](crate::definitions::ether_tags#def.tag_in),
+    /// [`sec_tag_len`](crate::definitions::ether_base#def.sec_tag_len),
+    /// [`sec_tag_front_in`](crate::definitions::ether_base#def.sec_tag_front_in),
+    /// [`AcceptsHeader`](crate::definitions::ether_base#def.AcceptsHeader), `sources` (`LenSource`),
+    /// [`kinds.Macsec`](crate::definitions::ether_base#def.Kind),
+    /// [`Means`](crate::definitions::ether_base#def.Means),
+    /// [`headers.Macsec`](crate::definitions::ether_base#def.Header),
+    /// [`sec_tag_of`](crate::definitions::ether_base#def.sec_tag_of),
+    /// [`IsRefusedTag`](crate::definitions::ether_tags#def.IsRefusedTag),
+    /// [`OnLen`](crate::definitions::ether_base#def.OnLen). [Notation](crate::definitions::notation)
+    ///
     /// </details>
     #[inline]
     pub fn from_slice(slice: &'a [u8]) -> Result<MacsecHeaderSlice<'a>, HeaderSliceError> {
@@ -98,6 +110,8 @@ impl<'a> MacsecHeaderSlice<'a> {
     /// ensures { result.now ≡ tag_bytes self.now }
     /// ```
     ///
+    /// Words: [`tag_bytes`](crate::definitions::ether_tags#def.tag_bytes). [Notation](crate::definitions::notation)
+    ///
     /// </details>
     #[must_use]
     #[inline]
@@ -112,6 +126,8 @@ impl<'a> MacsecHeaderSlice<'a> {
     /// ```text
     /// ensures { result ≡ slice_index (tag_bytes self.now) 0 }
     /// ```
+    ///
+    /// Words: [`tag_bytes`](crate::definitions::ether_tags#def.tag_bytes). [Notation](crate::definitions::notation)
     ///
     /// </details>
     #[must_use]
@@ -129,6 +145,10 @@ impl<'a> MacsecHeaderSlice<'a> {
     /// ensures { bit result ≡ (sec_tag_of (tag_bytes self.now)).end_station }
     /// ```
     ///
+    /// Words: [`bit`](crate::definitions::ether_base#def.bit),
+    /// [`sec_tag_of`](crate::definitions::ether_base#def.sec_tag_of),
+    /// [`tag_bytes`](crate::definitions::ether_tags#def.tag_bytes). [Notation](crate::definitions::notation)
+    ///
     /// </details>
     #[must_use]
     #[inline]
@@ -143,6 +163,10 @@ impl<'a> MacsecHeaderSlice<'a> {
     /// ```text
     /// ensures { bit result ≡ (sec_tag_of (tag_bytes self.now)).single_copy_broadcast }
     /// ```
+    ///
+    /// Words: [`bit`](crate::definitions::ether_base#def.bit),
+    /// [`sec_tag_of`](crate::definitions::ether_base#def.sec_tag_of),
+    /// [`tag_bytes`](crate::definitions::ether_tags#def.tag_bytes). [Notation](crate::definitions::notation)
     ///
     /// </details>
     #[must_use]
@@ -159,6 +183,9 @@ impl<'a> MacsecHeaderSlice<'a> {
     /// ensures { bit result ≡ (tag_front self.now).encrypted }
     /// ```
     ///
+    /// Words: [`bit`](crate::definitions::ether_base#def.bit),
+    /// [`tag_front`](crate::definitions::ether_tags#def.tag_front). [Notation](crate::definitions::notation)
+    ///
     /// </details>
     #[must_use]
     #[inline]
@@ -173,6 +200,9 @@ impl<'a> MacsecHeaderSlice<'a> {
     /// ```text
     /// ensures { bit result ≡ (tag_front self.now).changed }
     /// ```
+    ///
+    /// Words: [`bit`](crate::definitions::ether_base#def.bit),
+    /// [`tag_front`](crate::definitions::ether_tags#def.tag_front). [Notation](crate::definitions::notation)
     ///
     /// </details>
     #[must_use]
@@ -190,6 +220,9 @@ impl<'a> MacsecHeaderSlice<'a> {
     /// ensures { IsTrue result ↔ IsUnmodified (tag_front self.now) }
     /// ```
     ///
+    /// Words: [`IsUnmodified`](crate::definitions::ether_tags#def.IsUnmodified),
+    /// [`tag_front`](crate::definitions::ether_tags#def.tag_front). [Notation](crate::definitions::notation)
+    ///
     /// </details>
     #[must_use]
     #[inline]
@@ -204,6 +237,10 @@ impl<'a> MacsecHeaderSlice<'a> {
     /// ```text
     /// ensures { payload_type_view result ≡ (sec_tag_of (tag_bytes self.now)).payload_type }
     /// ```
+    ///
+    /// Words: [`payload_type_view`](crate::definitions::ether_tags#def.payload_type_view),
+    /// [`sec_tag_of`](crate::definitions::ether_base#def.sec_tag_of),
+    /// [`tag_bytes`](crate::definitions::ether_tags#def.tag_bytes). [Notation](crate::definitions::notation)
     ///
     /// </details>
     #[must_use]
@@ -220,6 +257,9 @@ impl<'a> MacsecHeaderSlice<'a> {
     /// ensures { result ≡ (sec_tag_of (tag_bytes self.now)).association_number }
     /// ```
     ///
+    /// Words: [`sec_tag_of`](crate::definitions::ether_base#def.sec_tag_of),
+    /// [`tag_bytes`](crate::definitions::ether_tags#def.tag_bytes). [Notation](crate::definitions::notation)
+    ///
     /// </details>
     #[must_use]
     #[inline]
@@ -234,6 +274,9 @@ impl<'a> MacsecHeaderSlice<'a> {
     /// ```text
     /// ensures { result ≡ (sec_tag_of (tag_bytes self.now)).short_len }
     /// ```
+    ///
+    /// Words: [`sec_tag_of`](crate::definitions::ether_base#def.sec_tag_of),
+    /// [`tag_bytes`](crate::definitions::ether_tags#def.tag_bytes). [Notation](crate::definitions::notation)
     ///
     /// </details>
     #[must_use]
@@ -250,6 +293,9 @@ impl<'a> MacsecHeaderSlice<'a> {
     /// ensures { result ≡ (sec_tag_of (tag_bytes self.now)).packet_number }
     /// ```
     ///
+    /// Words: [`sec_tag_of`](crate::definitions::ether_base#def.sec_tag_of),
+    /// [`tag_bytes`](crate::definitions::ether_tags#def.tag_bytes). [Notation](crate::definitions::notation)
+    ///
     /// </details>
     #[must_use]
     #[inline]
@@ -264,6 +310,9 @@ impl<'a> MacsecHeaderSlice<'a> {
     /// ```text
     /// ensures { bit result ≡ (tag_front self.now).sci_present }
     /// ```
+    ///
+    /// Words: [`bit`](crate::definitions::ether_base#def.bit),
+    /// [`tag_front`](crate::definitions::ether_tags#def.tag_front). [Notation](crate::definitions::notation)
     ///
     /// </details>
     #[must_use]
@@ -280,6 +329,9 @@ impl<'a> MacsecHeaderSlice<'a> {
     /// ensures { result ≡ (sec_tag_of (tag_bytes self.now)).sci }
     /// ```
     ///
+    /// Words: [`sec_tag_of`](crate::definitions::ether_base#def.sec_tag_of),
+    /// [`tag_bytes`](crate::definitions::ether_tags#def.tag_bytes). [Notation](crate::definitions::notation)
+    ///
     /// </details>
     #[must_use]
     #[inline]
@@ -294,6 +346,11 @@ impl<'a> MacsecHeaderSlice<'a> {
     /// ```text
     /// ensures { number_of result ≡ readable_type (sec_tag_of (tag_bytes self.now)).payload_type }
     /// ```
+    ///
+    /// Words: [`number_of`](crate::definitions::ether_tags#def.number_of),
+    /// [`readable_type`](crate::definitions::ether_tags#def.readable_type),
+    /// [`sec_tag_of`](crate::definitions::ether_base#def.sec_tag_of),
+    /// [`tag_bytes`](crate::definitions::ether_tags#def.tag_bytes). [Notation](crate::definitions::notation)
     ///
     /// </details>
     #[must_use]
@@ -314,6 +371,10 @@ impl<'a> MacsecHeaderSlice<'a> {
     /// ensures slice { result ≡ length (tag_bytes self.now) }
     /// ```
     ///
+    /// Words: [`sec_tag_len`](crate::definitions::ether_base#def.sec_tag_len),
+    /// [`tag_front`](crate::definitions::ether_tags#def.tag_front),
+    /// [`tag_bytes`](crate::definitions::ether_tags#def.tag_bytes). [Notation](crate::definitions::notation)
+    ///
     /// </details>
     #[must_use]
     #[inline]
@@ -330,6 +391,9 @@ impl<'a> MacsecHeaderSlice<'a> {
     /// ensures { result ≡ known_payload_len (tag_front self.now) }
     /// ```
     ///
+    /// Words: [`known_payload_len`](crate::definitions::ether_base#def.known_payload_len),
+    /// [`tag_front`](crate::definitions::ether_tags#def.tag_front). [Notation](crate::definitions::notation)
+    ///
     /// </details>
     #[must_use]
     #[inline]
@@ -344,6 +408,10 @@ impl<'a> MacsecHeaderSlice<'a> {
     /// ```text
     /// ensures { sec_tag_view result ≡ sec_tag_of (tag_bytes self.now) }
     /// ```
+    ///
+    /// Words: [`sec_tag_view`](crate::definitions::ether_tags#def.sec_tag_view),
+    /// [`sec_tag_of`](crate::definitions::ether_base#def.sec_tag_of),
+    /// [`tag_bytes`](crate::definitions::ether_tags#def.tag_bytes). [Notation](crate::definitions::notation)
     ///
     /// </details>
     #[must_use]

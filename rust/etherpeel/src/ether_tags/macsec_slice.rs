@@ -60,6 +60,18 @@ impl<'a> MacsecSlice<'a> {
     /// ensures short { IfErr result (λ e. OnLen e (λ n. length slice.now < n.required_len)) }
     /// ```
     ///
+    /// Words: [`tag_bytes`](crate::definitions::ether_tags#def.tag_bytes),
+    /// [`tag_in`](crate::definitions::ether_tags#def.tag_in),
+    /// [`HoldsPayload`](crate::definitions::ether_tags#def.HoldsPayload),
+    /// [`sec_tag_front_in`](crate::definitions::ether_base#def.sec_tag_front_in),
+    /// [`Accepts`](crate::definitions::ether_base#def.Accepts), `sources` (`LenSource`),
+    /// [`kinds.Macsec`](crate::definitions::ether_base#def.Kind),
+    /// [`Means`](crate::definitions::ether_base#def.Means),
+    /// [`headers.Macsec`](crate::definitions::ether_base#def.Header),
+    /// [`sec_tag_of`](crate::definitions::ether_base#def.sec_tag_of),
+    /// [`IsRefusedPacket`](crate::definitions::ether_tags#def.IsRefusedPacket),
+    /// [`OnLen`](crate::definitions::ether_base#def.OnLen). [Notation](crate::definitions::notation)
+    ///
     /// </details>
     #[inline]
     pub fn from_slice(slice: &'a [u8]) -> Result<MacsecSlice<'a>, HeaderSliceError> {
@@ -82,6 +94,9 @@ impl<'a> MacsecSlice<'a> {
     /// ensures { result ≡ readable_payload self.now.payload }
     /// ```
     ///
+    /// Words: [`readable_payload`](crate::definitions::ether_tags#def.readable_payload).
+    /// [Notation](crate::definitions::notation)
+    ///
     /// </details>
     #[must_use]
     #[inline]
@@ -100,6 +115,11 @@ impl<'a> MacsecSlice<'a> {
     /// ensures { number_of result
     ///     ≡ readable_type (sec_tag_of (tag_bytes self.now.header)).payload_type }
     /// ```
+    ///
+    /// Words: [`number_of`](crate::definitions::ether_tags#def.number_of),
+    /// [`readable_type`](crate::definitions::ether_tags#def.readable_type),
+    /// [`sec_tag_of`](crate::definitions::ether_base#def.sec_tag_of),
+    /// [`tag_bytes`](crate::definitions::ether_tags#def.tag_bytes). [Notation](crate::definitions::notation)
     ///
     /// </details>
     #[must_use]

@@ -80,6 +80,12 @@ impl SingleVlanHeader {
     /// ensures short { OnErr result (length slice.now < 4) }
     /// ```
     ///
+    /// Words: [`Accepts`](crate::definitions::ether_base#def.Accepts), `sources` (`LenSource`),
+    /// [`kinds.Vlan`](crate::definitions::ether_base#def.Kind), [`Means`](crate::definitions::ether_base#def.Means),
+    /// [`headers.Vlan`](crate::definitions::ether_base#def.Header),
+    /// [`vlan_view`](crate::definitions::ether_tags#def.vlan_view),
+    /// [`IsRefusedLen`](crate::definitions::ether_base#def.IsRefusedLen). [Notation](crate::definitions::notation)
+    ///
     /// </details>
     #[inline]
     pub fn from_slice(slice: &[u8]) -> Result<(SingleVlanHeader, &[u8]), LenError> {
@@ -88,6 +94,10 @@ impl SingleVlanHeader {
     }
 
     /// The same as [`SingleVlanHeader::from_slice`], under its older name.
+    ///
+    /// # Errors
+    ///
+    /// Those of [`SingleVlanHeader::from_slice`].
     ///
     /// <details><summary>Contract</summary>
     ///
@@ -100,6 +110,12 @@ impl SingleVlanHeader {
     /// ensures refused { IfErr result (IsRefusedLen slice.now kinds.Vlan) }
     /// ensures short { OnErr result (length slice.now < 4) }
     /// ```
+    ///
+    /// Words: [`Accepts`](crate::definitions::ether_base#def.Accepts), `sources` (`LenSource`),
+    /// [`kinds.Vlan`](crate::definitions::ether_base#def.Kind), [`Means`](crate::definitions::ether_base#def.Means),
+    /// [`headers.Vlan`](crate::definitions::ether_base#def.Header),
+    /// [`vlan_view`](crate::definitions::ether_tags#def.vlan_view),
+    /// [`IsRefusedLen`](crate::definitions::ether_base#def.IsRefusedLen). [Notation](crate::definitions::notation)
     ///
     /// </details>
     #[inline]
@@ -116,6 +132,10 @@ impl SingleVlanHeader {
     /// ensures inverse { vlan_bytes (vlan_view result) ≡ bytes }
     /// ```
     ///
+    /// Words: [`IsVlan`](crate::definitions::ether_base#def.IsVlan),
+    /// [`vlan_view`](crate::definitions::ether_tags#def.vlan_view),
+    /// [`vlan_bytes`](crate::definitions::ether_base#def.vlan_bytes). [Notation](crate::definitions::notation)
+    ///
     /// </details>
     #[must_use]
     #[inline]
@@ -130,6 +150,8 @@ impl SingleVlanHeader {
     /// ```text
     /// ensures { result ≡ 4 }
     /// ```
+    ///
+    /// [Notation](crate::definitions::notation)
     ///
     /// </details>
     #[must_use]
@@ -152,6 +174,15 @@ impl SingleVlanHeader {
     ///     → Means (result ++ more) (headers.Vlan (vlan_view h)) → h ≡ self.now }
     /// ensures same { (h : SingleVlanHeader) → IsVlan result (vlan_view h) → h ≡ self.now }
     /// ```
+    ///
+    /// Words: [`vlan_bytes`](crate::definitions::ether_base#def.vlan_bytes),
+    /// [`vlan_view`](crate::definitions::ether_tags#def.vlan_view),
+    /// [`FitsVlan`](crate::definitions::ether_base#def.FitsVlan),
+    /// [`VlanValue`](crate::definitions::ether_base#def.VlanValue),
+    /// [`IsVlan`](crate::definitions::ether_base#def.IsVlan),
+    /// [`Accepts`](crate::definitions::ether_base#def.Accepts), `sources` (`LenSource`),
+    /// [`kinds.Vlan`](crate::definitions::ether_base#def.Kind), [`Means`](crate::definitions::ether_base#def.Means),
+    /// [`headers.Vlan`](crate::definitions::ether_base#def.Header). [Notation](crate::definitions::notation)
     ///
     /// </details>
     #[must_use]

@@ -45,6 +45,12 @@ impl<'a> SingleVlanHeaderSlice<'a> {
     /// ensures short { OnErr result (length slice.now < 4) }
     /// ```
     ///
+    /// Words: [`Accepts`](crate::definitions::ether_base#def.Accepts), `sources` (`LenSource`),
+    /// [`kinds.Vlan`](crate::definitions::ether_base#def.Kind), [`Means`](crate::definitions::ether_base#def.Means),
+    /// [`headers.Vlan`](crate::definitions::ether_base#def.Header),
+    /// [`vlan_of`](crate::definitions::ether_base#def.vlan_of),
+    /// [`IsRefusedLen`](crate::definitions::ether_base#def.IsRefusedLen). [Notation](crate::definitions::notation)
+    ///
     /// </details>
     #[inline]
     pub fn from_slice(slice: &'a [u8]) -> Result<SingleVlanHeaderSlice<'a>, LenError> {
@@ -70,6 +76,8 @@ impl<'a> SingleVlanHeaderSlice<'a> {
     /// ensures len { length result.now ≡ 4 }
     /// ```
     ///
+    /// [Notation](crate::definitions::notation)
+    ///
     /// </details>
     #[must_use]
     #[inline]
@@ -86,6 +94,8 @@ impl<'a> SingleVlanHeaderSlice<'a> {
     /// ensures { result ≡ (vlan_of self.now).pcp }
     /// ```
     ///
+    /// Words: [`vlan_of`](crate::definitions::ether_base#def.vlan_of). [Notation](crate::definitions::notation)
+    ///
     /// </details>
     #[must_use]
     #[inline]
@@ -100,6 +110,9 @@ impl<'a> SingleVlanHeaderSlice<'a> {
     /// ```text
     /// ensures { bit result ≡ (vlan_of self.now).dei }
     /// ```
+    ///
+    /// Words: [`bit`](crate::definitions::ether_base#def.bit),
+    /// [`vlan_of`](crate::definitions::ether_base#def.vlan_of). [Notation](crate::definitions::notation)
     ///
     /// </details>
     #[must_use]
@@ -116,6 +129,8 @@ impl<'a> SingleVlanHeaderSlice<'a> {
     /// ensures { result ≡ (vlan_of self.now).vid }
     /// ```
     ///
+    /// Words: [`vlan_of`](crate::definitions::ether_base#def.vlan_of). [Notation](crate::definitions::notation)
+    ///
     /// </details>
     #[must_use]
     #[inline]
@@ -131,6 +146,8 @@ impl<'a> SingleVlanHeaderSlice<'a> {
     /// ensures { result.0 ≡ (vlan_of self.now).ether_type }
     /// ```
     ///
+    /// Words: [`vlan_of`](crate::definitions::ether_base#def.vlan_of). [Notation](crate::definitions::notation)
+    ///
     /// </details>
     #[must_use]
     #[inline]
@@ -145,6 +162,9 @@ impl<'a> SingleVlanHeaderSlice<'a> {
     /// ```text
     /// ensures { vlan_view result ≡ vlan_of self.now }
     /// ```
+    ///
+    /// Words: [`vlan_view`](crate::definitions::ether_tags#def.vlan_view),
+    /// [`vlan_of`](crate::definitions::ether_base#def.vlan_of). [Notation](crate::definitions::notation)
     ///
     /// </details>
     #[must_use]

@@ -44,6 +44,12 @@ impl<'a> SingleVlanSlice<'a> {
     /// ensures short { OnErr result (length slice.now < 4) }
     /// ```
     ///
+    /// Words: [`Accepts`](crate::definitions::ether_base#def.Accepts), `sources` (`LenSource`),
+    /// [`kinds.Vlan`](crate::definitions::ether_base#def.Kind), [`Means`](crate::definitions::ether_base#def.Means),
+    /// [`headers.Vlan`](crate::definitions::ether_base#def.Header),
+    /// [`vlan_of`](crate::definitions::ether_base#def.vlan_of),
+    /// [`IsRefusedLen`](crate::definitions::ether_base#def.IsRefusedLen). [Notation](crate::definitions::notation)
+    ///
     /// </details>
     #[inline]
     pub fn from_slice(slice: &'a [u8]) -> Result<SingleVlanSlice<'a>, LenError> {
@@ -66,6 +72,8 @@ impl<'a> SingleVlanSlice<'a> {
     /// ensures { result.now ≡ self.now }
     /// ```
     ///
+    /// [Notation](crate::definitions::notation)
+    ///
     /// </details>
     #[must_use]
     #[inline]
@@ -82,6 +90,8 @@ impl<'a> SingleVlanSlice<'a> {
     /// ensures len { length result.now ≡ 4 }
     /// ```
     ///
+    /// [Notation](crate::definitions::notation)
+    ///
     /// </details>
     #[must_use]
     #[inline]
@@ -96,6 +106,8 @@ impl<'a> SingleVlanSlice<'a> {
     /// ```text
     /// ensures { result ≡ (vlan_of self.now).pcp }
     /// ```
+    ///
+    /// Words: [`vlan_of`](crate::definitions::ether_base#def.vlan_of). [Notation](crate::definitions::notation)
     ///
     /// </details>
     #[must_use]
@@ -112,6 +124,9 @@ impl<'a> SingleVlanSlice<'a> {
     /// ensures { bit result ≡ (vlan_of self.now).dei }
     /// ```
     ///
+    /// Words: [`bit`](crate::definitions::ether_base#def.bit),
+    /// [`vlan_of`](crate::definitions::ether_base#def.vlan_of). [Notation](crate::definitions::notation)
+    ///
     /// </details>
     #[must_use]
     #[inline]
@@ -126,6 +141,8 @@ impl<'a> SingleVlanSlice<'a> {
     /// ```text
     /// ensures { result ≡ (vlan_of self.now).vid }
     /// ```
+    ///
+    /// Words: [`vlan_of`](crate::definitions::ether_base#def.vlan_of). [Notation](crate::definitions::notation)
     ///
     /// </details>
     #[must_use]
@@ -142,6 +159,8 @@ impl<'a> SingleVlanSlice<'a> {
     /// ensures { result.0 ≡ (vlan_of self.now).ether_type }
     /// ```
     ///
+    /// Words: [`vlan_of`](crate::definitions::ether_base#def.vlan_of). [Notation](crate::definitions::notation)
+    ///
     /// </details>
     #[must_use]
     #[inline]
@@ -156,6 +175,9 @@ impl<'a> SingleVlanSlice<'a> {
     /// ```text
     /// ensures { vlan_view result ≡ vlan_of self.now }
     /// ```
+    ///
+    /// Words: [`vlan_view`](crate::definitions::ether_tags#def.vlan_view),
+    /// [`vlan_of`](crate::definitions::ether_base#def.vlan_of). [Notation](crate::definitions::notation)
     ///
     /// </details>
     #[must_use]
@@ -173,6 +195,9 @@ impl<'a> SingleVlanSlice<'a> {
     /// ensures len_source { result.len_source ≡ sources.Slice }
     /// ensures bytes { result.payload.now ≡ slice_range self.now 4 (length self.now) }
     /// ```
+    ///
+    /// Words: [`vlan_of`](crate::definitions::ether_base#def.vlan_of), `sources` (`LenSource`).
+    /// [Notation](crate::definitions::notation)
     ///
     /// </details>
     #[must_use]
@@ -193,6 +218,8 @@ impl<'a> SingleVlanSlice<'a> {
     /// ensures { result.now ≡ slice_range self.now 4 (length self.now) }
     /// ```
     ///
+    /// [Notation](crate::definitions::notation)
+    ///
     /// </details>
     #[must_use]
     #[inline]
@@ -208,6 +235,8 @@ impl<'a> SingleVlanSlice<'a> {
     /// ```text
     /// ensures { result ≡ 4 }
     /// ```
+    ///
+    /// [Notation](crate::definitions::notation)
     ///
     /// </details>
     #[must_use]

@@ -26,6 +26,8 @@ const ETHER_TYPE: Range<usize> = 2..4;
 /// ensures { result ≡ (vlan_of bytes.now).pcp }
 /// ```
 ///
+/// Words: [`vlan_of`](crate::definitions::ether_base#def.vlan_of). [Notation](crate::definitions::notation)
+///
 /// </details>
 #[must_use]
 #[inline]
@@ -45,6 +47,9 @@ pub fn priority_code_point(bytes: &[u8]) -> VlanPcp {
 /// requires { 4 ≤ length bytes.now }
 /// ensures { bit result ≡ (vlan_of bytes.now).dei }
 /// ```
+///
+/// Words: [`bit`](crate::definitions::ether_base#def.bit),
+/// [`vlan_of`](crate::definitions::ether_base#def.vlan_of). [Notation](crate::definitions::notation)
 ///
 /// </details>
 #[must_use]
@@ -66,6 +71,8 @@ pub fn drop_eligible_indicator(bytes: &[u8]) -> bool {
 /// ensures { result ≡ (vlan_of bytes.now).vid }
 /// ```
 ///
+/// Words: [`vlan_of`](crate::definitions::ether_base#def.vlan_of). [Notation](crate::definitions::notation)
+///
 /// </details>
 #[must_use]
 #[inline]
@@ -85,6 +92,8 @@ pub fn vlan_identifier(bytes: &[u8]) -> VlanId {
 /// requires { 4 ≤ length bytes.now }
 /// ensures { result.0 ≡ (vlan_of bytes.now).ether_type }
 /// ```
+///
+/// Words: [`vlan_of`](crate::definitions::ether_base#def.vlan_of). [Notation](crate::definitions::notation)
 ///
 /// </details>
 #[must_use]
@@ -107,6 +116,10 @@ pub fn ether_type(bytes: &[u8]) -> EtherType {
 /// ensures value { vlan_view result ≡ vlan_of bytes.now }
 /// ensures bytes { IsBytes bytes.now }
 /// ```
+///
+/// Words: [`vlan_view`](crate::definitions::ether_tags#def.vlan_view),
+/// [`vlan_of`](crate::definitions::ether_base#def.vlan_of),
+/// [`IsBytes`](crate::definitions::ether_base#def.IsBytes). [Notation](crate::definitions::notation)
 ///
 /// </details>
 #[must_use]
@@ -134,6 +147,8 @@ pub fn header(bytes: &[u8]) -> SingleVlanHeader {
 /// ensures { result ≡ bytes.now }
 /// ```
 ///
+/// [Notation](crate::definitions::notation)
+///
 /// </details>
 #[must_use]
 #[inline]
@@ -151,6 +166,8 @@ pub fn tag(bytes: &[u8]) -> [u8; 4] {
 /// ensures vid { vlan_id < 4096 }
 /// ```
 ///
+/// Words: [`bit`](crate::definitions::ether_base#def.bit). [Notation](crate::definitions::notation)
+///
 /// </details>
 #[must_use]
 #[inline]
@@ -165,6 +182,8 @@ pub fn tag_control_of(pcp: VlanPcp, drop_eligible: bool, vlan_id: VlanId) -> u16
 /// ```text
 /// ensures { result ≡ spelled 4 (control * 2 ^ 16 + ether_type) }
 /// ```
+///
+/// Words: [`spelled`](crate::definitions::ether_base#def.spelled). [Notation](crate::definitions::notation)
 ///
 /// </details>
 #[must_use]

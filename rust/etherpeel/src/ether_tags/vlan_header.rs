@@ -39,6 +39,8 @@ impl VlanHeader {
     /// ensures { result.0 ≡ next_type self.now }
     /// ```
     ///
+    /// Words: [`next_type`](crate::definitions::ether_tags#def.next_type). [Notation](crate::definitions::notation)
+    ///
     /// </details>
     #[must_use]
     #[inline]

@@ -32,6 +32,9 @@ impl<'a> VlanSlice<'a> {
     /// ensures { header_tags result ≡ slice_tags self.now }
     /// ```
     ///
+    /// Words: [`header_tags`](crate::definitions::ether_tags#def.header_tags),
+    /// [`slice_tags`](crate::definitions::ether_tags#def.slice_tags). [Notation](crate::definitions::notation)
+    ///
     /// </details>
     #[must_use]
     #[inline]
@@ -52,6 +55,10 @@ impl<'a> VlanSlice<'a> {
     /// ensures bytes { result.payload.now
     ///     ≡ slice_range (innermost self.now) 4 (length (innermost self.now)) }
     /// ```
+    ///
+    /// Words: [`vlan_of`](crate::definitions::ether_base#def.vlan_of),
+    /// [`innermost`](crate::definitions::ether_tags#def.innermost), `sources` (`LenSource`).
+    /// [Notation](crate::definitions::notation)
     ///
     /// </details>
     #[must_use]

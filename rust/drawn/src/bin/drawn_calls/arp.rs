@@ -1,11 +1,11 @@
 //! ARP.
 use crate::draw::Draw;
 use crate::frames::{Frame, add_arp};
-use crate::text::Text;
+use crate::text::{Text, WithText};
 use etherpeel::{
     ArpEthIpv4Packet, ArpHardwareId, ArpOperation, ArpPacket, ArpPacketSlice, EtherType,
 };
-use std::fmt::{self, Write};
+use std::fmt;
 
 /// Calls all that reads and writes an ARP packet.
 pub(crate) fn calls(draw: &mut Draw, text: &mut Text) -> fmt::Result {
@@ -25,81 +25,34 @@ pub(crate) fn calls(draw: &mut Draw, text: &mut Text) -> fmt::Result {
 fn view(bytes: &[u8], text: &mut Text) -> fmt::Result {
     match ArpPacketSlice::from_slice(bytes) {
         Ok(view) => fields(&view, text),
-        Err(error) => writeln!(text, "{error:?} {error}"),
+        Err(error) => text.add(&WithText(&error)),
     }
 }
 
 fn fields(view: &ArpPacketSlice<'_>, text: &mut Text) -> fmt::Result {
-    writeln!(text, "{view:?} {:?}", view.slice())?;
-    writeln!(
-        text,
-        "{:?} {:?}",
-        view.hw_addr_type(),
-        view.proto_addr_type()
-    )?;
-    writeln!(
-        text,
-        "{} {} {:?}",
-        view.hw_addr_size(),
-        view.proto_addr_size(),
-        view.operation()
-    )?;
-    writeln!(
-        text,
-        "{:?} {:?}",
-        view.sender_hw_addr(),
-        view.sender_protocol_addr()
-    )?;
-    writeln!(
-        text,
-        "{:?} {:?}",
-        view.target_hw_addr(),
-        view.target_protocol_addr()
-    )?;
-    writeln!(text, "{:?}", view.to_packet())
+    text.add(&(&view, &view.slice()))?;
+    text.add(&(&view.hw_addr_type(), &view.proto_addr_type()))?;
+    text.add(&(
+        &view.hw_addr_size(),
+        &view.proto_addr_size(),
+        &view.operation(),
+    ))?;
+    text.add(&(&view.sender_hw_addr(), &view.sender_protocol_addr()))?;
+    text.add(&(&view.target_hw_addr(), &view.target_protocol_addr()))?;
+    text.add(&view.to_packet())
 }
 
 fn told(packet: &ArpPacket, text: &mut Text) -> fmt::Result {
-    writeln!(
-        text,
-        "{packet:?} {} {:?}",
-        packet.packet_len(),
-        packet.to_bytes()
-    )?;
-    writeln!(
-        text,
-        "{} {}",
-        packet.hw_addr_size(),
-        packet.protocol_addr_size()
-    )?;
-    writeln!(
-        text,
-        "{:?} {:?}",
-        packet.sender_hw_addr(),
-        packet.sender_protocol_addr()
-    )?;
-    writeln!(
-        text,
-        "{:?} {:?}",
-        packet.target_hw_addr(),
-        packet.target_protocol_addr()
-    )?;
+    text.add(&(&packet, &packet.packet_len(), &packet.to_bytes()))?;
+    text.add(&(&packet.hw_addr_size(), &packet.protocol_addr_size()))?;
+    text.add(&(&packet.sender_hw_addr(), &packet.sender_protocol_addr()))?;
+    text.add(&(&packet.target_hw_addr(), &packet.target_protocol_addr()))?;
     match packet.try_eth_ipv4() {
         Ok(fixed) => {
-            writeln!(
-                text,
-                "{fixed:?} {:?} {:?}",
-                fixed.to_bytes(),
-                fixed.to_arp_packet()
-            )?;
-            writeln!(
-                text,
-                "{:?} {:?}",
-                fixed.sender_ipv4_addr(),
-                fixed.target_ipv4_addr()
-            )
+            text.add(&(&fixed, &fixed.to_bytes(), &fixed.to_arp_packet()))?;
+            text.add(&(&fixed.sender_ipv4_addr(), &fixed.target_ipv4_addr()))
         }
-        Err(error) => writeln!(text, "{error:?} {error}"),
+        Err(error) => text.add(&WithText(&error)),
     }
 }
 
@@ -113,16 +66,16 @@ fn replaced(draw: &mut Draw, mut packet: ArpPacket, text: &mut Text) -> fmt::Res
         len
     };
     let hardware = packet.set_hw_addrs(&bytes[..len], &bytes[..other]);
-    writeln!(text, "{hardware:?} {packet:?}")?;
+    text.add(&(&hardware, &packet))?;
     if let Err(error) = hardware {
-        writeln!(text, "{error}")?;
+        text.add(&WithText(&error))?;
     }
     let protocol = packet.set_protocol_addrs(&bytes[..other], &bytes[..len]);
-    writeln!(text, "{protocol:?} {packet:?}")?;
+    text.add(&(&protocol, &packet))?;
     if let Err(error) = protocol {
-        writeln!(text, "{error}")?;
+        text.add(&WithText(&error))?;
     }
-    writeln!(text, "{:?}", ArpEthIpv4Packet::try_from(packet))
+    text.add(&ArpEthIpv4Packet::try_from(packet))
 }
 
 fn made(draw: &mut Draw, text: &mut Text) -> fmt::Result {
@@ -144,7 +97,7 @@ fn made(draw: &mut Draw, text: &mut Text) -> fmt::Result {
         &bytes[3..protocol + 3],
     );
     match packet {
-        Ok(packet) => writeln!(text, "{packet:?} {:?}", packet.to_bytes()),
-        Err(error) => writeln!(text, "{error:?} {error}"),
+        Ok(packet) => text.add(&(&packet, &packet.to_bytes())),
+        Err(error) => text.add(&WithText(&error)),
     }
 }

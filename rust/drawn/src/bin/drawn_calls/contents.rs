@@ -2,7 +2,7 @@
 use crate::captures::drawn_capture;
 use crate::draw::Draw;
 use crate::filters::{Words, add_filter};
-use crate::text::Text;
+use crate::text::{Text, WithText};
 use arrayvec::ArrayVec;
 use etherpeel::ether_content::{
     Content, PacketEdit, edit_packet, headers_len, is_cut, is_undecided, program, selects,
@@ -11,7 +11,7 @@ use etherpeel::ether_content::{
 use etherpeel::ether_filter::Filter;
 use etherpeel::ether_pcap::{CaptureInterface, CapturePackets, CaptureReader, CapturedPacket, CopyMode};
 use etherpeel::{EtherType, VlanId};
-use std::fmt::{self, Write};
+use std::fmt;
 
 /// The interfaces of a capture: few, so that some captures have too many.
 type Interfaces = ArrayVec<CaptureInterface, 2>;
@@ -29,21 +29,21 @@ pub(crate) fn calls(draw: &mut Draw, text: &mut Text) -> fmt::Result {
     let mut reader: CaptureReader<Interfaces> = CaptureReader::new(ArrayVec::new());
     let mut rest = capture.as_slice();
     for _ in 0..8u8 {
-        writeln!(text, "{}", reader.has_begun())?;
+        text.add(&reader.has_begun())?;
         let len = match reader.read(rest) {
             Ok(unit) => {
-                writeln!(text, "{unit:?}")?;
+                text.add(&unit)?;
                 let bytes = rest.get(..unit.len).unwrap_or(&[]);
-                writeln!(text, "{:?}", reader.copy_unit(mode, bytes))?;
+                text.add(&reader.copy_unit(mode, bytes))?;
                 if let Some(packet) = &unit.packet {
-                    writeln!(text, "{}", reader.copies_packet(mode, bytes, packet))?;
+                    text.add(&reader.copies_packet(mode, bytes, packet))?;
                     edited(draw, &reader, bytes, packet, text)?;
                     selected(draw, packet, text)?;
                 }
                 unit.len
             }
             Err(error) => {
-                writeln!(text, "{error:?} {error} {:?}", error.required_len())?;
+                text.add(&(WithText(&error), &error.required_len()))?;
                 break;
             }
         };
@@ -55,10 +55,10 @@ pub(crate) fn calls(draw: &mut Draw, text: &mut Text) -> fmt::Result {
 fn whole(capture: &[u8], text: &mut Text) -> fmt::Result {
     let mut packets = CapturePackets::from_slice(capture);
     for _ in 0..8u8 {
-        writeln!(text, "{} {}", packets.offset(), packets.rest().len())?;
+        text.add(&(&packets.offset(), &packets.rest().len()))?;
         match packets.next() {
             Some(Ok(packet)) => contents(&packet, text)?,
-            Some(Err(fault)) => writeln!(text, "{fault:?} {fault} {}", fault.error)?,
+            Some(Err(fault)) => text.add(&(WithText(&fault), WithText(&fault.error)))?,
             None => return Ok(()),
         }
     }
@@ -67,19 +67,8 @@ fn whole(capture: &[u8], text: &mut Text) -> fmt::Result {
 
 fn contents(packet: &CapturedPacket<'_>, text: &mut Text) -> fmt::Result {
     let content = Content::of(packet);
-    writeln!(
-        text,
-        "{packet:?} {content:?} {} {:?}",
-        content.is_unknown(),
-        content.frame()
-    )?;
-    writeln!(
-        text,
-        "{} {} {:?}",
-        is_cut(packet),
-        headers_len(packet),
-        without_fcs(packet)
-    )
+    text.add(&(&packet, &content, &content.is_unknown(), &content.frame()))?;
+    text.add(&(&is_cut(packet), &headers_len(packet), &without_fcs(packet)))
 }
 
 fn drawn_edit(draw: &mut Draw) -> PacketEdit {
@@ -113,14 +102,14 @@ fn edited(
     let room = if draw.one_in(8) { draw.below(520) } else { 520 };
     let edit = drawn_edit(draw);
     let edited = edit_packet(edit, packet, &mut buffer[..room]);
-    writeln!(text, "{edit:?} {} {edited:?}", edit.growth())?;
+    text.add(&(&edit, &edit.growth(), &edited))?;
     match edited {
         Ok(Some(it)) => {
             let bytes = buffer.get(it.start..it.end).unwrap_or(&[]);
             edited_unit(reader, unit, bytes, it.original_len, text)
         }
         Ok(None) => Ok(()),
-        Err(error) => writeln!(text, "{error}"),
+        Err(error) => text.add(&WithText(&error)),
     }
 }
 
@@ -131,11 +120,7 @@ fn edited_unit<'a>(
     original_len: u64,
     text: &mut Text,
 ) -> fmt::Result {
-    writeln!(
-        text,
-        "{bytes:?} {:?}",
-        reader.edit_unit(unit, bytes, original_len)
-    )
+    text.add(&(&bytes, &reader.edit_unit(unit, bytes, original_len)))
 }
 
 fn selected(draw: &mut Draw, packet: &CapturedPacket<'_>, text: &mut Text) -> fmt::Result {
@@ -144,16 +129,7 @@ fn selected(draw: &mut Draw, packet: &CapturedPacket<'_>, text: &mut Text) -> fm
     let Ok(filter) = Filter::parse(words.as_slice()) else {
         return Ok(());
     };
-    writeln!(
-        text,
-        "{} {}",
-        selects(&filter, packet),
-        is_undecided(&filter, packet)
-    )?;
-    writeln!(text, "{}", program::selects(filter.instructions(), packet))?;
-    writeln!(
-        text,
-        "{}",
-        program::is_undecided(filter.instructions(), packet)
-    )
+    text.add(&(&selects(&filter, packet), &is_undecided(&filter, packet)))?;
+    text.add(&program::selects(filter.instructions(), packet))?;
+    text.add(&program::is_undecided(filter.instructions(), packet))
 }

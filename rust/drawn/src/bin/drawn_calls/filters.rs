@@ -1,10 +1,10 @@
 //! Filters.
 use crate::draw::Draw;
-use crate::text::Text;
+use crate::text::{Text, WithText};
 use crate::walks::drawn_frame;
 use arrayvec::ArrayVec;
 use etherpeel::ether_filter::{Filter, Packet, filter_program, number_of};
-use std::fmt::{self, Write};
+use std::fmt;
 
 /// The words of a drawn filter.
 pub(crate) type Words = ArrayVec<u8, 512>;
@@ -52,10 +52,10 @@ pub(crate) fn calls(draw: &mut Draw, text: &mut Text) -> fmt::Result {
     let mut words = Words::new();
     add_filter(draw, &mut words);
     let word = word_of(draw);
-    writeln!(text, "{:?} {:?}", number_of(word), number_of(&word[1..]))?;
+    text.add(&(&number_of(word), &number_of(&word[1..])))?;
     match Filter::parse(words.as_slice()) {
         Ok(filter) => decided(draw, &filter, text),
-        Err(error) => writeln!(text, "{error:?} {error} {}", error.kind),
+        Err(error) => text.add(&(WithText(&error), WithText(&error.kind))),
     }
 }
 
@@ -112,9 +112,9 @@ fn add(words: &mut Words, more: &[u8]) {
 }
 
 fn decided(draw: &mut Draw, filter: &Filter, text: &mut Text) -> fmt::Result {
-    writeln!(text, "{filter:?}")?;
+    text.add(&filter)?;
     for instruction in filter.instructions() {
-        writeln!(text, "{instruction:?} {:?}", instruction.node())?;
+        text.add(&(&instruction, &instruction.node()))?;
     }
     for _ in 0..3u8 {
         let (start, frame) = drawn_frame(draw);
@@ -130,22 +130,9 @@ fn decided(draw: &mut Draw, filter: &Filter, text: &mut Text) -> fmt::Result {
             captured_len: captured.len(),
             original_len: (whole.len() + draw.below(3)) as u32,
         };
-        writeln!(
-            text,
-            "{packet:?} {} {:?}",
-            filter.matches(&packet),
-            filter.decide(&packet)
-        )?;
-        writeln!(
-            text,
-            "{}",
-            filter_program::matches(filter.instructions(), &packet)
-        )?;
-        writeln!(
-            text,
-            "{:?}",
-            filter_program::decide(filter.instructions(), &packet)
-        )?;
+        text.add(&(&packet, &filter.matches(&packet), &filter.decide(&packet)))?;
+        text.add(&filter_program::matches(filter.instructions(), &packet))?;
+        text.add(&filter_program::decide(filter.instructions(), &packet))?;
     }
     Ok(())
 }

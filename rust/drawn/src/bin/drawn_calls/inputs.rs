@@ -7,10 +7,13 @@ use crate::{
 };
 use std::fmt;
 
+/// How many kinds of inputs there are.
+pub(crate) const KINDS: u64 = 16;
+
 /// Draws the input that has a number, and calls the functions that its kind is for.
 pub(crate) fn calls(number: u64, text: &mut Text) -> fmt::Result {
     let mut draw = Draw::new(number);
-    match number % 16 {
+    match number % KINDS {
         0 => numbers::calls(&mut draw, text),
         1 => ethernet2::calls(&mut draw, text),
         2 => vlan::calls(&mut draw, text),

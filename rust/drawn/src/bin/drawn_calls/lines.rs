@@ -1,7 +1,7 @@
 //! Lines of packets, and the names in them.
 use crate::captures::drawn_capture;
 use crate::draw::Draw;
-use crate::text::Text;
+use crate::text::{Text, WithText};
 use arrayvec::ArrayVec;
 use etherpeel::ether_fields::{Field, Kind, Section, name_of};
 use etherpeel::ether_format::{Columns, Format, nine_digits, split_at, write_packet};
@@ -10,9 +10,9 @@ use etherpeel::ether_output::{
 };
 use etherpeel::ether_pcap::CapturePackets;
 use etherpeel::{EtherType, LenSource};
-use std::fmt::{self, Write};
+use std::fmt;
 
-/// What a line is written to; some lines are longer.
+/// What lines are written to; some are longer.
 type Written = ArrayVec<u8, 4096>;
 
 static FORMATS: [&[u8]; 12] = [
@@ -30,64 +30,48 @@ static FORMATS: [&[u8]; 12] = [
     b"",
 ];
 
-/// Calls what writes the line of a packet.
+/// Calls what writes lines, and what names the fields in them.
 pub(crate) fn calls(draw: &mut Draw, text: &mut Text) -> fmt::Result {
-    numbers(draw, text)?;
     names(draw, text)?;
     let name = match FORMATS.get(draw.below(12)) {
         Some(name) => *name,
         None => b"json",
     };
-    writeln!(text, "{:?}", split_at(b',', name))?;
-    columns(name, text)?;
-    match Format::of_text(name) {
-        Some(format) => packets(draw, &format, text),
-        None => Ok(()),
+    match draw.below(3) {
+        0 => numbers(draw, text),
+        1 => columns(name, text),
+        _ => packets(draw, name, text),
     }
 }
 
 /// Writes a number in two ways.
 fn decimals(number: u32, written: &mut Written, text: &mut Text) -> fmt::Result {
     let mut out = OutputBuffer::new(written);
-    write_decimal(&mut out, number as usize);
+    write_decimal(&mut out, u64::from(number));
     out.append(b" ");
-    write_number(&mut out, b"offset ", number as usize);
+    write_number(&mut out, b"offset ", u64::from(number));
     out.append_array([b'\n']);
-    writeln!(
-        text,
-        "{:?} {:?} {}",
-        out.check(),
-        out.waiting(),
-        out.has_waiting()
-    )?;
-    writeln!(text, "{:?} {:?}", out.write_out(), out.flush())
+    text.add(&(&out.check(), &out.waiting(), &out.has_waiting()))?;
+    text.add(&(&out.write_out(), &out.flush()))
 }
 
 fn numbers(draw: &mut Draw, text: &mut Text) -> fmt::Result {
     let mut written = Written::new();
     decimals(draw.word() >> draw.below(32), &mut written, text)?;
-    writeln!(
-        text,
-        "{written:?} {:?}",
-        eight_digits(draw.next() % 100_000_000)
-    )?;
-    writeln!(
-        text,
-        "{:?} {:?}",
-        nine_digits(draw.word() % 1_000_000_000),
-        digit_pair(draw.byte() % 100)
-    )?;
-    writeln!(
-        text,
-        "{:?} {:?}",
-        hex_type(EtherType(draw.short())),
-        source_of(LenSource::ArpAddrLengths)
-    )
+    text.add(&(&written, &eight_digits(draw.next() % 100_000_000)))?;
+    text.add(&(
+        &nine_digits(draw.word() % 1_000_000_000),
+        &digit_pair(draw.byte() % 100),
+    ))?;
+    text.add(&(
+        &hex_type(EtherType(draw.short())),
+        &source_of(LenSource::ArpAddrLengths),
+    ))
 }
 
 fn names(draw: &mut Draw, text: &mut Text) -> fmt::Result {
     let number = draw.below(128) as u32;
-    writeln!(text, "{:?}", Field::of_number(number))?;
+    text.add(&Field::of_number(number))?;
     let section = match draw.below(10) {
         0 => Section::Frame,
         1 => Section::Eth,
@@ -100,13 +84,12 @@ fn names(draw: &mut Draw, text: &mut Text) -> fmt::Result {
         8 => Section::Rest,
         _ => Section::Fault,
     };
-    writeln!(
-        text,
-        "{section:?} {} {:?}",
-        section.name(),
-        Section::of_name(section.name().as_bytes())
-    )?;
-    writeln!(text, "{:?}", section.fields())?;
+    text.add(&(
+        &section,
+        &section.name(),
+        &Section::of_name(section.name().as_bytes()),
+    ))?;
+    text.add(&section.fields())?;
     let kind = match draw.below(5) {
         0 => Kind::EtherType,
         1 => Kind::HardwareType,
@@ -119,28 +102,31 @@ fn names(draw: &mut Draw, text: &mut Text) -> fmt::Result {
     } else {
         draw.small_u16()
     };
-    writeln!(text, "{kind:?} {:?}", name_of(kind, u64::from(number)))
+    text.add(&(&kind, &name_of(kind, u64::from(number))))
 }
 
 fn columns(name: &[u8], text: &mut Text) -> fmt::Result {
+    text.add(&split_at(b',', name))?;
     let Ok(name) = std::str::from_utf8(name) else {
         return Ok(());
     };
-    writeln!(text, "{:?}", Columns::unknown_name(name))?;
+    text.add(&Columns::unknown_name(name))?;
     let columns = Columns::of_names(name).unwrap_or(Columns::common());
     let mut written = Written::new();
     let mut out = OutputBuffer::new(&mut written);
     columns.write_heading(&mut out);
-    writeln!(text, "{:?}", out.flush())?;
-    writeln!(
-        text,
-        "{columns:?} {written:?} {:?}",
-        columns.after_original()
-    )
+    text.add(&out.flush())?;
+    text.add(&(&columns, &written, &columns.after_original()))
 }
 
-fn packets(draw: &mut Draw, format: &Format, text: &mut Text) -> fmt::Result {
+/// Writes the lines of some packets; of one in four not all headers.
+fn packets(draw: &mut Draw, name: &[u8], text: &mut Text) -> fmt::Result {
+    let Some(format) = Format::of_text(name) else {
+        return Ok(());
+    };
     let capture = drawn_capture(draw);
+    let mut written = Written::new();
+    let mut out = OutputBuffer::new(&mut written);
     let mut number = 1;
     for packet in CapturePackets::from_slice(capture.as_slice()) {
         let limit = if draw.one_in(4) {
@@ -148,29 +134,18 @@ fn packets(draw: &mut Draw, format: &Format, text: &mut Text) -> fmt::Result {
         } else {
             None
         };
-        let mut written = Written::new();
-        let mut out = OutputBuffer::new(&mut written);
         match packet {
-            Ok(packet) => writeln!(
-                text,
-                "{}",
-                write_packet(format, limit, number, &packet, &mut out)
-            )?,
-            Err(fault) => writeln!(text, "{fault}")?,
+            Ok(packet) => text.add(&write_packet(&format, limit, number, &packet, &mut out))?,
+            Err(fault) => text.add(&WithText(&fault))?,
         }
-        writeln!(text, "{:?}", out.flush())?;
-        line(written.as_slice(), text)?;
         number += 1;
         if number > 9 {
-            return Ok(());
+            break;
         }
     }
-    Ok(())
-}
-
-fn line(bytes: &[u8], text: &mut Text) -> fmt::Result {
-    match std::str::from_utf8(bytes) {
-        Ok(line) => text.write_str(line),
+    text.add(&out.flush())?;
+    match std::str::from_utf8(written.as_slice()) {
+        Ok(lines) => text.add(&lines),
         Err(_) => Err(fmt::Error),
     }
 }

@@ -29,6 +29,8 @@ mod packets;
 #[rustfmt::skip]
 mod pcap;
 #[rustfmt::skip]
+mod returned;
+#[rustfmt::skip]
 mod same;
 #[rustfmt::skip]
 mod sll;
@@ -43,7 +45,7 @@ mod vlan;
 #[rustfmt::skip]
 mod walks;
 
-use inputs::calls;
+use inputs::{KINDS, calls};
 use text::Text;
 
 fn main() -> Result<(), std::fmt::Error> {
@@ -54,7 +56,9 @@ fn main() -> Result<(), std::fmt::Error> {
     let shows_texts = arguments.next().is_some();
     let mut text = Text::new();
     for index in 0..count {
-        calls(first.wrapping_add(index), &mut text)?;
+        let number = first.wrapping_add(index);
+        text.set_form(shows_texts || number % 1000 < KINDS);
+        calls(number, &mut text)?;
         if (index + 1) % per_line == 0 || index + 1 == count {
             println!("{} {}", first.wrapping_add(index - index % per_line), text.digest());
             if shows_texts {

@@ -1,6 +1,6 @@
 //! Whole packets, and edits of them.
 use crate::draw::Draw;
-use crate::text::Text;
+use crate::text::{Text, WithText};
 use crate::walks::drawn_frame;
 use etherpeel::ether_packet::{
     BuildError, PacketBuilder, PacketContent, PacketParts, PacketSlice, ReplaceError, TagError,
@@ -9,7 +9,7 @@ use etherpeel::ether_packet::{
 };
 use etherpeel::ether_peel::Start;
 use etherpeel::{EtherType, LinkExtHeader, SingleVlanHeader, VlanId, VlanPcp};
-use std::fmt::{self, Write};
+use std::fmt;
 
 /// Calls what reads, edits and builds a packet.
 pub(crate) fn calls(draw: &mut Draw, text: &mut Text) -> fmt::Result {
@@ -17,13 +17,11 @@ pub(crate) fn calls(draw: &mut Draw, text: &mut Text) -> fmt::Result {
     let packet = PacketSlice::from_slice(start, frame.as_slice());
     told(&packet, text)?;
     tags(&packet, text)?;
-    writeln!(
-        text,
-        "{:?} {:?}",
-        ethernet_front(frame.as_slice()),
-        outer_vlan(start, frame.as_slice())
-    )?;
-    writeln!(text, "{}", min_snap_len(start, frame.as_slice()))?;
+    text.add(&(
+        &ethernet_front(frame.as_slice()),
+        &outer_vlan(start, frame.as_slice()),
+    ))?;
+    text.add(&min_snap_len(start, frame.as_slice()))?;
     if let Some(mut parts) = packet.to_parts() {
         rebuilt(draw, &mut parts, text)?;
     }
@@ -32,33 +30,17 @@ pub(crate) fn calls(draw: &mut Draw, text: &mut Text) -> fmt::Result {
 }
 
 fn told(packet: &PacketSlice<'_>, text: &mut Text) -> fmt::Result {
-    writeln!(
-        text,
-        "{packet:?} {:?} {}",
-        packet.link(),
-        packet.link_ext_count()
-    )?;
-    writeln!(text, "{:?} {:?}", packet.link_ext(1), packet.link_exts())?;
-    writeln!(
-        text,
-        "{:?} {:?} {:?}",
-        packet.arp(),
-        packet.arp_offset(),
-        packet.vlan()
-    )?;
-    writeln!(
-        text,
-        "{:?} {:?}",
-        packet.vlan_ids(),
-        packet.outermost_vlan()
-    )?;
-    writeln!(text, "{:?} {:?}", packet.macsec(), packet.ether_payload())?;
-    writeln!(text, "{} {}", packet.is_complete(), packet.min_snap_len())
+    text.add(&(&packet, &packet.link(), &packet.link_ext_count()))?;
+    text.add(&(&packet.link_ext(1), &packet.link_exts()))?;
+    text.add(&(&packet.arp(), &packet.arp_offset(), &packet.vlan()))?;
+    text.add(&(&packet.vlan_ids(), &packet.outermost_vlan()))?;
+    text.add(&(&packet.macsec(), &packet.ether_payload()))?;
+    text.add(&(&packet.is_complete(), &packet.min_snap_len()))
 }
 
 fn tags(packet: &PacketSlice<'_>, text: &mut Text) -> fmt::Result {
     for index in 0..packet.link_ext_count() {
-        writeln!(text, "{:?}", packet.link_ext(index))?;
+        text.add(&packet.link_ext(index))?;
     }
     Ok(())
 }
@@ -66,22 +48,13 @@ fn tags(packet: &PacketSlice<'_>, text: &mut Text) -> fmt::Result {
 fn rebuilt(draw: &mut Draw, parts: &mut PacketParts<'_>, text: &mut Text) -> fmt::Result {
     let mut target = [0u8; 600];
     let len = if draw.one_in(4) { draw.below(600) } else { 600 };
-    writeln!(
-        text,
-        "{parts:?} {:?} {}",
-        parts.link_exts(),
-        parts.frame_len()
-    )?;
+    text.add(&(&parts, &parts.link_exts(), &parts.frame_len()))?;
     built(&parts.builder(), &mut target[..len], text)?;
-    writeln!(
-        text,
-        "{:?}",
-        parts.builder().write_unchanged(&mut target[..len])
-    )?;
+    text.add(&parts.builder().write_unchanged(&mut target[..len]))?;
     let (index, ext) = (draw.below(4), LinkExtHeader::Vlan(drawn_tag(draw)));
-    writeln!(text, "{:?} {parts:?}", parts.set_link_ext(index, &ext))?;
-    writeln!(text, "{:?}", parts.write_frame(&mut target[..len]))?;
-    writeln!(text, "{target:?}")
+    text.add(&(&parts.set_link_ext(index, &ext), &parts))?;
+    text.add(&parts.write_frame(&mut target[..len]))?;
+    text.add(&target)
 }
 
 fn built(builder: &PacketBuilder<'_, '_>, target: &mut [u8], text: &mut Text) -> fmt::Result {
@@ -90,18 +63,18 @@ fn built(builder: &PacketBuilder<'_, '_>, target: &mut [u8], text: &mut Text) ->
         link_exts: builder.link_exts,
         content: PacketContent::Payload(EtherType(0x0800), &[1, 2, 3]),
     };
-    writeln!(text, "{builder:?} {} {}", builder.size(), sealed.size())?;
+    text.add(&(&builder, &builder.size(), &sealed.size()))?;
     for result in [builder.write(target), sealed.write(target)] {
-        writeln!(text, "{result:?}")?;
+        text.add(&result)?;
         if let Err(error) = result {
             build_error(&error, text)?;
         }
     }
-    writeln!(text, "{target:?}")
+    text.add(&&target[..])
 }
 
 fn build_error(error: &BuildError, text: &mut Text) -> fmt::Result {
-    writeln!(text, "{error}")
+    text.add(&WithText(&error))
 }
 
 fn drawn_tag(draw: &mut Draw) -> SingleVlanHeader {
@@ -134,12 +107,8 @@ fn edits(draw: &mut Draw, start: Start, frame: &[u8], text: &mut Text) -> fmt::R
     let end = (frame.len() + 4).min(516);
     let (id, other, index) = (drawn_id(draw, start, frame), drawn_tag(draw), draw.below(4));
     let mut buffer = buffer_of(frame);
-    writeln!(text, "{:?}", find_vlan(start, &buffer[4..end], id))?;
-    writeln!(
-        text,
-        "{:?}",
-        replace_vlan_id(start, &mut buffer[4..end], id, other.vlan_id)
-    )?;
+    text.add(&find_vlan(start, &buffer[4..end], id))?;
+    text.add(&replace_vlan_id(start, &mut buffer[4..end], id, other.vlan_id))?;
     tag_result(set_vlan_id(start, &mut buffer[4..end], index, id), text)?;
     let (pcp, dei) = (
         VlanPcp::try_new(draw.byte() % 8).unwrap_or(VlanPcp::ZERO),
@@ -158,7 +127,7 @@ fn edits(draw: &mut Draw, start: Start, frame: &[u8], text: &mut Text) -> fmt::R
         ),
         text,
     )?;
-    writeln!(text, "{:?}", &buffer[..end])?;
+    text.add(&&buffer[..end])?;
     tag_result(
         push_vlan(
             start,
@@ -168,18 +137,18 @@ fn edits(draw: &mut Draw, start: Start, frame: &[u8], text: &mut Text) -> fmt::R
         ),
         text,
     )?;
-    writeln!(text, "{:?}", &buffer[..end])?;
+    text.add(&&buffer[..end])?;
     match pop_vlan(start, &mut buffer[4..end]) {
-        Ok(tag) => writeln!(text, "{tag:?}")?,
-        Err(error) => writeln!(text, "{error:?} {error}")?,
+        Ok(tag) => text.add(&tag)?,
+        Err(error) => text.add(&WithText(&error))?,
     }
-    writeln!(text, "{:?}", &buffer[..end])
+    text.add(&&buffer[..end])
 }
 
 fn tag_result(edited: Result<(), TagError>, text: &mut Text) -> fmt::Result {
     match edited {
-        Ok(()) => writeln!(text, "done"),
-        Err(error) => writeln!(text, "{error:?} {error}"),
+        Ok(()) => text.add(&"done"),
+        Err(error) => text.add(&WithText(&error)),
     }
 }
 
@@ -210,12 +179,12 @@ fn replaced(draw: &mut Draw, start: Start, frame: &[u8], text: &mut Text) -> fmt
         packet.operation = etherpeel::ArpOperation(draw.small_u16());
         replace_result(replace_arp(start, &mut buffer[4..end], &packet), text)?;
     }
-    writeln!(text, "{:?}", &buffer[..end])
+    text.add(&&buffer[..end])
 }
 
 fn replace_result(edited: Result<(), ReplaceError>, text: &mut Text) -> fmt::Result {
     match edited {
-        Ok(()) => writeln!(text, "done"),
-        Err(error) => writeln!(text, "{error:?} {error}"),
+        Ok(()) => text.add(&"done"),
+        Err(error) => text.add(&WithText(&error)),
     }
 }

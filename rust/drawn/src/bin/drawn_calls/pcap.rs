@@ -1,12 +1,12 @@
 //! The headers, records and blocks of captures.
 use crate::captures::{Bytes, add_classic, drawn_capture};
 use crate::draw::Draw;
-use crate::text::Text;
+use crate::text::{Text, WithText};
 use etherpeel::ether_pcap::{
     ByteOrder, CaptureInterface, EnhancedPacket, FileHeader, InterfaceDescription, PcapRecord,
     PcapRecords, PcapngBlock, SectionHeader, SimplePacket, TimestampResolution,
 };
-use std::fmt::{self, Write};
+use std::fmt;
 
 /// Calls what reads and writes the headers of captures.
 pub(crate) fn calls(draw: &mut Draw, text: &mut Text) -> fmt::Result {
@@ -33,19 +33,13 @@ fn numbers(draw: &mut Draw, text: &mut Text) -> fmt::Result {
     let (short, half) = ((number % 0x1_0000) as u16, (number >> 32) as u32);
     for order in [ByteOrder::BigEndian, ByteOrder::LittleEndian] {
         let (low, high) = (order.bytes_of_u16(short), order.bytes_of_u32(half));
-        writeln!(
-            text,
-            "{order:?} {low:?} {high:?} {} {}",
-            order.u16_of(low),
-            order.u32_of(high)
-        )?;
-        writeln!(text, "{}", order.u64_of(number.to_be_bytes()))?;
-        writeln!(
-            text,
-            "{:?} {:?}",
-            SectionHeader::to_bytes(order),
-            InterfaceDescription::nanosecond_options(order)
-        )?;
+        text.add(&(&order, &low, &order.u16_of(low)))?;
+        text.add(&(&high, &order.u32_of(high)))?;
+        text.add(&order.u64_of(number.to_be_bytes()))?;
+        text.add(&(
+            &SectionHeader::to_bytes(order),
+            &InterfaceDescription::nanosecond_options(order),
+        ))?;
     }
     let magic = match draw.below(3) {
         0 => 0xA1B2_C3D4,
@@ -53,30 +47,24 @@ fn numbers(draw: &mut Draw, text: &mut Text) -> fmt::Result {
         _ => half,
     };
     let resolution = TimestampResolution::of_magic(magic);
-    writeln!(text, "{resolution:?}")?;
+    text.add(&resolution)?;
     match resolution {
-        Some(it) => writeln!(text, "{}", it.magic()),
+        Some(it) => text.add(&it.magic()),
         None => Ok(()),
     }
 }
 
 fn classic(draw: &mut Draw, bytes: &[u8], text: &mut Text) -> fmt::Result {
     match FileHeader::from_slice(bytes) {
-        Ok(header) => writeln!(text, "{header:?} {:?}", header.to_bytes())?,
-        Err(error) => writeln!(text, "{error:?} {error}")?,
+        Ok(header) => text.add(&(&header, &header.to_bytes()))?,
+        Err(error) => text.add(&WithText(&error))?,
     }
     if let Ok(mut records) = PcapRecords::from_slice(bytes) {
         for _ in 0..6u8 {
-            writeln!(
-                text,
-                "{:?} {} {:?}",
-                records.header(),
-                records.offset(),
-                records.rest()
-            )?;
+            text.add(&(&records.header(), &records.offset(), &records.rest()))?;
             match records.next() {
                 Some(Ok(packet)) => record(draw, &records.header(), &packet, text)?,
-                Some(Err(fault)) => writeln!(text, "{fault:?} {fault} {}", fault.error)?,
+                Some(Err(fault)) => text.add(&(WithText(&fault), WithText(&fault.error)))?,
                 None => return Ok(()),
             }
         }
@@ -91,40 +79,35 @@ fn record(
     text: &mut Text,
 ) -> fmt::Result {
     let mut bytes = Bytes::new();
-    writeln!(
-        text,
-        "{packet:?} {} {}",
-        packet.record_len(),
-        packet.nanoseconds(file.resolution)
-    )?;
+    text.add(&(
+        &packet,
+        &packet.record_len(),
+        &packet.nanoseconds(file.resolution),
+    ))?;
     let header = packet.header_to_bytes(file.byte_order);
     for byte in header.iter().chain(packet.packet) {
         let _ = bytes.try_push(*byte);
     }
     bytes.truncate(draw.below(bytes.len() + 8));
-    writeln!(
-        text,
-        "{header:?} {:?}",
-        PcapRecord::from_slice(file, bytes.as_slice())
-    )
+    text.add(&(&header, &PcapRecord::from_slice(file, bytes.as_slice())))
 }
 
 fn blocks(draw: &mut Draw, bytes: &[u8], text: &mut Text) -> fmt::Result {
     let section = match SectionHeader::from_slice(bytes) {
         Ok(section) => section,
-        Err(error) => return writeln!(text, "{error:?} {error}"),
+        Err(error) => return text.add(&WithText(&error)),
     };
-    writeln!(text, "{section:?}")?;
+    text.add(&section)?;
     let order = section.byte_order;
     let mut rest = bytes;
     for _ in 0..8u8 {
         match PcapngBlock::from_slice(order, rest) {
             Ok(block) => {
-                writeln!(text, "{block:?} {}", block.block_len())?;
+                text.add(&(&block, &block.block_len()))?;
                 body(draw, order, block.body, text)?;
                 rest = rest.get(block.block_len()..).unwrap_or(&[]);
             }
-            Err(error) => return writeln!(text, "{error:?} {error}"),
+            Err(error) => return text.add(&WithText(&error)),
         }
     }
     Ok(())
@@ -134,21 +117,17 @@ fn blocks(draw: &mut Draw, bytes: &[u8], text: &mut Text) -> fmt::Result {
 fn body(draw: &mut Draw, order: ByteOrder, body: &[u8], text: &mut Text) -> fmt::Result {
     match InterfaceDescription::from_body(order, body) {
         Ok(interface) => described(draw, &interface, text)?,
-        Err(error) => writeln!(text, "{error:?} {error}")?,
+        Err(error) => text.add(&WithText(&error))?,
     }
-    writeln!(text, "{:?}", CaptureInterface::from_body(order, body))?;
-    writeln!(
-        text,
-        "{:?}",
-        SimplePacket::from_body(order, draw.word() % 100, body)
-    )?;
+    text.add(&CaptureInterface::from_body(order, body))?;
+    text.add(&SimplePacket::from_body(order, draw.word() % 100, body))?;
     match EnhancedPacket::from_body(order, body) {
         Ok(packet) => enhanced(order, &packet, text)?,
-        Err(error) => writeln!(text, "{error:?} {error}")?,
+        Err(error) => text.add(&WithText(&error))?,
     }
     match EnhancedPacket::from_obsolete_body(order, body) {
         Ok(packet) => enhanced(order, &packet, text),
-        Err(error) => writeln!(text, "{error:?} {error}"),
+        Err(error) => text.add(&WithText(&error)),
     }
 }
 
@@ -157,37 +136,19 @@ fn described(
     interface: &InterfaceDescription<'_>,
     text: &mut Text,
 ) -> fmt::Result {
-    writeln!(
-        text,
-        "{interface:?} {:?} {:?}",
-        interface.header_to_bytes(),
-        interface.trailer_to_bytes()
-    )?;
-    writeln!(
-        text,
-        "{:?} {:?}",
-        interface.option(draw.short() % 16),
-        interface.fcs_len()
-    )?;
-    writeln!(
-        text,
-        "{:?} {:?}",
-        interface.time_resolution(),
-        interface.time_offset()
-    )
+    text.add(&(
+        &interface,
+        &interface.header_to_bytes(),
+        &interface.trailer_to_bytes(),
+    ))?;
+    text.add(&(&interface.option(draw.short() % 16), &interface.fcs_len()))?;
+    text.add(&(&interface.time_resolution(), &interface.time_offset()))
 }
 
 fn enhanced(order: ByteOrder, packet: &EnhancedPacket<'_>, text: &mut Text) -> fmt::Result {
-    writeln!(
-        text,
-        "{packet:?} {} {:?}",
-        packet.padding_len(),
-        packet.fcs_len(order)
-    )?;
-    writeln!(
-        text,
-        "{:?} {:?}",
-        packet.header_to_bytes(order),
-        packet.trailer_to_bytes(order)
-    )
+    text.add(&(&packet, &packet.padding_len(), &packet.fcs_len(order)))?;
+    text.add(&(
+        &packet.header_to_bytes(order),
+        &packet.trailer_to_bytes(order),
+    ))
 }

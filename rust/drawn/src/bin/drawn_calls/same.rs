@@ -10,7 +10,7 @@ use etherpeel::{
     LinuxSllHeader, LinuxSllHeaderSlice, LinuxSllSlice, MacsecHeader, MacsecHeaderSlice,
     MacsecSlice, SingleVlanHeader, SingleVlanHeaderSlice, SingleVlanSlice,
 };
-use std::fmt::{self, Write};
+use std::fmt;
 
 /// Compares the views and the headers of two lists of bytes, which differ in one byte or not at all.
 pub(crate) fn calls(draw: &mut Draw, text: &mut Text) -> fmt::Result {
@@ -55,39 +55,39 @@ fn ethernet2(a: &[u8], b: &[u8], text: &mut Text) -> fmt::Result {
         == Ethernet2Slice::from_slice_without_fcs(b);
     let with_fcs = Ethernet2Slice::from_slice_with_crc32_fcs(a)
         == Ethernet2Slice::from_slice_with_crc32_fcs(b);
-    writeln!(text, "{headers} {views} {frames} {with_fcs}")
+    text.add(&(&headers, &views, &frames, &with_fcs))
 }
 
 fn vlan(a: &[u8], b: &[u8], text: &mut Text) -> fmt::Result {
     let headers = SingleVlanHeader::from_slice(a) == SingleVlanHeader::from_slice(b);
     let views = SingleVlanHeaderSlice::from_slice(a) == SingleVlanHeaderSlice::from_slice(b);
     let whole = SingleVlanSlice::from_slice(a) == SingleVlanSlice::from_slice(b);
-    writeln!(text, "{headers} {views} {whole}")
+    text.add(&(&headers, &views, &whole))
 }
 
 fn macsec(a: &[u8], b: &[u8], text: &mut Text) -> fmt::Result {
     let headers = MacsecHeader::from_slice(a) == MacsecHeader::from_slice(b);
     let views = MacsecHeaderSlice::from_slice(a) == MacsecHeaderSlice::from_slice(b);
     let whole = MacsecSlice::from_slice(a) == MacsecSlice::from_slice(b);
-    writeln!(text, "{headers} {views} {whole}")
+    text.add(&(&headers, &views, &whole))
 }
 
 fn sll(a: &[u8], b: &[u8], text: &mut Text) -> fmt::Result {
     let headers = LinuxSllHeader::from_slice(a) == LinuxSllHeader::from_slice(b);
     let views = LinuxSllHeaderSlice::from_slice(a) == LinuxSllHeaderSlice::from_slice(b);
     let whole = LinuxSllSlice::from_slice(a) == LinuxSllSlice::from_slice(b);
-    writeln!(text, "{headers} {views} {whole}")
+    text.add(&(&headers, &views, &whole))
 }
 
 fn sll2(a: &[u8], b: &[u8], text: &mut Text) -> fmt::Result {
     let headers = LinuxSll2Header::from_slice(a) == LinuxSll2Header::from_slice(b);
     let views = LinuxSll2HeaderSlice::from_slice(a) == LinuxSll2HeaderSlice::from_slice(b);
     let whole = LinuxSll2Slice::from_slice(a) == LinuxSll2Slice::from_slice(b);
-    writeln!(text, "{headers} {views} {whole}")
+    text.add(&(&headers, &views, &whole))
 }
 
 fn arp(a: &[u8], b: &[u8], text: &mut Text) -> fmt::Result {
     let packets = ArpPacket::from_slice(a) == ArpPacket::from_slice(b);
     let views = ArpPacketSlice::from_slice(a) == ArpPacketSlice::from_slice(b);
-    writeln!(text, "{packets} {views}")
+    text.add(&(&packets, &views))
 }

@@ -1,12 +1,12 @@
 //! Linux cooked capture v1, and the link headers of a packet.
 use crate::draw::Draw;
 use crate::frames::{Frame, add_drawn, add_sll};
-use crate::text::Text;
+use crate::text::{Text, WithText};
 use etherpeel::{
     EtherPayloadSlice, Ethernet2Slice, LinkHeader, LinkSlice, LinuxSllHeader, LinuxSllHeaderSlice,
     LinuxSllPayloadSlice, LinuxSllSlice,
 };
-use std::fmt::{self, Write};
+use std::fmt;
 
 /// Calls all that reads and writes a header of cooked capture v1, and the link headers of a packet.
 pub(crate) fn calls(draw: &mut Draw, text: &mut Text) -> fmt::Result {
@@ -27,106 +27,71 @@ fn header(bytes: &[u8], text: &mut Text) -> fmt::Result {
     match LinuxSllHeader::from_slice(bytes) {
         Ok((header, rest)) => {
             let mut target = [0u8; 17];
-            writeln!(text, "{header:?} {rest:?} {}", header.header_len())?;
-            writeln!(
-                text,
-                "{:?} {:?}",
-                header.to_bytes(),
-                LinuxSllHeader::from_bytes(header.to_bytes())
-            )?;
-            writeln!(text, "{:?}", header.write_to_slice(&mut target[..15]))?;
-            writeln!(text, "{:?}", header.write_to_slice(&mut target))?;
-            writeln!(text, "{target:?}")?;
+            text.add(&(&header, &rest, &header.header_len()))?;
+            text.add(&(
+                &header.to_bytes(),
+                &LinuxSllHeader::from_bytes(header.to_bytes()),
+            ))?;
+            text.add(&header.write_to_slice(&mut target[..15]))?;
+            text.add(&header.write_to_slice(&mut target))?;
+            text.add(&target)?;
             link(LinkHeader::LinuxSll(header), text)
         }
-        Err(error) => writeln!(text, "{error:?} {error}"),
+        Err(error) => text.add(&WithText(&error)),
     }
 }
 
 fn link(mut header: LinkHeader, text: &mut Text) -> fmt::Result {
-    writeln!(text, "{header:?} {}", header.header_len())?;
-    writeln!(text, "{:?} {:?}", header.ethernet2(), header.linux_sll())?;
+    text.add(&(&header, &header.header_len()))?;
+    text.add(&(&header.ethernet2(), &header.linux_sll()))?;
     if let Some(ethernet) = header.mut_ethernet2() {
         ethernet.source = ethernet.destination;
     }
     if let Some(cooked) = header.mut_linux_sll() {
         cooked.sender_address_valid_length = 6;
     }
-    writeln!(text, "{header:?}")
+    text.add(&header)
 }
 
 fn header_view(bytes: &[u8], text: &mut Text) -> fmt::Result {
     let view = LinuxSllHeaderSlice::from_slice(bytes);
-    writeln!(text, "{view:?}")?;
+    text.add(&view)?;
     if let Ok(view) = view {
-        writeln!(
-            text,
-            "{:?} {:?} {:?}",
-            view.slice(),
-            view.to_header(),
-            view.packet_type()
-        )?;
-        writeln!(
-            text,
-            "{} {:?}",
-            view.packet_type_number(),
-            view.arp_hardware_type()
-        )?;
-        writeln!(
-            text,
-            "{} {:?}",
-            view.sender_address_valid_length(),
-            view.sender_address_full()
-        )?;
-        writeln!(
-            text,
-            "{:?} {:?} {}",
-            view.sender_address(),
-            view.protocol_type(),
-            view.protocol_number()
-        )?;
+        text.add(&(&view.slice(), &view.to_header(), &view.packet_type()))?;
+        text.add(&(&view.packet_type_number(), &view.arp_hardware_type()))?;
+        text.add(&(
+            &view.sender_address_valid_length(),
+            &view.sender_address_full(),
+        ))?;
+        text.add(&(
+            &view.sender_address(),
+            &view.protocol_type(),
+            &view.protocol_number(),
+        ))?;
     }
     Ok(())
 }
 
 fn view(bytes: &[u8], text: &mut Text) -> fmt::Result {
     let view = LinuxSllSlice::from_slice(bytes);
-    writeln!(text, "{view:?}")?;
+    text.add(&view)?;
     if let Ok(view) = view {
-        writeln!(
-            text,
-            "{:?} {:?} {:?}",
-            view.slice(),
-            view.header_slice(),
-            view.to_header()
-        )?;
-        writeln!(
-            text,
-            "{:?} {} {:?}",
-            view.packet_type(),
-            view.packet_type_number(),
-            view.arp_hardware_type()
-        )?;
-        writeln!(
-            text,
-            "{} {:?}",
-            view.sender_address_valid_length(),
-            view.sender_address_full()
-        )?;
-        writeln!(
-            text,
-            "{:?} {:?} {}",
-            view.sender_address(),
-            view.protocol_type(),
-            view.protocol_number()
-        )?;
-        writeln!(
-            text,
-            "{:?} {:?} {}",
-            view.payload(),
-            view.payload_slice(),
-            view.header_len()
-        )?;
+        text.add(&(&view.slice(), &view.header_slice(), &view.to_header()))?;
+        text.add(&(
+            &view.packet_type(),
+            &view.packet_type_number(),
+            &view.arp_hardware_type(),
+        ))?;
+        text.add(&(
+            &view.sender_address_valid_length(),
+            &view.sender_address_full(),
+        ))?;
+        text.add(&(
+            &view.sender_address(),
+            &view.protocol_type(),
+            &view.protocol_number(),
+        ))?;
+        text.add(&(&view.payload(), &view.payload_slice(), &view.header_len()))?;
     }
     Ok(())
 }
@@ -146,8 +111,8 @@ fn links(bytes: &[u8], text: &mut Text) -> fmt::Result {
 }
 
 fn link_view(view: LinkSlice<'_>, text: &mut Text) -> fmt::Result {
-    writeln!(text, "{view:?} {:?}", view.to_header())?;
-    writeln!(text, "{:?} {:?}", view.ether_payload(), view.sll_payload())
+    text.add(&(&view, &view.to_header()))?;
+    text.add(&(&view.ether_payload(), &view.sll_payload()))
 }
 
 fn payloads(bytes: &[u8], text: &mut Text) -> fmt::Result {
@@ -155,7 +120,7 @@ fn payloads(bytes: &[u8], text: &mut Text) -> fmt::Result {
         return Ok(());
     };
     match EtherPayloadSlice::try_from(cooked.payload()) {
-        Ok(ether) => writeln!(text, "{:?}", LinuxSllPayloadSlice::from(ether)),
-        Err(other) => writeln!(text, "{other:?}"),
+        Ok(ether) => text.add(&LinuxSllPayloadSlice::from(ether)),
+        Err(other) => text.add(&other),
     }
 }

@@ -1,9 +1,9 @@
 //! Linux cooked capture v2.
 use crate::draw::Draw;
 use crate::frames::{Frame, add, add_all, add_drawn, add_typed, add_u16};
-use crate::text::Text;
+use crate::text::{Text, WithText};
 use etherpeel::ether_sll2::{LinuxSll2Header, LinuxSll2HeaderSlice, LinuxSll2Slice};
-use std::fmt::{self, Write};
+use std::fmt;
 
 /// Calls all that reads and writes a header of cooked capture v2.
 pub(crate) fn calls(draw: &mut Draw, text: &mut Text) -> fmt::Result {
@@ -35,92 +35,60 @@ pub(crate) fn add_sll2(draw: &mut Draw, frame: &mut Frame) {
 fn header(bytes: &[u8], text: &mut Text) -> fmt::Result {
     match LinuxSll2Header::from_slice(bytes) {
         Ok((header, rest)) => {
-            writeln!(text, "{header:?} {rest:?} {}", header.header_len())?;
-            writeln!(
-                text,
-                "{:?} {:?}",
-                header.to_bytes(),
-                LinuxSll2Header::from_bytes(header.to_bytes())
-            )
+            text.add(&(&header, &rest, &header.header_len()))?;
+            text.add(&(
+                &header.to_bytes(),
+                &LinuxSll2Header::from_bytes(header.to_bytes()),
+            ))
         }
-        Err(error) => writeln!(text, "{error:?} {error}"),
+        Err(error) => text.add(&WithText(&error)),
     }
 }
 
 fn header_view(bytes: &[u8], text: &mut Text) -> fmt::Result {
     let view = LinuxSll2HeaderSlice::from_slice(bytes);
-    writeln!(text, "{view:?}")?;
+    text.add(&view)?;
     if let Ok(view) = view {
-        writeln!(
-            text,
-            "{:?} {:?} {:?}",
-            view.slice(),
-            view.to_header(),
-            view.packet_type()
-        )?;
-        writeln!(
-            text,
-            "{} {:?} {}",
-            view.packet_type_number(),
-            view.arp_hardware_type(),
-            view.interface_index()
-        )?;
-        writeln!(
-            text,
-            "{} {:?}",
-            view.sender_address_valid_length(),
-            view.sender_address_full()
-        )?;
-        writeln!(
-            text,
-            "{:?} {:?} {}",
-            view.sender_address(),
-            view.protocol_type(),
-            view.protocol_number()
-        )?;
+        text.add(&(&view.slice(), &view.to_header(), &view.packet_type()))?;
+        text.add(&(
+            &view.packet_type_number(),
+            &view.arp_hardware_type(),
+            &view.interface_index(),
+        ))?;
+        text.add(&(
+            &view.sender_address_valid_length(),
+            &view.sender_address_full(),
+        ))?;
+        text.add(&(
+            &view.sender_address(),
+            &view.protocol_type(),
+            &view.protocol_number(),
+        ))?;
     }
     Ok(())
 }
 
 fn view(bytes: &[u8], text: &mut Text) -> fmt::Result {
     let view = LinuxSll2Slice::from_slice(bytes);
-    writeln!(text, "{view:?}")?;
+    text.add(&view)?;
     if let Ok(view) = view {
-        writeln!(
-            text,
-            "{:?} {:?} {:?}",
-            view.slice(),
-            view.header_slice(),
-            view.to_header()
-        )?;
-        writeln!(
-            text,
-            "{:?} {} {:?}",
-            view.packet_type(),
-            view.packet_type_number(),
-            view.arp_hardware_type()
-        )?;
-        writeln!(
-            text,
-            "{} {:?}",
-            view.sender_address_valid_length(),
-            view.sender_address_full()
-        )?;
-        writeln!(
-            text,
-            "{:?} {:?} {}",
-            view.sender_address(),
-            view.protocol_type(),
-            view.protocol_number()
-        )?;
-        writeln!(
-            text,
-            "{:?} {:?} {}",
-            view.payload(),
-            view.payload_slice(),
-            view.header_len()
-        )?;
-        writeln!(text, "{} {:?}", view.interface_index(), view.start())?;
+        text.add(&(&view.slice(), &view.header_slice(), &view.to_header()))?;
+        text.add(&(
+            &view.packet_type(),
+            &view.packet_type_number(),
+            &view.arp_hardware_type(),
+        ))?;
+        text.add(&(
+            &view.sender_address_valid_length(),
+            &view.sender_address_full(),
+        ))?;
+        text.add(&(
+            &view.sender_address(),
+            &view.protocol_type(),
+            &view.protocol_number(),
+        ))?;
+        text.add(&(&view.payload(), &view.payload_slice(), &view.header_len()))?;
+        text.add(&(&view.interface_index(), &view.start()))?;
     }
     Ok(())
 }

@@ -1,13 +1,13 @@
 //! The switch.
 use crate::draw::Draw;
 use crate::frames::{Frame, add, add_all, add_drawn, add_u16};
-use crate::text::Text;
+use crate::text::{Text, WithText};
 use etherpeel::ether_switch::{
     AcceptableFrames, Bridge, BridgeKind, Forgotten, PortConfig, PortSet, PortStates, Received,
     StaticEntry, StationBucket, Vlan, VlanConfig, forget, parts_are_in_order,
 };
 use etherpeel::VlanPcp;
-use std::fmt::{self, Write};
+use std::fmt;
 
 /// Calls the switch with some frames after each other.
 pub(crate) fn calls(draw: &mut Draw, text: &mut Text) -> fmt::Result {
@@ -18,7 +18,7 @@ pub(crate) fn calls(draw: &mut Draw, text: &mut Text) -> fmt::Result {
         drawn_vlan(draw, 5),
         drawn_vlan(draw, 8),
     ];
-    writeln!(text, "{vlans:?} {}", parts_are_in_order(&vlans))?;
+    text.add(&(&vlans, &parts_are_in_order(&vlans)))?;
     let states = drawn_states(draw);
     let entries = [StaticEntry {
         ports: drawn_set(draw),
@@ -43,35 +43,24 @@ pub(crate) fn calls(draw: &mut Draw, text: &mut Text) -> fmt::Result {
         static_entries: &entries,
         forwarded: draw.short() & draw.short(),
     };
-    writeln!(text, "{bridge:?} {:?}", kind.tpid())?;
+    text.add(&(&bridge, &kind.tpid()))?;
     passed(draw, &bridge, text)
 }
 
 fn sets(draw: &mut Draw, text: &mut Text) -> fmt::Result {
     let (a, b, port) = (drawn_set(draw), drawn_set(draw), draw.byte());
     let mut c = PortSet::only(port);
-    writeln!(
-        text,
-        "{:?} {:?} {:?}",
-        a.intersection(&b),
-        a.union(&b),
-        a.difference(&b)
-    )?;
+    text.add(&(&a.intersection(&b), &a.union(&b), &a.difference(&b)))?;
     c.insert(draw.byte() % 9);
     c.remove(draw.byte() % 9);
-    writeln!(text, "{c:?} {} {}", c.contains(port), a.contains(port % 9))?;
+    text.add(&(&c, &c.contains(port), &a.contains(port % 9)))?;
     let id = draw.small_u16();
     match Vlan::try_new(id) {
         Ok(vlan) => {
-            writeln!(
-                text,
-                "{vlan:?} {:?} {:?}",
-                vlan.id(),
-                PortConfig::access(vlan)
-            )?;
-            writeln!(text, "{:?}", PortConfig::trunk())
+            text.add(&(&vlan, &vlan.id(), &PortConfig::access(vlan)))?;
+            text.add(&PortConfig::trunk())
         }
-        Err(error) => writeln!(text, "{error:?} {error}"),
+        Err(error) => text.add(&WithText(&error)),
     }
 }
 
@@ -166,16 +155,16 @@ fn passed(draw: &mut Draw, bridge: &Bridge<'_>, text: &mut Text) -> fmt::Result 
         let (frame, from, port) = (drawn_frame(draw), draw.byte() % 8, drawn_port(draw));
         match bridge.receive(&mut table, now, from, &port, frame.as_slice()) {
             Ok(received) => sent(&received, frame.as_slice(), text)?,
-            Err(discarded) => writeln!(text, "{discarded:?} {discarded}")?,
+            Err(discarded) => text.add(&WithText(&discarded))?,
         }
         if let Ok(vlan) = Vlan::try_new(1 + draw.short() % 3) {
-            writeln!(text, "{:?}", bridge.sighting(&table, vlan, address(draw)))?;
+            text.add(&bridge.sighting(&table, vlan, address(draw)))?;
         }
         if draw.one_in(8) {
             forget(&mut table, forgotten(draw));
         }
     }
-    writeln!(text, "{table:?}")
+    text.add(&table)
 }
 
 fn forgotten(draw: &mut Draw) -> Forgotten {
@@ -188,14 +177,14 @@ fn forgotten(draw: &mut Draw) -> Forgotten {
 
 /// The forms in which a frame leaves.
 fn sent(received: &Received, frame: &[u8], text: &mut Text) -> fmt::Result {
-    writeln!(text, "{received:?}")?;
+    text.add(&received)?;
     let mut tagged = [0u8; 64];
     for (byte, target) in frame.iter().zip(tagged.iter_mut().skip(4)) {
         *target = *byte;
     }
     let mut untagged = tagged;
     let end = (frame.len() + 4).min(64);
-    writeln!(text, "{:?}", received.make_tagged(&mut tagged[..end]))?;
-    writeln!(text, "{:?}", received.make_untagged(&mut untagged[..end]))?;
-    writeln!(text, "{tagged:?} {untagged:?}")
+    text.add(&received.make_tagged(&mut tagged[..end]))?;
+    text.add(&received.make_untagged(&mut untagged[..end]))?;
+    text.add(&(&tagged, &untagged))
 }

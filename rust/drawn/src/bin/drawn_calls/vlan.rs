@@ -6,7 +6,7 @@ use etherpeel::{
     DoubleVlanSlice, LinkExtHeader, LinkExtSlice, SingleVlanHeader, SingleVlanHeaderSlice,
     SingleVlanSlice, VlanSlice,
 };
-use std::fmt::{self, Write};
+use std::fmt;
 
 /// Calls all that reads and writes VLAN tags.
 pub(crate) fn calls(draw: &mut Draw, text: &mut Text) -> fmt::Result {
@@ -26,73 +26,42 @@ pub(crate) fn calls(draw: &mut Draw, text: &mut Text) -> fmt::Result {
 
 fn header(bytes: &[u8], text: &mut Text) -> fmt::Result {
     let read = SingleVlanHeader::from_slice(bytes);
-    writeln!(
-        text,
-        "{read:?} {:?}",
-        SingleVlanHeader::read_from_slice(bytes)
-    )?;
+    text.add(&(&read, &SingleVlanHeader::read_from_slice(bytes)))?;
     if let Ok((header, _)) = read {
         let ext = LinkExtHeader::Vlan(header);
-        writeln!(text, "{} {:?}", header.header_len(), header.to_bytes())?;
-        writeln!(
-            text,
-            "{:?}",
-            SingleVlanHeader::from_bytes(header.to_bytes())
-        )?;
-        writeln!(text, "{ext:?} {}", ext.header_len())?;
+        text.add(&(&header.header_len(), &header.to_bytes()))?;
+        text.add(&SingleVlanHeader::from_bytes(header.to_bytes()))?;
+        text.add(&(&ext, &ext.header_len()))?;
     }
     Ok(())
 }
 
 fn header_view(bytes: &[u8], text: &mut Text) -> fmt::Result {
     let view = SingleVlanHeaderSlice::from_slice(bytes);
-    writeln!(text, "{view:?}")?;
+    text.add(&view)?;
     if let Ok(view) = view {
-        writeln!(text, "{:?} {:?}", view.slice(), view.to_header())?;
-        writeln!(
-            text,
-            "{:?} {:?}",
-            view.priority_code_point(),
-            view.drop_eligible_indicator()
-        )?;
-        writeln!(text, "{:?} {:?}", view.vlan_identifier(), view.ether_type())?;
+        text.add(&(&view.slice(), &view.to_header()))?;
+        text.add(&(&view.priority_code_point(), &view.drop_eligible_indicator()))?;
+        text.add(&(&view.vlan_identifier(), &view.ether_type()))?;
     }
     Ok(())
 }
 
 fn view(bytes: &[u8], text: &mut Text) -> fmt::Result {
     let view = SingleVlanSlice::from_slice(bytes);
-    writeln!(text, "{view:?}")?;
+    text.add(&view)?;
     if let Ok(view) = view {
-        writeln!(
-            text,
-            "{:?} {:?} {:?}",
-            view.slice(),
-            view.header_slice(),
-            view.to_header()
-        )?;
-        writeln!(
-            text,
-            "{:?} {:?}",
-            view.priority_code_point(),
-            view.drop_eligible_indicator()
-        )?;
-        writeln!(text, "{:?} {:?}", view.vlan_identifier(), view.ether_type())?;
-        writeln!(
-            text,
-            "{:?} {:?} {}",
-            view.payload(),
-            view.payload_slice(),
-            view.header_len()
-        )?;
+        text.add(&(&view.slice(), &view.header_slice(), &view.to_header()))?;
+        text.add(&(&view.priority_code_point(), &view.drop_eligible_indicator()))?;
+        text.add(&(&view.vlan_identifier(), &view.ether_type()))?;
+        text.add(&(&view.payload(), &view.payload_slice(), &view.header_len()))?;
         let ext = LinkExtSlice::Vlan(view);
-        writeln!(
-            text,
-            "{ext:?} {} {:?} {:?}",
-            ext.header_len(),
-            ext.to_header(),
-            ext.ether_payload()
-        )?;
+        text.add(&(
+            &ext,
+            &ext.header_len(),
+            &ext.to_header(),
+            &ext.ether_payload(),
+        ))?;
     }
     Ok(())
 }
@@ -107,13 +76,12 @@ fn double(bytes: &[u8], text: &mut Text) -> fmt::Result {
     slice(VlanSlice::SingleVlan(single), text)?;
     if let Ok(inner) = SingleVlanSlice::from_slice(outer.payload_slice()) {
         let both = DoubleVlanSlice { outer, inner };
-        writeln!(
-            text,
-            "{both:?} {:?} {:?} {:?}",
-            both.to_header(),
-            both.payload(),
-            both.payload_slice()
-        )?;
+        text.add(&(
+            &both,
+            &both.to_header(),
+            &both.payload(),
+            &both.payload_slice(),
+        ))?;
         slice(VlanSlice::DoubleVlan(both), text)?;
     }
     Ok(())
@@ -121,10 +89,5 @@ fn double(bytes: &[u8], text: &mut Text) -> fmt::Result {
 
 fn slice(slice: VlanSlice<'_>, text: &mut Text) -> fmt::Result {
     let header = slice.to_header();
-    writeln!(
-        text,
-        "{slice:?} {:?} {header:?} {:?}",
-        slice.payload(),
-        header.next_header()
-    )
+    text.add(&(&slice, &slice.payload(), &header, &header.next_header()))
 }

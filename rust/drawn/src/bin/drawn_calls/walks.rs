@@ -1,14 +1,14 @@
 //! The walk through a stack of headers.
 use crate::draw::Draw;
 use crate::frames::{Frame, add_announced, add_drawn, add_sll, add_typed};
-use crate::text::Text;
+use crate::text::{Text, WithText};
 use etherpeel::ether_fields::{Part, places, section_of, sizes_of};
 use etherpeel::ether_peel::{
     Peel, Start, completion, completion_limited, feed, feed_limited, snap, snap_limited, summary,
     summary_limited, write_back, write_back_limited,
 };
 use etherpeel::EtherType;
-use std::fmt::{self, Write};
+use std::fmt;
 
 /// Calls the walk and all that is told of one.
 pub(crate) fn calls(draw: &mut Draw, text: &mut Text) -> fmt::Result {
@@ -58,29 +58,22 @@ fn add_after(draw: &mut Draw, frame: &mut Frame, at: usize) {
 }
 
 fn walk(mut peel: Peel<'_>, text: &mut Text) -> fmt::Result {
-    writeln!(text, "{peel:?} {:?} {:?}", peel.rest(), peel.bound())?;
+    text.add(&(&peel, &peel.rest(), &peel.bound()))?;
     let most = peel.rest().len() + 2;
     for _ in 0..most {
         match peel.next() {
             Some(Ok(unit)) => {
                 let (section, sizes) = (section_of(&unit), sizes_of(&unit));
-                writeln!(text, "{unit:?} {section:?} {sizes:?}")?;
-                writeln!(text, "{:?}", places(section, &Part::Header(sizes)))?;
-                writeln!(text, "{:?}", places(section, &Part::Trailer))?;
+                text.add(&(&unit, &section, &sizes))?;
+                text.add(&places(section, &Part::Header(sizes)))?;
+                text.add(&places(section, &Part::Trailer))?;
             }
-            Some(Err(fault)) => writeln!(
-                text,
-                "{fault:?} {fault} {:?} {}",
-                fault.missing(),
-                fault.error
-            )?,
-            None => return writeln!(
-                text,
-                "{} {:?} {}",
-                peel.offset(),
-                peel.kind(),
-                peel.closed()
-            ),
+            Some(Err(fault)) => text.add(&(
+                WithText(&fault),
+                &fault.missing(),
+                WithText(&fault.error),
+            ))?,
+            None => return text.add(&(&peel.offset(), &peel.kind(), &peel.closed())),
         }
     }
     Ok(())
@@ -88,42 +81,23 @@ fn walk(mut peel: Peel<'_>, text: &mut Text) -> fmt::Result {
 
 fn whole(start: Start, frame: &[u8], cut: usize, text: &mut Text) -> fmt::Result {
     let mut target = [0u8; 520];
-    writeln!(
-        text,
-        "{:?} {:?}",
-        summary(start, frame),
-        snap(start, frame, cut)
-    )?;
-    writeln!(
-        text,
-        "{:?} {:?}",
-        feed(start, frame),
-        completion(start, frame)
-    )?;
-    writeln!(
-        text,
-        "{:?} {target:?}",
-        write_back(start, frame, &mut target)
-    )
+    text.add(&(&summary(start, frame), &snap(start, frame, cut)))?;
+    text.add(&(&feed(start, frame), &completion(start, frame)))?;
+    text.add(&(&write_back(start, frame, &mut target), &target))
 }
 
 fn limited(start: Start, frame: &[u8], cut: usize, limit: usize, text: &mut Text) -> fmt::Result {
     let mut target = [0u8; 520];
-    writeln!(
-        text,
-        "{:?} {:?}",
-        summary_limited(start, frame, limit),
-        snap_limited(start, frame, cut, limit)
-    )?;
-    writeln!(
-        text,
-        "{:?} {:?}",
-        feed_limited(start, frame, limit),
-        completion_limited(start, frame, limit)
-    )?;
-    writeln!(
-        text,
-        "{:?} {target:?}",
-        write_back_limited(start, frame, &mut target, limit)
-    )
+    text.add(&(
+        &summary_limited(start, frame, limit),
+        &snap_limited(start, frame, cut, limit),
+    ))?;
+    text.add(&(
+        &feed_limited(start, frame, limit),
+        &completion_limited(start, frame, limit),
+    ))?;
+    text.add(&(
+        &write_back_limited(start, frame, &mut target, limit),
+        &target,
+    ))
 }

@@ -76,6 +76,9 @@ impl Layer {
     /// ensures { result.now ≡ layer_title self.now }
     /// ```
     ///
+    /// Words: [`layer_title`](crate::definitions::ether_base#def.layer_title).
+    /// [Notation](crate::definitions::notation)
+    ///
     /// </details>
     #[must_use]
     #[inline]

@@ -53,6 +53,8 @@ impl LenError {
     /// ensures { result ≡ record self { layer_start_offset = self.layer_start_offset + offset } }
     /// ```
     ///
+    /// [Notation](crate::definitions::notation)
+    ///
     /// </details>
     #[must_use]
     #[inline]

@@ -47,6 +47,10 @@ impl CaptureError {
     /// ensures { result ≡ required_len_of (capture_refusal_view self.now) }
     /// ```
     ///
+    /// Words: [`required_len_of`](crate::definitions::ether_pcap#def.required_len),
+    /// [`capture_refusal_view`](crate::definitions::ether_pcap#def.capture_refusal_view).
+    /// [Notation](crate::definitions::notation)
+    ///
     /// </details>
     #[must_use]
     #[inline]

@@ -23,12 +23,23 @@ pub struct CaptureInterface {
 impl CaptureInterface {
     /// The interface that the body of an interface description describes.
     ///
+    /// # Errors
+    ///
+    /// Those of [`InterfaceDescription::from_body`](crate::ether_pcap::InterfaceDescription::from_body).
+    ///
     /// <details><summary>Contract</summary>
     ///
     /// ```text
     /// ensures interface { IfOk result (λ i. Describes (order_of byte_order) body.now (capture_interface_view i)) }
     /// ensures refused { IfErr result (λ e. RefusesInterface body.now (body_refusal_view e)) }
     /// ```
+    ///
+    /// Words: [`Describes`](crate::definitions::ether_pcap#def.Describes),
+    /// [`order_of`](crate::definitions::ether_pcap#def.order_of),
+    /// [`capture_interface_view`](crate::definitions::ether_pcap#def.capture_interface_view),
+    /// [`RefusesInterface`](crate::definitions::ether_pcap#def.RefusesInterface),
+    /// [`body_refusal_view`](crate::definitions::ether_pcap#def.body_refusal_view).
+    /// [Notation](crate::definitions::notation)
     ///
     /// </details>
     #[inline]
@@ -51,6 +62,11 @@ impl CaptureInterface {
     /// ```text
     /// ensures { option_map timestamp_view result ≡ time_on (capture_interface_view self.now) ticks }
     /// ```
+    ///
+    /// Words: [`timestamp_view`](crate::definitions::ether_pcap#def.timestamp_view),
+    /// [`time_on`](crate::definitions::ether_pcap#def.time_on),
+    /// [`capture_interface_view`](crate::definitions::ether_pcap#def.capture_interface_view).
+    /// [Notation](crate::definitions::notation)
     ///
     /// </details>
     #[must_use]

@@ -13,6 +13,9 @@ const MAX_INTERFACES: usize = 4_096;
 
 /// The packets of a capture file of either format in memory, one after the other, and then the fault if there is one.
 ///
+/// It has room for the 4,096 interfaces of a section, and takes 98,360 bytes: a [`CaptureReader`](crate::ether_pcap::CaptureReader)
+/// with a smaller table needs less.
+///
 /// ```
 /// use etherpeel::ether_pcap::CapturePackets;
 ///
@@ -49,6 +52,8 @@ impl<'a> CapturePackets<'a> {
     /// ensures { result ≡ start slice.now }
     /// ```
     ///
+    /// Words: [`start`](crate::definitions::ether_pcap#def.start). [Notation](crate::definitions::notation)
+    ///
     /// </details>
     #[inline]
     pub fn from_slice(slice: &'a [u8]) -> CapturePackets<'a> {
@@ -68,6 +73,8 @@ impl<'a> CapturePackets<'a> {
     /// ensures { result.now ≡ self.now.rest }
     /// ```
     ///
+    /// [Notation](crate::definitions::notation)
+    ///
     /// </details>
     #[must_use]
     #[inline]
@@ -82,6 +89,8 @@ impl<'a> CapturePackets<'a> {
     /// ```text
     /// ensures { result ≡ self.now.offset }
     /// ```
+    ///
+    /// [Notation](crate::definitions::notation)
     ///
     /// </details>
     #[must_use]
@@ -121,6 +130,17 @@ impl<'a> Iterator for CapturePackets<'a> {
             }
         }
         None
+    }
+
+    /// At most one packet for each byte left, and a fault.
+    #[inline]
+    fn size_hint(&self) -> (usize, Option<usize>) {
+        let most = if !self.is_over {
+            self.rest.len() + 1
+        } else {
+            0
+        };
+        (0, Some(most))
     }
 }
 

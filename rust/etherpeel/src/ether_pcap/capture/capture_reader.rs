@@ -68,6 +68,9 @@ impl<T: InterfaceTable> CaptureReader<T> {
     /// ensures { result ≡ Beginning T.most }
     /// ```
     ///
+    /// Words: [`Beginning`](crate::definitions::ether_pcap#def.CaptureExpectation).
+    /// [Notation](crate::definitions::notation)
+    ///
     /// </details>
     #[must_use]
     #[inline]
@@ -85,6 +88,8 @@ impl<T: InterfaceTable> CaptureReader<T> {
     /// ```text
     /// ensures { IsTrue result ↔ HasBegun self.now }
     /// ```
+    ///
+    /// Words: [`HasBegun`](crate::definitions::ether_pcap#def.HasBegun). [Notation](crate::definitions::notation)
     ///
     /// </details>
     #[must_use]
@@ -117,6 +122,12 @@ impl<T: InterfaceTable> CaptureReader<T> {
     /// ensures short { IfErr result (λ e. (n : ℕ)
     ///     → required_len (capture_refusal_view e) ≡ Some n → length bytes.now < n) }
     /// ```
+    ///
+    /// Words: [`Begins`](crate::definitions::ether_pcap#def.Begins),
+    /// [`captured_packet_view`](crate::definitions::ether_pcap#def.captured_packet_view),
+    /// [`RefusesCapture`](crate::definitions::ether_pcap#def.RefusesCapture),
+    /// [`capture_refusal_view`](crate::definitions::ether_pcap#def.capture_refusal_view),
+    /// [`required_len`](crate::definitions::ether_pcap#def.required_len). [Notation](crate::definitions::notation)
     ///
     /// </details>
     #[inline(always)]
@@ -167,6 +178,10 @@ impl<T: InterfaceTable> CaptureReader<T> {
     ///     result }
     /// ensures padding { IfSome result (λ u. padding_of u ≤ 3) }
     /// ```
+    ///
+    /// Words: [`EditsUnit`](crate::definitions::ether_pcap#def.EditsUnit),
+    /// [`HasEditedPacket`](crate::definitions::ether_pcap#def.HasEditedPacket),
+    /// [`padding_of`](crate::definitions::ether_pcap#def.padding_of). [Notation](crate::definitions::notation)
     ///
     /// </details>
     #[must_use]
@@ -226,6 +241,13 @@ impl<T: InterfaceTable> CaptureReader<T> {
     ///     → copied_bytes result ≡ other_unit (copy_mode_view mode) self.now unit.now }
     /// ```
     ///
+    /// Words: [`CaptureExpectation`](crate::definitions::ether_pcap#def.CaptureExpectation),
+    /// [`Begins`](crate::definitions::ether_pcap#def.Begins),
+    /// [`copied_bytes`](crate::definitions::ether_pcap#def.copied_bytes),
+    /// [`other_unit`](crate::definitions::ether_pcap#def.other_unit),
+    /// [`copy_mode_view`](crate::definitions::ether_pcap#def.copy_mode_view).
+    /// [Notation](crate::definitions::notation)
+    ///
     /// </details>
     #[must_use]
     #[inline]
@@ -260,6 +282,12 @@ impl<T: InterfaceTable> CaptureReader<T> {
     ///     → packet_unit (copy_mode_view mode) self.now (captured_packet_view packet.now) unit.now
     ///     ≡ (if result then Some unit.now else None) }
     /// ```
+    ///
+    /// Words: [`Begins`](crate::definitions::ether_pcap#def.Begins),
+    /// [`captured_packet_view`](crate::definitions::ether_pcap#def.captured_packet_view),
+    /// [`packet_unit`](crate::definitions::ether_pcap#def.packet_unit),
+    /// [`copy_mode_view`](crate::definitions::ether_pcap#def.copy_mode_view).
+    /// [Notation](crate::definitions::notation)
     ///
     /// </details>
     #[must_use]

@@ -16,6 +16,9 @@ pub trait InterfaceTable {
     /// ensures { result.now ≡ items self.now }
     /// ```
     ///
+    /// Words: `items` (the interfaces, in the order in which they were described).
+    /// [Notation](crate::definitions::notation)
+    ///
     /// </details>
     #[must_use]
     fn interfaces(&self) -> &[CaptureInterface];
@@ -31,6 +34,9 @@ pub trait InterfaceTable {
     /// ensures same { IsFalse result → items self.new ≡ items self.old }
     /// ```
     ///
+    /// Words: `items` (the interfaces, in the order in which they were described), `most` (how many interfaces there
+    /// is room for). [Notation](crate::definitions::notation)
+    ///
     /// </details>
     fn add(&mut self, interface: CaptureInterface) -> bool;
 
@@ -41,6 +47,9 @@ pub trait InterfaceTable {
     /// ```text
     /// ensures { items self.new ≡ [] }
     /// ```
+    ///
+    /// Words: `items` (the interfaces, in the order in which they were described).
+    /// [Notation](crate::definitions::notation)
     ///
     /// </details>
     fn remove_all(&mut self);

@@ -71,6 +71,12 @@ impl FileHeader {
     /// ensures refused { IfErr result (λ e. RefusesFile slice.now (file_refusal_view e)) }
     /// ```
     ///
+    /// Words: [`IsFileHeader`](crate::definitions::ether_pcap#def.IsFileHeader),
+    /// [`file_header_view`](crate::definitions::ether_pcap#def.file_header_view),
+    /// [`RefusesFile`](crate::definitions::ether_pcap#def.RefusesFile),
+    /// [`file_refusal_view`](crate::definitions::ether_pcap#def.file_refusal_view).
+    /// [Notation](crate::definitions::notation)
+    ///
     /// </details>
     #[inline]
     pub fn from_slice(slice: &[u8]) -> Result<FileHeader, FileHeaderError> {
@@ -109,6 +115,11 @@ impl FileHeader {
     /// ensures read_back { HasFcsLen self.now.fcs_len → (rest : List ℕ)
     ///     → IsFileHeader (result ++ rest) (file_header_view self.now) }
     /// ```
+    ///
+    /// Words: [`WritesFileHeader`](crate::definitions::ether_pcap#def.WritesFileHeader),
+    /// [`file_header_view`](crate::definitions::ether_pcap#def.file_header_view),
+    /// [`HasFcsLen`](crate::definitions::ether_pcap#def.HasFcsLen),
+    /// [`IsFileHeader`](crate::definitions::ether_pcap#def.IsFileHeader). [Notation](crate::definitions::notation)
     ///
     /// </details>
     #[must_use]

@@ -78,6 +78,13 @@ impl<'a> PcapRecord<'a> {
     ///     (λ e. RefusesRecord (order_of file.now.byte_order) slice.now (record_refusal_view e)) }
     /// ```
     ///
+    /// Words: [`BeginsRecord`](crate::definitions::ether_pcap#def.BeginsRecord),
+    /// [`order_of`](crate::definitions::ether_pcap#def.order_of),
+    /// [`record_view`](crate::definitions::ether_pcap#def.record_view),
+    /// [`RefusesRecord`](crate::definitions::ether_pcap#def.RefusesRecord),
+    /// [`record_refusal_view`](crate::definitions::ether_pcap#def.record_refusal_view).
+    /// [Notation](crate::definitions::notation)
+    ///
     /// </details>
     #[inline]
     pub fn from_slice(file: &FileHeader, slice: &'a [u8]) -> Result<PcapRecord<'a>, RecordError> {
@@ -115,6 +122,8 @@ impl<'a> PcapRecord<'a> {
     /// ensures { result ≡ 16 + length self.now.packet.now }
     /// ```
     ///
+    /// [Notation](crate::definitions::notation)
+    ///
     /// </details>
     #[must_use]
     #[inline]
@@ -130,6 +139,9 @@ impl<'a> PcapRecord<'a> {
     /// ```text
     /// ensures { result ≡ nanoseconds_of (resolution_of resolution) self.now.seconds self.now.fraction }
     /// ```
+    ///
+    /// Words: [`nanoseconds_of`](crate::definitions::ether_pcap#def.nanoseconds_of),
+    /// [`resolution_of`](crate::definitions::ether_pcap#def.resolution_of). [Notation](crate::definitions::notation)
     ///
     /// </details>
     #[must_use]
@@ -172,6 +184,12 @@ impl<'a> PcapRecord<'a> {
     /// ensures read_back { length self.now.packet.now ≤ max_captured_len → (rest : List ℕ)
     ///     → BeginsRecord (order_of byte_order) (result ++ self.now.packet.now ++ rest) (record_view self.now) }
     /// ```
+    ///
+    /// Words: [`WritesRecordHeader`](crate::definitions::ether_pcap#def.WritesRecordHeader),
+    /// [`order_of`](crate::definitions::ether_pcap#def.order_of),
+    /// [`record_view`](crate::definitions::ether_pcap#def.record_view),
+    /// [`max_captured_len`](crate::definitions::ether_pcap#def.max_captured_len),
+    /// [`BeginsRecord`](crate::definitions::ether_pcap#def.BeginsRecord). [Notation](crate::definitions::notation)
     ///
     /// </details>
     #[must_use]

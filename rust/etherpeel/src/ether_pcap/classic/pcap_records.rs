@@ -49,6 +49,12 @@ impl<'a> PcapRecords<'a> {
     /// ensures refused { IfErr result (λ e. RefusesFile slice.now (file_refusal_view e)) }
     /// ```
     ///
+    /// Words: [`IsFileHeader`](crate::definitions::ether_pcap#def.IsFileHeader),
+    /// [`file_header_view`](crate::definitions::ether_pcap#def.file_header_view),
+    /// [`RefusesFile`](crate::definitions::ether_pcap#def.RefusesFile),
+    /// [`file_refusal_view`](crate::definitions::ether_pcap#def.file_refusal_view).
+    /// [Notation](crate::definitions::notation)
+    ///
     /// </details>
     #[inline]
     pub fn from_slice(slice: &'a [u8]) -> Result<PcapRecords<'a>, FileHeaderError> {
@@ -69,6 +75,8 @@ impl<'a> PcapRecords<'a> {
     /// ensures { result ≡ self.now.header }
     /// ```
     ///
+    /// [Notation](crate::definitions::notation)
+    ///
     /// </details>
     #[must_use]
     #[inline]
@@ -84,6 +92,8 @@ impl<'a> PcapRecords<'a> {
     /// ensures { result.now ≡ self.now.rest }
     /// ```
     ///
+    /// [Notation](crate::definitions::notation)
+    ///
     /// </details>
     #[must_use]
     #[inline]
@@ -98,6 +108,8 @@ impl<'a> PcapRecords<'a> {
     /// ```text
     /// ensures { result ≡ self.now.offset }
     /// ```
+    ///
+    /// [Notation](crate::definitions::notation)
     ///
     /// </details>
     #[must_use]
@@ -132,5 +144,16 @@ impl<'a> Iterator for PcapRecords<'a> {
                 }))
             }
         }
+    }
+
+    /// At most one record for each 16 bytes left, and a fault.
+    #[inline]
+    fn size_hint(&self) -> (usize, Option<usize>) {
+        let most = if !self.is_over {
+            self.rest.len() / 16 + 1
+        } else {
+            0
+        };
+        (0, Some(most))
     }
 }

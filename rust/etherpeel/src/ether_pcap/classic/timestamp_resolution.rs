@@ -26,6 +26,10 @@ impl TimestampResolution {
     ///     ≡ magic_of (resolution_of resolution)) }
     /// ```
     ///
+    /// Words: [`Resolution`](crate::definitions::ether_pcap#def.Resolution),
+    /// [`magic_of`](crate::definitions::ether_pcap#def.magic_of),
+    /// [`resolution_of`](crate::definitions::ether_pcap#def.resolution_of). [Notation](crate::definitions::notation)
+    ///
     /// </details>
     #[must_use]
     #[inline]
@@ -44,6 +48,9 @@ impl TimestampResolution {
     /// ```text
     /// ensures { result ≡ magic_of (resolution_of self) }
     /// ```
+    ///
+    /// Words: [`magic_of`](crate::definitions::ether_pcap#def.magic_of),
+    /// [`resolution_of`](crate::definitions::ether_pcap#def.resolution_of). [Notation](crate::definitions::notation)
     ///
     /// </details>
     #[must_use]

@@ -68,6 +68,13 @@ impl<'a> EnhancedPacket<'a> {
     /// ensures refused { IfErr result (λ e. RefusesEnhancedPacket (order_of byte_order) body.now (body_refusal_view e)) }
     /// ```
     ///
+    /// Words: [`IsEnhancedPacket`](crate::definitions::ether_pcap#def.IsEnhancedPacket),
+    /// [`order_of`](crate::definitions::ether_pcap#def.order_of),
+    /// [`enhanced_packet_view`](crate::definitions::ether_pcap#def.enhanced_packet_view),
+    /// [`RefusesEnhancedPacket`](crate::definitions::ether_pcap#def.RefusesEnhancedPacket),
+    /// [`body_refusal_view`](crate::definitions::ether_pcap#def.body_refusal_view).
+    /// [Notation](crate::definitions::notation)
+    ///
     /// </details>
     #[inline]
     pub fn from_body(byte_order: ByteOrder, body: &'a [u8]) -> Result<EnhancedPacket<'a>, BodyError> {
@@ -89,6 +96,13 @@ impl<'a> EnhancedPacket<'a> {
     /// ensures refused { IfErr result (λ e. RefusesEnhancedPacket (order_of byte_order) body.now (body_refusal_view e)) }
     /// ```
     ///
+    /// Words: [`IsEnhancedPacket`](crate::definitions::ether_pcap#def.IsEnhancedPacket),
+    /// [`order_of`](crate::definitions::ether_pcap#def.order_of),
+    /// [`enhanced_packet_view`](crate::definitions::ether_pcap#def.enhanced_packet_view),
+    /// [`RefusesEnhancedPacket`](crate::definitions::ether_pcap#def.RefusesEnhancedPacket),
+    /// [`body_refusal_view`](crate::definitions::ether_pcap#def.body_refusal_view).
+    /// [Notation](crate::definitions::notation)
+    ///
     /// </details>
     #[inline]
     pub fn from_obsolete_body(
@@ -105,6 +119,8 @@ impl<'a> EnhancedPacket<'a> {
     /// ```text
     /// ensures { let n = length self.now.packet.now in result ≡ padded n - n }
     /// ```
+    ///
+    /// Words: [`padded`](crate::definitions::ether_pcap#def.padded). [Notation](crate::definitions::notation)
     ///
     /// </details>
     #[must_use]
@@ -156,6 +172,13 @@ impl<'a> EnhancedPacket<'a> {
     /// ensures read_back { PacketIsRead (order_of byte_order) result (enhanced_packet_view self.now) }
     /// ```
     ///
+    /// Words: [`order_of`](crate::definitions::ether_pcap#def.order_of),
+    /// [`enhanced_packet_view`](crate::definitions::ether_pcap#def.enhanced_packet_view),
+    /// [`bytes_of`](crate::definitions::ether_pcap#def.bytes_of),
+    /// [`packet_block_len`](crate::definitions::ether_pcap#def.packet_block_len),
+    /// [`packet_head`](crate::definitions::ether_pcap#def.packet_head),
+    /// [`PacketIsRead`](crate::definitions::ether_pcap#def.PacketIsRead). [Notation](crate::definitions::notation)
+    ///
     /// </details>
     #[must_use]
     #[inline]
@@ -181,6 +204,12 @@ impl<'a> EnhancedPacket<'a> {
     /// ensures { result ≡ bytes_of (order_of byte_order) 4 (packet_block_len (enhanced_packet_view self.now)) }
     /// ```
     ///
+    /// Words: [`bytes_of`](crate::definitions::ether_pcap#def.bytes_of),
+    /// [`order_of`](crate::definitions::ether_pcap#def.order_of),
+    /// [`packet_block_len`](crate::definitions::ether_pcap#def.packet_block_len),
+    /// [`enhanced_packet_view`](crate::definitions::ether_pcap#def.enhanced_packet_view).
+    /// [Notation](crate::definitions::notation)
+    ///
     /// </details>
     #[must_use]
     #[inline]
@@ -197,6 +226,13 @@ impl<'a> EnhancedPacket<'a> {
     /// ensures { (all : List OptionValue) → HasOptions (order_of byte_order) self.now.options.now all
     ///     → result ≡ fcs_in_flags (number_of (order_of byte_order) 4 (value_of 2 all)) }
     /// ```
+    ///
+    /// Words: [`OptionValue`](crate::definitions::ether_pcap#def.OptionValue),
+    /// [`HasOptions`](crate::definitions::ether_pcap#def.HasOptions),
+    /// [`order_of`](crate::definitions::ether_pcap#def.order_of),
+    /// [`fcs_in_flags`](crate::definitions::ether_pcap#def.fcs_in_flags),
+    /// [`number_of`](crate::definitions::ether_pcap#def.number_of),
+    /// [`value_of`](crate::definitions::ether_pcap#def.value_of). [Notation](crate::definitions::notation)
     ///
     /// </details>
     #[must_use]

@@ -68,6 +68,13 @@ impl<'a> InterfaceDescription<'a> {
     /// ensures refused { IfErr result (λ e. RefusesInterface body.now (body_refusal_view e)) }
     /// ```
     ///
+    /// Words: [`IsInterface`](crate::definitions::ether_pcap#def.IsInterface),
+    /// [`order_of`](crate::definitions::ether_pcap#def.order_of),
+    /// [`interface_view`](crate::definitions::ether_pcap#def.interface_view),
+    /// [`RefusesInterface`](crate::definitions::ether_pcap#def.RefusesInterface),
+    /// [`body_refusal_view`](crate::definitions::ether_pcap#def.body_refusal_view).
+    /// [Notation](crate::definitions::notation)
+    ///
     /// </details>
     #[inline]
     pub fn from_body(
@@ -120,6 +127,14 @@ impl<'a> InterfaceDescription<'a> {
     /// ensures read_back { InterfaceIsRead (order_of self.now.byte_order) result (interface_view self.now) }
     /// ```
     ///
+    /// Words: [`order_of`](crate::definitions::ether_pcap#def.order_of),
+    /// [`interface_view`](crate::definitions::ether_pcap#def.interface_view),
+    /// [`bytes_of`](crate::definitions::ether_pcap#def.bytes_of),
+    /// [`interface_block_len`](crate::definitions::ether_pcap#def.interface_block_len),
+    /// [`interface_head`](crate::definitions::ether_pcap#def.interface_head),
+    /// [`InterfaceIsRead`](crate::definitions::ether_pcap#def.InterfaceIsRead).
+    /// [Notation](crate::definitions::notation)
+    ///
     /// </details>
     #[must_use]
     #[inline]
@@ -140,6 +155,12 @@ impl<'a> InterfaceDescription<'a> {
     /// ensures { result ≡ bytes_of (order_of self.now.byte_order) 4 (interface_block_len (interface_view self.now)) }
     /// ```
     ///
+    /// Words: [`bytes_of`](crate::definitions::ether_pcap#def.bytes_of),
+    /// [`order_of`](crate::definitions::ether_pcap#def.order_of),
+    /// [`interface_block_len`](crate::definitions::ether_pcap#def.interface_block_len),
+    /// [`interface_view`](crate::definitions::ether_pcap#def.interface_view).
+    /// [Notation](crate::definitions::notation)
+    ///
     /// </details>
     #[must_use]
     #[inline]
@@ -155,6 +176,10 @@ impl<'a> InterfaceDescription<'a> {
     /// ensures value { result ≡ nanosecond_bytes (order_of byte_order) }
     /// ensures read_back { HasOptions (order_of byte_order) result (record { code = 9; value = 9 ∷ [] } ∷ []) }
     /// ```
+    ///
+    /// Words: [`nanosecond_bytes`](crate::definitions::ether_pcap#def.nanosecond_bytes),
+    /// [`order_of`](crate::definitions::ether_pcap#def.order_of),
+    /// [`HasOptions`](crate::definitions::ether_pcap#def.HasOptions). [Notation](crate::definitions::notation)
     ///
     /// </details>
     #[must_use]
@@ -177,6 +202,11 @@ impl<'a> InterfaceDescription<'a> {
     ///     → MatchOption result (value_of code all ≡ None) (λ value. value_of code all ≡ Some value.now) }
     /// ```
     ///
+    /// Words: [`OptionValue`](crate::definitions::ether_pcap#def.OptionValue),
+    /// [`HasOptions`](crate::definitions::ether_pcap#def.HasOptions),
+    /// [`order_of`](crate::definitions::ether_pcap#def.order_of),
+    /// [`value_of`](crate::definitions::ether_pcap#def.value_of). [Notation](crate::definitions::notation)
+    ///
     /// </details>
     #[must_use]
     #[inline]
@@ -193,6 +223,12 @@ impl<'a> InterfaceDescription<'a> {
     /// ensures { (all : List OptionValue) → HasOptions (order_of self.now.byte_order) self.now.options.now all
     ///     → result ≡ byte_of (value_of 13 all) }
     /// ```
+    ///
+    /// Words: [`OptionValue`](crate::definitions::ether_pcap#def.OptionValue),
+    /// [`HasOptions`](crate::definitions::ether_pcap#def.HasOptions),
+    /// [`order_of`](crate::definitions::ether_pcap#def.order_of),
+    /// [`byte_of`](crate::definitions::ether_pcap#def.byte_of),
+    /// [`value_of`](crate::definitions::ether_pcap#def.value_of). [Notation](crate::definitions::notation)
     ///
     /// </details>
     #[must_use]
@@ -211,6 +247,12 @@ impl<'a> InterfaceDescription<'a> {
     ///     → result ≡ byte_of (value_of 9 all) }
     /// ```
     ///
+    /// Words: [`OptionValue`](crate::definitions::ether_pcap#def.OptionValue),
+    /// [`HasOptions`](crate::definitions::ether_pcap#def.HasOptions),
+    /// [`order_of`](crate::definitions::ether_pcap#def.order_of),
+    /// [`byte_of`](crate::definitions::ether_pcap#def.byte_of),
+    /// [`value_of`](crate::definitions::ether_pcap#def.value_of). [Notation](crate::definitions::notation)
+    ///
     /// </details>
     #[must_use]
     #[inline]
@@ -227,6 +269,12 @@ impl<'a> InterfaceDescription<'a> {
     /// ensures { (all : List OptionValue) → HasOptions (order_of self.now.byte_order) self.now.options.now all
     ///     → result ≡ number_of (order_of self.now.byte_order) 8 (value_of 14 all) }
     /// ```
+    ///
+    /// Words: [`OptionValue`](crate::definitions::ether_pcap#def.OptionValue),
+    /// [`HasOptions`](crate::definitions::ether_pcap#def.HasOptions),
+    /// [`order_of`](crate::definitions::ether_pcap#def.order_of),
+    /// [`number_of`](crate::definitions::ether_pcap#def.number_of),
+    /// [`value_of`](crate::definitions::ether_pcap#def.value_of). [Notation](crate::definitions::notation)
     ///
     /// </details>
     #[must_use]

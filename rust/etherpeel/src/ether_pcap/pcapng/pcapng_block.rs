@@ -83,6 +83,13 @@ impl<'a> PcapngBlock<'a> {
     /// ensures refused { IfErr result (λ e. RefusesBlock (order_of byte_order) slice.now (block_refusal_view e)) }
     /// ```
     ///
+    /// Words: [`BeginsBlock`](crate::definitions::ether_pcap#def.BeginsBlock),
+    /// [`order_of`](crate::definitions::ether_pcap#def.order_of),
+    /// [`block_view`](crate::definitions::ether_pcap#def.block_view),
+    /// [`RefusesBlock`](crate::definitions::ether_pcap#def.RefusesBlock),
+    /// [`block_refusal_view`](crate::definitions::ether_pcap#def.block_refusal_view).
+    /// [Notation](crate::definitions::notation)
+    ///
     /// </details>
     #[inline]
     pub fn from_slice(byte_order: ByteOrder, slice: &'a [u8]) -> Result<PcapngBlock<'a>, BlockError> {
@@ -120,6 +127,8 @@ impl<'a> PcapngBlock<'a> {
     /// ```text
     /// ensures { result ≡ 12 + length self.now.body.now }
     /// ```
+    ///
+    /// [Notation](crate::definitions::notation)
     ///
     /// </details>
     #[must_use]

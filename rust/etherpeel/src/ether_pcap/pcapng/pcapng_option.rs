@@ -22,6 +22,11 @@ impl<'a> PcapngOption<'a> {
     ///     (λ o. BeginsOption (order_of byte_order) slice.now (option_view o)) }
     /// ```
     ///
+    /// Words: [`OptionValue`](crate::definitions::ether_pcap#def.OptionValue),
+    /// [`BeginsOption`](crate::definitions::ether_pcap#def.BeginsOption),
+    /// [`order_of`](crate::definitions::ether_pcap#def.order_of),
+    /// [`option_view`](crate::definitions::ether_pcap#def.option_view). [Notation](crate::definitions::notation)
+    ///
     /// </details>
     #[must_use]
     #[inline]
@@ -50,6 +55,8 @@ impl<'a> PcapngOption<'a> {
     /// ```text
     /// ensures { result ≡ 4 + padded (length self.now.value.now) }
     /// ```
+    ///
+    /// Words: [`padded`](crate::definitions::ether_pcap#def.padded). [Notation](crate::definitions::notation)
     ///
     /// </details>
     #[must_use]

@@ -52,6 +52,13 @@ impl<'a> SectionHeader<'a> {
     /// ensures refused { IfErr result (λ e. RefusesSection slice.now (section_refusal_view e)) }
     /// ```
     ///
+    /// Words: [`IsSection`](crate::definitions::ether_pcap#def.IsSection),
+    /// [`order_of`](crate::definitions::ether_pcap#def.order_of),
+    /// [`block_view`](crate::definitions::ether_pcap#def.block_view),
+    /// [`RefusesSection`](crate::definitions::ether_pcap#def.RefusesSection),
+    /// [`section_refusal_view`](crate::definitions::ether_pcap#def.section_refusal_view).
+    /// [Notation](crate::definitions::notation)
+    ///
     /// </details>
     #[inline]
     pub fn from_slice(slice: &'a [u8]) -> Result<SectionHeader<'a>, SectionError> {
@@ -109,6 +116,13 @@ impl<'a> SectionHeader<'a> {
     /// ensures read_back { let order = order_of byte_order in (rest : List ℕ)
     ///     → IsSection (result ++ rest) order (record { block_type = section_type; body = section_body order }) }
     /// ```
+    ///
+    /// Words: [`order_of`](crate::definitions::ether_pcap#def.order_of),
+    /// [`block_bytes`](crate::definitions::ether_pcap#def.block_bytes),
+    /// [`bytes_of`](crate::definitions::ether_pcap#def.bytes_of),
+    /// [`section_type`](crate::definitions::ether_pcap#def.section_type),
+    /// [`section_body`](crate::definitions::ether_pcap#def.section_body),
+    /// [`IsSection`](crate::definitions::ether_pcap#def.IsSection). [Notation](crate::definitions::notation)
     ///
     /// </details>
     #[must_use]

@@ -48,6 +48,13 @@ impl<'a> SimplePacket<'a> {
     ///     (body_refusal_view e)) }
     /// ```
     ///
+    /// Words: [`IsSimplePacket`](crate::definitions::ether_pcap#def.IsSimplePacket),
+    /// [`order_of`](crate::definitions::ether_pcap#def.order_of),
+    /// [`simple_packet_view`](crate::definitions::ether_pcap#def.simple_packet_view),
+    /// [`RefusesSimplePacket`](crate::definitions::ether_pcap#def.RefusesSimplePacket),
+    /// [`body_refusal_view`](crate::definitions::ether_pcap#def.body_refusal_view).
+    /// [Notation](crate::definitions::notation)
+    ///
     /// </details>
     #[inline]
     pub fn from_body(
