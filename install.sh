@@ -55,7 +55,9 @@ library() {
     fi
     lib=${DESTDIR:-}${LIBDIR:-$prefix/lib}
     rm -f "$to/include/etherpeel.h" "$lib/libetherpeel.a" "$lib/libetherpeel.so" "$lib"/libetherpeel.so.3 "$lib"/libetherpeel.so.3.* \
-        "$lib/pkgconfig/etherpeel.pc" "$to/share/man/man3/etherpeel.3" "$to"/share/man/man3/etherpeel_*.3
+        "$lib/pkgconfig/etherpeel.pc" "$lib/cmake/etherpeel/etherpeel-config.cmake" "$lib/cmake/etherpeel/etherpeel-config-version.cmake" \
+        "$to/share/man/man3/etherpeel.3" "$to"/share/man/man3/etherpeel_*.3
+    if [ -d "$lib/cmake/etherpeel" ]; then rmdir "$lib/cmake/etherpeel"; fi
 }
 
 for part in ${parts:-programs library}; do $part; done

@@ -19,7 +19,7 @@ _ether_capture() {
 
     case "${cmd}" in
         ether_capture)
-            opts="-r -c -w -h -V --progress --select --undecided --plain --limit --format --fields --header --stats --write --cut-to-headers --pop-vlan --push-vlan --set-vlan --help --version [file]..."
+            opts="-r -c -w -h -V --progress --plain --header --stats --write --cut-to-headers --pop-vlan --select --undecided --limit --format --fields --push-vlan --set-vlan --help --version [file]..."
             if [[ ${cur} == -* || ${COMP_CWORD} -eq 1 ]] ; then
                 COMPREPLY=( $(compgen -W "${opts}" -- "${cur}") )
                 return 0
@@ -34,7 +34,7 @@ _ether_capture() {
                     return 0
                     ;;
                 --undecided)
-                    COMPREPLY=($(compgen -f "${cur}"))
+                    COMPREPLY=($(compgen -W "keep drop" -- "${cur}"))
                     return 0
                     ;;
                 -c)
@@ -46,7 +46,7 @@ _ether_capture() {
                     return 0
                     ;;
                 --format)
-                    COMPREPLY=($(compgen -f "${cur}"))
+                    COMPREPLY=($(compgen -W "lines brief json" -- "${cur}"))
                     return 0
                     ;;
                 --fields)

@@ -1,13 +1,13 @@
 complete -c ether_capture -s r -d 'read FILE, as if it was named alone' -r -F
-complete -c ether_capture -l select -d 'only packets that match EXPR, as \'vlan 5 or arp\'' -r
-complete -c ether_capture -l undecided -d 'with --select, keep or drop packets that were cut too short to tell, in place of taking them as they are' -r
-complete -c ether_capture -s c -d 'end with the N-th of these packets, of all files together' -r
-complete -c ether_capture -l limit -d 'read N VLAN tags and SecTags of each packet at most' -r
-complete -c ether_capture -l format -d 'print lines as ever; or each packet on a line of its own, for the eye or as an object of JSON, without totals' -r
-complete -c ether_capture -l fields -d 'print the values of COLUMNS, as frame.number,vlan.vid,eth.src, with tabs; more than one value with commas' -r
+complete -c ether_capture -l select -d 'only packets that match EXPR, as \'vlan 5 or arp\'' -r -f
+complete -c ether_capture -l undecided -d 'with --select, keep or drop packets that were cut too short to tell, in place of taking them as they are' -r -f -a "{keep	,drop	}"
+complete -c ether_capture -s c -d 'end with the N-th of these packets, of all files together' -r -f
+complete -c ether_capture -l limit -d 'read N VLAN tags and SecTags of each packet at most' -r -f
+complete -c ether_capture -l format -d 'print lines as ever; or each packet on a line of its own, for the eye or as an object of JSON, without totals' -r -f -a "{lines	,brief	,json	}"
+complete -c ether_capture -l fields -d 'print the values of COLUMNS, as frame.number,vlan.vid,eth.src, with tabs; more than one value with commas' -r -f
 complete -c ether_capture -s w -d 'write it to the file COPY, which changes only once all is written; without --write, too' -r -F
-complete -c ether_capture -l push-vlan -d 'with --write, put a VLAN tag after the link\'s header, as 0x8100:5' -r
-complete -c ether_capture -l set-vlan -d 'with --write, give the outermost VLAN tag with identifier A identifier B' -r
+complete -c ether_capture -l push-vlan -d 'with --write, put a VLAN tag after the link\'s header, as 0x8100:5' -r -f
+complete -c ether_capture -l set-vlan -d 'with --write, give the outermost VLAN tag with identifier A identifier B' -r -f
 complete -c ether_capture -l progress -d 'show on standard error how many bytes are read, and how fast'
 complete -c ether_capture -l plain -d 'leave out the lines of packets and the totals'
 complete -c ether_capture -l header -d 'with --fields, print a line of the names first'

@@ -12,6 +12,10 @@ case $#:${1:-} in
 esac
 set -eu
 cd "$(dirname "$0")"
+if ! command -v rt > /dev/null; then
+    echo "the page is built by the Rattle kit, whose command rt was not found; a release has the built page, a file etherpeel-VERSION.html" >&2
+    exit 1
+fi
 [ "${1:-}" = proved ] || (cd ../crates/ether_c && rt lib)
 python3 ../c/library.py wasm64
 mkdir -p out

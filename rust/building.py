@@ -14,15 +14,15 @@ import sys
 
 HERE = os.path.dirname(os.path.abspath(__file__))
 CRATE, CALLS, PROGRAMS = (os.path.join(HERE, name) for name in ("etherpeel", "etherpeel_c", "ether_tools"))
-REGISTRY = "/usr/share/cargo/registry"  # of Debian's packages librust-..-dev
 OLDEST = (1, 85)
 
 
 def debian():
-    """The words that make cargo take its crates from Debian's folder, if there is one that has them."""
-    if not os.path.isdir(REGISTRY) or not any(name.startswith("arrayvec-0.7") for name in os.listdir(REGISTRY)):
+    """The words that make cargo take its crates from those of Debian, if they are there."""
+    registry = subprocess.run(["sh", f"{HERE}/registry.sh"], stdout=subprocess.PIPE, text=True, check=True).stdout.strip()
+    if not registry:
         return []
-    source = 'source.crates-io.replace-with="debian"', f'source.debian.directory="{REGISTRY}"'
+    source = 'source.crates-io.replace-with="debian"', f'source.debian.directory="{registry}"'
     return ["--offline", *(word for it in source for word in ("--config", it))]
 
 

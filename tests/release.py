@@ -1,51 +1,103 @@
-"""Tests what release.sh writes. Two runs write the same bytes; lintian, if it is there, finds no error; the packages of Debian are installed
-into a folder of their own and removed, and what they have runs; the wheel and the source archive are installed into new environments.
+"""Tests what release.sh writes. In a clone elsewhere, with another user's folder, umask and time zone, it writes the same bytes; lintian, if
+it is there, finds no error; the packages of Debian are installed into a folder of their own and removed, and what they have runs; the archive
+with the crates builds without a network, also for aarch64; the lists of contents have the fields of SPDX; the wheel and the source archive are
+installed into a new environment. released.py has what is tested of scripts that install, and of the page.
+
+    python3 tests/release.py
 
 What is left out is said, and why. The last line is 'N passed, M failed'.
 """
 import argparse
-import filecmp
+import concurrent.futures
 import glob
+import hashlib
 import os
+import re
 import shutil
 import subprocess
 import sys
+import tarfile
 import tempfile
 
-TOP = os.path.dirname(os.path.dirname(os.path.abspath(__file__)))
-FRAME, TAG = "ffffffffffff3aeeb62ff6d78100b12308004500", "vlan 14 pcp 5 dei 1 vid 291 0x0800"
+sys.dont_write_bytecode = True
+import released  # noqa: E402
+from released import FRAME, QUICK, TAG, TOP, check, counts, run  # noqa: E402
+
 PROGRAM = """#include <etherpeel.h>
 int main(void) { return !etherpeel_fits(); }
 """
-counts = {True: 0, False: 0}
+CMAKE = """cmake_minimum_required(VERSION 3.13)
+project(fits C)
+find_package(etherpeel 3.0 REQUIRED)
+foreach(kind etherpeel etherpeel_static)
+    add_executable(fits_${kind} ../fits.c)
+    target_link_libraries(fits_${kind} etherpeel::${kind})
+endforeach()
+"""
 
 
-def check(what, holds, said=""):
-    counts[bool(holds)] += 1
-    if not holds:
-        print(f"{what}: {said}")
-
-
-def run(*command, given=None, **environment):
-    ran = subprocess.run(command, input=given, stdout=subprocess.PIPE, stderr=subprocess.STDOUT, text=True, cwd=TOP,
-                         env={**os.environ, **environment})
-    return ran.returncode, ran.stdout
-
-
-def released(folder):
-    """Runs the script, and returns the names of what it wrote."""
+def released_in(top, folder, umask="022", **environment):
+    """Runs the script in a clone, and returns the sum of each file that it wrote."""
     page = f"{TOP}/page/out/index.html"
-    status, said = run("sh", "release.sh", folder, PAGE=page if os.path.exists(page) else "")
+    words = "sh", "-c", f'umask {umask} && exec sh release.sh "$1"', "sh", folder
+    status, said = run(*words, folder=top, PAGE=page if os.path.exists(page) else "", PROCESSORS="x86_64", **environment)
     check("release.sh", status == 0, said)
     for line in said.splitlines():
         if line.startswith("left out"):
             print(line)
-    return sorted(os.listdir(folder))
+    return {name: hashlib.sha256(released.read(f"{folder}/{name}")).hexdigest() for name in sorted(os.listdir(folder))}
+
+
+def check_equal(work):
+    """Releases of this folder and of a clone of it, by another user as far as a script can see."""
+    clone, home = f"{work}/another_folder/clone", f"{work}/home"
+    os.makedirs(home)
+    status, said = run("git", "clone", "-q", TOP, clone)
+    check("git clone", status == 0, said)
+    rustup = os.environ.get("RUSTUP_HOME") or os.path.expanduser("~/.rustup")
+    other = {"HOME": home, "TZ": "Pacific/Kiritimati", "LC_ALL": "C.UTF-8", **({"RUSTUP_HOME": rustup} if os.path.isdir(rustup) else {})}
+    with concurrent.futures.ThreadPoolExecutor(2) as pool:
+        runs = [pool.submit(released_in, TOP, f"{work}/one"), pool.submit(released_in, clone, f"{work}/two", "077", **other)]
+        one, two = (it.result() for it in runs)
+    differ = [name for name in sorted({*one, *two}) if one.get(name) != two.get(name)]
+    changed = " (some files here are not committed)" if run("git", "status", "--porcelain")[1] else ""
+    check("two folders", one and not differ, f"{', '.join(differ)}{changed}")
+
+
+def check_depends(package, paths):
+    """What a package depends on, as dpkg-shlibdeps and the versions of symbols say it."""
+    said = run("dpkg-deb", "-f", package, "Depends")[1].strip()
+    by_symbols = run(sys.executable, "release/depends.py", "--symbols", *paths)[1].strip()
+    check(f"{os.path.basename(package)}, dependencies", re.match(r"libc6 \(>= \d", said) and said == by_symbols, (said, by_symbols))
+
+
+def check_c(root, lib):
+    """Programs in C, with the shared library and the static one, also by CMake and by clang with its own bitcode."""
+    with open(f"{root}/fits.c", "w", encoding="ascii") as file:
+        file.write(PROGRAM)
+    built = run("gcc", "-o", f"{root}/fits", f"{root}/fits.c", f"-I{root}/usr/include", f"-L{lib}", "-letherpeel")
+    check("a program in C", built[0] == 0 and run(f"{root}/fits", LD_LIBRARY_PATH=lib)[0] == 0, built[1])
+    check("no bitcode", ".llvmbc" not in run("readelf", "-SW", f"{lib}/libetherpeel.a")[1], "a section .llvmbc")
+    if shutil.which("clang"):
+        built = run("clang", "-flto", "-o", f"{root}/flto", f"{root}/fits.c", f"-I{root}/usr/include", f"{lib}/libetherpeel.a")
+        check("clang -flto", built[0] == 0 and run(f"{root}/flto")[0] == 0, built[1])
+    else:
+        print("left out: clang -flto, which was not found")
+    if not shutil.which("cmake"):
+        print("left out: a program by CMake, which was not found")
+        return
+    os.mkdir(f"{root}/by_cmake")
+    with open(f"{root}/by_cmake/CMakeLists.txt", "w", encoding="ascii") as file:
+        file.write(CMAKE)
+    said = [run("cmake", "-S", f"{root}/by_cmake", "-B", f"{root}/by_cmake/out", f"-DCMAKE_PREFIX_PATH={root}/usr"),
+            run("cmake", "--build", f"{root}/by_cmake/out")]
+    ran = [run(f"{root}/by_cmake/out/fits_{kind}")[0] for kind in ("etherpeel", "etherpeel_static")]
+    check("a program by CMake", ran == [0, 0], said[0][1] + said[1][1])
 
 
 def check_packages(dist, root):
     """Installs the packages into a folder, runs what is in it, and removes them."""
-    packages = sorted(glob.glob(f"{dist}/*.deb"))
+    packages = sorted(glob.glob(f"{dist}/*_amd64.deb"))
     os.makedirs(f"{root}/var/lib/dpkg")
     open(f"{root}/var/lib/dpkg/status", "w", encoding="ascii").close()
     dpkg = ["dpkg", f"--root={root}", "--force-not-root", "--force-depends", "--log=/dev/null"]
@@ -53,24 +105,59 @@ def check_packages(dist, root):
     check("dpkg -i", status == 0, said)
     _, said = run(f"{root}/usr/bin/ether_tool", given=f"{FRAME}\n")
     check("ether_tool", TAG in said, said)
-    with open(f"{TOP}/VERSION", encoding="utf-8") as file:
-        check("ether_capture", run(f"{root}/usr/bin/ether_capture", "--version") == (0, f"ether_capture {file.read()}"))
+    check("ether_capture", run(f"{root}/usr/bin/ether_capture", "--version") == (0, f"ether_capture {released.VERSION}\n"))
     lib = f"{root}/usr/lib/x86_64-linux-gnu"
-    with open(f"{root}/fits.c", "w", encoding="ascii") as file:
-        file.write(PROGRAM)
-    built = run("gcc", "-o", f"{root}/fits", f"{root}/fits.c", f"-I{root}/usr/include", f"-L{lib}", "-letherpeel")
-    check("a program in C", built[0] == 0 and run(f"{root}/fits", LD_LIBRARY_PATH=lib)[0] == 0, built[1])
+    for name, paths in (("ether-tools", glob.glob(f"{root}/usr/bin/ether_*")), ("libetherpeel3", [f"{lib}/libetherpeel.so.3"])):
+        check_depends(next(it for it in packages if os.path.basename(it).startswith(name)), paths)
+    for package in ("ether-tools", "libetherpeel3", "libetherpeel-dev"):
+        released.check_licences(f"{root}/usr/share/doc/{package}", package)
+    check_c(root, lib)
     status, said = run(*dpkg, "-r", *(os.path.basename(it).partition("_")[0] for it in reversed(packages)))
     check("dpkg -r", status == 0 and not glob.glob(f"{root}/usr/*/*ether*"), said)
 
 
-def check_python(archive, folder):
-    """Installs the Python package without a network, and walks a frame with it."""
-    run(sys.executable, "-m", "venv", folder)
-    status, said = run(f"{folder}/bin/pip", "install", "-q", archive, PIP_NO_INDEX="1", PIP_DISABLE_PIP_VERSION_CHECK="1")
-    check(os.path.basename(archive), status == 0, said)
-    _, said = run(f"{folder}/bin/python", "c/examples/headers.py", FRAME)
-    check(f"{os.path.basename(archive)}, a frame", "VLAN 291" in said, said)
+def check_aarch64(top, work, **environment):
+    """Builds the packages for aarch64, and runs what they have in an emulator. Tells whether that can be done here."""
+    dist, root = f"{work}/aarch64", f"{work}/aarch64/root"
+    os.makedirs(root)
+    status, said = run("sh", "release/debian.sh", "aarch64", dist, folder=top, **QUICK, **environment)
+    if status == 3:
+        print(said.strip())
+        return False
+    packages = glob.glob(f"{dist}/*_arm64.deb")
+    check("packages for aarch64", status == 0 and len(packages) == 3, said)
+    for package in packages:
+        run("dpkg-deb", "-x", package, root)
+        check(os.path.basename(package), run("dpkg-deb", "-f", package, "Architecture")[1] == "arm64\n")
+    lib, emulator = f"{root}/usr/lib/aarch64-linux-gnu", ["qemu-aarch64", "-L", "/usr/aarch64-linux-gnu"]
+    check("ether_tool on aarch64", TAG in run(*emulator, f"{root}/usr/bin/ether_tool", given=f"{FRAME}\n")[1])
+    said = run(*emulator, f"{root}/usr/bin/ether_capture", "--version")
+    check("ether_capture on aarch64", said == (0, f"ether_capture {released.VERSION}\n"), said)
+    check_depends(f"{dist}/ether-tools_{released.VERSION}_arm64.deb", glob.glob(f"{root}/usr/bin/*"))
+    released.check_licences(f"{root}/usr/share/doc/ether-tools", "ether-tools on aarch64")
+    with open(f"{root}/fits.c", "w", encoding="ascii") as file:
+        file.write(PROGRAM)
+    for kind, words in (("shared", [f"-L{lib}", "-letherpeel"]), ("static", [f"{lib}/libetherpeel.a"])):
+        built = run("aarch64-linux-gnu-gcc", "-o", f"{root}/fits", f"{root}/fits.c", f"-I{root}/usr/include", *words)
+        ran = run(*emulator, "-E", f"LD_LIBRARY_PATH={lib}", f"{root}/fits")
+        check(f"a program in C on aarch64, {kind}", built[0] == 0 and ran[0] == 0, built[1] + ran[1])
+    return True
+
+
+def check_vendored(dist, work):
+    """Builds the sources with the crates in them, where cargo knows neither Debian's crates nor a network: the library for C, and the
+    programs for aarch64, or for this processor if that can't be done here."""
+    with tarfile.open(glob.glob(f"{dist}/*-vendored.tar.gz")[0]) as archive:
+        archive.extractall(f"{work}/vendored")
+    top = f"{work}/vendored/jalkumfe-{released.VERSION}"
+    offline = {"CARGO_HOME": f"{work}/vendored/home", "CARGO_NET_OFFLINE": "true"}
+    check("its registry", run("sh", "rust/registry.sh", folder=top) == (0, ""))
+    when = run("git", "log", "-1", "--format=%ct")[1].strip()
+    packages = ["etherpeel_c"] if check_aarch64(top, work, SOURCE_DATE_EPOCH=when, **offline) else ["etherpeel_c", "ether_tools"]
+    for package in packages:
+        words = "cargo", "build", "--offline", "--locked", "--quiet"
+        status, said = run(*words, folder=f"{top}/rust/{package}", CARGO_PROFILE_DEV_DEBUG="0", **offline)
+        check(f"{package} of the archive with the crates", status == 0, said)
 
 
 def main():
@@ -80,20 +167,17 @@ def main():
         print(f"left out: the release, since {', '.join(lacking) or 'what cargo needs'} was not found", "0 passed, 0 failed", sep="\n")
         return 0
     with tempfile.TemporaryDirectory() as work:
-        names, again = released(f"{work}/one"), released(f"{work}/two")
-        same, other, missing = filecmp.cmpfiles(f"{work}/one", f"{work}/two", names, shallow=False)
-        check("two runs", names == again and not other + missing, other + missing)
+        check_equal(work)
         if shutil.which("lintian"):
             status, said = run("lintian", "--fail-on", "error", *glob.glob(f"{work}/one/*.deb"))
             check("lintian", status == 0, said)
         else:
             print("left out: lintian, which was not found")
         check_packages(f"{work}/one", f"{work}/root")
-        if run(sys.executable, "-c", "import ensurepip, venv")[0]:
-            print("left out: the Python package, since python3 has no venv")
-        else:
-            for at, archive in enumerate(glob.glob(f"{work}/one/*.whl") + glob.glob(f"{work}/one/etherpeel-*.tar.gz")):
-                check_python(archive, f"{work}/venv{at}")
+        check_vendored(f"{work}/one", work)
+        released.check_lists(f"{work}/one")
+        released.check_pythons(f"{work}/one", work)
+        released.check_scripts(work)
     print(f"{counts[True]} passed, {counts[False]} failed")
     return 1 if counts[False] else 0
 

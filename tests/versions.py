@@ -11,11 +11,14 @@ import sys
 
 TOP = os.path.dirname(os.path.dirname(os.path.abspath(__file__)))
 MANIFEST = r'^version = "(.*)"'
+LOCKED = r'^name = "ether\w+"\nversion = "(.*)"'
 # Where a version is stated, perhaps several times. A group is the whole version, or else there is a group for each of its numbers.
 PLACES = {
     "rust/etherpeel/Cargo.toml": MANIFEST,
     "rust/etherpeel_c/Cargo.toml": MANIFEST,
     "rust/ether_tools/Cargo.toml": MANIFEST,
+    "rust/etherpeel_c/Cargo.lock": LOCKED,
+    "rust/ether_tools/Cargo.lock": LOCKED,
     "c/python/pyproject.toml": MANIFEST,
     "c/python/backend.py": r'VERSION, TAG = "etherpeel", "(.*?)"',
     "c/python/etherpeel/__init__.py": r'^__version__ = "(.*)"',
@@ -24,6 +27,7 @@ PLACES = {
     "man/ether_capture.1": r'"etherpeel (\d+)\.(\d+)"',
     "man/ether-filter.7": r'"etherpeel (\d+)\.(\d+)"',
     "c/etherpeel.pc.in": r"^Version: (.*)",
+    "c/etherpeel-config-version.cmake": r"PACKAGE_VERSION (\d.*)\)",
     "c/install.sh": r"libetherpeel\.so\.(\d+\.\d+\.\d+)",
     "c/etherpeel.h": r"VERSION_MAJOR (\d+)\n#define ETHERPEEL_VERSION_MINOR (\d+)\n",
     "c/link.sh": r"soname,libetherpeel\.so\.(\d+) ",
@@ -34,7 +38,7 @@ PLACES = {
     "rust/ether_tools/src/ether_capture/options.rs": r'\.version\("(.*)"\)',
     "page/page.html": r'content="etherpeel (.*)">',
     "CITATION.cff": r"^version: (.*)",
-    "release.sh": r"libetherpeel\.so\.(\d+\.\d+\.\d+)",
+    "release/debian.sh": r"libetherpeel\.so\.(\d+\.\d+\.\d+)",
     "tests/ether_capture.py": r'"ether_capture (\d.*?)\\n"',
     "CHANGELOG.md": r"\A(?:(?!## ).*\n)*## (\d.*?)(?:$| )",
 }
