@@ -39,7 +39,7 @@ def failures():
         with open(os.path.join(CRATE, "examples", "walk.rs"), encoding="utf-8") as source:
             program = source.read().split("\n", 1)[1]
         with open(os.path.join(TOP, "README.md"), encoding="utf-8") as page:
-            told = f"```rust\n{program}```\n\nprint `{run('walk').strip()}`." in page.read()
+            told = f"```rust\n{program}```\n\n`cargo run` prints `{run('walk').strip()}`." in page.read()
         yield None if told else "README.md does not have the example walk, or what it prints"
         headers = run("headers", given=f"{TAGGED.replace(' ', '')}\n{CUT.replace(' ', '')}\n").split("\n")
         wanted = [
