@@ -1,8 +1,8 @@
 """Runs docs/C.md by its words alone: c_document.py CC LIBRARY FOLDER. The last line is 'N passed, M failed'.
 
-The commands are run in order in a copy of the repository's files, with the library that is given in place of what `rt lib`
-makes, and without a network. What they print last is compared with the text after them; examples in C are compiled, examples in Python
-are run. What needs a program that is missing is left out, and a line says so. Where RUNNER has words that run what CC compiles, for another
+The commands are run in order in a copy of the repository's files, with the library that is given in place of what `rust/build.sh`
+and `rt lib` make, and without a network. What they print last is compared with the text after them; examples in C are compiled, those
+in Python are run. What needs a program that is missing is left out, and a line says so. Where RUNNER has words that run what CC compiles, for another
 processor, only the examples in C are tried.
 """
 import os
@@ -58,6 +58,10 @@ def copy():
     """The files that the page names, and programs: `rt`, which has nothing to do, and the compiler."""
     os.makedirs(f"{clone}/crates/ether_c/out")
     shutil.copy(library, f"{clone}/crates/ether_c/out/libether_c.a")
+    os.makedirs(f"{clone}/rust/built")
+    shutil.copy(library, f"{clone}/rust/built/libetherpeel_c.a")
+    with open(f"{clone}/rust/build.sh", "w") as file:
+        file.write('cd "$(dirname "$0")/built" && pwd\n')
     shutil.copytree(f"{TOP}/c", f"{clone}/c", ignore=shutil.ignore_patterns("__pycache__"))
     os.makedirs(bin)
     program("rt", 'test "$*" = lib && test -f out/libether_c.a')
