@@ -3,7 +3,7 @@
     python3 bench/figures.py                 counts all rows, and fails if one has grown by more than 3 %
     python3 bench/figures.py GROUP..         counts the rows of these groups
     python3 bench/figures.py --take GROUP..  writes what it counts to bench/figures.txt, and the tables of docs/MEASURED.md
-    python3 bench/figures.py --tables        compares the tables of docs/MEASURED.md with bench/figures.txt
+    python3 bench/figures.py --tables        compares the tables of docs/MEASURED.md, and the figures of README.md, with bench/figures.txt
 
 A row has the instructions of the proved build, which needs what `rt ci` and `sh c/test.sh proved` leave in crates/*/out, those
 of cargo's build, and those of what it is compared with, which are counted in the same run. A group is a module of bench/counting,
@@ -23,6 +23,8 @@ from counting import builds  # noqa: E402
 
 HERE = os.path.dirname(os.path.abspath(__file__))
 FIGURES, MINUTES, MEASURED = f"{HERE}/figures.txt", f"{HERE}/gate/minutes.txt", f"{builds.TOP}/docs/MEASURED.md"
+# A row, and how README.md says its numbers.
+TOLD = "walks/walk: mixed", "takes {} instructions in the proved walk, {} by cargo, and {} in C by hand"
 # Each group with what its rows are divided by.
 GROUPS = {
     "walks": "C by hand", "calls": "the original", "packets": "the walk", "tags": "C by hand", "building": "one by one", "c_calls": "C by hand",
@@ -133,7 +135,7 @@ def take(rows, groups):
 
 
 def tables():
-    """Whether the document has the minutes of the gate and a table of each group, and these are those of the figures."""
+    """Whether the document has the minutes of the gate and a table of each group, and these and README.md have the figures."""
     with open(MEASURED, encoding="utf-8") as file:
         text = file.read()
     missing = [name for name in ["minutes", *(f"figures: {group}" for group in GROUPS)] if not re.search(f"<!-- {name} .*-->", text)]
@@ -142,8 +144,15 @@ def tables():
     same = not missing and text == measured(read())
     if not same:
         print("docs/MEASURED.md: its tables are not those of bench/figures.txt; python3 bench/figures.py --take")
-    print(f"{int(same)} passed, {int(not same)} failed")
-    return int(not same)
+    name, form = TOLD
+    said = form.format(*(f"{it:,.0f}" for it in read()[name]))
+    with open(f"{builds.TOP}/README.md", encoding="utf-8") as file:
+        is_told = said in " ".join(file.read().split())
+    if not is_told:
+        print(f"README.md: it does not say that a frame {said}")
+    failed = [same, is_told].count(False)
+    print(f"{2 - failed} passed, {failed} failed")
+    return int(failed > 0)
 
 
 def main():
