@@ -1,5 +1,6 @@
 #!/usr/bin/env python3
-"""Finds the definitions that the contracts of the calls below rest on, by artefact, and compares them with docs/READING.md.
+"""Finds the definitions that the contracts of the calls below rest on, by artefact, and compares them with docs/READING.md. It also compares
+docs/PROVED.md with the sources (docs/proved.py).
 
     python3 docs/reading.py [--set | ARTEFACT]
 
@@ -459,6 +460,7 @@ def check(found):
 
 
 def main():
+    import proved  # it takes the definitions from here
     titles = {it.replace("`", ""): it for it in ARTEFACTS}
     words = argparse.ArgumentParser(description=__doc__, formatter_class=argparse.RawDescriptionHelpFormatter)
     words.add_argument("artefact", metavar="ARTEFACT", nargs="?", choices=titles, help=", ".join(titles))
@@ -468,8 +470,9 @@ def main():
         words.error("--set takes no artefact")
     if given.set:
         set_figures(found)
+        proved.set_lines()
     if given.artefact is None:
-        return 1 if check(found) else 0
+        return int(any([check(found), proved.is_wrong()]))
     title = titles[given.artefact]
     try:
         print_text(title, files_of(title), next(by_file for name, _, by_file in artefacts(found) if name == title))
