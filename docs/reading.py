@@ -14,7 +14,8 @@ import sys
 
 sys.dont_write_bytecode = True
 import proved  # noqa: E402
-import sources  # noqa: E402
+import sources  # noqa: E402  it also leads to the modules of tests/
+import planted_faults  # noqa: E402
 from sources import NAME, ROOT  # noqa: E402
 
 PAGE, README, TRUST = f"{ROOT}/docs/READING.md", f"{ROOT}/README.md", f"{ROOT}/docs/TRUST.md"
@@ -36,8 +37,8 @@ ARTEFACTS = {
     "Bridges": ["ether_switch/src"],
     "C": ["ether_c/src"],
 }
-# How README.md says what it takes to believe the first artefact.
-TOLD = "one reads {} definitions, {} lines"
+# How README.md says what it takes to believe the first artefact, and docs/TRUST.md how many faults are planted into what is written by hand.
+TOLD, PLANTED = "one reads {} definitions, {} lines", "| {} rows, {} of them with a reason |"
 
 
 def is_of(item, calls):
@@ -126,8 +127,17 @@ def with_figures(found):
         pages[PAGE] = re.sub(rf"^(## {re.escape(title)}\n\n)Adds .*$", rf"\g<1>Adds {count} definitions, {lines} lines; {whole} in all.",
                              pages[PAGE], flags=re.M)
         if title == next(iter(ARTEFACTS)):
-            pages[README] = re.sub(TOLD.format(r"\d+", r"\d+"), TOLD.format(count, lines), pages[README])
+            pages[README] = with_numbers(pages[README], TOLD, count, lines)
+    pages[TRUST] = with_numbers(pages[TRUST], PLANTED, len(planted_faults.FAULTS), sum(bool(it.why) for it in planted_faults.FAULTS))
     return pages
+
+
+def with_numbers(page, form, *numbers):
+    """The text of a page with these numbers in the one sentence of a form."""
+    text, count = re.subn(re.escape(form).replace(r"\{\}", r"\d+"), form.format(*numbers), page)
+    if count != 1:
+        sys.exit(f"a page says {count} times '{form}'")
+    return text
 
 
 def check(found):

@@ -67,7 +67,7 @@ FAULTS = [
     Fault(INTERFACE, "checksums of frames with a tag", "a->restored = TAG;", ""),
     Fault(INTERFACE, "without the last frame of 64", "i < found", "i < found && i < BATCH - 1"),
     Fault(INTERFACE, "cut frames forwarded", "(messages[i].msg_hdr.msg_flags & MSG_TRUNC) != 0", "0", why=NOT_CUT),
-    Fault(INTERFACE, "sent is counted by calls", "sent > 0 ? (unsigned)sent : 1;", "1;", "SENT : interface_loss(errno)] += sent > 0 ? (unsigned)sent : 1;"),
+    Fault(INTERFACE, "sent is counted by calls", "sent > 0 ? (unsigned)sent : 1", "1", "SENT : interface_loss(errno)] += sent > 0 ? (unsigned)sent : 1;"),
     Fault(INTERFACE, "why a frame is lost", "error == EMSGSIZE", "0"),
 
     Fault(BY_HAND, "a slice without its last value", SHARED, SHARED.replace("len", "len.saturating_sub(1)")),
