@@ -27,15 +27,14 @@ SHORT = 200  # columns of a clause that is shown itself
 
 def clause(item, kind, name, text, told, common):
     """A clause of a line: its name, and the definitions of its own that it cites, with their words; or itself if there are none, and it is short."""
-    own = [it for it in item.cited[name] if it not in common]
+    own = [it for it in item.cited[kind, name] if it not in common]
     if any(it in told for it in own):
         shown = "; ".join(f"`{it[1]}`: {told[it]}" for it in own if it in told)
-    elif len(text) <= SHORT or not item.cited[name]:
+    elif len(text) <= SHORT or not item.cited[kind, name]:
         shown = f"`{text}`"
     else:
-        shown = ", ".join(f"`{it[1]}`" for it in own or item.cited[name])
-    title = " ".join(filter(None, ["asks" if kind == "requires" else "", name and f"`{name}`"]))
-    return f"{title} ({shown})" if title else shown
+        shown = ", ".join(f"`{it[1]}`" for it in own or item.cited[kind, name])
+    return f"`{name}` ({shown})" if name else shown
 
 
 def made():
@@ -54,8 +53,11 @@ def made():
             out += ["", f"### `{crate}`", ""]
             before = crate
         does = item.does.rstrip(".") + "." * bool(item.does)
-        has = "; ".join(clause(item, *it, told, common) for it in item.told)
-        out.append(f"- [`{item.name}`](../crates/{item.path}): {does}{' ' if does and has else ''}{f'**Proved**: {has}.' if has else ''}")
+        parts = [does]
+        for title, kind in (("Asks", "requires"), ("Proved", "ensures")):
+            has = "; ".join(clause(item, *it, told, common) for it in item.told if it[0] == kind)
+            parts.append(has and f"**{title}**: {has}.")
+        out.append(f"- [`{item.name}`](../crates/{item.path}): {' '.join(filter(None, parts))}")
     return "\n".join(out)
 
 

@@ -287,9 +287,9 @@ def all_items(found):
                 is_public, here = file in OF_PROGRAM, set()
             in_scope = scope(lines)
             for item in items_of(crate, file, lines, here, is_public):
-                for _, name, text in item.told:
+                for kind, name, text in item.told:
                     # what only says of which type something is says nothing of it
                     bare = re.sub(r"(: |\bList |\bOption )\(?[\w.]+", r"\1", text)
                     reached = cited_in(found, bare, *in_scope)
-                    item.cited[name] = sorted(reached, key=lambda it, bare=bare: (bare.find(it[1]) < 0, bare.find(it[1]), it[1]))
+                    item.cited[kind, name] = sorted(reached, key=lambda it, bare=bare: (bare.find(it[1]) < 0, bare.find(it[1]), it[1]))
                 yield crate, item
