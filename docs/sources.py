@@ -171,7 +171,7 @@ def clauses_of(text, at):
         if depth == 0 and text[at] == ";":
             return told
         if depth == 0 and text[at] == "{":
-            begins = re.search(r"\b(ensures|requires)(?: (\w+))? $", text[:at])
+            begins = re.search(r"\b(ensures|requires)\*?(?: (\w+))? $", text[:at])
             if not begins:
                 return told
             end = closing(text, at)
