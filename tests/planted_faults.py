@@ -90,7 +90,7 @@ FAULTS = [
     Fault(COPIES, "a part that is left by a copy that fails", "part.remove();", "", "part.remove();\n        part.error"),
     Fault(COPIES, "permissions of a new file", "let _ = part.file.set_permissions(found.permissions());", ""),
     Fault(COPIES, "a link that is replaced", "followed(name).unwrap_or(name.into())", "PathBuf::from(name)"),
-    Fault(COPIES, "a part beside the link", "followed(name)?", "PathBuf::from(name)", "match beside(followed(name)?)"),
+    Fault(COPIES, "a part beside the link", "followed(name)?", "PathBuf::from(name)", "return beside(followed(name)?);"),
     Fault(COPIES, "one part alone", "MOST_PARTS", "1", "0..MOST_PARTS"),
     Fault(COPIES, "another's part is written", "File::create_new(&part)", "File::create(&part)"),
     Fault(COPIES, "a full disk is told otherwise", "WriteFault::StorageFull", "WriteFault::Other"),
