@@ -130,7 +130,8 @@ def ageing(switches):
     switches.settled("left", 3, 2)
     yield "to a station that was just seen", sorted(switches.left()), ["d3"]
     time.sleep(3)
-    ends["d3"].send(STRANGER + OTHER + BODY)
+    ends["d3"].send(OTHER + STRANGER + BODY)
+    switches.settled("left", 3, 3)
     ends["d1"].send(STATION + OTHER + BODY)
     switches.settled("left", 3, 4)
     yield "to a station that has aged, from an isolated port", {name: len(it) for name, it in switches.left().items()}, {"d1": 1, "d2": 1, "d3": 1}
