@@ -266,7 +266,19 @@ enum etherpeel_filter_error_kind {
     ETHERPEEL_FILTER_TOO_LONG = 10,
     /* After `vlan`: a number up to `greatest`, `and`, `or`, `)` or the end of the text is
      * expected. */
-    ETHERPEEL_FILTER_VLAN_ID_OR_OPERATOR = 11
+    ETHERPEEL_FILTER_VLAN_ID_OR_OPERATOR = 11,
+    /* `==`, `!=`, `<`, `<=`, `>`, `>=` or `in` is expected. */
+    ETHERPEEL_FILTER_RELATION = 12,
+    /* After a field: one of these, `&`, `and`, `or`, `)` or the end of the text is expected. */
+    ETHERPEEL_FILTER_RELATION_OR_OPERATOR = 13,
+    /* A value of `greatest` bytes is expected. */
+    ETHERPEEL_FILTER_BYTES = 14,
+    /* Bytes are expected, as those of an address. */
+    ETHERPEEL_FILTER_ANY_BYTES = 15,
+    /* `{` is expected. */
+    ETHERPEEL_FILTER_SET = 16,
+    /* `,` or `}` is expected. */
+    ETHERPEEL_FILTER_SET_END = 17
 };
 
 /* What etherpeel_filter_decide returns. */
@@ -593,13 +605,13 @@ typedef struct etherpeel_linux_sll2_header {
 typedef struct etherpeel_filter_error {
     size_t offset; /* where the first word that does not fit begins, or the length of the text */
     uint32_t kind; /* enum etherpeel_filter_error_kind */
-    uint32_t greatest; /* the greatest number that is expected, 0 if no number is */
+    uint32_t greatest; /* the greatest number, or the number of bytes, that is expected; else 0 */
 } etherpeel_filter_error;
 
 /* A filter that was read. etherpeel_filter_parse writes it and the other calls read it; it holds no
  * pointer, so a copy of it is a filter, too. What its numbers mean may change with the version. */
 typedef struct etherpeel_filter {
-    uint64_t numbers[385];
+    uint64_t numbers[577];
 } etherpeel_filter;
 
 /* Why a header is not replaced. */
@@ -1260,6 +1272,10 @@ uint32_t etherpeel_linux_sll2_fields(const uint8_t *bytes, size_t len, etherpeel
  *   refused                 a header is cut short or malformed
  *   cut                     fewer bytes were captured than were on the wire
  *   less N, greater N       at most, or at least, N bytes were on the wire
+ *   vlan.pcp                a header has the field, which is a column (etherpeel_field_text)
+ *   vlan.pcp >= V           the same with ==, !=, <, <=, >; after & MASK only its bits count
+ *   arp.op in {V, V}        a value of the field is in the set
+ *   eth.src[0:3] == V       a slice of the field's bytes
  */
 
 /* etherpeel_select - the packets that a filter selects

@@ -70,8 +70,8 @@ DEFINED = {
 }
 # The feature without which a public module is not there, and a module of the tests.
 FEATURES = {
-    "ether_filter": "filter", "ether_pcap": "pcap", "ether_content": "content", "ether_switch": "switch",
-    **dict.fromkeys(["ether_fields", "ether_output", "ether_format"], "format"),
+    "ether_fields": "filter", "ether_filter": "filter", "ether_pcap": "pcap", "ether_content": "content", "ether_switch": "switch",
+    **dict.fromkeys(["ether_output", "ether_format"], "format"),
 }
 TEST_FEATURES = {"filter": "content", "pcap": "pcap", "switch": "switch"}
 # The crates of tests, which are below `tests/`, each with the examples that it tests.

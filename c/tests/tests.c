@@ -71,7 +71,7 @@ static void layout(void) {
           offsetof(etherpeel_headers, min_snap_len) == 808);
     CHECK(offsetof(etherpeel_headers, vlan_ids) == 816 &&
           offsetof(etherpeel_headers, vlan_count) == 822);
-    CHECK(sizeof(etherpeel_filter) == 3080);
+    CHECK(sizeof(etherpeel_filter) == 4616);
     CHECK(sizeof(etherpeel_filter_error) == 16 && offsetof(etherpeel_filter_error, kind) == 8 &&
           offsetof(etherpeel_filter_error, greatest) == 12);
     CHECK(sizeof(etherpeel_replace_error) == 16 &&
@@ -820,9 +820,13 @@ static void filtering(void) {
     CHECK(selects_again("vlan 291", "10100") && selects_again("not vlan", "01000"));
     CHECK(selects_again("vlan 291 and (ip or cut)", "10100") && selects_again("arp", "01000"));
     CHECK(selects_again("not refused", "11100") && selects_again("greater 20", "01100"));
+    CHECK(selects_again("vlan.vid == 0x123", "10100") && selects_again("vlan.pcp < 5", "00000"));
+    CHECK(selects_again("vlan.vid & 0xf00 == 256 or arp.op in {1, 2}", "11100"));
     memset(&filter, 0xA5, sizeof filter);
     CHECK(etherpeel_filter_parse("vlan 4096", 9, &filter, &error) == ETHERPEEL_BAD_FILTER);
     CHECK(error.offset == 5 && error.kind == ETHERPEEL_FILTER_NUMBER && error.greatest == 4095);
+    CHECK(etherpeel_filter_parse("eth.src == 1:2", 14, &filter, &error) == ETHERPEEL_BAD_FILTER);
+    CHECK(error.offset == 11 && error.kind == ETHERPEEL_FILTER_BYTES && error.greatest == 6);
     CHECK(all_are(&filter, sizeof filter, 0xA5));
     CHECK(etherpeel_filter_parse("vlan", 4, &filter, &error) == ETHERPEEL_DONE);
     CHECK(etherpeel_filter_select(&filter, &p, 1, matches, 0) == ETHERPEEL_NO_ROOM);

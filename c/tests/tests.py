@@ -25,7 +25,7 @@ from etherpeel import Difference, FaultKind, FieldKind, FieldName, FilterErrorKi
 
 def layout():
     sizes = [C.sizeof(t) for t in _library.STRUCTS]
-    check("sizes", sizes, [56, 88, 72, 16, 16, 6, 24, 40, 144, 824, 40, 16, 16, 32, 32, 32, 16, 3080])
+    check("sizes", sizes, [56, 88, 72, 16, 16, 6, 24, 40, 144, 824, 40, 16, 16, 32, 32, 32, 16, 4616])
     check("offsets", [getattr(_library.Unit, f).offset for f in
                       ("kind", "closed", "ethernet2", "linux_sll", "vlan", "macsec", "arp")], [32, 36, 38, 54, 70, 80, 104])
     check("version", _library.lib.etherpeel_version(), 0x030000)
@@ -203,7 +203,8 @@ def frames_of_captures():
 def filters():
     packets = [captured(TAGGED, 1), captured(ARP, 1), captured(COOKED_V2, 276), captured(COOKED_V2_GRE, 276), captured(TAGGED[:4], 105)]
     for expression, expected in (("vlan 291", [0, 2]), ("not vlan", [1]), ("arp", [1]), ("vlan 291 and (ip or cut)", [0, 2]),
-                                 ("refused", []), ("not refused", [0, 1, 2]), ("greater 20", [1, 2])):
+                                 ("refused", []), ("not refused", [0, 1, 2]), ("greater 20", [1, 2]),
+                                 ("vlan.vid == 0x123", [0, 2]), ("arp.op in {1, 2} or vlan.pcp > 5", [1])):
         check(expression, [packets.index(it) for it in etherpeel.select(expression, packets)], expected)
     check("a capture", [bytes(it.packet) for it in etherpeel.select("cut", etherpeel.capture(CLASSIC))], [b""])
     found = etherpeel.select("not cut", etherpeel.capture(CLASSIC[:50]))
@@ -213,6 +214,9 @@ def filters():
                                  ("vlan and", (8, FilterErrorKind.OPERAND, None, "At byte 8: expected a primitive, `not` or `(`.")),
                                  ("vlan abc", (5, FilterErrorKind.VLAN_ID_OR_OPERATOR, 4095,
                                                "At byte 5: expected a number up to 4095, `and`, `or`, `)` or the end.")),
+                                 ("vlan.vid 5", (9, FilterErrorKind.RELATION_OR_OPERATOR, None,
+                                                 "At byte 9: expected `==`, `!=`, `<`, `<=`, `>`, `>=`, `in`, `&`, `and`, `or`, `)` or the end.")),
+                                 ("eth.src == 1:2", (11, FilterErrorKind.BYTES, 6, "At byte 11: expected a value of 6 bytes.")),
                                  ("", (0, FilterErrorKind.OPERAND, None, "At byte 0: expected a primitive, `not` or `(`."))):
         try:
             etherpeel.select(expression, packets)

@@ -14,8 +14,9 @@ DERIVED = {
         ["Clone", "PartialEq", "Eq"],
     ),
     **dict.fromkeys(
-        """Bridge CaptureInterface Content EthernetFront ExtKind ExtPlace Field Forgotten FrameWindow Instruction Jump
-        LinkKind Node Operator PortConfig PortStates Primitive Received StaticEntry StationBucket VlanConfig""".split(),
+        """Bridge CaptureInterface Content EthernetFront ExtKind ExtPlace Field FieldTest Forgotten FrameWindow
+        Instruction Jump LinkKind Node Operator PortConfig PortStates Primitive Received Relation StaticEntry
+        StationBucket VlanConfig""".split(),
         ["PartialEq", "Eq"],
     ),
 }

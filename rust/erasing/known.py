@@ -35,7 +35,8 @@ PATHS = set(
     """arrayvec::ArrayVec core::error::Error core::fmt core::fmt::Debug core::fmt::Display core::fmt::Write
     core::hash::Hash core::hash::Hasher core::net::Ipv4Addr core::ops::Range
     fmt::Debug fmt::Display fmt::Display::fmt fmt::Formatter fmt::Result fmt::Write ArrayVec::new Ipv4Addr::new char::from
-    u8::from u16::from u32::from u64::from u128::from usize::from u16::try_from u32::try_from u32::MAX usize::MAX
+    u8::from u16::from u32::from u64::from u128::from usize::from u16::try_from u32::try_from
+    u64::try_from u32::MAX u64::MAX usize::MAX
     u16::from_be_bytes u32::from_be_bytes u64::from_be_bytes
     u16::from_le_bytes u32::from_le_bytes u64::from_le_bytes""".split()
 )

@@ -298,6 +298,9 @@ def select(expression: str, packets: Iterable[Captured]) -> Iterator[Captured]:
     return _selected(read, packets)
 
 
+_WITH_GREATEST = FilterErrorKind.NUMBER, FilterErrorKind.VLAN_ID_OR_OPERATOR, FilterErrorKind.BYTES
+
+
 @lru_cache(maxsize=64)
 def _read(expression):
     """The filter that a text means. Calls only read it, so that threads may share it."""
@@ -305,7 +308,7 @@ def _read(expression):
     if lib.etherpeel_filter_parse(words, len(words), C.byref(read), C.byref(error)) == Status.BAD_FILTER:
         kind = FilterErrorKind(error.kind)
         raise FilterError(text(lib.etherpeel_filter_error_text, words, len(words)), error.offset, kind,
-                          error.greatest if kind in (FilterErrorKind.NUMBER, FilterErrorKind.VLAN_ID_OR_OPERATOR) else None)
+                          error.greatest if kind in _WITH_GREATEST else None)
     return read
 
 

@@ -85,7 +85,7 @@ Field = struct("Field", bit_offset=size, bit_len=size, value=u64, unit=u32, name
 LinuxSll2Header = struct("LinuxSll2Header", payload_start=size, interface_index=u32, start=u32, protocol=u16, ether_type=u16,
                          hardware_type=u16, packet_type=u8, address_len=u8, address=u8 * 8)
 ReplaceError = struct("ReplaceError", tags=size, difference=u32)
-Filter = struct("Filter", numbers=u64 * 385)
+Filter = struct("Filter", numbers=u64 * 577)
 
 # the structs in the order of enum etherpeel_struct, from 1 on
 STRUCTS = [Fault, Found, Fed, Ethernet2, LinuxSll, Vlan, Macsec, Arp, Unit, Headers, Captured, CaptureEnd, FilterError, Frame,

@@ -127,6 +127,18 @@ class FilterErrorKind(IntEnum):
     """There are more than 192 words."""
     VLAN_ID_OR_OPERATOR = 11
     """After `vlan`: a number up to `greatest`, `and`, `or`, `)` or the end of the text is expected."""
+    RELATION = 12
+    """`==`, `!=`, `<`, `<=`, `>`, `>=` or `in` is expected."""
+    RELATION_OR_OPERATOR = 13
+    """After a field: one of these, `&`, `and`, `or`, `)` or the end of the text is expected."""
+    BYTES = 14
+    """A value of `greatest` bytes is expected."""
+    ANY_BYTES = 15
+    """Bytes are expected, as those of an address."""
+    SET = 16
+    """`{` is expected."""
+    SET_END = 17
+    """`,` or `}` is expected."""
 
 
 class FieldKind(IntEnum):
@@ -500,7 +512,8 @@ class FilterError(Error):
         """The offset in bytes of the first word that does not fit, or the length of the text if words are missing at its end."""
         self.kind = kind
         self.greatest = greatest
-        """The greatest number that is expected, with `FilterErrorKind.NUMBER` and `VLAN_ID_OR_OPERATOR`; else None."""
+        """The greatest number that is expected, with `FilterErrorKind.NUMBER` and `VLAN_ID_OR_OPERATOR`; the number of
+        bytes, with `BYTES`; else None."""
 
 
 class LinuxSll2Error(Error):

@@ -33,11 +33,18 @@ filter_error_number kinds.Unopened = 8
 filter_error_number kinds.Unclosed = 9
 filter_error_number kinds.TooLong = 10
 filter_error_number kinds.ExpectedVlanIdOrOperator = 11
+filter_error_number kinds.ExpectedRelation = 12
+filter_error_number kinds.ExpectedRelationOrOperator = 13
+filter_error_number (kinds.ExpectedBytes len) = 14
+filter_error_number kinds.ExpectedAnyBytes = 15
+filter_error_number kinds.ExpectedSet = 16
+filter_error_number kinds.ExpectedSetEnd = 17
 
--- the greatest number that is expected, 0 if no number is
+-- the greatest number that is expected, or the number of bytes; 0 if neither is
 abbrev pub greatest_expected : FilterErrorKind → ℕ
 greatest_expected (kinds.ExpectedNumber most) = most
 greatest_expected kinds.ExpectedVlanIdOrOperator = 4095
+greatest_expected (kinds.ExpectedBytes len) = len
 greatest_expected _ = 0
 
 abbrev pub c_filter_error : FilterError → EtherFilterError

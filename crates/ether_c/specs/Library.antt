@@ -25,7 +25,7 @@ struct_size number =
     else (if nat_eq number 15 then 32
     else (if nat_eq number 16 then 32
     else (if nat_eq number 17 then 16
-    else (if nat_eq number 18 then 3080
+    else (if nat_eq number 18 then 4616
     else (if nat_eq number 19 then 6
     else (if nat_eq number 20 then 72
     else (if nat_eq number 21 then 16

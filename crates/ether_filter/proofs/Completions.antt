@@ -162,6 +162,7 @@ one_more primitives.Multicast packet hs e f a b = (λ m. m, λ m. m)
 one_more primitives.Cut packet hs e f a b = (λ m. m, λ m. m)
 one_more (primitives.Less n) packet hs e f a b = (λ m. m, λ m. m)
 one_more (primitives.Greater n) packet hs e f a b = (λ m. m, λ m. m)
+one_more (primitives.Field t) packet hs e f a b = (λ m. m, λ m. m)
 
 of_lengths : (p : Primitive) (packet : Packet) (hs ks : List Header) (e f : Ending) → is_of_lengths p ≡ true
     → Matches p (walked packet hs e) ↔ Matches p (walked packet ks f)

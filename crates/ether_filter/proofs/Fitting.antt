@@ -1,6 +1,6 @@
 -- A word fits exactly if it is taken.
-use Rattle.std.proofs.Common.{◌≡◌, List, [], ◌∷◌, ◌++◌, refl, sym, ap, subst, ◌∙◌, arith}
-use Rattle.std.specs.Prelude.{Result, Ok, Err, Some}
+use Rattle.std.proofs.Common.{◌≡◌, ℕ, List, [], ◌∷◌, ◌++◌, refl, sym, ap, subst, ◌∙◌, arith}
+use Rattle.std.specs.Prelude.{Result, Ok, Err, Option, Some}
 use Rattle.std.proofs.lemmas.List.{append_assoc, append-nil}
 use Rattle.ether_filter.specs.declared.node.Operator.{Operator}
 use Rattle.ether_filter.specs.declared.node.Node.{Node}
@@ -15,14 +15,24 @@ use Rattle.ether_filter.specs.declared.awaited.Awaited.{Awaited}
 use Rattle.ether_filter.specs.declared.awaited.Awaited.TheVariants as awaits
 use Rattle.ether_filter.specs.declared.reading.Pending.{Pending}
 use Rattle.ether_filter.specs.declared.reading.Pending.TheVariants as pendings
+use Rattle.std.proofs.lemmas.Bool.{le-leb}
+use Rattle.ether_filter.specs.declared.field_test.Relation.TheVariants.{Equal}
+use Rattle.ether_filter.specs.declared.subject.Literal.{Literal}
+use Rattle.ether_filter.specs.declared.subject.Subject.{Subject}
+use Rattle.ether_filter.specs.declared.subject.Takes.{Takes}
+use Rattle.ether_filter.specs.declared.subject.Takes.TheVariants as takes
+use Rattle.ether_filter.specs.Subjects.{existence_of, test_with, greatest_in_bytes, tested}
+use Rattle.ether_filter.specs.Steps.{value_for, member_test, member}
+use Rattle.ether_filter.specs.declared.node.Operator.TheVariants.{Or}
+use Rattle.ether_filter.specs.declared.node.Node.TheVariants as nodes
 use Rattle.ether_filter.specs.Expressions.{Expression, Test, Not, Join}
 use Rattle.ether_filter.specs.Postfix.{postfix}
-use Rattle.ether_filter.specs.Grammar.{NamesPrimitive, Shape, Operand, Chain, Leads, Means, IsExpression}
+use Rattle.ether_filter.specs.Grammar.{NamesBits, NamesPrimitive, Shape, Operand, Chain, Leads, Means, IsExpression}
 use Rattle.ether_filter.specs.Grammar as grammar
-use Rattle.ether_filter.specs.ExpressionReading.{ExpressionState, Outcome, begun, taken}
+use Rattle.ether_filter.specs.ExpressionReading.{ExpressionState, Outcome, begun, member_taken, joined_member, taken}
 use Rattle.ether_filter.specs.Refusals.{Begins, Fits}
 use Rattle.ether_filter.proofs.ReadingLemmas.{IsBase, going, all_from, expression_read}
-use Rattle.ether_filter.proofs.Sound.{Awaits, Begun, Within, WasRead, Was, Goes, begun_was_read, taken_was}
+use Rattle.ether_filter.proofs.Sound.{Awaits, Begun, Named, InSet, AtMember, Within, WasRead, Was, Goes, begun_was_read, taken_was}
 
 -- ---- the state after words
 
@@ -50,7 +60,7 @@ going_run : (o : Outcome) (ts us : List Token)
 going_run (Ok s) ts us each = each s
 going_run (Err kind) ts us each = refl
 
-run-append : (s : ExpressionState) (ts us : List Token) → run s (ts ++ us) ≡ going (run s ts) (λ u. run u us)
+pub run-append : (s : ExpressionState) (ts us : List Token) → run s (ts ++ us) ≡ going (run s ts) (λ u. run u us)
 run-append s [] us = refl
 run-append s (t ∷ ts) us = going_run (taken s t) ts us (λ u. run-append u ts us)
 
@@ -156,67 +166,180 @@ record Whole (words : List Token) : Type 0 where
   primitive : Primitive
   names : NamesPrimitive (words ++ more) primitive
 
-made_whole : (a : Awaited) (words : List Token) → Begun a words → Whole words
-made_whole awaits.VlanId words is = record { more = []; primitive = primitives.Vlan; names = rw is grammar.vlan }
-made_whole (awaits.Vlan numbers.OuterVlan) words is = record {
+-- a word that is a value of a field
+abbrev some_value : Takes → Token
+some_value (takes.Number most) = tokens.Number (Some 0)
+some_value (takes.Bytes len) = tokens.Number (Some 0)
+some_value takes.AnyBytes = tokens.Address 0
+
+takes_some : (of : Takes) → (v : Literal) × (value_for of (some_value of) ≡ Some v)
+takes_some (takes.Number most) = (record { len = 0; number = 0 }, rw (le-leb 0 most (omega arith)) refl)
+takes_some (takes.Bytes len) =
+    (record { len = len; number = 0 }, rw (le-leb 0 (greatest_in_bytes len) (omega arith)) refl)
+takes_some takes.AnyBytes = (record { len = 6; number = 0 }, refl)
+
+-- what is begun is a primitive, and not a set
+abbrev IsOfPrimitive : Awaited → Type 0
+IsOfPrimitive (awaits.Set f mask) = ⊥
+IsOfPrimitive (awaits.FirstMember f mask) = ⊥
+IsOfPrimitive _ = Unit {0}
+
+made_whole : (a : Awaited) (words : List Token) → Begun a words → IsOfPrimitive a → Whole words
+made_whole awaits.VlanId words is un = record { more = []; primitive = primitives.Vlan; names = rw is grammar.vlan }
+made_whole (awaits.Vlan numbers.OuterVlan) words is un = record {
   more = tokens.Vlan ∷ tokens.Number (Some 0) ∷ [];
   primitive = primitives.OuterVlan 0;
   names = rw is
       (grammar.outer_vlan 0 (omega arith));
 }
-made_whole (awaits.Vlan numbers.InnerVlan) words is = record {
+made_whole (awaits.Vlan numbers.InnerVlan) words is un = record {
   more = tokens.Vlan ∷ tokens.Number (Some 0) ∷ [];
   primitive = primitives.InnerVlan 0;
   names = rw is
       (grammar.inner_vlan 0 (omega arith));
 }
-made_whole (awaits.Vlan of) words is = absurd is
-made_whole (awaits.Number numbers.VlanId) words is = record {
+made_whole (awaits.Vlan of) words is un = absurd is
+made_whole (awaits.Number numbers.VlanId) words is un = record {
   more = tokens.Number (Some 0) ∷ [];
   primitive = primitives.VlanId 0;
   names = rw is
       (grammar.vlan_id 0 (omega arith));
 }
-made_whole (awaits.Number numbers.OuterVlan) words is = record {
+made_whole (awaits.Number numbers.OuterVlan) words is un = record {
   more = tokens.Number (Some 0) ∷ [];
   primitive = primitives.OuterVlan 0;
   names = rw is
       (grammar.outer_vlan 0 (omega arith));
 }
-made_whole (awaits.Number numbers.InnerVlan) words is = record {
+made_whole (awaits.Number numbers.InnerVlan) words is un = record {
   more = tokens.Number (Some 0) ∷ [];
   primitive = primitives.InnerVlan 0;
   names = rw is
       (grammar.inner_vlan 0 (omega arith));
 }
-made_whole (awaits.Number numbers.EtherType) words is = record {
+made_whole (awaits.Number numbers.EtherType) words is un = record {
   more = tokens.Number (Some 0) ∷ [];
   primitive = primitives.EtherType 0;
   names = rw is
       (grammar.proto 0 (omega arith));
 }
-made_whole (awaits.Number numbers.Less) words is = record
+made_whole (awaits.Number numbers.Less) words is un = record
     { more = tokens.Number (Some 0) ∷ []; primitive = primitives.Less 0; names = rw is (grammar.less 0 (omega arith)) }
-made_whole (awaits.Number numbers.Greater) words is = record {
+made_whole (awaits.Number numbers.Greater) words is un = record {
   more = tokens.Number (Some 0) ∷ [];
   primitive = primitives.Greater 0;
   names = rw is
       (grammar.greater 0 (omega arith));
 }
-made_whole awaits.EtherWord words is = record
+made_whole awaits.EtherWord words is un = record
     { more = tokens.Broadcast ∷ []; primitive = primitives.Broadcast; names = rw is grammar.broadcast }
-made_whole (awaits.Address addresses.Source) words is = record
+made_whole (awaits.Address addresses.Source) words is un = record
     { more = tokens.Address 0 ∷ []; primitive = primitives.Source 0; names = rw is (grammar.src 0) }
-made_whole (awaits.Address addresses.Destination) words is = record
+made_whole (awaits.Address addresses.Destination) words is un = record
     { more = tokens.Address 0 ∷ []; primitive = primitives.Destination 0; names = rw is (grammar.dst 0) }
-made_whole (awaits.Address addresses.Host) words is = record
+made_whole (awaits.Address addresses.Host) words is un = record
     { more = tokens.Address 0 ∷ []; primitive = primitives.Host 0; names = rw is (grammar.host 0) }
-made_whole awaits.Operand words is = absurd is
-made_whole awaits.Operator words is = absurd is
+made_whole (awaits.Relation f) words is un =
+    record { more = []; primitive = tested (existence_of f); names = rw is (grammar.field f) }
+made_whole (awaits.Mask f) words is un =
+    let t = some_value f.takes in
+    let v = takes_some f.takes in
+    record {
+      more = t ∷ tokens.Relation Equal ∷ t ∷ [];
+      primitive = tested (test_with f v.0.number Equal v.0);
+      names =
+          rw is (grammar.related f (tokens.Field f ∷ tokens.Mask ∷ t ∷ []) v.0.number Equal t v.0
+          (grammar.masked t v.0 v.1) v.1);
+    }
+made_whole (awaits.MaskedRelation f mask) words bits un =
+    let t = some_value f.takes in
+    let v = takes_some f.takes in
+    record {
+      more = tokens.Relation Equal ∷ t ∷ [];
+      primitive = tested (test_with f mask Equal v.0);
+      names = grammar.related f words mask Equal t v.0 bits v.1;
+    }
+made_whole (awaits.Value f mask r) words c un =
+    let t = some_value f.takes in
+    let v = takes_some f.takes in
+    record {
+      more = t ∷ [];
+      primitive = tested (test_with f mask r v.0);
+      names =
+          subst (λ (l : List Token). NamesPrimitive l (tested (test_with f mask r v.0)))
+          (sym (ap (λ (l : List Token). l ++ t ∷ []) c.is ∙ append_assoc c.words (tokens.Relation r ∷ []) (t ∷ [])))
+          (grammar.related f c.words mask r t v.0 c.bits v.1);
+    }
+made_whole (awaits.Set f mask) words is un = absurd un
+made_whole (awaits.FirstMember f mask) words is un = absurd un
+made_whole (awaits.Member f mask) words is un = absurd is
+made_whole (awaits.SetEnd f mask) words is un = absurd is
+made_whole awaits.Operand words is un = absurd is
+made_whole awaits.Operator words is un = absurd is
+
+-- a set that is begun, with a value and its end
+set_begins : (f : Subject) (mask : ℕ) (p : List Pending) (ns : List Node) (front words tail rest : List Token)
+    → NamesBits f words mask → tail ++ rest ≡ tokens.In ∷ tokens.OpenSet ∷ some_value f.takes ∷ tokens.CloseSet ∷ []
+    → Awaits p ns front → Begins (front ++ (words ++ tail))
+set_begins f mask p ns front words tail rest bits is e =
+    let t = some_value f.takes in
+    let v = takes_some f.takes in
+    let q = tested (test_with f mask Equal v.0) in
+    let found : member f mask t ≡ Some q = ap (member_test f mask) v.1 in
+    let us = words ++ tokens.In ∷ tokens.OpenSet ∷ t ∷ [] in
+    let all : us ++ tokens.CloseSet ∷ [] ≡ (words ++ tail) ++ rest =
+    append_assoc words (tokens.In ∷ tokens.OpenSet ∷ t ∷ []) (tokens.CloseSet ∷ [])
+    ∙ ap (λ (l : List Token). words ++ l) (sym is) ∙ sym (append_assoc words tail rest) in
+    let b = operand_goes_on p ns front (us ++ tokens.CloseSet ∷ []) (Test q) e
+    (grammar.set f mask us (Test q) (grammar.one words t q bits found)) in
+    shorter (front ++ (words ++ tail)) rest
+    (same_begins (ap (λ (l : List Token). front ++ l) all ∙ sym (append_assoc front (words ++ tail) rest)) b)
+
+named_begins : (f : Subject) (mask : ℕ) (p : List Pending) (ns : List Node) (front words tail rest : List Token)
+    → Named f mask tail words
+    → tail ++ rest ≡ tokens.In ∷ tokens.OpenSet ∷ some_value f.takes ∷ tokens.CloseSet ∷ []
+    → Awaits p ns front → Begins (front ++ words)
+named_begins f mask p ns front words tail rest c is e =
+    same_begins (ap (λ (l : List Token). front ++ l) (sym c.is))
+    (set_begins f mask p ns front c.words tail rest c.bits is e)
+
+-- a set after one of its values
+in_set_begins : (f : Subject) (mask : ℕ) (p : List Pending) (ns : List Node) (ts : List Token) → InSet f mask p ns ts
+    → Begins ts
+in_set_begins f mask p ns ts i =
+    same_begins (sym i.tokens)
+    (shorter (i.front ++ i.words) (tokens.CloseSet ∷ [])
+    (same_begins (sym (append_assoc i.front i.words (tokens.CloseSet ∷ [])))
+    (operand_goes_on p i.old i.front (i.words ++ tokens.CloseSet ∷ []) i.x i.earlier
+    (grammar.set f mask i.words i.x i.set))))
+
+member_begins : (f : Subject) (mask : ℕ) (p : List Pending) (ns : List Node) (ts : List Token)
+    → AtMember f mask p ns ts → Begins ts
+member_begins f mask p ns ts w =
+    let t = some_value f.takes in
+    let v = takes_some f.takes in
+    let q = tested (test_with f mask Equal v.0) in
+    let found : member f mask t ≡ Some q = ap (member_test f mask) v.1 in
+    let i = w.values in
+    let more : InSet f mask p ((ns ++ nodes.Test q ∷ []) ++ nodes.Join Or ∷ []) (ts ++ t ∷ []) =
+    subst (λ (o : Outcome). Goes o (ts ++ t ∷ [])) (ap (λ (r : Option Primitive). joined_member
+    (member_taken f mask (record { nodes = ns; pending = p; awaited = awaits.Member f mask }) r)) found)
+    (taken_was (awaits.Member f mask) p ns ts t w) in
+    shorter ts (t ∷ []) (in_set_begins f mask p ((ns ++ nodes.Test q ∷ []) ++ nodes.Join Or ∷ []) (ts ++ t ∷ []) more)
 
 within_begins : (a : Awaited) (p : List Pending) (ns : List Node) (ts : List Token) → Within a p ns ts → Begins ts
+within_begins (awaits.Set f mask) p ns ts w =
+    let t = some_value f.takes in
+    same_begins (sym w.tokens)
+    (named_begins f mask p ns w.front w.words (tokens.In ∷ []) (tokens.OpenSet ∷ t ∷ tokens.CloseSet ∷ []) w.begun refl
+    w.earlier)
+within_begins (awaits.FirstMember f mask) p ns ts w =
+    let t = some_value f.takes in
+    same_begins (sym w.tokens)
+    (named_begins f mask p ns w.front w.words (tokens.In ∷ tokens.OpenSet ∷ []) (t ∷ tokens.CloseSet ∷ []) w.begun refl
+    w.earlier)
 within_begins a p ns ts w =
-    let whole = made_whole a w.words w.begun in
+    let whole = made_whole a w.words w.begun tt in
     let b = operand_goes_on p ns w.front (w.words ++ whole.more) (Test whole.primitive) w.earlier
     (grammar.primitive (w.words ++ whole.more) whole.primitive whole.names) in
     same_begins (sym w.tokens)
@@ -228,6 +351,8 @@ read_begins awaits.Operand p ns ts was = shorter ts (tokens.Macsec ∷ [])
     (grammar.primitive (tokens.Macsec ∷ []) primitives.Macsec grammar.macsec))
 read_begins awaits.Operator p ns ts f = same_begins (sym f.tokens)
     (goes_on f.shape f.pending f.old f.front f.words f.x f.base f.earlier f.means)
+read_begins (awaits.SetEnd f mask) p ns ts was = in_set_begins f mask p ns ts was
+read_begins (awaits.Member f mask) p ns ts was = member_begins f mask p ns ts was
 read_begins a p ns ts was = within_begins a p ns ts was
 
 pub reached_begins : (ts : List Token) (s : ExpressionState) → Reaches ts s → Begins ts

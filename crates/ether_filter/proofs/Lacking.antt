@@ -19,11 +19,18 @@ use Rattle.ether_filter.specs.declared.awaited.Step.{Step}
 use Rattle.ether_filter.specs.declared.awaited.Step.TheVariants.{Done, More, Fails}
 use Rattle.ether_filter.specs.declared.reading.Pending.{Pending}
 use Rattle.ether_filter.specs.declared.reading.Pending.TheVariants as pendings
-use Rattle.ether_filter.specs.Steps.{first_step, next_step, kind_of, most_of, number_primitive}
-use Rattle.ether_filter.specs.ExpressionReading.{ExpressionState, completed, joined_by, closed_group, operator_taken, stepped, operand_taken, id_taken, taken_where, taken, nothing_open, whole, ended_where, ended}
-use Rattle.ether_filter.specs.Refusals.{Fits, IsAfterOperand, IsOther, Lacks}
+use Rattle.ether_filter.specs.declared.field_test.Relation.TheVariants.{Equal}
+use Rattle.ether_filter.specs.declared.subject.Subject.{Subject}
+use Rattle.ether_filter.specs.declared.subject.Takes.{Takes as ValuesTaken}
+use Rattle.ether_filter.specs.declared.subject.Takes.TheVariants as values
+use Rattle.ether_filter.specs.Subjects.{all_bits, existence_of, tested}
+use Rattle.ether_filter.specs.declared.primitive.Primitive.{Primitive}
+use Rattle.ether_filter.specs.Steps.{first_step, next_step, kind_of, most_of, number_primitive, value_kind, member}
+use Rattle.ether_filter.specs.ExpressionReading.{ExpressionState, completed, joined_by, closed_group, operator_taken, stepped, operand_taken, id_taken, relation_taken, member_taken, joined_member, set_taken, taken_where, taken, nothing_open, whole, ended_where, ended}
+use Rattle.ether_filter.specs.Refusals.{Fits, IsAfterOperand, IsOther, IsUnrelated, ValueFollows, Lacks}
 use Rattle.ether_filter.specs.Refusals as rows
 use Rattle.ether_filter.proofs.Sound.{decided}
+use Rattle.ether_filter.proofs.ValuesAwaited.{AwaitsValue, value_at, follows_value}
 use Rattle.ether_filter.proofs.Fitting.{Reaches, fits_taken, taken_fits}
 
 -- ---- the kind of an error
@@ -41,10 +48,17 @@ kind_after_vlan (Some (tokens.Join operator)) = kinds.MixedOperators
 kind_after_vlan (Some tokens.Close) = kinds.Unopened
 kind_after_vlan (Some t) = kinds.ExpectedVlanIdOrOperator
 
+abbrev pub kind_after_field : Option Token → FilterErrorKind
+kind_after_field None = kinds.Unclosed
+kind_after_field (Some (tokens.Join operator)) = kinds.MixedOperators
+kind_after_field (Some tokens.Close) = kinds.Unopened
+kind_after_field (Some t) = kinds.ExpectedRelationOrOperator
+
 -- by what is awaited, and what comes
 abbrev pub kind_at : Awaited → Option Token → FilterErrorKind
 kind_at awaits.Operator next = kind_after next
 kind_at awaits.VlanId next = kind_after_vlan next
+kind_at (awaits.Relation f) next = kind_after_field next
 kind_at a next = kind_of a
 
 -- ---- .. is that of the word that is refused
@@ -99,6 +113,32 @@ id_kind s (tokens.Join operator) kind a is = operator_kind (completed s primitiv
 id_kind s tokens.Close kind a is = operator_kind (completed s primitives.Vlan) tokens.Close kind is
 id_kind s t kind a is = cc
 
+relation_kind : (f : Subject) (s : ExpressionState) (t : Token) (kind : FilterErrorKind)
+    → relation_taken f s t ≡ Err kind → kind ≡ kind_after_field (Some t)
+relation_kind f s (tokens.Relation r) kind is = absurd cc
+relation_kind f s tokens.Mask kind is = absurd cc
+relation_kind f s tokens.In kind is = absurd cc
+relation_kind f s (tokens.Join operator) kind is =
+    operator_kind (completed s (tested (existence_of f))) (tokens.Join operator) kind is
+relation_kind f s tokens.Close kind is =
+    operator_kind (completed s (tested (existence_of f))) tokens.Close kind is
+relation_kind f s t kind is = cc
+
+member_kind : (f : Subject) (mask : ℕ) (s : ExpressionState) (o : Option Primitive) (kind : FilterErrorKind)
+    → member_taken f mask s o ≡ Err kind → kind ≡ kind_of s.awaited
+member_kind f mask s None kind is = cc
+member_kind f mask s (Some q) kind is = absurd cc
+
+joined_member_kind : (f : Subject) (mask : ℕ) (s : ExpressionState) (o : Option Primitive) (kind : FilterErrorKind)
+    → joined_member (member_taken f mask s o) ≡ Err kind → kind ≡ kind_of s.awaited
+joined_member_kind f mask s None kind is = cc
+joined_member_kind f mask s (Some q) kind is = absurd cc
+
+set_kind : (f : Subject) (mask : ℕ) (s : ExpressionState) (t : Token) (kind : FilterErrorKind)
+    → set_taken f mask s t ≡ Err kind → kind ≡ kind_of s.awaited
+set_kind f mask s tokens.CloseSet kind is = absurd cc
+set_kind f mask s t kind is = stepped_kind s (next_step (awaits.SetEnd f mask) t) kind is
+
 taken_kind_at : (a : Awaited) (ns : List Node) (p : List Pending) (t : Token) (kind : FilterErrorKind)
     → taken_where a (record { nodes = ns; pending = p; awaited = a }) t ≡ Err kind → kind ≡ kind_at a (Some t)
 taken_kind_at awaits.Operand ns p t kind is = operand_kind
@@ -107,6 +147,14 @@ taken_kind_at awaits.Operator ns p t kind is = operator_kind
     (record { nodes = ns; pending = p; awaited = awaits.Operator }) t kind is
 taken_kind_at awaits.VlanId ns p t kind is = id_kind (record { nodes = ns; pending = p; awaited = awaits.VlanId }) t
     kind refl is
+taken_kind_at (awaits.Relation f) ns p t kind is = relation_kind f
+    (record { nodes = ns; pending = p; awaited = awaits.Relation f }) t kind is
+taken_kind_at (awaits.FirstMember f mask) ns p t kind is = member_kind f mask
+    (record { nodes = ns; pending = p; awaited = awaits.FirstMember f mask }) (member f mask t) kind is
+taken_kind_at (awaits.Member f mask) ns p t kind is = joined_member_kind f mask
+    (record { nodes = ns; pending = p; awaited = awaits.Member f mask }) (member f mask t) kind is
+taken_kind_at (awaits.SetEnd f mask) ns p t kind is = set_kind f mask
+    (record { nodes = ns; pending = p; awaited = awaits.SetEnd f mask }) t kind is
 taken_kind_at a ns p t kind is = stepped_kind (record { nodes = ns; pending = p; awaited = a }) (next_step a t) kind is
 
 pub taken_kind : (s : ExpressionState) (t : Token) (kind : FilterErrorKind) → taken s t ≡ Err kind → kind
@@ -129,6 +177,8 @@ ended_kind_at : (a : Awaited) (s : ExpressionState) (kind : FilterErrorKind) →
     ≡ kind_at a None
 ended_kind_at awaits.Operator s kind is = whole_kind s.nodes s.pending s.awaited kind is
 ended_kind_at awaits.VlanId s kind is = let t = completed s primitives.Vlan
+    in whole_kind t.nodes t.pending t.awaited kind is
+ended_kind_at (awaits.Relation f) s kind is = let t = completed s (tested (existence_of f))
     in whole_kind t.nodes t.pending t.awaited kind is
 ended_kind_at a s kind is = cc
 
@@ -162,13 +212,28 @@ after_vlan ts ns p reaches =
     let next = joins t.nodes t.pending
     in record { operator = next.0; fits = taken_fits ts s next.1 (tokens.Join next.0) reaches next.2 }
 
+after_field : (f : Subject) (ts : List Token) (ns : List Node) (p : List Pending)
+    → Reaches ts (record { nodes = ns; pending = p; awaited = awaits.Relation f }) → IsAfterOperand ts
+after_field f ts ns p reaches =
+    let s : ExpressionState = record { nodes = ns; pending = p; awaited = awaits.Relation f } in
+    let t = completed s (tested (existence_of f)) in
+    let next = joins t.nodes t.pending
+    in record { operator = next.0; fits = taken_fits ts s next.1 (tokens.Join next.0) reaches next.2 }
+
 after_lacks : (ts : List Token) (next : Option Token) → IsAfterOperand ts → (Fits ts (tokens.Number (Some 4095)) → ⊥)
-    → Lacks ts next (kind_after next)
-after_lacks ts None after none = rows.unclosed after
-after_lacks ts (Some (tokens.Join operator)) after none = rows.mixed operator after
-after_lacks ts (Some tokens.Close) after none = rows.unopened after
-after_lacks ts (Some (tokens.Number n)) after none = rows.no_number n after none
-after_lacks ts (Some t) after none = rows.operator t after none tt
+    → (Fits ts (tokens.Relation Equal) → ⊥) → Lacks ts next (kind_after next)
+after_lacks ts None after none plain = rows.unclosed after
+after_lacks ts (Some (tokens.Join operator)) after none plain = rows.mixed operator after
+after_lacks ts (Some tokens.Close) after none plain = rows.unopened after
+after_lacks ts (Some (tokens.Number n)) after none plain = rows.no_number n after none plain
+after_lacks ts (Some t) after none plain = rows.operator t after none plain tt
+
+field_lacks : (ts : List Token) (next : Option Token) → IsAfterOperand ts → Fits ts (tokens.Relation Equal)
+    → Lacks ts next (kind_after_field next)
+field_lacks ts None after fits = rows.unclosed after
+field_lacks ts (Some (tokens.Join operator)) after fits = rows.mixed operator after
+field_lacks ts (Some tokens.Close) after fits = rows.unopened after
+field_lacks ts (Some t) after fits = rows.relation_or_operator t after fits tt
 
 vlan_lacks : (ts : List Token) (next : Option Token) → IsAfterOperand ts → Fits ts (tokens.Number (Some 4095))
     → Lacks ts next (kind_after_vlan next)
@@ -196,6 +261,8 @@ lacks_at awaits.Operator ns p ts next reaches =
     after_lacks ts next (after_operator ts ns p reaches)
     (λ fits. let u = fits_taken ts (record { nodes = ns; pending = p; awaited = awaits.Operator })
     (tokens.Number (Some 4095)) reaches fits in let is = u.1 in cc)
+    (λ fits. let u = fits_taken ts (record { nodes = ns; pending = p; awaited = awaits.Operator })
+    (tokens.Relation Equal) reaches fits in let is = u.1 in cc)
 lacks_at awaits.VlanId ns p ts next reaches =
     let s : ExpressionState = record { nodes = ns; pending = p; awaited = awaits.VlanId } in
     vlan_lacks ts next (after_vlan ts ns p reaches)
@@ -212,6 +279,7 @@ lacks_at (awaits.Number of) ns p ts next reaches =
     (λ fits. let u = fits_taken ts s (tokens.Number (Some (most_of of + 1))) reaches fits
     in number_above of s u.0 (most_of of + 1) (omega arith) u.1)
     (λ after. let u = fits_taken ts s (tokens.Join after.operator) reaches after.fits in let is = u.1 in cc)
+    (λ f follows. value_at ts s f reaches follows)
 lacks_at awaits.EtherWord ns p ts next reaches =
     rows.ether_word next
     (taken_fits ts (record { nodes = ns; pending = p; awaited = awaits.EtherWord })
@@ -220,6 +288,34 @@ lacks_at (awaits.Address of) ns p ts next reaches =
     rows.address next
     (taken_fits ts (record { nodes = ns; pending = p; awaited = awaits.Address of }) _ (tokens.Address 0) reaches
     refl)
+    (λ f follows. value_at ts (record { nodes = ns; pending = p; awaited = awaits.Address of }) f reaches follows)
+lacks_at (awaits.Relation f) ns p ts next reaches =
+    let s : ExpressionState = record { nodes = ns; pending = p; awaited = awaits.Relation f } in
+    field_lacks ts next (after_field f ts ns p reaches)
+    (taken_fits ts s (record s { awaited = awaits.Value f all_bits Equal }) (tokens.Relation Equal) reaches refl)
+lacks_at (awaits.MaskedRelation f mask) ns p ts next reaches =
+    let s : ExpressionState = record { nodes = ns; pending = p; awaited = awaits.MaskedRelation f mask } in
+    rows.relation next
+    (taken_fits ts s (record s { awaited = awaits.Value f mask Equal }) (tokens.Relation Equal) reaches refl)
+    (λ after. let u = fits_taken ts s (tokens.Join after.operator) reaches after.fits in let is = u.1 in cc)
+lacks_at (awaits.Set f mask) ns p ts next reaches =
+    let s : ExpressionState = record { nodes = ns; pending = p; awaited = awaits.Set f mask } in
+    rows.set next (taken_fits ts s (record s { awaited = awaits.FirstMember f mask }) tokens.OpenSet reaches refl)
+lacks_at (awaits.SetEnd f mask) ns p ts next reaches =
+    let s : ExpressionState = record { nodes = ns; pending = p; awaited = awaits.SetEnd f mask } in
+    rows.set_end next (taken_fits ts s (record s { awaited = awaits.Member f mask }) tokens.Comma reaches refl)
+lacks_at (awaits.FirstMember f mask) ns p ts next reaches =
+    rows.value next f
+    (follows_value ts (record { nodes = ns; pending = p; awaited = awaits.FirstMember f mask }) f reaches refl)
+lacks_at (awaits.Member f mask) ns p ts next reaches =
+    rows.value next f
+    (follows_value ts (record { nodes = ns; pending = p; awaited = awaits.Member f mask }) f reaches refl)
+lacks_at (awaits.Mask f) ns p ts next reaches =
+    rows.value next f
+    (follows_value ts (record { nodes = ns; pending = p; awaited = awaits.Mask f }) f reaches refl)
+lacks_at (awaits.Value f mask r) ns p ts next reaches =
+    rows.value next f
+    (follows_value ts (record { nodes = ns; pending = p; awaited = awaits.Value f mask r }) f reaches refl)
 
 pub reached_lacks : (ts : List Token) (s : ExpressionState) (next : Option Token) → Reaches ts s
     → Lacks ts next (kind_at s.awaited next)
@@ -254,24 +350,37 @@ vlan_at a s (u, is) = absurd cc
 
 join_at : (a : Awaited) (s : ExpressionState) (operator : Operator) → Takes a s (tokens.Join operator)
     → (a ≡ awaits.Operator)
-    ⊎ (a ≡ awaits.VlanId)
+    ⊎ ((a ≡ awaits.VlanId) ⊎ ((f : Subject) × (a ≡ awaits.Relation f)))
 join_at awaits.Operator s operator (u, is) = inl refl
-join_at awaits.VlanId s operator (u, is) = inr refl
+join_at awaits.VlanId s operator (u, is) = inr (inl refl)
+join_at (awaits.Relation f) s operator (u, is) = inr (inr (f, refl))
 join_at awaits.Operand s operator (u, is) = absurd cc
 join_at a s operator (u, is) = absurd cc
 
+no_vlan : (of : ValuesTaken) → value_kind of ≡ kinds.ExpectedVlan → ⊥
+no_vlan (values.Number most) is = cc
+no_vlan (values.Bytes len) is = cc
+no_vlan values.AnyBytes is = cc
+
 vlan_row : (a : Awaited) (next : Option Token) → kind_of a ≡ kinds.ExpectedVlan → kinds.ExpectedVlan ≡ kind_at a next
 vlan_row (awaits.Vlan of) next is = refl
+vlan_row (awaits.FirstMember f mask) next is = absurd (no_vlan f.takes is)
+vlan_row (awaits.Member f mask) next is = absurd (no_vlan f.takes is)
+vlan_row (awaits.Mask f) next is = absurd (no_vlan f.takes is)
+vlan_row (awaits.Value f mask r) next is = absurd (no_vlan f.takes is)
 vlan_row a next is = absurd cc
 
 address_row : (a : Awaited) (s : ExpressionState) (next : Option Token) → Takes a s (tokens.Address 0)
-    → kinds.ExpectedAddress
-    ≡ kind_at a next
-address_row (awaits.Address of) s next (u, is) = refl
-address_row awaits.Operand s next (u, is) = absurd cc
-address_row awaits.Operator s next (u, is) = absurd cc
-address_row awaits.VlanId s next (u, is) = absurd cc
-address_row a s next (u, is) = absurd cc
+    → ((f : Subject) → AwaitsValue a f → ⊥) → kinds.ExpectedAddress ≡ kind_at a next
+address_row (awaits.Address of) s next (u, is) value = refl
+address_row (awaits.FirstMember f mask) s next (u, is) value = absurd (value f refl)
+address_row (awaits.Member f mask) s next (u, is) value = absurd (value f refl)
+address_row (awaits.Mask f) s next (u, is) value = absurd (value f refl)
+address_row (awaits.Value f mask r) s next (u, is) value = absurd (value f refl)
+address_row awaits.Operand s next (u, is) value = absurd cc
+address_row awaits.Operator s next (u, is) value = absurd cc
+address_row awaits.VlanId s next (u, is) value = absurd cc
+address_row a s next (u, is) value = absurd cc
 
 -- a number that is taken is no greater than the greatest one
 number_within : (of : Numbered) (s u : ExpressionState) (n : ℕ)
@@ -295,21 +404,28 @@ greatest of s most next at above = elim (cases_lt most (most_of of)) [
 number_row : (a : Awaited) (s : ExpressionState) (most : ℕ) (next : Option Token)
     → Takes a s (tokens.Number (Some most))
     → (Takes a s (tokens.Number (Some (most + 1))) → ⊥) → (a ≡ awaits.VlanId → ⊥)
-    → kinds.ExpectedNumber most ≡ kind_at a next
-number_row (awaits.Number of) s most next at above vlan = greatest of s most next at above
-number_row awaits.VlanId s most next at above vlan = absurd (vlan refl)
-number_row awaits.Operand s most next (u, is) above vlan = absurd cc
-number_row awaits.Operator s most next (u, is) above vlan = absurd cc
-number_row a s most next (u, is) above vlan = absurd cc
+    → ((f : Subject) → AwaitsValue a f → ⊥) → kinds.ExpectedNumber most ≡ kind_at a next
+number_row (awaits.Number of) s most next at above vlan value = greatest of s most next at above
+number_row awaits.VlanId s most next at above vlan value = absurd (vlan refl)
+number_row (awaits.FirstMember f mask) s most next at above vlan value = absurd (value f refl)
+number_row (awaits.Member f mask) s most next at above vlan value = absurd (value f refl)
+number_row (awaits.Mask f) s most next at above vlan value = absurd (value f refl)
+number_row (awaits.Value f mask r) s most next at above vlan value = absurd (value f refl)
+number_row awaits.Operand s most next (u, is) above vlan value = absurd cc
+number_row awaits.Operator s most next (u, is) above vlan value = absurd cc
+number_row a s most next (u, is) above vlan value = absurd cc
 
 -- after an operand, by whether a number fits
 after_row : (a : Awaited) (s : ExpressionState) (operator : Operator) (next : Option Token)
     → Takes a s (tokens.Join operator)
-    → (Takes a s (tokens.Number (Some 4095)) → ⊥) → kind_after next ≡ kind_at a next
-after_row awaits.Operator s operator next at none = refl
-after_row awaits.VlanId s operator next at none = absurd (none (completed s (primitives.VlanId 4095), refl))
-after_row awaits.Operand s operator next (u, is) none = absurd cc
-after_row a s operator next (u, is) none = absurd cc
+    → (Takes a s (tokens.Number (Some 4095)) → ⊥) → (Takes a s (tokens.Relation Equal) → ⊥)
+    → kind_after next ≡ kind_at a next
+after_row awaits.Operator s operator next at none plain = refl
+after_row awaits.VlanId s operator next at none plain = absurd (none (completed s (primitives.VlanId 4095), refl))
+after_row (awaits.Relation f) s operator next at none plain =
+    absurd (plain (record s { awaited = awaits.Value f all_bits Equal }, refl))
+after_row awaits.Operand s operator next (u, is) none plain = absurd cc
+after_row a s operator next (u, is) none plain = absurd cc
 
 id_row : (a : Awaited) (s : ExpressionState) (operator : Operator) (n : Option ℕ) → Takes a s (tokens.Join operator)
     → Takes a s (tokens.Number (Some 4095)) → kinds.ExpectedNumber 4095 ≡ kind_at a (Some (tokens.Number n))
@@ -319,11 +435,16 @@ id_row awaits.Operand s operator n (u, is) number = absurd cc
 id_row a s operator n (u, is) number = absurd cc
 
 -- after an operand, what is no number has one kind of error
-plain : (next : Option Token) → kind_after next ≡ kind_after_vlan next → (a : Awaited) → (a ≡ awaits.Operator)
-    ⊎ (a ≡ awaits.VlanId) → kind_after next ≡ kind_at a next
-plain next same a either = elim either [
+plain : (next : Option Token) → kind_after next ≡ kind_after_vlan next → kind_after next ≡ kind_after_field next
+    → (a : Awaited)
+    → (a ≡ awaits.Operator) ⊎ ((a ≡ awaits.VlanId) ⊎ ((f : Subject) × (a ≡ awaits.Relation f)))
+    → kind_after next ≡ kind_at a next
+plain next same also a either = elim either [
   | inl operator ↦ rw operator refl
-  | inr vlan ↦ rw vlan same
+  | inr other ↦ elim other [
+    | inl vlan ↦ rw vlan same
+    | inr field ↦ rw field.1 also
+  ]
 ]
 
 -- .. and what is no operator, another one, and another after `vlan`
@@ -334,6 +455,11 @@ other_kind tokens.Close other = absurd other
 other_kind (tokens.Number n) other = absurd other
 other_kind t other = (refl, refl)
 
+unrelated_kind : (t : Token) → IsUnrelated t → kinds.ExpectedRelationOrOperator ≡ kind_after_field (Some t)
+unrelated_kind (tokens.Join operator) other = absurd other
+unrelated_kind tokens.Close other = absurd other
+unrelated_kind t other = refl
+
 id_or_operator_row : (a : Awaited) (s : ExpressionState) (operator : Operator) (t : Token) → IsOther t
     → Takes a s (tokens.Join operator) → Takes a s (tokens.Number (Some 4095))
     → kinds.ExpectedVlanIdOrOperator ≡ kind_at a (Some t)
@@ -341,6 +467,49 @@ id_or_operator_row awaits.VlanId s operator t other at number = sym (other_kind 
 id_or_operator_row awaits.Operator s operator t other at (u, is) = absurd cc
 id_or_operator_row awaits.Operand s operator t other (u, is) number = absurd cc
 id_or_operator_row a s operator t other (u, is) number = absurd cc
+
+-- a relation after a field, and after a mask
+related_row : (a : Awaited) (s : ExpressionState) (operator : Operator) (t : Token) → IsUnrelated t
+    → Takes a s (tokens.Join operator) → Takes a s (tokens.Relation Equal)
+    → kinds.ExpectedRelationOrOperator ≡ kind_at a (Some t)
+related_row (awaits.Relation f) s operator t other at relation = unrelated_kind t other
+related_row awaits.Operator s operator t other at (u, is) = absurd cc
+related_row awaits.VlanId s operator t other at (u, is) = absurd cc
+related_row awaits.Operand s operator t other (u, is) relation = absurd cc
+related_row a s operator t other (u, is) relation = absurd cc
+
+relation_row : (a : Awaited) (s : ExpressionState) (next : Option Token) → Takes a s (tokens.Relation Equal)
+    → ((f : Subject) → a ≡ awaits.Relation f → ⊥) → kinds.ExpectedRelation ≡ kind_at a next
+relation_row (awaits.MaskedRelation f mask) s next at after = refl
+relation_row (awaits.Relation f) s next at after = absurd (after f refl)
+relation_row awaits.Operator s next (u, is) after = absurd cc
+relation_row awaits.VlanId s next (u, is) after = absurd cc
+relation_row awaits.Operand s next (u, is) after = absurd cc
+relation_row a s next (u, is) after = absurd cc
+
+value_row : (a : Awaited) (f : Subject) (next : Option Token) → AwaitsValue a f
+    → value_kind f.takes ≡ kind_at a next
+value_row (awaits.Mask g) f next same = ap (λ (h : Subject). value_kind h.takes) (sym same)
+value_row (awaits.Value g mask r) f next same = ap (λ (h : Subject). value_kind h.takes) (sym same)
+value_row (awaits.FirstMember g mask) f next same = ap (λ (h : Subject). value_kind h.takes) (sym same)
+value_row (awaits.Member g mask) f next same = ap (λ (h : Subject). value_kind h.takes) (sym same)
+value_row a f next same = absurd same
+
+set_row : (a : Awaited) (s : ExpressionState) (next : Option Token) → Takes a s tokens.OpenSet
+    → kinds.ExpectedSet ≡ kind_at a next
+set_row (awaits.Set f mask) s next at = refl
+set_row awaits.Operator s next (u, is) = absurd cc
+set_row awaits.VlanId s next (u, is) = absurd cc
+set_row awaits.Operand s next (u, is) = absurd cc
+set_row a s next (u, is) = absurd cc
+
+set_end_row : (a : Awaited) (s : ExpressionState) (next : Option Token) → Takes a s tokens.Comma
+    → kinds.ExpectedSetEnd ≡ kind_at a next
+set_end_row (awaits.SetEnd f mask) s next at = refl
+set_end_row awaits.Operator s next (u, is) = absurd cc
+set_end_row awaits.VlanId s next (u, is) = absurd cc
+set_end_row awaits.Operand s next (u, is) = absurd cc
+set_end_row a s next (u, is) = absurd cc
 
 -- the tokens that fit are taken
 takes : (ts : List Token) (s : ExpressionState) (t : Token) → Reaches ts s → Fits ts t → Takes s.awaited s t
@@ -350,12 +519,17 @@ untaken : (ts : List Token) (s : ExpressionState) (t : Token) → Reaches ts s �
 untaken ts s t reaches none (u, is) = none (taken_fits ts s u t reaches is)
 
 after_at : (ts : List Token) (s : ExpressionState) → Reaches ts s → IsAfterOperand ts → (s.awaited ≡ awaits.Operator)
-    ⊎ (s.awaited ≡ awaits.VlanId)
+    ⊎ ((s.awaited ≡ awaits.VlanId) ⊎ ((f : Subject) × (s.awaited ≡ awaits.Relation f)))
 after_at ts s reaches after = join_at s.awaited s after.operator
     (takes ts s (tokens.Join after.operator) reaches after.fits)
 
 id_is_after : (ts : List Token) (s : ExpressionState) → Reaches ts s → s.awaited ≡ awaits.VlanId → IsAfterOperand ts
 id_is_after ts s reaches is = after_vlan ts s.nodes s.pending
+    (subst (λ (a : Awaited). Reaches ts (record { nodes = s.nodes; pending = s.pending; awaited = a })) is reaches)
+
+field_is_after : (ts : List Token) (s : ExpressionState) (f : Subject) → Reaches ts s → s.awaited ≡ awaits.Relation f
+    → IsAfterOperand ts
+field_is_after ts s f reaches is = after_field f ts s.nodes s.pending
     (subst (λ (a : Awaited). Reaches ts (record { nodes = s.nodes; pending = s.pending; awaited = a })) is reaches)
 
 pub row_kind : (ts : List Token) (s : ExpressionState) (next : Option Token) (kind : FilterErrorKind) → Reaches ts s
@@ -371,28 +545,40 @@ row_kind ts s next kind reaches (rows.vlan n fits none) = elim
     ]
 row_kind ts s next kind reaches (rows.ether_word n fits) = let at = proto_at s.awaited s
     (takes ts s tokens.Proto reaches fits) in rw at refl
-row_kind ts s next kind reaches (rows.address n fits) = address_row s.awaited s next
-    (takes ts s (tokens.Address 0) reaches fits)
-row_kind ts s next kind reaches (rows.number n most fits none after) =
+row_kind ts s next kind reaches (rows.address n fits value) = address_row s.awaited s next
+    (takes ts s (tokens.Address 0) reaches fits) (λ f at. value f (follows_value ts s f reaches at))
+row_kind ts s next kind reaches (rows.number n most fits none after value) =
     number_row s.awaited s most next (takes ts s (tokens.Number (Some most)) reaches fits)
     (untaken ts s (tokens.Number (Some (most + 1))) reaches none) (λ is. after (id_is_after ts s reaches is))
+    (λ f at. value f (follows_value ts s f reaches at))
+row_kind ts s next kind reaches (rows.value n f follows) = value_row s.awaited f next (value_at ts s f reaches follows)
+row_kind ts s next kind reaches (rows.set n fits) = set_row s.awaited s next (takes ts s tokens.OpenSet reaches fits)
+row_kind ts s next kind reaches (rows.set_end n fits) =
+    set_end_row s.awaited s next (takes ts s tokens.Comma reaches fits)
+row_kind ts s next kind reaches (rows.relation n fits after) =
+    relation_row s.awaited s next (takes ts s (tokens.Relation Equal) reaches fits)
+    (λ f is. after (field_is_after ts s f reaches is))
+row_kind ts s next kind reaches (rows.relation_or_operator t after fits other) =
+    related_row s.awaited s after.operator t other
+    (takes ts s (tokens.Join after.operator) reaches after.fits)
+    (takes ts s (tokens.Relation Equal) reaches fits)
 row_kind ts s next kind reaches (rows.vlan_id n after fits) =
     id_row s.awaited s after.operator n (takes ts s (tokens.Join after.operator) reaches after.fits)
     (takes ts s (tokens.Number (Some 4095)) reaches fits)
-row_kind ts s next kind reaches (rows.no_number n after none) =
+row_kind ts s next kind reaches (rows.no_number n after none free) =
     after_row s.awaited s after.operator (Some (tokens.Number n))
     (takes ts s (tokens.Join after.operator) reaches after.fits)
-    (untaken ts s (tokens.Number (Some 4095)) reaches none)
-row_kind ts s next kind reaches (rows.operator t after none other) =
+    (untaken ts s (tokens.Number (Some 4095)) reaches none) (untaken ts s (tokens.Relation Equal) reaches free)
+row_kind ts s next kind reaches (rows.operator t after none free other) =
     sym (other_kind t other).0
     ∙ after_row s.awaited s after.operator (Some t) (takes ts s (tokens.Join after.operator) reaches after.fits)
-    (untaken ts s (tokens.Number (Some 4095)) reaches none)
+    (untaken ts s (tokens.Number (Some 4095)) reaches none) (untaken ts s (tokens.Relation Equal) reaches free)
 row_kind ts s next kind reaches (rows.id_or_operator t after fits other) =
     id_or_operator_row s.awaited s after.operator t other
     (takes ts s (tokens.Join after.operator) reaches after.fits)
     (takes ts s (tokens.Number (Some 4095)) reaches fits)
-row_kind ts s next kind reaches (rows.mixed operator after) = plain (Some (tokens.Join operator)) refl s.awaited
+row_kind ts s next kind reaches (rows.mixed operator after) = plain (Some (tokens.Join operator)) refl refl s.awaited
     (after_at ts s reaches after)
-row_kind ts s next kind reaches (rows.unopened after) = plain (Some tokens.Close) refl s.awaited
+row_kind ts s next kind reaches (rows.unopened after) = plain (Some tokens.Close) refl refl s.awaited
     (after_at ts s reaches after)
-row_kind ts s next kind reaches (rows.unclosed after) = plain None refl s.awaited (after_at ts s reaches after)
+row_kind ts s next kind reaches (rows.unclosed after) = plain None refl refl s.awaited (after_at ts s reaches after)

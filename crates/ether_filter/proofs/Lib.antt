@@ -8,6 +8,7 @@ pub mod Truth
 pub mod PastTags
 pub mod PassedTags
 pub mod ProgramLemmas
+pub mod Numbered
 pub mod Evaluated
 pub mod Kleene
 pub mod Longer
@@ -18,9 +19,14 @@ pub mod Opened
 pub mod WordsLemmas
 pub mod NumeralLemmas
 pub mod ReadingLemmas
+pub mod BegunWords
 pub mod Sound
 pub mod Room
 pub mod TextLemmas
 pub mod Fitting
+pub mod ValuesAwaited
 pub mod Lacking
 pub mod Refused
+pub mod FieldLooking
+pub mod SubjectLemmas
+pub mod ByteLemmas

@@ -1,7 +1,10 @@
 -- What primitives say of a list of headers that goes on.
 use Rattle.std.proofs.Common.{◌≡◌, ℕ, List, [], ◌∷◌, ◌++◌, append_assoc, refl, sym, ap, subst, ◌∙◌, ◌-◌, ◌^◌, Bool, true, false, cond, ◌||◌, nat_eq, IsTrue, ◌↔◌}
-use Rattle.std.specs.Prelude.{Some, None, ◌==◌, if◌then◌else◌}
+use Rattle.std.specs.Prelude.{Option, Some, None, not, nat_le, is_some, unwrap_or, ◌==◌, ◌&&◌, if◌then◌else◌}
 use Rattle.std.specs.List.{list_any}
+use Rattle.std.proofs.Common.{◌≤◌, arith}
+use Rattle.std.proofs.lemmas.Bool.{ne_eqb, leb-true}
+use Rattle.ether_filter.specs.declared.field_test.FieldTest.{FieldTest}
 use Rattle.std.proofs.Math.Bool.{or-false}
 use Rattle.std.proofs.lemmas.List.{append-nil}
 use Rattle.std.proofs.lemmas.List.Folds.{list_any-append}
@@ -23,7 +26,10 @@ use Rattle.ether_filter.specs.declared.packet.Packet.{Packet}
 use Rattle.ether_filter.specs.declared.primitive.Primitive.{Primitive}
 use Rattle.ether_filter.specs.declared.primitive.Primitive.TheVariants as primitives
 use Rattle.ether_filter.specs.Primitives.{is_tag, is_sec_tag, is_from, is_to, is_to_group, vlan_ids, ether_type_of, listed, ether_types, walked, Matches}
-use Rattle.ether_filter.specs.Deciding.{is_refused, is_of_link, IsTold}
+use Rattle.ether_filter.specs.Deciding.{is_refused, is_of_link, is_of_field, asks_any, IsTold}
+use Rattle.ether_filter.specs.FieldTests.{hit, has_value, has_hit, answer}
+use Rattle.ether_filter.specs.declared.field_test.Relation.{Relation}
+use Rattle.ether_filter.specs.declared.field_test.Relation.TheVariants as relations
 use Rattle.ether_filter.proofs.Truth.{same_truth}
 
 -- ---- tests of headers
@@ -95,6 +101,17 @@ any_told : {X : Type 0} (test : X → Bool) (xs ys : List X) → IsTrue (list_an
     → IsTrue (list_any test xs) ↔ IsTrue (list_any test (xs ++ ys))
 any_told test xs ys t = (λ u. any_front test xs ys u, λ u. t)
 
+both_true : (a b : Bool) → IsTrue (a && b) → IsTrue a × IsTrue b
+both_true true b t = (refl, t)
+both_true false b t = absurd cc
+
+-- an answer that asks for any value remains
+answer_told : (r : Relation) (a b c d : Bool) → IsTrue (asks_any r && answer r a b) → (IsTrue a → IsTrue c)
+    → (IsTrue b → IsTrue d) → IsTrue (answer r a b) ↔ IsTrue (answer r c d)
+answer_told relations.NotEqual a b c d t some any = absurd cc
+answer_told relations.Exists a b c d t some any = let u = both_true true a t in (λ m. some m, λ m. u.1)
+answer_told r a b c d t some any = let u = both_true true b t in (λ m. any m, λ m. u.1)
+
 pub told_same : (p : Primitive) (packet : Packet) (hs rest : List Header) (e f : Ending)
     → IsTold p (walked packet hs e) → Matches p (walked packet hs e) ↔ Matches p (walked packet (hs ++ rest) f)
 told_same primitives.Vlan packet hs rest e f t = any_told is_tag hs rest t
@@ -117,6 +134,10 @@ told_same primitives.Refused packet hs rest e f t = absurd t
 told_same primitives.Cut packet hs rest e f t = (λ m. m, λ m. m)
 told_same (primitives.Less n) packet hs rest e f t = (λ m. m, λ m. m)
 told_same (primitives.Greater n) packet hs rest e f t = (λ m. m, λ m. m)
+told_same (primitives.Field t) packet hs rest e f told =
+    answer_told t.relation (has_value t hs) (has_hit t hs) (has_value t (hs ++ rest)) (has_hit t (hs ++ rest)) told
+    (λ any. any_front (λ h. is_some (hit t h)) hs rest any)
+    (λ any. any_front (λ h. unwrap_or (hit t h) false) hs rest any)
 
 -- ---- headers that tell nothing
 
@@ -150,6 +171,54 @@ group_is_link (headers.Ethernet2 v) never = absurd cc
 group_is_link (headers.Ethernet2Fcs v) never = absurd cc
 group_is_link h never = refl
 
+-- fields of Ethernet II are in no other header
+no_link_hit : (t : FieldTest) (h : Header) → t.field ≤ 3 → is_link h ≡ false → hit t h ≡ None
+no_link_hit t (headers.Ethernet2 v) le never = absurd cc
+no_link_hit t (headers.Ethernet2Fcs v) le never = absurd cc
+no_link_hit t (headers.LinuxSll s) le never =
+    rw (
+      ne_eqb t.field 4 (omega (arith, le)),
+      ne_eqb t.field 5 (omega (arith, le)),
+      ne_eqb t.field 6 (omega (arith, le)),
+      ne_eqb t.field 7 (omega (arith, le)),
+      ne_eqb t.field 8 (omega (arith, le)),
+    ) refl
+no_link_hit t (headers.Vlan v) le never =
+    rw (
+      ne_eqb t.field 9 (omega (arith, le)),
+      ne_eqb t.field 10 (omega (arith, le)),
+      ne_eqb t.field 11 (omega (arith, le)),
+      ne_eqb t.field 12 (omega (arith, le)),
+    ) refl
+no_link_hit t (headers.Macsec v) le never =
+    rw (
+      ne_eqb t.field 14 (omega (arith, le)),
+      ne_eqb t.field 16 (omega (arith, le)),
+      ne_eqb t.field 17 (omega (arith, le)),
+      ne_eqb t.field 18 (omega (arith, le)),
+      ne_eqb t.field 19 (omega (arith, le)),
+      ne_eqb t.field 21 (omega (arith, le)),
+      ne_eqb t.field 22 (omega (arith, le)),
+      ne_eqb t.field 23 (omega (arith, le)),
+      ne_eqb t.field 24 (omega (arith, le)),
+    ) refl
+no_link_hit t (headers.Arp v) le never =
+    rw (
+      ne_eqb t.field 25 (omega (arith, le)),
+      ne_eqb t.field 26 (omega (arith, le)),
+      ne_eqb t.field 27 (omega (arith, le)),
+      ne_eqb t.field 28 (omega (arith, le)),
+      ne_eqb t.field 29 (omega (arith, le)),
+      ne_eqb t.field 30 (omega (arith, le)),
+      ne_eqb t.field 31 (omega (arith, le)),
+      ne_eqb t.field 32 (omega (arith, le)),
+      ne_eqb t.field 33 (omega (arith, le)),
+    ) refl
+
+not_not : (b : Bool) → (false || (true && not b)) ≡ false → b ≡ true
+not_not true is = refl
+not_not false is = absurd cc
+
 pub link_same : (p : Primitive) (packet : Packet) (hs rest : List Header) (e f : Ending) → is_of_link p ≡ true
     → list_any is_link rest ≡ false → Matches p (walked packet hs e) ↔ Matches p (walked packet (hs ++ rest) f)
 link_same (primitives.Source a) packet hs rest e f is none =
@@ -165,6 +234,14 @@ link_same primitives.Broadcast packet hs rest e f is none =
     (none_by (is_to (2 ^ 48 - 1)) (to_is_link (2 ^ 48 - 1)) rest none))
 link_same primitives.Multicast packet hs rest e f is none =
     same_truth (any_same is_to_group hs rest (none_by is_to_group group_is_link rest none))
+link_same (primitives.Field t) packet hs rest e f is none =
+    let le : t.field ≤ 3 = leb-true t.field 3 is in
+    let some = any_same (λ h. is_some (hit t h)) hs rest
+    (none_by (λ h. is_some (hit t h)) (λ h never. ap is_some (no_link_hit t h le never)) rest none) in
+    let any = any_same (λ h. unwrap_or (hit t h) false) hs rest
+    (none_by (λ h. unwrap_or (hit t h) false)
+    (λ h never. ap (λ (o : Option Bool). unwrap_or o false) (no_link_hit t h le never)) rest none) in
+    same_truth (λ i. answer t.relation (some i) (any i))
 link_same p packet hs rest e f is none = absurd cc
 
 -- headers without tags, links and ether types
@@ -183,7 +260,8 @@ same_types next hs rest q =
     sym (types_append next hs rest ∙ ap (λ (l : List ℕ). ether_types next hs ++ l) q.types
     ∙ append-nil (ether_types next hs))
 
-pub quiet_same : (p : Primitive) (packet : Packet) (hs rest : List Header) (e f : Ending) → is_refused p ≡ false
+pub quiet_same : (p : Primitive) (packet : Packet) (hs rest : List Header) (e f : Ending)
+    → (is_refused p || (is_of_field p && not (is_of_link p))) ≡ false
     → IsQuiet rest → Matches p (walked packet hs e) ↔ Matches p (walked packet (hs ++ rest) f)
 quiet_same primitives.Vlan packet hs rest e f is q = same_truth (any_same is_tag hs rest q.tags)
 quiet_same (primitives.VlanId id) packet hs rest e f is q =
@@ -209,6 +287,8 @@ quiet_same primitives.Refused packet hs rest e f is q = absurd cc
 quiet_same primitives.Cut packet hs rest e f is q = (λ m. m, λ m. m)
 quiet_same (primitives.Less n) packet hs rest e f is q = (λ m. m, λ m. m)
 quiet_same (primitives.Greater n) packet hs rest e f is q = (λ m. m, λ m. m)
+quiet_same (primitives.Field t) packet hs rest e f is q =
+    link_same (primitives.Field t) packet hs rest e f (not_not (nat_le t.field 3) is) q.links
 
 -- ---- what a stack has no headers of
 

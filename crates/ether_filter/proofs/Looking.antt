@@ -69,21 +69,22 @@ shown : (start : PeelStart) (w : Walked) (s : Seen) (ids : List ℕ) (last : Opt
     → (s.has_more ≡ true → 64 ≤ length ids) → w.start ≡ next_of start → Keeps start w.headers s ids
     → last ≡ ether_type_of (next_at (next_of start) w.headers) → refused ≡ is_some (refusal_of w.ending)
     → Shows w (record s { last = last; is_refused = refused }) ids
-shown start w s ids last refused room at k is end primitives.Vlan asks = ap is_some k.outer ∙ tagged w.headers
-shown start w s ids last refused room at k is end (primitives.VlanId n) asks =
+shown start w s ids last refused room at k is end primitives.Vlan asks free = ap is_some k.outer ∙ tagged w.headers
+shown start w s ids last refused room at k is end (primitives.VlanId n) asks free =
     (λ i. has_vlan_id n (k.more i) (k.outer i) (k.inner i) ids)
     ∙ vlan_id_is n (vlan_ids w.headers) ids (λ three. k.marks (room (k.more ∙ three)) n)
-shown start w s ids last refused room at k is end (primitives.OuterVlan n) asks = ap (is_some_number n) k.outer
-shown start w s ids last refused room at k is end (primitives.InnerVlan n) asks = ap (is_some_number n) k.inner
-shown start w s ids last refused room at k is end primitives.Macsec asks = k.sec_tag
-shown start w s ids last refused room at k is end (primitives.EtherType n) asks =
+shown start w s ids last refused room at k is end (primitives.OuterVlan n) asks free = ap (is_some_number n) k.outer
+shown start w s ids last refused room at k is end (primitives.InnerVlan n) asks free = ap (is_some_number n) k.inner
+shown start w s ids last refused room at k is end primitives.Macsec asks free = k.sec_tag
+shown start w s ids last refused room at k is end (primitives.EtherType n) asks free =
     types_shown n (next_of start) w.headers last (was_announced n s) is (k.types n)
     ∙ ap (λ (next : Next). list_any (nat_eq n) (ether_types next w.headers)) (sym at)
-shown start w s ids last refused room at k is end primitives.Refused asks = end
-shown start w s ids last refused room at k is end primitives.Cut asks = absurd cc
-shown start w s ids last refused room at k is end (primitives.Less n) asks = absurd cc
-shown start w s ids last refused room at k is end (primitives.Greater n) asks = absurd cc
-shown start w s ids last refused room at k is end p asks = k.link p refl
+shown start w s ids last refused room at k is end primitives.Refused asks free = end
+shown start w s ids last refused room at k is end primitives.Cut asks free = absurd cc
+shown start w s ids last refused room at k is end (primitives.Less n) asks free = absurd cc
+shown start w s ids last refused room at k is end (primitives.Greater n) asks free = absurd cc
+shown start w s ids last refused room at k is end (primitives.Field t) asks free = absurd cc
+shown start w s ids last refused room at k is end p asks free = k.link p refl
 
 -- ---- the walk
 

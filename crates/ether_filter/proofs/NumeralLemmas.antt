@@ -5,13 +5,13 @@ use Rattle.std.proofs.Math.Bool.{and-false}
 use Rattle.std.specs.List.{list_all}
 use Rattle.std.specs.Char.{digit_value}
 use Rattle.std.specs.Str.Parse.{digits_value, AllDigits}
-use Rattle.std.proofs.Math.Nat.{mul-le-mul_left}
+use Rattle.std.proofs.Math.Nat.{mul-le-mul_left, pow-le-pow_right}
 use Rattle.std.proofs.lemmas.Bool.{cases_lt, lt-ltb, le-ltb, ltb-true, eq-eqb}
 use Rattle.std.proofs.lemmas.Int.Digits.{digits_value_more}
 use Rattle.std.proofs.lemmas.List.Folds.{list_all_more, list_all_at}
 use Rattle.std.proofs.lemmas.List.{take_all}
 use Rattle.std.proofs.lemmas.Int.Digits.{digits_value-lt}
-use Rattle.ether_filter.specs.Numerals.{digits_in, pairs_in, address_in, IsCapped, within_32_bits}
+use Rattle.ether_filter.specs.Numerals.{digits_in, pairs_in, address_in, IsCapped, IsCappedNumber, narrowed, whole_number_in, within_32_bits, within_64_bits}
 
 abbrev pub is_digit : ℕ → ℕ → Bool
 is_digit radix c = nat_lt (digit_value c) radix
@@ -19,21 +19,21 @@ is_digit radix c = nat_lt (digit_value c) radix
 -- the first digits are digits, and their number was read
 pub record Reads (radix : ℕ) (ds : List ℕ) (i number : ℕ) : Type 0 where
   pub digits : list_all (is_digit radix) (take i ds) ≡ true
-  pub value : number ≡ min (digits_value radix (take i ds)) (2 ^ 48)
+  pub value : number ≡ min (digits_value radix (take i ds)) (2 ^ 64)
 
-capped_more : (n radix digit : ℕ) → 1 ≤ radix → min (min n (2 ^ 48) * radix + digit) (2 ^ 48)
-    ≡ min (n * radix + digit) (2 ^ 48)
-capped_more n radix digit le = elim (cases_lt n (2 ^ 48)) [
-  | inl small ↦ (let same : min n (2 ^ 48) ≡ n = omega arith in rw same refl)
-  | inr great ↦ (let same : min n (2 ^ 48) ≡ 2 ^ 48 = omega arith in
-      let cap : 2 ^ 48 * 1 ≤ 2 ^ 48 * radix = mul-le-mul_left (2 ^ 48) le in
+capped_more : (n radix digit : ℕ) → 1 ≤ radix → min (min n (2 ^ 64) * radix + digit) (2 ^ 64)
+    ≡ min (n * radix + digit) (2 ^ 64)
+capped_more n radix digit le = elim (cases_lt n (2 ^ 64)) [
+  | inl small ↦ (let same : min n (2 ^ 64) ≡ n = omega arith in rw same refl)
+  | inr great ↦ (let same : min n (2 ^ 64) ≡ 2 ^ 64 = omega arith in
+      let cap : 2 ^ 64 * 1 ≤ 2 ^ 64 * radix = mul-le-mul_left (2 ^ 64) le in
       let all : n * 1 ≤ n * radix = mul-le-mul_left n le in
       rw same (omega arith))
 ]
 
 pub reads_more : (radix : ℕ) (ds : List ℕ) (i value digit next : ℕ) → 2 ≤ radix → i < length ds → Reads radix ds i value
     → digit_value (slice_index ds i) < radix → digit ≡ digit_value (slice_index ds i) → next
-    ≡ min (value * radix + digit) (2 ^ 48) → Reads radix ds (i + 1) next
+    ≡ min (value * radix + digit) (2 ^ 64) → Reads radix ds (i + 1) next
 reads_more radix ds i value digit next two lt r below is more = record {
   digits = list_all_more (is_digit radix) ds i 0 lt ∙ rw (r.digits, lt-ltb _ _ below) refl;
   value = more
@@ -46,7 +46,7 @@ pub reads_all : (radix : ℕ) (ds : List ℕ) (i number : ℕ) → 0 < length ds
 reads_all radix ds i number some le r =
     let all : take i ds ≡ ds = take_all i ds le in
     let digits : list_all (is_digit radix) ds ≡ true = rw all at r.digits in
-    let value : number ≡ min (digits_value radix ds) (2 ^ 48) = rw all at r.value in
+    let value : number ≡ min (digits_value radix ds) (2 ^ 64) = rw all at r.value in
     record { number = digits_value radix ds; is = rw (lt-ltb 0 (length ds) some, digits) refl; capped = value }
 
 -- something that is no digit
@@ -70,18 +70,24 @@ all_digits radix [] all = tt
 all_digits radix (c ∷ cs) all = let p = both (is_digit radix c) (list_all (is_digit radix) cs) all
     in (ltb-true _ _ p.0, all_digits radix cs p.1)
 
--- twelve hexadecimal digits have 48 bits at most
-pub address_read : (ds : List ℕ) (result : Option ℕ) → length ds ≡ 12
-    → MatchOption result (digits_in 16 ds ≡ None) (IsCapped 16 ds) → result ≡ digits_in 16 ds
+nonempty : (ds : List ℕ) (n : ℕ) → digits_in 16 ds ≡ Some n → 0 < length ds
+nonempty [] n is = absurd cc
+nonempty (d ∷ ds) n is = omega arith
+
+-- sixteen hexadecimal digits have 64 bits at most
+pub address_read : (ds : List ℕ) (result : Option ℕ) → length ds ≤ 16
+    → MatchOption result (digits_in 16 ds ≡ None) (IsCapped 16 ds) → narrowed result ≡ digits_in 16 ds
 address_read ds None len none = sym none
 address_read ds (Some v) len capped = elim (decided (list_all (is_digit 16) ds)) [
   | inl all ↦ (let lt = digits_value-lt 16 ds (all_digits 16 ds all) in
-      let found : digits_in 16 ds ≡ Some (digits_value 16 ds) = rw (len, all) refl in
+      let some = nonempty ds capped.number capped.is in
+      let found : digits_in 16 ds ≡ Some (digits_value 16 ds) = rw (lt-ltb 0 (length ds) some, all) refl in
       let is : Some capped.number ≡ Some (digits_value 16 ds) = sym capped.is ∙ found in
       let same : capped.number ≡ digits_value 16 ds = cc in
-      let bound : digits_value 16 ds < 2 ^ 48 = rw len at lt in
-      let value : v ≡ digits_value 16 ds = omega (arith, capped.capped) in
-      rw value (sym found))
+      let most : 16 ^ length ds ≤ 2 ^ 64 = pow-le-pow_right (omega arith) len in
+      let bound : digits_value 16 ds < 2 ^ 64 = omega (arith, lt, most) in
+      let value : v ≡ digits_value 16 ds = omega (arith, capped.capped, same, bound) in
+      rw (value, lt-ltb (digits_value 16 ds) (2 ^ 64) bound) (sym found))
   | inr not_all ↦ (let none : digits_in 16 ds ≡ None = rw (not_all, and-false (nat_lt 0 (length ds))) refl in
       let is : Some capped.number ≡ None = sym capped.is ∙ none in absurd cc)
 ]
@@ -91,11 +97,20 @@ address_of_twelve word len =
     ap (λ (b : Bool). if b then digits_in 16 word else pairs_in word) (eq-eqb (length word) 12 len)
 
 -- a number below the cap was read as it is
-pub capped_within : (radix : ℕ) (ds : List ℕ) (v : ℕ) → IsCapped radix ds v
-    → option_map within_32_bits (digits_in radix ds) ≡ Some (within_32_bits v)
-capped_within radix ds v capped = elim (cases_lt capped.number (2 ^ 32)) [
+pub capped_within : (word : List ℕ) (v : ℕ) → IsCappedNumber word v
+    → option_map within_32_bits (whole_number_in word) ≡ Some (within_32_bits v)
+capped_within word v capped = elim (cases_lt capped.number (2 ^ 32)) [
   | inl small ↦ (let same : v ≡ capped.number = omega (arith, capped.capped) in rw (capped.is, same) refl)
   | inr great ↦
       (let above : 2 ^ 32 ≤ v = omega (arith, capped.capped)
       in rw (capped.is, le-ltb capped.number (2 ^ 32) great, le-ltb v (2 ^ 32) above) refl)
+]
+
+pub capped_wide : (word : List ℕ) (v : ℕ) → IsCappedNumber word v
+    → option_map within_64_bits (whole_number_in word) ≡ Some (within_64_bits v)
+capped_wide word v capped = elim (cases_lt capped.number (2 ^ 64)) [
+  | inl small ↦ (let same : v ≡ capped.number = omega (arith, capped.capped) in rw (capped.is, same) refl)
+  | inr great ↦
+      (let above : 2 ^ 64 ≤ v = omega (arith, capped.capped)
+      in rw (capped.is, le-ltb capped.number (2 ^ 64) great, le-ltb v (2 ^ 64) above) refl)
 ]

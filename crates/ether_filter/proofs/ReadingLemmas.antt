@@ -1,6 +1,6 @@
 -- What is read word after word is what the grammar says.
 use Rattle.std.proofs.Common.{◌≡◌, ℕ, ◌≤◌, List, [], ◌∷◌, ◌++◌, refl, sym, ap, subst, ◌∙◌, false, nat_lt, arith}
-use Rattle.std.specs.Prelude.{Result, Ok, Err}
+use Rattle.std.specs.Prelude.{Result, Ok, Err, Some}
 use Rattle.std.proofs.lemmas.Bool.{le-ltb}
 use Rattle.std.proofs.lemmas.List.{append_assoc, append-nil}
 use Rattle.ether_filter.specs.declared.node.Operator.{Operator}
@@ -17,19 +17,30 @@ use Rattle.ether_filter.specs.declared.awaited.Awaited.{Awaited}
 use Rattle.ether_filter.specs.declared.awaited.Awaited.TheVariants as awaits
 use Rattle.ether_filter.specs.declared.reading.Pending.{Pending}
 use Rattle.ether_filter.specs.declared.reading.Pending.TheVariants as pendings
+use Rattle.ether_filter.specs.declared.field_test.Relation.{Relation}
+use Rattle.ether_filter.specs.declared.subject.Literal.{Literal}
+use Rattle.ether_filter.specs.declared.subject.Subject.{Subject}
+use Rattle.ether_filter.specs.Subjects.{existence_of, test_with, tested}
 use Rattle.ether_filter.specs.Expressions.{Expression, Join}
 use Rattle.ether_filter.specs.Postfix.{postfix}
-use Rattle.ether_filter.specs.Grammar.{NamesPrimitive, Shape, Operand, Chain, Leads, operand, chain, Means, IsExpression}
+use Rattle.ether_filter.specs.Grammar.{NamesBits, NamesSet, NamesPrimitive, Shape, Operand, Chain, Leads, operand, chain, Means, IsExpression}
 use Rattle.ether_filter.specs.Grammar as grammar
-use Rattle.ether_filter.specs.Steps.{next_step, most_of}
+use Rattle.ether_filter.specs.Steps.{next_step, most_of, value_for, member}
 use Rattle.ether_filter.specs.ExpressionReading.{ExpressionState, Outcome, begun, closed, differ, operator_taken, stepped, taken_where, taken, whole, ended}
 
 pub other_taken : (x : Awaited) (s : ExpressionState) (t : Token) → (x ≡ awaits.Operand → ⊥) → (x ≡ awaits.Operator → ⊥)
-    → (x ≡ awaits.VlanId → ⊥) → taken_where x s t ≡ stepped s (next_step x t)
-other_taken awaits.Operand s t a b c = absurd (a refl)
-other_taken awaits.Operator s t a b c = absurd (b refl)
-other_taken awaits.VlanId s t a b c = absurd (c refl)
-other_taken x s t a b c = refl
+    → (x ≡ awaits.VlanId → ⊥) → ((f : Subject) → x ≡ awaits.Relation f → ⊥)
+    → ((f : Subject) (m : ℕ) → x ≡ awaits.FirstMember f m → ⊥) → ((f : Subject) (m : ℕ) → x ≡ awaits.Member f m → ⊥)
+    → ((f : Subject) (m : ℕ) → x ≡ awaits.SetEnd f m → ⊥)
+    → taken_where x s t ≡ stepped s (next_step x t)
+other_taken awaits.Operand s t a b c d e g h = absurd (a refl)
+other_taken awaits.Operator s t a b c d e g h = absurd (b refl)
+other_taken awaits.VlanId s t a b c d e g h = absurd (c refl)
+other_taken (awaits.Relation f) s t a b c d e g h = absurd (d f refl)
+other_taken (awaits.FirstMember f m) s t a b c d e g h = absurd (e f m refl)
+other_taken (awaits.Member f m) s t a b c d e g h = absurd (g f m refl)
+other_taken (awaits.SetEnd f m) s t a b c d e g h = absurd (h f m refl)
+other_taken x s t a b c d e g h = refl
 
 -- ---- from a state on
 
@@ -96,6 +107,48 @@ vlan_ends ns p (tokens.Join operator ∷ ts) e = ap (λ (o : Outcome). going o (
     (sym (closed_taken (ns ++ nodes.Test primitives.Vlan ∷ []) p (tokens.Join operator)))
 vlan_ends ns p (t ∷ ts) e = absurd e
 
+field_ends : (f : Subject) (ns : List Node) (p : List Pending) (rest : List Token) → Ends rest
+    → all_from (record { nodes = ns; pending = p; awaited = awaits.Relation f }) rest
+    ≡ all_from (closed (ns ++ nodes.Test (tested (existence_of f)) ∷ []) p) rest
+field_ends f ns p [] e = sym (closed_ended (ns ++ nodes.Test (tested (existence_of f)) ∷ []) p)
+field_ends f ns p (tokens.Close ∷ ts) e = ap (λ (o : Outcome). going o (λ u. all_from u ts))
+    (sym (closed_taken (ns ++ nodes.Test (tested (existence_of f)) ∷ []) p tokens.Close))
+field_ends f ns p (tokens.Join operator ∷ ts) e = ap (λ (o : Outcome). going o (λ u. all_from u ts))
+    (sym (closed_taken (ns ++ nodes.Test (tested (existence_of f)) ∷ []) p (tokens.Join operator)))
+field_ends f ns p (t ∷ ts) e = absurd e
+
+-- a field that is compared, up to its value
+related_read : (f : Subject) (ts : List Token) (mask : ℕ) (r : Relation) (t : Token) (value : Literal)
+    → NamesBits f ts mask → value_for f.takes t ≡ Some value → (ns : List Node) (p : List Pending) (rest : List Token)
+    → all_from (record { nodes = ns; pending = p; awaited = awaits.Operand })
+    ((ts ++ tokens.Relation r ∷ t ∷ []) ++ rest)
+    ≡ all_from (closed (ns ++ nodes.Test (tested (test_with f mask r value)) ∷ []) p) rest
+related_read f ts mask r t value grammar.all is ns p rest = rw is refl
+related_read f ts mask r t value (grammar.masked m bits means) is ns p rest = rw (means, is) refl
+
+-- the values of a set
+first_read : (f : Subject) (ts : List Token) (mask : ℕ) (t : Token) (q : Primitive) → NamesBits f ts mask
+    → member f mask t ≡ Some q → (ns : List Node) (p : List Pending) (rest : List Token)
+    → all_from (record { nodes = ns; pending = p; awaited = awaits.Operand })
+    ((ts ++ tokens.In ∷ tokens.OpenSet ∷ t ∷ []) ++ rest)
+    ≡ all_from (record { nodes = ns ++ nodes.Test q ∷ []; pending = p; awaited = awaits.SetEnd f mask }) rest
+first_read f ts mask t q grammar.all is ns p rest = rw is refl
+first_read f ts mask t q (grammar.masked u bits means) is ns p rest = rw (means, is) refl
+
+set_read : (f : Subject) (mask : ℕ) (ts : List Token) (x : Expression) → NamesSet f mask ts x
+    → (ns : List Node) (p : List Pending) (rest : List Token)
+    → all_from (record { nodes = ns; pending = p; awaited = awaits.Operand }) (ts ++ rest)
+    ≡ all_from (record { nodes = ns ++ postfix x; pending = p; awaited = awaits.SetEnd f mask }) rest
+set_read f mask ts x (grammar.one us t q bits is) ns p rest = first_read f us mask t q bits is ns p rest
+set_read f mask ts x (grammar.more us y t q set is) ns p rest =
+    ap (λ (l : List Token). all_from (record { nodes = ns; pending = p; awaited = awaits.Operand }) l)
+    (append_assoc us (tokens.Comma ∷ t ∷ []) rest)
+    ∙ set_read f mask us y set ns p (tokens.Comma ∷ t ∷ rest)
+    ∙ rw is (ap (λ (l : List Node). all_from
+    (record { nodes = l; pending = p; awaited = awaits.SetEnd f mask }) rest)
+    (ap (λ (l : List Node). l ++ nodes.Join Or ∷ []) (append_assoc ns (postfix y) (nodes.Test q ∷ []))
+    ∙ append_assoc ns (postfix y ++ nodes.Test q ∷ []) (nodes.Join Or ∷ [])))
+
 within : (of : Numbered) (n m : ℕ) → m ≡ most_of of → n ≤ m → nat_lt (most_of of) n ≡ false
 within of n m is le = subst (λ (k : ℕ). nat_lt k n ≡ false) is (le-ltb m n le)
 
@@ -121,6 +174,9 @@ primitive_read ts q grammar.refused ns p rest e = refl
 primitive_read ts q grammar.cut ns p rest e = refl
 primitive_read ts q (grammar.less n lt) ns p rest e = rw (le-ltb 4294967295 n (omega arith)) refl
 primitive_read ts q (grammar.greater n lt) ns p rest e = rw (le-ltb 4294967295 n (omega arith)) refl
+primitive_read ts q (grammar.field f) ns p rest e = field_ends f ns p rest e
+primitive_read ts q (grammar.related f us mask r t value bits is) ns p rest e =
+    related_read f us mask r t value bits is ns p rest
 
 fits : (operator : Operator) (shape : Shape) → Leads operator shape → (p : List Pending) → IsBase p → Fits shape p
 fits operator shape operand p base = tt
@@ -153,6 +209,10 @@ read : (shape : Shape) (ts : List Token) (x : Expression) → Means shape ts x
     → all_from (record { nodes = ns; pending = p; awaited = awaits.Operand }) (ts ++ rest)
     ≡ all_from (after shape ns p x) rest
 read shape ts x (grammar.primitive us q names) ns p rest fit e = primitive_read us q names ns p rest e
+read shape ts x (grammar.set f mask us y set) ns p rest fit e =
+    ap (λ (l : List Token). all_from (record { nodes = ns; pending = p; awaited = awaits.Operand }) l)
+    (append_assoc us (tokens.CloseSet ∷ []) rest)
+    ∙ set_read f mask us y set ns p (tokens.CloseSet ∷ rest)
 read shape ts x (grammar.negation us y m) ns p rest fit e =
     read Operand us y m ns (pendings.Not ∷ p) rest tt e
     ∙ ap (λ (l : List Node). all_from (closed l p) rest) (append_assoc ns (postfix y) (nodes.Not ∷ []))

@@ -1,32 +1,33 @@
 -- Nodes that are read are those of an expression.
-use Rattle.std.proofs.Common.{◌≡◌, ℕ, ◌≤◌, List, [], ◌∷◌, ◌++◌, refl, sym, ap, subst, ◌∙◌, inl, inr, false, true, nat_lt, arith}
-use Rattle.std.specs.Prelude.{Result, Ok, Err, Some, Bool, ◌⊎◌}
-use Rattle.std.proofs.lemmas.Bool.{ltb-false}
+use Rattle.std.proofs.Common.{◌≡◌, ℕ, List, [], ◌∷◌, ◌++◌, refl, sym, ap, subst, ◌∙◌}
+use Rattle.std.specs.Prelude.{Result, Ok, Err, Option, Some, None}
 use Rattle.std.proofs.lemmas.List.{append_assoc, append-nil}
 use Rattle.ether_filter.specs.declared.node.Operator.{Operator}
 use Rattle.ether_filter.specs.declared.node.Operator.TheVariants.{And, Or}
 use Rattle.ether_filter.specs.declared.node.Node.{Node}
 use Rattle.ether_filter.specs.declared.node.Node.TheVariants as nodes
+use Rattle.ether_filter.specs.declared.primitive.Primitive.{Primitive}
 use Rattle.ether_filter.specs.declared.primitive.Primitive.TheVariants as primitives
 use Rattle.ether_filter.specs.declared.token.Token.{Token}
 use Rattle.ether_filter.specs.declared.token.Token.TheVariants as tokens
 use Rattle.ether_filter.specs.declared.filter_error.FilterErrorKind.{FilterErrorKind}
-use Rattle.ether_filter.specs.declared.awaited.Numbered.{Numbered}
 use Rattle.ether_filter.specs.declared.awaited.Numbered.TheVariants as numbers
-use Rattle.ether_filter.specs.declared.awaited.Addressed.TheVariants as addresses
 use Rattle.ether_filter.specs.declared.awaited.Awaited.{Awaited}
 use Rattle.ether_filter.specs.declared.awaited.Awaited.TheVariants as awaits
 use Rattle.ether_filter.specs.declared.awaited.Step.{Step}
 use Rattle.ether_filter.specs.declared.awaited.Step.TheVariants.{Done, More, Fails}
 use Rattle.ether_filter.specs.declared.reading.Pending.{Pending}
 use Rattle.ether_filter.specs.declared.reading.Pending.TheVariants as pendings
+use Rattle.ether_filter.specs.declared.subject.Subject.{Subject}
+use Rattle.ether_filter.specs.Subjects.{existence_of, tested}
 use Rattle.ether_filter.specs.Expressions.{Expression, Test, Not, Join}
 use Rattle.ether_filter.specs.Postfix.{postfix}
-use Rattle.ether_filter.specs.Grammar.{NamesPrimitive, Shape, Operand, Chain, Leads, operand, chain, Means, IsExpression}
+use Rattle.ether_filter.specs.Grammar.{NamesBits, NamesSet, NamesPrimitive, Shape, Operand, Chain, Leads, operand, chain, Means, IsExpression}
 use Rattle.ether_filter.specs.Grammar as grammar
-use Rattle.ether_filter.specs.Steps.{first_step, next_step, numbered, most_of, number_primitive}
-use Rattle.ether_filter.specs.ExpressionReading.{ExpressionState, Outcome, begun, closed, joined_by, operator_taken, stepped, operand_taken, id_taken, taken_where, taken, whole, ended_where}
+use Rattle.ether_filter.specs.Steps.{first_step, next_step, member}
+use Rattle.ether_filter.specs.ExpressionReading.{ExpressionState, Outcome, begun, closed, joined_by, operator_taken, stepped, operand_taken, id_taken, relation_taken, member_taken, joined_member, set_taken, taken_where, taken, whole, ended_where}
 use Rattle.ether_filter.proofs.ReadingLemmas.{IsBase, body, body_whole, going, all_from}
+pub use Rattle.ether_filter.proofs.BegunWords.{Named, Compared, Begun, decided, StepMeans, first_means, next_means}
 
 -- ---- what was read
 
@@ -81,23 +82,6 @@ pub record Follows (q : List Pending) (ns : List Node) (ts : List Token) : Type 
   pub nodes : ns ≡ old ++ trunk shape x
   pub tokens : ts ≡ front ++ words
 
--- the words of a primitive that is begun
-abbrev pub Begun : Awaited → List Token → Type 0
-Begun awaits.VlanId ts = ts ≡ tokens.Vlan ∷ []
-Begun (awaits.Vlan numbers.OuterVlan) ts = ts ≡ tokens.Outer ∷ []
-Begun (awaits.Vlan numbers.InnerVlan) ts = ts ≡ tokens.Inner ∷ []
-Begun (awaits.Number numbers.VlanId) ts = ts ≡ tokens.Vlan ∷ []
-Begun (awaits.Number numbers.OuterVlan) ts = ts ≡ tokens.Outer ∷ tokens.Vlan ∷ []
-Begun (awaits.Number numbers.InnerVlan) ts = ts ≡ tokens.Inner ∷ tokens.Vlan ∷ []
-Begun (awaits.Number numbers.EtherType) ts = ts ≡ tokens.Ether ∷ tokens.Proto ∷ []
-Begun (awaits.Number numbers.Less) ts = ts ≡ tokens.Less ∷ []
-Begun (awaits.Number numbers.Greater) ts = ts ≡ tokens.Greater ∷ []
-Begun awaits.EtherWord ts = ts ≡ tokens.Ether ∷ []
-Begun (awaits.Address addresses.Source) ts = ts ≡ tokens.Ether ∷ tokens.Src ∷ []
-Begun (awaits.Address addresses.Destination) ts = ts ≡ tokens.Ether ∷ tokens.Dst ∷ []
-Begun (awaits.Address addresses.Host) ts = ts ≡ tokens.Ether ∷ tokens.Host ∷ []
-Begun _ ts = ⊥
-
 pub record Within (awaited : Awaited) (p : List Pending) (ns : List Node) (ts : List Token) : Type 0 where
   pub front : List Token
   pub words : List Token
@@ -105,9 +89,28 @@ pub record Within (awaited : Awaited) (p : List Pending) (ns : List Node) (ts : 
   pub earlier : Awaits p ns front
   pub tokens : ts ≡ front ++ words
 
+-- a set, after one of its values
+pub record InSet (f : Subject) (mask : ℕ) (p : List Pending) (ns : List Node) (ts : List Token) : Type 0 where
+  pub old : List Node
+  pub front : List Token
+  pub words : List Token
+  pub x : Expression
+  pub set : NamesSet f mask words x
+  pub earlier : Awaits p old front
+  pub nodes : ns ≡ old ++ postfix x
+  pub tokens : ts ≡ front ++ words
+
+-- .. after a comma
+pub record AtMember (f : Subject) (mask : ℕ) (p : List Pending) (ns : List Node) (ts : List Token) : Type 0 where
+  pub before : List Token
+  pub values : InSet f mask p ns before
+  pub tokens : ts ≡ before ++ tokens.Comma ∷ []
+
 abbrev pub WasRead : Awaited → List Pending → List Node → List Token → Type 0
 WasRead awaits.Operand p ns ts = Awaits p ns ts
 WasRead awaits.Operator p ns ts = Follows p ns ts
+WasRead (awaits.SetEnd f mask) p ns ts = InSet f mask p ns ts
+WasRead (awaits.Member f mask) p ns ts = AtMember f mask p ns ts
 WasRead awaited p ns ts = Within awaited p ns ts
 
 abbrev pub Was : ExpressionState → List Token → Type 0
@@ -177,71 +180,12 @@ closed_was (pendings.Join operator ∷ p) old front words x a m = record {
 
 -- ---- a primitive
 
-abbrev StepMeans : Step → List Token → Type 0
-StepMeans (Done p) ts = NamesPrimitive ts p
-StepMeans (More awaited) ts = Begun awaited ts
-StepMeans Fails ts = Unit {0}
-
-first_means : (t : Token) → StepMeans (first_step t) (t ∷ [])
-first_means tokens.Vlan = refl
-first_means tokens.Outer = refl
-first_means tokens.Inner = refl
-first_means tokens.Macsec = grammar.macsec
-first_means tokens.Arp = grammar.arp
-first_means tokens.Ip = grammar.ip
-first_means tokens.Ip6 = grammar.ip6
-first_means tokens.Ether = refl
-first_means tokens.Refused = grammar.refused
-first_means tokens.Cut = grammar.cut
-first_means tokens.Less = refl
-first_means tokens.Greater = refl
-first_means t = tt
-
-pub decided : (b : Bool) → (b ≡ true) ⊎ (b ≡ false)
-decided true = inl refl
-decided false = inr refl
-
-number_means : (of : Numbered) (n : ℕ) (ts : List Token)
-    → (n ≤ most_of of → NamesPrimitive ts (number_primitive of n)) → StepMeans (numbered of n) ts
-number_means of n ts names = elim (decided (nat_lt (most_of of) n)) [
-  | inl above ↦ rw above tt
-  | inr below ↦ rw below (names (ltb-false (most_of of) n below))
-]
-
--- with its number
-counted : (of : Numbered) (n : ℕ) (ts : List Token) → Begun (awaits.Number of) ts → n ≤ most_of of
-    → NamesPrimitive (ts ++ tokens.Number (Some n) ∷ []) (number_primitive of n)
-counted numbers.VlanId n ts is le = rw is (grammar.vlan_id n (omega arith))
-counted numbers.OuterVlan n ts is le = rw is (grammar.outer_vlan n (omega arith))
-counted numbers.InnerVlan n ts is le = rw is (grammar.inner_vlan n (omega arith))
-counted numbers.EtherType n ts is le = rw is (grammar.proto n (omega arith))
-counted numbers.Less n ts is le = rw is (grammar.less n (omega arith))
-counted numbers.Greater n ts is le = rw is (grammar.greater n (omega arith))
-
-with_more : {ts us : List Token} (t : Token) → ts ≡ us → ts ++ t ∷ [] ≡ us ++ t ∷ []
-with_more t is = ap (λ (l : List Token). l ++ t ∷ []) is
-
-next_means : (a : Awaited) (t : Token) (ts : List Token) → Begun a ts → StepMeans (next_step a t) (ts ++ t ∷ [])
-next_means (awaits.Vlan numbers.OuterVlan) tokens.Vlan ts is = with_more tokens.Vlan is
-next_means (awaits.Vlan numbers.InnerVlan) tokens.Vlan ts is = with_more tokens.Vlan is
-next_means (awaits.Vlan of) tokens.Vlan ts is = absurd is
-next_means (awaits.Number of) (tokens.Number (Some n)) ts is = number_means of n (ts ++ tokens.Number (Some n) ∷ [])
-    (counted of n ts is)
-next_means (awaits.Address addresses.Source) (tokens.Address a) ts is = rw is (grammar.src a)
-next_means (awaits.Address addresses.Destination) (tokens.Address a) ts is = rw is (grammar.dst a)
-next_means (awaits.Address addresses.Host) (tokens.Address a) ts is = rw is (grammar.host a)
-next_means awaits.EtherWord tokens.Proto ts is = with_more tokens.Proto is
-next_means awaits.EtherWord tokens.Src ts is = with_more tokens.Src is
-next_means awaits.EtherWord tokens.Dst ts is = with_more tokens.Dst is
-next_means awaits.EtherWord tokens.Host ts is = with_more tokens.Host is
-next_means awaits.EtherWord tokens.Broadcast ts is = rw is grammar.broadcast
-next_means awaits.EtherWord tokens.Multicast ts is = rw is grammar.multicast
-next_means a t ts is = tt
-
 begun_was : (a : Awaited) (p : List Pending) (ns : List Node) (front words : List Token) → Begun a words
     → Awaits p ns front → WasRead a p ns (front ++ words)
 begun_was awaits.Operand p ns front words b e = absurd b
 begun_was awaits.Operator p ns front words b e = absurd b
+begun_was (awaits.SetEnd f mask) p ns front words b e = absurd b
+begun_was (awaits.Member f mask) p ns front words b e = absurd b
 begun_was a p ns front words b e = record { front = front; words = words; begun = b; earlier = e; tokens = refl }
 
 stepped_was : (a : Awaited) (p : List Pending) (ns : List Node) (front words : List Token) (step : Step)
@@ -341,15 +285,28 @@ closed_follows ns (pendings.Open ∷ p) ts was = was
 closed_follows ns (pendings.Not ∷ p) ts was = closed_follows (ns ++ nodes.Not ∷ []) p ts was
 closed_follows ns (pendings.Join operator ∷ p) ts was = was
 
+-- an operand that is one primitive
+operand_follows : (q : Primitive) (p : List Pending) (ns : List Node) (ts front words : List Token)
+    → NamesPrimitive words q → Awaits p ns front → ts ≡ front ++ words
+    → Follows (closed (ns ++ nodes.Test q ∷ []) p).pending (closed (ns ++ nodes.Test q ∷ []) p).nodes ts
+operand_follows q p ns ts front words names earlier is =
+    closed_follows (ns ++ nodes.Test q ∷ []) p ts
+    (subst (Was (closed (ns ++ nodes.Test q ∷ []) p)) (sym is)
+    (closed_was p ns front words (Test q) earlier (grammar.primitive words q names)))
+
 vlan_follows : (p : List Pending) (ns : List Node) (ts : List Token) → Within awaits.VlanId p ns ts
     → Follows (closed (ns ++ nodes.Test primitives.Vlan ∷ []) p).pending
     (closed (ns ++ nodes.Test primitives.Vlan ∷ []) p).nodes ts
-vlan_follows p ns ts w =
-    let names = subst (λ (l : List Token). NamesPrimitive l primitives.Vlan) (sym w.begun) grammar.vlan in
-    closed_follows (ns ++ nodes.Test primitives.Vlan ∷ []) p ts
-    (subst (Was (closed (ns ++ nodes.Test primitives.Vlan ∷ []) p)) (sym w.tokens)
-    (closed_was p ns w.front w.words (Test primitives.Vlan) w.earlier
-    (grammar.primitive w.words primitives.Vlan names)))
+vlan_follows p ns ts w = operand_follows primitives.Vlan p ns ts w.front w.words
+    (subst (λ (l : List Token). NamesPrimitive l primitives.Vlan) (sym w.begun) grammar.vlan) w.earlier w.tokens
+
+field_follows : (f : Subject) (p : List Pending) (ns : List Node) (ts : List Token)
+    → Within (awaits.Relation f) p ns ts
+    → Follows (closed (ns ++ nodes.Test (tested (existence_of f)) ∷ []) p).pending
+    (closed (ns ++ nodes.Test (tested (existence_of f)) ∷ []) p).nodes ts
+field_follows f p ns ts w = operand_follows (tested (existence_of f)) p ns ts w.front w.words
+    (subst (λ (l : List Token). NamesPrimitive l (tested (existence_of f))) (sym w.begun)
+    (grammar.field f)) w.earlier w.tokens
 
 within_was : (a : Awaited) (p : List Pending) (ns : List Node) (ts : List Token) (t : Token) (step : Step)
     → Within a p ns ts → ((words : List Token) → Begun a words → StepMeans step (words ++ t ∷ []))
@@ -370,12 +327,95 @@ id_was p ns ts tokens.Close w =
     operator_was (closed (ns ++ nodes.Test primitives.Vlan ∷ []) p) ts tokens.Close (vlan_follows p ns ts w)
 id_was p ns ts t w = tt
 
+relation_was : (f : Subject) (p : List Pending) (ns : List Node) (ts : List Token) (t : Token)
+    → Within (awaits.Relation f) p ns ts
+    → Goes (relation_taken f (record { nodes = ns; pending = p; awaited = awaits.Relation f }) t) (ts ++ t ∷ [])
+relation_was f p ns ts (tokens.Relation r) w = within_was (awaits.Relation f) p ns ts (tokens.Relation r)
+    (next_step (awaits.Relation f) (tokens.Relation r)) w
+    (λ words b. next_means (awaits.Relation f) (tokens.Relation r) words b)
+relation_was f p ns ts tokens.Mask w = within_was (awaits.Relation f) p ns ts tokens.Mask
+    (next_step (awaits.Relation f) tokens.Mask) w
+    (λ words b. next_means (awaits.Relation f) tokens.Mask words b)
+relation_was f p ns ts tokens.In w = within_was (awaits.Relation f) p ns ts tokens.In
+    (next_step (awaits.Relation f) tokens.In) w
+    (λ words b. next_means (awaits.Relation f) tokens.In words b)
+relation_was f p ns ts (tokens.Join operator) w =
+    operator_was (closed (ns ++ nodes.Test (tested (existence_of f)) ∷ []) p) ts (tokens.Join operator)
+    (field_follows f p ns ts w)
+relation_was f p ns ts tokens.Close w =
+    operator_was (closed (ns ++ nodes.Test (tested (existence_of f)) ∷ []) p) ts tokens.Close
+    (field_follows f p ns ts w)
+relation_was f p ns ts t w = tt
+
+-- a value of a set
+first_was : (f : Subject) (mask : ℕ) (p : List Pending) (ns : List Node) (ts : List Token) (t : Token)
+    (o : Option Primitive) → member f mask t ≡ o → Within (awaits.FirstMember f mask) p ns ts
+    → Goes (member_taken f mask (record { nodes = ns; pending = p; awaited = awaits.FirstMember f mask }) o)
+    (ts ++ t ∷ [])
+first_was f mask p ns ts t None is w = tt
+first_was f mask p ns ts t (Some q) is w =
+    let c = w.begun in
+    record {
+      old = ns;
+      front = w.front;
+      words = c.words ++ tokens.In ∷ tokens.OpenSet ∷ t ∷ [];
+      x = Test q;
+      set = grammar.one c.words t q c.bits is;
+      earlier = w.earlier;
+      nodes = refl;
+      tokens =
+          ap (λ (l : List Token). l ++ t ∷ []) (w.tokens ∙ ap (λ (l : List Token). w.front ++ l) c.is)
+          ∙ append_assoc w.front (c.words ++ tokens.In ∷ tokens.OpenSet ∷ []) (t ∷ [])
+          ∙ ap (λ (l : List Token). w.front ++ l) (append_assoc c.words (tokens.In ∷ tokens.OpenSet ∷ []) (t ∷ []));
+    }
+
+member_was : (f : Subject) (mask : ℕ) (p : List Pending) (ns : List Node) (ts : List Token) (t : Token)
+    (o : Option Primitive) → member f mask t ≡ o → AtMember f mask p ns ts
+    → Goes (joined_member
+    (member_taken f mask (record { nodes = ns; pending = p; awaited = awaits.Member f mask }) o)) (ts ++ t ∷ [])
+member_was f mask p ns ts t None is w = tt
+member_was f mask p ns ts t (Some q) is w =
+    let i = w.values in
+    record {
+      old = i.old;
+      front = i.front;
+      words = i.words ++ tokens.Comma ∷ t ∷ [];
+      x = Join Or i.x (Test q);
+      set = grammar.more i.words i.x t q i.set is;
+      earlier = i.earlier;
+      nodes =
+          ap (λ (l : List Node). (l ++ nodes.Test q ∷ []) ++ nodes.Join Or ∷ []) i.nodes
+          ∙ ap (λ (l : List Node). l ++ nodes.Join Or ∷ []) (append_assoc i.old (postfix i.x) (nodes.Test q ∷ []))
+          ∙ append_assoc i.old (postfix i.x ++ nodes.Test q ∷ []) (nodes.Join Or ∷ []);
+      tokens =
+          ap (λ (l : List Token). l ++ t ∷ []) w.tokens ∙ append_assoc w.before (tokens.Comma ∷ []) (t ∷ [])
+          ∙ ap (λ (l : List Token). l ++ tokens.Comma ∷ t ∷ []) i.tokens
+          ∙ append_assoc i.front i.words (tokens.Comma ∷ t ∷ []);
+    }
+
+set_was : (f : Subject) (mask : ℕ) (p : List Pending) (ns : List Node) (ts : List Token) (t : Token)
+    → InSet f mask p ns ts
+    → Goes (set_taken f mask (record { nodes = ns; pending = p; awaited = awaits.SetEnd f mask }) t) (ts ++ t ∷ [])
+set_was f mask p ns ts tokens.CloseSet i =
+    subst (λ (l : List Node). Was (closed l p) (ts ++ tokens.CloseSet ∷ [])) (sym i.nodes)
+    (subst (λ (l : List Token). Was (closed (i.old ++ postfix i.x) p) l)
+    (sym (ap (λ (l : List Token). l ++ tokens.CloseSet ∷ []) i.tokens
+    ∙ append_assoc i.front i.words (tokens.CloseSet ∷ [])))
+    (closed_was p i.old i.front (i.words ++ tokens.CloseSet ∷ []) i.x i.earlier
+    (grammar.set f mask i.words i.x i.set)))
+set_was f mask p ns ts tokens.Comma i = record { before = ts; values = i; tokens = refl }
+set_was f mask p ns ts t i = tt
+
 pub taken_was : (a : Awaited) (p : List Pending) (ns : List Node) (ts : List Token) (t : Token) → WasRead a p ns ts
     → Goes (taken_where a (record { nodes = ns; pending = p; awaited = a }) t) (ts ++ t ∷ [])
 taken_was awaits.Operand p ns ts t was = operand_was p ns ts t was
 taken_was awaits.Operator p ns ts t was = operator_was (record { nodes = ns; pending = p; awaited = awaits.Operator })
     ts t was
 taken_was awaits.VlanId p ns ts t was = id_was p ns ts t was
+taken_was (awaits.Relation f) p ns ts t was = relation_was f p ns ts t was
+taken_was (awaits.FirstMember f mask) p ns ts t was = first_was f mask p ns ts t (member f mask t) refl was
+taken_was (awaits.Member f mask) p ns ts t was = member_was f mask p ns ts t (member f mask t) refl was
+taken_was (awaits.SetEnd f mask) p ns ts t was = set_was f mask p ns ts t was
 taken_was a p ns ts t was = within_was a p ns ts t (next_step a t) was (λ words b. next_means a t words b)
 
 -- ---- all words
@@ -416,6 +456,9 @@ ended_was awaits.Operator p ns ts was = follows_whole (record { nodes = ns; pend
     ts was
 ended_was awaits.VlanId p ns ts was = follows_whole (closed (ns ++ nodes.Test primitives.Vlan ∷ []) p) ts
     (vlan_follows p ns ts was)
+ended_was (awaits.Relation f) p ns ts was =
+    follows_whole (closed (ns ++ nodes.Test (tested (existence_of f)) ∷ []) p) ts
+    (field_follows f p ns ts was)
 ended_was a p ns ts was = tt
 
 going_was : (o : Outcome) (ts us : List Token) → Goes o ts

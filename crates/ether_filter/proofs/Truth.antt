@@ -15,6 +15,8 @@ use Rattle.ether_filter.specs.Primitives.{Walked, vlan_ids}
 use Rattle.ether_filter.specs.Postfix.{postfix}
 use Rattle.ether_filter.specs.Jumps.{chosen, first_jump, AreJumps, Reaches}
 use Rattle.ether_filter.specs.Expressions.{Expression, Test, Not, Join}
+use Rattle.ether_filter.specs.declared.field_test.FieldTest.{FieldTest}
+use Rattle.ether_filter.specs.Deciding.{is_of_field}
 use Rattle.ether_filter.specs.Seen.{matching}
 use Rattle.ether_filter.specs.Evaluation.{IsTruth, joined_truth}
 use Rattle.ether_filter.proofs.Identifiers.{first_is, last_other_is}
@@ -23,6 +25,11 @@ use Rattle.ether_filter.proofs.JumpsLemmas.{reaches, truth}
 -- what a truth that is another one says
 pub same_truth : {a b : Bool} → a ≡ b → IsTrue a ↔ IsTrue b
 same_truth is = (λ t. sym is ∙ t, λ t. is ∙ t)
+
+-- a primitive that tests no field
+pub not_of_field : (p : Primitive) → ((t : FieldTest) → p ≡ primitives.Field t → ⊥) → is_of_field p ≡ false
+not_of_field (primitives.Field t) never = absurd (never t refl)
+not_of_field p never = refl
 
 refused_is : (e : Ending) → IsTrue (is_some (refusal_of e)) ↔ IsSome (refusal_of e)
 refused_is (Accepted v y) = (λ t. absurd cc, λ some. absurd cc)

@@ -105,6 +105,7 @@ same_told (primitives.Host n) start hs e f a b c d is t = t
 same_told primitives.Broadcast start hs e f a b c d is t = t
 same_told primitives.Multicast start hs e f a b c d is t = t
 same_told primitives.Refused start hs e f a b c d is t = t
+same_told (primitives.Field n) start hs e f a b c d is t = t
 
 same_matches : (p : Primitive) (start : Next) (hs : List Header) (e f : Ending) (a b c d : ℕ) → is_of_lengths p ≡ false
     → IsSome (refusal_of e) → Matches p (walked_at start hs f a b) → Matches p (walked_at start hs e c d)
@@ -123,6 +124,7 @@ same_matches (primitives.Host n) start hs e f a b c d is some m = m
 same_matches primitives.Broadcast start hs e f a b c d is some m = m
 same_matches primitives.Multicast start hs e f a b c d is some m = m
 same_matches primitives.Refused start hs e f a b c d is some m = some
+same_matches (primitives.Field n) start hs e f a b c d is some m = m
 
 longer_is : (packet longer : Packet) (hs ks : List Header) (f : Ending) → IsLonger packet longer → ks ≡ hs
     → walked longer ks f ≡ walked_at (next_of packet.start) hs f longer.captured_len longer.original_len

@@ -4,7 +4,7 @@ use Rattle.std.specs.Prelude.{slice_index, slice_range}
 use Rattle.std.proofs.lemmas.List.{drop_all}
 use Rattle.etherparse.proofs.SubLists.{part_join, length-part}
 use Rattle.ether_filter.specs.declared.text_words.Class.{Class}
-use Rattle.ether_filter.specs.declared.text_words.Class.TheVariants.{Blank, Sign, Connective, Letter}
+use Rattle.ether_filter.specs.declared.text_words.Class.TheVariants.{Blank, Sign, Negation, Order, Equals, Connective, Letter}
 use Rattle.ether_filter.specs.Words.{class_of, is_blank, are_joined, goes_on, Word, grown, words_at, words_from}
 
 abbrev pub at_place : List ℕ → ℕ → Class
@@ -64,6 +64,12 @@ joined_word Blank b j = absurd cc
 joined_word Sign b j = absurd cc
 joined_word Letter Blank j = absurd cc
 joined_word Letter b j = refl
+joined_word Negation Equals j = refl
+joined_word Negation b j = absurd cc
+joined_word Order Equals j = refl
+joined_word Order b j = absurd cc
+joined_word Equals Equals j = refl
+joined_word Equals b j = absurd cc
 joined_word Connective Blank j = absurd cc
 joined_word Connective b j = refl
 

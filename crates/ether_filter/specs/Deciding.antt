@@ -1,5 +1,5 @@
 -- What is known of whether a packet matches, if not all of its bytes were captured.
-use Rattle.std.specs.Prelude.{◌≡◌, ℕ, ◌+◌, ◌-◌, ◌<◌, ◌≤◌, List, ◌++◌, length, Bool, true, false, not, IsTrue, ◌⊎◌}
+use Rattle.std.specs.Prelude.{◌≡◌, ℕ, ◌+◌, ◌-◌, ◌<◌, ◌≤◌, List, ◌++◌, length, Bool, true, false, not, IsTrue, ◌⊎◌, nat_le, ◌||◌, ◌&&◌}
 use Rattle.std.specs.List.{list_any}
 use Rattle.etherparse.specs.Types.Layer.{Layer}
 use Rattle.etherparse.specs.Types.Layer.TheVariants as layers
@@ -11,6 +11,9 @@ use Rattle.ether_peel.specs.Grammar.Endings.{OpenRefusal, named_len, EndsAlike}
 use Rattle.ether_peel.specs.Walker.Start.{start_of}
 use Rattle.ether_filter.specs.declared.decision.Decision.{Decision}
 use Rattle.ether_filter.specs.declared.decision.Decision.TheVariants as decisions
+use Rattle.ether_filter.specs.FieldTests.{field_holds}
+use Rattle.ether_filter.specs.declared.field_test.Relation.{Relation}
+use Rattle.ether_filter.specs.declared.field_test.Relation.TheVariants as relations
 use Rattle.ether_filter.specs.declared.node.Operator.TheVariants as operators
 use Rattle.ether_filter.specs.declared.packet.Packet.{Packet}
 use Rattle.ether_filter.specs.declared.primitive.Primitive.{Primitive}
@@ -56,23 +59,34 @@ is_of_lengths (primitives.Less n) = true
 is_of_lengths (primitives.Greater n) = true
 is_of_lengths _ = false
 
--- the primitive asks about the addresses of an Ethernet II header
+-- the primitive asks about an Ethernet II header, whose fields have the numbers up to 3
 abbrev pub is_of_link : Primitive → Bool
 is_of_link (primitives.Source address) = true
 is_of_link (primitives.Destination address) = true
 is_of_link (primitives.Host address) = true
 is_of_link primitives.Broadcast = true
 is_of_link primitives.Multicast = true
+is_of_link (primitives.Field t) = nat_le t.field 3
 is_of_link _ = false
 
 abbrev pub is_refused : Primitive → Bool
 is_refused primitives.Refused = true
 is_refused _ = false
 
+-- the primitive tests a field
+abbrev pub is_of_field : Primitive → Bool
+is_of_field (primitives.Field t) = true
+is_of_field _ = false
+
+-- a test with this relation asks whether any value has it
+abbrev pub asks_any : Relation → Bool
+asks_any relations.NotEqual = false
+asks_any _ = true
+
 -- The primitive can depend on a unit of this layer, or on one after it. An ARP packet is the last unit, and does not
 -- announce an ether type; an Ethernet II header is the first unit.
 abbrev pub can_tell : Layer → Primitive → Bool
-can_tell layers.Arp primitive = is_refused primitive
+can_tell layers.Arp primitive = is_refused primitive || (is_of_field primitive && not (is_of_link primitive))
 can_tell layers.Ethernet2Header primitive = true
 can_tell layer primitive = not (is_of_link primitive)
 
@@ -81,6 +95,7 @@ abbrev pub IsTold : Primitive → Walked → Type 0
 IsTold (primitives.OuterVlan id) p = IsTrue (list_any is_tag p.headers)
 IsTold (primitives.InnerVlan id) p = ⊥
 IsTold primitives.Refused p = ⊥
+IsTold (primitives.Field t) p = IsTrue (asks_any t.relation && field_holds t p.headers)
 IsTold primitive p = Matches primitive p
 
 -- With these headers and this ending so far, it is known whether the primitive matches the packet: it asks about the

@@ -13,6 +13,13 @@ kind_text kinds.ExpectedVlan = codes "expected `vlan`."
 kind_text kinds.ExpectedEtherWord = codes "expected `proto`, `src`, `dst`, `host`, `broadcast` or `multicast`."
 kind_text kinds.ExpectedAddress = codes "expected an address, as 02:00:5e:10:00:01."
 kind_text (kinds.ExpectedNumber most) = codes "expected a number up to " ++ (decimal most ++ codes ".")
+kind_text kinds.ExpectedRelation = codes "expected `==`, `!=`, `<`, `<=`, `>`, `>=` or `in`."
+kind_text kinds.ExpectedRelationOrOperator =
+    codes "expected `==`, `!=`, `<`, `<=`, `>`, `>=`, `in`, `&`, `and`, `or`, `)` or the end."
+kind_text (kinds.ExpectedBytes len) = codes "expected a value of " ++ (decimal len ++ codes " bytes.")
+kind_text kinds.ExpectedAnyBytes = codes "expected bytes, as 02:00:5e:10:00:01 or 10.0.0.1."
+kind_text kinds.ExpectedSet = codes "expected `{`."
+kind_text kinds.ExpectedSetEnd = codes "expected `,` or `}`."
 kind_text kinds.MixedOperators = codes "`and` and `or` can be mixed only with parentheses."
 kind_text kinds.Unopened = codes "there is no `(` for this `)`."
 kind_text kinds.Unclosed = codes "a `(` is not closed."

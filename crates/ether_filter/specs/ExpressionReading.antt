@@ -1,5 +1,5 @@
 -- Reading an expression word by word: the state after some of its words.
-use Rattle.std.specs.Prelude.{ℕ, ◌+◌, List, [], ◌∷◌, ◌++◌, length, reverse, Result, Ok, Err, nat_eq, Bool, true, false, if◌then◌else◌}
+use Rattle.std.specs.Prelude.{ℕ, ◌+◌, List, [], ◌∷◌, ◌++◌, length, reverse, Result, Ok, Err, Option, Some, None, nat_eq, Bool, true, false, if◌then◌else◌}
 use Rattle.ether_filter.specs.declared.node.Operator.{Operator}
 use Rattle.ether_filter.specs.declared.node.Operator.TheVariants.{And, Or}
 use Rattle.ether_filter.specs.declared.node.Node.{Node}
@@ -19,10 +19,12 @@ use Rattle.ether_filter.specs.declared.awaited.Step.TheVariants.{Done, More, Fai
 use Rattle.ether_filter.specs.declared.reading.Pending.{Pending}
 use Rattle.ether_filter.specs.declared.reading.Pending.TheVariants as pendings
 use Rattle.ether_filter.specs.declared.reading.Reading.{Reading}
+use Rattle.ether_filter.specs.declared.subject.Subject.{Subject}
+use Rattle.ether_filter.specs.Subjects.{existence_of, tested}
 use Rattle.ether_filter.specs.Texts.{most_words}
 use Rattle.ether_filter.specs.Words.{Word, words_from}
 use Rattle.ether_filter.specs.Tokens.{token_of}
-use Rattle.ether_filter.specs.Steps.{first_step, next_step, kind_of}
+use Rattle.ether_filter.specs.Steps.{first_step, next_step, kind_of, member}
 
 -- the nodes of complete parts, the incomplete parts, the innermost first, and what may follow
 pub record ExpressionState : Type 0 where
@@ -95,10 +97,45 @@ id_taken s (tokens.Join operator) = operator_taken (completed s primitives.Vlan)
 id_taken s tokens.Close = operator_taken (completed s primitives.Vlan) tokens.Close
 id_taken s _ = Err kinds.ExpectedVlanIdOrOperator
 
+abbrev pub relation_taken : Subject → ExpressionState → Token → Outcome
+relation_taken subject s (tokens.Relation relation) =
+    stepped s (next_step (awaits.Relation subject) (tokens.Relation relation))
+relation_taken subject s tokens.In = stepped s (next_step (awaits.Relation subject) tokens.In)
+relation_taken subject s tokens.Mask = stepped s (next_step (awaits.Relation subject) tokens.Mask)
+relation_taken subject s (tokens.Join operator) =
+    operator_taken (completed s (tested (existence_of subject))) (tokens.Join operator)
+relation_taken subject s tokens.Close =
+    operator_taken (completed s (tested (existence_of subject))) tokens.Close
+relation_taken subject s _ = Err kinds.ExpectedRelationOrOperator
+
+-- after a value of a set
+abbrev pub member_taken : Subject → (mask : ℕ) → ExpressionState → Option Primitive → Outcome
+member_taken subject mask s None = Err (kind_of s.awaited)
+member_taken subject mask s (Some primitive) =
+    Ok (record {
+      nodes = s.nodes ++ nodes.Test primitive ∷ [];
+      pending = s.pending;
+      awaited = awaits.SetEnd subject mask;
+    })
+
+-- .. that is not the first one
+abbrev pub joined_member : Outcome → Outcome
+joined_member (Err kind) = Err kind
+joined_member (Ok s) = Ok (record s { nodes = s.nodes ++ nodes.Join Or ∷ [] })
+
+abbrev pub set_taken : Subject → (mask : ℕ) → ExpressionState → Token → Outcome
+set_taken subject mask s tokens.CloseSet = Ok (closed s.nodes s.pending)
+set_taken subject mask s token = stepped s (next_step (awaits.SetEnd subject mask) token)
+
 abbrev pub taken_where : Awaited → ExpressionState → Token → Outcome
 taken_where awaits.Operand s token = operand_taken s token
 taken_where awaits.Operator s token = operator_taken s token
 taken_where awaits.VlanId s token = id_taken s token
+taken_where (awaits.Relation subject) s token = relation_taken subject s token
+taken_where (awaits.FirstMember subject mask) s token = member_taken subject mask s (member subject mask token)
+taken_where (awaits.Member subject mask) s token =
+    joined_member (member_taken subject mask s (member subject mask token))
+taken_where (awaits.SetEnd subject mask) s token = set_taken subject mask s token
 taken_where awaited s token = stepped s (next_step awaited token)
 
 -- after the next word
@@ -117,6 +154,7 @@ whole s = let t = settled s.nodes s.pending awaits.Operator in nothing_open t.no
 abbrev pub ended_where : Awaited → ExpressionState → Result (List Node) FilterErrorKind
 ended_where awaits.Operator s = whole s
 ended_where awaits.VlanId s = whole (completed s primitives.Vlan)
+ended_where (awaits.Relation subject) s = whole (completed s (tested (existence_of subject)))
 ended_where awaited s = Err (kind_of awaited)
 
 abbrev pub ended : ExpressionState → Result (List Node) FilterErrorKind
@@ -148,6 +186,7 @@ read_text text = read_from begun 0 (words_from text 0) (length text)
 abbrev pub is_begun : Awaited → ℕ
 is_begun awaits.Operand = 0
 is_begun awaits.Operator = 0
+is_begun (awaits.Member subject mask) = 2
 is_begun _ = 1
 
 -- the number of nodes so far, and of those that are still to follow for what was read

@@ -1,5 +1,8 @@
 -- A filter as numbers only: the nodes of its expression, and where the evaluation goes on after each.
 use Rattle.std.specs.Prelude.{◌≡◌, ℕ, ◌%◌, ◌^◌, ◌<◌, ◌≤◌, List, [], ◌∷◌, length, get_or, Option, Some, None, nat_eq, if◌then◌else◌}
+use Rattle.ether_filter.specs.declared.field_test.FieldTest.{FieldTest}
+use Rattle.ether_filter.specs.declared.field_test.Relation.{Relation}
+use Rattle.ether_filter.specs.declared.field_test.Relation.TheVariants as relations
 use Rattle.ether_filter.specs.declared.jumps.Jump.{Jump}
 use Rattle.ether_filter.specs.declared.node.Node.{Node}
 use Rattle.ether_filter.specs.declared.node.Node.TheVariants as nodes
@@ -9,7 +12,7 @@ use Rattle.ether_filter.specs.declared.primitive.Primitive.TheVariants as primit
 use Rattle.ether_filter.specs.declared.instruction.Instruction.{Instruction}
 use Rattle.ether_filter.specs.Expressions.{Expression}
 use Rattle.ether_filter.specs.Postfix.{postfix}
-use Rattle.ether_filter.specs.Jumps.{AreJumps, ArePassed, first_jump, jump_at}
+use Rattle.ether_filter.specs.Jumps.{AreJumps, ArePassed, first_jump, jump_at, no_jump}
 
 -- the primitive whose kind has this number; some kinds have an operand
 abbrev pub primitive_numbered : (kind operand : ℕ) → Option Primitive
@@ -38,17 +41,63 @@ operator_numbered kind =
     else (if nat_eq kind 16 then Some (nodes.Join operators.And)
     else (if nat_eq kind 17 then Some (nodes.Join operators.Or) else None))
 
+-- the relation of the tests of fields whose kind has this number
+abbrev pub relation_numbered : (kind : ℕ) → Option Relation
+relation_numbered kind =
+    if nat_eq kind 18 then Some relations.Exists
+    else (if nat_eq kind 19 then Some relations.Equal
+    else (if nat_eq kind 20 then Some relations.NotEqual
+    else (if nat_eq kind 21 then Some relations.Less
+    else (if nat_eq kind 22 then Some relations.AtMost
+    else (if nat_eq kind 23 then Some relations.Greater
+    else (if nat_eq kind 24 then Some relations.AtLeast else None))))))
+
+abbrev pub field_test_in : Relation → Instruction → FieldTest
+field_test_in relation s = record {
+  field = s.field;
+  first = s.first;
+  count = s.count;
+  relation = relation;
+  mask = s.mask;
+  len = s.len;
+  value = s.operand;
+}
+
+abbrev pub field_primitive : Option Relation → Instruction → Option Primitive
+field_primitive None s = None
+field_primitive (Some relation) s = Some (primitives.Field (field_test_in relation s))
+
+abbrev pub primitive_or : Option Primitive → Option Primitive → Option Primitive
+primitive_or (Some primitive) other = Some primitive
+primitive_or None other = other
+
+abbrev pub primitive_of : Instruction → Option Primitive
+primitive_of s = primitive_or (primitive_numbered s.kind s.operand) (field_primitive (relation_numbered s.kind) s)
+
 -- the primitive if there is one, else the operator
 abbrev pub test_or : Option Primitive → Option Node → Option Node
 test_or (Some primitive) operator = Some (nodes.Test primitive)
 test_or None operator = operator
 
-abbrev pub node_numbered : (kind operand : ℕ) → Option Node
-node_numbered kind operand = test_or (primitive_numbered kind operand) (operator_numbered kind)
+abbrev pub node_of : Instruction → Option Node
+node_of s = test_or (primitive_of s) (operator_numbered s.kind)
+
+abbrev pub plain_instruction : (kind operand : ℕ) → Instruction
+plain_instruction kind operand = record {
+  operand = operand;
+  mask = 0;
+  kind = kind;
+  field = 0;
+  first = 0;
+  count = 0;
+  len = 0;
+  jump = no_jump;
+  past_tags = 0;
+}
 
 -- the instruction of a node
 pub record IsInstruction (n : Node) (j : Jump) (past : ℕ) (s : Instruction) : Type 0 where
-  pub node : node_numbered s.kind s.operand ≡ Some n
+  pub node : node_of s ≡ Some n
   pub jump : s.jump ≡ j
   pub past_tags : s.past_tags ≡ past
 
@@ -70,4 +119,4 @@ with_node (Some n) ns = n ∷ ns
 
 abbrev pub nodes_of : List Instruction → List Node
 nodes_of [] = []
-nodes_of (s ∷ instructions) = with_node (node_numbered s.kind s.operand) (nodes_of instructions)
+nodes_of (s ∷ instructions) = with_node (node_of s) (nodes_of instructions)

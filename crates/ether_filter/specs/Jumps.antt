@@ -1,8 +1,9 @@
 -- Where the evaluation of an expression goes on after each of its primitives, which are tested from left to right.
-use Rattle.std.specs.Prelude.{◌≡◌, ℕ, ◌+◌, ◌<◌, ◌≤◌, List, length, get_or, nat_eq, Bool, true, false, not, Option, Some, None}
+use Rattle.std.specs.Prelude.{◌≡◌, ℕ, ◌+◌, ◌<◌, ◌≤◌, List, length, get_or, nat_eq, nat_lt, Bool, true, false, not, Option, Some, None}
 use Rattle.ether_filter.specs.declared.jumps.Jump.{Jump}
 use Rattle.ether_filter.specs.declared.primitive.Primitive.{Primitive}
 use Rattle.ether_filter.specs.declared.primitive.Primitive.TheVariants as primitives
+use Rattle.ether_filter.specs.declared.seen.Seen.{Seen}
 use Rattle.ether_filter.specs.declared.seen.Tags.{Tags}
 use Rattle.ether_filter.specs.declared.seen.Tags.TheVariants as tags
 use Rattle.ether_filter.specs.declared.node.Node.{Node}
@@ -11,6 +12,7 @@ use Rattle.ether_filter.specs.declared.node.Operator.{Operator}
 use Rattle.ether_filter.specs.declared.node.Operator.TheVariants as operators
 use Rattle.ether_filter.specs.Expressions.{Expression, Test, Not, Join}
 use Rattle.ether_filter.specs.Postfix.{postfix}
+use Rattle.ether_filter.specs.Seen.{has_vlan_id}
 
 abbrev pub chosen : Bool → Jump → ℕ
 chosen true j = j.if_true
@@ -97,10 +99,24 @@ Misses tags.Untagged t = (p : Primitive) → is_of_tags p ≡ true → t p ≡ f
 Misses (tags.One id) t = (n : ℕ) → (n ≡ id → ⊥) → t (primitives.VlanId n) ≡ false
 Misses tags.Many t = Unit {0}
 
--- with these VLAN tags the evaluation of an expression leads from one index to another
-abbrev pub LeadsOn : Expression → List Jump → Tags → (from to : ℕ) → Type 0
-LeadsOn x js tags from to =
-    (t : Primitive → Bool) (end : ℕ) → Misses tags t → length (postfix x) ≤ end
+-- primitives that ask for an identifier that was not seen do not match
+abbrev pub MissesIds : Seen → (ids : List ℕ) → (Primitive → Bool) → Type 0
+MissesIds s ids t =
+    (n : ℕ) → has_vlan_id n s.has_more s.outer s.inner ids ≡ false → t (primitives.VlanId n) ≡ false
+
+-- primitives that ask for other VLAN tags than those that were seen do not match
+pub record MissesSeen (s : Seen) (ids : List ℕ) (t : Primitive → Bool) : Type 0 where
+  pub other_tags : Misses (tags_of s.outer s.inner) t
+  pub other_ids : MissesIds s ids t
+
+-- primitives that ask for more bytes than these do not match
+abbrev pub MissesMore : (len : ℕ) → (Primitive → Bool) → Type 0
+MissesMore len t = (n : ℕ) → len < n → t (primitives.Greater n) ≡ false
+
+-- whichever primitives match, if this is so of them, the evaluation of an expression leads from one index to another
+abbrev pub LeadsOn : Expression → List Jump → ((Primitive → Bool) → Type 0) → (from to : ℕ) → Type 0
+LeadsOn x js IsSo from to =
+    (t : Primitive → Bool) (end : ℕ) → IsSo t → length (postfix x) ≤ end
     → Reaches (postfix x) js t from end → Reaches (postfix x) js t to end
 
 -- whether a primitive asks for VLAN tags, or for another identifier than this
@@ -111,3 +127,13 @@ is_tag_test None = false
 abbrev pub is_other_id : ℕ → Option Primitive → Bool
 is_other_id id (Some (primitives.VlanId n)) = not (nat_eq n id)
 is_other_id id _ = false
+
+-- .. or for an identifier that was not seen
+abbrev pub is_unseen_id : Seen → (ids : List ℕ) → Option Primitive → Bool
+is_unseen_id s ids (Some (primitives.VlanId n)) = not (has_vlan_id n s.has_more s.outer s.inner ids)
+is_unseen_id s ids _ = false
+
+-- .. or for more bytes than these
+abbrev pub is_of_more : (len : ℕ) → Option Primitive → Bool
+is_of_more len (Some (primitives.Greater n)) = nat_lt len n
+is_of_more len _ = false

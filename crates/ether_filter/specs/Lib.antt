@@ -1,4 +1,6 @@
 pub mod Expressions
+pub mod FieldTests
+pub mod FieldsFound
 pub mod Primitives
 pub mod Postfix
 pub mod Fields
@@ -10,9 +12,11 @@ pub mod Deciding
 pub mod Evaluation
 pub mod Words
 pub mod Numerals
+pub mod ByteTexts
+pub mod Subjects
 pub mod Tokens
-pub mod Grammar
 pub mod Steps
+pub mod Grammar
 pub mod ExpressionReading
 pub mod ErrorTexts
 pub mod Texts

@@ -25,6 +25,17 @@ whole_number_in word =
 abbrev pub number_in : List ℕ → Option (Option ℕ)
 number_in word = option_map within_32_bits (whole_number_in word)
 
+-- a number that fits in 64 bits
+abbrev pub within_64_bits : ℕ → Option ℕ
+within_64_bits n = if nat_lt n (2 ^ 64) then Some n else None
+
+abbrev pub wide_number_in : List ℕ → Option (Option ℕ)
+wide_number_in word = option_map within_64_bits (whole_number_in word)
+
+abbrev pub narrowed : Option ℕ → Option ℕ
+narrowed None = None
+narrowed (Some n) = within_64_bits n
+
 abbrev pub colon_places : List ℕ
 colon_places = 2 ∷ 5 ∷ 8 ∷ 11 ∷ 14 ∷ []
 
@@ -41,8 +52,14 @@ pairs_in word =
 abbrev pub address_in : List ℕ → Option ℕ
 address_in word = if nat_eq (length word) 12 then digits_in 16 word else pairs_in word
 
--- the number that digits write, at most 2^48
+-- the number that digits write, at most 2^64
 pub record IsCapped (radix : ℕ) (ds : List ℕ) (value : ℕ) : Type 0 where
   pub number : ℕ
   pub is : digits_in radix ds ≡ Some number
-  pub capped : value ≡ min number (2 ^ 48)
+  pub capped : value ≡ min number (2 ^ 64)
+
+-- the number in a word, at most 2^64
+pub record IsCappedNumber (word : List ℕ) (value : ℕ) : Type 0 where
+  pub number : ℕ
+  pub is : whole_number_in word ≡ Some number
+  pub capped : value ≡ min number (2 ^ 64)

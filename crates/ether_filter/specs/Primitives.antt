@@ -8,6 +8,7 @@ use Rattle.ether_peel.specs.Grammar.Expectation.{Next, EtherType, next_after}
 use Rattle.ether_peel.specs.Grammar.Stack.{Ending}
 use Rattle.ether_peel.specs.Grammar.Endings.{refusal_of}
 use Rattle.ether_peel.specs.Walker.Start.{next_of}
+use Rattle.ether_filter.specs.FieldTests.{field_holds}
 use Rattle.ether_filter.specs.declared.packet.Packet.{Packet}
 use Rattle.ether_filter.specs.declared.primitive.Primitive.{Primitive}
 use Rattle.ether_filter.specs.declared.primitive.Primitive.TheVariants as primitives
@@ -103,3 +104,4 @@ Matches primitives.Refused p = IsSome (refusal_of p.ending)
 Matches primitives.Cut p = p.captured < p.original
 Matches (primitives.Less n) p = p.original ≤ n
 Matches (primitives.Greater n) p = n ≤ p.original
+Matches (primitives.Field t) p = IsTrue (field_holds t p.headers)

@@ -1,5 +1,5 @@
 -- What one walk shows for all primitives together.
-use Rattle.std.specs.Prelude.{◌≡◌, ℕ, ◌-◌, ◌^◌, List, [], ◌∷◌, Option, Some, None, Bool, true, false, nat_eq, nat_lt, nat_le, is_some, ◌||◌}
+use Rattle.std.specs.Prelude.{◌≡◌, ℕ, ◌-◌, ◌^◌, List, [], ◌∷◌, Option, Some, None, Bool, true, false, nat_eq, nat_lt, nat_le, is_some, ◌||◌, if◌then◌else◌}
 use Rattle.std.specs.List.{list_any}
 use Rattle.etherparse.specs.Bytes.{number}
 use Rattle.etherparse.specs.Kind.{Kind}
@@ -13,7 +13,8 @@ use Rattle.ether_filter.specs.declared.primitive.Primitive.TheVariants as primit
 use Rattle.ether_filter.specs.declared.seen.Addresses.{Addresses}
 use Rattle.ether_filter.specs.declared.seen.Seen.{Seen}
 use Rattle.ether_filter.specs.declared.tag_marks.TagTypes.{TagTypes}
-use Rattle.ether_filter.specs.Deciding.{is_of_lengths}
+use Rattle.ether_filter.specs.Deciding.{is_of_lengths, is_of_field}
+use Rattle.ether_filter.specs.FieldTests.{field_holds}
 use Rattle.ether_filter.specs.Fields.{shown_by_link}
 use Rattle.ether_filter.specs.Primitives.{is_tag, is_sec_tag, is_from, is_to, is_to_group, vlan_ids, ether_types, Walked}
 use Rattle.ether_filter.specs.TagMarks.{is_some_number, has_bit, has_tag_type, SetsBit, SetsType}
@@ -125,7 +126,14 @@ seen primitives.Refused s ids = s.is_refused
 seen primitives.Cut s ids = false
 seen (primitives.Less n) s ids = false
 seen (primitives.Greater n) s ids = false
+seen (primitives.Field t) s ids = false
 seen primitive s ids = seen_in_link primitive s.link
+
+-- .. if there is a primitive, and it asks about headers and tests no field
+abbrev pub seen_truth : Option Primitive → Seen → List ℕ → Option Bool
+seen_truth None s ids = None
+seen_truth (Some primitive) s ids =
+    if is_of_lengths primitive || is_of_field primitive then None else Some (seen primitive s ids)
 
 -- ---- of a packet
 
@@ -159,7 +167,16 @@ matching w primitives.Refused = is_some (refusal_of w.ending)
 matching w primitives.Cut = nat_lt w.captured w.original
 matching w (primitives.Less n) = nat_le w.original n
 matching w (primitives.Greater n) = nat_le n w.original
+matching w (primitives.Field t) = field_holds t w.headers
 
--- what was seen matches each primitive about headers exactly if the packet does
+-- .. if there is one, and it asks about the two lengths
+abbrev pub length_truth : Option Primitive → (captured original : ℕ) → Option Bool
+length_truth (Some primitives.Cut) captured original = Some (nat_lt captured original)
+length_truth (Some (primitives.Less n)) captured original = Some (nat_le original n)
+length_truth (Some (primitives.Greater n)) captured original = Some (nat_le n original)
+length_truth _ captured original = None
+
+-- what was seen matches each primitive about headers that tests no field exactly if the packet does
 abbrev pub Shows : Walked → Seen → (ids : List ℕ) → Type 0
-Shows w s ids = (p : Primitive) → is_of_lengths p ≡ false → seen p s ids ≡ matching w p
+Shows w s ids =
+    (p : Primitive) → is_of_lengths p ≡ false → is_of_field p ≡ false → seen p s ids ≡ matching w p

@@ -1,7 +1,10 @@
 -- What the words of an expression mean.
 use Rattle.std.specs.Prelude.{ℕ, List, [], ◌∷◌, Option, Some, None, unwrap_or, option_map, nat_eq, codes, if◌then◌else◌}
 use Rattle.std.specs.Cmp.Lexicographic.{pointwise}
-use Rattle.ether_filter.specs.Numerals.{number_in, address_in}
+use Rattle.ether_filter.specs.Numerals.{wide_number_in, address_in}
+use Rattle.ether_filter.specs.ByteTexts.{literal_in}
+use Rattle.ether_filter.specs.Subjects.{subject_in}
+use Rattle.ether_filter.specs.declared.field_test.Relation.TheVariants.{Equal, NotEqual, Less, AtMost, Greater, AtLeast}
 use Rattle.ether_filter.specs.declared.node.Operator.TheVariants.{And, Or}
 use Rattle.ether_filter.specs.declared.token.Token.{Token}
 use Rattle.ether_filter.specs.declared.token.Token.TheVariants as tokens
@@ -19,7 +22,12 @@ keywords =
     ∷ (codes "dst", tokens.Dst) ∷ (codes "host", tokens.Host) ∷
     (codes "broadcast", tokens.Broadcast) ∷ (codes "multicast", tokens.Multicast) ∷
     (codes "refused", tokens.Refused) ∷ (codes "cut", tokens.Cut) ∷ (codes "less", tokens.Less)
-    ∷ (codes "greater", tokens.Greater) ∷ []
+    ∷ (codes "greater", tokens.Greater) ∷
+    (codes "==", tokens.Relation Equal) ∷ (codes "!=", tokens.Relation NotEqual) ∷ (codes "<", tokens.Relation Less)
+    ∷ (codes "<=", tokens.Relation AtMost) ∷ (codes ">", tokens.Relation Greater)
+    ∷ (codes ">=", tokens.Relation AtLeast)
+    ∷ (codes "&", tokens.Mask) ∷ (codes "in", tokens.In) ∷ (codes "{", tokens.OpenSet)
+    ∷ (codes "}", tokens.CloseSet) ∷ (codes ",", tokens.Comma) ∷ []
 
 -- what a word means, if it is among these
 abbrev pub meaning_among : List (List ℕ × Token) → List ℕ → Option Token
@@ -32,7 +40,10 @@ number_token None = tokens.Unknown
 number_token (Some number) = tokens.Number number
 
 abbrev pub literal : List ℕ → Token
-literal word = unwrap_or (option_map tokens.Address (address_in word)) (number_token (number_in word))
+literal word =
+    unwrap_or (option_map tokens.Address (address_in word))
+    (unwrap_or (option_map tokens.Bytes (literal_in word))
+    (unwrap_or (option_map tokens.Field (subject_in word)) (number_token (wide_number_in word))))
 
 abbrev pub token_of : List ℕ → Token
 token_of word = unwrap_or (meaning_among keywords word) (literal word)

@@ -3,23 +3,30 @@ use Rattle.std.specs.Prelude.{◌≡◌, ℕ, ◌+◌, ◌<◌, ◌≤◌, List,
 use Rattle.std.specs.List.{list_any}
 use Rattle.ether_filter.specs.declared.text_words.Word.{Word as Span}
 use Rattle.ether_filter.specs.declared.text_words.Class.{Class}
-use Rattle.ether_filter.specs.declared.text_words.Class.TheVariants.{Blank, Sign, Connective, Letter}
+use Rattle.ether_filter.specs.declared.text_words.Class.TheVariants.{Blank, Sign, Negation, Order, Equals, Connective, Letter}
 
 -- space, tab, line feed and carriage return are blank
 abbrev pub class_of : ℕ → Class
 class_of c =
     if list_any (nat_eq c) (32 ∷ 9 ∷ 10 ∷ 13 ∷ []) then Blank
-    else (if list_any (nat_eq c) (codes "()!") then Sign
-    else (if list_any (nat_eq c) (codes "&|") then Connective else Letter))
+    else (if list_any (nat_eq c) (codes "(){},") then Sign
+    else (if list_any (nat_eq c) (codes "!") then Negation
+    else (if list_any (nat_eq c) (codes "<>") then Order
+    else (if list_any (nat_eq c) (codes "=") then Equals
+    else (if list_any (nat_eq c) (codes "&|") then Connective else Letter)))))
 
 abbrev pub is_blank : Class → Bool
 is_blank Blank = true
 is_blank _ = false
 
--- two neighboring characters are in one word; a sign is always a word of its own
+-- two neighboring characters are in one word; a sign is always a word of its own, and `=` can follow `!`, `<`, `>` and
+-- itself
 abbrev pub are_joined : Class → Class → Bool
 are_joined Letter Letter = true
 are_joined Connective Connective = true
+are_joined Negation Equals = true
+are_joined Order Equals = true
+are_joined Equals Equals = true
 are_joined _ _ = false
 
 pub record Word : Type 0 where

@@ -7,10 +7,11 @@ ghost use Rattle.ether_peel.specs.Grammar.Stack.{Ending, Walk};
 ghost use Rattle.ether_peel.specs.Walker.Start.{start_of};
 ghost use Rattle.ether_filter.specs.Primitives.{walked, Matches};
 ghost use Rattle.ether_filter.specs.Expressions.{Test};
-ghost use Rattle.ether_filter.specs.Deciding.{lost as lost_of, is_of_link as is_of_link_of, can_tell as can_tell_of, IsTold, IsKnown};
+ghost use Rattle.ether_filter.specs.Deciding.{lost as lost_of, is_of_link as is_of_link_of, can_tell as can_tell_of, asks_any as asks_any_of, IsTold, IsKnown};
 ghost use Rattle.ether_filter.specs.Seen.{Shows};
 ghost use Rattle.ether_filter.specs.Evaluation.{IsRefusedUnit, IsOpening, IsValue, joined_value as joined_value_of};
 
+use crate::field_test::Relation;
 use crate::matching::{is_of_lengths, matches_primitive};
 use crate::node::Operator;
 use crate::packet::Packet;
@@ -104,7 +105,7 @@ pub(crate) fn known(
         → Shows (walked packet.now hs e) seen.now ids.now
         → IsOpening packet.now e opening → IsValue packet.now hs e result (Test primitive) }
 {
-    let is_match = matches_primitive(&primitive, packet, seen, ids);
+    let is_match = matches_primitive(primitive, packet, seen, ids);
     if let Some(opening) = opening {
         if !is_known(primitive, packet, seen, ids, is_match, opening) {
             return None;
@@ -142,24 +143,29 @@ fn can_tell(layer: Layer, primitive: Primitive) -> bool
     ensures { result ≡ can_tell_of layer primitive }
 {
     match layer {
-        Layer::Arp => matches!(primitive, Primitive::Refused),
+        Layer::Arp => match primitive {
+            Primitive::Refused => true,
+            Primitive::Field(_) => !is_of_link(primitive),
+            _ => false,
+        },
         Layer::Ethernet2Header => true,
         _ => !is_of_link(primitive),
     }
 }
 
-/// Whether a primitive asks about the addresses of an Ethernet II header.
+/// Whether a primitive asks about an Ethernet II header, whose fields have the numbers up to 3.
 fn is_of_link(primitive: Primitive) -> bool
     ensures { result ≡ is_of_link_of primitive }
 {
-    matches!(
-        primitive,
+    match primitive {
         Primitive::Source(_)
-            | Primitive::Destination(_)
-            | Primitive::Host(_)
-            | Primitive::Broadcast
-            | Primitive::Multicast
-    )
+        | Primitive::Destination(_)
+        | Primitive::Host(_)
+        | Primitive::Broadcast
+        | Primitive::Multicast => true,
+        Primitive::Field(test) => test.field <= 3,
+        _ => false,
+    }
 }
 
 /// Whether the headers so far decide a primitive, whatever headers follow. `is_match` says whether it matches these
@@ -177,10 +183,18 @@ fn is_told(
         → IsTrue result ↔ IsTold primitive (walked packet.now hs e) }
 {
     match primitive {
-        Primitive::OuterVlan(_) => matches_primitive(&Primitive::Vlan, packet, seen, ids),
+        Primitive::OuterVlan(_) => matches_primitive(Primitive::Vlan, packet, seen, ids),
         Primitive::InnerVlan(_) | Primitive::Refused => false,
+        Primitive::Field(test) => asks_any(test.relation) && is_match,
         _ => is_match,
     }
+}
+
+/// Whether a test with this relation asks whether any value has it.
+fn asks_any(relation: Relation) -> bool
+    ensures { result ≡ asks_any_of relation }
+{
+    !matches!(relation, Relation::NotEqual)
 }
 
 /// The value of two joined operands, in Kleene's logic; `None` is unknown.

@@ -5,15 +5,14 @@ ghost use Rattle.ether_peel.specs.Grammar.Expectation.{Expectation};
 ghost use Rattle.ether_peel.specs.Walker.Start.{kind_shown};
 ghost use Rattle.ether_peel.specs.Walker.UnitHeader.{unit_header};
 ghost use Rattle.ether_filter.specs.Primitives.{ether_type_of, is_group as is_group_of};
-ghost use Rattle.ether_filter.specs.Fields.{fields_of, shown_by_link};
+ghost use Rattle.ether_filter.specs.Fields.{fields_of};
 
-use crate::primitive::Primitive;
 use ether_base::big_endian::u64_of;
 use ether_peel::{PeelUnit, RestKind};
 use etherparse::EtherType;
 
 /// The broadcast address.
-const BROADCAST: u64 = 0xFFFF_FFFF_FFFF;
+pub(crate) const BROADCAST: u64 = 0xFFFF_FFFF_FFFF;
 
 /// The fields of a header that primitives ask about.
 #[derive(Clone, Copy)]
@@ -64,22 +63,8 @@ pub(crate) fn announced_type(kind: RestKind) -> Option<u16>
     }
 }
 
-/// Whether a link with these addresses makes a primitive match.
-pub(crate) fn is_shown_by_link(primitive: Primitive, destination: u64, source: u64) -> bool
-    ensures { result ≡ shown_by_link primitive destination source }
-{
-    match primitive {
-        Primitive::Source(address) => address == source,
-        Primitive::Destination(address) => address == destination,
-        Primitive::Host(address) => address == source || address == destination,
-        Primitive::Broadcast => destination == BROADCAST,
-        Primitive::Multicast => is_group(destination),
-        _ => false,
-    }
-}
-
 /// Whether an address is a group address.
-fn is_group(address: u64) -> bool
+pub(crate) fn is_group(address: u64) -> bool
     ensures { result ≡ is_group_of address }
 {
     address / (1 << 40) % 2 == 1

@@ -44,6 +44,18 @@ pub enum FilterErrorKind {
     ExpectedAddress,
     /// A number up to this one is expected.
     ExpectedNumber(u32),
+    /// A relation is expected: `==`, `!=`, `<`, `<=`, `>`, `>=` or `in`.
+    ExpectedRelation,
+    /// A relation or `&` is expected after a field, or `and`, `or`, `)` or the end of the text.
+    ExpectedRelationOrOperator,
+    /// This number of bytes is expected, or a number that fits in them.
+    ExpectedBytes(u8),
+    /// Bytes are expected, as those of an address.
+    ExpectedAnyBytes,
+    /// `{` is expected.
+    ExpectedSet,
+    /// `,` or `}` is expected.
+    ExpectedSetEnd,
     /// `and` and `or` are mixed without parentheses.
     MixedOperators,
     /// A `)` has no `(`.
@@ -78,6 +90,18 @@ impl fmt::Display for FilterErrorKind {
             FilterErrorKind::ExpectedNumber(most) => {
                 write!(f, "expected a number up to {most}.")
             }
+            FilterErrorKind::ExpectedRelation => {
+                f.write_str("expected `==`, `!=`, `<`, `<=`, `>`, `>=` or `in`.")
+            }
+            FilterErrorKind::ExpectedRelationOrOperator => f.write_str(
+                "expected `==`, `!=`, `<`, `<=`, `>`, `>=`, `in`, `&`, `and`, `or`, `)` or the end.",
+            ),
+            FilterErrorKind::ExpectedBytes(len) => { write!(f, "expected a value of {len} bytes.") }
+            FilterErrorKind::ExpectedAnyBytes => {
+                f.write_str("expected bytes, as 02:00:5e:10:00:01 or 10.0.0.1.")
+            }
+            FilterErrorKind::ExpectedSet => f.write_str("expected `{`."),
+            FilterErrorKind::ExpectedSetEnd => f.write_str("expected `,` or `}`."),
             FilterErrorKind::MixedOperators => {
                 f.write_str("`and` and `or` can be mixed only with parentheses.")
             }

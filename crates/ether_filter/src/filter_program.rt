@@ -1,15 +1,16 @@
 //! Runs the instructions of a filter on packets: for filters that are kept in memory of the caller.
-ghost use Rattle.std.specs.Prelude.{◌≡◌, ◌↔◌, ◌+◌, ◌<◌, ◌≤◌, ◌&&◌, ℕ, List, Bool, true, false, IsTrue, Some, length, reverse};
+ghost use Rattle.std.specs.Prelude.{◌≡◌, ◌↔◌, ◌+◌, ◌<◌, ◌≤◌, ◌&&◌, ℕ, List, Bool, true, false, IsTrue, IfNone, IfSome, None, Some, length, reverse};
 ghost use Rattle.arrayvec.specs.ArrayVec.{array_vec_len};
 ghost use Rattle.etherparse.specs.Bytes.{IsBytes};
 ghost use Rattle.etherparse.specs.Header.{Header};
 ghost use Rattle.ether_peel.specs.Grammar.Stack.{Ending, Walk};
 ghost use Rattle.ether_peel.specs.Walker.Start.{start_of};
+ghost use Rattle.ether_filter.specs.declared.primitive.Primitive.{Primitive};
 ghost use Rattle.ether_filter.specs.Primitives.{walked, Matches};
-ghost use Rattle.ether_filter.specs.Jumps.{LeadsOn};
+ghost use Rattle.ether_filter.specs.Jumps.{LeadsOn, Misses, MissesIds, MissesMore, MissesSeen};
 ghost use Rattle.ether_filter.specs.Expressions.{Expression, Holds};
 ghost use Rattle.ether_filter.specs.Postfix.{postfix, pushed};
-ghost use Rattle.ether_filter.specs.FilterProgram.{IsProgramOf};
+ghost use Rattle.ether_filter.specs.FilterProgram.{IsProgramOf, primitive_of};
 ghost use Rattle.ether_filter.specs.Evaluation.{AreValues, IsOpening, IsValue};
 ghost use Rattle.ether_filter.specs.Seen.{Shows};
 ghost use Rattle.ether_filter.specs.Deciding.{Says};
@@ -19,7 +20,7 @@ use crate::decision::Decision;
 use crate::filter::MAX_WORDS;
 use crate::instruction::Instruction;
 use crate::jumps::{HOLDS, jumps_of, past_tags};
-use crate::matching::{is_of_lengths, matches_lengths, matches_primitive};
+use crate::matching::{matches_instruction, matches_lengths};
 use crate::node::Node;
 use crate::packet::Packet;
 use crate::seen::{Seen, Tags, look, tags_seen};
@@ -71,9 +72,7 @@ fn matches_by_lengths(instructions: &[Instruction], packet: &Packet<'_>) -> Opti
     let [first, ..] = instructions else {
         return None;
     };
-    if !is_of_lengths(first.primitive()?) {
-        return None;
-    }
+    matches_lengths(first, packet)?;
     jumps_by_lengths(instructions, *packet)
 }
 
@@ -86,17 +85,33 @@ fn jumps_by_lengths(instructions: &[Instruction], packet: Packet<'_>) -> Option<
     let mut at = 0;
     while at < instructions.len() {
         let instruction = &instructions[at];
-        let primitive = instruction.primitive()?;
-        if !is_of_lengths(primitive) {
-            return None;
-        }
-        let next = instruction.jump.after(matches_lengths(&primitive, &packet));
+        let next = instruction
+            .jump
+            .after(matches_lengths(instruction, &packet)?);
         if next <= at {
             return None; // not reached: each jump leads forward
         }
-        at = next;
+        at = past_more(instructions, next, packet.original_len);
     }
     Some(at == usize::from(HOLDS))
+}
+
+/// Where the evaluation goes on from the index `begin`, past primitives that ask for more bytes than these.
+#[inline]
+fn past_more(instructions: &[Instruction], begin: usize, len: u32) -> usize
+    ensures forward { begin ≤ result }
+    ensures reaches { (x : Expression) (p : IsProgramOf instructions.now x)
+        → LeadsOn x p.jumps (MissesMore len) begin result }
+{
+    let mut at = begin;
+    while at < instructions.len() && instructions[at].asks_more(len) {
+        let next = instructions[at].jump.after(false);
+        if next <= at {
+            return at; // not reached: each jump leads forward
+        }
+        at = next;
+    }
+    at
 }
 
 /// Whether a packet matches, however many VLAN tags it has.
@@ -117,11 +132,12 @@ fn matches_by_ids(instructions: &[Instruction], packet: Packet<'_>) -> bool
 #[inline(always)]
 fn matches_seen(instructions: &[Instruction], packet: &Packet<'_>, seen: &Seen, ids: &[u64]) -> bool
     ensures { (x : Expression) → IsProgramOf instructions.now x → (hs : List Header) (e : Ending)
+        → Walk (start_of packet.now.start) packet.now.frame.now hs e
         → Shows (walked packet.now hs e) seen.now ids.now → IsTrue result ↔ Holds x (walked packet.now hs e) }
 {
     if let [instruction] = instructions {
-        if let Some(primitive) = instruction.primitive() {
-            return matches_primitive(&primitive, packet, seen, ids);
+        if let Some(matches) = matches_instruction(instruction, packet, seen, ids) {
+            return matches;
         }
     }
     matches_by_jumps(instructions, packet, seen, ids)
@@ -136,35 +152,35 @@ fn matches_by_jumps(
     ids: &[u64],
 ) -> bool
     ensures { (x : Expression) → IsProgramOf instructions.now x → (hs : List Header) (e : Ending)
+        → Walk (start_of packet.now.start) packet.now.frame.now hs e
         → Shows (walked packet.now hs e) seen.now ids.now → IsTrue result ↔ Holds x (walked packet.now hs e) }
 {
     let mut at = 0;
     while at < instructions.len() {
         let instruction = &instructions[at];
-        let Some(primitive) = instruction.primitive() else {
+        let Some(matches) = matches_instruction(instruction, packet, seen, ids) else {
             return false; // not reached: each jump leads to a primitive
         };
-        let next = instruction
-            .jump
-            .after(matches_primitive(&primitive, packet, seen, ids));
+        let next = instruction.jump.after(matches);
         if next <= at {
             return false; // not reached: each jump leads forward
         }
-        at = past_misses(instructions, next, tags_seen(seen));
+        at = past_misses(instructions, next, seen, ids);
     }
     at == usize::from(HOLDS)
 }
 
-/// Where the evaluation goes on from the index `begin`, past primitives that these VLAN tags don't match.
+/// Where the evaluation goes on from the index `begin`, past primitives that the VLAN tags that were seen don't match.
 #[inline]
-fn past_misses(instructions: &[Instruction], begin: usize, tags: Tags) -> usize
+fn past_misses(instructions: &[Instruction], begin: usize, seen: &Seen, ids: &[u64]) -> usize
     ensures forward { begin ≤ result }
-    ensures reaches { (x : Expression) (p : IsProgramOf instructions.now x) → LeadsOn x p.jumps tags begin result }
+    ensures reaches { (x : Expression) (p : IsProgramOf instructions.now x)
+        → LeadsOn x p.jumps (MissesSeen seen.now ids.now) begin result }
 {
-    match tags {
+    match tags_seen(seen) {
         Tags::Untagged => past_all(instructions, begin),
         Tags::One(id) => past_others(instructions, begin, id),
-        Tags::Many => begin,
+        Tags::Many => past_unseen(instructions, begin, seen, ids),
     }
 }
 
@@ -173,7 +189,7 @@ fn past_misses(instructions: &[Instruction], begin: usize, tags: Tags) -> usize
 fn past_all(instructions: &[Instruction], begin: usize) -> usize
     ensures forward { begin ≤ result }
     ensures reaches { (x : Expression) (p : IsProgramOf instructions.now x)
-        → LeadsOn x p.jumps Tags.Untagged begin result }
+        → LeadsOn x p.jumps (Misses Tags.Untagged) begin result }
 {
     let mut at = begin;
     while at < instructions.len() && instructions[at].asks_tags() {
@@ -191,10 +207,28 @@ fn past_all(instructions: &[Instruction], begin: usize) -> usize
 fn past_others(instructions: &[Instruction], begin: usize, id: u16) -> usize
     ensures forward { begin ≤ result }
     ensures reaches { (x : Expression) (p : IsProgramOf instructions.now x)
-        → LeadsOn x p.jumps (Tags.One id) begin result }
+        → LeadsOn x p.jumps (Misses (Tags.One id)) begin result }
 {
     let mut at = begin;
     while at < instructions.len() && instructions[at].asks_other_id(id) {
+        let next = instructions[at].jump.after(false);
+        if next <= at {
+            return at; // not reached: each jump leads forward
+        }
+        at = next;
+    }
+    at
+}
+
+/// .. past primitives that ask for an identifier that no VLAN tag has.
+#[inline(never)]
+fn past_unseen(instructions: &[Instruction], begin: usize, seen: &Seen, ids: &[u64]) -> usize
+    ensures forward { begin ≤ result }
+    ensures reaches { (x : Expression) (p : IsProgramOf instructions.now x)
+        → LeadsOn x p.jumps (MissesIds seen.now ids.now) begin result }
+{
+    let mut at = begin;
+    while at < instructions.len() && instructions[at].asks_unseen_id(seen, ids) {
         let next = instructions[at].jump.after(false);
         if next <= at {
             return at; // not reached: each jump leads forward

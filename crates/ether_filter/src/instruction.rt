@@ -1,11 +1,14 @@
 //! The instructions of a filter, which consist of numbers only.
-ghost use Rattle.std.specs.Prelude.{◌≡◌, Some};
-ghost use Rattle.ether_filter.specs.FilterProgram.{IsInstruction, primitive_numbered, operator_numbered, node_numbered};
-ghost use Rattle.ether_filter.specs.Jumps.{is_other_id, is_tag_test};
+ghost use Rattle.std.specs.Prelude.{◌≡◌, ℕ, None, Some};
+ghost use Rattle.std.specs.Option.{option_map};
+ghost use Rattle.ether_filter.specs.FilterProgram.{IsInstruction, primitive_numbered, relation_numbered, field_test_in, primitive_of, operator_numbered, node_of, plain_instruction};
+ghost use Rattle.ether_filter.specs.Jumps.{is_of_more, is_other_id, is_tag_test, is_unseen_id};
 
-use crate::jumps::{Jump, is_of_tags};
+use crate::field_test::{FieldTest, Relation};
+use crate::jumps::Jump;
 use crate::node::{Node, Operator};
 use crate::primitive::Primitive;
+use crate::seen::{Seen, is_vlan_id};
 
 /// An instruction of a filter: a node of its expression, and where the evaluation goes on after it.
 ///
@@ -17,9 +20,19 @@ use crate::primitive::Primitive;
 #[derive(Clone, Copy, Debug, Default)]
 pub struct Instruction {
     /// The number or the address in a primitive.
-    operand: u64,
+    pub(crate) operand: u64,
+    /// The mask of a test of a field.
+    mask: u64,
     /// The number of the node's kind.
-    kind: u32,
+    pub(crate) kind: u8,
+    /// The number of a tested field.
+    field: u8,
+    /// The offset in bytes of the tested part of a field.
+    first: u8,
+    /// The number of bytes in that part, or 0 for all.
+    count: u8,
+    /// The number of bytes that a field is compared with.
+    len: u8,
     pub(crate) jump: Jump,
     /// The index at which the evaluation goes on if the packet has no VLAN tags.
     pub(crate) past_tags: u8,
@@ -30,23 +43,21 @@ impl Instruction {
     pub(crate) fn of(node: Node, jump: Jump, past_tags: u8) -> Instruction
         ensures { IsInstruction node jump past_tags result }
     {
-        let (kind, operand) = match node {
-            Node::Test(primitive) => numbers_of(primitive),
-            Node::Not => (15, 0),
-            Node::Join(Operator::And) => (16, 0),
-            Node::Join(Operator::Or) => (17, 0),
+        let node = match node {
+            Node::Test(primitive) => of_primitive(primitive),
+            Node::Not => plain(15, 0),
+            Node::Join(Operator::And) => plain(16, 0),
+            Node::Join(Operator::Or) => plain(17, 0),
         };
         Instruction {
-            operand,
-            kind,
             jump,
             past_tags,
+            ..node
         }
     }
 
-    /// The primitive that the instruction tests; `None` for an operator.
-    #[inline(always)]
-    pub(crate) fn primitive(&self) -> Option<Primitive>
+    /// The primitive that the instruction tests, unless it tests a field; `None` for an operator.
+    fn plain_primitive(&self) -> Option<Primitive>
         ensures { result ≡ primitive_numbered self.now.kind self.now.operand }
     {
         let operand = self.operand;
@@ -70,31 +81,80 @@ impl Instruction {
         })
     }
 
+    /// The test of a field.
+    #[inline(always)]
+    pub(crate) fn field_test(&self) -> Option<FieldTest>
+        ensures { result ≡ option_map (λ r. field_test_in r self.now) (relation_numbered self.now.kind) }
+    {
+        match relation(self.kind) {
+            Some(relation) => Some(self.field_test_with(relation)),
+            None => None,
+        }
+    }
+
+    /// The primitive that the instruction tests; `None` for an operator.
+    pub(crate) fn primitive(&self) -> Option<Primitive>
+        ensures { result ≡ primitive_of self.now }
+    {
+        match self.plain_primitive() {
+            Some(primitive) => Some(primitive),
+            None => match self.field_test() {
+                Some(test) => Some(Primitive::Field(test)),
+                None => None,
+            },
+        }
+    }
+
+    /// The test of a field with this relation.
+    fn field_test_with(&self, relation: Relation) -> FieldTest
+        ensures { result ≡ field_test_in relation self.now }
+    {
+        FieldTest {
+            field: self.field,
+            first: self.first,
+            count: self.count,
+            relation,
+            mask: self.mask,
+            len: self.len,
+            value: self.operand,
+        }
+    }
+
     /// Whether it tests for VLAN tags.
     #[inline(always)]
     pub(crate) fn asks_tags(&self) -> bool
-        ensures { result ≡ is_tag_test (primitive_numbered self.now.kind self.now.operand) }
+        ensures { result ≡ is_tag_test (primitive_of self.now) }
     {
-        match self.primitive() {
-            Some(primitive) => is_of_tags(&primitive),
-            None => false,
-        }
+        self.kind < 4
     }
 
     /// Whether it tests for a VLAN tag with another identifier than this.
     #[inline(always)]
     pub(crate) fn asks_other_id(&self, id: u16) -> bool
-        ensures { result ≡ is_other_id id (primitive_numbered self.now.kind self.now.operand) }
+        ensures { result ≡ is_other_id id (primitive_of self.now) }
     {
-        match self.primitive() {
-            Some(Primitive::VlanId(wanted)) => wanted != id,
-            _ => false,
-        }
+        self.kind == 1 && (self.operand % (1 << 16)) as u16 != id
+    }
+
+    /// Whether it tests for a VLAN tag with an identifier that was not seen.
+    #[inline(always)]
+    pub(crate) fn asks_unseen_id(&self, seen: &Seen, ids: &[u64]) -> bool
+        ensures { result ≡ is_unseen_id seen.now ids.now (primitive_of self.now) }
+    {
+        self.kind == 1 && !is_vlan_id((self.operand % (1 << 16)) as u16, seen, ids)
+    }
+
+    /// Whether it tests for more bytes than these.
+    #[inline(always)]
+    pub(crate) fn asks_more(&self, len: u32) -> bool
+        ensures { result ≡ is_of_more len (primitive_of self.now) }
+    {
+        self.kind == 14 && (self.operand % (1 << 32)) as u32 > len
     }
 
     /// The node of the expression. Each instruction that a filter returns has one.
     pub fn node(&self) -> Option<Node>
-        ensures { result ≡ node_numbered self.now.kind self.now.operand }
+        ensures { result ≡ node_of self.now }
     {
         match self.primitive() {
             Some(primitive) => Some(Node::Test(primitive)),
@@ -103,31 +163,91 @@ impl Instruction {
     }
 }
 
-/// The number of a primitive's kind, and its operand.
-fn numbers_of(primitive: Primitive) -> (u32, u64)
-    ensures { primitive_numbered result.0 result.1 ≡ Some primitive }
+/// The instruction of a node that tests no field, without its jumps.
+fn plain(kind: u8, operand: u64) -> Instruction
+    ensures { result ≡ plain_instruction kind operand }
+{
+    Instruction {
+        operand,
+        kind,
+        ..Instruction::default()
+    }
+}
+
+/// The instruction of a primitive, without its jumps.
+pub(crate) fn of_primitive(primitive: Primitive) -> Instruction
+    ensures { primitive_of result ≡ Some primitive }
 {
     match primitive {
-        Primitive::Vlan => (0, 0),
-        Primitive::VlanId(id) => (1, u64::from(id)),
-        Primitive::OuterVlan(id) => (2, u64::from(id)),
-        Primitive::InnerVlan(id) => (3, u64::from(id)),
-        Primitive::Macsec => (4, 0),
-        Primitive::EtherType(number) => (5, u64::from(number)),
-        Primitive::Source(address) => (6, address),
-        Primitive::Destination(address) => (7, address),
-        Primitive::Host(address) => (8, address),
-        Primitive::Broadcast => (9, 0),
-        Primitive::Multicast => (10, 0),
-        Primitive::Refused => (11, 0),
-        Primitive::Cut => (12, 0),
-        Primitive::Less(len) => (13, u64::from(len)),
-        Primitive::Greater(len) => (14, u64::from(len)),
+        Primitive::Vlan => plain(0, 0),
+        Primitive::VlanId(id) => plain(1, u64::from(id)),
+        Primitive::OuterVlan(id) => plain(2, u64::from(id)),
+        Primitive::InnerVlan(id) => plain(3, u64::from(id)),
+        Primitive::Macsec => plain(4, 0),
+        Primitive::EtherType(number) => plain(5, u64::from(number)),
+        Primitive::Source(address) => plain(6, address),
+        Primitive::Destination(address) => plain(7, address),
+        Primitive::Host(address) => plain(8, address),
+        Primitive::Broadcast => plain(9, 0),
+        Primitive::Multicast => plain(10, 0),
+        Primitive::Refused => plain(11, 0),
+        Primitive::Cut => plain(12, 0),
+        Primitive::Less(len) => plain(13, u64::from(len)),
+        Primitive::Greater(len) => plain(14, u64::from(len)),
+        Primitive::Field(test) => of_test(test),
+    }
+}
+
+/// .. of a test of a field.
+fn of_test(test: FieldTest) -> Instruction
+    ensures { primitive_of result ≡ Some (Primitive.Field test) }
+{
+    Instruction {
+        operand: test.value,
+        mask: test.mask,
+        kind: relation_number(test.relation),
+        field: test.field,
+        first: test.first,
+        count: test.count,
+        len: test.len,
+        ..Instruction::default()
+    }
+}
+
+/// The number of the kind of a test with this relation.
+fn relation_number(relation: Relation) -> u8
+    ensures number { relation_numbered result ≡ Some relation }
+    ensures apart { (operand : ℕ) → primitive_numbered result operand ≡ None }
+{
+    match relation {
+        Relation::Exists => 18,
+        Relation::Equal => 19,
+        Relation::NotEqual => 20,
+        Relation::Less => 21,
+        Relation::AtMost => 22,
+        Relation::Greater => 23,
+        Relation::AtLeast => 24,
+    }
+}
+
+/// The relation of the tests whose kind has this number.
+fn relation(kind: u8) -> Option<Relation>
+    ensures { result ≡ relation_numbered kind }
+{
+    match kind {
+        18 => Some(Relation::Exists),
+        19 => Some(Relation::Equal),
+        20 => Some(Relation::NotEqual),
+        21 => Some(Relation::Less),
+        22 => Some(Relation::AtMost),
+        23 => Some(Relation::Greater),
+        24 => Some(Relation::AtLeast),
+        _ => None,
     }
 }
 
 /// The operator whose kind has this number.
-fn operator(kind: u32) -> Option<Node>
+fn operator(kind: u8) -> Option<Node>
     ensures { result ≡ operator_numbered kind }
 {
     match kind {

@@ -3,8 +3,12 @@
 #![tactic(auto)]
 
 mod awaited;
+mod byte_text;
 mod deciding;
 mod decision;
+mod field_hit;
+mod field_match;
+mod field_test;
 mod fields;
 mod filter;
 mod filter_error;
@@ -19,11 +23,13 @@ mod packet;
 mod primitive;
 mod reading;
 mod seen;
+mod subject;
 mod tag_marks;
 mod text_words;
 mod token;
 
 pub use decision::Decision;
+pub use field_test::{FieldTest, Relation};
 pub use filter::Filter;
 pub use filter_error::{FilterError, FilterErrorKind};
 pub use instruction::Instruction;

@@ -1,4 +1,5 @@
 //! The primitives of an expression.
+use crate::field_test::FieldTest;
 
 /// A test of a packet, as the table of [`Filter`](crate::Filter) says.
 ///
@@ -35,6 +36,8 @@ pub enum Primitive {
     Less(u32),
     /// `greater N`
     Greater(u32),
+    /// A test of a field, as `vlan.vid == 5`
+    Field(FieldTest),
 }
 
 impl Default for Primitive {

@@ -1,13 +1,15 @@
 //! Reads an expression word by word.
 ghost use Rattle.std.specs.Prelude.{◌≡◌, ◌+◌, ◌<◌, ◌≤◌, ◌∷◌, [], Ok, Err, MatchResult, length, reverse};
 ghost use Rattle.arrayvec.specs.ArrayVec.{array_vec_len};
-ghost use Rattle.ether_filter.specs.ExpressionReading.{state_of, begun, closed, completed, settled, joined_by, closed_group, operator_taken, stepped, operand_taken, id_taken, taken, whole, ended, size_of, differ as differ_of};
+ghost use Rattle.ether_filter.specs.Steps.{member as member_of};
+ghost use Rattle.ether_filter.specs.ExpressionReading.{state_of, begun, closed, completed, settled, joined_by, closed_group, operator_taken, stepped, operand_taken, id_taken, member_taken, taken, whole, ended, size_of, differ as differ_of};
 
-use crate::awaited::{Awaited, Numbered, Step, first_step, kind_of, next_step};
+use crate::awaited::{Awaited, Numbered, Step, existence, first_step, kind_of, member, next_step};
 use crate::filter::MAX_WORDS;
 use crate::filter_error::FilterErrorKind;
 use crate::node::{Node, Operator};
 use crate::primitive::Primitive;
+use crate::subject::Subject;
 use crate::token::Token;
 use arrayvec::ArrayVec;
 
@@ -79,6 +81,29 @@ impl Reading {
                 }
                 _ => Err(FilterErrorKind::ExpectedVlanIdOrOperator),
             },
+            Awaited::Relation(subject) => match token {
+                Token::Relation(_) | Token::Mask | Token::In => {
+                    self.step(next_step(Awaited::Relation(subject), token))
+                }
+                Token::Join(_) | Token::Close => {
+                    self.complete(existence(subject));
+                    self.take_operator(token)
+                }
+                _ => Err(FilterErrorKind::ExpectedRelationOrOperator),
+            },
+            Awaited::FirstMember(subject, mask) => self.take_member(subject, mask, token),
+            Awaited::Member(subject, mask) => {
+                self.take_member(subject, mask, token)?;
+                self.nodes.push(Node::Join(Operator::Or));
+                Ok(())
+            }
+            Awaited::SetEnd(subject, mask) => match token {
+                Token::CloseSet => {
+                    self.close();
+                    Ok(())
+                }
+                _ => self.step(next_step(Awaited::SetEnd(subject, mask), token)),
+            },
             awaited => self.step(next_step(awaited, token)),
         }
     }
@@ -94,6 +119,28 @@ impl Reading {
             Step::More(awaited) => self.awaited = awaited,
             Step::Fails => return Err(kind_of(self.awaited)),
         }
+        Ok(())
+    }
+
+    /// Consumes a value of a set.
+    fn take_member(
+        &mut self,
+        subject: Subject,
+        mask: u64,
+        token: Token,
+    ) -> Result<(), FilterErrorKind>
+        requires { array_vec_len self.old.nodes + array_vec_len self.old.pending < MAX_WORDS }
+        ensures state { MatchResult result
+            (λ _. member_taken subject mask (state_of self.old) (member_of subject mask token) ≡ Ok (state_of self.new))
+            (λ kind. member_taken subject mask (state_of self.old) (member_of subject mask token) ≡ Err kind) }
+        ensures len { array_vec_len self.new.nodes + array_vec_len self.new.pending
+            ≤ array_vec_len self.old.nodes + array_vec_len self.old.pending + 1 }
+    {
+        let Some(primitive) = member(subject, mask, token) else {
+            return Err(kind_of(self.awaited));
+        };
+        self.nodes.push(Node::Test(primitive));
+        self.awaited = Awaited::SetEnd(subject, mask);
         Ok(())
     }
 
@@ -200,6 +247,7 @@ impl Reading {
         match self.awaited {
             Awaited::Operator => {}
             Awaited::VlanId => self.complete(Primitive::Vlan),
+            Awaited::Relation(subject) => self.complete(existence(subject)),
             awaited => return Err(kind_of(awaited)),
         }
         self.settle();

@@ -5,10 +5,12 @@ ghost use Rattle.ether_peel.specs.Walker.Start.{start_of, next_of};
 ghost use Rattle.ether_filter.specs.Primitives.{Walked};
 ghost use Rattle.ether_filter.specs.Jumps.{tags_of};
 ghost use Rattle.ether_filter.specs.TagMarks.{is_some_number, has_bit};
-ghost use Rattle.ether_filter.specs.Seen.{nothing, Shows, IsTaken, AreMarked, tag_id, seen_in_link, has_vlan_id, seen as seen_by, is_announced as is_announced_of};
+ghost use Rattle.ether_filter.specs.Seen.{nothing, Shows, IsTaken, AreMarked, tag_id, seen_in_link, has_vlan_id, seen_truth, is_announced as is_announced_of};
+ghost use Rattle.ether_filter.specs.FilterProgram.{primitive_numbered};
+ghost use Rattle.ether_filter.specs.declared.primitive.Primitive.{Primitive};
 
-use crate::fields::{Fields, address, announced_type, is_shown_by_link, read_fields};
-use crate::primitive::Primitive;
+use crate::fields::{BROADCAST, Fields, address, announced_type, is_group, read_fields};
+use crate::instruction::Instruction;
 use crate::tag_marks::{TagTypes, has_id, has_type, mark, set_type};
 use ether_peel::{Peel, Start};
 use etherparse::EtherType;
@@ -143,42 +145,67 @@ fn take_inner(seen: &mut Seen, id: u16)
     seen.inner = Some(id);
 }
 
-/// Whether a primitive about headers matches a packet in which this was seen.
+/// Whether the primitive of an instruction matches a packet in which this was seen, if it asks about headers and tests
+/// no field; else `None`.
 #[inline(always)]
-pub(crate) fn is_seen(primitive: &Primitive, seen: &Seen, ids: &[u64]) -> bool
-    ensures { result ≡ seen_by primitive.now seen.now ids.now }
+pub(crate) fn is_seen(instruction: &Instruction, seen: &Seen, ids: &[u64]) -> Option<bool>
+    ensures { result ≡ seen_truth (primitive_numbered instruction.now.kind instruction.now.operand) seen.now ids.now }
 {
-    match *primitive {
-        Primitive::Vlan => seen.outer.is_some(),
-        Primitive::VlanId(id) => is_vlan_id(id, seen, ids),
-        Primitive::OuterVlan(id) => is_number(seen.outer, id),
-        Primitive::InnerVlan(id) => is_number(seen.inner, id),
-        Primitive::Macsec => seen.has_sec_tag,
-        Primitive::EtherType(number) => is_announced(number, seen),
-        Primitive::Refused => seen.is_refused,
-        Primitive::Cut | Primitive::Less(_) | Primitive::Greater(_) => false,
-        Primitive::Source(_)
-        | Primitive::Destination(_)
-        | Primitive::Host(_)
-        | Primitive::Broadcast
-        | Primitive::Multicast => is_in_link(primitive, &seen.link),
+    let operand = instruction.operand;
+    let number = (operand % (1 << 16)) as u16;
+    Some(match instruction.kind {
+        0 => seen.outer.is_some(),
+        1 => is_vlan_id(number, seen, ids),
+        2 => is_number(seen.outer, number),
+        3 => is_number(seen.inner, number),
+        4 => seen.has_sec_tag,
+        5 => is_announced(number, seen),
+        6 => is_from(operand, &seen.link),
+        7 => is_to(operand, &seen.link),
+        8 => is_from(operand, &seen.link) || is_to(operand, &seen.link),
+        9 => is_to(BROADCAST, &seen.link),
+        10 => is_to_group(&seen.link),
+        11 => seen.is_refused,
+        _ => return None,
+    })
+}
+
+/// Whether a link has this source.
+#[inline(never)]
+fn is_from(source: u64, link: &Option<Addresses>) -> bool
+    ensures { result ≡ seen_in_link (Primitive.Source source) link.now }
+{
+    match link {
+        Some(link) => source == address(link.source),
+        None => false,
     }
 }
 
-/// Whether the link makes a primitive match.
+/// Whether a link has this destination.
 #[inline(never)]
-fn is_in_link(primitive: &Primitive, link: &Option<Addresses>) -> bool
-    ensures { result ≡ seen_in_link primitive.now link.now }
+fn is_to(destination: u64, link: &Option<Addresses>) -> bool
+    ensures { result ≡ seen_in_link (Primitive.Destination destination) link.now }
 {
     match link {
-        Some(link) => is_shown_by_link(*primitive, address(link.destination), address(link.source)),
+        Some(link) => destination == address(link.destination),
+        None => false,
+    }
+}
+
+/// Whether the destination of a link is a group address.
+#[inline(never)]
+fn is_to_group(link: &Option<Addresses>) -> bool
+    ensures { result ≡ seen_in_link Primitive.Multicast link.now }
+{
+    match link {
+        Some(link) => is_group(address(link.destination)),
         None => false,
     }
 }
 
 /// Whether a VLAN tag has this identifier.
 #[inline(always)]
-fn is_vlan_id(id: u16, seen: &Seen, ids: &[u64]) -> bool
+pub(crate) fn is_vlan_id(id: u16, seen: &Seen, ids: &[u64]) -> bool
     ensures { result ≡ has_vlan_id id seen.now.has_more seen.now.outer seen.now.inner ids.now }
 {
     match seen.inner {

@@ -2,8 +2,11 @@
 ghost use Rattle.std.specs.Prelude.{◌≡◌, map};
 ghost use Rattle.ether_filter.specs.Tokens.{meaning_among, token_of as token_of_bytes};
 
+use crate::byte_text::literal_of;
+use crate::field_test::Relation;
 use crate::node::Operator;
-use crate::numeral::{address_of, number_of};
+use crate::numeral::{address_of, wide_number_of};
+use crate::subject::{Literal, Subject, subject_of};
 
 /// What a word of an expression means.
 #[derive(Clone, Copy)]
@@ -30,9 +33,19 @@ pub(crate) enum Token {
     Cut,
     Less,
     Greater,
-    /// A number; `None` if it does not fit in 32 bits.
-    Number(Option<u32>),
+    /// A number; `None` if it does not fit in 64 bits.
+    Number(Option<u64>),
     Address(u64),
+    /// The bytes of a value, other than those of an address.
+    Bytes(Literal),
+    Field(Subject),
+    Relation(Relation),
+    /// `&`
+    Mask,
+    In,
+    OpenSet,
+    CloseSet,
+    Comma,
     /// A word that no expression has.
     Unknown,
 }
@@ -44,7 +57,7 @@ struct Keyword {
     token: Token,
 }
 
-const KEYWORDS: [Keyword; 26] = [
+const KEYWORDS: [Keyword; 37] = [
     Keyword {
         spelling: b"(",
         token: Token::Open,
@@ -149,6 +162,50 @@ const KEYWORDS: [Keyword; 26] = [
         spelling: b"greater",
         token: Token::Greater,
     },
+    Keyword {
+        spelling: b"==",
+        token: Token::Relation(Relation::Equal),
+    },
+    Keyword {
+        spelling: b"!=",
+        token: Token::Relation(Relation::NotEqual),
+    },
+    Keyword {
+        spelling: b"<",
+        token: Token::Relation(Relation::Less),
+    },
+    Keyword {
+        spelling: b"<=",
+        token: Token::Relation(Relation::AtMost),
+    },
+    Keyword {
+        spelling: b">",
+        token: Token::Relation(Relation::Greater),
+    },
+    Keyword {
+        spelling: b">=",
+        token: Token::Relation(Relation::AtLeast),
+    },
+    Keyword {
+        spelling: b"&",
+        token: Token::Mask,
+    },
+    Keyword {
+        spelling: b"in",
+        token: Token::In,
+    },
+    Keyword {
+        spelling: b"{",
+        token: Token::OpenSet,
+    },
+    Keyword {
+        spelling: b"}",
+        token: Token::CloseSet,
+    },
+    Keyword {
+        spelling: b",",
+        token: Token::Comma,
+    },
 ];
 
 /// What a word means.
@@ -161,7 +218,13 @@ pub(crate) fn token_of(word: &[u8]) -> Token
     if let Some(address) = address_of(word) {
         return Token::Address(address);
     }
-    match number_of(word) {
+    if let Some(bytes) = literal_of(word) {
+        return Token::Bytes(bytes);
+    }
+    if let Some(subject) = subject_of(word) {
+        return Token::Field(subject);
+    }
+    match wide_number_of(word) {
         Some(number) => Token::Number(number),
         None => Token::Unknown,
     }

@@ -34,7 +34,7 @@
 //!
 //! - [`err`], [`ether_type`], [`write_front`]: errors, numbers of ether types, bytes put at a slice's front
 //! - [`ether_peel`]: the walk through a frame, from header to header
-#![cfg_attr(feature = "format", doc = "- [`ether_fields`]: the fields of headers as a table, and the names of numbers")]
+#![cfg_attr(feature = "filter", doc = "- [`ether_fields`]: the fields of headers as a table, and the names of numbers")]
 //! - [`ether_sll2`]: Linux cooked capture v2
 //! - [`ether_packet`]: the headers of a frame in one value; packets that are built, and changed in place
 #![cfg_attr(feature = "filter", doc = "- [`ether_filter`]: filters of packets, in words of pcap-filter(7)")]
@@ -64,7 +64,7 @@ mod fused_iterators;
 mod serialized;
 #[rustfmt::skip]
 pub mod ether_peel;
-#[cfg(feature = "format")]
+#[cfg(feature = "filter")]
 #[rustfmt::skip]
 pub mod ether_fields;
 #[rustfmt::skip]

@@ -104,7 +104,7 @@ table! {
 table! {
     [Clone Copy PartialEq Eq Hash]
         ether_filter::Decision, ether_filter::FilterErrorKind, ether_filter::Instruction, ether_filter::Node,
-        ether_filter::Operator, ether_filter::Primitive;
+        ether_filter::FieldTest, ether_filter::Operator, ether_filter::Primitive, ether_filter::Relation;
     [Clone Copy PartialEq Eq Hash Error] ether_filter::FilterError;
     [Clone Copy PartialEq Eq] ether_filter::Packet<'static>;
     [Clone PartialEq Eq Hash] ether_filter::Filter;

@@ -12,10 +12,11 @@ pub struct EtherFilterError {
     /// the end.
     pub offset: usize,
     /// Expected is 1 a primitive, 2 an operator, 3 `vlan`, 4 a word after `ether`, 5 an address, 6 a number, 11 an
-    /// identifier after `vlan` or an operator. 7 mixed operators, 8 a `)` without a `(`, 9 a `(` without a `)`, 10 too
-    /// many words.
+    /// identifier after `vlan` or an operator, 12 a relation, 13 a relation after a field or an operator, 14 bytes of
+    /// a given number, 15 bytes, 16 `{`, 17 `,` or `}`. 7 mixed operators, 8 a `)` without a `(`, 9 a `(` without a `)`,
+    /// 10 too many words.
     pub kind: u32,
-    /// The greatest number that is expected, in the kinds 6 and 11; else 0.
+    /// The greatest number that is expected, in the kinds 6 and 11; the number of bytes, in the kind 14; else 0.
     pub greatest: u32,
 }
 
@@ -47,14 +48,21 @@ fn kind_number(kind: FilterErrorKind) -> u32 {
         FilterErrorKind::Unclosed => 9,
         FilterErrorKind::TooLong => 10,
         FilterErrorKind::ExpectedVlanIdOrOperator => 11,
+        FilterErrorKind::ExpectedRelation => 12,
+        FilterErrorKind::ExpectedRelationOrOperator => 13,
+        FilterErrorKind::ExpectedBytes(_) => 14,
+        FilterErrorKind::ExpectedAnyBytes => 15,
+        FilterErrorKind::ExpectedSet => 16,
+        FilterErrorKind::ExpectedSetEnd => 17,
     }
 }
 
-/// The greatest number that is expected, 0 if no number is.
+/// The greatest number that is expected, or the number of bytes; 0 if neither is.
 fn greatest_expected(kind: FilterErrorKind) -> u32 {
     match kind {
         FilterErrorKind::ExpectedNumber(most) => most,
         FilterErrorKind::ExpectedVlanIdOrOperator => 4095,
+        FilterErrorKind::ExpectedBytes(len) => u32::from(len),
         _ => 0,
     }
 }

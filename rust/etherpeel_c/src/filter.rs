@@ -16,7 +16,7 @@ pub struct EtherFilter {
 }
 
 // as c/etherpeel.h lays it out
-const _: () = assert!(size_of::<EtherFilter>() == 3080);
+const _: () = assert!(size_of::<EtherFilter>() == 4616);
 
 impl EtherFilter {
     /// Copies the instructions of a filter.

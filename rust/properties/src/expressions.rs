@@ -1,8 +1,10 @@
 //! Draws packets, expressions about them, and texts of expressions.
 
+use crate::fields::{self, Column, Subject, Takes, Value};
 use crate::filter::{Captured, Expression, addresses, ether_types, vlan_ids};
 use crate::frames::frame;
-use etherpeel::ether_filter::{Operator, Primitive};
+use crate::walk::Walk;
+use etherpeel::ether_filter::{FieldTest, Operator, Primitive, Relation};
 use proptest::collection::vec;
 use proptest::prelude::{Just, Strategy, any, prop_oneof};
 use proptest::sample::select;
@@ -47,6 +49,35 @@ struct Pool {
     types: Vec<u16>,
     addresses: Vec<u64>,
     lengths: Vec<u32>,
+    fields: Vec<FieldTest>,
+}
+
+const RELATIONS: [Relation; 6] =
+    [Relation::Equal, Relation::NotEqual, Relation::Less, Relation::AtMost, Relation::Greater, Relation::AtLeast];
+
+/// Tests of a field: that there is a value, and comparisons with a value of the packet, if there is one, or with 1.
+fn field_tests(column: &Column, walk: &Walk) -> Vec<FieldTest> {
+    let subject = Subject { column: column.number, first: 0, count: 0, takes: column.takes };
+    let value = fields::values(column, walk).pop();
+    let (len, number) = match (value, column.takes) {
+        (Some(Value::Number(number)), _) => (0, number),
+        (Some(Value::Bytes(bytes)), _) if (2..=8).contains(&bytes.len()) => {
+            (bytes.len() as u8, fields::number_of(&bytes))
+        }
+        (_, Takes::Number(_)) => (0, 1),
+        (_, Takes::Bytes(len)) => (len, 1),
+        (_, Takes::AnyBytes) => (4, 1),
+    };
+    let compared = RELATIONS.map(|relation| subject.test(u64::MAX, relation, (len, number)));
+    let other = subject.test(u64::MAX, Relation::Equal, (len, number & !1));
+    let masked = subject.test(1, Relation::Equal, (len, number & 1));
+    let mut tests = vec![subject.test(u64::MAX, Relation::Exists, (0, 0)), other, masked];
+    tests.extend(compared);
+    if !matches!(column.takes, Takes::Number(_)) {
+        let slice = Subject { first: 1, count: 3, ..subject };
+        tests.push(slice.test(u64::MAX, Relation::NotEqual, (3, number >> 8 & 0xFF_FFFF)));
+    }
+    tests
 }
 
 impl Pool {
@@ -59,6 +90,7 @@ impl Pool {
             types: [ether_types(packet.frame.start, &walk), vec![0x0800, 0x86DD, 0x0806, 0x8100, 0x88A8, 0]].concat(),
             addresses: vec![to, from, 0x0200_0000_0001, to ^ 1],
             lengths: vec![original.saturating_sub(1), original, original.saturating_add(1), 64],
+            fields: fields::COLUMNS.iter().flat_map(|column| field_tests(column, &walk)).collect(),
         }
     }
 
@@ -78,7 +110,8 @@ impl Pool {
         let types = self.types.iter().map(|&number| Primitive::EtherType(number));
         let addresses = self.addresses.iter().flat_map(|&address| of_addresses.map(|primitive| primitive(address)));
         let lengths = self.lengths.iter().flat_map(|&len| of_lengths.map(|primitive| primitive(len)));
-        alone.into_iter().chain(ids).chain(types).chain(addresses).chain(lengths).collect()
+        let fields = self.fields.iter().copied().map(fields::primitive);
+        alone.into_iter().chain(ids).chain(types).chain(addresses).chain(lengths).chain(fields).collect()
     }
 }
 
@@ -133,11 +166,43 @@ impl Style {
         self.choose(&[plain.to_uppercase(), pairs.join(":"), plain.clone()])
     }
 
+    /// A value of a field: a number, or bytes.
+    fn value(&mut self, len: u8, value: u64) -> String {
+        let bytes: Vec<String> = value.to_be_bytes().iter().map(|byte| format!("{byte:02x}")).collect();
+        match len {
+            0 | 1 => self.number(value),
+            4 => {
+                let [.., a, b, c, d] = value.to_be_bytes();
+                self.choose(&[format!("{a}.{b}.{c}.{d}"), bytes[4..].join(":")])
+            }
+            _ => bytes[8 - usize::from(len)..].join(":"),
+        }
+    }
+
+    /// The words of a test of a field.
+    fn field(&mut self, test: &FieldTest) -> String {
+        let name = fields::numbered(test.field).map_or("", |column| column.name);
+        let slice = if test.count > 0 { format!("[{}:{}]", test.first, test.count) } else { String::new() };
+        let mask = if test.mask < u64::MAX { format!(" & {}", self.value(test.len, test.mask)) } else { String::new() };
+        let relation = match test.relation {
+            Relation::Exists => return format!("{name}{slice}"),
+            Relation::Equal => "==",
+            Relation::NotEqual => "!=",
+            Relation::Less => "<",
+            Relation::AtMost => "<=",
+            Relation::Greater => ">",
+            Relation::AtLeast => ">=",
+        };
+        let value = self.value(test.len, test.value);
+        let blank = self.choose(&["", " "]);
+        format!("{name}{slice}{mask}{blank}{relation}{blank}{value}")
+    }
+
     /// The words of a primitive.
     fn primitive(&mut self, primitive: Primitive) -> String {
         match primitive {
-            Primitive::Vlan => "vlan".into(),
-            Primitive::VlanId(id) => format!("vlan {}", self.number(id.into())),
+            Primitive::Vlan => self.choose(&["vlan", "vlan.vid"]).into(),
+            Primitive::VlanId(id) => format!("{} {}", self.choose(&["vlan", "vlan.vid =="]), self.number(id.into())),
             Primitive::OuterVlan(id) => format!("outer vlan {}", self.number(id.into())),
             Primitive::InnerVlan(id) => format!("inner vlan {}", self.number(id.into())),
             Primitive::Macsec => "macsec".into(),
@@ -145,8 +210,12 @@ impl Style {
             Primitive::EtherType(0x0800) => self.choose(&["ip", "ether proto 2048"]).into(),
             Primitive::EtherType(0x86DD) => self.choose(&["ip6", "ether proto 0x86dd"]).into(),
             Primitive::EtherType(number) => format!("ether proto {}", self.number(number.into())),
-            Primitive::Source(address) => format!("ether src {}", self.address(address)),
-            Primitive::Destination(address) => format!("ether dst {}", self.address(address)),
+            Primitive::Source(address) => {
+                format!("{} {}", self.choose(&["ether src", "eth.src =="]), self.address(address))
+            }
+            Primitive::Destination(address) => {
+                format!("{} {}", self.choose(&["ether dst", "eth.dst =="]), self.address(address))
+            }
             Primitive::Host(address) => format!("ether host {}", self.address(address)),
             Primitive::Broadcast => "ether broadcast".into(),
             Primitive::Multicast => "ether multicast".into(),
@@ -154,6 +223,7 @@ impl Style {
             Primitive::Cut => "cut".into(),
             Primitive::Less(len) => format!("less {}", self.number(len.into())),
             Primitive::Greater(len) => format!("greater {}", self.number(len.into())),
+            Primitive::Field(test) => self.field(&test),
         }
     }
 
@@ -189,7 +259,31 @@ impl Style {
 }
 
 /// Words of expressions, and some that no expression has.
-const WORDS: [&str; 49] = [
+const WORDS: [&str; 73] = [
+    "==",
+    "!=",
+    "<",
+    "<=",
+    ">=",
+    "&",
+    "in",
+    "{",
+    "}",
+    ",",
+    "{1,2}",
+    "vlan.vid",
+    "vlan.vid==5",
+    "eth.src[0:3]",
+    "eth.src[4:3]",
+    "arp.spa",
+    "macsec.sci",
+    "arp.op",
+    "10.0.0.1",
+    "10.0.0.256",
+    "02:00:00",
+    "1:2",
+    "0x1ffffffffffffffff",
+    "vlan.start",
     "(",
     ")",
     "not",
@@ -243,8 +337,23 @@ const WORDS: [&str; 49] = [
 
 /// Texts of words in any order, which are mostly refused somewhere in the middle.
 pub fn word_text() -> impl Strategy<Value = Vec<u8>> {
-    let starts =
-        ["vlan 5 and", "not (arp or", "ether", "ether src", "outer", "", "(vlan", "less", "vlan or ip and", "("];
+    let starts = [
+        "vlan 5 and",
+        "not (arp or",
+        "ether",
+        "ether src",
+        "outer",
+        "",
+        "(vlan",
+        "less",
+        "vlan or ip and",
+        "(",
+        "vlan.vid",
+        "arp.op in {1,",
+        "eth.src ==",
+        "arp.spa & 10.0.0.0",
+        "vlan.vid &",
+    ];
     let words = vec(select(WORDS.to_vec()), 0..7);
     (select(starts.to_vec()), words).prop_map(|(start, words)| format!("{start} {}", words.join(" ")).into_bytes())
 }
@@ -267,7 +376,7 @@ pub fn changed_text() -> impl Strategy<Value = Vec<u8>> {
 
 /// Texts of any characters of words.
 pub fn letter_text() -> impl Strategy<Value = Vec<u8>> {
-    prop_oneof![vec(select(b"vlan 5()!&|\t\nip60x:".to_vec()), 0..20), vec(any::<u8>(), 0..12)]
+    prop_oneof![vec(select(b"vlan 5()!&|\t\nip60x:=<>{},.vid[]".to_vec()), 0..20), vec(any::<u8>(), 0..12)]
 }
 
 /// Texts of about as many words as an expression may have.

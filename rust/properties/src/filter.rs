@@ -3,10 +3,11 @@
 //! Each primitive is about the whole packet: all headers of its walk, the end of the walk, and its two lengths. The
 //! crate documents this; in pcap-filter(7) `vlan` changes where later words look.
 
+use crate::fields;
 use crate::frames::Frame;
 use crate::walk::{Start, Walk};
 use crate::wire::{Header, Layer, number};
-use etherpeel::ether_filter::{Decision, Node, Operator, Packet, Primitive};
+use etherpeel::ether_filter::{Decision, Node, Operator, Packet, Primitive, Relation};
 
 /// An expression as a tree.
 #[derive(Clone, PartialEq, Eq, Debug)]
@@ -101,6 +102,7 @@ pub fn matches(primitive: Primitive, packet: &Captured, walk: &Walk) -> bool {
         Primitive::Cut => packet.captured_len < packet.original_len as usize,
         Primitive::Less(len) => packet.original_len <= len,
         Primitive::Greater(len) => packet.original_len >= len,
+        Primitive::Field(test) => fields::matches(&test, walk),
     }
 }
 
@@ -127,11 +129,12 @@ fn can_tell(layer: Layer, primitive: Primitive) -> bool {
             | Primitive::Host(_)
             | Primitive::Broadcast
             | Primitive::Multicast
-    );
+    ) || matches!(primitive, Primitive::Field(test) if test.field <= 3);
     match layer {
         Layer::Ethernet => true,
-        Layer::Arp => primitive == Primitive::Refused, // it is the last header, and announces nothing
-        _ => !is_of_addresses,                         // only a frame begins with an Ethernet header
+        // it is the last header, and announces nothing
+        Layer::Arp => primitive == Primitive::Refused || matches!(primitive, Primitive::Field(_)) && !is_of_addresses,
+        _ => !is_of_addresses, // only a frame begins with an Ethernet header
     }
 }
 
@@ -140,6 +143,7 @@ fn is_decided(primitive: Primitive, packet: &Captured, walk: &Walk) -> bool {
     match primitive {
         Primitive::OuterVlan(_) => !vlan_ids(walk).is_empty(),
         Primitive::InnerVlan(_) | Primitive::Refused => false,
+        Primitive::Field(test) if test.relation == Relation::NotEqual => false,
         _ => matches(primitive, packet, walk),
     }
 }

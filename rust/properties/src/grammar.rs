@@ -6,8 +6,9 @@
 //! operand    = "not" operand | "(" expression ")" | primitive
 //! ```
 
+use crate::fields::{self, Subject, Takes};
 use crate::filter::Expression;
-use etherpeel::ether_filter::{Filter, FilterError, FilterErrorKind, Operator, Primitive};
+use etherpeel::ether_filter::{Filter, FilterError, FilterErrorKind, Operator, Primitive, Relation};
 
 /// A word and where it begins.
 struct Word<'a> {
@@ -22,23 +23,28 @@ enum Token<'a> {
     Close,
     Not,
     Join(Operator),
-    /// A number; `None` if it does not fit in 32 bits.
-    Number(Option<u32>),
+    /// A number; `None` if it does not fit in 64 bits.
+    Number(Option<u64>),
     Address(u64),
     Other(&'a [u8]),
 }
 
-/// Blanks separate words; `(`, `)` and `!` are words of their own; `&` and `|` are not in a word with other characters.
+/// Blanks separate words; parentheses, braces and commas are words of their own; `&` and `|` are not in a word with other
+/// characters; `=` can follow `!`, `<`, `>` and itself.
 fn words(text: &[u8]) -> Vec<Word<'_>> {
     let class = |byte: u8| match byte {
         b' ' | b'\t' | b'\n' | b'\r' => 0,
-        b'(' | b')' | b'!' => 1,
-        b'&' | b'|' => 2,
-        _ => 3,
+        b'(' | b')' | b'{' | b'}' | b',' => 1,
+        b'!' => 2,
+        b'<' | b'>' => 3,
+        b'=' => 4,
+        b'&' | b'|' => 5,
+        _ => 6,
     };
+    let are_joined = |first, second| matches!((first, second), (2..=4, 4) | (5, 5) | (6, 6));
     let mut words: Vec<Word<'_>> = Vec::new();
     for (at, &byte) in text.iter().enumerate() {
-        let goes_on = at > 0 && class(byte) > 1 && class(byte) == class(text[at - 1]);
+        let goes_on = at > 0 && are_joined(class(text[at - 1]), class(byte));
         match words.last_mut().filter(|_| goes_on) {
             Some(word) => word.bytes = &text[word.at..=at],
             None if class(byte) > 0 => words.push(Word { at, bytes: &text[at..=at] }),
@@ -56,14 +62,71 @@ fn digits(text: &[u8], radix: u32) -> Option<u128> {
     Some(values.iter().fold(0, append))
 }
 
-/// The number in a word: hexadecimal after `0x`, or decimal without a leading zero, which would make it octal.
-pub fn number_in(word: &[u8]) -> Option<Option<u32>> {
-    let number = match word {
+/// The number in a word, at most 2^64: hexadecimal after `0x`, or decimal without a leading zero, which would make it
+/// octal.
+fn wide_number_in(word: &[u8]) -> Option<u128> {
+    match word {
         [b'0', b'x', hexadecimal @ ..] => digits(hexadecimal, 16),
         [b'0', _, ..] => None,
         decimal => digits(decimal, 10),
+    }
+}
+
+/// The number in a word, if it fits in 32 bits.
+pub fn number_in(word: &[u8]) -> Option<Option<u32>> {
+    wide_number_in(word).map(|number| u32::try_from(number).ok())
+}
+
+/// A number up to 255.
+fn byte_in(word: &[u8]) -> Option<u8> {
+    number_in(word)??.try_into().ok()
+}
+
+/// The bytes in a word: two to eight pairs of hexadecimal digits with colons, or four numbers with dots.
+fn bytes_in(word: &[u8]) -> Option<(u8, u64)> {
+    let pairs: Vec<&[u8]> = word.split(|&byte| byte == b':').collect();
+    if (2..=8).contains(&pairs.len()) && pairs.iter().all(|pair| pair.len() == 2) {
+        return digits(&pairs.concat(), 16).map(|number| (pairs.len() as u8, number as u64));
+    }
+    let parts: Option<Vec<u8>> = word.split(|&byte| byte == b'.').map(byte_in).collect();
+    parts.filter(|parts| parts.len() == 4).map(|parts| (4, fields::number_of(&parts)))
+}
+
+/// The slice in brackets: its first offset and its length.
+fn slice_in(text: &[u8]) -> Option<(u8, u8)> {
+    let inner = text.strip_prefix(b"[")?.strip_suffix(b"]")?;
+    let colon = inner.iter().position(|&byte| byte == b':')?;
+    Some((byte_in(&inner[..colon])?, byte_in(&inner[colon + 1..])?))
+}
+
+/// The field, or the slice of a field, that a word names.
+fn subject_in(word: &[u8]) -> Option<Subject> {
+    let name = word.split(|&byte| byte == b'[').next()?;
+    let column = fields::COLUMNS.iter().find(|column| column.name.as_bytes() == name)?;
+    let whole = Subject { column: column.number, first: 0, count: 0, takes: column.takes };
+    if name.len() == word.len() {
+        return Some(whole);
+    }
+    let (first, count) = slice_in(&word[name.len()..])?;
+    let fits = match column.takes {
+        Takes::Number(_) => false,
+        Takes::Bytes(len) => u16::from(first) + u16::from(count) <= u16::from(len),
+        Takes::AnyBytes => true,
     };
-    number.map(|number| u32::try_from(number).ok())
+    let takes = Takes::Bytes(count);
+    ((1..=8).contains(&count) && fits).then_some(Subject { first, count, takes, ..whole })
+}
+
+fn relation_in(word: &[u8]) -> Option<Relation> {
+    Some(match word {
+        b"==" => Relation::Equal,
+        b"!=" => Relation::NotEqual,
+        b"<" => Relation::Less,
+        b"<=" => Relation::AtMost,
+        b">" => Relation::Greater,
+        b">=" => Relation::AtLeast,
+        _ => return None,
+    })
 }
 
 /// The address in a word: six pairs of hexadecimal digits, with colons between them or without.
@@ -86,11 +149,20 @@ fn token(word: &[u8]) -> Token<'_> {
         b"not" | b"!" => Token::Not,
         b"and" | b"&&" => Token::Join(Operator::And),
         b"or" | b"||" => Token::Join(Operator::Or),
-        _ => match (address_in(word), number_in(word)) {
+        _ => match (address_in(word), wide_number_in(word)) {
             (Some(address), _) => Token::Address(address),
-            (None, Some(number)) => Token::Number(number),
+            (None, Some(number)) => Token::Number(u64::try_from(number).ok()),
             (None, None) => Token::Other(word),
         },
+    }
+}
+
+/// Whether bytes of this length are a value.
+fn takes_bytes(takes: Takes, len: u8) -> bool {
+    match takes {
+        Takes::Number(_) => false,
+        Takes::Bytes(wanted) => wanted == len,
+        Takes::AnyBytes => true,
     }
 }
 
@@ -147,14 +219,23 @@ impl<'a> Reader<'a> {
                     left = Expression::Join(operator, Box::new(left), Box::new(self.operand(depth)?));
                 }
                 Some(Token::Join(_)) => return Err(self.error(FilterErrorKind::MixedOperators)),
-                Some(Token::Number(_)) => return Err(self.error(FilterErrorKind::ExpectedOperator)),
+                Some(Token::Number(_)) if !self.is_after_field() => {
+                    return Err(self.error(FilterErrorKind::ExpectedOperator));
+                }
                 Some(_) => return Err(self.error(self.after_operand())),
             }
         }
     }
 
-    /// What is expected after an operand: a `vlan` alone may have a number, too.
+    fn is_after_field(&self) -> bool {
+        subject_in(self.words[self.read - 1].bytes).is_some()
+    }
+
+    /// What is expected after an operand: a `vlan` alone may have a number, too, and a field alone a relation.
     fn after_operand(&self) -> FilterErrorKind {
+        if self.is_after_field() {
+            return FilterErrorKind::ExpectedRelationOrOperator;
+        }
         match self.words[self.read - 1].bytes {
             b"vlan" => FilterErrorKind::ExpectedVlanIdOrOperator,
             _ => FilterErrorKind::ExpectedOperator,
@@ -174,9 +255,62 @@ impl<'a> Reader<'a> {
                 self.take(Token::Close, FilterErrorKind::Unclosed)?;
                 Ok(inner)
             }
-            Token::Other(word) => Ok(Expression::Test(self.primitive(word)?)),
+            Token::Other(word) => match subject_in(word) {
+                Some(subject) => self.field(subject),
+                None => Ok(Expression::Test(self.primitive(word)?)),
+            },
             _ => Err(self.error(FilterErrorKind::ExpectedOperand)),
         }
+    }
+
+    /// Reads a test of a field.
+    fn field(&mut self, subject: Subject) -> Result<Expression, FilterError> {
+        self.read += 1;
+        let test = |mask, relation, value| Expression::Test(fields::primitive(subject.test(mask, relation, value)));
+        let mut mask = u64::MAX;
+        let mut is_masked = false;
+        if self.next()? == Some(Token::Other(b"&")) {
+            self.read += 1;
+            (_, mask) = self.value(subject.takes)?;
+            is_masked = true;
+        }
+        match self.next()? {
+            Some(Token::Other(b"in")) => {
+                self.read += 1;
+                self.take(Token::Other(b"{"), FilterErrorKind::ExpectedSet)?;
+                let mut values = test(mask, Relation::Equal, self.value(subject.takes)?);
+                while self.next()? == Some(Token::Other(b",")) {
+                    self.read += 1;
+                    let further = test(mask, Relation::Equal, self.value(subject.takes)?);
+                    values = Expression::Join(Operator::Or, Box::new(values), Box::new(further));
+                }
+                self.take(Token::Other(b"}"), FilterErrorKind::ExpectedSetEnd)?;
+                Ok(values)
+            }
+            Some(Token::Other(word)) if relation_in(word).is_some() => {
+                self.read += 1;
+                let relation = relation_in(word).unwrap_or(Relation::Exists);
+                Ok(test(mask, relation, self.value(subject.takes)?))
+            }
+            _ if is_masked => Err(self.error(FilterErrorKind::ExpectedRelation)),
+            _ => Ok(test(mask, Relation::Exists, (0, 0))),
+        }
+    }
+
+    /// Reads a value of a field: the number of its bytes, or 0 for a number, and its number.
+    fn value(&mut self, takes: Takes) -> Result<(u8, u64), FilterError> {
+        let bytes = match self.next()? {
+            Some(Token::Number(Some(number))) => match takes {
+                Takes::Number(most) => (number <= most.into()).then_some((0, number)),
+                Takes::Bytes(len) => (u128::from(number) < 1 << (8 * len)).then_some((len, number)),
+                Takes::AnyBytes => None,
+            },
+            Some(Token::Address(address)) => Some((6, address)).filter(|_| takes_bytes(takes, 6)),
+            Some(Token::Other(word)) => bytes_in(word).filter(|&(len, _)| takes_bytes(takes, len)),
+            _ => None,
+        };
+        self.read += usize::from(bytes.is_some());
+        bytes.ok_or_else(|| self.error(takes.error()))
     }
 
     /// Reads a primitive that begins with this word.
@@ -226,9 +360,9 @@ impl<'a> Reader<'a> {
 
     fn number(&mut self, most: u32) -> Result<u32, FilterError> {
         match self.next()? {
-            Some(Token::Number(Some(number))) if number <= most => {
+            Some(Token::Number(Some(number))) if number <= most.into() => {
                 self.read += 1;
-                Ok(number)
+                Ok(number as u32)
             }
             _ => Err(self.error(FilterErrorKind::ExpectedNumber(most))),
         }

@@ -22,6 +22,7 @@ pub mod bridge;
 pub mod cases;
 pub mod cooked;
 pub mod expressions;
+pub mod fields;
 pub mod filter;
 pub mod frames;
 pub mod grammar;

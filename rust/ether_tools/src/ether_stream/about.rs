@@ -42,6 +42,7 @@ EXPR has these primitives, with not, and, or and parentheses:
   vlan [ID], outer vlan ID, inner vlan ID, macsec, arp, ip, ip6
   ether proto TYPE, ether src ADDR, ether dst ADDR, ether host ADDR
   ether broadcast, ether multicast, less N, greater N, cut, refused
+  a field, as vlan.pcp, alone or with ==, !=, <, <=, >, >= or in {V, V}
 
 Each says something of all headers of a packet: unlike in pcap-filter(7), arp is true after any tags, too.
 

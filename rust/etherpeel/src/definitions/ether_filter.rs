@@ -40,6 +40,273 @@
 //!
 //! Uses: [`Expression`](#def.Expression), [`Walked`](#def.Walked), [`Test`](#def.Expression), [`Matches`](#def.Matches), [`Not`](#def.Expression), [`Join`](#def.Expression), [`Joined`](#def.Joined)
 //!
+//! # Field tests
+//!
+//! What a test of a field says of the headers of a packet.
+//!
+//! **The value that a header gives a field, by the number of the field in the table of fields**
+//!
+//! <a id="def.Given"></a>
+//!
+//! ## `Given`
+//!
+//! ```text
+//! pub data Given : Type 0 where
+//!   Number : ℕ → Given
+//!   Bytes : List ℕ → Given
+//! ```
+//!
+//! <a id="def.ethernet2_gives"></a>
+//!
+//! ## `ethernet2_gives`
+//!
+//! Ethernet II (IEEE 802.3, 3.2.3 to 3.2.6).
+//!
+//! ```text
+//! abbrev pub ethernet2_gives : ℕ → Ethernet2Value → Option Given
+//! ethernet2_gives field e =
+//!     if nat_eq field 1 then Some (Bytes (spelled 6 e.destination))
+//!     else (if nat_eq field 2 then Some (Bytes (spelled 6 e.source))
+//!     else (if nat_eq field 3 then Some (Number e.ether_type) else None))
+//! ```
+//!
+//! Uses: [`Ethernet2Value`](crate::definitions::ether_base#def.Ethernet2Value), [`Given`](#def.Given), [`Bytes`](#def.Given), [`spelled`](crate::definitions::ether_base#def.spelled), [`Number`](#def.Given)
+//!
+//! <a id="def.linux_sll_gives"></a>
+//!
+//! ## `linux_sll_gives`
+//!
+//! Linux cooked capture v1 (LINKTYPE\_LINUX\_SLL of the tcpdump group).
+//!
+//! ```text
+//! abbrev pub linux_sll_gives : ℕ → LinuxSllValue → Option Given
+//! linux_sll_gives field s =
+//!     if nat_eq field 4 then Some (Number s.packet_type)
+//!     else (if nat_eq field 5 then Some (Number s.hardware_type)
+//!     else (if nat_eq field 6 then Some (Number s.address_len)
+//!     else (if nat_eq field 7 then Some (Bytes (spelled 8 s.address))
+//!     else (if nat_eq field 8 then Some (Number s.protocol) else None))))
+//! ```
+//!
+//! Uses: [`LinuxSllValue`](crate::definitions::ether_base#def.LinuxSllValue), [`Given`](#def.Given), [`Number`](#def.Given), [`Bytes`](#def.Given), [`spelled`](crate::definitions::ether_base#def.spelled)
+//!
+//! <a id="def.vlan_gives"></a>
+//!
+//! ## `vlan_gives`
+//!
+//! A VLAN tag (IEEE 802.1Q, 9.6).
+//!
+//! ```text
+//! abbrev pub vlan_gives : ℕ → VlanValue → Option Given
+//! vlan_gives field v =
+//!     if nat_eq field 9 then Some (Number v.pcp)
+//!     else (if nat_eq field 10 then Some (Number v.dei)
+//!     else (if nat_eq field 11 then Some (Number v.vid)
+//!     else (if nat_eq field 12 then Some (Number v.ether_type) else None)))
+//! ```
+//!
+//! Uses: [`VlanValue`](crate::definitions::ether_base#def.VlanValue), [`Given`](#def.Given), [`Number`](#def.Given)
+//!
+//! <a id="def.readable"></a>
+//!
+//! ## `readable`
+//!
+//! The ether type after a SecTag, if it can be read.
+//!
+//! ```text
+//! abbrev pub readable : PayloadType → Option ℕ
+//! readable (Unmodified ether_type) = Some ether_type
+//! readable _ = None
+//! ```
+//!
+//! Uses: [`PayloadType`](crate::definitions::ether_base#def.PayloadType), [`Unmodified`](crate::definitions::ether_base#def.PayloadType)
+//!
+//! <a id="def.macsec_gives"></a>
+//!
+//! ## `macsec_gives`
+//!
+//! A SecTag (IEEE 802.1AE, 9.5 to 9.9), without its version and its reserved bits.
+//!
+//! ```text
+//! abbrev pub macsec_gives : ℕ → SecTagFront → SecTagValue → Option Given
+//! macsec_gives field front t =
+//!     if nat_eq field 14 then Some (Number front.end_station)
+//!     else (if nat_eq field 16 then Some (Number front.single_copy_broadcast)
+//!     else (if nat_eq field 17 then Some (Number front.encrypted)
+//!     else (if nat_eq field 18 then Some (Number front.changed)
+//!     else (if nat_eq field 19 then Some (Number front.association_number)
+//!     else (if nat_eq field 21 then Some (Number front.short_len)
+//!     else (if nat_eq field 22 then Some (Number t.packet_number)
+//!     else (if nat_eq field 23 then option_map (λ sci. Bytes (spelled 8 sci)) t.sci
+//!     else (if nat_eq field 24 then option_map Number (readable t.payload_type) else None))))))))
+//! ```
+//!
+//! Uses: [`SecTagFront`](crate::definitions::ether_base#def.SecTagFront), [`SecTagValue`](crate::definitions::ether_base#def.SecTagValue), [`Given`](#def.Given), [`Number`](#def.Given), [`Bytes`](#def.Given), [`spelled`](crate::definitions::ether_base#def.spelled), [`readable`](#def.readable)
+//!
+//! <a id="def.arp_gives"></a>
+//!
+//! ## `arp_gives`
+//!
+//! An ARP packet (RFC 826, "Packet format").
+//!
+//! ```text
+//! abbrev pub arp_gives : ℕ → ArpValue → Option Given
+//! arp_gives field a =
+//!     if nat_eq field 25 then Some (Number a.hardware_type)
+//!     else (if nat_eq field 26 then Some (Number a.protocol_type)
+//!     else (if nat_eq field 27 then Some (Number (length a.sender_hardware))
+//!     else (if nat_eq field 28 then Some (Number (length a.sender_protocol))
+//!     else (if nat_eq field 29 then Some (Number a.operation)
+//!     else (if nat_eq field 30 then Some (Bytes a.sender_hardware)
+//!     else (if nat_eq field 31 then Some (Bytes a.sender_protocol)
+//!     else (if nat_eq field 32 then Some (Bytes a.target_hardware)
+//!     else (if nat_eq field 33 then Some (Bytes a.target_protocol) else None))))))))
+//! ```
+//!
+//! Uses: [`ArpValue`](crate::definitions::ether_base#def.ArpValue), [`Given`](#def.Given), [`Number`](#def.Given), [`Bytes`](#def.Given)
+//!
+//! <a id="def.gives"></a>
+//!
+//! ## `gives`
+//!
+//! ```text
+//! abbrev pub gives : ℕ → Header → Option Given
+//! gives field (headers.Ethernet2 e) = ethernet2_gives field e
+//! gives field (headers.Ethernet2Fcs e) = ethernet2_gives field e
+//! gives field (headers.LinuxSll s) = linux_sll_gives field s
+//! gives field (headers.Vlan v) = vlan_gives field v
+//! gives field (headers.Macsec t) = macsec_gives field (sec_tag_front_of 0 0 t) t
+//! gives field (headers.Arp a) = arp_gives field a
+//! ```
+//!
+//! Uses: [`Header`](crate::definitions::ether_base#def.Header), [`Given`](#def.Given), [`headers.Ethernet2`](crate::definitions::ether_base#def.Header), [`ethernet2_gives`](#def.ethernet2_gives), [`headers.Ethernet2Fcs`](crate::definitions::ether_base#def.Header), [`headers.LinuxSll`](crate::definitions::ether_base#def.Header), [`linux_sll_gives`](#def.linux_sll_gives), [`headers.Vlan`](crate::definitions::ether_base#def.Header), [`vlan_gives`](#def.vlan_gives), [`headers.Macsec`](crate::definitions::ether_base#def.Header), [`macsec_gives`](#def.macsec_gives), [`sec_tag_front_of`](crate::definitions::ether_base#def.sec_tag_front_of), [`headers.Arp`](crate::definitions::ether_base#def.Header), [`arp_gives`](#def.arp_gives)
+//!
+//! **A test**
+//!
+//! <a id="def.part_of"></a>
+//!
+//! ## `part_of`
+//!
+//! The tested part: `count` bytes from the offset `first` on, if they are there, or all bytes; of numbers the whole.
+//!
+//! ```text
+//! abbrev pub part_of : (first count : ℕ) → Given → Option Given
+//! part_of first count (Number n) = Some (Number n)
+//! part_of first count (Bytes bs) =
+//!     if nat_eq count 0 then Some (Bytes bs)
+//!     else (if nat_le (first + count) (length bs) then Some (Bytes (slice_range bs first (first + count))) else None)
+//! ```
+//!
+//! Uses: [`Given`](#def.Given), [`Number`](#def.Given), [`Bytes`](#def.Given)
+//!
+//! <a id="def.are_related"></a>
+//!
+//! ## `are_related`
+//!
+//! Two numbers are related; for `!=` it is asked whether they are equal.
+//!
+//! ```text
+//! abbrev pub are_related : Relation → ℕ → ℕ → Bool
+//! are_related relations.Exists n m = true
+//! are_related relations.Equal n m = nat_eq n m
+//! are_related relations.NotEqual n m = nat_eq n m
+//! are_related relations.Less n m = nat_lt n m
+//! are_related relations.AtMost n m = nat_le n m
+//! are_related relations.Greater n m = nat_lt m n
+//! are_related relations.AtLeast n m = nat_le m n
+//! ```
+//!
+//! Uses: `relations` (`Relation`)
+//!
+//! <a id="def.is_hit"></a>
+//!
+//! ## `is_hit`
+//!
+//! The bits of the mask are related to the value; bytes only if they are as many as the value has.
+//!
+//! ```text
+//! abbrev pub is_hit : FieldTest → Given → Bool
+//! is_hit t (Number n) = are_related t.relation (bit_and n t.mask) t.value
+//! is_hit t (Bytes bs) =
+//!     nat_eq (length bs) t.len
+//!     && (nat_le (length bs) 8 && are_related t.relation (bit_and (number bs) t.mask) t.value)
+//! ```
+//!
+//! Uses: [`Given`](#def.Given), [`Number`](#def.Given), [`are_related`](#def.are_related), [`Bytes`](#def.Given), [`number`](crate::definitions::ether_base#def.number)
+//!
+//! <a id="def.hit_if"></a>
+//!
+//! ## `hit_if`
+//!
+//! ```text
+//! abbrev pub hit_if : FieldTest → Option Given → Option Bool
+//! hit_if t None = None
+//! hit_if t (Some given) = option_map (is_hit t) (part_of t.first t.count given)
+//! ```
+//!
+//! Uses: [`Given`](#def.Given), [`is_hit`](#def.is_hit), [`part_of`](#def.part_of)
+//!
+//! <a id="def.hit"></a>
+//!
+//! ## `hit`
+//!
+//! Whether what a header gives the tested part is related; none if it gives nothing.
+//!
+//! ```text
+//! abbrev pub hit : FieldTest → Header → Option Bool
+//! hit t h = hit_if t (gives t.field h)
+//! ```
+//!
+//! Uses: [`Header`](crate::definitions::ether_base#def.Header), [`hit_if`](#def.hit_if), [`gives`](#def.gives)
+//!
+//! <a id="def.has_value"></a>
+//!
+//! ## `has_value`
+//!
+//! ```text
+//! abbrev pub has_value : FieldTest → List Header → Bool
+//! has_value t hs = list_any (λ h. is_some (hit t h)) hs
+//! ```
+//!
+//! Uses: [`Header`](crate::definitions::ether_base#def.Header), [`hit`](#def.hit)
+//!
+//! <a id="def.has_hit"></a>
+//!
+//! ## `has_hit`
+//!
+//! ```text
+//! abbrev pub has_hit : FieldTest → List Header → Bool
+//! has_hit t hs = list_any (λ h. unwrap_or (hit t h) false) hs
+//! ```
+//!
+//! Uses: [`Header`](crate::definitions::ether_base#def.Header), [`hit`](#def.hit)
+//!
+//! <a id="def.answer"></a>
+//!
+//! ## `answer`
+//!
+//! ```text
+//! abbrev pub answer : Relation → (has_value has_hit : Bool) → Bool
+//! answer relations.Exists some any = some
+//! answer relations.NotEqual some any = some && not any
+//! answer _ some any = any
+//! ```
+//!
+//! Uses: `relations` (`Relation`)
+//!
+//! <a id="def.field_holds"></a>
+//!
+//! ## `field_holds`
+//!
+//! The test holds for these headers.
+//!
+//! ```text
+//! abbrev pub field_holds : FieldTest → List Header → Bool
+//! field_holds t hs = answer t.relation (has_value t hs) (has_hit t hs)
+//! ```
+//!
+//! Uses: [`Header`](crate::definitions::ether_base#def.Header), [`answer`](#def.answer), [`has_value`](#def.has_value), [`has_hit`](#def.has_hit)
+//!
 //! # Primitives
 //!
 //! What a primitive says of a packet: by the headers of its one walk, which reads every tag, by the ending of that
@@ -247,9 +514,10 @@
 //! Matches primitives.Cut p = p.captured < p.original
 //! Matches (primitives.Less n) p = p.original ≤ n
 //! Matches (primitives.Greater n) p = n ≤ p.original
+//! Matches (primitives.Field t) p = IsTrue (field_holds t p.headers)
 //! ```
 //!
-//! Uses: [`Walked`](#def.Walked), `primitives` (`Primitive`), [`is_tag`](#def.is_tag), [`vlan_ids`](#def.vlan_ids), [`is_sec_tag`](#def.is_sec_tag), [`ether_types`](#def.ether_types), [`is_from`](#def.is_from), [`is_to`](#def.is_to), [`is_to_group`](#def.is_to_group), [`refusal_of`](crate::definitions::ether_peel#def.refusal_of)
+//! Uses: [`Walked`](#def.Walked), `primitives` (`Primitive`), [`is_tag`](#def.is_tag), [`vlan_ids`](#def.vlan_ids), [`is_sec_tag`](#def.is_sec_tag), [`ether_types`](#def.ether_types), [`is_from`](#def.is_from), [`is_to`](#def.is_to), [`is_to_group`](#def.is_to_group), [`refusal_of`](crate::definitions::ether_peel#def.refusal_of), [`field_holds`](#def.field_holds)
 //!
 //! # Postfix
 //!
@@ -456,6 +724,76 @@
 //!
 //! Uses: `nodes` (`Node`), `operators` (`Operator`)
 //!
+//! <a id="def.relation_numbered"></a>
+//!
+//! ## `relation_numbered`
+//!
+//! The relation of the tests of fields whose kind has this number.
+//!
+//! ```text
+//! abbrev pub relation_numbered : (kind : ℕ) → Option Relation
+//! relation_numbered kind =
+//!     if nat_eq kind 18 then Some relations.Exists
+//!     else (if nat_eq kind 19 then Some relations.Equal
+//!     else (if nat_eq kind 20 then Some relations.NotEqual
+//!     else (if nat_eq kind 21 then Some relations.Less
+//!     else (if nat_eq kind 22 then Some relations.AtMost
+//!     else (if nat_eq kind 23 then Some relations.Greater
+//!     else (if nat_eq kind 24 then Some relations.AtLeast else None))))))
+//! ```
+//!
+//! Uses: `relations` (`Relation`)
+//!
+//! <a id="def.field_test_in"></a>
+//!
+//! ## `field_test_in`
+//!
+//! ```text
+//! abbrev pub field_test_in : Relation → Instruction → FieldTest
+//! field_test_in relation s = record {
+//!   field = s.field;
+//!   first = s.first;
+//!   count = s.count;
+//!   relation = relation;
+//!   mask = s.mask;
+//!   len = s.len;
+//!   value = s.operand;
+//! }
+//! ```
+//!
+//! <a id="def.field_primitive"></a>
+//!
+//! ## `field_primitive`
+//!
+//! ```text
+//! abbrev pub field_primitive : Option Relation → Instruction → Option Primitive
+//! field_primitive None s = None
+//! field_primitive (Some relation) s = Some (primitives.Field (field_test_in relation s))
+//! ```
+//!
+//! Uses: `primitives` (`Primitive`), [`field_test_in`](#def.field_test_in)
+//!
+//! <a id="def.primitive_or"></a>
+//!
+//! ## `primitive_or`
+//!
+//! ```text
+//! abbrev pub primitive_or : Option Primitive → Option Primitive → Option Primitive
+//! primitive_or (Some primitive) other = Some primitive
+//! primitive_or None other = other
+//! ```
+//!
+//! <a id="def.primitive_of"></a>
+//!
+//! ## `primitive_of`
+//!
+//! ```text
+//! abbrev pub primitive_of : Instruction → Option Primitive
+//! primitive_of s = primitive_or (primitive_numbered s.kind s.operand) (field_primitive (relation_numbered s.kind) s)
+//! ```
+//!
+//! Uses: [`primitive_or`](#def.primitive_or), [`primitive_numbered`](#def.primitive_numbered), [`field_primitive`](#def.field_primitive), [`relation_numbered`](#def.relation_numbered)
+//!
 //! <a id="def.test_or"></a>
 //!
 //! ## `test_or`
@@ -470,16 +808,16 @@
 //!
 //! Uses: `nodes` (`Node`)
 //!
-//! <a id="def.node_numbered"></a>
+//! <a id="def.node_of"></a>
 //!
-//! ## `node_numbered`
+//! ## `node_of`
 //!
 //! ```text
-//! abbrev pub node_numbered : (kind operand : ℕ) → Option Node
-//! node_numbered kind operand = test_or (primitive_numbered kind operand) (operator_numbered kind)
+//! abbrev pub node_of : Instruction → Option Node
+//! node_of s = test_or (primitive_of s) (operator_numbered s.kind)
 //! ```
 //!
-//! Uses: [`test_or`](#def.test_or), [`primitive_numbered`](#def.primitive_numbered), [`operator_numbered`](#def.operator_numbered)
+//! Uses: [`test_or`](#def.test_or), [`primitive_of`](#def.primitive_of), [`operator_numbered`](#def.operator_numbered)
 //!
 //! <a id="def.IsInstruction"></a>
 //!
@@ -489,12 +827,12 @@
 //!
 //! ```text
 //! pub record IsInstruction (n : Node) (j : Jump) (past : ℕ) (s : Instruction) : Type 0 where
-//!   pub node : node_numbered s.kind s.operand ≡ Some n
+//!   pub node : node_of s ≡ Some n
 //!   pub jump : s.jump ≡ j
 //!   pub past_tags : s.past_tags ≡ past
 //! ```
 //!
-//! Uses: [`Jump`](#def.Jump), [`node_numbered`](#def.node_numbered)
+//! Uses: [`Jump`](#def.Jump), [`node_of`](#def.node_of)
 //!
 //! <a id="def.IsProgramOf"></a>
 //!
@@ -605,7 +943,7 @@
 //!
 //! ## `is_of_link`
 //!
-//! The primitive asks about the addresses of an Ethernet II header.
+//! The primitive asks about an Ethernet II header, whose fields have the numbers up to 3.
 //!
 //! ```text
 //! abbrev pub is_of_link : Primitive → Bool
@@ -614,6 +952,7 @@
 //! is_of_link (primitives.Host address) = true
 //! is_of_link primitives.Broadcast = true
 //! is_of_link primitives.Multicast = true
+//! is_of_link (primitives.Field t) = nat_le t.field 3
 //! is_of_link _ = false
 //! ```
 //!
@@ -631,6 +970,34 @@
 //!
 //! Uses: `primitives` (`Primitive`)
 //!
+//! <a id="def.is_of_field"></a>
+//!
+//! ## `is_of_field`
+//!
+//! The primitive tests a field.
+//!
+//! ```text
+//! abbrev pub is_of_field : Primitive → Bool
+//! is_of_field (primitives.Field t) = true
+//! is_of_field _ = false
+//! ```
+//!
+//! Uses: `primitives` (`Primitive`)
+//!
+//! <a id="def.asks_any"></a>
+//!
+//! ## `asks_any`
+//!
+//! A test with this relation asks whether any value has it.
+//!
+//! ```text
+//! abbrev pub asks_any : Relation → Bool
+//! asks_any relations.NotEqual = false
+//! asks_any _ = true
+//! ```
+//!
+//! Uses: `relations` (`Relation`)
+//!
 //! <a id="def.can_tell"></a>
 //!
 //! ## `can_tell`
@@ -640,12 +1007,12 @@
 //!
 //! ```text
 //! abbrev pub can_tell : Layer → Primitive → Bool
-//! can_tell layers.Arp primitive = is_refused primitive
+//! can_tell layers.Arp primitive = is_refused primitive || (is_of_field primitive && not (is_of_link primitive))
 //! can_tell layers.Ethernet2Header primitive = true
 //! can_tell layer primitive = not (is_of_link primitive)
 //! ```
 //!
-//! Uses: `layers` (`Layer`), [`is_refused`](#def.is_refused), [`is_of_link`](#def.is_of_link)
+//! Uses: `layers` (`Layer`), [`is_refused`](#def.is_refused), [`is_of_field`](#def.is_of_field), [`is_of_link`](#def.is_of_link)
 //!
 //! <a id="def.IsTold"></a>
 //!
@@ -658,10 +1025,11 @@
 //! IsTold (primitives.OuterVlan id) p = IsTrue (list_any is_tag p.headers)
 //! IsTold (primitives.InnerVlan id) p = ⊥
 //! IsTold primitives.Refused p = ⊥
+//! IsTold (primitives.Field t) p = IsTrue (asks_any t.relation && field_holds t p.headers)
 //! IsTold primitive p = Matches primitive p
 //! ```
 //!
-//! Uses: [`Walked`](#def.Walked), `primitives` (`Primitive`), [`is_tag`](#def.is_tag), [`Matches`](#def.Matches)
+//! Uses: [`Walked`](#def.Walked), `primitives` (`Primitive`), [`is_tag`](#def.is_tag), [`asks_any`](#def.asks_any), [`field_holds`](#def.field_holds), [`Matches`](#def.Matches)
 //!
 //! <a id="def.IsKnown"></a>
 //!
@@ -812,11 +1180,14 @@
 //! abbrev pub class_of : ℕ → Class
 //! class_of c =
 //!     if list_any (nat_eq c) (32 ∷ 9 ∷ 10 ∷ 13 ∷ []) then Blank
-//!     else (if list_any (nat_eq c) (codes "()!") then Sign
-//!     else (if list_any (nat_eq c) (codes "&|") then Connective else Letter))
+//!     else (if list_any (nat_eq c) (codes "(){},") then Sign
+//!     else (if list_any (nat_eq c) (codes "!") then Negation
+//!     else (if list_any (nat_eq c) (codes "<>") then Order
+//!     else (if list_any (nat_eq c) (codes "=") then Equals
+//!     else (if list_any (nat_eq c) (codes "&|") then Connective else Letter)))))
 //! ```
 //!
-//! Uses: [`Class`](#def.Class), [`Blank`](#def.Class), [`Sign`](#def.Class), [`Connective`](#def.Class), [`Letter`](#def.Class)
+//! Uses: [`Class`](#def.Class), [`Blank`](#def.Class), [`Sign`](#def.Class), [`Negation`](#def.Class), [`Order`](#def.Class), [`Equals`](#def.Class), [`Connective`](#def.Class), [`Letter`](#def.Class)
 //!
 //! <a id="def.is_blank"></a>
 //!
@@ -834,16 +1205,20 @@
 //!
 //! ## `are_joined`
 //!
-//! Two neighboring characters are in one word; a sign is always a word of its own.
+//! Two neighboring characters are in one word; a sign is always a word of its own, and `=` can follow `!`, `<`, `>` and
+//! itself.
 //!
 //! ```text
 //! abbrev pub are_joined : Class → Class → Bool
 //! are_joined Letter Letter = true
 //! are_joined Connective Connective = true
+//! are_joined Negation Equals = true
+//! are_joined Order Equals = true
+//! are_joined Equals Equals = true
 //! are_joined _ _ = false
 //! ```
 //!
-//! Uses: [`Class`](#def.Class), [`Letter`](#def.Class), [`Connective`](#def.Class)
+//! Uses: [`Class`](#def.Class), [`Letter`](#def.Class), [`Connective`](#def.Class), [`Negation`](#def.Class), [`Equals`](#def.Class), [`Order`](#def.Class)
 //!
 //! <a id="def.Words.Word"></a>
 //!
@@ -969,6 +1344,28 @@
 //!
 //! Uses: [`within_32_bits`](#def.within_32_bits), [`whole_number_in`](#def.whole_number_in)
 //!
+//! <a id="def.within_64_bits"></a>
+//!
+//! ## `within_64_bits`
+//!
+//! A number that fits in 64 bits.
+//!
+//! ```text
+//! abbrev pub within_64_bits : ℕ → Option ℕ
+//! within_64_bits n = if nat_lt n (2 ^ 64) then Some n else None
+//! ```
+//!
+//! <a id="def.wide_number_in"></a>
+//!
+//! ## `wide_number_in`
+//!
+//! ```text
+//! abbrev pub wide_number_in : List ℕ → Option (Option ℕ)
+//! wide_number_in word = option_map within_64_bits (whole_number_in word)
+//! ```
+//!
+//! Uses: [`within_64_bits`](#def.within_64_bits), [`whole_number_in`](#def.whole_number_in)
+//!
 //! <a id="def.colon_places"></a>
 //!
 //! ## `colon_places`
@@ -1017,6 +1414,635 @@
 //!
 //! Uses: [`digits_in`](#def.digits_in), [`pairs_in`](#def.pairs_in)
 //!
+//! # Byte texts
+//!
+//! Bytes as words, and slices of bytes.
+//!
+//! <a id="def.place_in"></a>
+//!
+//! ## `place_in`
+//!
+//! The first place of a character in a text that begins at the offset `at`.
+//!
+//! ```text
+//! abbrev pub place_in : (c at : ℕ) → List ℕ → Option ℕ
+//! place_in c at [] = None
+//! place_in c at (d ∷ ds) = if nat_eq d c then Some at else place_in c (at + 1) ds
+//! ```
+//!
+//! **An address of IPv4**
+//!
+//! <a id="def.as_byte"></a>
+//!
+//! ## `as_byte`
+//!
+//! A number up to 255.
+//!
+//! ```text
+//! abbrev pub as_byte : Option (Option ℕ) → Option ℕ
+//! as_byte (Some (Some n)) = if nat_lt n 256 then Some n else None
+//! as_byte _ = None
+//! ```
+//!
+//! <a id="def.byte_in"></a>
+//!
+//! ## `byte_in`
+//!
+//! ```text
+//! abbrev pub byte_in : List ℕ → Option ℕ
+//! byte_in word = as_byte (number_in word)
+//! ```
+//!
+//! Uses: [`as_byte`](#def.as_byte), [`number_in`](#def.number_in)
+//!
+//! <a id="def.part_at"></a>
+//!
+//! ## `part_at`
+//!
+//! ```text
+//! abbrev pub part_at : List ℕ → Option ℕ → Option (ℕ × List ℕ)
+//! part_at word None = None
+//! part_at word (Some dot) = option_map (λ n. (n, drop (dot + 1) word)) (byte_in (take dot word))
+//! ```
+//!
+//! Uses: [`byte_in`](#def.byte_in)
+//!
+//! <a id="def.part_in"></a>
+//!
+//! ## `part_in`
+//!
+//! The number before the first dot (46), and what follows the dot.
+//!
+//! ```text
+//! abbrev pub part_in : List ℕ → Option (ℕ × List ℕ)
+//! part_in word = part_at word (place_in 46 0 word)
+//! ```
+//!
+//! Uses: [`part_at`](#def.part_at), [`place_in`](#def.place_in)
+//!
+//! <a id="def.four_with"></a>
+//!
+//! ## `four_with`
+//!
+//! ```text
+//! abbrev pub four_with : (a b c : ℕ) → Option ℕ → Option Literal
+//! four_with a b c None = None
+//! four_with a b c (Some d) = Some (record { len = 4; number = number (a ∷ b ∷ c ∷ d ∷ []) })
+//! ```
+//!
+//! Uses: [`Literal`](#def.Literal)
+//!
+//! <a id="def.three_with"></a>
+//!
+//! ## `three_with`
+//!
+//! ```text
+//! abbrev pub three_with : (a b : ℕ) → Option (ℕ × List ℕ) → Option Literal
+//! three_with a b None = None
+//! three_with a b (Some p) = four_with a b p.0 (byte_in p.1)
+//! ```
+//!
+//! Uses: [`Literal`](#def.Literal), [`four_with`](#def.four_with), [`byte_in`](#def.byte_in)
+//!
+//! <a id="def.two_with"></a>
+//!
+//! ## `two_with`
+//!
+//! ```text
+//! abbrev pub two_with : (a : ℕ) → Option (ℕ × List ℕ) → Option Literal
+//! two_with a None = None
+//! two_with a (Some p) = three_with a p.0 (part_in p.1)
+//! ```
+//!
+//! Uses: [`Literal`](#def.Literal), [`three_with`](#def.three_with), [`part_in`](#def.part_in)
+//!
+//! <a id="def.one_with"></a>
+//!
+//! ## `one_with`
+//!
+//! ```text
+//! abbrev pub one_with : Option (ℕ × List ℕ) → Option Literal
+//! one_with None = None
+//! one_with (Some p) = two_with p.0 (part_in p.1)
+//! ```
+//!
+//! Uses: [`Literal`](#def.Literal), [`two_with`](#def.two_with), [`part_in`](#def.part_in)
+//!
+//! <a id="def.ipv4_in"></a>
+//!
+//! ## `ipv4_in`
+//!
+//! Four numbers up to 255 with dots between them.
+//!
+//! ```text
+//! abbrev pub ipv4_in : List ℕ → Option Literal
+//! ipv4_in word = one_with (part_in word)
+//! ```
+//!
+//! Uses: [`Literal`](#def.Literal), [`one_with`](#def.one_with), [`part_in`](#def.part_in)
+//!
+//! **Bytes**
+//!
+//! <a id="def.pair_digits_in"></a>
+//!
+//! ## `pair_digits_in`
+//!
+//! The digits of pairs with colons (58) between them.
+//!
+//! ```text
+//! abbrev pub pair_digits_in : List ℕ → Option (List ℕ)
+//! pair_digits_in (a ∷ b ∷ []) = Some (a ∷ b ∷ [])
+//! pair_digits_in (a ∷ b ∷ c ∷ rest) =
+//!     if nat_eq c 58 then option_map (λ ds. a ∷ b ∷ ds) (pair_digits_in rest) else None
+//! pair_digits_in _ = None
+//! ```
+//!
+//! <a id="def.bytes_with"></a>
+//!
+//! ## `bytes_with`
+//!
+//! ```text
+//! abbrev pub bytes_with : (len : ℕ) → Option ℕ → Option Literal
+//! bytes_with len None = None
+//! bytes_with len (Some n) = Some (record { len = len; number = n })
+//! ```
+//!
+//! Uses: [`Literal`](#def.Literal)
+//!
+//! <a id="def.bytes_of_digits"></a>
+//!
+//! ## `bytes_of_digits`
+//!
+//! ```text
+//! abbrev pub bytes_of_digits : (len : ℕ) → Option (List ℕ) → Option Literal
+//! bytes_of_digits len None = None
+//! bytes_of_digits len (Some ds) = bytes_with len (digits_in 16 ds)
+//! ```
+//!
+//! Uses: [`Literal`](#def.Literal), [`bytes_with`](#def.bytes_with), [`digits_in`](#def.digits_in)
+//!
+//! <a id="def.bytes_in"></a>
+//!
+//! ## `bytes_in`
+//!
+//! Two to eight pairs of hexadecimal digits with colons between them.
+//!
+//! ```text
+//! abbrev pub bytes_in : List ℕ → Option Literal
+//! bytes_in word =
+//!     if nat_le 5 (length word) && nat_le (length word) 23
+//!     then bytes_of_digits ((length word + 1) / 3) (pair_digits_in word) else None
+//! ```
+//!
+//! Uses: [`Literal`](#def.Literal), [`bytes_of_digits`](#def.bytes_of_digits), [`pair_digits_in`](#def.pair_digits_in)
+//!
+//! <a id="def.either_of"></a>
+//!
+//! ## `either_of`
+//!
+//! ```text
+//! abbrev pub either_of : Option Literal → Option Literal → Option Literal
+//! either_of (Some bytes) other = Some bytes
+//! either_of None other = other
+//! ```
+//!
+//! Uses: [`Literal`](#def.Literal)
+//!
+//! <a id="def.literal_in"></a>
+//!
+//! ## `literal_in`
+//!
+//! ```text
+//! abbrev pub literal_in : List ℕ → Option Literal
+//! literal_in word = either_of (bytes_in word) (ipv4_in word)
+//! ```
+//!
+//! Uses: [`Literal`](#def.Literal), [`either_of`](#def.either_of), [`bytes_in`](#def.bytes_in), [`ipv4_in`](#def.ipv4_in)
+//!
+//! **A slice**
+//!
+//! <a id="def.slice_with"></a>
+//!
+//! ## `slice_with`
+//!
+//! ```text
+//! abbrev pub slice_with : (first : ℕ) → Option ℕ → Option (ℕ × ℕ)
+//! slice_with first None = None
+//! slice_with first (Some count) = Some (first, count)
+//! ```
+//!
+//! <a id="def.slice_from"></a>
+//!
+//! ## `slice_from`
+//!
+//! ```text
+//! abbrev pub slice_from : Option ℕ → List ℕ → Option (ℕ × ℕ)
+//! slice_from None rest = None
+//! slice_from (Some first) rest = slice_with first (byte_in rest)
+//! ```
+//!
+//! Uses: [`slice_with`](#def.slice_with), [`byte_in`](#def.byte_in)
+//!
+//! <a id="def.slice_at"></a>
+//!
+//! ## `slice_at`
+//!
+//! ```text
+//! abbrev pub slice_at : List ℕ → Option ℕ → Option (ℕ × ℕ)
+//! slice_at body None = None
+//! slice_at body (Some colon) = slice_from (byte_in (take colon body)) (drop (colon + 1) body)
+//! ```
+//!
+//! Uses: [`slice_from`](#def.slice_from), [`byte_in`](#def.byte_in)
+//!
+//! <a id="def.slice_between"></a>
+//!
+//! ## `slice_between`
+//!
+//! ```text
+//! abbrev pub slice_between : List ℕ → Option (ℕ × ℕ)
+//! slice_between body = slice_at body (place_in 58 0 body)
+//! ```
+//!
+//! Uses: [`slice_at`](#def.slice_at), [`place_in`](#def.place_in)
+//!
+//! <a id="def.slice_in"></a>
+//!
+//! ## `slice_in`
+//!
+//! Two numbers with a colon between them, between brackets, of which the last one is 93.
+//!
+//! ```text
+//! abbrev pub slice_in : List ℕ → Option (ℕ × ℕ)
+//! slice_in text =
+//!     if nat_le 2 (length text) && nat_eq (slice_index text (length text - 1)) 93
+//!     then slice_between (slice_range text 1 (length text - 1)) else None
+//! ```
+//!
+//! Uses: [`slice_between`](#def.slice_between)
+//!
+//! # Subjects
+//!
+//! The fields that words name, and the values that they take.
+//!
+//! **The field with a name**
+//!
+//! <a id="def.tested_sections"></a>
+//!
+//! ## `tested_sections`
+//!
+//! The sections whose fields can be tested.
+//!
+//! ```text
+//! abbrev pub tested_sections : List Section
+//! tested_sections = Eth ∷ Sll ∷ Vlan ∷ Macsec ∷ Arp ∷ []
+//! ```
+//!
+//! Uses: `Eth` (`Section::Eth`), `Sll` (`Section::Sll`), `Vlan` (`Section::Vlan`), `Macsec` (`Section::Macsec`), `Arp` (`Section::Arp`)
+//!
+//! <a id="def.row_in"></a>
+//!
+//! ## `row_in`
+//!
+//! The row of a section whose name as a column is this.
+//!
+//! ```text
+//! abbrev pub row_in : (name : List ℕ) → Section → List Row → Option Row
+//! row_in name s rows = find (λ r. pointwise nat_eq (column_name s r) name) rows
+//! ```
+//!
+//! Uses: [`Row`](crate::definitions::ether_fields#def.Row), [`column_name`](crate::definitions::ether_fields#def.column_name)
+//!
+//! <a id="def.row_among"></a>
+//!
+//! ## `row_among`
+//!
+//! ```text
+//! abbrev pub row_among : (name : List ℕ) → List Section → Option Row
+//! row_among name [] = None
+//! row_among name (s ∷ ss) = option_or (row_in name s (section_rows s)) (row_among name ss)
+//! ```
+//!
+//! Uses: [`Row`](crate::definitions::ether_fields#def.Row), [`row_in`](#def.row_in), [`section_rows`](crate::definitions::ether_fields#def.section_rows)
+//!
+//! <a id="def.row_named"></a>
+//!
+//! ## `row_named`
+//!
+//! ```text
+//! abbrev pub row_named : (name : List ℕ) → Option Row
+//! row_named name = row_among name tested_sections
+//! ```
+//!
+//! Uses: [`Row`](crate::definitions::ether_fields#def.Row), [`row_among`](#def.row_among), [`tested_sections`](#def.tested_sections)
+//!
+//! **The values that it takes**
+//!
+//! <a id="def.greatest_in_bits"></a>
+//!
+//! ## `greatest_in_bits`
+//!
+//! The greatest number in so many bits, which are some that fields have.
+//!
+//! ```text
+//! abbrev pub greatest_in_bits : ℕ → Option ℕ
+//! greatest_in_bits n =
+//!     if list_any (nat_eq n) (1 ∷ 2 ∷ 3 ∷ 6 ∷ 8 ∷ 12 ∷ 16 ∷ 32 ∷ []) then Some (2 ^ n - 1) else None
+//! ```
+//!
+//! <a id="def.greatest_in_bytes"></a>
+//!
+//! ## `greatest_in_bytes`
+//!
+//! > `greatest_in_bits`: the greatest number in so many bits, which are some that fields have
+//!
+//! .. in so many bytes, up to eight.
+//!
+//! ```text
+//! abbrev pub greatest_in_bytes : ℕ → ℕ
+//! greatest_in_bytes n = if nat_le n 7 then 2 ^ (8 * n) - 1 else 2 ^ 64 - 1
+//! ```
+//!
+//! <a id="def.takes_in_bits"></a>
+//!
+//! ## `takes_in_bits`
+//!
+//! ```text
+//! abbrev pub takes_in_bits : Kind → ℕ → Option Takes
+//! takes_in_bits kind.Bytes n = Some (takes.Bytes (n / 8))
+//! takes_in_bits _ n = option_map takes.Number (greatest_in_bits n)
+//! ```
+//!
+//! Uses: [`Takes`](#def.Takes), `kind` (`Kind`), [`takes.Bytes`](#def.Takes), [`takes.Number`](#def.Takes), [`greatest_in_bits`](#def.greatest_in_bits)
+//!
+//! <a id="def.takes_in"></a>
+//!
+//! ## `takes_in`
+//!
+//! ```text
+//! abbrev pub takes_in : Kind → Extent → Option Takes
+//! takes_in kind (extents.Bits n) = takes_in_bits kind n
+//! takes_in kind extents.HardwareAddress = Some takes.AnyBytes
+//! takes_in kind extents.ProtocolAddress = Some takes.AnyBytes
+//! takes_in kind extents.SecureChannel = Some (takes.Bytes 8)
+//! takes_in kind extents.PayloadType = Some (takes.Number 65535)
+//! takes_in kind _ = None
+//! ```
+//!
+//! Uses: [`Takes`](#def.Takes), `extents` (`Extent`), [`takes_in_bits`](#def.takes_in_bits), [`takes.AnyBytes`](#def.Takes), [`takes.Bytes`](#def.Takes), [`takes.Number`](#def.Takes)
+//!
+//! <a id="def.takes_of"></a>
+//!
+//! ## `takes_of`
+//!
+//! Those of a column that has bits in a header.
+//!
+//! ```text
+//! abbrev pub takes_of : Row → Option Takes
+//! takes_of r = if r.is_member then takes_in r.kind r.extent else None
+//! ```
+//!
+//! Uses: [`Row`](crate::definitions::ether_fields#def.Row), [`Takes`](#def.Takes), [`takes_in`](#def.takes_in)
+//!
+//! <a id="def.subject_with"></a>
+//!
+//! ## `subject_with`
+//!
+//! ```text
+//! abbrev pub subject_with : Row → Option Takes → Option Subject
+//! subject_with r None = None
+//! subject_with r (Some takes) =
+//!     if nat_lt r.number 256 then Some (record { field = r.number; first = 0; count = 0; takes = takes }) else None
+//! ```
+//!
+//! Uses: [`Row`](crate::definitions::ether_fields#def.Row), [`Takes`](#def.Takes), [`Subject`](#def.Subject)
+//!
+//! <a id="def.subject_of"></a>
+//!
+//! ## `subject_of`
+//!
+//! ```text
+//! abbrev pub subject_of : Row → Option Subject
+//! subject_of r = subject_with r (takes_of r)
+//! ```
+//!
+//! Uses: [`Row`](crate::definitions::ether_fields#def.Row), [`Subject`](#def.Subject), [`subject_with`](#def.subject_with), [`takes_of`](#def.takes_of)
+//!
+//! <a id="def.subject_if"></a>
+//!
+//! ## `subject_if`
+//!
+//! ```text
+//! abbrev pub subject_if : Option Row → Option Subject
+//! subject_if None = None
+//! subject_if (Some r) = subject_of r
+//! ```
+//!
+//! Uses: [`Row`](crate::definitions::ether_fields#def.Row), [`Subject`](#def.Subject), [`subject_of`](#def.subject_of)
+//!
+//! <a id="def.has_slice"></a>
+//!
+//! ## `has_slice`
+//!
+//! The bytes of a field can have a slice.
+//!
+//! ```text
+//! abbrev pub has_slice : Takes → (first count : ℕ) → Bool
+//! has_slice (takes.Number most) first count = false
+//! has_slice (takes.Bytes len) first count = nat_le (first + count) len
+//! has_slice takes.AnyBytes first count = true
+//! ```
+//!
+//! Uses: [`Takes`](#def.Takes), [`takes.Number`](#def.Takes), [`takes.Bytes`](#def.Takes), [`takes.AnyBytes`](#def.Takes)
+//!
+//! <a id="def.sliced"></a>
+//!
+//! ## `sliced`
+//!
+//! A slice of one to eight bytes.
+//!
+//! ```text
+//! abbrev pub sliced : Subject → (first count : ℕ) → Option Subject
+//! sliced s first count =
+//!     if nat_eq count 0 || (nat_lt 8 count || not (has_slice s.takes first count)) then None
+//!     else Some (record { field = s.field; first = first; count = count; takes = takes.Bytes count })
+//! ```
+//!
+//! Uses: [`Subject`](#def.Subject), [`has_slice`](#def.has_slice)
+//!
+//! <a id="def.sliced_by"></a>
+//!
+//! ## `sliced_by`
+//!
+//! ```text
+//! abbrev pub sliced_by : Subject → Option (ℕ × ℕ) → Option Subject
+//! sliced_by s None = None
+//! sliced_by s (Some slice) = sliced s slice.0 slice.1
+//! ```
+//!
+//! Uses: [`Subject`](#def.Subject), [`sliced`](#def.sliced)
+//!
+//! <a id="def.sliced_if"></a>
+//!
+//! ## `sliced_if`
+//!
+//! ```text
+//! abbrev pub sliced_if : Option Subject → (slice : List ℕ) → Option Subject
+//! sliced_if None slice = None
+//! sliced_if (Some s) slice = sliced_by s (slice_in slice)
+//! ```
+//!
+//! Uses: [`Subject`](#def.Subject), [`sliced_by`](#def.sliced_by), [`slice_in`](#def.slice_in)
+//!
+//! <a id="def.subject_at"></a>
+//!
+//! ## `subject_at`
+//!
+//! The field before the first bracket (91), or the whole word.
+//!
+//! ```text
+//! abbrev pub subject_at : List ℕ → Option ℕ → Option Subject
+//! subject_at word None = subject_if (row_named word)
+//! subject_at word (Some at) = sliced_if (subject_if (row_named (take at word))) (drop at word)
+//! ```
+//!
+//! Uses: [`Subject`](#def.Subject), [`subject_if`](#def.subject_if), [`row_named`](#def.row_named), [`sliced_if`](#def.sliced_if)
+//!
+//! <a id="def.subject_in"></a>
+//!
+//! ## `subject_in`
+//!
+//! The field that a word names, or the slice of its bytes.
+//!
+//! ```text
+//! abbrev pub subject_in : List ℕ → Option Subject
+//! subject_in word = subject_at word (place_in 91 0 word)
+//! ```
+//!
+//! Uses: [`Subject`](#def.Subject), [`subject_at`](#def.subject_at), [`place_in`](#def.place_in)
+//!
+//! **A value**
+//!
+//! <a id="def.number_for"></a>
+//!
+//! ## `number_for`
+//!
+//! A number as a value.
+//!
+//! ```text
+//! abbrev pub number_for : Takes → ℕ → Option Literal
+//! number_for (takes.Number most) n = if nat_le n most then Some (record { len = 0; number = n }) else None
+//! number_for (takes.Bytes len) n =
+//!     if nat_le n (greatest_in_bytes len) then Some (record { len = len; number = n }) else None
+//! number_for takes.AnyBytes n = None
+//! ```
+//!
+//! Uses: [`Takes`](#def.Takes), [`Literal`](#def.Literal), [`takes.Number`](#def.Takes), [`takes.Bytes`](#def.Takes), [`greatest_in_bytes`](#def.greatest_in_bytes), [`takes.AnyBytes`](#def.Takes)
+//!
+//! <a id="def.bytes_for"></a>
+//!
+//! ## `bytes_for`
+//!
+//! Bytes as a value.
+//!
+//! ```text
+//! abbrev pub bytes_for : Takes → Literal → Option Literal
+//! bytes_for (takes.Number most) bytes = None
+//! bytes_for (takes.Bytes len) bytes = if nat_eq len bytes.len then Some bytes else None
+//! bytes_for takes.AnyBytes bytes = Some bytes
+//! ```
+//!
+//! Uses: [`Takes`](#def.Takes), [`Literal`](#def.Literal), [`takes.Number`](#def.Takes), [`takes.Bytes`](#def.Takes), [`takes.AnyBytes`](#def.Takes)
+//!
+//! **A test**
+//!
+//! <a id="def.test_with"></a>
+//!
+//! ## `test_with`
+//!
+//! ```text
+//! abbrev pub test_with : Subject → (mask : ℕ) → Relation → Literal → FieldTest
+//! test_with s mask relation value = record {
+//!   field = s.field;
+//!   first = s.first;
+//!   count = s.count;
+//!   relation = relation;
+//!   mask = mask;
+//!   len = value.len;
+//!   value = value.number;
+//! }
+//! ```
+//!
+//! Uses: [`Subject`](#def.Subject), [`Literal`](#def.Literal)
+//!
+//! <a id="def.all_bits"></a>
+//!
+//! ## `all_bits`
+//!
+//! The mask that keeps all bits.
+//!
+//! ```text
+//! abbrev pub all_bits : ℕ
+//! all_bits = 2 ^ 64 - 1
+//! ```
+//!
+//! <a id="def.equal_to"></a>
+//!
+//! ## `equal_to`
+//!
+//! The primitive of a test whose value is the whole of a field: some have words of their own, as `vlan.vid == 5`, which
+//! is `vlan 5`.
+//!
+//! ```text
+//! abbrev pub equal_to : FieldTest → Primitive
+//! equal_to t =
+//!     if nat_eq t.field 11 then primitives.VlanId (t.value % 2 ^ 16)
+//!     else (if nat_eq t.field 1 then primitives.Destination t.value
+//!     else (if nat_eq t.field 2 then primitives.Source t.value else primitives.Field t))
+//! ```
+//!
+//! Uses: `primitives` (`Primitive`)
+//!
+//! <a id="def.tested_by"></a>
+//!
+//! ## `tested_by`
+//!
+//! ```text
+//! abbrev pub tested_by : Relation → FieldTest → Primitive
+//! tested_by relations.Exists t = if nat_eq t.field 11 then primitives.Vlan else primitives.Field t
+//! tested_by relations.Equal t =
+//!     if nat_eq t.count 0 && nat_eq t.mask all_bits then equal_to t else primitives.Field t
+//! tested_by _ t = primitives.Field t
+//! ```
+//!
+//! Uses: `relations` (`Relation`), `primitives` (`Primitive`), [`all_bits`](#def.all_bits), [`equal_to`](#def.equal_to)
+//!
+//! <a id="def.tested"></a>
+//!
+//! ## `tested`
+//!
+//! The primitive of a test of a field.
+//!
+//! ```text
+//! abbrev pub tested : FieldTest → Primitive
+//! tested t = tested_by t.relation t
+//! ```
+//!
+//! Uses: [`tested_by`](#def.tested_by)
+//!
+//! <a id="def.existence_of"></a>
+//!
+//! ## `existence_of`
+//!
+//! The test that there is a value.
+//!
+//! ```text
+//! abbrev pub existence_of : Subject → FieldTest
+//! existence_of s = test_with s all_bits relations.Exists (record { len = 0; number = 0 })
+//! ```
+//!
+//! Uses: [`Subject`](#def.Subject), [`test_with`](#def.test_with), [`all_bits`](#def.all_bits), `relations` (`Relation`)
+//!
 //! # Tokens
 //!
 //! What the words of an expression mean.
@@ -1040,10 +2066,15 @@
 //!     ∷ (codes "dst", tokens.Dst) ∷ (codes "host", tokens.Host) ∷
 //!     (codes "broadcast", tokens.Broadcast) ∷ (codes "multicast", tokens.Multicast) ∷
 //!     (codes "refused", tokens.Refused) ∷ (codes "cut", tokens.Cut) ∷ (codes "less", tokens.Less)
-//!     ∷ (codes "greater", tokens.Greater) ∷ []
+//!     ∷ (codes "greater", tokens.Greater) ∷
+//!     (codes "==", tokens.Relation Equal) ∷ (codes "!=", tokens.Relation NotEqual) ∷ (codes "<", tokens.Relation Less)
+//!     ∷ (codes "<=", tokens.Relation AtMost) ∷ (codes ">", tokens.Relation Greater)
+//!     ∷ (codes ">=", tokens.Relation AtLeast)
+//!     ∷ (codes "&", tokens.Mask) ∷ (codes "in", tokens.In) ∷ (codes "{", tokens.OpenSet)
+//!     ∷ (codes "}", tokens.CloseSet) ∷ (codes ",", tokens.Comma) ∷ []
 //! ```
 //!
-//! Uses: [`Token`](#def.Token), [`tokens.Open`](#def.Token), [`tokens.Close`](#def.Token), [`tokens.Not`](#def.Token), [`tokens.Join`](#def.Token), `And` (`Operator::And`), `Or` (`Operator::Or`), [`tokens.Vlan`](#def.Token), [`tokens.Outer`](#def.Token), [`tokens.Inner`](#def.Token), [`tokens.Macsec`](#def.Token), [`tokens.Arp`](#def.Token), [`tokens.Ip`](#def.Token), [`tokens.Ip6`](#def.Token), [`tokens.Ether`](#def.Token), [`tokens.Proto`](#def.Token), [`tokens.Src`](#def.Token), [`tokens.Dst`](#def.Token), [`tokens.Host`](#def.Token), [`tokens.Broadcast`](#def.Token), [`tokens.Multicast`](#def.Token), [`tokens.Refused`](#def.Token), [`tokens.Cut`](#def.Token), [`tokens.Less`](#def.Token), [`tokens.Greater`](#def.Token)
+//! Uses: [`Token`](#def.Token), [`tokens.Open`](#def.Token), [`tokens.Close`](#def.Token), [`tokens.Not`](#def.Token), [`tokens.Join`](#def.Token), `And` (`Operator::And`), `Or` (`Operator::Or`), [`tokens.Vlan`](#def.Token), [`tokens.Outer`](#def.Token), [`tokens.Inner`](#def.Token), [`tokens.Macsec`](#def.Token), [`tokens.Arp`](#def.Token), [`tokens.Ip`](#def.Token), [`tokens.Ip6`](#def.Token), [`tokens.Ether`](#def.Token), [`tokens.Proto`](#def.Token), [`tokens.Src`](#def.Token), [`tokens.Dst`](#def.Token), [`tokens.Host`](#def.Token), [`tokens.Broadcast`](#def.Token), [`tokens.Multicast`](#def.Token), [`tokens.Refused`](#def.Token), [`tokens.Cut`](#def.Token), [`tokens.Less`](#def.Token), [`tokens.Greater`](#def.Token), [`tokens.Relation`](#def.Token), `Equal` (`Relation::Equal`), `NotEqual` (`Relation::NotEqual`), `Less` (`Relation::Less`), `AtMost` (`Relation::AtMost`), `Greater` (`Relation::Greater`), `AtLeast` (`Relation::AtLeast`), [`tokens.Mask`](#def.Token), [`tokens.In`](#def.Token), [`tokens.OpenSet`](#def.Token), [`tokens.CloseSet`](#def.Token), [`tokens.Comma`](#def.Token)
 //!
 //! <a id="def.meaning_among"></a>
 //!
@@ -1078,10 +2109,13 @@
 //!
 //! ```text
 //! abbrev pub literal : List ℕ → Token
-//! literal word = unwrap_or (option_map tokens.Address (address_in word)) (number_token (number_in word))
+//! literal word =
+//!     unwrap_or (option_map tokens.Address (address_in word))
+//!     (unwrap_or (option_map tokens.Bytes (literal_in word))
+//!     (unwrap_or (option_map tokens.Field (subject_in word)) (number_token (wide_number_in word))))
 //! ```
 //!
-//! Uses: [`Token`](#def.Token), [`tokens.Address`](#def.Token), [`address_in`](#def.address_in), [`number_token`](#def.number_token), [`number_in`](#def.number_in)
+//! Uses: [`Token`](#def.Token), [`tokens.Address`](#def.Token), [`address_in`](#def.address_in), [`tokens.Bytes`](#def.Token), [`literal_in`](#def.literal_in), [`tokens.Field`](#def.Token), [`subject_in`](#def.subject_in), [`number_token`](#def.number_token), [`wide_number_in`](#def.wide_number_in)
 //!
 //! <a id="def.token_of"></a>
 //!
@@ -1093,104 +2127,6 @@
 //! ```
 //!
 //! Uses: [`Token`](#def.Token), [`meaning_among`](#def.meaning_among), [`keywords`](#def.keywords), [`literal`](#def.literal)
-//!
-//! # Grammar
-//!
-//! The grammar of expressions (pcap-filter(7)).
-//!
-//! <a id="def.NamesPrimitive"></a>
-//!
-//! ## `NamesPrimitive`
-//!
-//! The words of a primitive.
-//!
-//! ```text
-//! pub data NamesPrimitive : List Token → Primitive → Type 0 where
-//!   vlan : NamesPrimitive (tokens.Vlan ∷ []) primitives.Vlan
-//!   vlan_id : (n : ℕ) → n < 4096 → NamesPrimitive (tokens.Vlan ∷ tokens.Number (Some n) ∷ []) (primitives.VlanId n)
-//!   outer_vlan : (n : ℕ) → n < 4096 → NamesPrimitive (tokens.Outer ∷ tokens.Vlan ∷ tokens.Number (Some n) ∷ [])
-//!       (primitives.OuterVlan n)
-//!   inner_vlan : (n : ℕ) → n < 4096 → NamesPrimitive (tokens.Inner ∷ tokens.Vlan ∷ tokens.Number (Some n) ∷ [])
-//!       (primitives.InnerVlan n)
-//!   macsec : NamesPrimitive (tokens.Macsec ∷ []) primitives.Macsec
-//!   arp : NamesPrimitive (tokens.Arp ∷ []) (primitives.EtherType 0x0806)
-//!   ip : NamesPrimitive (tokens.Ip ∷ []) (primitives.EtherType 0x0800)
-//!   ip6 : NamesPrimitive (tokens.Ip6 ∷ []) (primitives.EtherType 0x86DD)
-//!   proto : (n : ℕ) → n < 65536 → NamesPrimitive (tokens.Ether ∷ tokens.Proto ∷ tokens.Number (Some n) ∷ [])
-//!       (primitives.EtherType n)
-//!   src : (a : ℕ) → NamesPrimitive (tokens.Ether ∷ tokens.Src ∷ tokens.Address a ∷ []) (primitives.Source a)
-//!   dst : (a : ℕ) → NamesPrimitive (tokens.Ether ∷ tokens.Dst ∷ tokens.Address a ∷ []) (primitives.Destination a)
-//!   host : (a : ℕ) → NamesPrimitive (tokens.Ether ∷ tokens.Host ∷ tokens.Address a ∷ []) (primitives.Host a)
-//!   broadcast : NamesPrimitive (tokens.Ether ∷ tokens.Broadcast ∷ []) primitives.Broadcast
-//!   multicast : NamesPrimitive (tokens.Ether ∷ tokens.Multicast ∷ []) primitives.Multicast
-//!   refused : NamesPrimitive (tokens.Refused ∷ []) primitives.Refused
-//!   cut : NamesPrimitive (tokens.Cut ∷ []) primitives.Cut
-//!   less : (n : ℕ) → n < 4294967296 → NamesPrimitive (tokens.Less ∷ tokens.Number (Some n) ∷ []) (primitives.Less n)
-//!   greater : (n : ℕ) → n < 4294967296 → NamesPrimitive (tokens.Greater ∷ tokens.Number (Some n) ∷ [])
-//!       (primitives.Greater n)
-//! ```
-//!
-//! Uses: [`Token`](#def.Token), [`tokens.Vlan`](#def.Token), `primitives` (`Primitive`), [`tokens.Number`](#def.Token), [`tokens.Outer`](#def.Token), [`tokens.Inner`](#def.Token), [`tokens.Macsec`](#def.Token), [`tokens.Arp`](#def.Token), [`tokens.Ip`](#def.Token), [`tokens.Ip6`](#def.Token), [`tokens.Ether`](#def.Token), [`tokens.Proto`](#def.Token), [`tokens.Src`](#def.Token), [`tokens.Address`](#def.Token), [`tokens.Dst`](#def.Token), [`tokens.Host`](#def.Token), [`tokens.Broadcast`](#def.Token), [`tokens.Multicast`](#def.Token), [`tokens.Refused`](#def.Token), [`tokens.Cut`](#def.Token), [`tokens.Less`](#def.Token), [`tokens.Greater`](#def.Token)
-//!
-//! <a id="def.Shape"></a>
-//!
-//! ## `Shape`
-//!
-//! One operand, or two or more operands that one operator joins.
-//!
-//! ```text
-//! pub data Shape : Type 0 where
-//!   Operand : Shape
-//!   Chain : Operator → Shape
-//! ```
-//!
-//! <a id="def.Leads"></a>
-//!
-//! ## `Leads`
-//!
-//! What an operator may follow: an operand, or operands that the same operator joins.
-//!
-//! ```text
-//! pub data Leads (operator : Operator) : Shape → Type 0 where
-//!   operand : Leads operator Operand
-//!   chain : Leads operator (Chain operator)
-//! ```
-//!
-//! Uses: [`Shape`](#def.Shape), [`Operand`](#def.Shape), [`Chain`](#def.Shape)
-//!
-//! <a id="def.Means"></a>
-//!
-//! ## `Means`
-//!
-//! The words that mean an expression: `not` takes one operand, operators associate to the left, and mixing two
-//! operators needs parentheses.
-//!
-//! ```text
-//! pub data Means : Shape → List Token → Expression → Type 0 where
-//!   primitive : (ts : List Token) (p : Primitive) → NamesPrimitive ts p → Means Operand ts (Test p)
-//!   negation : (ts : List Token) (x : Expression) → Means Operand ts x → Means Operand (tokens.Not ∷ ts) (Not x)
-//!   group : (shape : Shape) (ts : List Token) (x : Expression) → Means shape ts x
-//!       → Means Operand (tokens.Open ∷ (ts ++ tokens.Close ∷ [])) x
-//!   join : (operator : Operator) (shape : Shape) (ts us : List Token) (x y : Expression) → Leads operator shape
-//!       → Means shape ts x → Means Operand us y
-//!       → Means (Chain operator) (ts ++ tokens.Join operator ∷ us) (Join operator x y)
-//! ```
-//!
-//! Uses: [`Shape`](#def.Shape), [`Token`](#def.Token), [`Expression`](#def.Expression), [`NamesPrimitive`](#def.NamesPrimitive), [`Operand`](#def.Shape), [`Test`](#def.Expression), [`tokens.Not`](#def.Token), [`Not`](#def.Expression), [`tokens.Open`](#def.Token), [`tokens.Close`](#def.Token), [`Leads`](#def.Leads), [`Chain`](#def.Shape), [`tokens.Join`](#def.Token), [`Join`](#def.Expression)
-//!
-//! <a id="def.IsExpression"></a>
-//!
-//! ## `IsExpression`
-//!
-//! All of these words mean an expression.
-//!
-//! ```text
-//! pub record IsExpression (ts : List Token) (x : Expression) : Type 0 where
-//!   pub shape : Shape
-//!   pub means : Means shape ts x
-//! ```
-//!
-//! Uses: [`Token`](#def.Token), [`Expression`](#def.Expression), [`Shape`](#def.Shape), [`Means`](#def.Means)
 //!
 //! # Steps
 //!
@@ -1268,10 +2204,51 @@
 //! first_step tokens.Cut = Done primitives.Cut
 //! first_step tokens.Less = More (awaits.Number numbers.Less)
 //! first_step tokens.Greater = More (awaits.Number numbers.Greater)
+//! first_step (tokens.Field subject) = More (awaits.Relation subject)
 //! first_step _ = Fails
 //! ```
 //!
-//! Uses: [`Token`](#def.Token), [`Step`](#def.Step), [`tokens.Vlan`](#def.Token), [`More`](#def.Step), [`awaits.VlanId`](#def.Awaited), [`tokens.Outer`](#def.Token), [`awaits.Vlan`](#def.Awaited), [`numbers.OuterVlan`](#def.Numbered), [`tokens.Inner`](#def.Token), [`numbers.InnerVlan`](#def.Numbered), [`tokens.Macsec`](#def.Token), [`Done`](#def.Step), `primitives` (`Primitive`), [`tokens.Arp`](#def.Token), [`tokens.Ip`](#def.Token), [`tokens.Ip6`](#def.Token), [`tokens.Ether`](#def.Token), [`awaits.EtherWord`](#def.Awaited), [`tokens.Refused`](#def.Token), [`tokens.Cut`](#def.Token), [`tokens.Less`](#def.Token), [`awaits.Number`](#def.Awaited), [`numbers.Less`](#def.Numbered), [`tokens.Greater`](#def.Token), [`numbers.Greater`](#def.Numbered), [`Fails`](#def.Step)
+//! Uses: [`Token`](#def.Token), [`Step`](#def.Step), [`tokens.Vlan`](#def.Token), [`More`](#def.Step), [`awaits.VlanId`](#def.Awaited), [`tokens.Outer`](#def.Token), [`awaits.Vlan`](#def.Awaited), [`numbers.OuterVlan`](#def.Numbered), [`tokens.Inner`](#def.Token), [`numbers.InnerVlan`](#def.Numbered), [`tokens.Macsec`](#def.Token), [`Done`](#def.Step), `primitives` (`Primitive`), [`tokens.Arp`](#def.Token), [`tokens.Ip`](#def.Token), [`tokens.Ip6`](#def.Token), [`tokens.Ether`](#def.Token), [`awaits.EtherWord`](#def.Awaited), [`tokens.Refused`](#def.Token), [`tokens.Cut`](#def.Token), [`tokens.Less`](#def.Token), [`awaits.Number`](#def.Awaited), [`numbers.Less`](#def.Numbered), [`tokens.Greater`](#def.Token), [`numbers.Greater`](#def.Numbered), [`tokens.Field`](#def.Token), [`awaits.Relation`](#def.Awaited), [`Fails`](#def.Step)
+//!
+//! <a id="def.value_for"></a>
+//!
+//! ## `value_for`
+//!
+//! The value that a word is for a field, if the field takes it.
+//!
+//! ```text
+//! abbrev pub value_for : Takes → Token → Option Literal
+//! value_for takes (tokens.Number (Some n)) = number_for takes n
+//! value_for takes (tokens.Address a) = bytes_for takes (record { len = 6; number = a })
+//! value_for takes (tokens.Bytes bytes) = bytes_for takes bytes
+//! value_for takes _ = None
+//! ```
+//!
+//! Uses: [`Takes`](#def.Takes), [`Token`](#def.Token), [`Literal`](#def.Literal), [`tokens.Number`](#def.Token), [`number_for`](#def.number_for), [`tokens.Address`](#def.Token), [`bytes_for`](#def.bytes_for), [`tokens.Bytes`](#def.Token)
+//!
+//! <a id="def.masked"></a>
+//!
+//! ## `masked`
+//!
+//! ```text
+//! abbrev pub masked : Subject → Option Literal → Step
+//! masked subject None = Fails
+//! masked subject (Some mask) = More (awaits.MaskedRelation subject mask.number)
+//! ```
+//!
+//! Uses: [`Subject`](#def.Subject), [`Literal`](#def.Literal), [`Step`](#def.Step), [`Fails`](#def.Step), [`More`](#def.Step), [`awaits.MaskedRelation`](#def.Awaited)
+//!
+//! <a id="def.related"></a>
+//!
+//! ## `related`
+//!
+//! ```text
+//! abbrev pub related : Subject → (mask : ℕ) → Relation → Option Literal → Step
+//! related subject mask relation None = Fails
+//! related subject mask relation (Some value) = Done (tested (test_with subject mask relation value))
+//! ```
+//!
+//! Uses: [`Subject`](#def.Subject), [`Literal`](#def.Literal), [`Step`](#def.Step), [`Fails`](#def.Step), [`Done`](#def.Step), [`tested`](#def.tested), [`test_with`](#def.test_with)
 //!
 //! <a id="def.next_step"></a>
 //!
@@ -1288,10 +2265,59 @@
 //! next_step awaits.EtherWord tokens.Host = More (awaits.Address addresses.Host)
 //! next_step awaits.EtherWord tokens.Broadcast = Done primitives.Broadcast
 //! next_step awaits.EtherWord tokens.Multicast = Done primitives.Multicast
+//! next_step (awaits.Relation subject) tokens.Mask = More (awaits.Mask subject)
+//! next_step (awaits.Relation subject) (tokens.Relation relation) = More (awaits.Value subject all_bits relation)
+//! next_step (awaits.MaskedRelation subject mask) (tokens.Relation relation) = More (awaits.Value subject mask relation)
+//! next_step (awaits.Relation subject) tokens.In = More (awaits.Set subject all_bits)
+//! next_step (awaits.MaskedRelation subject mask) tokens.In = More (awaits.Set subject mask)
+//! next_step (awaits.Set subject mask) tokens.OpenSet = More (awaits.FirstMember subject mask)
+//! next_step (awaits.SetEnd subject mask) tokens.Comma = More (awaits.Member subject mask)
+//! next_step (awaits.Mask subject) token = masked subject (value_for subject.takes token)
+//! next_step (awaits.Value subject mask relation) token = related subject mask relation (value_for subject.takes token)
 //! next_step _ _ = Fails
 //! ```
 //!
-//! Uses: [`Awaited`](#def.Awaited), [`Token`](#def.Token), [`Step`](#def.Step), [`awaits.Vlan`](#def.Awaited), [`tokens.Vlan`](#def.Token), [`More`](#def.Step), [`awaits.Number`](#def.Awaited), [`tokens.Number`](#def.Token), [`numbered`](#def.numbered), [`awaits.Address`](#def.Awaited), [`tokens.Address`](#def.Token), [`Done`](#def.Step), [`addressed`](#def.addressed), [`awaits.EtherWord`](#def.Awaited), [`tokens.Proto`](#def.Token), [`numbers.EtherType`](#def.Numbered), [`tokens.Src`](#def.Token), [`addresses.Source`](#def.Addressed), [`tokens.Dst`](#def.Token), [`addresses.Destination`](#def.Addressed), [`tokens.Host`](#def.Token), [`addresses.Host`](#def.Addressed), [`tokens.Broadcast`](#def.Token), `primitives` (`Primitive`), [`tokens.Multicast`](#def.Token), [`Fails`](#def.Step)
+//! Uses: [`Awaited`](#def.Awaited), [`Token`](#def.Token), [`Step`](#def.Step), [`awaits.Vlan`](#def.Awaited), [`tokens.Vlan`](#def.Token), [`More`](#def.Step), [`awaits.Number`](#def.Awaited), [`tokens.Number`](#def.Token), [`numbered`](#def.numbered), [`awaits.Address`](#def.Awaited), [`tokens.Address`](#def.Token), [`Done`](#def.Step), [`addressed`](#def.addressed), [`awaits.EtherWord`](#def.Awaited), [`tokens.Proto`](#def.Token), [`numbers.EtherType`](#def.Numbered), [`tokens.Src`](#def.Token), [`addresses.Source`](#def.Addressed), [`tokens.Dst`](#def.Token), [`addresses.Destination`](#def.Addressed), [`tokens.Host`](#def.Token), [`addresses.Host`](#def.Addressed), [`tokens.Broadcast`](#def.Token), `primitives` (`Primitive`), [`tokens.Multicast`](#def.Token), [`awaits.Relation`](#def.Awaited), [`tokens.Mask`](#def.Token), [`awaits.Mask`](#def.Awaited), [`tokens.Relation`](#def.Token), [`awaits.Value`](#def.Awaited), [`all_bits`](#def.all_bits), [`awaits.MaskedRelation`](#def.Awaited), [`tokens.In`](#def.Token), [`awaits.Set`](#def.Awaited), [`tokens.OpenSet`](#def.Token), [`awaits.FirstMember`](#def.Awaited), [`awaits.SetEnd`](#def.Awaited), [`tokens.Comma`](#def.Token), [`awaits.Member`](#def.Awaited), [`masked`](#def.masked), [`value_for`](#def.value_for), [`related`](#def.related), [`Fails`](#def.Step)
+//!
+//! <a id="def.member_test"></a>
+//!
+//! ## `member_test`
+//!
+//! The test that a field has a value of a set.
+//!
+//! ```text
+//! abbrev pub member_test : Subject → (mask : ℕ) → Option Literal → Option Primitive
+//! member_test subject mask None = None
+//! member_test subject mask (Some value) = Some (tested (test_with subject mask Equal value))
+//! ```
+//!
+//! Uses: [`Subject`](#def.Subject), [`Literal`](#def.Literal), [`tested`](#def.tested), [`test_with`](#def.test_with), `Equal` (`Relation::Equal`)
+//!
+//! <a id="def.member"></a>
+//!
+//! ## `member`
+//!
+//! ```text
+//! abbrev pub member : Subject → (mask : ℕ) → Token → Option Primitive
+//! member subject mask token = member_test subject mask (value_for subject.takes token)
+//! ```
+//!
+//! Uses: [`Subject`](#def.Subject), [`Token`](#def.Token), [`member_test`](#def.member_test), [`value_for`](#def.value_for)
+//!
+//! <a id="def.value_kind"></a>
+//!
+//! ## `value_kind`
+//!
+//! The error for a word that is no value of a field.
+//!
+//! ```text
+//! abbrev pub value_kind : Takes → FilterErrorKind
+//! value_kind (takes.Number most) = kinds.ExpectedNumber most
+//! value_kind (takes.Bytes len) = kinds.ExpectedBytes len
+//! value_kind takes.AnyBytes = kinds.ExpectedAnyBytes
+//! ```
+//!
+//! Uses: [`Takes`](#def.Takes), [`takes.Number`](#def.Takes), `kinds` (`FilterErrorKind`), [`takes.Bytes`](#def.Takes), [`takes.AnyBytes`](#def.Takes)
 //!
 //! <a id="def.kind_of"></a>
 //!
@@ -1306,9 +2332,154 @@
 //! kind_of (awaits.Number of) = kinds.ExpectedNumber (most_of of)
 //! kind_of awaits.EtherWord = kinds.ExpectedEtherWord
 //! kind_of (awaits.Address of) = kinds.ExpectedAddress
+//! kind_of (awaits.Relation subject) = kinds.ExpectedRelation
+//! kind_of (awaits.MaskedRelation subject mask) = kinds.ExpectedRelation
+//! kind_of (awaits.Mask subject) = value_kind subject.takes
+//! kind_of (awaits.Value subject mask relation) = value_kind subject.takes
+//! kind_of (awaits.FirstMember subject mask) = value_kind subject.takes
+//! kind_of (awaits.Member subject mask) = value_kind subject.takes
+//! kind_of (awaits.Set subject mask) = kinds.ExpectedSet
+//! kind_of (awaits.SetEnd subject mask) = kinds.ExpectedSetEnd
 //! ```
 //!
-//! Uses: [`Awaited`](#def.Awaited), [`awaits.Operand`](#def.Awaited), `kinds` (`FilterErrorKind`), [`awaits.Operator`](#def.Awaited), [`awaits.VlanId`](#def.Awaited), [`awaits.Vlan`](#def.Awaited), [`awaits.Number`](#def.Awaited), [`most_of`](#def.most_of), [`awaits.EtherWord`](#def.Awaited), [`awaits.Address`](#def.Awaited)
+//! Uses: [`Awaited`](#def.Awaited), [`awaits.Operand`](#def.Awaited), `kinds` (`FilterErrorKind`), [`awaits.Operator`](#def.Awaited), [`awaits.VlanId`](#def.Awaited), [`awaits.Vlan`](#def.Awaited), [`awaits.Number`](#def.Awaited), [`most_of`](#def.most_of), [`awaits.EtherWord`](#def.Awaited), [`awaits.Address`](#def.Awaited), [`awaits.Relation`](#def.Awaited), [`awaits.MaskedRelation`](#def.Awaited), [`awaits.Mask`](#def.Awaited), [`value_kind`](#def.value_kind), [`awaits.Value`](#def.Awaited), [`awaits.FirstMember`](#def.Awaited), [`awaits.Member`](#def.Awaited), [`awaits.Set`](#def.Awaited), [`awaits.SetEnd`](#def.Awaited)
+//!
+//! # Grammar
+//!
+//! The grammar of expressions (pcap-filter(7)).
+//!
+//! <a id="def.NamesBits"></a>
+//!
+//! ## `NamesBits`
+//!
+//! A field, and the bits of it that are compared.
+//!
+//! ```text
+//! pub data NamesBits (subject : Subject) : List Token → (mask : ℕ) → Type 0 where
+//!   all : NamesBits subject (tokens.Field subject ∷ []) all_bits
+//!   masked : (t : Token) (mask : Literal) → value_for subject.takes t ≡ Some mask
+//!       → NamesBits subject (tokens.Field subject ∷ tokens.Mask ∷ t ∷ []) mask.number
+//! ```
+//!
+//! Uses: [`Subject`](#def.Subject), [`Token`](#def.Token), [`tokens.Field`](#def.Token), [`all_bits`](#def.all_bits), [`Literal`](#def.Literal), [`value_for`](#def.value_for), [`tokens.Mask`](#def.Token)
+//!
+//! <a id="def.NamesPrimitive"></a>
+//!
+//! ## `NamesPrimitive`
+//!
+//! The words of a primitive.
+//!
+//! ```text
+//! pub data NamesPrimitive : List Token → Primitive → Type 0 where
+//!   vlan : NamesPrimitive (tokens.Vlan ∷ []) primitives.Vlan
+//!   vlan_id : (n : ℕ) → n < 4096 → NamesPrimitive (tokens.Vlan ∷ tokens.Number (Some n) ∷ []) (primitives.VlanId n)
+//!   outer_vlan : (n : ℕ) → n < 4096 → NamesPrimitive (tokens.Outer ∷ tokens.Vlan ∷ tokens.Number (Some n) ∷ [])
+//!       (primitives.OuterVlan n)
+//!   inner_vlan : (n : ℕ) → n < 4096 → NamesPrimitive (tokens.Inner ∷ tokens.Vlan ∷ tokens.Number (Some n) ∷ [])
+//!       (primitives.InnerVlan n)
+//!   macsec : NamesPrimitive (tokens.Macsec ∷ []) primitives.Macsec
+//!   arp : NamesPrimitive (tokens.Arp ∷ []) (primitives.EtherType 0x0806)
+//!   ip : NamesPrimitive (tokens.Ip ∷ []) (primitives.EtherType 0x0800)
+//!   ip6 : NamesPrimitive (tokens.Ip6 ∷ []) (primitives.EtherType 0x86DD)
+//!   proto : (n : ℕ) → n < 65536 → NamesPrimitive (tokens.Ether ∷ tokens.Proto ∷ tokens.Number (Some n) ∷ [])
+//!       (primitives.EtherType n)
+//!   src : (a : ℕ) → NamesPrimitive (tokens.Ether ∷ tokens.Src ∷ tokens.Address a ∷ []) (primitives.Source a)
+//!   dst : (a : ℕ) → NamesPrimitive (tokens.Ether ∷ tokens.Dst ∷ tokens.Address a ∷ []) (primitives.Destination a)
+//!   host : (a : ℕ) → NamesPrimitive (tokens.Ether ∷ tokens.Host ∷ tokens.Address a ∷ []) (primitives.Host a)
+//!   broadcast : NamesPrimitive (tokens.Ether ∷ tokens.Broadcast ∷ []) primitives.Broadcast
+//!   multicast : NamesPrimitive (tokens.Ether ∷ tokens.Multicast ∷ []) primitives.Multicast
+//!   refused : NamesPrimitive (tokens.Refused ∷ []) primitives.Refused
+//!   cut : NamesPrimitive (tokens.Cut ∷ []) primitives.Cut
+//!   less : (n : ℕ) → n < 4294967296 → NamesPrimitive (tokens.Less ∷ tokens.Number (Some n) ∷ []) (primitives.Less n)
+//!   greater : (n : ℕ) → n < 4294967296 → NamesPrimitive (tokens.Greater ∷ tokens.Number (Some n) ∷ [])
+//!       (primitives.Greater n)
+//!   field : (subject : Subject) → NamesPrimitive (tokens.Field subject ∷ []) (tested (existence_of subject))
+//!   related : (subject : Subject) (ts : List Token) (mask : ℕ) (relation : Relation) (t : Token) (value : Literal)
+//!       → NamesBits subject ts mask → value_for subject.takes t ≡ Some value
+//!       → NamesPrimitive (ts ++ tokens.Relation relation ∷ t ∷ [])
+//!       (tested (test_with subject mask relation value))
+//! ```
+//!
+//! Uses: [`Token`](#def.Token), [`tokens.Vlan`](#def.Token), `primitives` (`Primitive`), [`tokens.Number`](#def.Token), [`tokens.Outer`](#def.Token), [`tokens.Inner`](#def.Token), [`tokens.Macsec`](#def.Token), [`tokens.Arp`](#def.Token), [`tokens.Ip`](#def.Token), [`tokens.Ip6`](#def.Token), [`tokens.Ether`](#def.Token), [`tokens.Proto`](#def.Token), [`tokens.Src`](#def.Token), [`tokens.Address`](#def.Token), [`tokens.Dst`](#def.Token), [`tokens.Host`](#def.Token), [`tokens.Broadcast`](#def.Token), [`tokens.Multicast`](#def.Token), [`tokens.Refused`](#def.Token), [`tokens.Cut`](#def.Token), [`tokens.Less`](#def.Token), [`tokens.Greater`](#def.Token), [`Subject`](#def.Subject), [`tokens.Field`](#def.Token), [`tested`](#def.tested), [`existence_of`](#def.existence_of), [`Literal`](#def.Literal), [`NamesBits`](#def.NamesBits), [`value_for`](#def.value_for), [`tokens.Relation`](#def.Token), [`test_with`](#def.test_with)
+//!
+//! <a id="def.NamesSet"></a>
+//!
+//! ## `NamesSet`
+//!
+//! The words of a set that a field is in, without its end, and what they mean.
+//!
+//! ```text
+//! pub data NamesSet (subject : Subject) (mask : ℕ) : List Token → Expression → Type 0 where
+//!   one : (ts : List Token) (t : Token) (p : Primitive) → NamesBits subject ts mask → member subject mask t ≡ Some p
+//!       → NamesSet subject mask (ts ++ tokens.In ∷ tokens.OpenSet ∷ t ∷ []) (Test p)
+//!   more : (ts : List Token) (x : Expression) (t : Token) (p : Primitive) → NamesSet subject mask ts x
+//!       → member subject mask t ≡ Some p
+//!       → NamesSet subject mask (ts ++ tokens.Comma ∷ t ∷ []) (Join Or x (Test p))
+//! ```
+//!
+//! Uses: [`Subject`](#def.Subject), [`Token`](#def.Token), [`Expression`](#def.Expression), [`NamesBits`](#def.NamesBits), [`member`](#def.member), [`tokens.In`](#def.Token), [`tokens.OpenSet`](#def.Token), [`Test`](#def.Expression), [`tokens.Comma`](#def.Token), [`Join`](#def.Expression), `Or` (`Operator::Or`)
+//!
+//! <a id="def.Shape"></a>
+//!
+//! ## `Shape`
+//!
+//! One operand, or two or more operands that one operator joins.
+//!
+//! ```text
+//! pub data Shape : Type 0 where
+//!   Operand : Shape
+//!   Chain : Operator → Shape
+//! ```
+//!
+//! <a id="def.Leads"></a>
+//!
+//! ## `Leads`
+//!
+//! What an operator may follow: an operand, or operands that the same operator joins.
+//!
+//! ```text
+//! pub data Leads (operator : Operator) : Shape → Type 0 where
+//!   operand : Leads operator Operand
+//!   chain : Leads operator (Chain operator)
+//! ```
+//!
+//! Uses: [`Shape`](#def.Shape), [`Operand`](#def.Shape), [`Chain`](#def.Shape)
+//!
+//! <a id="def.Means"></a>
+//!
+//! ## `Means`
+//!
+//! The words that mean an expression: `not` takes one operand, operators associate to the left, and mixing two
+//! operators needs parentheses.
+//!
+//! ```text
+//! pub data Means : Shape → List Token → Expression → Type 0 where
+//!   primitive : (ts : List Token) (p : Primitive) → NamesPrimitive ts p → Means Operand ts (Test p)
+//!   set : (subject : Subject) (mask : ℕ) (ts : List Token) (x : Expression) → NamesSet subject mask ts x
+//!       → Means Operand (ts ++ tokens.CloseSet ∷ []) x
+//!   negation : (ts : List Token) (x : Expression) → Means Operand ts x → Means Operand (tokens.Not ∷ ts) (Not x)
+//!   group : (shape : Shape) (ts : List Token) (x : Expression) → Means shape ts x
+//!       → Means Operand (tokens.Open ∷ (ts ++ tokens.Close ∷ [])) x
+//!   join : (operator : Operator) (shape : Shape) (ts us : List Token) (x y : Expression) → Leads operator shape
+//!       → Means shape ts x → Means Operand us y
+//!       → Means (Chain operator) (ts ++ tokens.Join operator ∷ us) (Join operator x y)
+//! ```
+//!
+//! Uses: [`Shape`](#def.Shape), [`Token`](#def.Token), [`Expression`](#def.Expression), [`NamesPrimitive`](#def.NamesPrimitive), [`Operand`](#def.Shape), [`Test`](#def.Expression), [`Subject`](#def.Subject), [`NamesSet`](#def.NamesSet), [`tokens.CloseSet`](#def.Token), [`tokens.Not`](#def.Token), [`Not`](#def.Expression), [`tokens.Open`](#def.Token), [`tokens.Close`](#def.Token), [`Leads`](#def.Leads), [`Chain`](#def.Shape), [`tokens.Join`](#def.Token), [`Join`](#def.Expression)
+//!
+//! <a id="def.IsExpression"></a>
+//!
+//! ## `IsExpression`
+//!
+//! All of these words mean an expression.
+//!
+//! ```text
+//! pub record IsExpression (ts : List Token) (x : Expression) : Type 0 where
+//!   pub shape : Shape
+//!   pub means : Means shape ts x
+//! ```
+//!
+//! Uses: [`Token`](#def.Token), [`Expression`](#def.Expression), [`Shape`](#def.Shape), [`Means`](#def.Means)
 //!
 //! # Expression reading
 //!
@@ -1502,6 +2673,72 @@
 //!
 //! Uses: [`ExpressionState`](#def.ExpressionState), [`Token`](#def.Token), [`Outcome`](#def.Outcome), [`tokens.Number`](#def.Token), [`stepped`](#def.stepped), [`next_step`](#def.next_step), [`awaits.Number`](#def.Awaited), [`numbers.VlanId`](#def.Numbered), [`tokens.Join`](#def.Token), [`operator_taken`](#def.operator_taken), [`completed`](#def.completed), `primitives` (`Primitive`), [`tokens.Close`](#def.Token), `kinds` (`FilterErrorKind`)
 //!
+//! <a id="def.relation_taken"></a>
+//!
+//! ## `relation_taken`
+//!
+//! ```text
+//! abbrev pub relation_taken : Subject → ExpressionState → Token → Outcome
+//! relation_taken subject s (tokens.Relation relation) =
+//!     stepped s (next_step (awaits.Relation subject) (tokens.Relation relation))
+//! relation_taken subject s tokens.In = stepped s (next_step (awaits.Relation subject) tokens.In)
+//! relation_taken subject s tokens.Mask = stepped s (next_step (awaits.Relation subject) tokens.Mask)
+//! relation_taken subject s (tokens.Join operator) =
+//!     operator_taken (completed s (tested (existence_of subject))) (tokens.Join operator)
+//! relation_taken subject s tokens.Close =
+//!     operator_taken (completed s (tested (existence_of subject))) tokens.Close
+//! relation_taken subject s _ = Err kinds.ExpectedRelationOrOperator
+//! ```
+//!
+//! Uses: [`Subject`](#def.Subject), [`ExpressionState`](#def.ExpressionState), [`Token`](#def.Token), [`Outcome`](#def.Outcome), [`tokens.Relation`](#def.Token), [`stepped`](#def.stepped), [`next_step`](#def.next_step), [`awaits.Relation`](#def.Awaited), [`tokens.In`](#def.Token), [`tokens.Mask`](#def.Token), [`tokens.Join`](#def.Token), [`operator_taken`](#def.operator_taken), [`completed`](#def.completed), [`tested`](#def.tested), [`existence_of`](#def.existence_of), [`tokens.Close`](#def.Token), `kinds` (`FilterErrorKind`)
+//!
+//! <a id="def.member_taken"></a>
+//!
+//! ## `member_taken`
+//!
+//! After a value of a set.
+//!
+//! ```text
+//! abbrev pub member_taken : Subject → (mask : ℕ) → ExpressionState → Option Primitive → Outcome
+//! member_taken subject mask s None = Err (kind_of s.awaited)
+//! member_taken subject mask s (Some primitive) =
+//!     Ok (record {
+//!       nodes = s.nodes ++ nodes.Test primitive ∷ [];
+//!       pending = s.pending;
+//!       awaited = awaits.SetEnd subject mask;
+//!     })
+//! ```
+//!
+//! Uses: [`Subject`](#def.Subject), [`ExpressionState`](#def.ExpressionState), [`Outcome`](#def.Outcome), [`kind_of`](#def.kind_of), [`awaits.SetEnd`](#def.Awaited)
+//!
+//! <a id="def.joined_member"></a>
+//!
+//! ## `joined_member`
+//!
+//! > `member_taken`: after a value of a set
+//!
+//! .. that is not the first one.
+//!
+//! ```text
+//! abbrev pub joined_member : Outcome → Outcome
+//! joined_member (Err kind) = Err kind
+//! joined_member (Ok s) = Ok (record s { nodes = s.nodes ++ nodes.Join Or ∷ [] })
+//! ```
+//!
+//! Uses: [`Outcome`](#def.Outcome), `Or` (`Operator::Or`)
+//!
+//! <a id="def.set_taken"></a>
+//!
+//! ## `set_taken`
+//!
+//! ```text
+//! abbrev pub set_taken : Subject → (mask : ℕ) → ExpressionState → Token → Outcome
+//! set_taken subject mask s tokens.CloseSet = Ok (closed s.nodes s.pending)
+//! set_taken subject mask s token = stepped s (next_step (awaits.SetEnd subject mask) token)
+//! ```
+//!
+//! Uses: [`Subject`](#def.Subject), [`ExpressionState`](#def.ExpressionState), [`Token`](#def.Token), [`Outcome`](#def.Outcome), [`tokens.CloseSet`](#def.Token), [`closed`](#def.closed), [`stepped`](#def.stepped), [`next_step`](#def.next_step), [`awaits.SetEnd`](#def.Awaited)
+//!
 //! <a id="def.taken_where"></a>
 //!
 //! ## `taken_where`
@@ -1511,10 +2748,15 @@
 //! taken_where awaits.Operand s token = operand_taken s token
 //! taken_where awaits.Operator s token = operator_taken s token
 //! taken_where awaits.VlanId s token = id_taken s token
+//! taken_where (awaits.Relation subject) s token = relation_taken subject s token
+//! taken_where (awaits.FirstMember subject mask) s token = member_taken subject mask s (member subject mask token)
+//! taken_where (awaits.Member subject mask) s token =
+//!     joined_member (member_taken subject mask s (member subject mask token))
+//! taken_where (awaits.SetEnd subject mask) s token = set_taken subject mask s token
 //! taken_where awaited s token = stepped s (next_step awaited token)
 //! ```
 //!
-//! Uses: [`Awaited`](#def.Awaited), [`ExpressionState`](#def.ExpressionState), [`Token`](#def.Token), [`Outcome`](#def.Outcome), [`awaits.Operand`](#def.Awaited), [`operand_taken`](#def.operand_taken), [`awaits.Operator`](#def.Awaited), [`operator_taken`](#def.operator_taken), [`awaits.VlanId`](#def.Awaited), [`id_taken`](#def.id_taken), [`stepped`](#def.stepped), [`next_step`](#def.next_step)
+//! Uses: [`Awaited`](#def.Awaited), [`ExpressionState`](#def.ExpressionState), [`Token`](#def.Token), [`Outcome`](#def.Outcome), [`awaits.Operand`](#def.Awaited), [`operand_taken`](#def.operand_taken), [`awaits.Operator`](#def.Awaited), [`operator_taken`](#def.operator_taken), [`awaits.VlanId`](#def.Awaited), [`id_taken`](#def.id_taken), [`awaits.Relation`](#def.Awaited), [`relation_taken`](#def.relation_taken), [`awaits.FirstMember`](#def.Awaited), [`member_taken`](#def.member_taken), [`member`](#def.member), [`awaits.Member`](#def.Awaited), [`joined_member`](#def.joined_member), [`awaits.SetEnd`](#def.Awaited), [`set_taken`](#def.set_taken), [`stepped`](#def.stepped), [`next_step`](#def.next_step)
 //!
 //! <a id="def.taken"></a>
 //!
@@ -1562,10 +2804,11 @@
 //! abbrev pub ended_where : Awaited → ExpressionState → Result (List Node) FilterErrorKind
 //! ended_where awaits.Operator s = whole s
 //! ended_where awaits.VlanId s = whole (completed s primitives.Vlan)
+//! ended_where (awaits.Relation subject) s = whole (completed s (tested (existence_of subject)))
 //! ended_where awaited s = Err (kind_of awaited)
 //! ```
 //!
-//! Uses: [`Awaited`](#def.Awaited), [`ExpressionState`](#def.ExpressionState), [`awaits.Operator`](#def.Awaited), [`whole`](#def.whole), [`awaits.VlanId`](#def.Awaited), [`completed`](#def.completed), `primitives` (`Primitive`), [`kind_of`](#def.kind_of)
+//! Uses: [`Awaited`](#def.Awaited), [`ExpressionState`](#def.ExpressionState), [`awaits.Operator`](#def.Awaited), [`whole`](#def.whole), [`awaits.VlanId`](#def.Awaited), [`completed`](#def.completed), `primitives` (`Primitive`), [`awaits.Relation`](#def.Awaited), [`tested`](#def.tested), [`existence_of`](#def.existence_of), [`kind_of`](#def.kind_of)
 //!
 //! <a id="def.ended"></a>
 //!
@@ -1588,10 +2831,11 @@
 //! abbrev pub is_begun : Awaited → ℕ
 //! is_begun awaits.Operand = 0
 //! is_begun awaits.Operator = 0
+//! is_begun (awaits.Member subject mask) = 2
 //! is_begun _ = 1
 //! ```
 //!
-//! Uses: [`Awaited`](#def.Awaited), [`awaits.Operand`](#def.Awaited), [`awaits.Operator`](#def.Awaited)
+//! Uses: [`Awaited`](#def.Awaited), [`awaits.Operand`](#def.Awaited), [`awaits.Operator`](#def.Awaited), [`awaits.Member`](#def.Awaited)
 //!
 //! <a id="def.size_of"></a>
 //!
@@ -1719,6 +2963,57 @@
 //!
 //! Uses: [`Token`](#def.Token), [`tokens.Join`](#def.Token), [`tokens.Close`](#def.Token), [`tokens.Number`](#def.Token)
 //!
+//! <a id="def.IsUnrelated"></a>
+//!
+//! ## `IsUnrelated`
+//!
+//! The word is not an operator or a closing parenthesis.
+//!
+//! ```text
+//! abbrev pub IsUnrelated : Token → Type 0
+//! IsUnrelated (tokens.Join operator) = ⊥
+//! IsUnrelated tokens.Close = ⊥
+//! IsUnrelated _ = Unit {0}
+//! ```
+//!
+//! Uses: [`Token`](#def.Token), [`tokens.Join`](#def.Token), [`tokens.Close`](#def.Token)
+//!
+//! <a id="def.ValueFollows"></a>
+//!
+//! ## `ValueFollows`
+//!
+//! A value of a field comes after these words.
+//!
+//! ```text
+//! pub data ValueFollows : List Token → Subject → Type 0 where
+//!   compared : (front words : List Token) (subject : Subject) (mask : ℕ) (relation : Relation)
+//!       → NamesBits subject words mask
+//!       → ValueFollows (front ++ (words ++ tokens.Relation relation ∷ [])) subject
+//!   masked : (front : List Token) (subject : Subject)
+//!       → ValueFollows (front ++ tokens.Field subject ∷ tokens.Mask ∷ []) subject
+//!   first_member : (front words : List Token) (subject : Subject) (mask : ℕ) → NamesBits subject words mask
+//!       → ValueFollows (front ++ (words ++ tokens.In ∷ tokens.OpenSet ∷ [])) subject
+//!   member : (front words : List Token) (subject : Subject) (mask : ℕ) (x : Expression) → NamesSet subject mask words x
+//!       → ValueFollows (front ++ (words ++ tokens.Comma ∷ [])) subject
+//! ```
+//!
+//! Uses: [`Token`](#def.Token), [`Subject`](#def.Subject), [`NamesBits`](#def.NamesBits), [`tokens.Relation`](#def.Token), [`tokens.Field`](#def.Token), [`tokens.Mask`](#def.Token), [`tokens.In`](#def.Token), [`tokens.OpenSet`](#def.Token), [`Expression`](#def.Expression), [`NamesSet`](#def.NamesSet), [`tokens.Comma`](#def.Token)
+//!
+//! <a id="def.NoValueFollows"></a>
+//!
+//! ## `NoValueFollows`
+//!
+//! > `ValueFollows`: a value of a field comes after these words
+//!
+//! .. a value of no field.
+//!
+//! ```text
+//! abbrev pub NoValueFollows : List Token → Type 0
+//! NoValueFollows ts = (subject : Subject) → ValueFollows ts subject → ⊥
+//! ```
+//!
+//! Uses: [`Token`](#def.Token), [`Subject`](#def.Subject), [`ValueFollows`](#def.ValueFollows)
+//!
 //! <a id="def.Lacks"></a>
 //!
 //! ## `Lacks`
@@ -1731,16 +3026,23 @@
 //!   operand : (next : Option Token) → Fits ts tokens.Not → Lacks ts next kinds.ExpectedOperand
 //!   vlan : (next : Option Token) → Fits ts tokens.Vlan → (Fits ts tokens.Not → ⊥) → Lacks ts next kinds.ExpectedVlan
 //!   ether_word : (next : Option Token) → Fits ts tokens.Proto → Lacks ts next kinds.ExpectedEtherWord
-//!   address : (next : Option Token) → Fits ts (tokens.Address 0) → Lacks ts next kinds.ExpectedAddress
+//!   address : (next : Option Token) → Fits ts (tokens.Address 0) → NoValueFollows ts → Lacks ts next kinds.ExpectedAddress
 //!   number : (next : Option Token) (most : ℕ) → Fits ts (tokens.Number (Some most))
-//!       → (Fits ts (tokens.Number (Some (most + 1))) → ⊥) → (IsAfterOperand ts → ⊥)
+//!       → (Fits ts (tokens.Number (Some (most + 1))) → ⊥) → (IsAfterOperand ts → ⊥) → NoValueFollows ts
 //!       → Lacks ts next (kinds.ExpectedNumber most)
+//!   value : (next : Option Token) (subject : Subject) → ValueFollows ts subject → Lacks ts next (value_kind subject.takes)
+//!   relation : (next : Option Token) → Fits ts (tokens.Relation Equal) → (IsAfterOperand ts → ⊥)
+//!       → Lacks ts next kinds.ExpectedRelation
+//!   set : (next : Option Token) → Fits ts tokens.OpenSet → Lacks ts next kinds.ExpectedSet
+//!   set_end : (next : Option Token) → Fits ts tokens.Comma → Lacks ts next kinds.ExpectedSetEnd
+//!   relation_or_operator : (t : Token) → IsAfterOperand ts → Fits ts (tokens.Relation Equal) → IsUnrelated t
+//!       → Lacks ts (Some t) kinds.ExpectedRelationOrOperator
 //!   vlan_id : (n : Option ℕ) → IsAfterOperand ts → Fits ts (tokens.Number (Some 4095))
 //!       → Lacks ts (Some (tokens.Number n)) (kinds.ExpectedNumber 4095)
 //!   no_number : (n : Option ℕ) → IsAfterOperand ts → (Fits ts (tokens.Number (Some 4095)) → ⊥)
-//!       → Lacks ts (Some (tokens.Number n)) kinds.ExpectedOperator
-//!   operator : (t : Token) → IsAfterOperand ts → (Fits ts (tokens.Number (Some 4095)) → ⊥) → IsOther t
-//!       → Lacks ts (Some t) kinds.ExpectedOperator
+//!       → (Fits ts (tokens.Relation Equal) → ⊥) → Lacks ts (Some (tokens.Number n)) kinds.ExpectedOperator
+//!   operator : (t : Token) → IsAfterOperand ts → (Fits ts (tokens.Number (Some 4095)) → ⊥)
+//!       → (Fits ts (tokens.Relation Equal) → ⊥) → IsOther t → Lacks ts (Some t) kinds.ExpectedOperator
 //!   id_or_operator : (t : Token) → IsAfterOperand ts → Fits ts (tokens.Number (Some 4095)) → IsOther t
 //!       → Lacks ts (Some t) kinds.ExpectedVlanIdOrOperator
 //!   mixed : (operator : Operator) → IsAfterOperand ts → Lacks ts (Some (tokens.Join operator)) kinds.MixedOperators
@@ -1748,7 +3050,7 @@
 //!   unclosed : IsAfterOperand ts → Lacks ts None kinds.Unclosed
 //! ```
 //!
-//! Uses: [`Token`](#def.Token), [`Fits`](#def.Fits), [`tokens.Not`](#def.Token), `kinds` (`FilterErrorKind`), [`tokens.Vlan`](#def.Token), [`tokens.Proto`](#def.Token), [`tokens.Address`](#def.Token), [`tokens.Number`](#def.Token), [`IsAfterOperand`](#def.IsAfterOperand), [`IsOther`](#def.IsOther), [`tokens.Join`](#def.Token), [`tokens.Close`](#def.Token)
+//! Uses: [`Token`](#def.Token), [`Fits`](#def.Fits), [`tokens.Not`](#def.Token), `kinds` (`FilterErrorKind`), [`tokens.Vlan`](#def.Token), [`tokens.Proto`](#def.Token), [`tokens.Address`](#def.Token), [`NoValueFollows`](#def.NoValueFollows), [`tokens.Number`](#def.Token), [`IsAfterOperand`](#def.IsAfterOperand), [`Subject`](#def.Subject), [`ValueFollows`](#def.ValueFollows), [`value_kind`](#def.value_kind), [`tokens.Relation`](#def.Token), `Equal` (`Relation::Equal`), [`tokens.OpenSet`](#def.Token), [`tokens.Comma`](#def.Token), [`IsUnrelated`](#def.IsUnrelated), [`IsOther`](#def.IsOther), [`tokens.Join`](#def.Token), [`tokens.Close`](#def.Token)
 //!
 //! <a id="def.RefusesExpression"></a>
 //!
@@ -1839,10 +3141,26 @@
 //!     Number(Numbered),
 //!     EtherWord,
 //!     Address(Addressed),
+//!     /// A relation or `&` after a field, or what may follow an operand.
+//!     Relation(Subject),
+//!     /// The mask after `&`.
+//!     Mask(Subject),
+//!     /// A relation after a mask.
+//!     MaskedRelation(Subject, u64),
+//!     /// The value after a mask and a relation.
+//!     Value(Subject, u64, Relation),
+//!     /// `{` after `in`.
+//!     Set(Subject, u64),
+//!     /// The first value of a set.
+//!     FirstMember(Subject, u64),
+//!     /// A further value of a set.
+//!     Member(Subject, u64),
+//!     /// `,` or `}` after a value of a set.
+//!     SetEnd(Subject, u64),
 //! }
 //! ```
 //!
-//! Uses: [`Numbered`](#def.Numbered), [`Addressed`](#def.Addressed)
+//! Uses: [`Numbered`](#def.Numbered), [`Addressed`](#def.Addressed), [`Subject`](#def.Subject)
 //!
 //! <a id="def.Step"></a>
 //!
@@ -1911,6 +3229,57 @@
 //!
 //! Uses: [`Pending`](#def.Pending), [`Awaited`](#def.Awaited)
 //!
+//! <a id="def.Takes"></a>
+//!
+//! ## `Takes`
+//!
+//! Which values a field takes.
+//!
+//! ```text
+//! enum Takes {
+//!     /// Numbers up to this one.
+//!     Number(u32),
+//!     /// This number of bytes.
+//!     Bytes(u8),
+//!     /// Any number of bytes.
+//!     AnyBytes,
+//! }
+//! ```
+//!
+//! <a id="def.Subject"></a>
+//!
+//! ## `Subject`
+//!
+//! A field, or a part of its bytes.
+//!
+//! ```text
+//! struct Subject {
+//!     /// The number of the field.
+//!     pub field: u8,
+//!     /// The offset in bytes of the part.
+//!     pub first: u8,
+//!     /// The number of bytes in the part, or 0 for all.
+//!     pub count: u8,
+//!     pub takes: Takes,
+//! }
+//! ```
+//!
+//! Uses: [`Takes`](#def.Takes)
+//!
+//! <a id="def.Literal"></a>
+//!
+//! ## `Literal`
+//!
+//! What a field is compared with.
+//!
+//! ```text
+//! struct Literal {
+//!     /// The number of bytes, or 0 for a number.
+//!     pub len: u8,
+//!     pub number: u64,
+//! }
+//! ```
+//!
 //! <a id="def.Class"></a>
 //!
 //! ## `Class`
@@ -1923,6 +3292,12 @@
 //!     Blank,
 //!     /// It is a word of its own.
 //!     Sign,
+//!     /// `!`, which `=` can follow.
+//!     Negation,
+//!     /// `<` or `>`, which `=` can follow.
+//!     Order,
+//!     /// `=`
+//!     Equals,
 //!     /// It is part of a word of `&` or `|`.
 //!     Connective,
 //!     /// It is part of a word of other characters.
@@ -1960,11 +3335,23 @@
 //!     Cut,
 //!     Less,
 //!     Greater,
-//!     /// A number; `None` if it does not fit in 32 bits.
-//!     Number(Option<u32>),
+//!     /// A number; `None` if it does not fit in 64 bits.
+//!     Number(Option<u64>),
 //!     Address(u64),
+//!     /// The bytes of a value, other than those of an address.
+//!     Bytes(Literal),
+//!     Field(Subject),
+//!     Relation(Relation),
+//!     /// `&`
+//!     Mask,
+//!     In,
+//!     OpenSet,
+//!     CloseSet,
+//!     Comma,
 //!     /// A word that no expression has.
 //!     Unknown,
 //! }
 //! ```
+//!
+//! Uses: [`Literal`](#def.Literal), [`Subject`](#def.Subject)
 //!

@@ -94,6 +94,7 @@
 //! | `m - n` | The difference, or 0 if `n` is greater. |
 //! | `m / n`, `m % n` | The quotient and the remainder, both whole numbers. |
 //! | `min m n`, `max m n` | The lesser and the greater of two numbers. |
+//! | `bit_and m n` | The bits that are 1 in both of two numbers. |
 //! | `bit_xor m n` | The exclusive or of the bits of two numbers. |
 //! | `rotate_left w64 n k` | The 64 bits of `n`, rotated to the left by `k`. |
 //! | `decimal n` | The decimal digits of `n`, in ASCII. |

@@ -1,5 +1,6 @@
 //! What is known of a primitive if not all bytes of a packet were captured.
 
+use crate::ether_filter::field_test::Relation;
 use crate::ether_filter::matching::{is_of_lengths, matches_primitive};
 use crate::ether_filter::node::Operator;
 use crate::ether_filter::packet::Packet;
@@ -80,7 +81,7 @@ pub(in crate::ether_filter) fn known(
     ids: &[u64],
     opening: Option<Opening>,
 ) -> Option<bool> {
-    let is_match = matches_primitive(&primitive, packet, seen, ids);
+    let is_match = matches_primitive(primitive, packet, seen, ids);
     if let Some(opening) = opening {
         if !is_known(primitive, packet, seen, ids, is_match, opening) {
             return None;
@@ -113,23 +114,28 @@ fn is_known(
 #[inline]
 fn can_tell(layer: Layer, primitive: Primitive) -> bool {
     match layer {
-        Layer::Arp => matches!(primitive, Primitive::Refused),
+        Layer::Arp => match primitive {
+            Primitive::Refused => true,
+            Primitive::Field(_) => !is_of_link(primitive),
+            _ => false,
+        },
         Layer::Ethernet2Header => true,
         _ => !is_of_link(primitive),
     }
 }
 
-/// Whether a primitive asks about the addresses of an Ethernet II header.
+/// Whether a primitive asks about an Ethernet II header, whose fields have the numbers up to 3.
 #[inline]
 fn is_of_link(primitive: Primitive) -> bool {
-    matches!(
-        primitive,
+    match primitive {
         Primitive::Source(_)
-            | Primitive::Destination(_)
-            | Primitive::Host(_)
-            | Primitive::Broadcast
-            | Primitive::Multicast
-    )
+        | Primitive::Destination(_)
+        | Primitive::Host(_)
+        | Primitive::Broadcast
+        | Primitive::Multicast => true,
+        Primitive::Field(test) => test.field <= 3,
+        _ => false,
+    }
 }
 
 /// Whether the headers so far decide a primitive, whatever headers follow. `is_match` says whether it matches these
@@ -143,10 +149,17 @@ fn is_told(
     is_match: bool,
 ) -> bool {
     match primitive {
-        Primitive::OuterVlan(_) => matches_primitive(&Primitive::Vlan, packet, seen, ids),
+        Primitive::OuterVlan(_) => matches_primitive(Primitive::Vlan, packet, seen, ids),
         Primitive::InnerVlan(_) | Primitive::Refused => false,
+        Primitive::Field(test) => asks_any(test.relation) && is_match,
         _ => is_match,
     }
+}
+
+/// Whether a test with this relation asks whether any value has it.
+#[inline]
+fn asks_any(relation: Relation) -> bool {
+    !matches!(relation, Relation::NotEqual)
 }
 
 /// The value of two joined operands, in Kleene's logic; `None` is unknown.

@@ -1,12 +1,11 @@
 //! The fields of a header that primitives ask about.
 
-use crate::ether_filter::primitive::Primitive;
 use crate::ether_base::big_endian::u64_of;
 use crate::ether_peel::{PeelUnit, RestKind};
 use crate::EtherType;
 
 /// The broadcast address.
-const BROADCAST: u64 = 0xFFFF_FFFF_FFFF;
+pub(in crate::ether_filter) const BROADCAST: u64 = 0xFFFF_FFFF_FFFF;
 
 /// The fields of a header that primitives ask about.
 #[derive(Clone, Copy)]
@@ -54,21 +53,8 @@ pub(in crate::ether_filter) fn announced_type(kind: RestKind) -> Option<u16> {
     }
 }
 
-/// Whether a link with these addresses makes a primitive match.
-#[inline]
-pub(in crate::ether_filter) fn is_shown_by_link(primitive: Primitive, destination: u64, source: u64) -> bool {
-    match primitive {
-        Primitive::Source(address) => address == source,
-        Primitive::Destination(address) => address == destination,
-        Primitive::Host(address) => address == source || address == destination,
-        Primitive::Broadcast => destination == BROADCAST,
-        Primitive::Multicast => is_group(destination),
-        _ => false,
-    }
-}
-
 /// Whether an address is a group address.
 #[inline]
-fn is_group(address: u64) -> bool {
+pub(in crate::ether_filter) fn is_group(address: u64) -> bool {
     address / (1 << 40) % 2 == 1
 }

@@ -36,12 +36,24 @@ pub(in crate::ether_filter) const MAX_WORDS: usize = 192;
 /// | `refused` | one of its headers is refused: cut short or malformed |
 /// | `cut` | fewer bytes were captured than were on the wire |
 /// | `less N`, `greater N` | it had at most, or at least, `N` bytes on the wire |
+/// | `FIELD` | one of its headers has the field |
+/// | `FIELD == V`, `FIELD < V`, `FIELD <= V`, `FIELD > V`, `FIELD >= V` | one of the field's values has this relation
+/// to `V` |
+/// | `FIELD != V` | it has the field, and no value of it is `V` |
+/// | `FIELD in {V, V}` | one of the field's values is in the set |
 ///
 /// Each primitive asks about the whole packet, whatever other words the expression has. All VLAN tags and SecTags are
 /// read, but no encrypted or modified payload.
 ///
+/// `FIELD` is the column name of a field of Ethernet II, cooked capture v1, VLAN tags, SecTags or ARP packets
+/// (`Field::column` of `ether_fields`), as `vlan.pcp` or `arp.spa`. A packet can have several values of a field, as
+/// that of each VLAN tag. After `FIELD & MASK` only the bits of the mask are compared. `FIELD[FIRST:COUNT]` is a slice
+/// of `COUNT` of the field's bytes, up to eight, from the offset `FIRST` on.
+///
 /// A number is decimal, without leading zeros, or hexadecimal after `0x`. An address is six pairs of hexadecimal
-/// digits with colons between them, or twelve digits. Blanks, `(`, `)` and `!` separate words.
+/// digits with colons between them, or twelve digits. `V` is a number, or, for fields of bytes, two to eight pairs of
+/// hexadecimal digits with colons, or an address of IPv4, as `10.0.0.1`. Bytes are equal only to as many bytes. Blanks,
+/// parentheses, braces, commas, `!` and the signs of relations separate words.
 ///
 /// No call allocates memory.
 ///
@@ -62,6 +74,7 @@ pub(in crate::ether_filter) const MAX_WORDS: usize = 192;
 /// for (text, wanted) in [
 ///     (b"vlan 5 and arp".as_slice(), true),
 ///     (b"not (vlan 5 or cut)".as_slice(), false),
+///     (b"vlan.vid == 5 and eth.src[0:3] == 02:00:00".as_slice(), true),
 /// ] {
 ///     let matches = Filter::parse(text).map(|filter| filter.matches(&packet));
 ///     assert_eq!(matches, Ok(wanted));

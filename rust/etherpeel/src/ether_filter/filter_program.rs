@@ -5,7 +5,7 @@ use crate::ether_filter::decision::Decision;
 use crate::ether_filter::filter::MAX_WORDS;
 use crate::ether_filter::instruction::Instruction;
 use crate::ether_filter::jumps::{HOLDS, jumps_of, past_tags};
-use crate::ether_filter::matching::{is_of_lengths, matches_lengths, matches_primitive};
+use crate::ether_filter::matching::{matches_instruction, matches_lengths};
 use crate::ether_filter::node::Node;
 use crate::ether_filter::packet::Packet;
 use crate::ether_filter::seen::{Seen, Tags, look, tags_seen};
@@ -75,9 +75,7 @@ fn matches_by_lengths(instructions: &[Instruction], packet: &Packet<'_>) -> Opti
     let [first, ..] = instructions else {
         return None;
     };
-    if !is_of_lengths(first.primitive()?) {
-        return None;
-    }
+    matches_lengths(first, packet)?;
     jumps_by_lengths(instructions, *packet)
 }
 
@@ -87,17 +85,29 @@ fn jumps_by_lengths(instructions: &[Instruction], packet: Packet<'_>) -> Option<
     let mut at = 0;
     while at < instructions.len() {
         let instruction = &instructions[at];
-        let primitive = instruction.primitive()?;
-        if !is_of_lengths(primitive) {
-            return None;
-        }
-        let next = instruction.jump.after(matches_lengths(&primitive, &packet));
+        let next = instruction
+            .jump
+            .after(matches_lengths(instruction, &packet)?);
         if next <= at {
             return None; // not reached: each jump leads forward
         }
-        at = next;
+        at = past_more(instructions, next, packet.original_len);
     }
     Some(at == usize::from(HOLDS))
+}
+
+/// Where the evaluation goes on from the index `begin`, past primitives that ask for more bytes than these.
+#[inline]
+fn past_more(instructions: &[Instruction], begin: usize, len: u32) -> usize {
+    let mut at = begin;
+    while at < instructions.len() && instructions[at].asks_more(len) {
+        let next = instructions[at].jump.after(false);
+        if next <= at {
+            return at; // not reached: each jump leads forward
+        }
+        at = next;
+    }
+    at
 }
 
 /// Whether a packet matches, however many VLAN tags it has.
@@ -114,8 +124,8 @@ fn matches_by_ids(instructions: &[Instruction], packet: Packet<'_>) -> bool {
 #[inline(always)]
 fn matches_seen(instructions: &[Instruction], packet: &Packet<'_>, seen: &Seen, ids: &[u64]) -> bool {
     if let [instruction] = instructions {
-        if let Some(primitive) = instruction.primitive() {
-            return matches_primitive(&primitive, packet, seen, ids);
+        if let Some(matches) = matches_instruction(instruction, packet, seen, ids) {
+            return matches;
         }
     }
     matches_by_jumps(instructions, packet, seen, ids)
@@ -132,27 +142,25 @@ fn matches_by_jumps(
     let mut at = 0;
     while at < instructions.len() {
         let instruction = &instructions[at];
-        let Some(primitive) = instruction.primitive() else {
+        let Some(matches) = matches_instruction(instruction, packet, seen, ids) else {
             return false; // not reached: each jump leads to a primitive
         };
-        let next = instruction
-            .jump
-            .after(matches_primitive(&primitive, packet, seen, ids));
+        let next = instruction.jump.after(matches);
         if next <= at {
             return false; // not reached: each jump leads forward
         }
-        at = past_misses(instructions, next, tags_seen(seen));
+        at = past_misses(instructions, next, seen, ids);
     }
     at == usize::from(HOLDS)
 }
 
-/// Where the evaluation goes on from the index `begin`, past primitives that these VLAN tags don't match.
+/// Where the evaluation goes on from the index `begin`, past primitives that the VLAN tags that were seen don't match.
 #[inline]
-fn past_misses(instructions: &[Instruction], begin: usize, tags: Tags) -> usize {
-    match tags {
+fn past_misses(instructions: &[Instruction], begin: usize, seen: &Seen, ids: &[u64]) -> usize {
+    match tags_seen(seen) {
         Tags::Untagged => past_all(instructions, begin),
         Tags::One(id) => past_others(instructions, begin, id),
-        Tags::Many => begin,
+        Tags::Many => past_unseen(instructions, begin, seen, ids),
     }
 }
 
@@ -175,6 +183,20 @@ fn past_all(instructions: &[Instruction], begin: usize) -> usize {
 fn past_others(instructions: &[Instruction], begin: usize, id: u16) -> usize {
     let mut at = begin;
     while at < instructions.len() && instructions[at].asks_other_id(id) {
+        let next = instructions[at].jump.after(false);
+        if next <= at {
+            return at; // not reached: each jump leads forward
+        }
+        at = next;
+    }
+    at
+}
+
+/// .. past primitives that ask for an identifier that no VLAN tag has.
+#[inline(never)]
+fn past_unseen(instructions: &[Instruction], begin: usize, seen: &Seen, ids: &[u64]) -> usize {
+    let mut at = begin;
+    while at < instructions.len() && instructions[at].asks_unseen_id(seen, ids) {
         let next = instructions[at].jump.after(false);
         if next <= at {
             return at; // not reached: each jump leads forward

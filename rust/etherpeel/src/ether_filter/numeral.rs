@@ -1,7 +1,7 @@
 //! Numbers and addresses as words.
 
-/// Numbers from this one on are read as this one. It is greater than each address and each 32-bit number.
-const CAP: u64 = 1 << 48;
+/// Numbers from this one on are read as this one. It is the first that does not fit in 64 bits.
+const CAP: u128 = 1 << 64;
 
 /// The number in a word: hexadecimal digits after `0x`, or decimal digits without a leading zero. `None` if the word
 /// is not a number, and `Some(None)` if the number does not fit in 32 bits.
@@ -26,17 +26,31 @@ const CAP: u64 = 1 << 48;
 #[must_use]
 #[inline]
 pub fn number_of(word: &[u8]) -> Option<Option<u32>> {
-    let number = if word.len() > 1 && word[0] == b'0' {
+    match capped_number_of(word) {
+        Some(number) => Some(u32::try_from(number).ok()),
+        None => None,
+    }
+}
+
+/// The number in a word, as [`number_of`] says, if it fits in 64 bits.
+#[inline]
+pub(in crate::ether_filter) fn wide_number_of(word: &[u8]) -> Option<Option<u64>> {
+    match capped_number_of(word) {
+        Some(number) => Some(u64::try_from(number).ok()),
+        None => None,
+    }
+}
+
+/// The number in a word, at most the cap.
+#[inline]
+fn capped_number_of(word: &[u8]) -> Option<u128> {
+    if word.len() > 1 && word[0] == b'0' {
         if word[1] != b'x' {
             return None;
         }
         digits_of(&word[2..], 16)
     } else {
         digits_of(word, 10)
-    };
-    match number {
-        Some(number) => Some(u32::try_from(number).ok()),
-        None => None,
     }
 }
 
@@ -44,7 +58,7 @@ pub fn number_of(word: &[u8]) -> Option<Option<u32>> {
 #[inline]
 pub(in crate::ether_filter) fn address_of(word: &[u8]) -> Option<u64> {
     if word.len() == 12 {
-        return digits_of(word, 16);
+        return narrowed(digits_of(word, 16));
     }
     if word.len() != 17 {
         return None;
@@ -56,7 +70,22 @@ pub(in crate::ether_filter) fn address_of(word: &[u8]) -> Option<u64> {
         word[0], word[1], word[3], word[4], word[6], word[7], word[9], word[10], word[12],
         word[13], word[15], word[16],
     ];
-    digits_of(&digits, 16)
+    narrowed(digits_of(&digits, 16))
+}
+
+/// The number of up to sixteen hexadecimal digits.
+#[inline]
+pub(in crate::ether_filter) fn hex_of(digits: &[u8]) -> Option<u64> {
+    narrowed(digits_of(digits, 16))
+}
+
+/// A number, if it fits in 64 bits.
+#[inline]
+fn narrowed(number: Option<u128>) -> Option<u64> {
+    match number {
+        Some(number) => u64::try_from(number).ok(),
+        None => None,
+    }
 }
 
 /// Whether the colons of an address are in their places.
@@ -67,7 +96,7 @@ fn has_colons(word: &[u8]) -> bool {
 
 /// The number that digits write, at most the cap. `None` if there are no digits, or other characters.
 #[inline]
-fn digits_of(digits: &[u8], radix: u32) -> Option<u64> {
+fn digits_of(digits: &[u8], radix: u32) -> Option<u128> {
     if digits.is_empty() {
         return None;
     }
@@ -81,6 +110,6 @@ fn digits_of(digits: &[u8], radix: u32) -> Option<u64> {
 
 /// The number with a further digit, at most the cap.
 #[inline]
-fn appended(number: u64, radix: u32, digit: u32) -> u64 {
-    (number * u64::from(radix) + u64::from(digit)).min(CAP)
+fn appended(number: u128, radix: u32, digit: u32) -> u128 {
+    (number * u128::from(radix) + u128::from(digit)).min(CAP)
 }

@@ -1,10 +1,11 @@
 //! Reads an expression word by word.
 
-use crate::ether_filter::awaited::{Awaited, Numbered, Step, first_step, kind_of, next_step};
+use crate::ether_filter::awaited::{Awaited, Numbered, Step, existence, first_step, kind_of, member, next_step};
 use crate::ether_filter::filter::MAX_WORDS;
 use crate::ether_filter::filter_error::FilterErrorKind;
 use crate::ether_filter::node::{Node, Operator};
 use crate::ether_filter::primitive::Primitive;
+use crate::ether_filter::subject::Subject;
 use crate::ether_filter::token::Token;
 use arrayvec::ArrayVec;
 
@@ -102,6 +103,29 @@ impl Reading {
                 }
                 _ => Err(FilterErrorKind::ExpectedVlanIdOrOperator),
             },
+            Awaited::Relation(subject) => match token {
+                Token::Relation(_) | Token::Mask | Token::In => {
+                    self.step(next_step(Awaited::Relation(subject), token))
+                }
+                Token::Join(_) | Token::Close => {
+                    self.complete(existence(subject));
+                    self.take_operator(token)
+                }
+                _ => Err(FilterErrorKind::ExpectedRelationOrOperator),
+            },
+            Awaited::FirstMember(subject, mask) => self.take_member(subject, mask, token),
+            Awaited::Member(subject, mask) => {
+                self.take_member(subject, mask, token)?;
+                self.nodes.push(Node::Join(Operator::Or));
+                Ok(())
+            }
+            Awaited::SetEnd(subject, mask) => match token {
+                Token::CloseSet => {
+                    self.close();
+                    Ok(())
+                }
+                _ => self.step(next_step(Awaited::SetEnd(subject, mask), token)),
+            },
             awaited => self.step(next_step(awaited, token)),
         }
     }
@@ -114,6 +138,22 @@ impl Reading {
             Step::More(awaited) => self.awaited = awaited,
             Step::Fails => return Err(kind_of(self.awaited)),
         }
+        Ok(())
+    }
+
+    /// Consumes a value of a set.
+    #[inline]
+    fn take_member(
+        &mut self,
+        subject: Subject,
+        mask: u64,
+        token: Token,
+    ) -> Result<(), FilterErrorKind> {
+        let Some(primitive) = member(subject, mask, token) else {
+            return Err(kind_of(self.awaited));
+        };
+        self.nodes.push(Node::Test(primitive));
+        self.awaited = Awaited::SetEnd(subject, mask);
         Ok(())
     }
 
@@ -212,6 +252,7 @@ impl Reading {
         match self.awaited {
             Awaited::Operator => {}
             Awaited::VlanId => self.complete(Primitive::Vlan),
+            Awaited::Relation(subject) => self.complete(existence(subject)),
             awaited => return Err(kind_of(awaited)),
         }
         self.settle();

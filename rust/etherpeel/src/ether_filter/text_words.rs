@@ -7,6 +7,12 @@ pub(in crate::ether_filter) enum Class {
     Blank,
     /// It is a word of its own.
     Sign,
+    /// `!`, which `=` can follow.
+    Negation,
+    /// `<` or `>`, which `=` can follow.
+    Order,
+    /// `=`
+    Equals,
     /// It is part of a word of `&` or `|`.
     Connective,
     /// It is part of a word of other characters.
@@ -59,7 +65,10 @@ fn word_end(text: &[u8], start: usize) -> usize {
 fn class_of(byte: u8) -> Class {
     match byte {
         b' ' | b'\t' | b'\n' | b'\r' => Class::Blank,
-        b'(' | b')' | b'!' => Class::Sign,
+        b'(' | b')' | b'{' | b'}' | b',' => Class::Sign,
+        b'!' => Class::Negation,
+        b'<' | b'>' => Class::Order,
+        b'=' => Class::Equals,
         b'&' | b'|' => Class::Connective,
         _ => Class::Letter,
     }
@@ -70,6 +79,11 @@ fn class_of(byte: u8) -> Class {
 fn are_joined(first: Class, second: Class) -> bool {
     matches!(
         (first, second),
-        (Class::Letter, Class::Letter) | (Class::Connective, Class::Connective)
+        (Class::Letter, Class::Letter)
+            | (Class::Connective, Class::Connective)
+            | (
+                Class::Negation | Class::Order | Class::Equals,
+                Class::Equals
+            )
     )
 }

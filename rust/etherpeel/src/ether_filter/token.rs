@@ -1,7 +1,10 @@
 //! What the words of an expression mean.
 
+use crate::ether_filter::byte_text::literal_of;
+use crate::ether_filter::field_test::Relation;
 use crate::ether_filter::node::Operator;
-use crate::ether_filter::numeral::{address_of, number_of};
+use crate::ether_filter::numeral::{address_of, wide_number_of};
+use crate::ether_filter::subject::{Literal, Subject, subject_of};
 
 /// What a word of an expression means.
 #[derive(Clone, Copy)]
@@ -28,9 +31,19 @@ pub(in crate::ether_filter) enum Token {
     Cut,
     Less,
     Greater,
-    /// A number; `None` if it does not fit in 32 bits.
-    Number(Option<u32>),
+    /// A number; `None` if it does not fit in 64 bits.
+    Number(Option<u64>),
     Address(u64),
+    /// The bytes of a value, other than those of an address.
+    Bytes(Literal),
+    Field(Subject),
+    Relation(Relation),
+    /// `&`
+    Mask,
+    In,
+    OpenSet,
+    CloseSet,
+    Comma,
     /// A word that no expression has.
     Unknown,
 }
@@ -42,7 +55,7 @@ struct Keyword {
     token: Token,
 }
 
-const KEYWORDS: [Keyword; 26] = [
+const KEYWORDS: [Keyword; 37] = [
     Keyword {
         spelling: b"(",
         token: Token::Open,
@@ -147,6 +160,50 @@ const KEYWORDS: [Keyword; 26] = [
         spelling: b"greater",
         token: Token::Greater,
     },
+    Keyword {
+        spelling: b"==",
+        token: Token::Relation(Relation::Equal),
+    },
+    Keyword {
+        spelling: b"!=",
+        token: Token::Relation(Relation::NotEqual),
+    },
+    Keyword {
+        spelling: b"<",
+        token: Token::Relation(Relation::Less),
+    },
+    Keyword {
+        spelling: b"<=",
+        token: Token::Relation(Relation::AtMost),
+    },
+    Keyword {
+        spelling: b">",
+        token: Token::Relation(Relation::Greater),
+    },
+    Keyword {
+        spelling: b">=",
+        token: Token::Relation(Relation::AtLeast),
+    },
+    Keyword {
+        spelling: b"&",
+        token: Token::Mask,
+    },
+    Keyword {
+        spelling: b"in",
+        token: Token::In,
+    },
+    Keyword {
+        spelling: b"{",
+        token: Token::OpenSet,
+    },
+    Keyword {
+        spelling: b"}",
+        token: Token::CloseSet,
+    },
+    Keyword {
+        spelling: b",",
+        token: Token::Comma,
+    },
 ];
 
 /// What a word means.
@@ -158,7 +215,13 @@ pub(in crate::ether_filter) fn token_of(word: &[u8]) -> Token {
     if let Some(address) = address_of(word) {
         return Token::Address(address);
     }
-    match number_of(word) {
+    if let Some(bytes) = literal_of(word) {
+        return Token::Bytes(bytes);
+    }
+    if let Some(subject) = subject_of(word) {
+        return Token::Field(subject);
+    }
+    match wide_number_of(word) {
         Some(number) => Token::Number(number),
         None => Token::Unknown,
     }

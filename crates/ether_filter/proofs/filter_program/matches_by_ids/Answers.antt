@@ -8,4 +8,4 @@ pub returns : goal.returns
 returns c x p hs e walk =
     let shows = c.look.ensures c.new-seen.ensures no_bits (λ more. omega (arith, length-replicate {A = ℕ} 64 0))
     (walked c.args.packet hs e) refl walk in
-    c.matches_seen.ensures x p hs e shows
+    c.matches_seen.ensures x p hs e walk shows

@@ -1,9 +1,15 @@
-use Rattle.std.proofs.Common.{sym, ◌∙◌}
-use Rattle.ether_filter.specs.Primitives.{walked}
-use Rattle.ether_filter.proofs.Truth.{matching_is}
+use Rattle.std.proofs.Common.{◌≡◌, sym, ◌∙◌, subst, IsTrue, ◌↔◌}
+use Rattle.ether_filter.specs.declared.primitive.Primitive.{Primitive}
+use Rattle.ether_filter.specs.Primitives.{Matches, walked}
 use Rattle.ether_filter.proofs.matching.matches_primitive.Goals as goal
 
-pub returns-else-is_of_lengths : goal.returns-else-is_of_lengths
-returns-else-is_of_lengths c hs e shows =
-    rw (c.is_seen.ensures ∙ shows c.args.primitive.now (sym c.if-is_of_lengths.ensures))
-    (matching_is (walked c.args.packet.now hs e) c.args.primitive.now)
+pub returns : goal.returns
+returns c hs e walk shows =
+    let told = c.in-Some.ensures.some in
+    let some = sym told.1 ∙ c.of_primitive.ensures in
+    let same : told.0 ≡ c.args.primitive = cc in
+    subst (λ (p : Primitive). IsTrue c.in-Some.matches ↔ Matches p (walked c.args.packet.now hs e)) same
+    (told.2 hs e walk shows)
+
+pub returns-in_default : goal.returns-in_default
+returns-in_default c hs e walk shows = let none = sym c.in_default.ensures.none ∙ c.of_primitive.ensures in absurd cc

@@ -1,4 +1,4 @@
-use Rattle.std.proofs.Common.{length, refl, sym, ◌∙◌}
+use Rattle.std.proofs.Common.{length, refl, sym, ◌∙◌, arith}
 use Rattle.std.specs.Prelude.{map, slice_index}
 use Rattle.std.proofs.lemmas.Bool.{ne_eqb}
 use Rattle.ether_filter.specs.Numerals.{digit_places}
@@ -7,7 +7,8 @@ use Rattle.ether_filter.proofs.numeral.address_of.Goals as goal
 
 pub returns-then-word-eq12 : goal.returns-then-word-eq12
 returns-then-word-eq12 c =
-    address_read c.args.word.now c.digits_of.result c.if-word-eq12.true c.digits_of.ensures
+    c.narrowed.ensures
+    ∙ address_read c.args.word.now c.digits_of.result (omega (arith, c.if-word-eq12.true)) c.digits_of.ensures
     ∙ sym (address_of_twelve c.args.word.now c.if-word-eq12.true)
 
 pub returns-then-word-ne17 : goal.returns-then-word-ne17
@@ -30,4 +31,6 @@ returns c =
       c.if-word-ne17.false,
       sym c.has_colons.ensures ∙ c.if-not-has_colons.false,
     )
-    (address_read (map (slice_index c.args.word.now) digit_places) c.digits_of-2.result refl c.digits_of-2.ensures)
+    (c.narrowed-2.ensures
+    ∙ address_read (map (slice_index c.args.word.now) digit_places) c.digits_of-2.result (omega arith)
+    c.digits_of-2.ensures)

@@ -9,7 +9,7 @@ use std::fmt;
 /// The words of a drawn filter.
 pub(crate) type Words = ArrayVec<u8, 512>;
 
-static PRIMITIVES: [&[u8]; 20] = [
+static PRIMITIVES: [&[u8]; 34] = [
     b"vlan",
     b"vlan 5",
     b"outer vlan 0x10",
@@ -30,9 +30,23 @@ static PRIMITIVES: [&[u8]; 20] = [
     b"ether dst ffffffffffff",
     b"ether host 00:11:22:33:44:55",
     b"vlan 4096",
+    b"vlan.vid",
+    b"vlan.vid == 5",
+    b"vlan.pcp >= 4",
+    b"vlan.vid & 0xf00 != 0x100",
+    b"vlan.type in {0x8100, 0x800, 2054}",
+    b"eth.src[0:3] == 02:00:00",
+    b"eth.dst < 80:00:00:00:00:00",
+    b"arp.op == 1",
+    b"arp.spa & 255.0.0.0 == 10.0.0.0",
+    b"arp.tha != 00:00:00:00:00:00",
+    b"macsec.sci[0:6] > 00:00:00:00:00:01",
+    b"macsec.pn<=0x7fffffff",
+    b"sll.addr_len == 6",
+    b"vlan.vid == 4096",
 ];
 
-static WORDS: [&[u8]; 12] = [
+static WORDS: [&[u8]; 16] = [
     b"ether",
     b"vlan",
     b"and",
@@ -45,6 +59,10 @@ static WORDS: [&[u8]; 12] = [
     b"4294967296",
     b"&&",
     b"0xFFFFFFFF",
+    b"==",
+    b"{",
+    b"10.0.0.1",
+    b"eth.src[4:3]",
 ];
 
 /// Calls what reads filters and decides by them.
@@ -60,7 +78,7 @@ pub(crate) fn calls(draw: &mut Draw, text: &mut Text) -> fmt::Result {
 }
 
 fn word_of(draw: &mut Draw) -> &'static [u8] {
-    match WORDS.get(draw.below(12)) {
+    match WORDS.get(draw.below(16)) {
         Some(word) => word,
         None => b"12",
     }
@@ -99,7 +117,7 @@ fn add_term(draw: &mut Draw, words: &mut Words) {
 }
 
 fn primitive_of(draw: &mut Draw) -> &'static [u8] {
-    match PRIMITIVES.get(draw.below(20)) {
+    match PRIMITIVES.get(draw.below(34)) {
         Some(words) => words,
         None => b"arp",
     }

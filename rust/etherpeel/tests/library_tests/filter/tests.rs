@@ -2,5 +2,6 @@
 mod content;
 mod deciding;
 mod examples;
+mod fields;
 mod matching;
 mod refusals;

@@ -17,7 +17,11 @@ const PACKET: Packet<'static> = Packet {
     original_len: 64,
 };
 
-static FILTERS: [(&str, bool); 2] = [("vlan 5 and arp", true), ("not (vlan 5 or cut)", false)];
+static FILTERS: [(&str, bool); 3] = [
+    ("vlan 5 and arp", true),
+    ("not (vlan 5 or cut)", false),
+    ("vlan.vid == 5 and eth.src[0:3] == 02:00:00", true),
+];
 
 #[test]
 fn the_filters_of_the_examples_match_as_documented() -> Result<(), Fail> {

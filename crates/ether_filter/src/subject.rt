@@ -1,0 +1,253 @@
+//! What a test of a field asks about, and the values that it takes.
+ghost use Rattle.std.specs.Prelude.{◌≡◌, ◌≤◌, map};
+ghost use Rattle.std.specs.Option.{option_map};
+ghost use Rattle.ether_fields.specs.Fields.{field_view, section_rows};
+ghost use Rattle.ether_filter.specs.Subjects.{subject_in, subject_if, sliced as sliced_of, has_slice as has_slice_of, subject_of as subject_of_row, row_named, row_in, row_among, field_found, takes_of as takes_of_row, greatest_in_bits, greatest_in_bytes, number_for as number_for_of, bytes_for as bytes_for_of, test_with, tested as tested_of};
+
+use crate::byte_text::{place_of, slice_of};
+use crate::field_test::{FieldTest, Relation};
+use crate::primitive::Primitive;
+use ether_fields::{Extent, Field, Kind, Section};
+
+/// Which values a field takes.
+#[derive(Clone, Copy)]
+pub(crate) enum Takes {
+    /// Numbers up to this one.
+    Number(u32),
+    /// This number of bytes.
+    Bytes(u8),
+    /// Any number of bytes.
+    AnyBytes,
+}
+
+/// A field, or a part of its bytes.
+#[derive(Clone, Copy)]
+pub(crate) struct Subject {
+    /// The number of the field.
+    pub field: u8,
+    /// The offset in bytes of the part.
+    pub first: u8,
+    /// The number of bytes in the part, or 0 for all.
+    pub count: u8,
+    pub takes: Takes,
+}
+
+/// What a field is compared with.
+#[derive(Clone, Copy)]
+pub(crate) struct Literal {
+    /// The number of bytes, or 0 for a number.
+    pub len: u8,
+    pub number: u64,
+}
+
+/// The sections whose fields can be tested.
+static SECTIONS: [Section; 5] = [
+    Section::Eth,
+    Section::Sll,
+    Section::Vlan,
+    Section::Macsec,
+    Section::Arp,
+];
+
+impl Subject {
+    /// The test that it has the value.
+    pub(crate) fn test(self, mask: u64, relation: Relation, value: Literal) -> FieldTest
+        ensures { result ≡ test_with self mask relation value }
+    {
+        FieldTest {
+            field: self.field,
+            first: self.first,
+            count: self.count,
+            relation,
+            mask,
+            len: value.len,
+            value: value.number,
+        }
+    }
+}
+
+/// The primitive of a test of a field: some have words of their own, as `vlan.vid == 5`, which is `vlan 5`.
+pub(crate) fn tested(test: FieldTest) -> Primitive
+    ensures { result ≡ tested_of test }
+{
+    match test.relation {
+        Relation::Exists if test.field == 11 => Primitive::Vlan,
+        Relation::Equal if test.count == 0 && test.mask == u64::MAX => match test.field {
+            11 => Primitive::VlanId((test.value % (1 << 16)) as u16),
+            1 => Primitive::Destination(test.value),
+            2 => Primitive::Source(test.value),
+            _ => Primitive::Field(test),
+        },
+        _ => Primitive::Field(test),
+    }
+}
+
+impl Takes {
+    /// The value that a number is, if the field takes it.
+    pub(crate) fn number(self, number: u64) -> Option<Literal>
+        ensures { result ≡ number_for_of self number }
+    {
+        match self {
+            Takes::Number(most) if number <= u64::from(most) => Some(Literal { len: 0, number }),
+            Takes::Bytes(len) if number <= greatest_of(len) => Some(Literal { len, number }),
+            _ => None,
+        }
+    }
+
+    /// The value that bytes are, if the field takes them.
+    pub(crate) fn bytes(self, bytes: Literal) -> Option<Literal>
+        ensures { result ≡ bytes_for_of self bytes }
+    {
+        match self {
+            Takes::Bytes(len) if len == bytes.len => Some(bytes),
+            Takes::AnyBytes => Some(bytes),
+            _ => None,
+        }
+    }
+}
+
+/// The greatest number in so many bytes, up to eight.
+fn greatest_of(len: u8) -> u64
+    ensures { result ≡ greatest_in_bytes len }
+{
+    match len {
+        0 => 0,
+        1 => 0xFF,
+        2 => 0xFFFF,
+        3 => 0xFF_FFFF,
+        4 => 0xFFFF_FFFF,
+        5 => 0xFF_FFFF_FFFF,
+        6 => 0xFFFF_FFFF_FFFF,
+        7 => 0xFF_FFFF_FFFF_FFFF,
+        _ => u64::MAX,
+    }
+}
+
+/// The field with this name, or the slice of its bytes, as `eth.src[0:3]`.
+pub(crate) fn subject_of(word: &[u8]) -> Option<Subject>
+    ensures { result ≡ subject_in word.now }
+{
+    match place_of(word, b'[') {
+        Some(at) => sliced(name_of(&word[..at])?, slice_of(&word[at..])?),
+        None => name_of(word),
+    }
+}
+
+/// The field with this name.
+fn name_of(word: &[u8]) -> Option<Subject>
+    ensures { result ≡ subject_if (row_named word.now) }
+{
+    whole(field_named(word)?)
+}
+
+/// A slice of a field's bytes: its first offset and its length, up to eight.
+fn sliced(subject: Subject, slice: (u8, u8)) -> Option<Subject>
+    ensures { result ≡ sliced_of subject slice.0 slice.1 }
+{
+    let (first, count) = slice;
+    if count == 0 || count > 8 || !has_slice(subject.takes, first, count) {
+        return None;
+    }
+    Some(Subject {
+        field: subject.field,
+        first,
+        count,
+        takes: Takes::Bytes(count),
+    })
+}
+
+/// Whether the bytes of a field can have this slice.
+fn has_slice(takes: Takes, first: u8, count: u8) -> bool
+    ensures { result ≡ has_slice_of takes first count }
+{
+    match takes {
+        Takes::Number(_) => false,
+        Takes::Bytes(len) => u16::from(first) + u16::from(count) <= u16::from(len),
+        Takes::AnyBytes => true,
+    }
+}
+
+/// The whole of a field, if it has bits.
+fn whole(field: &Field) -> Option<Subject>
+    ensures { result ≡ subject_of_row (field_view field.now) }
+{
+    let takes = takes_of(field)?;
+    if field.number >= 256 {
+        return None;
+    }
+    Some(Subject {
+        field: field.number as u8,
+        first: 0,
+        count: 0,
+        takes,
+    })
+}
+
+/// The field with this name as a column.
+fn field_named(name: &[u8]) -> Option<&'static Field>
+    ensures { option_map (λ f. field_view f.now) result ≡ row_named name.now }
+{
+    named_among(name, &SECTIONS)
+}
+
+/// .. in these sections.
+fn named_among(name: &[u8], sections: &[Section]) -> Option<&'static Field>
+    ensures { option_map (λ f. field_view f.now) result ≡ row_among name.now sections.now }
+{
+    for section in sections {
+        if let Some(field) = in_section(name, *section) {
+            return Some(field);
+        }
+    }
+    None
+}
+
+/// .. in this section.
+fn in_section(name: &[u8], section: Section) -> Option<&'static Field>
+    ensures { option_map (λ f. field_view f.now) result ≡ row_in name.now section (section_rows section) }
+{
+    named(name, section.fields())
+}
+
+/// .. among these fields.
+fn named(name: &[u8], fields: &'static [Field]) -> Option<&'static Field>
+    ensures { option_map (λ f. f.now) result ≡ field_found name.now fields.now }
+{
+    fields.iter().find(|field| field.column.as_bytes() == name)
+}
+
+/// Which values a field takes, if it has bits.
+fn takes_of(field: &Field) -> Option<Takes>
+    ensures { result ≡ takes_of_row (field_view field.now) }
+{
+    if !field.is_member {
+        return None;
+    }
+    match field.extent {
+        Extent::Bits(len) => match field.kind {
+            Kind::Bytes => Some(Takes::Bytes(len / 8)),
+            _ => greatest(len).map(Takes::Number),
+        },
+        Extent::HardwareAddress | Extent::ProtocolAddress => Some(Takes::AnyBytes),
+        Extent::SecureChannel => Some(Takes::Bytes(8)),
+        Extent::PayloadType => Some(Takes::Number(0xFFFF)),
+        Extent::Computed | Extent::CheckSequence => None,
+    }
+}
+
+/// The greatest number in so many bits, up to 32.
+fn greatest(bits: u8) -> Option<u32>
+    ensures { result ≡ greatest_in_bits bits }
+{
+    match bits {
+        1 => Some(1),
+        2 => Some(3),
+        3 => Some(7),
+        6 => Some(63),
+        8 => Some(255),
+        12 => Some(4095),
+        16 => Some(65535),
+        32 => Some(u32::MAX),
+        _ => None,
+    }
+}
