@@ -278,7 +278,11 @@ enum etherpeel_filter_error_kind {
     /* `{` is expected. */
     ETHERPEEL_FILTER_SET = 16,
     /* `,` or `}` is expected. */
-    ETHERPEEL_FILTER_SET_END = 17
+    ETHERPEEL_FILTER_SET_END = 17,
+    /* A time is expected: `2026-11-01T00:00:00Z`. */
+    ETHERPEEL_FILTER_TIME = 18,
+    /* The name of a header is expected: `eth`, `sll`, `vlan`, `macsec` or `arp`. */
+    ETHERPEEL_FILTER_HEADER = 19
 };
 
 /* What etherpeel_filter_decide returns. */
@@ -1307,10 +1311,10 @@ uint32_t etherpeel_filter_parse(const char *expression, size_t len, etherpeel_fi
 
 /* etherpeel_filter_matches - 1 if a filter selects a packet, else 0
  *
- * The packet is one that etherpeel_capture wrote, or one that the caller has filled in; its time is
- * not read. The expression is about the frame that etherpeel_captured_frame sets. A packet of which
- * nothing is walked is never selected, not even by `not`. For a filter that etherpeel_filter_parse
- * did not write, nothing is claimed of the result.
+ * The packet is one that etherpeel_capture wrote, or one that the caller has filled in; only tests
+ * of `frame.time` read its time. The expression is about the frame that etherpeel_captured_frame
+ * sets. A packet of which nothing is walked is never selected, not even by `not`. For a filter that
+ * etherpeel_filter_parse did not write, nothing is claimed of the result.
  * Every number is in host byte order. Thread-safe, also with one filter in several threads; takes
  * no memory.
  */
@@ -1319,10 +1323,10 @@ uint32_t etherpeel_filter_matches(const etherpeel_filter *filter, const etherpee
 /* etherpeel_filter_decide - whether a filter selects a packet, as far as its captured bytes tell
  *
  * Returns a number of enum etherpeel_decision. ETHERPEEL_FAILS and ETHERPEEL_MATCHES hold whatever
- * bytes of the frame were cut off, up to `original_len`; those of a frame check sequence count as
- * bytes of the frame. A packet that was not cut is never ETHERPEEL_UNDECIDED, nor one of a link
- * type that the walk does not know. For a filter that etherpeel_filter_parse did not write, nothing
- * is claimed of the result.
+ * bytes of the frame were cut off, up to `original_len`; so etherpeel_filter_matches, which goes by
+ * the captured bytes alone, may return something else. A packet that was not cut is never
+ * ETHERPEEL_UNDECIDED, nor one of a link type that the walk does not know. For a filter that
+ * etherpeel_filter_parse did not write, nothing is claimed of the result.
  * Every number is in host byte order. Thread-safe, also with one filter in several threads; takes
  * no memory.
  */

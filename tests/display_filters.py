@@ -1,4 +1,4 @@
-"""Tests `ether_capture --select` by tshark: 200 drawn expressions over fields, on 20,000 drawn packets.
+"""Tests `ether_capture --select` by tshark: 240 drawn expressions over fields, on 20,000 drawn packets.
 
 `other_programs.py` runs `agreement`. Only what means the same in both is drawn: tags are announced by 0x8100, since tshark names the fields of other
 tags differently, and values fit in their fields. tshark says in one run which packets each display filter selects: the packets are a second apart,
@@ -7,17 +7,20 @@ and it counts them by the second.
 import random
 import subprocess
 import tempfile
+from datetime import UTC, datetime
 from shutil import which
 
 from formats import drawn
 
-PACKETS, EXPRESSIONS = 20_000, 200
+PACKETS, EXPRESSIONS = 20_000, 240
+BEGIN = 1_700_000_000  # the second of the first packet
 # Our names, those of tshark, and for numbers how many bits they have.
 NUMBERS = [("vlan.vid", "vlan.id", 12), ("vlan.pcp", "vlan.priority", 3), ("vlan.dei", "vlan.dei", 1), ("vlan.type", "vlan.etype", 16),
            ("eth.type", "eth.type", 16), ("arp.op", "arp.opcode", 16), ("arp.hrd", "arp.hw.type", 16), ("arp.pro", "arp.proto.type", 16),
            ("arp.hln", "arp.hw.size", 8), ("arp.pln", "arp.proto.size", 8), ("macsec.an", "macsec.AN", 2), ("macsec.pn", "macsec.PN", 32)]
 ADDRESSES = [("eth.dst", "eth.dst"), ("eth.src", "eth.src"), ("arp.sha", "arp.src.hw_mac"), ("arp.tha", "arp.dst.hw_mac")]
 INTERNET = [("arp.spa", "arp.src.proto_ipv4"), ("arp.tpa", "arp.dst.proto_ipv4")]
+LENGTHS = [("frame.original", "frame.len"), ("frame.captured", "frame.cap_len")]
 LIKELY = {16: [0x0806, 0x88E5, 0x88B5, 0x8100, 1, 2, 0x0800], 8: [4, 6], 3: range(8), 2: range(4), 1: range(2)}
 # Sets, which can't be among the filters of one run, since commas separate these.
 SETS = [(f"{ours} in {{{told}}}", f"{theirs} in {{{told}}}") for ours, theirs, told in
@@ -64,11 +67,28 @@ def of_internet(draw):
     return ours + test, theirs + test
 
 
+def of_length(draw, frames):
+    """.. of the length of a packet. Of one frame in two some bytes were not captured."""
+    ours, theirs = draw.choice(LENGTHS)
+    mask = f" & {hex(draw.randrange(1, 128))}" if draw.randrange(4) == 0 else ""
+    test = f"{mask} {draw.choice(RELATIONS)} {len(draw.choice(frames)) + draw.choice([0, 0, 7, 8])}"
+    return ours + test, theirs + test
+
+
+def of_time(draw):
+    """.. of the time of a packet."""
+    half = draw.randrange(2 * PACKETS)
+    moment = datetime.fromtimestamp(BEGIN + half // 2, UTC).strftime("%Y-%m-%dT%H:%M:%S") + draw.choice([".5Z", ".500000000Z"] if half % 2 else ["Z", ".0Z"])
+    relation = draw.choice(RELATIONS)
+    return f"frame.time {relation} " + draw.choice([moment, f'"{moment}"']), f'frame.time {relation} "{moment}"'
+
+
 def expression(draw, frames, depth):
     """An expression, as we write it and as tshark does."""
     kind = draw.randrange(6) if depth else 0
     if kind < 3:
-        return draw.choice([of_number, of_number, lambda it: of_address(it, frames), of_internet])(draw)
+        kinds = [of_number, of_number, of_number, lambda it: of_address(it, frames), of_internet, lambda it: of_length(it, frames), of_time]
+        return draw.choice(kinds)(draw)
     if kind == 3:
         ours, theirs = expression(draw, frames, depth - 1)
         return f"{draw.choice(['not', '!'])} ({ours})", f"not ({theirs})"
@@ -78,10 +98,10 @@ def expression(draw, frames, depth):
 
 
 def capture(frames):
-    """A classic capture in which the packets are a second apart. One follows that is not compared,
-    since tshark does not count a packet at the very end."""
+    """A classic capture in which the packets are a second apart; each second packet has lost seven bytes. One follows that
+    is not compared, since tshark does not count a packet at the very end."""
     front = bytes.fromhex("a1b2c3d4 0002 0004 00000000 00000000 0000ffff 00000001")
-    numbers = ((1_700_000_000 + at, 0, len(it), len(it)) for at, it in enumerate([*frames, bytes(60)]))
+    numbers = ((BEGIN + at, 0, len(it), len(it) + at % 2 * 7) for at, it in enumerate([*frames, bytes(60)]))
     records = (b"".join(it.to_bytes(4, "big") for it in number) + frame for number, frame in zip(numbers, [*frames, bytes(60)]))
     return front + b"".join(records)
 

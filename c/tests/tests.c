@@ -822,11 +822,15 @@ static void filtering(void) {
     CHECK(selects_again("not refused", "11100") && selects_again("greater 20", "01100"));
     CHECK(selects_again("vlan.vid == 0x123", "10100") && selects_again("vlan.pcp < 5", "00000"));
     CHECK(selects_again("vlan.vid & 0xf00 == 256 or arp.op in {1, 2}", "11100"));
+    CHECK(selects_again("headers.header == vlan", "10100") && selects_again("fault", "00000"));
+    CHECK(selects_again("frame.original >= 20", "01100") && selects_again("frame.time", "00000"));
     memset(&filter, 0xA5, sizeof filter);
     CHECK(etherpeel_filter_parse("vlan 4096", 9, &filter, &error) == ETHERPEEL_BAD_FILTER);
     CHECK(error.offset == 5 && error.kind == ETHERPEEL_FILTER_NUMBER && error.greatest == 4095);
     CHECK(etherpeel_filter_parse("eth.src == 1:2", 14, &filter, &error) == ETHERPEEL_BAD_FILTER);
     CHECK(error.offset == 11 && error.kind == ETHERPEEL_FILTER_BYTES && error.greatest == 6);
+    CHECK(etherpeel_filter_parse("frame.time == 5", 15, &filter, &error) == ETHERPEEL_BAD_FILTER);
+    CHECK(error.offset == 14 && error.kind == ETHERPEEL_FILTER_TIME && error.greatest == 0);
     CHECK(all_are(&filter, sizeof filter, 0xA5));
     CHECK(etherpeel_filter_parse("vlan", 4, &filter, &error) == ETHERPEEL_DONE);
     CHECK(etherpeel_filter_select(&filter, &p, 1, matches, 0) == ETHERPEEL_NO_ROOM);
@@ -835,7 +839,8 @@ static void filtering(void) {
     CHECK(decided("vlan 291", 15) == ETHERPEEL_UNDECIDED);
     CHECK(decided("vlan 291", 18) == ETHERPEEL_MATCHES);
     CHECK(decided("vlan 290", 18) == ETHERPEEL_FAILS);
-    CHECK(decided("not vlan", 15) == ETHERPEEL_UNDECIDED);
+    CHECK(decided("not vlan", 15) == ETHERPEEL_FAILS);
+    CHECK(decided("not vlan", 13) == ETHERPEEL_UNDECIDED);
     CHECK(decided("vlan 291 and greater 61", 15) == ETHERPEEL_FAILS);
     CHECK(decided("vlan 291 or less 60", 15) == ETHERPEEL_MATCHES);
     /* memory that holds no filter: any result, but one */

@@ -204,7 +204,8 @@ def filters():
     packets = [captured(TAGGED, 1), captured(ARP, 1), captured(COOKED_V2, 276), captured(COOKED_V2_GRE, 276), captured(TAGGED[:4], 105)]
     for expression, expected in (("vlan 291", [0, 2]), ("not vlan", [1]), ("arp", [1]), ("vlan 291 and (ip or cut)", [0, 2]),
                                  ("refused", []), ("not refused", [0, 1, 2]), ("greater 20", [1, 2]),
-                                 ("vlan.vid == 0x123", [0, 2]), ("arp.op in {1, 2} or vlan.pcp > 5", [1])):
+                                 ("vlan.vid == 0x123", [0, 2]), ("arp.op in {1, 2} or vlan.pcp > 5", [1]),
+                                 ("headers.header == vlan", [0, 2]), ("frame.original >= 20", [1, 2])):
         check(expression, [packets.index(it) for it in etherpeel.select(expression, packets)], expected)
     check("a capture", [bytes(it.packet) for it in etherpeel.select("cut", etherpeel.capture(CLASSIC))], [b""])
     found = etherpeel.select("not cut", etherpeel.capture(CLASSIC[:50]))
@@ -217,6 +218,7 @@ def filters():
                                  ("vlan.vid 5", (9, FilterErrorKind.RELATION_OR_OPERATOR, None,
                                                  "At byte 9: expected `==`, `!=`, `<`, `<=`, `>`, `>=`, `in`, `&`, `and`, `or`, `)` or the end.")),
                                  ("eth.src == 1:2", (11, FilterErrorKind.BYTES, 6, "At byte 11: expected a value of 6 bytes.")),
+                                 ("frame.time == 5", (14, FilterErrorKind.TIME, None, "At byte 14: expected a time, as 2026-11-01T00:00:00Z.")),
                                  ("", (0, FilterErrorKind.OPERAND, None, "At byte 0: expected a primitive, `not` or `(`."))):
         try:
             etherpeel.select(expression, packets)

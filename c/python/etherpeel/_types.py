@@ -139,6 +139,10 @@ class FilterErrorKind(IntEnum):
     """`{` is expected."""
     SET_END = 17
     """`,` or `}` is expected."""
+    TIME = 18
+    """A time is expected: `2026-11-01T00:00:00Z`."""
+    HEADER = 19
+    """The name of a header is expected: `eth`, `sll`, `vlan`, `macsec` or `arp`."""
 
 
 class FieldKind(IntEnum):

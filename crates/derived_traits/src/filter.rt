@@ -1,7 +1,8 @@
 //! What callers know of the derived traits and of a constant. These functions are proved and never run.
 ghost use Rattle.std.specs.Prelude.{◌≡◌, ◌↔◌, IsTrue};
 
-use ether_filter::{Decision, Filter, FilterError, FilterErrorKind, Packet};
+use ether_filter::{Decision, Filter, FilterError, FilterErrorKind, Packet, PacketTime};
+use ether_peel::Start;
 
 /// `==` is equality.
 pub fn equality()
@@ -9,7 +10,10 @@ pub fn equality()
     ensures filter_error_kind { (a b : _) → IsTrue (⟦<FilterErrorKind as PartialEq>⟧.eq a b) ↔ (a ≡ b) }
     ensures packet { (a b : _) → IsTrue (⟦<Packet<'static> as PartialEq>⟧.eq a b)
         ↔ ((a.start ≡ b.start) × (a.frame.now ≡ b.frame.now) × (a.captured_len ≡ b.captured_len)
-        × (a.original_len ≡ b.original_len)) }
+        × (a.original_len ≡ b.original_len) × (a.time ≡ b.time)) }
+    ensures start { (a b : _) → IsTrue (⟦<Start as PartialEq>⟧.eq a b) ↔ (a ≡ b) }
+    ensures packet_times { (a b : _) → IsTrue (⟦<Option<PacketTime> as PartialEq>⟧.eq a b) ↔ (a ≡ b) }
+    ensures packet_time { (a b : _) → IsTrue (⟦<PacketTime as PartialEq>⟧.eq a b) ↔ (a ≡ b) }
     ensures decision { (a b : _) → IsTrue (⟦<Decision as PartialEq>⟧.eq a b) ↔ (a ≡ b) }
 {}
 

@@ -39,6 +39,8 @@ filter_error_number (kinds.ExpectedBytes len) = 14
 filter_error_number kinds.ExpectedAnyBytes = 15
 filter_error_number kinds.ExpectedSet = 16
 filter_error_number kinds.ExpectedSetEnd = 17
+filter_error_number kinds.ExpectedTime = 18
+filter_error_number kinds.ExpectedHeader = 19
 
 -- the greatest number that is expected, or the number of bytes; 0 if neither is
 abbrev pub greatest_expected : FilterErrorKind → ℕ

@@ -1,8 +1,8 @@
 -- Which packets of a capture a filter selects.
-use Rattle.std.specs.Prelude.{◌≡◌, ◌⊎◌, ℕ, List, [], ◌∷◌, nat_eq, Option, Some, None, if◌then◌else◌}
+use Rattle.std.specs.Prelude.{◌≡◌, ◌⊎◌, ℕ, List, [], ◌∷◌, nat_eq, Option, Some, None, Bool, true, false, if◌then◌else◌}
 use Rattle.ether_filter.specs.Expressions.{Expression}
 use Rattle.ether_pcap.specs.Capture.{TimeValue, PacketValue}
-use Rattle.ether_content.specs.Selecting.{IsUndecided, Selects}
+use Rattle.ether_content.specs.Selecting.{IsOutcome, Selects}
 use Rattle.ether_c.specs.declared.ether_captured.EtherCaptured.{EtherCaptured}
 
 -- ---- the packet that is passed
@@ -31,10 +31,15 @@ packet_value c = record {
 abbrev pub IsMark : Expression → EtherCaptured → (mark : ℕ) → Type 0
 IsMark x c mark = (Selects x (packet_value c) × (mark ≡ 1)) ⊎ ((Selects x (packet_value c) → ⊥) × (mark ≡ 0))
 
--- 2 for a packet whose captured bytes do not decide that
+-- the number of what the captured bytes decide: 2 if they do not
+abbrev pub decision_number : Option Bool → ℕ
+decision_number None = 2
+decision_number (Some true) = 1
+decision_number (Some false) = 0
+
 abbrev pub IsDecision : Expression → EtherCaptured → (number : ℕ) → Type 0
-IsDecision x c number =
-    (IsUndecided x (packet_value c) × (number ≡ 2)) ⊎ ((IsUndecided x (packet_value c) → ⊥) × IsMark x c number)
+IsDecision x c number = (outcome : Option Bool) × IsOutcome x (packet_value c) outcome
+    × (number ≡ decision_number outcome)
 
 -- .. for each packet
 abbrev pub AreMarks : Expression → List EtherCaptured → (marks : List ℕ) → Type 0

@@ -6,7 +6,7 @@ ghost use Rattle.ether_c.specs.Filters.{GivesFilter, IsFilterOf, PutsMarks};
 use crate::selecting::{mark, put_marks};
 use crate::statuses::{BAD_FILTER, DONE};
 use crate::{EtherCaptured, EtherFilter, EtherFilterError};
-use ether_content::program::is_undecided;
+use ether_content::program::decide;
 use ether_filter::Filter;
 
 /// What `etherpeel_filter_decide` returns if the captured bytes of a packet do not decide whether the filter selects
@@ -42,15 +42,15 @@ pub extern "C" fn etherpeel_filter_matches(filter: &EtherFilter, packet: &EtherC
     u32::from(mark(filter.program(), packet))
 }
 
-/// 1 if a filter selects a packet, 0 if it does not, 2 if the captured bytes do not decide that.
+/// 1 if a filter selects a packet, and 0 if it does not, whatever its missing bytes are; else 2.
 #[unsafe(no_mangle)]
 pub extern "C" fn etherpeel_filter_decide(filter: &EtherFilter, packet: &EtherCaptured<'_>) -> u32
     ensures { (x : Expression) → IsFilterOf filter.now x → IsDecision x packet.now result }
 {
-    if is_undecided(filter.program(), &packet.to_packet()) {
-        return UNDECIDED;
+    match decide(filter.program(), &packet.to_packet()) {
+        Some(is_selected) => u32::from(is_selected),
+        None => UNDECIDED,
     }
-    u32::from(mark(filter.program(), packet))
 }
 
 /// Writes for each packet 1 if a filter selects it, else 0.

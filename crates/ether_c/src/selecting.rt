@@ -50,6 +50,7 @@ pub(crate) fn put_marks(
 }
 
 /// 1 if a filter selects a packet, else 0.
+#[inline(always)]
 pub(crate) fn mark(instructions: &[Instruction], packet: &EtherCaptured<'_>) -> u8
     ensures { (x : Expression) → IsProgramOf instructions.now x → IsMark x packet.now result }
 {

@@ -15,7 +15,7 @@ use ether_peel::Start;
 use ether_sll2::LinuxSll2Slice;
 
 /// The length in bytes of the frame check sequence of Ethernet.
-const FCS_LEN: usize = 4;
+pub(crate) const FCS_LEN: usize = 4;
 
 /// The part of a packet that is walked, by its link type.
 ///
@@ -130,7 +130,7 @@ pub fn is_cut(packet: &CapturedPacket<'_>) -> bool
 
 /// The length of the frame check sequence at the end of the packet before it was cut; 0 if the capture does not give
 /// it.
-fn fcs_len(packet: &CapturedPacket<'_>) -> usize
+pub(crate) fn fcs_len(packet: &CapturedPacket<'_>) -> usize
     ensures { result ≡ fcs_len (captured_packet_view packet.now) }
 {
     usize::from(packet.fcs_len.unwrap_or(0))

@@ -1,7 +1,7 @@
 //! Which packets of a capture a filter selects.
-ghost use Rattle.std.specs.Prelude.{◌≡◌, ◌↔◌, IsTrue};
+ghost use Rattle.std.specs.Prelude.{◌≡◌, ◌↔◌, Bool, Option, IsTrue};
 ghost use Rattle.ether_pcap.specs.CaptureViews.{captured_packet_view};
-ghost use Rattle.ether_content.specs.Selecting.{IsUndecided, Selects};
+ghost use Rattle.ether_content.specs.Selecting.{IsOutcome, IsUndecided, Selects};
 
 use crate::program;
 use ether_filter::Filter;
@@ -34,11 +34,22 @@ pub fn selects(filter: &Filter, packet: &CapturedPacket<'_>) -> bool
     program::selects(filter.instructions(), packet)
 }
 
-/// Returns `true` if a packet was cut, and its captured bytes do not decide whether a filter selects it.
+/// Returns `true` if the captured bytes of a packet do not decide whether a filter selects it: if [`decide`] returns
+/// `None`.
+#[inline(always)]
+pub fn is_undecided(filter: &Filter, packet: &CapturedPacket<'_>) -> bool
+    ensures { IsTrue result ↔ IsUndecided filter.now (captured_packet_view packet.now) }
+{
+    program::is_undecided(filter.instructions(), packet)
+}
+
+/// Decides whether a filter selects a packet of which bytes may be missing: `Some` if that is so, or not so, whatever
+/// the missing bytes are, as [`Filter::decide`] says; `None` if they can change it.
 ///
-/// This is so if [`Filter::decide`] needs more bytes of the part that is walked, or if the header of cooked capture v2
-/// was cut short. [`selects`] then returns what holds for the captured bytes. Missing bytes of a frame check sequence
-/// count as bytes that may belong to headers.
+/// Missing bytes of a frame check sequence change nothing, if the capture gives its length. A packet whose header of
+/// cooked capture was cut is undecided: the header says what is walked.
+///
+/// [`selects`] goes by the captured bytes alone.
 ///
 /// ```
 /// let packet = CapturedPacket {
@@ -53,12 +64,15 @@ pub fn selects(filter: &Filter, packet: &CapturedPacket<'_>) -> bool
 ///         0xB1, 0x23, // the first bytes of a VLAN tag
 ///     ],
 /// };
-/// assert!(rt; is_undecided(&Filter::parse(b"vlan 291")?, &packet));
-/// assert!(rt; !is_undecided(&Filter::parse(b"vlan 291 or greater 60")?, &packet));
+/// assert_eq!(rt; decide(&Filter::parse(b"vlan 291")?, &packet), Some(true));
+/// assert_eq!(rt; decide(&Filter::parse(b"vlan 292")?, &packet), None);
+/// assert_eq!(rt; decide(&Filter::parse(b"not vlan")?, &packet), Some(false));
+/// assert!(rt; !selects(&Filter::parse(b"vlan 291")?, &packet));
 /// ```
 #[inline(always)]
-pub fn is_undecided(filter: &Filter, packet: &CapturedPacket<'_>) -> bool
-    ensures { IsTrue result ↔ IsUndecided filter.now (captured_packet_view packet.now) }
+pub fn decide(filter: &Filter, packet: &CapturedPacket<'_>) -> Option<bool>
+    ensures { (outcome : Option Bool) → (result ≡ outcome)
+        ↔ IsOutcome filter.now (captured_packet_view packet.now) outcome }
 {
-    program::is_undecided(filter.instructions(), packet)
+    program::decide(filter.instructions(), packet)
 }

@@ -67,7 +67,7 @@ by_tests false true c kind is = inr (inl (refl, cc))
 by_tests false false true kind is = inr (inr (refl, cc))
 by_tests false false false kind is = absurd cc
 
-kinds_of_type : (n : ℕ) (kind : Kind) → announced_by n ≡ Some kind
+pub kinds_of_type : (n : ℕ) (kind : Kind) → announced_by n ≡ Some kind
     → ((is_vlan_ether_type n ≡ true) × (kind ≡ kinds.Vlan))
     ⊎ (((nat_eq n 0x88E5 ≡ true) × (kind ≡ kinds.Macsec)) ⊎ ((nat_eq n 0x0806 ≡ true) × (kind ≡ kinds.Arp)))
 kinds_of_type n kind is = by_tests (is_vlan_ether_type n) (nat_eq n 0x88E5) (nat_eq n 0x0806) kind is

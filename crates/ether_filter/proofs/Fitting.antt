@@ -1,6 +1,7 @@
 -- A word fits exactly if it is taken.
 use Rattle.std.proofs.Common.{◌≡◌, ℕ, List, [], ◌∷◌, ◌++◌, refl, sym, ap, subst, ◌∙◌, arith}
-use Rattle.std.specs.Prelude.{Result, Ok, Err, Option, Some}
+use Rattle.std.specs.Prelude.{Result, Ok, Err, Option, Some, codes}
+use Rattle.etherparse.specs.Bytes.{number}
 use Rattle.std.proofs.lemmas.List.{append_assoc, append-nil}
 use Rattle.ether_filter.specs.declared.node.Operator.{Operator}
 use Rattle.ether_filter.specs.declared.node.Node.{Node}
@@ -171,12 +172,16 @@ abbrev some_value : Takes → Token
 some_value (takes.Number most) = tokens.Number (Some 0)
 some_value (takes.Bytes len) = tokens.Number (Some 0)
 some_value takes.AnyBytes = tokens.Address 0
+some_value takes.Time = tokens.Time 0
+some_value takes.Header = tokens.Eth
 
 takes_some : (of : Takes) → (v : Literal) × (value_for of (some_value of) ≡ Some v)
 takes_some (takes.Number most) = (record { len = 0; number = 0 }, rw (le-leb 0 most (omega arith)) refl)
 takes_some (takes.Bytes len) =
     (record { len = len; number = 0 }, rw (le-leb 0 (greatest_in_bytes len) (omega arith)) refl)
 takes_some takes.AnyBytes = (record { len = 6; number = 0 }, refl)
+takes_some takes.Time = (record { len = 0; number = 0 }, refl)
+takes_some takes.Header = (record { len = 3; number = number (codes "eth") }, refl)
 
 -- what is begun is a primitive, and not a set
 abbrev IsOfPrimitive : Awaited → Type 0

@@ -1,146 +1,207 @@
--- The values of expressions by Kleene's tables.
-use Rattle.std.proofs.Common.{Bool, true, false, inl, inr}
-use Rattle.std.specs.Prelude.{List, Option, Some, None, not, option_map}
+-- The decisions on expressions by Kleene's tables.
+use Rattle.std.proofs.Common.{◌≡◌, ℕ, ◌-◌, List, ◌++◌, refl, Bool, true, false, inl, inr}
+use Rattle.std.specs.Prelude.{replicate}
+use Rattle.etherparse.specs.Bytes.{IsBytes}
+use Rattle.etherparse.proofs.Numbers.{IsBytes-append}
 use Rattle.etherparse.specs.Header.{Header}
-use Rattle.ether_peel.specs.Grammar.Stack.{Ending}
+use Rattle.ether_peel.specs.Grammar.Stack.{Ending, whole}
+use Rattle.ether_peel.specs.Walker.Start.{start_of}
+use Rattle.ether_peel.proofs.Grammar.Stacks.{some_stack}
+use Rattle.ether_filter.specs.declared.decision.Decision.{Decision}
+use Rattle.ether_filter.specs.declared.decision.Decision.TheVariants.{Matches, Fails, Needs}
+use Rattle.ether_filter.specs.declared.field_test.FieldTest.{FieldTest}
 use Rattle.ether_filter.specs.declared.node.Operator.{Operator}
 use Rattle.ether_filter.specs.declared.node.Operator.TheVariants as operators
 use Rattle.ether_filter.specs.declared.packet.Packet.{Packet}
 use Rattle.ether_filter.specs.declared.primitive.Primitive.{Primitive}
-use Rattle.ether_filter.specs.Primitives.{Walked, walked, Matches}
+use Rattle.ether_filter.specs.declared.primitive.Primitive.TheVariants as primitives
+use Rattle.ether_filter.specs.Primitives as primitive
+use Rattle.ether_filter.specs.Primitives.{Walked, walked}
 use Rattle.ether_filter.specs.Expressions.{Expression, Test, Not, Join, Holds}
-use Rattle.ether_filter.specs.Deciding.{IsKnown, Knows}
-use Rattle.ether_filter.specs.Evaluation.{IsValue, joined_value}
-
--- it isn't known to hold and to fail
-pub exclusive : (packet : Packet) (hs : List Header) (e : Ending) (x : Expression) → Knows packet hs e true x
-    → Knows packet hs e false x → ⊥
-exclusive packet hs e (Test p) t f = f.1 t.1
-exclusive packet hs e (Not x) t f = exclusive packet hs e x f t
-exclusive packet hs e (Join operators.And x y) t (inl f) = exclusive packet hs e x t.0 f
-exclusive packet hs e (Join operators.And x y) t (inr f) = exclusive packet hs e y t.1 f
-exclusive packet hs e (Join operators.Or x y) (inl t) f = exclusive packet hs e x t f.0
-exclusive packet hs e (Join operators.Or x y) (inr t) f = exclusive packet hs e y t f.1
-
--- if all primitives are known, so is an expression
-pub all_known : (packet : Packet) (hs : List Header) (e : Ending) (x : Expression)
-    → ((p : Primitive) → IsKnown packet hs e p) → (Knows packet hs e true x → ⊥) → (Knows packet hs e false x → ⊥) → ⊥
-all_known packet hs e (Test p) known t f = f (known p, λ m. t (known p, m))
-all_known packet hs e (Not x) known t f = all_known packet hs e x known f t
-all_known packet hs e (Join operators.And x y) known t f =
-    all_known packet hs e x known
-    (λ a. all_known packet hs e y known (λ b. t (a, b)) (λ b. f (inr b)))
-    (λ a. f (inl a))
-all_known packet hs e (Join operators.Or x y) known t f =
-    all_known packet hs e x known
-    (λ a. t (inl a))
-    (λ a. all_known packet hs e y known (λ b. t (inr b)) (λ b. f (a, b)))
-
--- ---- the tables
-
-pub negated_is : (packet : Packet) (hs : List Header) (e : Ending) (x : Expression) (a : Option Bool)
-    → IsValue packet hs e a x → IsValue packet hs e (option_map not a) (Not x)
-negated_is packet hs e x None u = record { not_true = u.not_false; not_false = u.not_true }
-negated_is packet hs e x (Some true) t = t
-negated_is packet hs e x (Some false) f = f
-
-both : (packet : Packet) (hs : List Header) (e : Ending) (x y : Expression) (a b : Option Bool)
-    → IsValue packet hs e a x → IsValue packet hs e b y
-    → IsValue packet hs e (joined_value operators.And a b) (Join operators.And x y)
-both packet hs e x y (Some false) b f v = inl f
-both packet hs e x y (Some true) (Some false) t f = inr f
-both packet hs e x y (Some true) (Some true) t u = (t, u)
-both packet hs e x y (Some true) None t u = record {
-  not_true = λ k. u.not_true k.1;
-  not_false = λ k. elim k [ inl f ↦ exclusive packet hs e x t f | inr f ↦ u.not_false f ];
-}
-both packet hs e x y None (Some false) u f = inr f
-both packet hs e x y None (Some true) u t = record {
-  not_true = λ k. u.not_true k.0;
-  not_false = λ k. elim k [ inl f ↦ u.not_false f | inr f ↦ exclusive packet hs e y t f ];
-}
-both packet hs e x y None None u v = record {
-  not_true = λ k. u.not_true k.0;
-  not_false = λ k. elim k [ inl f ↦ u.not_false f | inr f ↦ v.not_false f ];
-}
-
-either : (packet : Packet) (hs : List Header) (e : Ending) (x y : Expression) (a b : Option Bool)
-    → IsValue packet hs e a x → IsValue packet hs e b y
-    → IsValue packet hs e (joined_value operators.Or a b) (Join operators.Or x y)
-either packet hs e x y (Some true) b t v = inl t
-either packet hs e x y (Some false) (Some true) f t = inr t
-either packet hs e x y (Some false) (Some false) f g = (f, g)
-either packet hs e x y (Some false) None f u = record {
-  not_true = λ k. elim k [ inl t ↦ exclusive packet hs e x t f | inr t ↦ u.not_true t ];
-  not_false = λ k. u.not_false k.1;
-}
-either packet hs e x y None (Some true) u t = inr t
-either packet hs e x y None (Some false) u f = record {
-  not_true = λ k. elim k [ inl t ↦ u.not_true t | inr t ↦ exclusive packet hs e y t f ];
-  not_false = λ k. u.not_false k.0;
-}
-either packet hs e x y None None u v = record {
-  not_true = λ k. elim k [ inl t ↦ u.not_true t | inr t ↦ v.not_true t ];
-  not_false = λ k. u.not_false k.0;
-}
-
-pub joined_is : (packet : Packet) (hs : List Header) (e : Ending) (operator : Operator) (x y : Expression)
-    (a b : Option Bool) → IsValue packet hs e a x → IsValue packet hs e b y
-    → IsValue packet hs e (joined_value operator a b) (Join operator x y)
-joined_is packet hs e operators.And x y a b v w = both packet hs e x y a b v w
-joined_is packet hs e operators.Or x y a b v w = either packet hs e x y a b v w
-
--- ---- what is known holds of another walk if each known primitive says the same of it
-
-abbrev pub Agrees : Packet → List Header → Ending → Walked → Type 0
-Agrees packet hs e w =
-    (p : Primitive) → IsKnown packet hs e p → (Matches p (walked packet hs e) → Matches p w)
-    × (Matches p w → Matches p (walked packet hs e))
+use Rattle.ether_filter.specs.Prospects.{AtCompletions}
+use Rattle.ether_filter.specs.Later.{SomeCompletion}
+use Rattle.ether_filter.specs.Needed.{IsUndecided}
+use Rattle.ether_filter.specs.Deciding.{is_of_field, neutral, Knows, KnowsTest, IsUnknown, NeedsLen, NeedsTest, Says}
+use Rattle.ether_filter.specs.Evaluation.{joined_decision, negated_decision}
+use Rattle.ether_filter.proofs.SeenOutcomes.{some_completion}
 
 -- what a truth says of an expression
 abbrev pub IsSo : Bool → Expression → Walked → Type 0
 IsSo true x w = Holds x w
 IsSo false x w = Holds x w → ⊥
 
-pub knows_so : (packet : Packet) (hs : List Header) (e : Ending) (w : Walked) (x : Expression) (b : Bool)
-    → Agrees packet hs e w → Knows packet hs e b x → IsSo b x w
-knows_so packet hs e w (Test p) true a k = (a p k.0).0 k.1
-knows_so packet hs e w (Test p) false a k = λ m. k.1 ((a p k.0).1 m)
-knows_so packet hs e w (Not x) true a k = knows_so packet hs e w x false a k
-knows_so packet hs e w (Not x) false a k = λ n. n (knows_so packet hs e w x true a k)
-knows_so packet hs e w (Join operators.And x y) true a k =
-    (knows_so packet hs e w x true a k.0, knows_so packet hs e w y true a k.1)
-knows_so packet hs e w (Join operators.And x y) false a (inl k) = λ h. knows_so packet hs e w x false a k h.0
-knows_so packet hs e w (Join operators.And x y) false a (inr k) = λ h. knows_so packet hs e w y false a k h.1
-knows_so packet hs e w (Join operators.Or x y) true a (inl k) = inl (knows_so packet hs e w x true a k)
-knows_so packet hs e w (Join operators.Or x y) true a (inr k) = inr (knows_so packet hs e w y true a k)
-knows_so packet hs e w (Join operators.Or x y) false a k =
-    λ h. elim h [
-      | inl h ↦ knows_so packet hs e w x false a k.0 h
-      | inr h ↦ knows_so packet hs e w y false a k.1 h
+-- what is known of a primitive that tests no field
+pub exact_known : (packet : Packet) (hs : List Header) (e : Ending) (b : Bool) (p : Primitive) → is_of_field p ≡ false
+    → KnowsTest packet hs e b p → AtCompletions packet (IsSo b (Test p))
+exact_known packet hs e true (primitives.Field t) free k = absurd cc
+exact_known packet hs e false (primitives.Field t) free k = absurd cc
+exact_known packet hs e true p free k = k
+exact_known packet hs e false p free k = k
+
+pub known_exact : (packet : Packet) (hs : List Header) (e : Ending) (b : Bool) (p : Primitive) → is_of_field p ≡ false
+    → AtCompletions packet (IsSo b (Test p)) → KnowsTest packet hs e b p
+known_exact packet hs e true (primitives.Field t) free k = absurd cc
+known_exact packet hs e false (primitives.Field t) free k = absurd cc
+known_exact packet hs e true p free k = k
+known_exact packet hs e false p free k = k
+
+-- a packet can be completed
+pub some_completed : (packet : Packet) → IsBytes packet.frame.now → SomeCompletion packet (λ w. Unit {0})
+some_completed packet ok =
+    let c = some_completion packet in
+    let list = packet.frame.now ++ replicate (packet.original_len - packet.captured_len) 0 in
+    let s = some_stack list (start_of packet.start) (whole (start_of packet.start) list)
+    (IsBytes-append packet.frame.now _ ok c.are_bytes) in
+    record { more = _; headers = s.0; ending = s.1; completes = c; walk = s.2; holds = tt }
+
+-- nothing holds and fails at all completions
+pub never_both : (packet : Packet) (Is : Walked → Type 0) → IsBytes packet.frame.now → AtCompletions packet Is
+    → AtCompletions packet (λ w. Is w → ⊥) → ⊥
+never_both packet Is ok all none =
+    let s = some_completed packet ok in
+    none s.more s.headers s.ending s.completes s.walk (all s.more s.headers s.ending s.completes s.walk)
+
+-- ---- what is known is not known otherwise
+
+exclusive_test : (packet : Packet) (hs : List Header) (e : Ending) (p : Primitive) → IsBytes packet.frame.now
+    → KnowsTest packet hs e true p → KnowsTest packet hs e false p → ⊥
+exclusive_test packet hs e (primitives.Field t) ok k l = l.1 k.1
+exclusive_test packet hs e p ok k l = never_both packet (primitive.Matches p) ok k l
+
+pub exclusive : (packet : Packet) (hs : List Header) (e : Ending) (x : Expression) → IsBytes packet.frame.now
+    → Knows packet hs e true x → Knows packet hs e false x → ⊥
+exclusive packet hs e (Test p) ok t f = exclusive_test packet hs e p ok t f
+exclusive packet hs e (Not x) ok t f = exclusive packet hs e x ok f t
+exclusive packet hs e (Join operators.And x y) ok t (inl f) = exclusive packet hs e x ok t.0 f
+exclusive packet hs e (Join operators.And x y) ok t (inr f) = exclusive packet hs e y ok t.1 f
+exclusive packet hs e (Join operators.Or x y) ok (inl t) f = exclusive packet hs e x ok t f.0
+exclusive packet hs e (Join operators.Or x y) ok (inr t) f = exclusive packet hs e y ok t f.1
+
+-- a primitive that some completed packet matches and some does not
+pub undecided_unknown : (packet : Packet) (hs : List Header) (e : Ending) (p : Primitive) → is_of_field p ≡ false
+    → IsUndecided packet p → IsUnknown packet hs e (Test p)
+undecided_unknown packet hs e p free u = record {
+  not_true = λ k. u.1.holds
+      (exact_known packet hs e true p free k u.1.more u.1.headers u.1.ending u.1.completes u.1.walk);
+  not_false = λ k.
+      exact_known packet hs e false p free k u.0.more u.0.headers u.0.ending u.0.completes u.0.walk u.0.holds;
+}
+
+test_unknown : (packet : Packet) (hs : List Header) (e : Ending) (n : ℕ) (p : Primitive)
+    → NeedsTest packet hs e n p → IsUnknown packet hs e (Test p)
+test_unknown packet hs e n (primitives.Field t) u = record { not_true = λ k. u.0 k.0; not_false = λ k. u.0 k.0 }
+test_unknown packet hs e n p u = undecided_unknown packet hs e p refl u.0
+
+-- an operand that leaves the other's truth, and one that is unknown
+left_unknown : (packet : Packet) (hs : List Header) (e : Ending) (operator : Operator) (x y : Expression)
+    → IsBytes packet.frame.now → Knows packet hs e (neutral operator) x → IsUnknown packet hs e y
+    → IsUnknown packet hs e (Join operator x y)
+left_unknown packet hs e operators.And x y ok k u = record {
+  not_true = λ both. u.not_true both.1;
+  not_false = λ some. elim some [ inl f ↦ exclusive packet hs e x ok k f | inr f ↦ u.not_false f ];
+}
+left_unknown packet hs e operators.Or x y ok k u = record {
+  not_true = λ some. elim some [ inl t ↦ exclusive packet hs e x ok t k | inr t ↦ u.not_true t ];
+  not_false = λ both. u.not_false both.1;
+}
+
+right_unknown : (packet : Packet) (hs : List Header) (e : Ending) (operator : Operator) (x y : Expression)
+    → IsBytes packet.frame.now → IsUnknown packet hs e x → Knows packet hs e (neutral operator) y
+    → IsUnknown packet hs e (Join operator x y)
+right_unknown packet hs e operators.And x y ok u k = record {
+  not_true = λ both. u.not_true both.0;
+  not_false = λ some. elim some [ inl f ↦ u.not_false f | inr f ↦ exclusive packet hs e y ok k f ];
+}
+right_unknown packet hs e operators.Or x y ok u k = record {
+  not_true = λ some. elim some [ inl t ↦ u.not_true t | inr t ↦ exclusive packet hs e y ok t k ];
+  not_false = λ both. u.not_false both.0;
+}
+
+pub both_unknown : (packet : Packet) (hs : List Header) (e : Ending) (operator : Operator) (x y : Expression)
+    → IsUnknown packet hs e x → IsUnknown packet hs e y → IsUnknown packet hs e (Join operator x y)
+both_unknown packet hs e operators.And x y u v = record {
+  not_true = λ both. u.not_true both.0;
+  not_false = λ some. elim some [ inl f ↦ u.not_false f | inr f ↦ v.not_false f ];
+}
+both_unknown packet hs e operators.Or x y u v = record {
+  not_true = λ some. elim some [ inl t ↦ u.not_true t | inr t ↦ v.not_true t ];
+  not_false = λ both. u.not_false both.0;
+}
+
+-- an expression that needs bytes is unknown
+pub needs_unknown : (packet : Packet) (hs : List Header) (e : Ending) (n : ℕ) (x : Expression)
+    → IsBytes packet.frame.now → NeedsLen packet hs e n x → IsUnknown packet hs e x
+needs_unknown packet hs e n (Test p) ok u = test_unknown packet hs e n p u
+needs_unknown packet hs e n (Not x) ok u =
+    let v = needs_unknown packet hs e n x ok u in record { not_true = v.not_false; not_false = v.not_true }
+needs_unknown packet hs e n (Join operator x y) ok (inl u) =
+    left_unknown packet hs e operator x y ok u.0 (needs_unknown packet hs e n y ok u.1)
+needs_unknown packet hs e n (Join operator x y) ok (inr (inl u)) =
+    right_unknown packet hs e operator x y ok (needs_unknown packet hs e n x ok u.0) u.1
+needs_unknown packet hs e n (Join operator x y) ok (inr (inr (a, b, u, v, is))) =
+    both_unknown packet hs e operator x y (needs_unknown packet hs e a x ok u) (needs_unknown packet hs e b y ok v)
+
+-- ---- the tables
+
+pub negated_says : (packet : Packet) (hs : List Header) (e : Ending) (x : Expression) (d : Decision)
+    → Says packet hs e x d → Says packet hs e (Not x) (negated_decision d)
+negated_says packet hs e x Matches t = t
+negated_says packet hs e x Fails f = f
+negated_says packet hs e x (Needs n) u = u
+
+pub joined_says : (packet : Packet) (hs : List Header) (e : Ending) (operator : Operator) (x y : Expression)
+    (a b : Decision) → Says packet hs e x a → Says packet hs e y b
+    → Says packet hs e (Join operator x y) (joined_decision operator a b)
+joined_says packet hs e operators.And x y Fails b f v = inl f
+joined_says packet hs e operators.And x y Matches Fails t f = inr f
+joined_says packet hs e operators.And x y (Needs n) Fails u f = inr f
+joined_says packet hs e operators.And x y Matches Matches t u = (t, u)
+joined_says packet hs e operators.And x y Matches (Needs n) t u = inl (t, u)
+joined_says packet hs e operators.And x y (Needs n) Matches u t = inr (inl (u, t))
+joined_says packet hs e operators.And x y (Needs n) (Needs m) u v = inr (inr (n, m, u, v, refl))
+joined_says packet hs e operators.Or x y Matches b t v = inl t
+joined_says packet hs e operators.Or x y Fails Matches f t = inr t
+joined_says packet hs e operators.Or x y (Needs n) Matches u t = inr t
+joined_says packet hs e operators.Or x y Fails Fails f g = (f, g)
+joined_says packet hs e operators.Or x y Fails (Needs n) f u = inl (f, u)
+joined_says packet hs e operators.Or x y (Needs n) Fails u f = inr (inl (u, f))
+joined_says packet hs e operators.Or x y (Needs n) (Needs m) u v = inr (inr (n, m, u, v, refl))
+
+-- ---- what is known of an expression is so at each completion
+
+-- .. if what is known of tests of fields is
+abbrev pub FieldsAgree : Packet → List Header → Ending → Type 0
+FieldsAgree packet hs e =
+    (t : FieldTest) (b : Bool) → KnowsTest packet hs e b (primitives.Field t)
+    → AtCompletions packet (IsSo b (Test (primitives.Field t)))
+
+test_so : (packet : Packet) (hs : List Header) (e : Ending) (p : Primitive) (b : Bool) → FieldsAgree packet hs e
+    → KnowsTest packet hs e b p → AtCompletions packet (IsSo b (Test p))
+test_so packet hs e (primitives.Field t) b fields k = fields t b k
+test_so packet hs e p true fields k = k
+test_so packet hs e p false fields k = k
+
+pub knows_so : (packet : Packet) (hs : List Header) (e : Ending) (x : Expression) (b : Bool)
+    → FieldsAgree packet hs e → Knows packet hs e b x → AtCompletions packet (IsSo b x)
+knows_so packet hs e (Test p) b fields k = test_so packet hs e p b fields k
+knows_so packet hs e (Not x) true fields k = knows_so packet hs e x false fields k
+knows_so packet hs e (Not x) false fields k =
+    λ more ks f c walk never. never (knows_so packet hs e x true fields k more ks f c walk)
+knows_so packet hs e (Join operators.And x y) true fields k =
+    λ more ks f c walk. (
+      knows_so packet hs e x true fields k.0 more ks f c walk,
+      knows_so packet hs e y true fields k.1 more ks f c walk,
+    )
+knows_so packet hs e (Join operators.And x y) false fields (inl k) =
+    λ more ks f c walk h. knows_so packet hs e x false fields k more ks f c walk h.0
+knows_so packet hs e (Join operators.And x y) false fields (inr k) =
+    λ more ks f c walk h. knows_so packet hs e y false fields k more ks f c walk h.1
+knows_so packet hs e (Join operators.Or x y) true fields (inl k) =
+    λ more ks f c walk. inl (knows_so packet hs e x true fields k more ks f c walk)
+knows_so packet hs e (Join operators.Or x y) true fields (inr k) =
+    λ more ks f c walk. inr (knows_so packet hs e y true fields k more ks f c walk)
+knows_so packet hs e (Join operators.Or x y) false fields k =
+    λ more ks f c walk h. elim h [
+      | inl h ↦ knows_so packet hs e x false fields k.0 more ks f c walk h
+      | inr h ↦ knows_so packet hs e y false fields k.1 more ks f c walk h
     ]
-
--- ---- what is known of a packet was known of another one
-
-pub record WasKnown (packet : Packet) (hs : List Header) (e : Ending) (p : Primitive) (w : Walked) : Type 0 where
-  pub known : IsKnown packet hs e p
-  pub matches : Matches p w → Matches p (walked packet hs e)
-  pub fails : Matches p (walked packet hs e) → Matches p w
-
-pub knew : (packet longer : Packet) (hs ks : List Header) (e f : Ending) (x : Expression) (b : Bool)
-    → ((p : Primitive) → IsKnown longer ks f p → WasKnown packet hs e p (walked longer ks f)) → Knows longer ks f b x
-    → Knows packet hs e b x
-knew packet longer hs ks e f (Test p) true was k = let a = was p k.0 in (a.known, a.matches k.1)
-knew packet longer hs ks e f (Test p) false was k = let a = was p k.0 in (a.known, λ m. k.1 (a.fails m))
-knew packet longer hs ks e f (Not x) true was k = knew packet longer hs ks e f x false was k
-knew packet longer hs ks e f (Not x) false was k = knew packet longer hs ks e f x true was k
-knew packet longer hs ks e f (Join operators.And x y) true was k =
-    (knew packet longer hs ks e f x true was k.0, knew packet longer hs ks e f y true was k.1)
-knew packet longer hs ks e f (Join operators.And x y) false was (inl k) =
-    inl (knew packet longer hs ks e f x false was k)
-knew packet longer hs ks e f (Join operators.And x y) false was (inr k) =
-    inr (knew packet longer hs ks e f y false was k)
-knew packet longer hs ks e f (Join operators.Or x y) true was (inl k) = inl (knew packet longer hs ks e f x true was k)
-knew packet longer hs ks e f (Join operators.Or x y) true was (inr k) = inr (knew packet longer hs ks e f y true was k)
-knew packet longer hs ks e f (Join operators.Or x y) false was k =
-    (knew packet longer hs ks e f x false was k.0, knew packet longer hs ks e f y false was k.1)

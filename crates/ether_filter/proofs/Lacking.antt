@@ -21,8 +21,6 @@ use Rattle.ether_filter.specs.declared.reading.Pending.{Pending}
 use Rattle.ether_filter.specs.declared.reading.Pending.TheVariants as pendings
 use Rattle.ether_filter.specs.declared.field_test.Relation.TheVariants.{Equal}
 use Rattle.ether_filter.specs.declared.subject.Subject.{Subject}
-use Rattle.ether_filter.specs.declared.subject.Takes.{Takes as ValuesTaken}
-use Rattle.ether_filter.specs.declared.subject.Takes.TheVariants as values
 use Rattle.ether_filter.specs.Subjects.{all_bits, existence_of, tested}
 use Rattle.ether_filter.specs.declared.primitive.Primitive.{Primitive}
 use Rattle.ether_filter.specs.Steps.{first_step, next_step, kind_of, most_of, number_primitive, value_kind, member}
@@ -271,6 +269,7 @@ lacks_at (awaits.Vlan of) ns p ts next reaches =
     let s : ExpressionState = record { nodes = ns; pending = p; awaited = awaits.Vlan of } in
     rows.vlan next (taken_fits ts s (record s { awaited = awaits.Number of }) tokens.Vlan reaches refl)
     (λ fits. let u = fits_taken ts s tokens.Not reaches fits in let is = u.1 in cc)
+    (λ f follows. value_at ts s f reaches follows)
 lacks_at (awaits.Number of) ns p ts next reaches =
     let s : ExpressionState = record { nodes = ns; pending = p; awaited = awaits.Number of } in
     rows.number next (most_of of)
@@ -339,15 +338,6 @@ proto_at awaits.Operator s (u, is) = absurd cc
 proto_at awaits.VlanId s (u, is) = absurd cc
 proto_at a s (u, is) = absurd cc
 
--- by what kind of thing is awaited
-vlan_at : (a : Awaited) (s : ExpressionState) → Takes a s tokens.Vlan → (a ≡ awaits.Operand)
-    ⊎ (kind_of a ≡ kinds.ExpectedVlan)
-vlan_at awaits.Operand s (u, is) = inl refl
-vlan_at (awaits.Vlan of) s (u, is) = inr refl
-vlan_at awaits.Operator s (u, is) = absurd cc
-vlan_at awaits.VlanId s (u, is) = absurd cc
-vlan_at a s (u, is) = absurd cc
-
 join_at : (a : Awaited) (s : ExpressionState) (operator : Operator) → Takes a s (tokens.Join operator)
     → (a ≡ awaits.Operator)
     ⊎ ((a ≡ awaits.VlanId) ⊎ ((f : Subject) × (a ≡ awaits.Relation f)))
@@ -357,18 +347,18 @@ join_at (awaits.Relation f) s operator (u, is) = inr (inr (f, refl))
 join_at awaits.Operand s operator (u, is) = absurd cc
 join_at a s operator (u, is) = absurd cc
 
-no_vlan : (of : ValuesTaken) → value_kind of ≡ kinds.ExpectedVlan → ⊥
-no_vlan (values.Number most) is = cc
-no_vlan (values.Bytes len) is = cc
-no_vlan values.AnyBytes is = cc
-
-vlan_row : (a : Awaited) (next : Option Token) → kind_of a ≡ kinds.ExpectedVlan → kinds.ExpectedVlan ≡ kind_at a next
-vlan_row (awaits.Vlan of) next is = refl
-vlan_row (awaits.FirstMember f mask) next is = absurd (no_vlan f.takes is)
-vlan_row (awaits.Member f mask) next is = absurd (no_vlan f.takes is)
-vlan_row (awaits.Mask f) next is = absurd (no_vlan f.takes is)
-vlan_row (awaits.Value f mask r) next is = absurd (no_vlan f.takes is)
-vlan_row a next is = absurd cc
+vlan_row : (a : Awaited) (s : ExpressionState) (next : Option Token) → Takes a s tokens.Vlan
+    → (Takes a s tokens.Not → ⊥) → ((f : Subject) → AwaitsValue a f → ⊥) → kinds.ExpectedVlan ≡ kind_at a next
+vlan_row (awaits.Vlan of) s next (u, is) none value = refl
+vlan_row (awaits.FirstMember f mask) s next (u, is) none value = absurd (value f refl)
+vlan_row (awaits.Member f mask) s next (u, is) none value = absurd (value f refl)
+vlan_row (awaits.Mask f) s next (u, is) none value = absurd (value f refl)
+vlan_row (awaits.Value f mask r) s next (u, is) none value = absurd (value f refl)
+vlan_row awaits.Operand s next (u, is) none value =
+    absurd (none (record s { pending = pendings.Not ∷ s.pending }, refl))
+vlan_row awaits.Operator s next (u, is) none value = absurd cc
+vlan_row awaits.VlanId s next (u, is) none value = absurd cc
+vlan_row a s next (u, is) none value = absurd cc
 
 address_row : (a : Awaited) (s : ExpressionState) (next : Option Token) → Takes a s (tokens.Address 0)
     → ((f : Subject) → AwaitsValue a f → ⊥) → kinds.ExpectedAddress ≡ kind_at a next
@@ -536,13 +526,9 @@ pub row_kind : (ts : List Token) (s : ExpressionState) (next : Option Token) (ki
     → Lacks ts next kind → kind ≡ kind_at s.awaited next
 row_kind ts s next kind reaches (rows.operand n fits) = let at = not_at s.awaited s
     (takes ts s tokens.Not reaches fits) in rw at refl
-row_kind ts s next kind reaches (rows.vlan n fits none) = elim
-    (vlan_at s.awaited s (takes ts s tokens.Vlan reaches fits)) [
-      | inl operand ↦ absurd
-          (untaken ts s tokens.Not reaches none
-          (rw operand (record { nodes = s.nodes; pending = pendings.Not ∷ s.pending; awaited = awaits.Operand }, refl)))
-      | inr is ↦ vlan_row s.awaited next is
-    ]
+row_kind ts s next kind reaches (rows.vlan n fits none value) =
+    vlan_row s.awaited s next (takes ts s tokens.Vlan reaches fits) (untaken ts s tokens.Not reaches none)
+    (λ f at. value f (follows_value ts s f reaches at))
 row_kind ts s next kind reaches (rows.ether_word n fits) = let at = proto_at s.awaited s
     (takes ts s tokens.Proto reaches fits) in rw at refl
 row_kind ts s next kind reaches (rows.address n fits value) = address_row s.awaited s next

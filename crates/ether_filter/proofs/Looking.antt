@@ -65,7 +65,7 @@ vlan_id_is n (a ∷ b ∷ []) marks are = ap (λ (c : Bool). nat_eq n a || c) (s
 vlan_id_is n (a ∷ b ∷ c ∷ ids) marks are = are refl
 
 -- what is kept of all headers shows what they are
-shown : (start : PeelStart) (w : Walked) (s : Seen) (ids : List ℕ) (last : Option ℕ) (refused : Bool)
+pub shown : (start : PeelStart) (w : Walked) (s : Seen) (ids : List ℕ) (last : Option ℕ) (refused : Bool)
     → (s.has_more ≡ true → 64 ≤ length ids) → w.start ≡ next_of start → Keeps start w.headers s ids
     → last ≡ ether_type_of (next_at (next_of start) w.headers) → refused ≡ is_some (refusal_of w.ending)
     → Shows w (record s { last = last; is_refused = refused }) ids
@@ -84,6 +84,7 @@ shown start w s ids last refused room at k is end primitives.Cut asks free = abs
 shown start w s ids last refused room at k is end (primitives.Less n) asks free = absurd cc
 shown start w s ids last refused room at k is end (primitives.Greater n) asks free = absurd cc
 shown start w s ids last refused room at k is end (primitives.Field t) asks free = absurd cc
+shown start w s ids last refused room at k is end (primitives.Frame t) asks free = absurd cc
 shown start w s ids last refused room at k is end p asks free = k.link p refl
 
 -- ---- the walk
@@ -102,6 +103,20 @@ pub record Looks (start : PeelStart) (list : List ℕ) (s : State) (seen : Seen)
   pub next : s.expected.next ≡ next_at (next_of start) way.done
   pub refused : seen.is_refused ≡ false
 
+pub keeps_nothing : (start : PeelStart) (ids : List ℕ) → ((n : ℕ) → has_bit ids n ≡ false)
+    → Keeps start [] nothing ids
+keeps_nothing start ids none = record {
+  outer = refl;
+  inner = refl;
+  more = refl;
+  marks = λ room n. none n;
+  sec_tag = refl;
+  types =
+      λ n. ap (λ b. announced_before (announced_by n) b false false) (no_type n)
+      ∙ nothing_before (announced_by n);
+  link = λ p of. refl;
+}
+
 pub looks_first : (start : PeelStart) (list : List ℕ) (s : State) (ids : List ℕ) → ((n : ℕ) → has_bit ids n ≡ false)
     → s ≡ begun (start_of start) list → FacesWalk (start_of start) list s → Looks start list s nothing ids
 unfolding under_way_first
@@ -109,18 +124,7 @@ looks_first start list s ids none is faces = record {
   way =
       under_way_first (start_of start) list s faces.headers faces.ending faces.walk faces.faces
       (ap (λ (k : State). k.over) is);
-  keeps =
-      record {
-        outer = refl;
-        inner = refl;
-        more = refl;
-        marks = λ room n. none n;
-        sec_tag = refl;
-        types =
-            λ n. ap (λ b. announced_before (announced_by n) b false false) (no_type n)
-            ∙ nothing_before (announced_by n);
-        link = λ p of. refl;
-      };
+  keeps = keeps_nothing start ids none;
   next = ap (λ (k : State). k.expected.next) is;
   refused = refl;
 }

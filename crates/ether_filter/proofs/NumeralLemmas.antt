@@ -1,6 +1,6 @@
 -- Digits, one after the other.
 use Rattle.std.proofs.Common.{◌≡◌, ℕ, ◌+◌, ◌*◌, ◌^◌, ◌<◌, ◌≤◌, List, [], ◌∷◌, length, take, inl, inr, refl, sym, ap, ◌∙◌, Bool, true, false, min, nat_lt, arith}
-use Rattle.std.specs.Prelude.{slice_index, None, Some, Option, ◌&&◌, MatchOption, option_map, ◌⊎◌, if◌then◌else◌}
+use Rattle.std.specs.Prelude.{slice_index, None, Some, Option, ◌&&◌, MatchOption, IfSome, option_map, ◌⊎◌, if◌then◌else◌}
 use Rattle.std.proofs.Math.Bool.{and-false}
 use Rattle.std.specs.List.{list_all}
 use Rattle.std.specs.Char.{digit_value}
@@ -70,27 +70,51 @@ all_digits radix [] all = tt
 all_digits radix (c ∷ cs) all = let p = both (is_digit radix c) (list_all (is_digit radix) cs) all
     in (ltb-true _ _ p.0, all_digits radix cs p.1)
 
-nonempty : (ds : List ℕ) (n : ℕ) → digits_in 16 ds ≡ Some n → 0 < length ds
-nonempty [] n is = absurd cc
-nonempty (d ∷ ds) n is = omega arith
+nonempty : (radix : ℕ) (ds : List ℕ) (n : ℕ) → digits_in radix ds ≡ Some n → 0 < length ds
+nonempty radix [] n is = absurd cc
+nonempty radix (d ∷ ds) n is = omega arith
+
+-- digits that write a number below this one
+pub digits_below : (radix : ℕ) (ds : List ℕ) (n most : ℕ) → radix ^ length ds ≤ most → digits_in radix ds ≡ Some n
+    → n < most
+digits_below radix ds n most le is = elim (decided (list_all (is_digit radix) ds)) [
+  | inl all ↦ (let lt = digits_value-lt radix ds (all_digits radix ds all) in
+      let found : digits_in radix ds ≡ Some (digits_value radix ds) =
+      rw (lt-ltb 0 (length ds) (nonempty radix ds n is), all) refl in
+      let both : Some n ≡ Some (digits_value radix ds) = sym is ∙ found in
+      let same : n ≡ digits_value radix ds = cc in
+      omega (arith, lt, le, same))
+  | inr not_all ↦ (let none : digits_in radix ds ≡ None = rw (not_all, and-false (nat_lt 0 (length ds))) refl in
+      let both : Some n ≡ None = sym is ∙ none in absurd cc)
+]
+
+-- digits of a number that fits in 64 bits
+number_read : (radix : ℕ) (ds : List ℕ) (result : Option ℕ) → radix ^ length ds ≤ 2 ^ 64
+    → MatchOption result (digits_in radix ds ≡ None) (IsCapped radix ds) → narrowed result ≡ digits_in radix ds
+number_read radix ds None most none = sym none
+number_read radix ds (Some v) most capped =
+    let bound = digits_below radix ds capped.number (2 ^ 64) most capped.is in
+    let value : v ≡ capped.number = omega (arith, capped.capped, bound) in
+    rw (value, lt-ltb capped.number (2 ^ 64) bound) (sym capped.is)
 
 -- sixteen hexadecimal digits have 64 bits at most
 pub address_read : (ds : List ℕ) (result : Option ℕ) → length ds ≤ 16
     → MatchOption result (digits_in 16 ds ≡ None) (IsCapped 16 ds) → narrowed result ≡ digits_in 16 ds
-address_read ds None len none = sym none
-address_read ds (Some v) len capped = elim (decided (list_all (is_digit 16) ds)) [
-  | inl all ↦ (let lt = digits_value-lt 16 ds (all_digits 16 ds all) in
-      let some = nonempty ds capped.number capped.is in
-      let found : digits_in 16 ds ≡ Some (digits_value 16 ds) = rw (lt-ltb 0 (length ds) some, all) refl in
-      let is : Some capped.number ≡ Some (digits_value 16 ds) = sym capped.is ∙ found in
-      let same : capped.number ≡ digits_value 16 ds = cc in
-      let most : 16 ^ length ds ≤ 2 ^ 64 = pow-le-pow_right (omega arith) len in
-      let bound : digits_value 16 ds < 2 ^ 64 = omega (arith, lt, most) in
-      let value : v ≡ digits_value 16 ds = omega (arith, capped.capped, same, bound) in
-      rw (value, lt-ltb (digits_value 16 ds) (2 ^ 64) bound) (sym found))
-  | inr not_all ↦ (let none : digits_in 16 ds ≡ None = rw (not_all, and-false (nat_lt 0 (length ds))) refl in
-      let is : Some capped.number ≡ None = sym capped.is ∙ none in absurd cc)
-]
+address_read ds result len capped = number_read 16 ds result (pow-le-pow_right (omega arith) len) capped
+
+-- .. and so have nine decimal digits
+pub decimal_read : (ds : List ℕ) (result : Option ℕ) → length ds ≤ 9
+    → MatchOption result (digits_in 10 ds ≡ None) (IsCapped 10 ds) → narrowed result ≡ digits_in 10 ds
+decimal_read ds result len capped =
+    let most : 10 ^ length ds ≤ 10 ^ 9 = pow-le-pow_right (omega arith) len in
+    number_read 10 ds result (omega (arith, most)) capped
+
+pub decimal_below : (ds : List ℕ) (o : Option ℕ) → length ds ≤ 9 → o ≡ digits_in 10 ds
+    → IfSome o (λ n. n < 1000000000)
+decimal_below ds None len is = tt
+decimal_below ds (Some n) len is =
+    let most : 10 ^ length ds ≤ 10 ^ 9 = pow-le-pow_right (omega arith) len in
+    digits_below 10 ds n 1000000000 (omega (arith, most)) (sym is)
 
 pub address_of_twelve : (word : List ℕ) → length word ≡ 12 → address_in word ≡ digits_in 16 word
 address_of_twelve word len =

@@ -21,7 +21,7 @@ use Rattle.ether_filter.specs.Primitives.{Walked, Matches}
 use Rattle.ether_filter.specs.Seen.{matching}
 use Rattle.ether_filter.proofs.JumpsLemmas.{truth, reaches_next, reaches_test, reaches_end}
 use Rattle.ether_filter.proofs.Truth.{matching_is, one_truth, expression_is, Runs, runs_begin, past_nodes, end_is}
-use Rattle.ether_filter.specs.FilterProgram.{primitive_numbered, relation_numbered, field_test_in, field_primitive, primitive_or, primitive_of, operator_numbered, test_or, node_of, IsInstruction, IsProgramOf, with_node, nodes_of}
+use Rattle.ether_filter.specs.FilterProgram.{primitive_numbered, relation_numbered, frame_relation_numbered, field_test_in, field_primitive, frame_primitive, primitive_or, primitive_of, operator_numbered, test_or, node_of, IsInstruction, IsProgramOf, with_node, nodes_of}
 
 -- ---- an instruction
 
@@ -49,8 +49,9 @@ pub field_is : (s : Instruction) (t : FieldTest) → primitive_numbered s.kind s
     → option_map (λ r. field_test_in r s) (relation_numbered s.kind) ≡ Some t
     → primitive_of s ≡ Some (primitives.Field t)
 field_is s t none is =
-    ap (λ p. primitive_or p (field_primitive (relation_numbered s.kind) s)) none
-    ∙ tests_field s t (relation_numbered s.kind) is
+    (λ i. primitive_or (none i)
+    (primitive_or (tests_field s t (relation_numbered s.kind) is i)
+    (frame_primitive (frame_relation_numbered s.kind) s)))
 
 pub is_test : (s : Instruction) (n : Node) (p : Primitive) → node_of s ≡ Some n
     → Some p ≡ primitive_of s → n ≡ nodes.Test p

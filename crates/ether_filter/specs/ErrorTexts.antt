@@ -18,6 +18,8 @@ kind_text kinds.ExpectedRelationOrOperator =
     codes "expected `==`, `!=`, `<`, `<=`, `>`, `>=`, `in`, `&`, `and`, `or`, `)` or the end."
 kind_text (kinds.ExpectedBytes len) = codes "expected a value of " ++ (decimal len ++ codes " bytes.")
 kind_text kinds.ExpectedAnyBytes = codes "expected bytes, as 02:00:5e:10:00:01 or 10.0.0.1."
+kind_text kinds.ExpectedTime = codes "expected a time, as 2026-11-01T00:00:00Z."
+kind_text kinds.ExpectedHeader = codes "expected `eth`, `sll`, `vlan`, `macsec` or `arp`."
 kind_text kinds.ExpectedSet = codes "expected `{`."
 kind_text kinds.ExpectedSetEnd = codes "expected `,` or `}`."
 kind_text kinds.MixedOperators = codes "`and` and `or` can be mixed only with parentheses."

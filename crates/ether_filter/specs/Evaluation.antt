@@ -1,5 +1,5 @@
 -- The values of the expressions that are read, as a stack.
-use Rattle.std.specs.Prelude.{◌≡◌, ℕ, ◌+◌, List, [], ◌∷◌, length, Option, Some, None, Bool, true, false, ◌&&◌, ◌||◌, IsTrue, ◌↔◌}
+use Rattle.std.specs.Prelude.{◌≡◌, ℕ, ◌+◌, List, [], ◌∷◌, length, Option, Some, None, min, Bool, true, false, ◌&&◌, ◌||◌, IsTrue, ◌↔◌}
 use Rattle.etherparse.specs.Types.Layer.{Layer}
 use Rattle.etherparse.specs.Header.{Header}
 use Rattle.ether_peel.specs.Grammar.Expectation.{has_fcs}
@@ -12,7 +12,9 @@ use Rattle.ether_filter.specs.declared.node.Operator.{Operator}
 use Rattle.ether_filter.specs.declared.node.Operator.TheVariants as operators
 use Rattle.ether_filter.specs.Primitives.{Walked}
 use Rattle.ether_filter.specs.Expressions.{Expression, Holds}
-use Rattle.ether_filter.specs.Deciding.{IsOpenAt, Knows, IsUnknown}
+use Rattle.ether_filter.specs.declared.decision.Decision.{Decision}
+use Rattle.ether_filter.specs.declared.decision.Decision.TheVariants.{Matches, Fails, Needs}
+use Rattle.ether_filter.specs.Deciding.{IsOpenAt, Says}
 
 -- each value is that of the expression at the same position
 abbrev pub AreValues : {V : Type 0} → (V → Expression → Type 0) → List V → List Expression → Type 0
@@ -45,18 +47,29 @@ abbrev pub IsOpening : Packet → Ending → Option Opening → Type 0
 IsOpening packet e None = (n : ℕ) → IsOpenAt packet e n → ⊥
 IsOpening packet e (Some opening) = IsOpenAt packet e opening.needed × IsLayer packet e opening.layer
 
--- the truth of an expression, or none if it is unknown
-abbrev pub IsValue : Packet → List Header → Ending → Option Bool → Expression → Type 0
-IsValue packet hs e None x = IsUnknown packet hs e x
-IsValue packet hs e (Some truth) x = Knows packet hs e truth x
+-- the decision of a truth
+abbrev pub decided : Bool → Decision
+decided true = Matches
+decided false = Fails
 
--- the tables of Kleene's logic
-abbrev pub joined_value : Operator → (left right : Option Bool) → Option Bool
-joined_value operators.And (Some false) right = Some false
-joined_value operators.And left (Some false) = Some false
-joined_value operators.And (Some true) right = right
-joined_value operators.And left right = None
-joined_value operators.Or (Some true) right = Some true
-joined_value operators.Or left (Some true) = Some true
-joined_value operators.Or (Some false) right = right
-joined_value operators.Or left right = None
+-- the tables of Kleene's logic, where an open expression needs the least of what its open operands need
+abbrev pub joined_decision : Operator → (left right : Decision) → Decision
+joined_decision operators.And Fails right = Fails
+joined_decision operators.And left Fails = Fails
+joined_decision operators.And Matches right = right
+joined_decision operators.And left Matches = left
+joined_decision operators.And (Needs a) (Needs b) = Needs (min a b)
+joined_decision operators.Or Matches right = Matches
+joined_decision operators.Or left Matches = Matches
+joined_decision operators.Or Fails right = right
+joined_decision operators.Or left Fails = left
+joined_decision operators.Or (Needs a) (Needs b) = Needs (min a b)
+
+abbrev pub negated_decision : Decision → Decision
+negated_decision Matches = Fails
+negated_decision Fails = Matches
+negated_decision (Needs n) = Needs n
+
+-- a decision is that on the expression
+abbrev pub IsValue : Packet → List Header → Ending → Decision → Expression → Type 0
+IsValue packet hs e d x = Says packet hs e x d

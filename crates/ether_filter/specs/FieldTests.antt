@@ -1,5 +1,5 @@
 -- What a test of a field says of the headers of a packet.
-use Rattle.std.specs.Prelude.{ℕ, ◌+◌, List, length, slice_range, Option, Some, None, Bool, true, false, not, nat_eq, nat_lt, nat_le, bit_and, is_some, unwrap_or, ◌&&◌, if◌then◌else◌}
+use Rattle.std.specs.Prelude.{ℕ, ◌+◌, ◌-◌, ◌^◌, min, List, length, slice_range, Option, Some, None, Bool, true, false, not, nat_eq, nat_lt, nat_le, codes, bit_and, is_some, unwrap_or, ◌&&◌, if◌then◌else◌}
 use Rattle.std.specs.List.{list_any}
 use Rattle.std.specs.Option.{option_map}
 use Rattle.etherparse.specs.Bytes.{number, spelled}
@@ -14,7 +14,7 @@ use Rattle.ether_filter.specs.declared.field_test.FieldTest.{FieldTest}
 use Rattle.ether_filter.specs.declared.field_test.Relation.{Relation}
 use Rattle.ether_filter.specs.declared.field_test.Relation.TheVariants as relations
 
--- ---- the value that a header gives a field, by the number of the field in the table of fields
+-- ---- the value that a header gives a field, by the number of the field in the table of fields; 252 is its name
 
 pub data Given : Type 0 where
   Number : ℕ → Given
@@ -25,7 +25,8 @@ abbrev pub ethernet2_gives : ℕ → Ethernet2Value → Option Given
 ethernet2_gives field e =
     if nat_eq field 1 then Some (Bytes (spelled 6 e.destination))
     else (if nat_eq field 2 then Some (Bytes (spelled 6 e.source))
-    else (if nat_eq field 3 then Some (Number e.ether_type) else None))
+    else (if nat_eq field 3 then Some (Number e.ether_type)
+    else (if nat_eq field 252 then Some (Bytes (codes "eth")) else None)))
 
 -- Linux cooked capture v1 (LINKTYPE_LINUX_SLL of the tcpdump group)
 abbrev pub linux_sll_gives : ℕ → LinuxSllValue → Option Given
@@ -34,7 +35,8 @@ linux_sll_gives field s =
     else (if nat_eq field 5 then Some (Number s.hardware_type)
     else (if nat_eq field 6 then Some (Number s.address_len)
     else (if nat_eq field 7 then Some (Bytes (spelled 8 s.address))
-    else (if nat_eq field 8 then Some (Number s.protocol) else None))))
+    else (if nat_eq field 8 then Some (Number s.protocol)
+    else (if nat_eq field 252 then Some (Bytes (codes "sll")) else None)))))
 
 -- a VLAN tag (IEEE 802.1Q, 9.6)
 abbrev pub vlan_gives : ℕ → VlanValue → Option Given
@@ -42,7 +44,8 @@ vlan_gives field v =
     if nat_eq field 9 then Some (Number v.pcp)
     else (if nat_eq field 10 then Some (Number v.dei)
     else (if nat_eq field 11 then Some (Number v.vid)
-    else (if nat_eq field 12 then Some (Number v.ether_type) else None)))
+    else (if nat_eq field 12 then Some (Number v.ether_type)
+    else (if nat_eq field 252 then Some (Bytes (codes "vlan")) else None))))
 
 -- the ether type after a SecTag, if it can be read
 abbrev pub readable : PayloadType → Option ℕ
@@ -60,7 +63,8 @@ macsec_gives field front t =
     else (if nat_eq field 21 then Some (Number front.short_len)
     else (if nat_eq field 22 then Some (Number t.packet_number)
     else (if nat_eq field 23 then option_map (λ sci. Bytes (spelled 8 sci)) t.sci
-    else (if nat_eq field 24 then option_map Number (readable t.payload_type) else None))))))))
+    else (if nat_eq field 24 then option_map Number (readable t.payload_type)
+    else (if nat_eq field 252 then Some (Bytes (codes "macsec")) else None)))))))))
 
 -- an ARP packet (RFC 826, "Packet format")
 abbrev pub arp_gives : ℕ → ArpValue → Option Given
@@ -73,7 +77,8 @@ arp_gives field a =
     else (if nat_eq field 30 then Some (Bytes a.sender_hardware)
     else (if nat_eq field 31 then Some (Bytes a.sender_protocol)
     else (if nat_eq field 32 then Some (Bytes a.target_hardware)
-    else (if nat_eq field 33 then Some (Bytes a.target_protocol) else None))))))))
+    else (if nat_eq field 33 then Some (Bytes a.target_protocol)
+    else (if nat_eq field 252 then Some (Bytes (codes "arp")) else None)))))))))
 
 abbrev pub gives : ℕ → Header → Option Given
 gives field (headers.Ethernet2 e) = ethernet2_gives field e
@@ -131,3 +136,31 @@ answer _ some any = any
 -- the test holds for these headers
 abbrev pub field_holds : FieldTest → List Header → Bool
 field_holds t hs = answer t.relation (has_value t hs) (has_hit t hs)
+
+-- ---- what a capture says of a packet (pcapng, 4.3)
+
+-- the two lengths, and the time, if there is one, as the nanoseconds since the beginning of 1970
+pub record Frame : Type 0 where
+  pub captured : ℕ
+  pub original : ℕ
+  pub time : Option ℕ
+
+-- a time as a number of 64 bits; the latest of them is later than all times that words can be
+abbrev pub as_number : ℕ → Given
+as_number time = Number (min time (2 ^ 64 - 1))
+
+-- the value of a field of the packet, which has no number in the table of fields, and these in tests
+abbrev pub frame_gives : ℕ → Frame → Option Given
+frame_gives field f =
+    if nat_eq field 253 then option_map as_number f.time
+    else (if nat_eq field 254 then Some (Number f.captured)
+    else (if nat_eq field 255 then Some (Number f.original) else None))
+
+-- the answer where there is at most one value
+abbrev pub answer_if : Relation → Option Bool → Bool
+answer_if relation None = answer relation false false
+answer_if relation (Some hit) = answer relation true hit
+
+-- the test holds of the packet
+abbrev pub frame_holds : FieldTest → Frame → Bool
+frame_holds t f = answer_if t.relation (hit_if t (frame_gives t.field f))

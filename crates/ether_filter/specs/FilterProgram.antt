@@ -1,5 +1,6 @@
 -- A filter as numbers only: the nodes of its expression, and where the evaluation goes on after each.
-use Rattle.std.specs.Prelude.{◌≡◌, ℕ, ◌%◌, ◌^◌, ◌<◌, ◌≤◌, List, [], ◌∷◌, length, get_or, Option, Some, None, nat_eq, if◌then◌else◌}
+use Rattle.std.specs.Prelude.{◌≡◌, ℕ, ◌-◌, ◌%◌, ◌^◌, ◌<◌, ◌≤◌, List, [], ◌∷◌, length, get_or, Option, Some, None, Bool, nat_eq, if◌then◌else◌}
+use Rattle.std.specs.Option.{option_map}
 use Rattle.ether_filter.specs.declared.field_test.FieldTest.{FieldTest}
 use Rattle.ether_filter.specs.declared.field_test.Relation.{Relation}
 use Rattle.ether_filter.specs.declared.field_test.Relation.TheVariants as relations
@@ -11,8 +12,10 @@ use Rattle.ether_filter.specs.declared.primitive.Primitive.{Primitive}
 use Rattle.ether_filter.specs.declared.primitive.Primitive.TheVariants as primitives
 use Rattle.ether_filter.specs.declared.instruction.Instruction.{Instruction}
 use Rattle.ether_filter.specs.Expressions.{Expression}
+use Rattle.ether_filter.specs.FieldTests.{Frame, frame_holds}
 use Rattle.ether_filter.specs.Postfix.{postfix}
 use Rattle.ether_filter.specs.Jumps.{AreJumps, ArePassed, first_jump, jump_at, no_jump}
+use Rattle.ether_filter.specs.Seen.{length_truth}
 
 -- the primitive whose kind has this number; some kinds have an operand
 abbrev pub primitive_numbered : (kind operand : ℕ) → Option Primitive
@@ -67,12 +70,23 @@ abbrev pub field_primitive : Option Relation → Instruction → Option Primitiv
 field_primitive None s = None
 field_primitive (Some relation) s = Some (primitives.Field (field_test_in relation s))
 
+-- .. of the tests of what the capture says, which have the numbers after those
+abbrev pub frame_relation_numbered : (kind : ℕ) → Option Relation
+frame_relation_numbered kind = relation_numbered (kind - 7)
+
+abbrev pub frame_primitive : Option Relation → Instruction → Option Primitive
+frame_primitive None s = None
+frame_primitive (Some relation) s = Some (primitives.Frame (field_test_in relation s))
+
 abbrev pub primitive_or : Option Primitive → Option Primitive → Option Primitive
 primitive_or (Some primitive) other = Some primitive
 primitive_or None other = other
 
 abbrev pub primitive_of : Instruction → Option Primitive
-primitive_of s = primitive_or (primitive_numbered s.kind s.operand) (field_primitive (relation_numbered s.kind) s)
+primitive_of s =
+    primitive_or (primitive_numbered s.kind s.operand)
+    (primitive_or (field_primitive (relation_numbered s.kind) s)
+    (frame_primitive (frame_relation_numbered s.kind) s))
 
 -- the primitive if there is one, else the operator
 abbrev pub test_or : Option Primitive → Option Node → Option Node
@@ -91,6 +105,19 @@ plain_instruction kind operand = record {
   first = 0;
   count = 0;
   len = 0;
+  jump = no_jump;
+  past_tags = 0;
+}
+
+abbrev pub test_instruction : (kind : ℕ) → FieldTest → Instruction
+test_instruction kind t = record {
+  operand = t.value;
+  mask = t.mask;
+  kind = kind;
+  field = t.field;
+  first = t.first;
+  count = t.count;
+  len = t.len;
   jump = no_jump;
   past_tags = 0;
 }
@@ -120,3 +147,19 @@ with_node (Some n) ns = n ∷ ns
 abbrev pub nodes_of : List Instruction → List Node
 nodes_of [] = []
 nodes_of (s ∷ instructions) = with_node (node_of s) (nodes_of instructions)
+
+-- ---- what a capture says
+
+-- the test of it, if an instruction makes one
+abbrev pub frame_test_of : Instruction → Option FieldTest
+frame_test_of s = option_map (λ r. field_test_in r s) (frame_relation_numbered s.kind)
+
+abbrev pub truth_or : Option Bool → Option Bool → Option Bool
+truth_or (Some truth) other = Some truth
+truth_or None other = other
+
+-- whether the primitive of an instruction matches a packet, if it asks what the capture says of the packet
+abbrev pub capture_truth : Instruction → Frame → Option Bool
+capture_truth s f =
+    truth_or (length_truth (primitive_numbered s.kind s.operand) f.captured f.original)
+    (option_map (λ t. frame_holds t f) (frame_test_of s))

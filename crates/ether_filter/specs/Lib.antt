@@ -8,11 +8,13 @@ pub mod TagMarks
 pub mod Seen
 pub mod Jumps
 pub mod FilterProgram
+pub mod Needed
 pub mod Deciding
 pub mod Evaluation
 pub mod Words
 pub mod Numerals
 pub mod ByteTexts
+pub mod TimeTexts
 pub mod Subjects
 pub mod Tokens
 pub mod Steps
@@ -21,3 +23,12 @@ pub mod ExpressionReading
 pub mod ErrorTexts
 pub mod Texts
 pub mod Refusals
+pub mod Prospects
+pub mod Later
+pub mod OwnFields
+pub mod Possible
+pub mod Behind
+pub mod CutWalks
+pub mod WithoutFcs
+pub mod LeastBytes
+pub mod Certain

@@ -1,15 +1,17 @@
 -- What a primitive says of a packet: by the headers of its one walk, which reads every tag, by the ending of that
--- walk, and by two lengths.
-use Rattle.std.specs.Prelude.{◌≡◌, ℕ, ◌-◌, ◌/◌, ◌%◌, ◌^◌, ◌<◌, ◌≤◌, List, [], ◌∷◌, ◌++◌, Option, Some, None, IsSome, IsTrue, Bool, true, false, nat_eq, ◌||◌}
+-- walk, and by what the capture says of the packet.
+use Rattle.std.specs.Prelude.{◌≡◌, ℕ, ◌+◌, ◌-◌, ◌*◌, ◌/◌, ◌%◌, ◌^◌, ◌<◌, ◌≤◌, List, [], ◌∷◌, ◌++◌, Option, Some, None, IsSome, IsTrue, Bool, true, false, nat_eq, ◌||◌}
 use Rattle.std.specs.List.{list_any}
+use Rattle.std.specs.Option.{option_map}
 use Rattle.etherparse.specs.Header.{Header}
 use Rattle.etherparse.specs.Header as headers
 use Rattle.ether_peel.specs.Grammar.Expectation.{Next, EtherType, next_after}
 use Rattle.ether_peel.specs.Grammar.Stack.{Ending}
 use Rattle.ether_peel.specs.Grammar.Endings.{refusal_of}
 use Rattle.ether_peel.specs.Walker.Start.{next_of}
-use Rattle.ether_filter.specs.FieldTests.{field_holds}
+use Rattle.ether_filter.specs.FieldTests.{field_holds, Frame, frame_holds}
 use Rattle.ether_filter.specs.declared.packet.Packet.{Packet}
+use Rattle.ether_filter.specs.declared.packet.PacketTime.{PacketTime}
 use Rattle.ether_filter.specs.declared.primitive.Primitive.{Primitive}
 use Rattle.ether_filter.specs.declared.primitive.Primitive.TheVariants as primitives
 
@@ -74,6 +76,22 @@ pub record Walked : Type 0 where
   pub ending : Ending
   pub captured : ℕ
   pub original : ℕ
+  pub time : Option ℕ
+
+-- what the capture says of it
+abbrev pub frame_in : Walked → Frame
+frame_in p = record { captured = p.captured; original = p.original; time = p.time }
+
+-- the number of nanoseconds since the beginning of 1970
+abbrev pub nanoseconds_of : PacketTime → ℕ
+nanoseconds_of t = t.seconds * 10 ^ 9 + t.nanoseconds
+
+abbrev pub time_of : Packet → Option ℕ
+time_of packet = option_map nanoseconds_of packet.time
+
+abbrev pub frame_of : Packet → Frame
+frame_of packet =
+    record { captured = packet.captured_len; original = packet.original_len; time = time_of packet }
 
 -- a packet with these headers and this ending
 abbrev pub walked : Packet → List Header → Ending → Walked
@@ -84,6 +102,7 @@ walked packet hs e =
       ending = e;
       captured = packet.captured_len;
       original = packet.original_len;
+      time = time_of packet;
     }
 
 -- what each primitive says of it
@@ -105,3 +124,4 @@ Matches primitives.Cut p = p.captured < p.original
 Matches (primitives.Less n) p = p.original ≤ n
 Matches (primitives.Greater n) p = n ≤ p.original
 Matches (primitives.Field t) p = IsTrue (field_holds t p.headers)
+Matches (primitives.Frame t) p = IsTrue (frame_holds t (frame_in p))

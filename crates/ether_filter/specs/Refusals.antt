@@ -64,7 +64,8 @@ NoValueFollows ts = (subject : Subject) → ValueFollows ts subject → ⊥
 -- there.
 pub data Lacks (ts : List Token) : Option Token → FilterErrorKind → Type 0 where
   operand : (next : Option Token) → Fits ts tokens.Not → Lacks ts next kinds.ExpectedOperand
-  vlan : (next : Option Token) → Fits ts tokens.Vlan → (Fits ts tokens.Not → ⊥) → Lacks ts next kinds.ExpectedVlan
+  vlan : (next : Option Token) → Fits ts tokens.Vlan → (Fits ts tokens.Not → ⊥) → NoValueFollows ts
+      → Lacks ts next kinds.ExpectedVlan
   ether_word : (next : Option Token) → Fits ts tokens.Proto → Lacks ts next kinds.ExpectedEtherWord
   address : (next : Option Token) → Fits ts (tokens.Address 0) → NoValueFollows ts → Lacks ts next kinds.ExpectedAddress
   number : (next : Option Token) (most : ℕ) → Fits ts (tokens.Number (Some most))

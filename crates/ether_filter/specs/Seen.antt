@@ -14,9 +14,9 @@ use Rattle.ether_filter.specs.declared.seen.Addresses.{Addresses}
 use Rattle.ether_filter.specs.declared.seen.Seen.{Seen}
 use Rattle.ether_filter.specs.declared.tag_marks.TagTypes.{TagTypes}
 use Rattle.ether_filter.specs.Deciding.{is_of_lengths, is_of_field}
-use Rattle.ether_filter.specs.FieldTests.{field_holds}
+use Rattle.ether_filter.specs.FieldTests.{field_holds, frame_holds}
 use Rattle.ether_filter.specs.Fields.{shown_by_link}
-use Rattle.ether_filter.specs.Primitives.{is_tag, is_sec_tag, is_from, is_to, is_to_group, vlan_ids, ether_types, Walked}
+use Rattle.ether_filter.specs.Primitives.{is_tag, is_sec_tag, is_from, is_to, is_to_group, vlan_ids, ether_types, Walked, frame_in}
 use Rattle.ether_filter.specs.TagMarks.{is_some_number, has_bit, has_tag_type, SetsBit, SetsType}
 
 -- ---- before the walk
@@ -127,6 +127,7 @@ seen primitives.Cut s ids = false
 seen (primitives.Less n) s ids = false
 seen (primitives.Greater n) s ids = false
 seen (primitives.Field t) s ids = false
+seen (primitives.Frame t) s ids = false
 seen primitive s ids = seen_in_link primitive s.link
 
 -- .. if there is a primitive, and it asks about headers and tests no field
@@ -168,6 +169,7 @@ matching w primitives.Cut = nat_lt w.captured w.original
 matching w (primitives.Less n) = nat_le w.original n
 matching w (primitives.Greater n) = nat_le n w.original
 matching w (primitives.Field t) = field_holds t w.headers
+matching w (primitives.Frame t) = frame_holds t (frame_in w)
 
 -- .. if there is one, and it asks about the two lengths
 abbrev pub length_truth : Option Primitive → (captured original : ℕ) → Option Bool

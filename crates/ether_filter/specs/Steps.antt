@@ -1,5 +1,5 @@
 -- Reading a primitive word by word.
-use Rattle.std.specs.Prelude.{ℕ, Option, Some, None, nat_lt, if◌then◌else◌}
+use Rattle.std.specs.Prelude.{ℕ, Option, Some, None, codes, nat_lt, if◌then◌else◌}
 use Rattle.ether_filter.specs.declared.primitive.Primitive.{Primitive}
 use Rattle.ether_filter.specs.declared.primitive.Primitive.TheVariants as primitives
 use Rattle.ether_filter.specs.declared.token.Token.{Token}
@@ -18,7 +18,7 @@ use Rattle.ether_filter.specs.declared.subject.Literal.{Literal}
 use Rattle.ether_filter.specs.declared.subject.Subject.{Subject}
 use Rattle.ether_filter.specs.declared.subject.Takes.{Takes}
 use Rattle.ether_filter.specs.declared.subject.Takes.TheVariants as takes
-use Rattle.ether_filter.specs.Subjects.{number_for, bytes_for, test_with, all_bits, tested}
+use Rattle.ether_filter.specs.Subjects.{number_for, bytes_for, time_for, name_for, test_with, all_bits, tested}
 use Rattle.ether_filter.specs.declared.awaited.Step.{Step}
 use Rattle.ether_filter.specs.declared.awaited.Step.TheVariants.{Done, More, Fails}
 
@@ -65,6 +65,12 @@ abbrev pub value_for : Takes → Token → Option Literal
 value_for takes (tokens.Number (Some n)) = number_for takes n
 value_for takes (tokens.Address a) = bytes_for takes (record { len = 6; number = a })
 value_for takes (tokens.Bytes bytes) = bytes_for takes bytes
+value_for takes (tokens.Time time) = time_for takes time
+value_for takes tokens.Eth = name_for takes (codes "eth")
+value_for takes tokens.Sll = name_for takes (codes "sll")
+value_for takes tokens.Vlan = name_for takes (codes "vlan")
+value_for takes tokens.Macsec = name_for takes (codes "macsec")
+value_for takes tokens.Arp = name_for takes (codes "arp")
 value_for takes _ = None
 
 abbrev pub masked : Subject → Option Literal → Step
@@ -109,6 +115,8 @@ abbrev pub value_kind : Takes → FilterErrorKind
 value_kind (takes.Number most) = kinds.ExpectedNumber most
 value_kind (takes.Bytes len) = kinds.ExpectedBytes len
 value_kind takes.AnyBytes = kinds.ExpectedAnyBytes
+value_kind takes.Time = kinds.ExpectedTime
+value_kind takes.Header = kinds.ExpectedHeader
 
 abbrev pub kind_of : Awaited → FilterErrorKind
 kind_of awaits.Operand = kinds.ExpectedOperand

@@ -1,8 +1,9 @@
 -- The fields that words name, and the values that they take.
-use Rattle.std.specs.Prelude.{ℕ, ◌+◌, ◌-◌, ◌*◌, ◌/◌, ◌%◌, ◌^◌, List, [], ◌∷◌, Option, Some, None, Bool, true, false, not, take, drop, nat_eq, nat_lt, nat_le, ◌||◌, ◌&&◌, if◌then◌else◌}
+use Rattle.std.specs.Prelude.{ℕ, ◌+◌, ◌-◌, ◌*◌, ◌/◌, ◌%◌, ◌^◌, List, [], ◌∷◌, length, Option, Some, None, Bool, true, false, not, take, drop, nat_eq, nat_lt, nat_le, codes, ◌||◌, ◌&&◌, if◌then◌else◌}
 use Rattle.std.specs.Option.{option_map, option_or}
 use Rattle.std.specs.List.{find, list_any}
 use Rattle.std.specs.Cmp.Lexicographic.{pointwise}
+use Rattle.etherparse.specs.Bytes.{number}
 use Rattle.ether_fields.specs.Rows.{Row}
 use Rattle.ether_fields.specs.Fields.{column_name, section_rows}
 use Rattle.ether_fields.specs.declared.extent.Extent.{Extent}
@@ -83,11 +84,25 @@ abbrev pub subject_if : Option Row → Option Subject
 subject_if None = None
 subject_if (Some r) = subject_of r
 
+-- a length of a packet has 32 bits
+abbrev pub length_subject : (field : ℕ) → Subject
+length_subject field = record { field = field; first = 0; count = 0; takes = takes.Number 4294967295 }
+
+-- the name of a header
+abbrev pub header_subject : Subject
+header_subject = record { field = 252; first = 0; count = 0; takes = takes.Header }
+
+-- the time of a packet
+abbrev pub time_subject : Subject
+time_subject = record { field = 253; first = 0; count = 0; takes = takes.Time }
+
 -- the bytes of a field can have a slice
 abbrev pub has_slice : Takes → (first count : ℕ) → Bool
 has_slice (takes.Number most) first count = false
 has_slice (takes.Bytes len) first count = nat_le (first + count) len
 has_slice takes.AnyBytes first count = true
+has_slice takes.Time first count = false
+has_slice takes.Header first count = false
 
 -- a slice of one to eight bytes
 abbrev pub sliced : Subject → (first count : ℕ) → Option Subject
@@ -103,9 +118,18 @@ abbrev pub sliced_if : Option Subject → (slice : List ℕ) → Option Subject
 sliced_if None slice = None
 sliced_if (Some s) slice = sliced_by s (slice_in slice)
 
+-- the names of headers, and what a capture says of a packet; these fields have no number in the table, and have one
+-- here
+abbrev pub unnumbered_subject : List ℕ → Option Subject
+unnumbered_subject name =
+    if pointwise nat_eq name (codes "headers.header") then Some header_subject
+    else (if pointwise nat_eq name (codes "frame.time") then Some time_subject
+    else (if pointwise nat_eq name (codes "frame.captured") then Some (length_subject 254)
+    else (if pointwise nat_eq name (codes "frame.original") then Some (length_subject 255) else None)))
+
 -- the field before the first bracket (91), or the whole word
 abbrev pub subject_at : List ℕ → Option ℕ → Option Subject
-subject_at word None = subject_if (row_named word)
+subject_at word None = option_or (unnumbered_subject word) (subject_if (row_named word))
 subject_at word (Some at) = sliced_if (subject_if (row_named (take at word))) (drop at word)
 
 -- the field that a word names, or the slice of its bytes
@@ -120,12 +144,26 @@ number_for (takes.Number most) n = if nat_le n most then Some (record { len = 0;
 number_for (takes.Bytes len) n =
     if nat_le n (greatest_in_bytes len) then Some (record { len = len; number = n }) else None
 number_for takes.AnyBytes n = None
+number_for takes.Time n = None
+number_for takes.Header n = None
 
 -- bytes as a value
 abbrev pub bytes_for : Takes → Literal → Option Literal
 bytes_for (takes.Number most) bytes = None
 bytes_for (takes.Bytes len) bytes = if nat_eq len bytes.len then Some bytes else None
 bytes_for takes.AnyBytes bytes = Some bytes
+bytes_for takes.Time bytes = None
+bytes_for takes.Header bytes = None
+
+-- a time as a value
+abbrev pub time_for : Takes → ℕ → Option Literal
+time_for takes.Time n = Some (record { len = 0; number = n })
+time_for _ n = None
+
+-- the name of a header as a value
+abbrev pub name_for : Takes → List ℕ → Option Literal
+name_for takes.Header name = Some (record { len = length name; number = number name })
+name_for _ name = None
 
 -- ---- a test
 
@@ -160,7 +198,7 @@ tested_by _ t = primitives.Field t
 
 -- the primitive of a test of a field
 abbrev pub tested : FieldTest → Primitive
-tested t = tested_by t.relation t
+tested t = if nat_le 253 t.field then primitives.Frame t else tested_by t.relation t
 
 -- the test that there is a value
 abbrev pub existence_of : Subject → FieldTest

@@ -4,6 +4,7 @@ use Rattle.std.specs.Cmp.Lexicographic.{pointwise}
 use Rattle.ether_filter.specs.Numerals.{wide_number_in, address_in}
 use Rattle.ether_filter.specs.ByteTexts.{literal_in}
 use Rattle.ether_filter.specs.Subjects.{subject_in}
+use Rattle.ether_filter.specs.TimeTexts.{time_in}
 use Rattle.ether_filter.specs.declared.field_test.Relation.TheVariants.{Equal, NotEqual, Less, AtMost, Greater, AtLeast}
 use Rattle.ether_filter.specs.declared.node.Operator.TheVariants.{And, Or}
 use Rattle.ether_filter.specs.declared.token.Token.{Token}
@@ -16,12 +17,15 @@ keywords =
     (codes "and", tokens.Join And) ∷ (codes "&&", tokens.Join And) ∷ (codes "or", tokens.Join Or)
     ∷ (codes "||", tokens.Join Or) ∷
     (codes "vlan", tokens.Vlan) ∷ (codes "outer", tokens.Outer) ∷ (codes "inner", tokens.Inner)
-    ∷ (codes "macsec", tokens.Macsec) ∷
+    ∷ (codes "macsec", tokens.Macsec) ∷ (codes "eth", tokens.Eth) ∷ (codes "sll", tokens.Sll) ∷
     (codes "arp", tokens.Arp) ∷ (codes "ip", tokens.Ip) ∷ (codes "ip6", tokens.Ip6) ∷
     (codes "ether", tokens.Ether) ∷ (codes "proto", tokens.Proto) ∷ (codes "src", tokens.Src)
     ∷ (codes "dst", tokens.Dst) ∷ (codes "host", tokens.Host) ∷
     (codes "broadcast", tokens.Broadcast) ∷ (codes "multicast", tokens.Multicast) ∷
-    (codes "refused", tokens.Refused) ∷ (codes "cut", tokens.Cut) ∷ (codes "less", tokens.Less)
+    (codes "refused", tokens.Refused) ∷ (codes "fault", tokens.Refused) ∷ (codes "cut", tokens.Cut) ∷ (
+      codes "less",
+      tokens.Less,
+    )
     ∷ (codes "greater", tokens.Greater) ∷
     (codes "==", tokens.Relation Equal) ∷ (codes "!=", tokens.Relation NotEqual) ∷ (codes "<", tokens.Relation Less)
     ∷ (codes "<=", tokens.Relation AtMost) ∷ (codes ">", tokens.Relation Greater)
@@ -43,7 +47,8 @@ abbrev pub literal : List ℕ → Token
 literal word =
     unwrap_or (option_map tokens.Address (address_in word))
     (unwrap_or (option_map tokens.Bytes (literal_in word))
-    (unwrap_or (option_map tokens.Field (subject_in word)) (number_token (wide_number_in word))))
+    (unwrap_or (option_map tokens.Field (subject_in word))
+    (unwrap_or (option_map tokens.Time (time_in word)) (number_token (wide_number_in word)))))
 
 abbrev pub token_of : List ℕ → Token
 token_of word = unwrap_or (meaning_among keywords word) (literal word)

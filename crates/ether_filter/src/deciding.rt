@@ -1,22 +1,22 @@
-//! What is known of a primitive if not all bytes of a packet were captured.
-ghost use Rattle.std.specs.Prelude.{◌≡◌, ◌↔◌, ◌<◌, ◌≤◌, ◌-◌, ◌^◌, List, Some, IsTrue, length};
+//! Decisions on tests of fields and on joined expressions, if not all bytes of a packet were captured.
+ghost use Rattle.std.specs.Prelude.{◌≡◌, ◌↔◌, ◌<◌, ◌^◌, List, Some, IsTrue, length};
 ghost use Rattle.etherparse.specs.Bytes.{IsBytes};
 ghost use Rattle.etherparse.specs.Header.{Header};
 ghost use Rattle.ether_peel.specs.Grammar.Expectation.{has_fcs as has_fcs_of};
 ghost use Rattle.ether_peel.specs.Grammar.Stack.{Ending, Walk};
 ghost use Rattle.ether_peel.specs.Walker.Start.{start_of};
-ghost use Rattle.ether_filter.specs.Primitives.{walked, Matches};
+ghost use Rattle.ether_filter.specs.declared.primitive.Primitive.TheVariants as primitives;
 ghost use Rattle.ether_filter.specs.Expressions.{Test};
-ghost use Rattle.ether_filter.specs.Deciding.{lost as lost_of, is_of_link as is_of_link_of, can_tell as can_tell_of, asks_any as asks_any_of, IsTold, IsKnown};
-ghost use Rattle.ether_filter.specs.Seen.{Shows};
-ghost use Rattle.ether_filter.specs.Evaluation.{IsRefusedUnit, IsOpening, IsValue, joined_value as joined_value_of};
+ghost use Rattle.ether_filter.specs.FieldTests.{field_holds};
+ghost use Rattle.ether_filter.specs.Deciding.{lost as lost_of, is_of_link as is_of_link_of, can_tell as can_tell_of, asks_any as asks_any_of, IsFieldKnown, Says};
+ghost use Rattle.ether_filter.specs.Evaluation.{decided as decided_of, IsRefusedUnit, IsOpening, joined_decision as joined_decision_of, negated_decision as negated_decision_of};
 
-use crate::field_test::Relation;
-use crate::matching::{is_of_lengths, matches_primitive};
+use crate::decision::Decision;
+use crate::field_match::matches_field;
+use crate::field_test::{FieldTest, Relation};
 use crate::node::Operator;
 use crate::packet::Packet;
 use crate::primitive::Primitive;
-use crate::seen::Seen;
 use ether_peel::{PeelError, Start, summary};
 use etherparse::err::Layer;
 
@@ -79,82 +79,75 @@ fn refused_unit(start: Start, frame: &[u8]) -> Option<(usize, Layer)>
 }
 
 /// Whether a frame ends in a frame check sequence.
-fn has_fcs(start: Start) -> bool
+pub(crate) fn has_fcs(start: Start) -> bool
     ensures { result ≡ has_fcs_of (start_of start) }
 {
     matches!(start, Start::Ethernet2Fcs)
 }
 
 /// The number of bytes of a packet that were not captured.
-fn lost(packet: &Packet<'_>) -> usize
+pub(crate) fn lost(packet: &Packet<'_>) -> usize
     ensures value { result ≡ lost_of packet.now }
     ensures within { result < 2 ^ 32 }
 {
     (packet.original_len as usize).saturating_sub(packet.captured_len)
 }
 
-/// Whether a primitive matches a packet, if that is known.
-pub(crate) fn known(
-    primitive: Primitive,
-    packet: &Packet<'_>,
-    seen: &Seen,
-    ids: &[u64],
-    opening: Option<Opening>,
-) -> Option<bool>
-    ensures { (hs : List Header) (e : Ending) → Walk (start_of packet.now.start) packet.now.frame.now hs e
-        → Shows (walked packet.now hs e) seen.now ids.now
-        → IsOpening packet.now e opening → IsValue packet.now hs e result (Test primitive) }
+/// The decision of a truth that no missing bytes change.
+pub(crate) fn decided(truth: bool) -> Decision
+    ensures { result ≡ decided_of truth }
 {
-    let is_match = matches_primitive(primitive, packet, seen, ids);
-    if let Some(opening) = opening {
-        if !is_known(primitive, packet, seen, ids, is_match, opening) {
-            return None;
-        }
+    if truth {
+        Decision::Matches
+    } else {
+        Decision::Fails
     }
-    Some(is_match)
 }
 
-/// Whether it is known if a primitive matches an open packet. `is_match` says whether it matches the headers so far.
-fn is_known(
-    primitive: Primitive,
+/// Decides a test of a field by the headers so far.
+pub(crate) fn decide_field(
+    test: FieldTest,
     packet: &Packet<'_>,
-    seen: &Seen,
-    ids: &[u64],
-    is_match: bool,
-    opening: Opening,
-) -> bool
+    opening: Option<Opening>,
+) -> Decision
     ensures { (hs : List Header) (e : Ending) → Walk (start_of packet.now.start) packet.now.frame.now hs e
-        → Shows (walked packet.now hs e) seen.now ids.now
-        → IsTrue is_match ↔ Matches primitive (walked packet.now hs e) → IsOpening packet.now e (Some opening)
-        → IsTrue result ↔ IsKnown packet.now hs e primitive }
+        → IsOpening packet.now e opening → Says packet.now hs e (Test (primitives.Field test)) result }
 {
-    if is_of_lengths(primitive) {
-        return true;
+    let holds = matches_field(test, packet.start, packet.frame);
+    if let Some(opening) = opening {
+        if !is_known(test, holds, opening) {
+            return Decision::Needs(opening.needed);
+        }
     }
+    decided(holds)
+}
+
+/// Whether it is known if a test of a field holds for an open packet. `holds` says whether it does for the headers so
+/// far.
+fn is_known(test: FieldTest, holds: bool, opening: Opening) -> bool
+    ensures { (packet : Packet) (hs : List Header) (e : Ending) → Walk (start_of packet.start) packet.frame.now hs e
+        → holds ≡ field_holds test hs → IsOpening packet e (Some opening)
+        → IsTrue result ↔ IsFieldKnown packet hs e test }
+{
     match opening.layer {
-        Some(layer) => !can_tell(layer, primitive)
-            || is_told(primitive, packet, seen, ids, is_match),
+        Some(layer) => !can_tell(layer, test) || asks_any(test.relation) && holds,
         None => false,
     }
 }
 
-/// Whether a primitive can depend on a unit of this layer, or on one after it.
-fn can_tell(layer: Layer, primitive: Primitive) -> bool
-    ensures { result ≡ can_tell_of layer primitive }
+/// Whether a test of a field can depend on a unit of this layer, or on one after it. Fields with the numbers up to 3 are
+/// of an Ethernet II header.
+fn can_tell(layer: Layer, test: FieldTest) -> bool
+    ensures { result ≡ can_tell_of layer test }
 {
     match layer {
-        Layer::Arp => match primitive {
-            Primitive::Refused => true,
-            Primitive::Field(_) => !is_of_link(primitive),
-            _ => false,
-        },
         Layer::Ethernet2Header => true,
-        _ => !is_of_link(primitive),
+        _ => test.field > 3,
     }
 }
 
 /// Whether a primitive asks about an Ethernet II header, whose fields have the numbers up to 3.
-fn is_of_link(primitive: Primitive) -> bool
+pub(crate) fn is_of_link(primitive: Primitive) -> bool
     ensures { result ≡ is_of_link_of primitive }
 {
     match primitive {
@@ -168,28 +161,6 @@ fn is_of_link(primitive: Primitive) -> bool
     }
 }
 
-/// Whether the headers so far decide a primitive, whatever headers follow. `is_match` says whether it matches these
-/// headers.
-fn is_told(
-    primitive: Primitive,
-    packet: &Packet<'_>,
-    seen: &Seen,
-    ids: &[u64],
-    is_match: bool,
-) -> bool
-    ensures { (hs : List Header) (e : Ending) → Walk (start_of packet.now.start) packet.now.frame.now hs e
-        → Shows (walked packet.now hs e) seen.now ids.now
-        → IsTrue is_match ↔ Matches primitive (walked packet.now hs e)
-        → IsTrue result ↔ IsTold primitive (walked packet.now hs e) }
-{
-    match primitive {
-        Primitive::OuterVlan(_) => matches_primitive(Primitive::Vlan, packet, seen, ids),
-        Primitive::InnerVlan(_) | Primitive::Refused => false,
-        Primitive::Field(test) => asks_any(test.relation) && is_match,
-        _ => is_match,
-    }
-}
-
 /// Whether a test with this relation asks whether any value has it.
 fn asks_any(relation: Relation) -> bool
     ensures { result ≡ asks_any_of relation }
@@ -197,19 +168,51 @@ fn asks_any(relation: Relation) -> bool
     !matches!(relation, Relation::NotEqual)
 }
 
-/// The value of two joined operands, in Kleene's logic; `None` is unknown.
-pub(crate) fn joined_value(
-    operator: Operator,
-    left: Option<bool>,
-    right: Option<bool>,
-) -> Option<bool>
-    ensures { result ≡ joined_value_of operator left right }
+/// The decision on two joined operands, in Kleene's logic.
+pub(crate) fn joined_decision(operator: Operator, left: Decision, right: Decision) -> Decision
+    ensures { result ≡ joined_decision_of operator left right }
 {
-    match (operator, left, right) {
-        (Operator::And, Some(false), _) | (Operator::And, _, Some(false)) => Some(false),
-        (Operator::And, Some(true), right) => right,
-        (Operator::Or, Some(true), _) | (Operator::Or, _, Some(true)) => Some(true),
-        (Operator::Or, Some(false), right) => right,
-        _ => None,
+    match operator {
+        Operator::And => both(left, right),
+        Operator::Or => either(left, right),
+    }
+}
+
+/// .. by `and`.
+fn both(left: Decision, right: Decision) -> Decision
+    ensures { result ≡ joined_decision_of Operator.And left right }
+{
+    match (left, right) {
+        (Decision::Needs(left), Decision::Needs(right)) => Decision::Needs(left.min(right)),
+        (Decision::Needs(len), Decision::Matches) | (Decision::Matches, Decision::Needs(len)) => {
+            Decision::Needs(len)
+        }
+        (Decision::Matches, Decision::Matches) => Decision::Matches,
+        _ => Decision::Fails,
+    }
+}
+
+/// .. by `or`.
+fn either(left: Decision, right: Decision) -> Decision
+    ensures { result ≡ joined_decision_of Operator.Or left right }
+{
+    match (left, right) {
+        (Decision::Needs(left), Decision::Needs(right)) => Decision::Needs(left.min(right)),
+        (Decision::Needs(len), Decision::Fails) | (Decision::Fails, Decision::Needs(len)) => {
+            Decision::Needs(len)
+        }
+        (Decision::Fails, Decision::Fails) => Decision::Fails,
+        _ => Decision::Matches,
+    }
+}
+
+/// The decision on an expression after `not`.
+pub(crate) fn negated_decision(decision: Decision) -> Decision
+    ensures { result ≡ negated_decision_of decision }
+{
+    match decision {
+        Decision::Matches => Decision::Fails,
+        Decision::Fails => Decision::Matches,
+        Decision::Needs(len) => Decision::Needs(len),
     }
 }

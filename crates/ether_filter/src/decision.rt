@@ -7,6 +7,12 @@ pub enum Decision {
     Matches,
     /// It does not match, whatever the missing bytes are.
     Fails,
-    /// It is unknown whether it matches, and remains unknown until at least this many bytes of the frame are captured.
+    /// It is unknown whether it matches, and remains unknown while fewer bytes of the frame than these are captured.
     Needs(usize),
+}
+
+impl Default for Decision {
+    fn default() -> Decision {
+        Decision::Fails
+    }
 }

@@ -1,5 +1,5 @@
-//! Whether a header has a tested value of a field.
-ghost use Rattle.std.specs.Prelude.{◌≡◌, Some};
+//! Whether a header, or what the capture says of a packet, has a tested value of a field.
+ghost use Rattle.std.specs.Prelude.{◌≡◌, ◌-◌, ◌^◌, Some, min};
 ghost use Rattle.etherparse.specs.Bytes.{spelled};
 ghost use Rattle.std.specs.Option.{option_map};
 ghost use Rattle.etherparse.specs.Ethernet2.{ethernet2_of};
@@ -9,9 +9,11 @@ ghost use Rattle.etherparse.specs.Macsec.{payload_type_view, sec_tag_of, tag_byt
 ghost use Rattle.etherparse.specs.Arp.{arp_of};
 ghost use Rattle.ether_base.specs.Formats.Macsec.{encrypted_of, changed_of, sec_tag_front_of};
 ghost use Rattle.ether_peel.specs.Walker.UnitHeader.{unit_header};
-ghost use Rattle.ether_filter.specs.FieldTests.{Number, Bytes, are_related as are_related_of, part_of, is_hit, hit_if, hit, ethernet2_gives, linux_sll_gives, vlan_gives, macsec_gives, arp_gives};
+ghost use Rattle.ether_filter.specs.FieldTests.{Number, Bytes, are_related as are_related_of, part_of, is_hit, hit_if, hit, ethernet2_gives, linux_sll_gives, vlan_gives, macsec_gives, arp_gives, frame_gives};
+ghost use Rattle.ether_filter.specs.Primitives.{frame_of, nanoseconds_of};
 
 use crate::field_test::{FieldTest, Relation};
+use crate::packet::{Packet, PacketTime};
 use ether_base::big_endian::{bytes_of_u64, u64_in};
 use ether_peel::PeelUnit;
 use etherparse::{
@@ -39,6 +41,7 @@ fn link_hit(test: &FieldTest, link: &Ethernet2Slice<'_>) -> Option<bool>
         1 => bytes_hit(test, &link.destination()),
         2 => bytes_hit(test, &link.source()),
         3 => number_hit(test, u64::from(link.ether_type().0)),
+        252 => bytes_hit(test, b"eth"),
         _ => None,
     }
 }
@@ -53,6 +56,7 @@ fn cooked_hit(test: &FieldTest, link: &LinuxSllSlice<'_>) -> Option<bool>
         6 => number_hit(test, u64::from(link.sender_address_valid_length())),
         7 => bytes_hit(test, &link.sender_address_full()),
         8 => number_hit(test, u64::from(link.protocol_number())),
+        252 => bytes_hit(test, b"sll"),
         _ => None,
     }
 }
@@ -66,6 +70,7 @@ fn tag_hit(test: &FieldTest, tag: &SingleVlanSlice<'_>) -> Option<bool>
         10 => number_hit(test, u64::from(tag.drop_eligible_indicator())),
         11 => number_hit(test, u64::from(tag.vlan_identifier().value())),
         12 => number_hit(test, u64::from(tag.ether_type().0)),
+        252 => bytes_hit(test, b"vlan"),
         _ => None,
     }
 }
@@ -91,6 +96,7 @@ fn sec_tag_hit(test: &FieldTest, tag: &MacsecHeaderSlice<'_>) -> Option<bool>
             MacsecPType::Unmodified(ether_type) => number_hit(test, u64::from(ether_type.0)),
             _ => None,
         },
+        252 => bytes_hit(test, b"macsec"),
         _ => None,
     }
 }
@@ -136,8 +142,32 @@ fn arp_hit(test: &FieldTest, packet: &ArpPacketSlice<'_>) -> Option<bool>
         31 => bytes_hit(test, packet.sender_protocol_addr()),
         32 => bytes_hit(test, packet.target_hw_addr()),
         33 => bytes_hit(test, packet.target_protocol_addr()),
+        252 => bytes_hit(test, b"arp"),
         _ => None,
     }
+}
+
+/// Whether what the capture says of a packet has the tested relation. `None` if there is no value.
+pub(crate) fn frame_hit(test: &FieldTest, packet: &Packet<'_>) -> Option<bool>
+    ensures { result ≡ hit_if test.now (frame_gives test.now.field (frame_of packet.now)) }
+{
+    match test.field {
+        253 => match packet.time {
+            Some(time) => number_hit(test, nanoseconds(time)),
+            None => None,
+        },
+        254 => number_hit(test, packet.captured_len as u64),
+        255 => number_hit(test, u64::from(packet.original_len)),
+        _ => None,
+    }
+}
+
+/// The nanoseconds since the beginning of 1970, at most those that fit in 64 bits.
+fn nanoseconds(time: PacketTime) -> u64
+    ensures { result ≡ min (nanoseconds_of time) (2 ^ 64 - 1) }
+{
+    let all = u128::from(time.seconds) * 1_000_000_000 + u128::from(time.nanoseconds);
+    all.min(u128::from(u64::MAX)) as u64
 }
 
 /// Whether a number has the tested relation.

@@ -3,11 +3,13 @@ ghost use Rattle.std.specs.Prelude.{◌≡◌, List};
 ghost use Rattle.etherparse.specs.Header.{Header};
 ghost use Rattle.ether_peel.specs.Grammar.Stack.{Ending, Walk};
 ghost use Rattle.ether_peel.specs.Walker.Start.{start_of};
-ghost use Rattle.ether_filter.specs.FieldTests.{answer, field_holds};
+ghost use Rattle.ether_filter.specs.FieldTests.{answer, field_holds, frame_holds};
 ghost use Rattle.ether_filter.specs.FieldsFound.{found_after};
+ghost use Rattle.ether_filter.specs.Primitives.{frame_of};
 
-use crate::field_hit::unit_hit;
+use crate::field_hit::{frame_hit, unit_hit};
 use crate::field_test::{FieldTest, Relation};
+use crate::packet::Packet;
 use ether_peel::{Peel, Start};
 
 /// What the headers of a packet show of a field.
@@ -63,4 +65,16 @@ pub(crate) fn matches_field(test: FieldTest, start: Start, frame: &[u8]) -> bool
             None => return found.answer(test.relation),
         }
     }
+}
+
+/// Whether a test holds of what the capture says of a packet.
+#[inline(never)]
+pub(crate) fn matches_frame(test: FieldTest, packet: &Packet<'_>) -> bool
+    ensures { result ≡ frame_holds test (frame_of packet.now) }
+{
+    let (has_value, has_hit) = match frame_hit(&test, packet) {
+        Some(hit) => (true, hit),
+        None => (false, false),
+    };
+    FieldFound { has_value, has_hit }.answer(test.relation)
 }

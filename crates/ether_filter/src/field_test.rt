@@ -25,7 +25,9 @@ pub enum Relation {
 /// relation to `value`; with [`Relation::NotEqual`] it holds if there are values, and none of them is equal.
 #[derive(Clone, Copy, Debug)]
 pub struct FieldTest {
-    /// The number of the field, which `Field::of_number` of `ether_fields` takes.
+    /// The number of the field, which `Field::of_number` of `ether_fields` takes. What a capture says of a packet has
+    /// no number there: here `frame.time` has 253, `frame.captured` 254, and `frame.original` 255. `headers.header` has
+    /// 252.
     pub field: u8,
     /// The offset in bytes of the tested part of the field's bytes.
     pub first: u8,
@@ -38,6 +40,7 @@ pub struct FieldTest {
     /// The number of bytes that the compared value has, up to 8. Bytes of any other number have no relation to it. It
     /// is not used for numbers.
     pub len: u8,
-    /// What the field's value is compared with. Bytes are one number, the first byte its most significant one.
+    /// What the field's value is compared with. Bytes are one number, the first byte its most significant one. A time
+    /// is the number of nanoseconds since the beginning of 1970. The name of a header is its letters.
     pub value: u64,
 }

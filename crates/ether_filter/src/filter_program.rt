@@ -11,16 +11,19 @@ ghost use Rattle.ether_filter.specs.Jumps.{LeadsOn, Misses, MissesIds, MissesMor
 ghost use Rattle.ether_filter.specs.Expressions.{Expression, Holds};
 ghost use Rattle.ether_filter.specs.Postfix.{postfix, pushed};
 ghost use Rattle.ether_filter.specs.FilterProgram.{IsProgramOf, primitive_of};
+ghost use Rattle.ether_filter.specs.Certain.{AreCertain};
+ghost use Rattle.ether_filter.specs.CutWalks.{FitsEnd};
 ghost use Rattle.ether_filter.specs.Evaluation.{AreValues, IsOpening, IsValue};
 ghost use Rattle.ether_filter.specs.Seen.{Shows};
 ghost use Rattle.ether_filter.specs.Deciding.{Says};
 
-use crate::deciding::{Opening, find_opening, joined_value, known};
+use crate::certain::{Certain, decide_test, find_certain};
+use crate::deciding::{Opening, find_opening, joined_decision, negated_decision};
 use crate::decision::Decision;
 use crate::filter::MAX_WORDS;
 use crate::instruction::Instruction;
 use crate::jumps::{HOLDS, jumps_of, past_tags};
-use crate::matching::{matches_instruction, matches_lengths};
+use crate::matching::{matches_capture, matches_instruction};
 use crate::node::Node;
 use crate::packet::Packet;
 use crate::seen::{Seen, Tags, look, tags_seen};
@@ -42,10 +45,12 @@ use arrayvec::ArrayVec;
 ///     frame: &frame,
 ///     captured_len: 18,
 ///     original_len: 64,
+///     time: None,
 /// };
 /// let filter = Filter::parse(b"vlan 5 and not ip")?;
 /// assert!(rt; filter_program::matches(filter.instructions(), &packet));
 /// ```
+#[inline(always)]
 pub fn matches(instructions: &[Instruction], packet: &Packet<'_>) -> bool
     ensures { (x : Expression) → IsProgramOf instructions.now x → (hs : List Header) (e : Ending)
         → Walk (start_of packet.now.start) packet.now.frame.now hs e → IsTrue result
@@ -63,7 +68,7 @@ pub fn matches(instructions: &[Instruction], packet: &Packet<'_>) -> bool
     matches_seen(instructions, packet, &seen, &ids)
 }
 
-/// Whether a packet matches, if its two lengths decide this.
+/// Whether a packet matches, if what the capture says of it decides this.
 #[inline(always)]
 fn matches_by_lengths(instructions: &[Instruction], packet: &Packet<'_>) -> Option<bool>
     ensures { (truth : Bool) → result ≡ Some truth → (x : Expression) → IsProgramOf instructions.now x
@@ -72,7 +77,7 @@ fn matches_by_lengths(instructions: &[Instruction], packet: &Packet<'_>) -> Opti
     let [first, ..] = instructions else {
         return None;
     };
-    matches_lengths(first, packet)?;
+    matches_capture(first, packet)?;
     jumps_by_lengths(instructions, *packet)
 }
 
@@ -87,7 +92,7 @@ fn jumps_by_lengths(instructions: &[Instruction], packet: Packet<'_>) -> Option<
         let instruction = &instructions[at];
         let next = instruction
             .jump
-            .after(matches_lengths(instruction, &packet)?);
+            .after(matches_capture(instruction, &packet)?);
         if next <= at {
             return None; // not reached: each jump leads forward
         }
@@ -227,8 +232,9 @@ fn past_unseen(instructions: &[Instruction], begin: usize, seen: &Seen, ids: &[u
     ensures reaches { (x : Expression) (p : IsProgramOf instructions.now x)
         → LeadsOn x p.jumps (MissesIds seen.now ids.now) begin result }
 {
+    let seen = *seen;
     let mut at = begin;
-    while at < instructions.len() && instructions[at].asks_unseen_id(seen, ids) {
+    while at < instructions.len() && instructions[at].asks_unseen_id(&seen, ids) {
         let next = instructions[at].jump.after(false);
         if next <= at {
             return at; // not reached: each jump leads forward
@@ -250,11 +256,11 @@ pub fn decide(instructions: &[Instruction], packet: &Packet<'_>) -> Decision
 {
     let mut ids = [];
     let mut seen = Seen::new();
-    look(packet.start, packet.frame, &mut seen, &mut ids);
+    let certain = find_certain(packet, &mut seen, &mut ids);
     if seen.has_more {
         return decide_by_ids(instructions, *packet);
     }
-    decide_seen(instructions, packet, &seen, &ids)
+    decide_all(instructions, packet, certain, &seen, &ids)
 }
 
 /// .. however many VLAN tags the packet has.
@@ -268,20 +274,22 @@ fn decide_by_ids(instructions: &[Instruction], packet: Packet<'_>) -> Decision
 {
     let mut ids = [0; WORDS];
     let mut seen = Seen::new();
-    look(packet.start, packet.frame, &mut seen, &mut ids);
-    decide_seen(instructions, &packet, &seen, &ids)
+    let certain = find_certain(&packet, &mut seen, &mut ids);
+    decide_all(instructions, &packet, certain, &seen, &ids)
 }
 
-/// .. if this was seen in the packet.
-fn decide_seen(
+/// .. if this is certain, and was seen in its certain headers.
+fn decide_all(
     instructions: &[Instruction],
     packet: &Packet<'_>,
+    certain: Certain<'_>,
     seen: &Seen,
     ids: &[u64],
 ) -> Decision
+    requires fits { FitsEnd certain.end }
     ensures says { (x : Expression) → IsProgramOf instructions.now x → (hs : List Header) (e : Ending)
         → Walk (start_of packet.now.start) packet.now.frame.now hs e
-        → Shows (walked packet.now hs e) seen.now ids.now
+        → AreCertain packet.now seen.now ids.now certain.entry
         → (d : Decision) → (result ≡ d) ↔ Says packet.now hs e x d }
     ensures bytes { IsBytes packet.now.frame.now }
 {
@@ -294,9 +302,9 @@ fn decide_seen(
         let Some(node) = instruction.node() else {
             return Decision::Fails; // not reached: each instruction has a node
         };
-        decide_node(&mut values, node, packet, seen, ids, opening);
+        decide_node(&mut values, node, packet, certain, seen, ids, opening);
     }
-    decision(values.pop().unwrap_or(None), opening)
+    values.pop().unwrap_or(Decision::Fails)
 }
 
 /// The instructions of an expression's nodes.
@@ -313,48 +321,39 @@ pub(crate) fn instructions_of(nodes: &[Node]) -> ArrayVec<Instruction, MAX_WORDS
     instructions
 }
 
-/// The decision on an expression with this value, where `None` is unknown.
-fn decision(value: Option<bool>, opening: Option<Opening>) -> Decision
-    ensures { (packet : Packet) (hs : List Header) (e : Ending) (x : Expression) → IsOpening packet e opening
-        → IsValue packet hs e value x
-        → Says packet hs e x result }
-{
-    match (value, opening) {
-        (Some(true), _) => Decision::Matches,
-        (Some(false), _) => Decision::Fails,
-        (None, Some(opening)) => Decision::Needs(opening.needed),
-        (None, None) => Decision::Fails, // not reached: without an opening every primitive is known
-    }
-}
-
 /// Evaluates one postfix node: pops its operands' values and pushes its own.
 fn decide_node(
-    values: &mut ArrayVec<Option<bool>, MAX_WORDS>,
+    values: &mut ArrayVec<Decision, MAX_WORDS>,
     node: Node,
     packet: &Packet<'_>,
+    certain: Certain<'_>,
     seen: &Seen,
     ids: &[u64],
     opening: Option<Opening>,
 )
-    requires { array_vec_len values.old < MAX_WORDS }
+    requires fits { FitsEnd certain.end }
+    requires room { array_vec_len values.old < MAX_WORDS }
     ensures len { array_vec_len values.new ≤ array_vec_len values.old + 1 }
     ensures values { (hs : List Header) (e : Ending) → Walk (start_of packet.now.start) packet.now.frame.now hs e
-        → Shows (walked packet.now hs e) seen.now ids.now → IsOpening packet.now e opening
-        → (xs : List Expression) → AreValues (IsValue packet.now hs e) (reverse values.old.items) xs
+        → IsBytes packet.now.frame.now → AreCertain packet.now seen.now ids.now certain.entry
+        → IsOpening packet.now e opening → (xs : List Expression)
+        → AreValues (IsValue packet.now hs e) (reverse values.old.items) xs
         → AreValues (IsValue packet.now hs e) (reverse values.new.items) (pushed xs node) }
 {
     match node {
-        Node::Test(primitive) => values.push(known(primitive, packet, seen, ids, opening)),
+        Node::Test(primitive) => {
+            values.push(decide_test(primitive, packet, certain, seen, ids, opening));
+        }
         Node::Not => {
             if let Some(value) = values.pop() {
-                values.push(value.map(|truth| !truth));
+                values.push(negated_decision(value));
             }
         }
         Node::Join(operator) => {
             let right = values.pop();
             let left = values.pop();
             if let (Some(left), Some(right)) = (left, right) {
-                values.push(joined_value(operator, left, right));
+                values.push(joined_decision(operator, left, right));
             }
         }
     }

@@ -1,7 +1,7 @@
 //! The instructions of a filter, which consist of numbers only.
 ghost use Rattle.std.specs.Prelude.{◌≡◌, ℕ, None, Some};
 ghost use Rattle.std.specs.Option.{option_map};
-ghost use Rattle.ether_filter.specs.FilterProgram.{IsInstruction, primitive_numbered, relation_numbered, field_test_in, primitive_of, operator_numbered, node_of, plain_instruction};
+ghost use Rattle.ether_filter.specs.FilterProgram.{IsInstruction, primitive_numbered, relation_numbered, frame_relation_numbered, field_test_in, frame_test_of, frame_primitive as frame_primitive_of, primitive_of, operator_numbered, node_of, plain_instruction, test_instruction};
 ghost use Rattle.ether_filter.specs.Jumps.{is_of_more, is_other_id, is_tag_test, is_unseen_id};
 
 use crate::field_test::{FieldTest, Relation};
@@ -92,6 +92,27 @@ impl Instruction {
         }
     }
 
+    /// The test of what the capture says of a packet.
+    #[inline(always)]
+    pub(crate) fn frame_test(&self) -> Option<FieldTest>
+        ensures { result ≡ frame_test_of self.now }
+    {
+        match frame_relation(self.kind) {
+            Some(relation) => Some(self.field_test_with(relation)),
+            None => None,
+        }
+    }
+
+    /// .. as a primitive.
+    fn frame_primitive(&self) -> Option<Primitive>
+        ensures { result ≡ frame_primitive_of (frame_relation_numbered self.now.kind) self.now }
+    {
+        match frame_relation(self.kind) {
+            Some(relation) => Some(Primitive::Frame(self.field_test_with(relation))),
+            None => None,
+        }
+    }
+
     /// The primitive that the instruction tests; `None` for an operator.
     pub(crate) fn primitive(&self) -> Option<Primitive>
         ensures { result ≡ primitive_of self.now }
@@ -100,7 +121,7 @@ impl Instruction {
             Some(primitive) => Some(primitive),
             None => match self.field_test() {
                 Some(test) => Some(Primitive::Field(test)),
-                None => None,
+                None => self.frame_primitive(),
             },
         }
     }
@@ -194,18 +215,33 @@ pub(crate) fn of_primitive(primitive: Primitive) -> Instruction
         Primitive::Cut => plain(12, 0),
         Primitive::Less(len) => plain(13, u64::from(len)),
         Primitive::Greater(len) => plain(14, u64::from(len)),
-        Primitive::Field(test) => of_test(test),
+        Primitive::Field(test) => of_field_test(test),
+        Primitive::Frame(test) => of_frame_test(test),
     }
 }
 
 /// .. of a test of a field.
-fn of_test(test: FieldTest) -> Instruction
+fn of_field_test(test: FieldTest) -> Instruction
     ensures { primitive_of result ≡ Some (Primitive.Field test) }
+{
+    of_test(relation_number(test.relation), test)
+}
+
+/// .. of a test of what the capture says of a packet.
+fn of_frame_test(test: FieldTest) -> Instruction
+    ensures { primitive_of result ≡ Some (Primitive.Frame test) }
+{
+    of_test(frame_relation_number(test.relation), test)
+}
+
+/// .. of a test with this kind.
+fn of_test(kind: u8, test: FieldTest) -> Instruction
+    ensures { result ≡ test_instruction kind test }
 {
     Instruction {
         operand: test.value,
         mask: test.mask,
-        kind: relation_number(test.relation),
+        kind,
         field: test.field,
         first: test.first,
         count: test.count,
@@ -228,6 +264,37 @@ fn relation_number(relation: Relation) -> u8
         Relation::Greater => 23,
         Relation::AtLeast => 24,
     }
+}
+
+/// .. if it tests what the capture says of a packet.
+fn frame_relation_number(relation: Relation) -> u8
+    ensures number { frame_relation_numbered result ≡ Some relation }
+    ensures apart { (operand : ℕ) → primitive_numbered result operand ≡ None }
+    ensures no_field { relation_numbered result ≡ None }
+{
+    match relation {
+        Relation::Exists => 25,
+        Relation::Equal => 26,
+        Relation::NotEqual => 27,
+        Relation::Less => 28,
+        Relation::AtMost => 29,
+        Relation::Greater => 30,
+        Relation::AtLeast => 31,
+    }
+}
+
+/// The kinds that ask about headers by a word have numbers below this one.
+pub(crate) const LENGTH_KINDS: u8 = 12;
+
+/// The kinds of tests of what the capture says of a packet have numbers from this one on.
+pub(crate) const FRAME_KINDS: u8 = 25;
+
+/// The relation of the tests of what the capture says of a packet whose kind has this number.
+#[inline(always)]
+fn frame_relation(kind: u8) -> Option<Relation>
+    ensures { result ≡ frame_relation_numbered kind }
+{
+    relation(kind.saturating_sub(7))
 }
 
 /// The relation of the tests whose kind has this number.

@@ -1,18 +1,18 @@
 //! Whether a primitive matches a packet.
 ghost use Rattle.std.specs.Prelude.{◌≡◌, ◌↔◌, List, Some, None, IfSome, IfNone, IsTrue};
+ghost use Rattle.std.specs.Option.{option_map};
 ghost use Rattle.etherparse.specs.Header.{Header};
 ghost use Rattle.ether_peel.specs.Grammar.Stack.{Ending, Walk};
 ghost use Rattle.ether_peel.specs.Walker.Start.{start_of};
 ghost use Rattle.ether_filter.specs.declared.primitive.Primitive.{Primitive};
-ghost use Rattle.ether_filter.specs.FilterProgram.{primitive_numbered, primitive_of};
-ghost use Rattle.ether_filter.specs.Primitives.{Matches, walked};
-ghost use Rattle.ether_filter.specs.Deciding.{is_of_lengths as is_of_lengths_of};
+ghost use Rattle.ether_filter.specs.FieldTests.{frame_holds};
+ghost use Rattle.ether_filter.specs.FilterProgram.{capture_truth, frame_test_of, primitive_numbered, primitive_of};
+ghost use Rattle.ether_filter.specs.Primitives.{Matches, frame_of, walked};
 ghost use Rattle.ether_filter.specs.Seen.{length_truth, Shows};
 
-use crate::field_match::matches_field;
-use crate::instruction::{Instruction, of_primitive};
+use crate::field_match::{matches_field, matches_frame};
+use crate::instruction::{FRAME_KINDS, Instruction, LENGTH_KINDS};
 use crate::packet::Packet;
-use crate::primitive::Primitive;
 use crate::seen::{Seen, is_seen};
 
 /// Whether the primitive of an instruction matches a packet in which this was seen; `None` for an operator.
@@ -31,7 +31,7 @@ pub(crate) fn matches_instruction(
     if let Some(matches) = is_seen(instruction, seen, ids) {
         return Some(matches);
     }
-    if let Some(matches) = matches_lengths(instruction, packet) {
+    if let Some(matches) = matches_capture(instruction, packet) {
         return Some(matches);
     }
     match instruction.field_test() {
@@ -40,9 +40,35 @@ pub(crate) fn matches_instruction(
     }
 }
 
-/// Whether the primitive of an instruction matches a packet, if it asks about the packet's two lengths; else `None`.
+/// Whether the primitive of an instruction matches a packet, if it asks what the capture says of the packet; else
+/// `None`.
 #[inline(always)]
-pub(crate) fn matches_lengths(instruction: &Instruction, packet: &Packet<'_>) -> Option<bool>
+pub(crate) fn matches_capture(instruction: &Instruction, packet: &Packet<'_>) -> Option<bool>
+    ensures { result ≡ capture_truth instruction.now (frame_of packet.now) }
+{
+    if instruction.kind < LENGTH_KINDS {
+        return None;
+    }
+    if instruction.kind >= FRAME_KINDS {
+        return matches_frame_test(instruction, *packet);
+    }
+    matches_lengths(instruction, packet)
+}
+
+/// .. if it tests a field of the capture's.
+#[inline(never)]
+fn matches_frame_test(instruction: &Instruction, packet: Packet<'_>) -> Option<bool>
+    ensures { result ≡ option_map (λ t. frame_holds t (frame_of packet.entry)) (frame_test_of instruction.now) }
+{
+    match instruction.frame_test() {
+        Some(test) => Some(matches_frame(test, &packet)),
+        None => None,
+    }
+}
+
+/// .. if it has a word of its own, as `cut`.
+#[inline(always)]
+fn matches_lengths(instruction: &Instruction, packet: &Packet<'_>) -> Option<bool>
     ensures { result ≡ length_truth (primitive_numbered instruction.now.kind instruction.now.operand)
         packet.now.captured_len packet.now.original_len }
 {
@@ -53,31 +79,4 @@ pub(crate) fn matches_lengths(instruction: &Instruction, packet: &Packet<'_>) ->
         14 => Some(packet.original_len >= len),
         _ => None,
     }
-}
-
-/// Whether a primitive matches a packet in which this was seen.
-pub(crate) fn matches_primitive(
-    primitive: Primitive,
-    packet: &Packet<'_>,
-    seen: &Seen,
-    ids: &[u64],
-) -> bool
-    ensures { (hs : List Header) (e : Ending) → Walk (start_of packet.now.start) packet.now.frame.now hs e
-        → Shows (walked packet.now hs e) seen.now ids.now
-        → IsTrue result ↔ Matches primitive (walked packet.now hs e) }
-{
-    let Some(matches) = matches_instruction(&of_primitive(primitive), packet, seen, ids) else {
-        return false; // not reached: it is no operator
-    };
-    matches
-}
-
-/// Whether a primitive asks about the two lengths of a packet.
-pub(crate) fn is_of_lengths(primitive: Primitive) -> bool
-    ensures { result ≡ is_of_lengths_of primitive }
-{
-    matches!(
-        primitive,
-        Primitive::Cut | Primitive::Less(_) | Primitive::Greater(_)
-    )
 }

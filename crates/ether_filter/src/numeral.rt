@@ -1,5 +1,5 @@
 //! Numbers and addresses as words.
-ghost use Rattle.std.specs.Prelude.{◌≡◌, ◌+◌, ◌*◌, ◌^◌, ◌<◌, ◌≤◌, min, None, MatchOption, length, nat_eq, slice_index};
+ghost use Rattle.std.specs.Prelude.{◌≡◌, ◌+◌, ◌*◌, ◌^◌, ◌<◌, ◌≤◌, min, None, IfSome, MatchOption, length, nat_eq, slice_index};
 ghost use Rattle.std.specs.List.{list_all};
 ghost use Rattle.ether_filter.specs.Numerals.{digits_in, IsCapped, IsCappedNumber, whole_number_in, number_in, wide_number_in, narrowed as narrowed_of, colon_places, address_in};
 
@@ -73,6 +73,15 @@ pub(crate) fn hex_of(digits: &[u8]) -> Option<u64>
     ensures { result ≡ digits_in 16 digits.now }
 {
     narrowed(digits_of(digits, 16))
+}
+
+/// The number of up to nine decimal digits.
+pub(crate) fn decimal_of(digits: &[u8]) -> Option<u64>
+    requires { length digits.now ≤ 9 }
+    ensures value { result ≡ digits_in 10 digits.now }
+    ensures few { IfSome result (λ number. number < 1000000000) }
+{
+    narrowed(digits_of(digits, 10))
 }
 
 /// A number, if it fits in 64 bits.

@@ -38,6 +38,8 @@ pub enum Primitive {
     Greater(u32),
     /// A test of a field, as `vlan.vid == 5`
     Field(FieldTest),
+    /// A test of what the capture says of the packet, as `frame.original >= 64`
+    Frame(FieldTest),
 }
 
 impl Default for Primitive {

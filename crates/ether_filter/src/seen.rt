@@ -25,7 +25,7 @@ pub(crate) struct Addresses {
 /// What the headers of a packet show, except for the identifiers of three VLAN tags or more.
 #[derive(Clone, Copy)]
 pub(crate) struct Seen {
-    is_refused: bool,
+    pub is_refused: bool,
     has_sec_tag: bool,
     has_arp: bool,
     /// Whether there are three VLAN tags or more.
@@ -34,9 +34,9 @@ pub(crate) struct Seen {
     types: TagTypes,
     link: Option<Addresses>,
     /// The ether type that is announced after the last header.
-    last: Option<u16>,
+    pub last: Option<u16>,
     /// The identifier of the first VLAN tag.
-    outer: Option<u16>,
+    pub outer: Option<u16>,
     /// The identifier of the last VLAN tag, if there are two or more.
     inner: Option<u16>,
 }
@@ -98,7 +98,7 @@ pub(crate) fn look(start: Start, frame: &[u8], seen: &mut Seen, ids: &mut [u64])
 
 /// Adds what a further header shows, which this ether type announces.
 #[inline(always)]
-fn take(seen: &mut Seen, ids: &mut [u64], fields: Fields, announced: Option<u16>)
+pub(crate) fn take(seen: &mut Seen, ids: &mut [u64], fields: Fields, announced: Option<u16>)
     ensures taken { IsTaken seen.old fields announced seen.new }
     ensures marked { AreMarked ids.old (tag_id fields) ids.new }
     ensures len { length ids.new ≡ length ids.old }

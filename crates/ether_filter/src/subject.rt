@@ -1,12 +1,13 @@
 //! What a test of a field asks about, and the values that it takes.
-ghost use Rattle.std.specs.Prelude.{◌≡◌, ◌≤◌, map};
+ghost use Rattle.std.specs.Prelude.{◌≡◌, ◌≤◌, length, map};
 ghost use Rattle.std.specs.Option.{option_map};
 ghost use Rattle.ether_fields.specs.Fields.{field_view, section_rows};
-ghost use Rattle.ether_filter.specs.Subjects.{subject_in, subject_if, sliced as sliced_of, has_slice as has_slice_of, subject_of as subject_of_row, row_named, row_in, row_among, field_found, takes_of as takes_of_row, greatest_in_bits, greatest_in_bytes, number_for as number_for_of, bytes_for as bytes_for_of, test_with, tested as tested_of};
+ghost use Rattle.ether_filter.specs.Subjects.{subject_in, subject_if, sliced as sliced_of, has_slice as has_slice_of, subject_of as subject_of_row, row_named, row_in, row_among, field_found, takes_of as takes_of_row, greatest_in_bits, greatest_in_bytes, number_for as number_for_of, bytes_for as bytes_for_of, time_for as time_for_of, name_for as name_for_of, unnumbered_subject as unnumbered_subject_of, test_with, tested as tested_of};
 
 use crate::byte_text::{place_of, slice_of};
 use crate::field_test::{FieldTest, Relation};
 use crate::primitive::Primitive;
+use ether_base::big_endian::u64_in;
 use ether_fields::{Extent, Field, Kind, Section};
 
 /// Which values a field takes.
@@ -18,6 +19,10 @@ pub(crate) enum Takes {
     Bytes(u8),
     /// Any number of bytes.
     AnyBytes,
+    /// Times.
+    Time,
+    /// The names of headers.
+    Header,
 }
 
 /// A field, or a part of its bytes.
@@ -35,7 +40,7 @@ pub(crate) struct Subject {
 /// What a field is compared with.
 #[derive(Clone, Copy)]
 pub(crate) struct Literal {
-    /// The number of bytes, or 0 for a number.
+    /// The number of bytes, or 0 for a number or a time.
     pub len: u8,
     pub number: u64,
 }
@@ -70,6 +75,9 @@ impl Subject {
 pub(crate) fn tested(test: FieldTest) -> Primitive
     ensures { result ≡ tested_of test }
 {
+    if test.field >= 253 {
+        return Primitive::Frame(test);
+    }
     match test.relation {
         Relation::Exists if test.field == 11 => Primitive::Vlan,
         Relation::Equal if test.count == 0 && test.mask == u64::MAX => match test.field {
@@ -104,6 +112,33 @@ impl Takes {
             _ => None,
         }
     }
+
+    /// The value that the name of a header is, if the field takes it.
+    pub(crate) fn name(self, name: &[u8]) -> Option<Literal>
+        requires { length name.now ≤ 8 }
+        ensures { result ≡ name_for_of self name.now }
+    {
+        match self {
+            Takes::Header => Some(Literal {
+                len: name.len() as u8,
+                number: u64_in(name),
+            }),
+            _ => None,
+        }
+    }
+
+    /// The value that a time is, if the field takes it.
+    pub(crate) fn time(self, time: u64) -> Option<Literal>
+        ensures { result ≡ time_for_of self time }
+    {
+        match self {
+            Takes::Time => Some(Literal {
+                len: 0,
+                number: time,
+            }),
+            _ => None,
+        }
+    }
 }
 
 /// The greatest number in so many bytes, up to eight.
@@ -129,7 +164,41 @@ pub(crate) fn subject_of(word: &[u8]) -> Option<Subject>
 {
     match place_of(word, b'[') {
         Some(at) => sliced(name_of(&word[..at])?, slice_of(&word[at..])?),
-        None => name_of(word),
+        None => match unnumbered_subject(word) {
+            Some(subject) => Some(subject),
+            None => name_of(word),
+        },
+    }
+}
+
+/// The names of headers, or what a capture says of a packet, with this name as a column.
+fn unnumbered_subject(name: &[u8]) -> Option<Subject>
+    ensures { result ≡ unnumbered_subject_of name.now }
+{
+    if name == b"headers.header".as_slice() {
+        return Some(whole_subject(252, Takes::Header));
+    }
+    if name == b"frame.time".as_slice() {
+        return Some(whole_subject(253, Takes::Time));
+    }
+    if name == b"frame.captured".as_slice() {
+        return Some(whole_subject(254, Takes::Number(u32::MAX)));
+    }
+    if name == b"frame.original".as_slice() {
+        return Some(whole_subject(255, Takes::Number(u32::MAX)));
+    }
+    None
+}
+
+/// The whole of the field with this number.
+fn whole_subject(field: u8, takes: Takes) -> Subject
+    ensures { result ≡ record { field = field; first = 0; count = 0; takes = takes } }
+{
+    Subject {
+        field,
+        first: 0,
+        count: 0,
+        takes,
     }
 }
 
@@ -164,6 +233,7 @@ fn has_slice(takes: Takes, first: u8, count: u8) -> bool
         Takes::Number(_) => false,
         Takes::Bytes(len) => u16::from(first) + u16::from(count) <= u16::from(len),
         Takes::AnyBytes => true,
+        Takes::Time | Takes::Header => false,
     }
 }
 

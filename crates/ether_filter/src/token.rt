@@ -7,6 +7,7 @@ use crate::field_test::Relation;
 use crate::node::Operator;
 use crate::numeral::{address_of, wide_number_of};
 use crate::subject::{Literal, Subject, subject_of};
+use crate::time_text::time_of;
 
 /// What a word of an expression means.
 #[derive(Clone, Copy)]
@@ -19,6 +20,8 @@ pub(crate) enum Token {
     Outer,
     Inner,
     Macsec,
+    Eth,
+    Sll,
     Arp,
     Ip,
     Ip6,
@@ -38,6 +41,8 @@ pub(crate) enum Token {
     Address(u64),
     /// The bytes of a value, other than those of an address.
     Bytes(Literal),
+    /// The nanoseconds since the beginning of 1970.
+    Time(u64),
     Field(Subject),
     Relation(Relation),
     /// `&`
@@ -57,7 +62,7 @@ struct Keyword {
     token: Token,
 }
 
-const KEYWORDS: [Keyword; 37] = [
+const KEYWORDS: [Keyword; 40] = [
     Keyword {
         spelling: b"(",
         token: Token::Open,
@@ -107,6 +112,14 @@ const KEYWORDS: [Keyword; 37] = [
         token: Token::Macsec,
     },
     Keyword {
+        spelling: b"eth",
+        token: Token::Eth,
+    },
+    Keyword {
+        spelling: b"sll",
+        token: Token::Sll,
+    },
+    Keyword {
         spelling: b"arp",
         token: Token::Arp,
     },
@@ -148,6 +161,10 @@ const KEYWORDS: [Keyword; 37] = [
     },
     Keyword {
         spelling: b"refused",
+        token: Token::Refused,
+    },
+    Keyword {
+        spelling: b"fault",
         token: Token::Refused,
     },
     Keyword {
@@ -223,6 +240,9 @@ pub(crate) fn token_of(word: &[u8]) -> Token
     }
     if let Some(subject) = subject_of(word) {
         return Token::Field(subject);
+    }
+    if let Some(time) = time_of(word) {
+        return Token::Time(time);
     }
     match wide_number_of(word) {
         Some(number) => Token::Number(number),

@@ -18,10 +18,10 @@ use Rattle.ether_stream.proofs.CopiesLemmas.{is_copy}
 
 -- ---- both expressions hold of one walk
 
-holds_both : (x y : Expression) (next : Next) (frame : List ℕ) (captured original : ℕ)
-    → HoldsOf x next frame captured original → HoldsOf y next frame captured original
-    → HoldsOf (Join And x y) next frame captured original
-holds_both x y next frame captured original a b = search (rules, one_stack)
+holds_both : (x y : Expression) (next : Next) (frame : List ℕ) (captured original : ℕ) (time : Option ℕ)
+    → HoldsOf x next frame captured original time → HoldsOf y next frame captured original time
+    → HoldsOf (Join And x y) next frame captured original time
+holds_both x y next frame captured original time a b = search (rules, one_stack)
 
 selects_both : (x y : Expression) (p : PacketValue) → (Selects x p × Selects y p) ↔ Selects (Join And x y) p
 selects_both x y p = search (rules, walked_once, holds_both)

@@ -6,4 +6,5 @@ pub mod MadeLemmas
 pub mod ProgressLemmas
 pub mod RunLemmas
 pub mod VlanOptionLemmas
+pub mod Uncut
 pub mod CompositionLemmas

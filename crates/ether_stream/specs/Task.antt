@@ -1,14 +1,15 @@
 -- What is made of a capture.
-use Rattle.std.specs.Prelude.{◌<◌, ◌⊎◌, ◌&&◌, ◌||◌, not, ℕ, Bool, true, false, Option, None, Some, unwrap_or, ⊤}
+use Rattle.std.specs.Prelude.{◌<◌, ◌⊎◌, ℕ, Bool, true, false, Option, None, Some, unwrap_or, ⊤}
 use Rattle.std.specs.Int.NonZero.{non_zero_usize_get}
 use Rattle.std.specs.Option.{option_map}
 use Rattle.ether_stream.specs.declared.selection.Selection.{Selection}
 use Rattle.ether_stream.specs.declared.selection.Undecided.{Undecided}
+use Rattle.ether_filter.specs.Expressions.{Expression}
 use Rattle.ether_pcap.specs.Capture.{PacketValue}
 use Rattle.ether_pcap.specs.CopiedUnits.{ModeValue, copy_mode_view}
 use Rattle.ether_content.specs.Editing.{EditValue}
 use Rattle.ether_content.specs.EditingViews.{edit_view}
-use Rattle.ether_content.specs.Selecting.{IsUndecided, Selects}
+use Rattle.ether_content.specs.Selecting.{IsSettled, IsUndecided, Selects}
 use Rattle.ether_stream.specs.declared.selection.Undecided.TheVariants.{Dropped, Kept}
 use Rattle.ether_stream.specs.declared.task.Form.{Form}
 use Rattle.ether_stream.specs.declared.task.Form.TheVariants as forms
@@ -48,22 +49,22 @@ abbrev pub IsOpen : (select : Option Selection) → PacketValue → Type 0
 IsOpen None p = ⊥
 IsOpen (Some s) p = IsUndecided s.filter p
 
--- these are chosen of those that an expression selects: all, by the captured bytes; those that are undecided, too; or
--- without these
-abbrev pub IsChosenOf : (undecided : Option Undecided) → (is_selected is_undecided : Type 0) → Type 0
-IsChosenOf None is_selected is_undecided = is_selected
-IsChosenOf (Some Kept) is_selected is_undecided = is_selected ⊎ is_undecided
-IsChosenOf (Some Dropped) is_selected is_undecided = is_selected × ¬ is_undecided
+-- These are chosen: those that a filter selects by the captured bytes; those that it may select, whatever the missing
+-- bytes are; or those that it selects in any case.
+abbrev pub IsChosenOf : (undecided : Option Undecided) → Expression → PacketValue → Type 0
+IsChosenOf None x p = Selects x p
+IsChosenOf (Some Kept) x p = IsSettled x p true ⊎ IsUndecided x p
+IsChosenOf (Some Dropped) x p = IsSettled x p true
 
 -- the packets that are chosen, or all
 abbrev pub IsChosen : (select : Option Selection) → PacketValue → Type 0
 IsChosen None p = ⊤
-IsChosen (Some s) p = IsChosenOf s.undecided (Selects s.filter p) (IsUndecided s.filter p)
+IsChosen (Some s) p = IsChosenOf s.undecided s.filter p
 
--- .. by flags
-abbrev pub chosen_by : Undecided → (is_selected is_undecided : Bool) → Bool
-chosen_by Kept is_selected is_undecided = is_selected || is_undecided
-chosen_by Dropped is_selected is_undecided = is_selected && not is_undecided
+-- .. by whether a packet is selected, if that is decided
+abbrev pub chosen_by : Undecided → (is_selected : Option Bool) → Bool
+chosen_by Kept is_selected = unwrap_or is_selected true
+chosen_by Dropped is_selected = unwrap_or is_selected false
 
 -- this is less than the number of packets that are asked for, if that is limited
 abbrev pub IsBelow : (count : Option ℕ) → ℕ → Type 0

@@ -3,7 +3,7 @@ ghost use Rattle.std.specs.Prelude.{◌≡◌, ◌↔◌, IsTrue, Some};
 ghost use Rattle.ether_pcap.specs.CaptureViews.{captured_packet_view};
 ghost use Rattle.ether_stream.specs.Task.{IsChosen, IsOpen, chosen_by};
 
-use ether_content::{is_undecided, selects};
+use ether_content::{decide, is_cut, is_undecided, selects};
 use ether_filter::Filter;
 use ether_pcap::CapturedPacket;
 
@@ -27,13 +27,13 @@ pub enum Undecided {
 }
 
 impl Undecided {
-    /// Whether a packet is chosen, by whether it is selected, and whether it is undecided.
-    fn chooses(self, is_selected: bool, is_undecided: bool) -> bool
-        ensures { result ≡ chosen_by self is_selected is_undecided }
+    /// Whether a packet is chosen, by whether it is selected; `None` if that is undecided.
+    fn chooses(self, is_selected: Option<bool>) -> bool
+        ensures { result ≡ chosen_by self is_selected }
     {
         match self {
-            Undecided::Kept => is_selected || is_undecided,
-            Undecided::Dropped => is_selected && !is_undecided,
+            Undecided::Kept => is_selected.unwrap_or(true),
+            Undecided::Dropped => is_selected.unwrap_or(false),
         }
     }
 }
@@ -43,10 +43,9 @@ impl Selection {
     pub fn chooses(&self, packet: &CapturedPacket<'_>) -> bool
         ensures { IsTrue result ↔ IsChosen (Some self.now) (captured_packet_view packet.now) }
     {
-        let is_selected = selects(&self.filter, packet);
         match self.undecided {
-            None => is_selected,
-            Some(undecided) => undecided.chooses(is_selected, self.leaves_open(packet)),
+            None => selects(&self.filter, packet),
+            Some(undecided) => undecided.chooses(decide(&self.filter, packet)),
         }
     }
 
@@ -55,6 +54,6 @@ impl Selection {
     pub fn leaves_open(&self, packet: &CapturedPacket<'_>) -> bool
         ensures { IsTrue result ↔ IsOpen (Some self.now) (captured_packet_view packet.now) }
     {
-        is_undecided(&self.filter, packet)
+        is_cut(packet) && is_undecided(&self.filter, packet)
     }
 }

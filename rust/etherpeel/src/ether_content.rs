@@ -12,4 +12,4 @@ pub use content::{Content, is_cut, without_fcs};
 pub use cooked::CookedHeader;
 pub use editing::{EditedPacket, NoRoom, PacketEdit, edit_packet};
 pub use header_lengths::headers_len;
-pub use selecting::{is_undecided, selects};
+pub use selecting::{decide, is_undecided, selects};

@@ -104,7 +104,8 @@ table! {
 table! {
     [Clone Copy PartialEq Eq Hash]
         ether_filter::Decision, ether_filter::FilterErrorKind, ether_filter::Instruction, ether_filter::Node,
-        ether_filter::FieldTest, ether_filter::Operator, ether_filter::Primitive, ether_filter::Relation;
+        ether_filter::FieldTest, ether_filter::Operator, ether_filter::PacketTime, ether_filter::Primitive,
+        ether_filter::Relation;
     [Clone Copy PartialEq Eq Hash Error] ether_filter::FilterError;
     [Clone Copy PartialEq Eq] ether_filter::Packet<'static>;
     [Clone PartialEq Eq Hash] ether_filter::Filter;

@@ -13,8 +13,8 @@ pub struct EtherFilterError {
     pub offset: usize,
     /// Expected is 1 a primitive, 2 an operator, 3 `vlan`, 4 a word after `ether`, 5 an address, 6 a number, 11 an
     /// identifier after `vlan` or an operator, 12 a relation, 13 a relation after a field or an operator, 14 bytes of
-    /// a given number, 15 bytes, 16 `{`, 17 `,` or `}`. 7 mixed operators, 8 a `)` without a `(`, 9 a `(` without a `)`,
-    /// 10 too many words.
+    /// a given number, 15 bytes, 16 `{`, 17 `,` or `}`, 18 a time, 19 the name of a header. 7 mixed operators, 8 a `)`
+    /// without a `(`, 9 a `(` without a `)`, 10 too many words.
     pub kind: u32,
     /// The greatest number that is expected, in the kinds 6 and 11; the number of bytes, in the kind 14; else 0.
     pub greatest: u32,
@@ -54,6 +54,8 @@ fn kind_number(kind: FilterErrorKind) -> u32 {
         FilterErrorKind::ExpectedAnyBytes => 15,
         FilterErrorKind::ExpectedSet => 16,
         FilterErrorKind::ExpectedSetEnd => 17,
+        FilterErrorKind::ExpectedTime => 18,
+        FilterErrorKind::ExpectedHeader => 19,
     }
 }
 

@@ -3,7 +3,7 @@
 use crate::selecting::{mark, put_marks};
 use crate::statuses::{BAD_FILTER, DONE};
 use crate::{EtherCaptured, EtherFilter, EtherFilterError};
-use etherpeel::ether_content::program::is_undecided;
+use etherpeel::ether_content::program::decide;
 use etherpeel::ether_filter::Filter;
 
 /// What `etherpeel_filter_decide` returns if the captured bytes of a packet do not decide whether the filter selects
@@ -53,7 +53,7 @@ pub extern "C" fn etherpeel_filter_matches(filter: &EtherFilter, packet: &EtherC
     u32::from(mark(filter.program(), packet))
 }
 
-/// 1 if a filter selects a packet, 0 if it does not, 2 if the captured bytes do not decide that.
+/// 1 if a filter selects a packet, and 0 if it does not, whatever its missing bytes are; else 2.
 ///
 /// <details><summary>Contract</summary>
 ///
@@ -64,10 +64,10 @@ pub extern "C" fn etherpeel_filter_matches(filter: &EtherFilter, packet: &EtherC
 /// </details>
 #[unsafe(no_mangle)]
 pub extern "C" fn etherpeel_filter_decide(filter: &EtherFilter, packet: &EtherCaptured<'_>) -> u32 {
-    if is_undecided(filter.program(), &packet.to_packet()) {
-        return UNDECIDED;
+    match decide(filter.program(), &packet.to_packet()) {
+        Some(is_selected) => u32::from(is_selected),
+        None => UNDECIDED,
     }
-    u32::from(mark(filter.program(), packet))
 }
 
 /// Writes for each packet 1 if a filter selects it, else 0.

@@ -56,9 +56,13 @@ const RELATIONS: [Relation; 6] =
     [Relation::Equal, Relation::NotEqual, Relation::Less, Relation::AtMost, Relation::Greater, Relation::AtLeast];
 
 /// Tests of a field: that there is a value, and comparisons with a value of the packet, if there is one, or with 1.
-fn field_tests(column: &Column, walk: &Walk) -> Vec<FieldTest> {
+fn field_tests(column: &Column, packet: &Captured, walk: &Walk) -> Vec<FieldTest> {
     let subject = Subject { column: column.number, first: 0, count: 0, takes: column.takes };
-    let value = fields::values(column, walk).pop();
+    let value = match column.number {
+        fields::CAPTURED => Some(Value::Number(packet.captured_len as u64)),
+        fields::ORIGINAL => Some(Value::Number(packet.original_len.into())),
+        _ => fields::values(column, walk).pop(),
+    };
     let (len, number) = match (value, column.takes) {
         (Some(Value::Number(number)), _) => (0, number),
         (Some(Value::Bytes(bytes)), _) if (2..=8).contains(&bytes.len()) => {
@@ -90,7 +94,7 @@ impl Pool {
             types: [ether_types(packet.frame.start, &walk), vec![0x0800, 0x86DD, 0x0806, 0x8100, 0x88A8, 0]].concat(),
             addresses: vec![to, from, 0x0200_0000_0001, to ^ 1],
             lengths: vec![original.saturating_sub(1), original, original.saturating_add(1), 64],
-            fields: fields::COLUMNS.iter().flat_map(|column| field_tests(column, &walk)).collect(),
+            fields: fields::COLUMNS.iter().flat_map(|column| field_tests(column, packet, &walk)).collect(),
         }
     }
 
@@ -223,7 +227,7 @@ impl Style {
             Primitive::Cut => "cut".into(),
             Primitive::Less(len) => format!("less {}", self.number(len.into())),
             Primitive::Greater(len) => format!("greater {}", self.number(len.into())),
-            Primitive::Field(test) => self.field(&test),
+            Primitive::Field(test) | Primitive::Frame(test) => self.field(&test),
         }
     }
 

@@ -80,11 +80,14 @@ const fn column(name: &'static str, number: u8, takes: Takes, value: fn(&Header)
     Column { name, number, takes, value }
 }
 
+pub const CAPTURED: u8 = 254;
+pub const ORIGINAL: u8 = 255;
 const BIT: Takes = Takes::Number(1);
 const TYPE: Takes = Takes::Number(0xFFFF);
 
-/// The fields, with the names of the standards' abbreviations.
-pub static COLUMNS: [Column; 30] = [
+/// The fields, with the names of the standards' abbreviations. No header gives the last two: they are the lengths of the
+/// packet.
+pub static COLUMNS: [Column; 32] = [
     column("eth.dst", 1, Takes::Bytes(6), |it| Some(bytes(&ethernet(it)?.destination))),
     column("eth.src", 2, Takes::Bytes(6), |it| Some(bytes(&ethernet(it)?.source))),
     column("eth.type", 3, TYPE, |it| Some(number(ethernet(it)?.ether_type))),
@@ -115,6 +118,8 @@ pub static COLUMNS: [Column; 30] = [
     column("arp.spa", 31, Takes::AnyBytes, |it| Some(bytes(&arp(it)?.sender_protocol))),
     column("arp.tha", 32, Takes::AnyBytes, |it| Some(bytes(&arp(it)?.target_hardware))),
     column("arp.tpa", 33, Takes::AnyBytes, |it| Some(bytes(&arp(it)?.target_protocol))),
+    column("frame.captured", CAPTURED, Takes::Number(u32::MAX), |_| None),
+    column("frame.original", ORIGINAL, Takes::Number(u32::MAX), |_| None),
 ];
 
 impl Takes {
@@ -151,6 +156,7 @@ pub fn primitive(test: FieldTest) -> Primitive {
         (11, Relation::Equal) if is_whole => Primitive::VlanId(test.value as u16),
         (1, Relation::Equal) if is_whole => Primitive::Destination(test.value),
         (2, Relation::Equal) if is_whole => Primitive::Source(test.value),
+        (CAPTURED | ORIGINAL, _) => Primitive::Frame(test),
         _ => Primitive::Field(test),
     }
 }
@@ -195,6 +201,12 @@ fn is_related(test: &FieldTest, value: &Value) -> bool {
         Relation::Greater => number > test.value,
         Relation::AtLeast => number >= test.value,
     }
+}
+
+/// Whether a test holds where this number is the only value.
+pub fn matches_number(test: &FieldTest, number: u64) -> bool {
+    let is_related = is_related(test, &Value::Number(number));
+    if test.relation == Relation::NotEqual { !is_related } else { is_related }
 }
 
 /// Whether a test holds of a packet with this walk.

@@ -3,11 +3,12 @@
 //! Each primitive is about the whole packet: all headers of its walk, the end of the walk, and its two lengths. The
 //! crate documents this; in pcap-filter(7) `vlan` changes where later words look.
 
+use crate::completions;
 use crate::fields;
 use crate::frames::Frame;
 use crate::walk::{Start, Walk};
 use crate::wire::{Header, Layer, number};
-use etherpeel::ether_filter::{Decision, Node, Operator, Packet, Primitive, Relation};
+use etherpeel::ether_filter::{Decision, FieldTest, Node, Operator, Packet, Primitive, Relation};
 
 /// An expression as a tree.
 #[derive(Clone, PartialEq, Eq, Debug)]
@@ -45,6 +46,7 @@ impl Captured {
             frame: &self.frame.bytes,
             captured_len: self.captured_len,
             original_len: self.original_len,
+            time: None,
         }
     }
 
@@ -103,6 +105,10 @@ pub fn matches(primitive: Primitive, packet: &Captured, walk: &Walk) -> bool {
         Primitive::Less(len) => packet.original_len <= len,
         Primitive::Greater(len) => packet.original_len >= len,
         Primitive::Field(test) => fields::matches(&test, walk),
+        Primitive::Frame(test) if test.field == fields::CAPTURED => {
+            fields::matches_number(&test, packet.captured_len as u64)
+        }
+        Primitive::Frame(test) => fields::matches_number(&test, packet.original_len.into()),
     }
 }
 
@@ -120,45 +126,37 @@ fn opening(packet: &Captured, walk: &Walk) -> Option<(Option<Layer>, usize)> {
     (named <= whole).then_some((Some(layer), named))
 }
 
-/// Whether headers from this one on can make a primitive true or false.
-fn can_tell(layer: Layer, primitive: Primitive) -> bool {
-    let is_of_addresses = matches!(
-        primitive,
-        Primitive::Source(_)
-            | Primitive::Destination(_)
-            | Primitive::Host(_)
-            | Primitive::Broadcast
-            | Primitive::Multicast
-    ) || matches!(primitive, Primitive::Field(test) if test.field <= 3);
-    match layer {
-        Layer::Ethernet => true,
-        // it is the last header, and announces nothing
-        Layer::Arp => primitive == Primitive::Refused || matches!(primitive, Primitive::Field(_)) && !is_of_addresses,
-        _ => !is_of_addresses, // only a frame begins with an Ethernet header
-    }
+/// Whether headers from this one on can make a test of a field true or false. Fields up to 3 are of an Ethernet header.
+fn can_tell(layer: Layer, test: &FieldTest) -> bool {
+    layer == Layer::Ethernet || test.field > 3
 }
 
-/// Whether the headers so far decide a primitive, whatever follows them.
-fn is_decided(primitive: Primitive, packet: &Captured, walk: &Walk) -> bool {
-    match primitive {
-        Primitive::OuterVlan(_) => !vlan_ids(walk).is_empty(),
-        Primitive::InnerVlan(_) | Primitive::Refused => false,
-        Primitive::Field(test) if test.relation == Relation::NotEqual => false,
-        _ => matches(primitive, packet, walk),
-    }
-}
-
-/// What is known of a primitive if bytes are missing.
-fn known(primitive: Primitive, packet: &Captured, walk: &Walk) -> Option<bool> {
-    let truth = Some(matches(primitive, packet, walk));
-    if matches!(primitive, Primitive::Cut | Primitive::Less(_) | Primitive::Greater(_)) {
-        return truth;
-    }
+/// What is known of a test of a field if bytes are missing.
+fn known_field(test: &FieldTest, packet: &Captured, walk: &Walk) -> Option<bool> {
+    let holds = fields::matches(test, walk);
+    let truth = Some(holds);
     match opening(packet, walk) {
         None => truth,
         Some((None, _)) => None,
-        Some((Some(layer), _)) if can_tell(layer, primitive) && !is_decided(primitive, packet, walk) => None,
+        Some((Some(layer), _)) if can_tell(layer, test) && !(holds && test.relation != Relation::NotEqual) => None,
         Some(_) => truth,
+    }
+}
+
+/// The decision on a primitive. It needs bytes if some completed packet matches and some does not.
+fn decision_on(primitive: Primitive, packet: &Captured, walk: &Walk) -> Decision {
+    let of_lengths =
+        matches!(primitive, Primitive::Cut | Primitive::Less(_) | Primitive::Greater(_) | Primitive::Frame(_));
+    let value = match primitive {
+        Primitive::Field(test) => known_field(&test, packet, walk),
+        _ if of_lengths => Some(matches(primitive, packet, walk)),
+        _ => completions::known(packet, primitive),
+    };
+    match (value, primitive) {
+        (Some(true), _) => Decision::Matches,
+        (Some(false), _) => Decision::Fails,
+        (None, Primitive::Field(_)) => Decision::Needs(opening(packet, walk).expect("a header can follow").1),
+        (None, _) => Decision::Needs(completions::needed(packet, primitive)),
     }
 }
 
@@ -173,31 +171,42 @@ impl Expression {
         }
     }
 
-    /// The truth, or `None` if it is unknown: `and` is the least and `or` the greatest of false, unknown, true (Kleene,
-    /// "Introduction to Metamathematics", section 64).
-    pub fn value(&self, packet: &Captured, walk: &Walk) -> Option<bool> {
-        let rank = |value: Option<bool>| value.map_or(1, |truth| 2 * u8::from(truth));
+    /// The decision on a packet that may lack bytes: `and` is the least and `or` the greatest of false, unknown, true
+    /// (Kleene, "Introduction to Metamathematics", section 64). Of what unknown operands need it is the least.
+    pub fn decision(&self, packet: &Captured) -> Decision {
+        self.decision_by(packet, &packet.walk())
+    }
+
+    fn decision_by(&self, packet: &Captured, walk: &Walk) -> Decision {
+        let rank = |decision: Decision| match decision {
+            Decision::Fails => (0, 0),
+            Decision::Needs(needed) => (1, needed),
+            Decision::Matches => (2, 0),
+        };
         match self {
-            Expression::Test(primitive) => known(*primitive, packet, walk),
-            Expression::Not(inner) => inner.value(packet, walk).map(|truth| !truth),
+            Expression::Test(primitive) => decision_on(*primitive, packet, walk),
+            Expression::Not(inner) => match inner.decision_by(packet, walk) {
+                Decision::Matches => Decision::Fails,
+                Decision::Fails => Decision::Matches,
+                needs => needs,
+            },
             Expression::Join(operator, left, right) => {
-                let (left, right) = (left.value(packet, walk), right.value(packet, walk));
-                match operator {
-                    Operator::And => [left, right].into_iter().min_by_key(|&value| rank(value)).flatten(),
-                    Operator::Or => [left, right].into_iter().max_by_key(|&value| rank(value)).flatten(),
-                }
+                let both = [left.decision_by(packet, walk), right.decision_by(packet, walk)];
+                let least = both.into_iter().min_by_key(|&it| rank(it));
+                let greatest = both.into_iter().max_by_key(|&it| (rank(it).0, usize::MAX - rank(it).1));
+                if *operator == Operator::And { least } else { greatest }.expect("one of two")
             }
         }
     }
 
-    /// The decision on a packet that may lack bytes.
-    pub fn decision(&self, packet: &Captured) -> Decision {
-        let walk = packet.walk();
-        match (self.value(packet, &walk), opening(packet, &walk)) {
-            (Some(true), _) => Decision::Matches,
-            (Some(false), _) => Decision::Fails,
-            (None, Some((_, needed))) => Decision::Needs(needed),
-            (None, None) => panic!("each primitive is known if no header can follow"),
+    /// Whether the expression asks for the captured length, which is another number if more bytes are captured.
+    pub fn asks_captured(&self) -> bool {
+        match self {
+            Expression::Test(primitive) => {
+                matches!(primitive, Primitive::Frame(test) if test.field == fields::CAPTURED)
+            }
+            Expression::Not(inner) => inner.asks_captured(),
+            Expression::Join(_, left, right) => left.asks_captured() || right.asks_captured(),
         }
     }
 

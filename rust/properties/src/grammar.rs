@@ -332,7 +332,7 @@ impl<'a> Reader<'a> {
             b"arp" => Ok(Primitive::EtherType(0x0806)),
             b"ip" => Ok(Primitive::EtherType(0x0800)),
             b"ip6" => Ok(Primitive::EtherType(0x86DD)),
-            b"refused" => Ok(Primitive::Refused),
+            b"refused" | b"fault" => Ok(Primitive::Refused),
             b"cut" => Ok(Primitive::Cut),
             b"less" => Ok(Primitive::Less(self.number(u32::MAX)?)),
             b"greater" => Ok(Primitive::Greater(self.number(u32::MAX)?)),

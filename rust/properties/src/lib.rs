@@ -8,6 +8,7 @@
 //! - [`walk`]: the headers of a frame, each in the payload of the one before it
 //! - [`stream`]: what a reader of a stream asks for, and what completes a frame that was cut
 //! - [`filter`], [`grammar`]: expressions of pcap-filter(7), evaluated and read
+//! - [`completions`]: what the missing bytes of a packet can be
 //! - [`bridge`], [`table`]: a bridge with VLANs, and the table of its stations
 //!
 //! The models of filters and of bridges take enumerations of the crate, such as `Primitive` and `Discarded`, as names.
@@ -20,6 +21,7 @@
 pub mod arp;
 pub mod bridge;
 pub mod cases;
+pub mod completions;
 pub mod cooked;
 pub mod expressions;
 pub mod fields;

@@ -1,13 +1,12 @@
 //! Filters: `ether_filter`.
 
 use etherpeel::ether_filter::{Decision, Filter, FilterError, Node, filter_program, number_of};
-use properties::cases::{Checked, check};
+use properties::cases::check;
 use properties::expressions::{
     captured, changed_text, letter_text, long_text, numeral, primitives, questions, style, word_text,
 };
-use properties::filter::{Captured, Expression};
+use properties::filter::Expression;
 use properties::grammar;
-use properties::walk::Start;
 use proptest::collection::vec;
 use proptest::prelude::{any, prop_assert, prop_assert_eq, prop_oneof};
 
@@ -104,8 +103,9 @@ fn filters_match_where_expressions_hold() {
     });
 }
 
-/// A filter decides on a packet that lacks bytes as Kleene's logic does. A primitive is unknown if the header that was
-/// cut, or one after it, could still change its answer.
+/// A filter decides on a packet that lacks bytes as Kleene's logic does. A primitive needs bytes exactly if some missing
+/// bytes make it match and others do not, and names the least length with which some bytes decide it. (A test of a field
+/// needs bytes if the header that was cut, or one after it, could still change its answer.)
 ///
 /// Holds: `Filter::decide`, `filter_program::decide`
 #[test]
@@ -126,10 +126,13 @@ fn filters_decide_on_cut_packets() {
 #[test]
 fn decisions_hold_for_all_missing_bytes() {
     let more = prop_oneof![vec(any::<u8>(), 0..40), vec(0..9u8, 0..40)];
-    check((questions(), style(), more), |((packet, expression), style, more)| {
+    check((questions(), style(), more), |((packet, expression), style, mut more)| {
+        if packet.lost() > 3000 {
+            return Ok(()); // too long to be completed
+        }
         let filter = filter(&expression, style);
-        let more = &more[..more.len().min(packet.lost())];
-        let completed = packet.longer(more, 0);
+        more.resize(packet.lost(), 0);
+        let completed = packet.longer(&more, 0);
         match filter.decide(&packet.packet()) {
             Decision::Matches => prop_assert!(filter.matches(&completed.packet())),
             Decision::Fails => prop_assert!(!filter.matches(&completed.packet())),
@@ -139,26 +142,23 @@ fn decisions_hold_for_all_missing_bytes() {
     });
 }
 
-/// A decision that needs n bytes of the frame is the same while fewer of them are captured.
+/// A packet that needs n bytes of the frame is undecided while fewer of them are captured, if the expression does not ask
+/// how many are.
 ///
 /// Holds: `Filter::decide`
 #[test]
 fn undecided_packets_wait_for_the_length() {
     check((questions(), style(), vec(any::<u8>(), 1..40)), |((packet, expression), style, more)| {
+        if expression.asks_captured() {
+            return Ok(());
+        }
         let filter = filter(&expression, style);
         let Decision::Needs(needed) = filter.decide(&packet.packet()) else { return Ok(()) };
         prop_assert!(packet.frame.bytes.len() < needed);
         for len in 0..=more.len().min(needed - 1 - packet.frame.bytes.len()) {
-            waits(&filter, &packet.longer(&more[..len], len), needed)?;
+            let longer = packet.longer(&more[..len], len);
+            prop_assert!(matches!(filter.decide(&longer.packet()), Decision::Needs(_)));
         }
         Ok(())
     });
-}
-
-fn waits(filter: &Filter, longer: &Captured, needed: usize) -> Checked {
-    prop_assert_eq!(filter.decide(&longer.packet()), Decision::Needs(needed));
-    if longer.frame.start != Start::EthernetFcs {
-        prop_assert_eq!(longer.walk().demand().map(|(_, named)| named), Some(needed));
-    }
-    Ok(())
 }

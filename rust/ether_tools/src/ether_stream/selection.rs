@@ -1,6 +1,6 @@
 //! Which packets are chosen.
 
-use etherpeel::ether_content::{is_undecided, selects};
+use etherpeel::ether_content::{decide, is_cut, is_undecided, selects};
 use etherpeel::ether_filter::Filter;
 use etherpeel::ether_pcap::CapturedPacket;
 
@@ -24,11 +24,11 @@ pub enum Undecided {
 }
 
 impl Undecided {
-    /// Whether a packet is chosen, by whether it is selected, and whether it is undecided.
-    fn chooses(self, is_selected: bool, is_undecided: bool) -> bool {
+    /// Whether a packet is chosen, by whether it is selected; `None` if that is undecided.
+    fn chooses(self, is_selected: Option<bool>) -> bool {
         match self {
-            Undecided::Kept => is_selected || is_undecided,
-            Undecided::Dropped => is_selected && !is_undecided,
+            Undecided::Kept => is_selected.unwrap_or(true),
+            Undecided::Dropped => is_selected.unwrap_or(false),
         }
     }
 }
@@ -44,10 +44,9 @@ impl Selection {
     ///
     /// </details>
     pub fn chooses(&self, packet: &CapturedPacket<'_>) -> bool {
-        let is_selected = selects(&self.filter, packet);
         match self.undecided {
-            None => is_selected,
-            Some(undecided) => undecided.chooses(is_selected, self.leaves_open(packet)),
+            None => selects(&self.filter, packet),
+            Some(undecided) => undecided.chooses(decide(&self.filter, packet)),
         }
     }
 
@@ -62,6 +61,6 @@ impl Selection {
     /// </details>
     #[inline(always)]
     pub fn leaves_open(&self, packet: &CapturedPacket<'_>) -> bool {
-        is_undecided(&self.filter, packet)
+        is_cut(packet) && is_undecided(&self.filter, packet)
     }
 }

@@ -207,14 +207,39 @@
 //!
 //! Which packets of a capture a filter selects.
 //!
+//! <a id="def.nanoseconds_of"></a>
+//!
+//! ## `nanoseconds_of`
+//!
+//! The number of nanoseconds since the beginning of 1970.
+//!
+//! ```text
+//! abbrev pub nanoseconds_of : TimeValue → ℕ
+//! nanoseconds_of t = t.seconds * 10 ^ 9 + t.nanoseconds
+//! ```
+//!
+//! Uses: [`TimeValue`](crate::definitions::ether_pcap#def.TimeValue)
+//!
+//! <a id="def.time_of"></a>
+//!
+//! ## `time_of`
+//!
+//! ```text
+//! abbrev pub time_of : PacketValue → Option ℕ
+//! time_of p = option_map nanoseconds_of p.time
+//! ```
+//!
+//! Uses: [`PacketValue`](crate::definitions::ether_pcap#def.PacketValue), [`nanoseconds_of`](#def.nanoseconds_of)
+//!
 //! <a id="def.HoldsOf"></a>
 //!
 //! ## `HoldsOf`
 //!
-//! A filter's expression holds for the walk of a frame, in a packet with these lengths.
+//! A filter's expression holds for the walk of a frame, in a packet with these lengths and this time.
 //!
 //! ```text
-//! pub record HoldsOf (x : Expression) (next : Next) (frame : List ℕ) (captured original : ℕ) : Type 0 where
+//! pub record HoldsOf (x : Expression) (next : Next) (frame : List ℕ) (captured original : ℕ) (time : Option ℕ)
+//!     : Type 0 where
 //!   pub headers : List Header
 //!   pub ending : Ending
 //!   pub walk : Walk (record { next = next; limit = None }) frame headers ending
@@ -224,6 +249,7 @@
 //!     ending = ending;
 //!     captured = captured;
 //!     original = original;
+//!     time = time;
 //!   })
 //! ```
 //!
@@ -233,7 +259,7 @@
 //!
 //! ## `Selects`
 //!
-//! > `HoldsOf`: a filter's expression holds for the walk of a frame, in a packet with these lengths
+//! > `HoldsOf`: a filter's expression holds for the walk of a frame, in a packet with these lengths and this time
 //!
 //! .. for the part of a packet that is walked.
 //!
@@ -242,60 +268,201 @@
 //!   pub next : Next
 //!   pub frame : List ℕ
 //!   pub walked : IsWalked (content_of p) next frame
-//!   pub holds : HoldsOf x next frame (length p.packet) p.original_len
+//!   pub holds : HoldsOf x next frame (length p.packet) p.original_len (time_of p)
 //! ```
 //!
-//! Uses: [`Expression`](crate::definitions::ether_filter#def.Expression), [`PacketValue`](crate::definitions::ether_pcap#def.PacketValue), [`Next`](crate::definitions::ether_peel#def.Next), [`IsWalked`](#def.IsWalked), [`content_of`](#def.content_of), [`HoldsOf`](#def.HoldsOf)
+//! Uses: [`Expression`](crate::definitions::ether_filter#def.Expression), [`PacketValue`](crate::definitions::ether_pcap#def.PacketValue), [`Next`](crate::definitions::ether_peel#def.Next), [`IsWalked`](#def.IsWalked), [`content_of`](#def.content_of), [`HoldsOf`](#def.HoldsOf), [`time_of`](#def.time_of)
 //!
 //! **Packets that were cut**
+//!
+//! <a id="def.time_view"></a>
+//!
+//! ## `time_view`
+//!
+//! A time that a filter has.
+//!
+//! ```text
+//! abbrev pub time_view : PacketTime → TimeValue
+//! time_view t = record { seconds = t.seconds; nanoseconds = t.nanoseconds }
+//! ```
+//!
+//! Uses: [`TimeValue`](crate::definitions::ether_pcap#def.TimeValue)
+//!
+//! <a id="def.missing_len"></a>
+//!
+//! ## `missing_len`
+//!
+//! The number of bytes that are missing before the frame check sequence.
+//!
+//! ```text
+//! abbrev pub missing_len : PacketValue → ℕ
+//! missing_len p = whole_len p - length (without_fcs p)
+//! ```
+//!
+//! Uses: [`PacketValue`](crate::definitions::ether_pcap#def.PacketValue), [`whole_len`](#def.whole_len), [`without_fcs`](#def.without_fcs)
+//!
+//! <a id="def.cooked_header_len"></a>
+//!
+//! ## `cooked_header_len`
+//!
+//! The length of the header that says which part of a packet is walked (LINKTYPE\_LINUX\_SLL, LINKTYPE\_LINUX\_SLL2).
+//!
+//! ```text
+//! abbrev pub cooked_header_len : (link_type : ℕ) → ℕ
+//! cooked_header_len link_type = if nat_eq link_type 113 then 16 else (if nat_eq link_type 276 then 20 else 0)
+//! ```
+//!
+//! <a id="def.IsHeaderCut"></a>
+//!
+//! ## `IsHeaderCut`
+//!
+//! Some of its bytes are missing, and it may be whole without them.
+//!
+//! ```text
+//! pub record IsHeaderCut (p : PacketValue) : Type 0 where
+//!   pub short : length (without_fcs p) < cooked_header_len p.link_type
+//!   pub room : cooked_header_len p.link_type ≤ whole_len p
+//! ```
+//!
+//! Uses: [`PacketValue`](crate::definitions::ether_pcap#def.PacketValue), [`without_fcs`](#def.without_fcs), [`cooked_header_len`](#def.cooked_header_len), [`whole_len`](#def.whole_len)
+//!
+//! <a id="def.has_other_fcs"></a>
+//!
+//! ## `has_other_fcs`
+//!
+//! The capture gives the length of a frame check sequence that Ethernet does not have (IEEE 802.3, 3.2.9).
+//!
+//! ```text
+//! abbrev pub has_other_fcs : PacketValue → Bool
+//! has_other_fcs p = not (nat_eq (fcs_len p) 0) && not (nat_eq p.link_type 1 && nat_eq (fcs_len p) 4)
+//! ```
+//!
+//! Uses: [`PacketValue`](crate::definitions::ether_pcap#def.PacketValue), [`fcs_len`](#def.fcs_len)
+//!
+//! <a id="def.with_fcs"></a>
+//!
+//! ## `with_fcs`
+//!
+//! How the walk starts, in a frame that ends in a check sequence.
+//!
+//! ```text
+//! abbrev pub with_fcs : PacketValue → Next → Next
+//! with_fcs p next = if nat_eq (fcs_len p) 4 then announcing.Start kinds.Ethernet2Fcs else next
+//! ```
+//!
+//! Uses: [`PacketValue`](crate::definitions::ether_pcap#def.PacketValue), [`Next`](crate::definitions::ether_peel#def.Next), [`fcs_len`](#def.fcs_len), [`announcing.Start`](crate::definitions::ether_peel#def.Next), [`kinds.Ethernet2Fcs`](crate::definitions::ether_base#def.Kind)
 //!
 //! <a id="def.IsAskedOf"></a>
 //!
 //! ## `IsAskedOf`
 //!
-//! What a filter is applied to: the part of a packet that is walked.
+//! What a filter is applied to: the part of a packet that is walked, with its frame check sequence.
 //!
 //! ```text
 //! pub record IsAskedOf (p : PacketValue) (asked : Packet) : Type 0 where
-//!   pub walked : IsWalked (content_of p) (next_of asked.start) asked.frame.now
+//!   pub next : Next
+//!   pub walked : IsWalked (content_of p) next asked.frame.now
+//!   pub start : next_of asked.start ≡ with_fcs p next
 //!   pub captured : asked.captured_len ≡ length p.packet
 //!   pub original : asked.original_len ≡ p.original_len
+//!   pub time : option_map time_view asked.time ≡ p.time
 //! ```
 //!
-//! Uses: [`PacketValue`](crate::definitions::ether_pcap#def.PacketValue), [`IsWalked`](#def.IsWalked), [`content_of`](#def.content_of), [`next_of`](crate::definitions::ether_peel#def.next_of)
+//! Uses: [`PacketValue`](crate::definitions::ether_pcap#def.PacketValue), [`Next`](crate::definitions::ether_peel#def.Next), [`IsWalked`](#def.IsWalked), [`content_of`](#def.content_of), [`next_of`](crate::definitions::ether_peel#def.next_of), [`with_fcs`](#def.with_fcs), [`time_view`](#def.time_view)
 //!
-//! <a id="def.NeedsBytes"></a>
+//! <a id="def.Decides"></a>
 //!
-//! ## `NeedsBytes`
+//! ## `Decides`
 //!
-//! More bytes are needed to decide whether the expression holds.
+//! A decision says this.
 //!
 //! ```text
-//! pub record NeedsBytes (x : Expression) (asked : Packet) : Type 0 where
+//! pub record Decides (x : Expression) (asked : Packet) (d : Decision) : Type 0 where
 //!   pub headers : List Header
 //!   pub ending : Ending
 //!   pub walk : Walk (start_of asked.start) asked.frame.now headers ending
-//!   pub len : ℕ
-//!   pub says : Says asked headers ending x (Needs len)
+//!   pub says : Says asked headers ending x d
 //! ```
 //!
-//! Uses: [`Expression`](crate::definitions::ether_filter#def.Expression), [`Header`](crate::definitions::ether_base#def.Header), [`Ending`](crate::definitions::ether_peel#def.Ending), [`Walk`](crate::definitions::ether_peel#def.Walk), [`start_of`](crate::definitions::ether_peel#def.start_of), [`Says`](crate::definitions::ether_filter#def.Says), `Needs` (`Decision::Needs`)
+//! Uses: [`Expression`](crate::definitions::ether_filter#def.Expression), [`Header`](crate::definitions::ether_base#def.Header), [`Ending`](crate::definitions::ether_peel#def.Ending), [`Walk`](crate::definitions::ether_peel#def.Walk), [`start_of`](crate::definitions::ether_peel#def.start_of), [`Says`](crate::definitions::ether_filter#def.Says)
+//!
+//! <a id="def.IsAnswer"></a>
+//!
+//! ## `IsAnswer`
+//!
+//! > `Decides`: a decision says this
+//!
+//! .. that the expression holds (true) or fails (false), or that more bytes are needed.
+//!
+//! ```text
+//! abbrev pub IsAnswer : Expression → Packet → Option Bool → Type 0
+//! IsAnswer x asked None = (n : ℕ) × Decides x asked (Needs n)
+//! IsAnswer x asked (Some truth) = Decides x asked (decided truth)
+//! ```
+//!
+//! Uses: [`Expression`](crate::definitions::ether_filter#def.Expression), [`Decides`](#def.Decides), `Needs` (`Decision::Needs`), [`decided`](crate::definitions::ether_filter#def.decided)
+//!
+//! <a id="def.LacksBytes"></a>
+//!
+//! ## `LacksBytes`
+//!
+//! Bytes are missing of the part that is walked, which is known.
+//!
+//! ```text
+//! pub record LacksBytes (p : PacketValue) : Type 0 where
+//!   pub lacks : 0 < missing_len p
+//!   pub known : IsHeaderCut p → ⊥
+//!   pub fcs : has_other_fcs p ≡ false
+//! ```
+//!
+//! Uses: [`PacketValue`](crate::definitions::ether_pcap#def.PacketValue), [`missing_len`](#def.missing_len), [`IsHeaderCut`](#def.IsHeaderCut), [`has_other_fcs`](#def.has_other_fcs)
+//!
+//! <a id="def.IsSettled"></a>
+//!
+//! ## `IsSettled`
+//!
+//! Whatever the missing bytes are, an expression selects a packet (true), or does not (false).
+//!
+//! ```text
+//! pub data IsSettled (x : Expression) (p : PacketValue) (truth : Bool) : Type 0 where
+//!   whole : missing_len p ≡ 0 → IsTrue truth ↔ Selects x p → IsSettled x p truth
+//!   walk : LacksBytes p → (asked : Packet) → IsAskedOf p asked → IsAnswer x asked (Some truth) → IsSettled x p truth
+//!   unwalked : LacksBytes p → ((next : Next) (frame : List ℕ) → IsWalked (content_of p) next frame → ⊥) → truth ≡ false
+//!       → IsSettled x p truth
+//! ```
+//!
+//! Uses: [`Expression`](crate::definitions::ether_filter#def.Expression), [`PacketValue`](crate::definitions::ether_pcap#def.PacketValue), [`missing_len`](#def.missing_len), [`Selects`](#def.Selects), [`LacksBytes`](#def.LacksBytes), [`IsAskedOf`](#def.IsAskedOf), [`IsAnswer`](#def.IsAnswer), [`Next`](crate::definitions::ether_peel#def.Next), [`IsWalked`](#def.IsWalked), [`content_of`](#def.content_of)
 //!
 //! <a id="def.IsUndecided"></a>
 //!
 //! ## `IsUndecided`
 //!
-//! The captured bytes of a packet do not decide whether an expression selects it: further headers might follow them; or
-//! the header of cooked capture v2, which says what is walked, was cut.
+//! The captured bytes of a packet do not decide whether an expression selects it: it needs more bytes of the part that
+//! is
+//! walked; or the header of cooked capture that says what is walked was cut; or its frame check sequence has no meaning.
 //!
 //! ```text
 //! pub data IsUndecided (x : Expression) (p : PacketValue) : Type 0 where
-//!   walk : (asked : Packet) → IsAskedOf p asked → NeedsBytes x asked → IsUndecided x p
-//!   header : (bytes : List ℕ) → content_of p ≡ LinuxSll2 bytes → length bytes < 20
-//!       → 20 ≤ whole_len p → IsUndecided x p
+//!   walk : LacksBytes p → (asked : Packet) → IsAskedOf p asked → IsAnswer x asked None → IsUndecided x p
+//!   header : 0 < missing_len p → IsHeaderCut p → IsUndecided x p
+//!   fcs : 0 < missing_len p → has_other_fcs p ≡ true → IsUndecided x p
 //! ```
 //!
-//! Uses: [`Expression`](crate::definitions::ether_filter#def.Expression), [`PacketValue`](crate::definitions::ether_pcap#def.PacketValue), [`IsAskedOf`](#def.IsAskedOf), [`NeedsBytes`](#def.NeedsBytes), [`content_of`](#def.content_of), [`LinuxSll2`](#def.ContentValue), [`whole_len`](#def.whole_len)
+//! Uses: [`Expression`](crate::definitions::ether_filter#def.Expression), [`PacketValue`](crate::definitions::ether_pcap#def.PacketValue), [`LacksBytes`](#def.LacksBytes), [`IsAskedOf`](#def.IsAskedOf), [`IsAnswer`](#def.IsAnswer), [`missing_len`](#def.missing_len), [`IsHeaderCut`](#def.IsHeaderCut), [`has_other_fcs`](#def.has_other_fcs)
+//!
+//! <a id="def.IsOutcome"></a>
+//!
+//! ## `IsOutcome`
+//!
+//! What the captured bytes decide, if they do.
+//!
+//! ```text
+//! abbrev pub IsOutcome : Expression → PacketValue → Option Bool → Type 0
+//! IsOutcome x p None = IsUndecided x p
+//! IsOutcome x p (Some truth) = IsSettled x p truth
+//! ```
+//!
+//! Uses: [`Expression`](crate::definitions::ether_filter#def.Expression), [`PacketValue`](crate::definitions::ether_pcap#def.PacketValue), [`IsUndecided`](#def.IsUndecided), [`IsSettled`](#def.IsSettled)
 //!
 //! # Editing
 //!

@@ -44,7 +44,7 @@
 //!
 //! What a test of a field says of the headers of a packet.
 //!
-//! **The value that a header gives a field, by the number of the field in the table of fields**
+//! **The value that a header gives a field, by the number of the field in the table of fields; 252 is its name**
 //!
 //! <a id="def.Given"></a>
 //!
@@ -67,7 +67,8 @@
 //! ethernet2_gives field e =
 //!     if nat_eq field 1 then Some (Bytes (spelled 6 e.destination))
 //!     else (if nat_eq field 2 then Some (Bytes (spelled 6 e.source))
-//!     else (if nat_eq field 3 then Some (Number e.ether_type) else None))
+//!     else (if nat_eq field 3 then Some (Number e.ether_type)
+//!     else (if nat_eq field 252 then Some (Bytes (codes "eth")) else None)))
 //! ```
 //!
 //! Uses: [`Ethernet2Value`](crate::definitions::ether_base#def.Ethernet2Value), [`Given`](#def.Given), [`Bytes`](#def.Given), [`spelled`](crate::definitions::ether_base#def.spelled), [`Number`](#def.Given)
@@ -85,7 +86,8 @@
 //!     else (if nat_eq field 5 then Some (Number s.hardware_type)
 //!     else (if nat_eq field 6 then Some (Number s.address_len)
 //!     else (if nat_eq field 7 then Some (Bytes (spelled 8 s.address))
-//!     else (if nat_eq field 8 then Some (Number s.protocol) else None))))
+//!     else (if nat_eq field 8 then Some (Number s.protocol)
+//!     else (if nat_eq field 252 then Some (Bytes (codes "sll")) else None)))))
 //! ```
 //!
 //! Uses: [`LinuxSllValue`](crate::definitions::ether_base#def.LinuxSllValue), [`Given`](#def.Given), [`Number`](#def.Given), [`Bytes`](#def.Given), [`spelled`](crate::definitions::ether_base#def.spelled)
@@ -102,10 +104,11 @@
 //!     if nat_eq field 9 then Some (Number v.pcp)
 //!     else (if nat_eq field 10 then Some (Number v.dei)
 //!     else (if nat_eq field 11 then Some (Number v.vid)
-//!     else (if nat_eq field 12 then Some (Number v.ether_type) else None)))
+//!     else (if nat_eq field 12 then Some (Number v.ether_type)
+//!     else (if nat_eq field 252 then Some (Bytes (codes "vlan")) else None))))
 //! ```
 //!
-//! Uses: [`VlanValue`](crate::definitions::ether_base#def.VlanValue), [`Given`](#def.Given), [`Number`](#def.Given)
+//! Uses: [`VlanValue`](crate::definitions::ether_base#def.VlanValue), [`Given`](#def.Given), [`Number`](#def.Given), [`Bytes`](#def.Given)
 //!
 //! <a id="def.readable"></a>
 //!
@@ -138,7 +141,8 @@
 //!     else (if nat_eq field 21 then Some (Number front.short_len)
 //!     else (if nat_eq field 22 then Some (Number t.packet_number)
 //!     else (if nat_eq field 23 then option_map (λ sci. Bytes (spelled 8 sci)) t.sci
-//!     else (if nat_eq field 24 then option_map Number (readable t.payload_type) else None))))))))
+//!     else (if nat_eq field 24 then option_map Number (readable t.payload_type)
+//!     else (if nat_eq field 252 then Some (Bytes (codes "macsec")) else None)))))))))
 //! ```
 //!
 //! Uses: [`SecTagFront`](crate::definitions::ether_base#def.SecTagFront), [`SecTagValue`](crate::definitions::ether_base#def.SecTagValue), [`Given`](#def.Given), [`Number`](#def.Given), [`Bytes`](#def.Given), [`spelled`](crate::definitions::ether_base#def.spelled), [`readable`](#def.readable)
@@ -160,7 +164,8 @@
 //!     else (if nat_eq field 30 then Some (Bytes a.sender_hardware)
 //!     else (if nat_eq field 31 then Some (Bytes a.sender_protocol)
 //!     else (if nat_eq field 32 then Some (Bytes a.target_hardware)
-//!     else (if nat_eq field 33 then Some (Bytes a.target_protocol) else None))))))))
+//!     else (if nat_eq field 33 then Some (Bytes a.target_protocol)
+//!     else (if nat_eq field 252 then Some (Bytes (codes "arp")) else None)))))))))
 //! ```
 //!
 //! Uses: [`ArpValue`](crate::definitions::ether_base#def.ArpValue), [`Given`](#def.Given), [`Number`](#def.Given), [`Bytes`](#def.Given)
@@ -307,10 +312,81 @@
 //!
 //! Uses: [`Header`](crate::definitions::ether_base#def.Header), [`answer`](#def.answer), [`has_value`](#def.has_value), [`has_hit`](#def.has_hit)
 //!
+//! **What a capture says of a packet (pcapng, 4.3)**
+//!
+//! <a id="def.Frame"></a>
+//!
+//! ## `Frame`
+//!
+//! The two lengths, and the time, if there is one, as the nanoseconds since the beginning of 1970.
+//!
+//! ```text
+//! pub record Frame : Type 0 where
+//!   pub captured : ℕ
+//!   pub original : ℕ
+//!   pub time : Option ℕ
+//! ```
+//!
+//! <a id="def.as_number"></a>
+//!
+//! ## `as_number`
+//!
+//! A time as a number of 64 bits; the latest of them is later than all times that words can be.
+//!
+//! ```text
+//! abbrev pub as_number : ℕ → Given
+//! as_number time = Number (min time (2 ^ 64 - 1))
+//! ```
+//!
+//! Uses: [`Given`](#def.Given), [`Number`](#def.Given)
+//!
+//! <a id="def.frame_gives"></a>
+//!
+//! ## `frame_gives`
+//!
+//! The value of a field of the packet, which has no number in the table of fields, and these in tests.
+//!
+//! ```text
+//! abbrev pub frame_gives : ℕ → Frame → Option Given
+//! frame_gives field f =
+//!     if nat_eq field 253 then option_map as_number f.time
+//!     else (if nat_eq field 254 then Some (Number f.captured)
+//!     else (if nat_eq field 255 then Some (Number f.original) else None))
+//! ```
+//!
+//! Uses: [`Frame`](#def.Frame), [`Given`](#def.Given), [`as_number`](#def.as_number), [`Number`](#def.Given)
+//!
+//! <a id="def.answer_if"></a>
+//!
+//! ## `answer_if`
+//!
+//! The answer where there is at most one value.
+//!
+//! ```text
+//! abbrev pub answer_if : Relation → Option Bool → Bool
+//! answer_if relation None = answer relation false false
+//! answer_if relation (Some hit) = answer relation true hit
+//! ```
+//!
+//! Uses: [`answer`](#def.answer)
+//!
+//! <a id="def.frame_holds"></a>
+//!
+//! ## `frame_holds`
+//!
+//! The test holds of the packet.
+//!
+//! ```text
+//! abbrev pub frame_holds : FieldTest → Frame → Bool
+//! frame_holds t f = answer_if t.relation (hit_if t (frame_gives t.field f))
+//! ```
+//!
+//! Uses: [`Frame`](#def.Frame), [`answer_if`](#def.answer_if), [`hit_if`](#def.hit_if), [`frame_gives`](#def.frame_gives)
+//!
 //! # Primitives
 //!
 //! What a primitive says of a packet: by the headers of its one walk, which reads every tag, by the ending of that
-//! walk, and by two lengths.
+//! walk, and by what the capture says of the packet.
 //!
 //! **Of a header**
 //!
@@ -466,9 +542,45 @@
 //!   pub ending : Ending
 //!   pub captured : ℕ
 //!   pub original : ℕ
+//!   pub time : Option ℕ
 //! ```
 //!
 //! Uses: [`Next`](crate::definitions::ether_peel#def.Next), [`Header`](crate::definitions::ether_base#def.Header), [`Ending`](crate::definitions::ether_peel#def.Ending)
+//!
+//! <a id="def.frame_in"></a>
+//!
+//! ## `frame_in`
+//!
+//! What the capture says of it.
+//!
+//! ```text
+//! abbrev pub frame_in : Walked → Frame
+//! frame_in p = record { captured = p.captured; original = p.original; time = p.time }
+//! ```
+//!
+//! Uses: [`Walked`](#def.Walked), [`Frame`](#def.Frame)
+//!
+//! <a id="def.nanoseconds_of"></a>
+//!
+//! ## `nanoseconds_of`
+//!
+//! The number of nanoseconds since the beginning of 1970.
+//!
+//! ```text
+//! abbrev pub nanoseconds_of : PacketTime → ℕ
+//! nanoseconds_of t = t.seconds * 10 ^ 9 + t.nanoseconds
+//! ```
+//!
+//! <a id="def.time_of"></a>
+//!
+//! ## `time_of`
+//!
+//! ```text
+//! abbrev pub time_of : Packet → Option ℕ
+//! time_of packet = option_map nanoseconds_of packet.time
+//! ```
+//!
+//! Uses: [`nanoseconds_of`](#def.nanoseconds_of)
 //!
 //! <a id="def.walked"></a>
 //!
@@ -485,10 +597,11 @@
 //!       ending = e;
 //!       captured = packet.captured_len;
 //!       original = packet.original_len;
+//!       time = time_of packet;
 //!     }
 //! ```
 //!
-//! Uses: [`Header`](crate::definitions::ether_base#def.Header), [`Ending`](crate::definitions::ether_peel#def.Ending), [`Walked`](#def.Walked), [`next_of`](crate::definitions::ether_peel#def.next_of)
+//! Uses: [`Header`](crate::definitions::ether_base#def.Header), [`Ending`](crate::definitions::ether_peel#def.Ending), [`Walked`](#def.Walked), [`next_of`](crate::definitions::ether_peel#def.next_of), [`time_of`](#def.time_of)
 //!
 //! <a id="def.Matches"></a>
 //!
@@ -515,9 +628,10 @@
 //! Matches (primitives.Less n) p = p.original ≤ n
 //! Matches (primitives.Greater n) p = n ≤ p.original
 //! Matches (primitives.Field t) p = IsTrue (field_holds t p.headers)
+//! Matches (primitives.Frame t) p = IsTrue (frame_holds t (frame_in p))
 //! ```
 //!
-//! Uses: [`Walked`](#def.Walked), `primitives` (`Primitive`), [`is_tag`](#def.is_tag), [`vlan_ids`](#def.vlan_ids), [`is_sec_tag`](#def.is_sec_tag), [`ether_types`](#def.ether_types), [`is_from`](#def.is_from), [`is_to`](#def.is_to), [`is_to_group`](#def.is_to_group), [`refusal_of`](crate::definitions::ether_peel#def.refusal_of), [`field_holds`](#def.field_holds)
+//! Uses: [`Walked`](#def.Walked), `primitives` (`Primitive`), [`is_tag`](#def.is_tag), [`vlan_ids`](#def.vlan_ids), [`is_sec_tag`](#def.is_sec_tag), [`ether_types`](#def.ether_types), [`is_from`](#def.is_from), [`is_to`](#def.is_to), [`is_to_group`](#def.is_to_group), [`refusal_of`](crate::definitions::ether_peel#def.refusal_of), [`field_holds`](#def.field_holds), [`frame_holds`](#def.frame_holds), [`frame_in`](#def.frame_in)
 //!
 //! # Postfix
 //!
@@ -773,6 +887,33 @@
 //!
 //! Uses: `primitives` (`Primitive`), [`field_test_in`](#def.field_test_in)
 //!
+//! <a id="def.frame_relation_numbered"></a>
+//!
+//! ## `frame_relation_numbered`
+//!
+//! > `relation_numbered`: the relation of the tests of fields whose kind has this number
+//!
+//! .. of the tests of what the capture says, which have the numbers after those.
+//!
+//! ```text
+//! abbrev pub frame_relation_numbered : (kind : ℕ) → Option Relation
+//! frame_relation_numbered kind = relation_numbered (kind - 7)
+//! ```
+//!
+//! Uses: [`relation_numbered`](#def.relation_numbered)
+//!
+//! <a id="def.frame_primitive"></a>
+//!
+//! ## `frame_primitive`
+//!
+//! ```text
+//! abbrev pub frame_primitive : Option Relation → Instruction → Option Primitive
+//! frame_primitive None s = None
+//! frame_primitive (Some relation) s = Some (primitives.Frame (field_test_in relation s))
+//! ```
+//!
+//! Uses: `primitives` (`Primitive`), [`field_test_in`](#def.field_test_in)
+//!
 //! <a id="def.primitive_or"></a>
 //!
 //! ## `primitive_or`
@@ -789,10 +930,13 @@
 //!
 //! ```text
 //! abbrev pub primitive_of : Instruction → Option Primitive
-//! primitive_of s = primitive_or (primitive_numbered s.kind s.operand) (field_primitive (relation_numbered s.kind) s)
+//! primitive_of s =
+//!     primitive_or (primitive_numbered s.kind s.operand)
+//!     (primitive_or (field_primitive (relation_numbered s.kind) s)
+//!     (frame_primitive (frame_relation_numbered s.kind) s))
 //! ```
 //!
-//! Uses: [`primitive_or`](#def.primitive_or), [`primitive_numbered`](#def.primitive_numbered), [`field_primitive`](#def.field_primitive), [`relation_numbered`](#def.relation_numbered)
+//! Uses: [`primitive_or`](#def.primitive_or), [`primitive_numbered`](#def.primitive_numbered), [`field_primitive`](#def.field_primitive), [`relation_numbered`](#def.relation_numbered), [`frame_primitive`](#def.frame_primitive), [`frame_relation_numbered`](#def.frame_relation_numbered)
 //!
 //! <a id="def.test_or"></a>
 //!
@@ -854,6 +998,87 @@
 //!
 //! Uses: [`Expression`](#def.Expression), [`Jump`](#def.Jump), [`AreJumps`](#def.AreJumps), [`first_jump`](#def.first_jump), [`ArePassed`](#def.ArePassed), [`postfix`](#def.postfix), [`IsInstruction`](#def.IsInstruction), [`jump_at`](#def.jump_at)
 //!
+//! # Needed
+//!
+//! How many bytes of a frame are needed to decide a primitive.
+//!
+//! <a id="def.IsLonger"></a>
+//!
+//! ## `IsLonger`
+//!
+//! The packet with further bytes captured.
+//!
+//! ```text
+//! pub record IsLonger (packet longer : Packet) : Type 0 where
+//!   pub more : List ℕ
+//!   pub start : longer.start ≡ packet.start
+//!   pub frame : longer.frame.now ≡ packet.frame.now ++ more
+//!   pub captured : longer.captured_len ≡ packet.captured_len + length more
+//!   pub original : longer.original_len ≡ packet.original_len
+//!   pub time : longer.time ≡ packet.time
+//! ```
+//!
+//! <a id="def.HasMore"></a>
+//!
+//! ## `HasMore`
+//!
+//! > `IsLonger`: the packet with further bytes captured
+//!
+//! .. of those that were on the wire.
+//!
+//! ```text
+//! pub record HasMore (packet longer : Packet) : Type 0 where
+//!   pub captures : IsLonger packet longer
+//!   pub are_bytes : IsBytes longer.frame.now
+//!   pub within : longer.captured_len ≤ longer.original_len
+//! ```
+//!
+//! Uses: [`IsLonger`](#def.IsLonger), [`IsBytes`](crate::definitions::ether_base#def.IsBytes)
+//!
+//! <a id="def.IsUndecided"></a>
+//!
+//! ## `IsUndecided`
+//!
+//! Some completed packet matches the primitive, and some does not.
+//!
+//! ```text
+//! abbrev pub IsUndecided : Packet → Primitive → Type 0
+//! IsUndecided packet primitive =
+//!     SomeCompletion packet (Matches primitive) × SomeCompletion packet (λ w. Matches primitive w → ⊥)
+//! ```
+//!
+//! Uses: [`SomeCompletion`](#def.SomeCompletion), [`Matches`](#def.Matches)
+//!
+//! <a id="def.IsDecided"></a>
+//!
+//! ## `IsDecided`
+//!
+//! Every completed packet matches it, or none does.
+//!
+//! ```text
+//! abbrev pub IsDecided : Packet → Primitive → Type 0
+//! IsDecided packet primitive =
+//!     (SomeCompletion packet (λ w. Matches primitive w → ⊥) → ⊥) ⊎ (SomeCompletion packet (Matches primitive) → ⊥)
+//! ```
+//!
+//! Uses: [`SomeCompletion`](#def.SomeCompletion), [`Matches`](#def.Matches)
+//!
+//! <a id="def.IsLeast"></a>
+//!
+//! ## `IsLeast`
+//!
+//! The primitive is undecided while fewer than n bytes of the frame are captured, whatever they are; some n bytes decide
+//! it.
+//!
+//! ```text
+//! pub record IsLeast (packet : Packet) (primitive : Primitive) (n : ℕ) : Type 0 where
+//!   pub stays : (longer : Packet) → HasMore packet longer → length longer.frame.now < n → IsUndecided longer primitive
+//!   pub decides : (longer : Packet) × HasMore packet longer × (length longer.frame.now ≡ n)
+//!       × IsDecided longer primitive
+//! ```
+//!
+//! Uses: [`HasMore`](#def.HasMore), [`IsUndecided`](#def.IsUndecided), [`IsDecided`](#def.IsDecided)
+//!
 //! # Deciding
 //!
 //! What is known of whether a packet matches, if not all of its bytes were captured.
@@ -870,35 +1095,6 @@
 //! abbrev pub lost : Packet → ℕ
 //! lost packet = packet.original_len - packet.captured_len
 //! ```
-//!
-//! <a id="def.IsCompletion"></a>
-//!
-//! ## `IsCompletion`
-//!
-//! Bytes that may follow its frame.
-//!
-//! ```text
-//! pub record IsCompletion (packet : Packet) (more : List ℕ) : Type 0 where
-//!   pub bytes : IsBytes more
-//!   pub few : length more ≤ lost packet
-//! ```
-//!
-//! Uses: [`IsBytes`](crate::definitions::ether_base#def.IsBytes), [`lost`](#def.lost)
-//!
-//! <a id="def.AtCompletions"></a>
-//!
-//! ## `AtCompletions`
-//!
-//! It holds of the packet with any such bytes after its frame; the packet's two lengths are unchanged.
-//!
-//! ```text
-//! abbrev pub AtCompletions : Packet → (Walked → Type 0) → Type 0
-//! AtCompletions packet Is =
-//!     (more : List ℕ) (hs : List Header) (e : Ending)
-//!     → IsCompletion packet more → Walk (start_of packet.start) (packet.frame.now ++ more) hs e → Is (walked packet hs e)
-//! ```
-//!
-//! Uses: [`Walked`](#def.Walked), [`Header`](crate::definitions::ether_base#def.Header), [`Ending`](crate::definitions::ether_peel#def.Ending), [`IsCompletion`](#def.IsCompletion), [`Walk`](crate::definitions::ether_peel#def.Walk), [`start_of`](crate::definitions::ether_peel#def.start_of), [`walked`](#def.walked)
 //!
 //! <a id="def.IsOpenAt"></a>
 //!
@@ -923,67 +1119,6 @@
 //!
 //! **A primitive**
 //!
-//! <a id="def.is_of_lengths"></a>
-//!
-//! ## `is_of_lengths`
-//!
-//! The primitive asks about the two lengths.
-//!
-//! ```text
-//! abbrev pub is_of_lengths : Primitive → Bool
-//! is_of_lengths primitives.Cut = true
-//! is_of_lengths (primitives.Less n) = true
-//! is_of_lengths (primitives.Greater n) = true
-//! is_of_lengths _ = false
-//! ```
-//!
-//! Uses: `primitives` (`Primitive`)
-//!
-//! <a id="def.is_of_link"></a>
-//!
-//! ## `is_of_link`
-//!
-//! The primitive asks about an Ethernet II header, whose fields have the numbers up to 3.
-//!
-//! ```text
-//! abbrev pub is_of_link : Primitive → Bool
-//! is_of_link (primitives.Source address) = true
-//! is_of_link (primitives.Destination address) = true
-//! is_of_link (primitives.Host address) = true
-//! is_of_link primitives.Broadcast = true
-//! is_of_link primitives.Multicast = true
-//! is_of_link (primitives.Field t) = nat_le t.field 3
-//! is_of_link _ = false
-//! ```
-//!
-//! Uses: `primitives` (`Primitive`)
-//!
-//! <a id="def.is_refused"></a>
-//!
-//! ## `is_refused`
-//!
-//! ```text
-//! abbrev pub is_refused : Primitive → Bool
-//! is_refused primitives.Refused = true
-//! is_refused _ = false
-//! ```
-//!
-//! Uses: `primitives` (`Primitive`)
-//!
-//! <a id="def.is_of_field"></a>
-//!
-//! ## `is_of_field`
-//!
-//! The primitive tests a field.
-//!
-//! ```text
-//! abbrev pub is_of_field : Primitive → Bool
-//! is_of_field (primitives.Field t) = true
-//! is_of_field _ = false
-//! ```
-//!
-//! Uses: `primitives` (`Primitive`)
-//!
 //! <a id="def.asks_any"></a>
 //!
 //! ## `asks_any`
@@ -998,69 +1133,69 @@
 //!
 //! Uses: `relations` (`Relation`)
 //!
+//! **A test of a field**
+//!
 //! <a id="def.can_tell"></a>
 //!
 //! ## `can_tell`
 //!
-//! The primitive can depend on a unit of this layer, or on one after it. An ARP packet is the last unit, and does not
-//! announce an ether type; an Ethernet II header is the first unit.
+//! The test can depend on a unit of this layer, or on one after it. Fields with the numbers up to 3 are of an Ethernet
+//! II
+//! header, which is the first unit.
 //!
 //! ```text
-//! abbrev pub can_tell : Layer → Primitive → Bool
-//! can_tell layers.Arp primitive = is_refused primitive || (is_of_field primitive && not (is_of_link primitive))
-//! can_tell layers.Ethernet2Header primitive = true
-//! can_tell layer primitive = not (is_of_link primitive)
+//! abbrev pub can_tell : Layer → FieldTest → Bool
+//! can_tell layers.Ethernet2Header t = true
+//! can_tell layer t = not (nat_le t.field 3)
 //! ```
 //!
-//! Uses: `layers` (`Layer`), [`is_refused`](#def.is_refused), [`is_of_field`](#def.is_of_field), [`is_of_link`](#def.is_of_link)
+//! Uses: `layers` (`Layer`)
 //!
-//! <a id="def.IsTold"></a>
+//! <a id="def.IsFieldKnown"></a>
 //!
-//! ## `IsTold`
+//! ## `IsFieldKnown`
 //!
-//! The headers so far decide the primitive, whatever headers follow.
+//! With these headers and this ending so far, it is known whether the test of a field holds: no further headers can
+//! follow; or the headers so far have a value that decides it; or it does not depend on any unit that can still follow.
 //!
 //! ```text
-//! abbrev pub IsTold : Primitive → Walked → Type 0
-//! IsTold (primitives.OuterVlan id) p = IsTrue (list_any is_tag p.headers)
-//! IsTold (primitives.InnerVlan id) p = ⊥
-//! IsTold primitives.Refused p = ⊥
-//! IsTold (primitives.Field t) p = IsTrue (asks_any t.relation && field_holds t p.headers)
-//! IsTold primitive p = Matches primitive p
+//! pub data IsFieldKnown (packet : Packet) (hs : List Header) (e : Ending) (t : FieldTest) : Type 0 where
+//!   whole : ((n : ℕ) → IsOpenAt packet e n → ⊥) → IsFieldKnown packet hs e t
+//!   told : has_fcs (start_of packet.start) ≡ false → IsTrue (asks_any t.relation && field_holds t hs)
+//!       → IsFieldKnown packet hs e t
+//!   passed : (o : OpenRefusal e) → can_tell o.layer t ≡ false → IsFieldKnown packet hs e t
 //! ```
 //!
-//! Uses: [`Walked`](#def.Walked), `primitives` (`Primitive`), [`is_tag`](#def.is_tag), [`asks_any`](#def.asks_any), [`field_holds`](#def.field_holds), [`Matches`](#def.Matches)
+//! Uses: [`Header`](crate::definitions::ether_base#def.Header), [`Ending`](crate::definitions::ether_peel#def.Ending), [`IsOpenAt`](#def.IsOpenAt), [`has_fcs`](crate::definitions::ether_peel#def.has_fcs), [`start_of`](crate::definitions::ether_peel#def.start_of), [`asks_any`](#def.asks_any), [`field_holds`](#def.field_holds), [`OpenRefusal`](crate::definitions::ether_peel#def.OpenRefusal), [`can_tell`](#def.can_tell)
 //!
-//! <a id="def.IsKnown"></a>
+//! **What is known**
 //!
-//! ## `IsKnown`
+//! <a id="def.KnowsTest"></a>
 //!
-//! With these headers and this ending so far, it is known whether the primitive matches the packet: it asks about the
-//! lengths; or no further headers can follow; or the headers so far decide it; or it does not depend on any unit that
-//! can still follow.
+//! ## `KnowsTest`
+//!
+//! Whatever the missing bytes are, the primitive matches the packet (true), or it does not (false). Of a test of a field
+//! it is known by the headers so far.
 //!
 //! ```text
-//! pub data IsKnown (packet : Packet) (hs : List Header) (e : Ending) (primitive : Primitive) : Type 0 where
-//!   lengths : is_of_lengths primitive ≡ true → IsKnown packet hs e primitive
-//!   whole : ((n : ℕ) → IsOpenAt packet e n → ⊥) → IsKnown packet hs e primitive
-//!   told : has_fcs (start_of packet.start) ≡ false → IsTold primitive (walked packet hs e) → IsKnown packet hs e primitive
-//!   passed : (o : OpenRefusal e) → can_tell o.layer primitive ≡ false → IsKnown packet hs e primitive
+//! abbrev pub KnowsTest : Packet → List Header → Ending → Bool → Primitive → Type 0
+//! KnowsTest packet hs e true (primitives.Field t) = IsFieldKnown packet hs e t × IsTrue (field_holds t hs)
+//! KnowsTest packet hs e false (primitives.Field t) = IsFieldKnown packet hs e t × ¬ (IsTrue (field_holds t hs))
+//! KnowsTest packet hs e true primitive = AtCompletions packet (Matches primitive)
+//! KnowsTest packet hs e false primitive = AtCompletions packet (λ w. ¬ (Matches primitive w))
 //! ```
 //!
-//! Uses: [`Header`](crate::definitions::ether_base#def.Header), [`Ending`](crate::definitions::ether_peel#def.Ending), [`is_of_lengths`](#def.is_of_lengths), [`IsOpenAt`](#def.IsOpenAt), [`has_fcs`](crate::definitions::ether_peel#def.has_fcs), [`start_of`](crate::definitions::ether_peel#def.start_of), [`IsTold`](#def.IsTold), [`walked`](#def.walked), [`OpenRefusal`](crate::definitions::ether_peel#def.OpenRefusal), [`can_tell`](#def.can_tell)
-//!
-//! **An expression (Kleene's strong logic of three values)**
+//! Uses: [`Header`](crate::definitions::ether_base#def.Header), [`Ending`](crate::definitions::ether_peel#def.Ending), `primitives` (`Primitive`), [`IsFieldKnown`](#def.IsFieldKnown), [`field_holds`](#def.field_holds), [`AtCompletions`](#def.AtCompletions), [`Matches`](#def.Matches)
 //!
 //! <a id="def.Knows"></a>
 //!
 //! ## `Knows`
 //!
-//! The expression is known to hold (true) or to fail (false).
+//! An expression is known to hold (true) or to fail (false), in Kleene's strong logic of three values.
 //!
 //! ```text
 //! abbrev pub Knows : Packet → List Header → Ending → Bool → Expression → Type 0
-//! Knows packet hs e true (Test primitive) = IsKnown packet hs e primitive × Matches primitive (walked packet hs e)
-//! Knows packet hs e false (Test primitive) = IsKnown packet hs e primitive × ¬ (Matches primitive (walked packet hs e))
+//! Knows packet hs e truth (Test primitive) = KnowsTest packet hs e truth primitive
 //! Knows packet hs e true (Not x) = Knows packet hs e false x
 //! Knows packet hs e false (Not x) = Knows packet hs e true x
 //! Knows packet hs e true (Join operators.And x y) = Knows packet hs e true x × Knows packet hs e true y
@@ -1069,7 +1204,7 @@
 //! Knows packet hs e false (Join operators.Or x y) = Knows packet hs e false x × Knows packet hs e false y
 //! ```
 //!
-//! Uses: [`Header`](crate::definitions::ether_base#def.Header), [`Ending`](crate::definitions::ether_peel#def.Ending), [`Expression`](#def.Expression), [`Test`](#def.Expression), [`IsKnown`](#def.IsKnown), [`Matches`](#def.Matches), [`walked`](#def.walked), [`Not`](#def.Expression), [`Join`](#def.Expression), `operators` (`Operator`)
+//! Uses: [`Header`](crate::definitions::ether_base#def.Header), [`Ending`](crate::definitions::ether_peel#def.Ending), [`Expression`](#def.Expression), [`Test`](#def.Expression), [`KnowsTest`](#def.KnowsTest), [`Not`](#def.Expression), [`Join`](#def.Expression), `operators` (`Operator`)
 //!
 //! <a id="def.IsUnknown"></a>
 //!
@@ -1085,6 +1220,55 @@
 //!
 //! Uses: [`Header`](crate::definitions::ether_base#def.Header), [`Ending`](crate::definitions::ether_peel#def.Ending), [`Expression`](#def.Expression), [`Knows`](#def.Knows)
 //!
+//! **What is needed**
+//!
+//! <a id="def.NeedsTest"></a>
+//!
+//! ## `NeedsTest`
+//!
+//! The missing bytes make the primitive match or fail, and n is the least length with which it can be decided. A test of
+//! a field needs the length with which the packet might have further headers.
+//!
+//! ```text
+//! abbrev pub NeedsTest : Packet → List Header → Ending → ℕ → Primitive → Type 0
+//! NeedsTest packet hs e n (primitives.Field t) = (IsFieldKnown packet hs e t → ⊥) × IsOpenAt packet e n
+//! NeedsTest packet hs e n primitive = IsUndecided packet primitive × IsLeast packet primitive n
+//! ```
+//!
+//! Uses: [`Header`](crate::definitions::ether_base#def.Header), [`Ending`](crate::definitions::ether_peel#def.Ending), `primitives` (`Primitive`), [`IsFieldKnown`](#def.IsFieldKnown), [`IsOpenAt`](#def.IsOpenAt), [`IsUndecided`](#def.IsUndecided), [`IsLeast`](#def.IsLeast)
+//!
+//! <a id="def.neutral"></a>
+//!
+//! ## `neutral`
+//!
+//! The truth of an operand that leaves the other's.
+//!
+//! ```text
+//! abbrev pub neutral : Operator → Bool
+//! neutral operators.And = true
+//! neutral operators.Or = false
+//! ```
+//!
+//! Uses: `operators` (`Operator`)
+//!
+//! <a id="def.NeedsLen"></a>
+//!
+//! ## `NeedsLen`
+//!
+//! An expression needs the least of what those of its primitives need that can still decide it.
+//!
+//! ```text
+//! abbrev pub NeedsLen : Packet → List Header → Ending → ℕ → Expression → Type 0
+//! NeedsLen packet hs e n (Test primitive) = NeedsTest packet hs e n primitive
+//! NeedsLen packet hs e n (Not x) = NeedsLen packet hs e n x
+//! NeedsLen packet hs e n (Join operator x y) =
+//!     (Knows packet hs e (neutral operator) x × NeedsLen packet hs e n y)
+//!     ⊎ (NeedsLen packet hs e n x × Knows packet hs e (neutral operator) y)
+//!     ⊎ ((a : ℕ) × (b : ℕ) × NeedsLen packet hs e a x × NeedsLen packet hs e b y × (n ≡ min a b))
+//! ```
+//!
+//! Uses: [`Header`](crate::definitions::ether_base#def.Header), [`Ending`](crate::definitions::ether_peel#def.Ending), [`Expression`](#def.Expression), [`Test`](#def.Expression), [`NeedsTest`](#def.NeedsTest), [`Not`](#def.Expression), [`Join`](#def.Expression), [`Knows`](#def.Knows), [`neutral`](#def.neutral)
+//!
 //! <a id="def.Says"></a>
 //!
 //! ## `Says`
@@ -1095,76 +1279,77 @@
 //! abbrev pub Says : Packet → List Header → Ending → Expression → Decision → Type 0
 //! Says packet hs e x decisions.Matches = Knows packet hs e true x
 //! Says packet hs e x decisions.Fails = Knows packet hs e false x
-//! Says packet hs e x (decisions.Needs n) = IsOpenAt packet e n × IsUnknown packet hs e x
+//! Says packet hs e x (decisions.Needs n) = NeedsLen packet hs e n x
 //! ```
 //!
-//! Uses: [`Header`](crate::definitions::ether_base#def.Header), [`Ending`](crate::definitions::ether_peel#def.Ending), [`Expression`](#def.Expression), `decisions` (`Decision`), [`Knows`](#def.Knows), [`IsOpenAt`](#def.IsOpenAt), [`IsUnknown`](#def.IsUnknown)
+//! Uses: [`Header`](crate::definitions::ether_base#def.Header), [`Ending`](crate::definitions::ether_peel#def.Ending), [`Expression`](#def.Expression), `decisions` (`Decision`), [`Knows`](#def.Knows), [`NeedsLen`](#def.NeedsLen)
 //!
 //! **Until the length is there**
 //!
-//! <a id="def.Waits"></a>
+//! <a id="def.is_of_captured"></a>
 //!
-//! ## `Waits`
+//! ## `is_of_captured`
 //!
-//! A frame with the headers hs and the ending e waits for n bytes: with some more bytes it has the headers ks and the
-//! ending f, which are the same headers and a refusal at the same place that names n.
-//!
-//! ```text
-//! pub record Waits (hs : List Header) (e : Ending) (n : ℕ) (ks : List Header) (f : Ending) : Type 0 where
-//!   pub alike : EndsAlike hs e ks f
-//!   pub refusal : OpenRefusal f
-//!   pub names : named_len f refusal ≡ n
-//! ```
-//!
-//! Uses: [`Header`](crate::definitions::ether_base#def.Header), [`Ending`](crate::definitions::ether_peel#def.Ending), [`EndsAlike`](crate::definitions::ether_peel#def.EndsAlike), [`OpenRefusal`](crate::definitions::ether_peel#def.OpenRefusal), [`named_len`](crate::definitions::ether_peel#def.named_len)
-//!
-//! <a id="def.WaitsUntil"></a>
-//!
-//! ## `WaitsUntil`
-//!
-//! This holds of each frame of fewer than n bytes that begins with the packet's frame and has no frame check sequence.
+//! The expression asks for the captured length.
 //!
 //! ```text
-//! abbrev pub WaitsUntil : Packet → ℕ → Type 0
-//! WaitsUntil packet n =
-//!     (hs ks : List Header) (e f : Ending) (more : List ℕ)
-//!     → has_fcs (start_of packet.start) ≡ false → length (packet.frame.now ++ more) < n
-//!     → Walk (start_of packet.start) packet.frame.now hs e → Walk (start_of packet.start) (packet.frame.now ++ more) ks f
-//!     → Waits hs e n ks f
+//! abbrev pub is_of_captured : Primitive → Bool
+//! is_of_captured (primitives.Frame t) = nat_eq t.field 254
+//! is_of_captured _ = false
 //! ```
 //!
-//! Uses: [`Header`](crate::definitions::ether_base#def.Header), [`Ending`](crate::definitions::ether_peel#def.Ending), [`has_fcs`](crate::definitions::ether_peel#def.has_fcs), [`start_of`](crate::definitions::ether_peel#def.start_of), [`Walk`](crate::definitions::ether_peel#def.Walk), [`Waits`](#def.Waits)
+//! Uses: `primitives` (`Primitive`)
 //!
-//! <a id="def.IsLonger"></a>
+//! <a id="def.asks_captured"></a>
 //!
-//! ## `IsLonger`
-//!
-//! The packet with further bytes captured.
+//! ## `asks_captured`
 //!
 //! ```text
-//! pub record IsLonger (packet longer : Packet) : Type 0 where
-//!   pub more : List ℕ
-//!   pub start : longer.start ≡ packet.start
-//!   pub frame : longer.frame.now ≡ packet.frame.now ++ more
-//!   pub captured : longer.captured_len ≡ packet.captured_len + length more
-//!   pub original : longer.original_len ≡ packet.original_len
+//! abbrev pub asks_captured : Expression → Bool
+//! asks_captured (Test p) = is_of_captured p
+//! asks_captured (Not x) = asks_captured x
+//! asks_captured (Join operator x y) = asks_captured x || asks_captured y
 //! ```
+//!
+//! Uses: [`Expression`](#def.Expression), [`Test`](#def.Expression), [`is_of_captured`](#def.is_of_captured), [`Not`](#def.Expression), [`Join`](#def.Expression)
 //!
 //! <a id="def.StaysUnknown"></a>
 //!
 //! ## `StaysUnknown`
 //!
-//! While fewer than n bytes of its frame are captured, the decision is still that it needs n.
+//! While fewer than n bytes of the packet's frame are captured, the expression is still unknown, unless it asks for
+//! their
+//! number.
 //!
 //! ```text
 //! abbrev pub StaysUnknown : Packet → ℕ → Expression → Type 0
 //! StaysUnknown packet n x =
-//!     (longer : Packet) (hs : List Header) (e : Ending)
-//!     → IsLonger packet longer → length longer.frame.now < n → Walk (start_of longer.start) longer.frame.now hs e
-//!     → Says longer hs e x (decisions.Needs n)
+//!     (longer : Packet) (hs : List Header) (e : Ending) → asks_captured x ≡ false
+//!     → IsLonger packet longer → IsBytes longer.frame.now → length longer.frame.now < n
+//!     → Walk (start_of longer.start) longer.frame.now hs e → IsUnknown longer hs e x
 //! ```
 //!
-//! Uses: [`Expression`](#def.Expression), [`Header`](crate::definitions::ether_base#def.Header), [`Ending`](crate::definitions::ether_peel#def.Ending), [`IsLonger`](#def.IsLonger), [`Walk`](crate::definitions::ether_peel#def.Walk), [`start_of`](crate::definitions::ether_peel#def.start_of), [`Says`](#def.Says), `decisions` (`Decision`)
+//! Uses: [`Expression`](#def.Expression), [`Header`](crate::definitions::ether_base#def.Header), [`Ending`](crate::definitions::ether_peel#def.Ending), [`asks_captured`](#def.asks_captured), [`IsLonger`](#def.IsLonger), [`IsBytes`](crate::definitions::ether_base#def.IsBytes), [`Walk`](crate::definitions::ether_peel#def.Walk), [`start_of`](crate::definitions::ether_peel#def.start_of), [`IsUnknown`](#def.IsUnknown)
+//!
+//! # Evaluation
+//!
+//! The values of the expressions that are read, as a stack.
+//!
+//! **Of a packet that was cut**
+//!
+//! <a id="def.decided"></a>
+//!
+//! ## `decided`
+//!
+//! The decision of a truth.
+//!
+//! ```text
+//! abbrev pub decided : Bool → Decision
+//! decided true = Matches
+//! decided false = Fails
+//! ```
+//!
+//! Uses: `Matches` (`Decision::Matches`), `Fails` (`Decision::Fails`)
 //!
 //! # Words
 //!
@@ -1681,6 +1866,301 @@
 //!
 //! Uses: [`slice_between`](#def.slice_between)
 //!
+//! # Time texts
+//!
+//! Times as words: a date of the Gregorian calendar (ISO 8601) and a time of day in UTC, as RFC 3339 (5.6) writes them.
+//!
+//! **The calendar**
+//!
+//! <a id="def.is_leap_year"></a>
+//!
+//! ## `is_leap_year`
+//!
+//! Every fourth year is a leap year, except for every hundredth that is not a four hundredth.
+//!
+//! ```text
+//! abbrev pub is_leap_year : ℕ → Bool
+//! is_leap_year y = nat_eq (y % 4) 0 && (not (nat_eq (y % 100) 0) || nat_eq (y % 400) 0)
+//! ```
+//!
+//! <a id="def.month_lens"></a>
+//!
+//! ## `month_lens`
+//!
+//! The number of days of each month of a year.
+//!
+//! ```text
+//! abbrev pub month_lens : (leap : Bool) → List ℕ
+//! month_lens leap = 31 ∷ (if leap then 29 else 28) ∷ 31 ∷ 30 ∷ 31 ∷ 30 ∷ 31 ∷ 31 ∷ 30 ∷ 31 ∷ 30 ∷ 31 ∷ []
+//! ```
+//!
+//! <a id="def.sum"></a>
+//!
+//! ## `sum`
+//!
+//! ```text
+//! abbrev pub sum : List ℕ → ℕ
+//! sum [] = 0
+//! sum (n ∷ ns) = n + sum ns
+//! ```
+//!
+//! <a id="def.days_before_month"></a>
+//!
+//! ## `days_before_month`
+//!
+//! The number of days of a year before a month.
+//!
+//! ```text
+//! abbrev pub days_before_month : (leap : Bool) → (month : ℕ) → ℕ
+//! days_before_month leap month = sum (take (month - 1) (month_lens leap))
+//! ```
+//!
+//! Uses: [`sum`](#def.sum), [`month_lens`](#def.month_lens)
+//!
+//! <a id="def.days_before_year"></a>
+//!
+//! ## `days_before_year`
+//!
+//! The number of days from 1 January of the year 1 to 1 January of a year.
+//!
+//! ```text
+//! abbrev pub days_before_year : ℕ → ℕ
+//! days_before_year y = let years = y - 1 in 365 * years + (years / 4 - years / 100 + years / 400)
+//! ```
+//!
+//! <a id="def.is_year"></a>
+//!
+//! ## `is_year`
+//!
+//! There is such a date, and 64 bits have the nanoseconds from 1970 to it.
+//!
+//! ```text
+//! abbrev pub is_year : ℕ → Bool
+//! is_year year = nat_le 1970 year && nat_lt year 2554
+//! ```
+//!
+//! <a id="def.is_month"></a>
+//!
+//! ## `is_month`
+//!
+//! ```text
+//! abbrev pub is_month : ℕ → Bool
+//! is_month month = nat_le 1 month && nat_le month 12
+//! ```
+//!
+//! <a id="def.is_day"></a>
+//!
+//! ## `is_day`
+//!
+//! ```text
+//! abbrev pub is_day : (year month day : ℕ) → Bool
+//! is_day year month day = nat_le 1 day && nat_le day (slice_index (month_lens (is_leap_year year)) (month - 1))
+//! ```
+//!
+//! Uses: [`month_lens`](#def.month_lens), [`is_leap_year`](#def.is_leap_year)
+//!
+//! <a id="def.days_in"></a>
+//!
+//! ## `days_in`
+//!
+//! The number of days from the beginning of 1970 to a date.
+//!
+//! ```text
+//! abbrev pub days_in : (year month day : ℕ) → Option ℕ
+//! days_in year month day =
+//!     if is_year year && is_month month
+//!     then (if is_day year month day
+//!     then Some (days_before_year year + days_before_month (is_leap_year year) month + (day - 1) - days_before_year 1970)
+//!     else None)
+//!     else None
+//! ```
+//!
+//! Uses: [`is_year`](#def.is_year), [`is_month`](#def.is_month), [`is_day`](#def.is_day), [`days_before_year`](#def.days_before_year), [`days_before_month`](#def.days_before_month), [`is_leap_year`](#def.is_leap_year)
+//!
+//! **A text**
+//!
+//! <a id="def.is_digit"></a>
+//!
+//! ## `is_digit`
+//!
+//! A zero (48), or one of the nine digits after it.
+//!
+//! ```text
+//! abbrev pub is_digit : ℕ → Bool
+//! is_digit c = nat_le 48 c && nat_lt (c - 48) 10
+//! ```
+//!
+//! <a id="def.date_digits"></a>
+//!
+//! ## `date_digits`
+//!
+//! The places of the digits in 2026-11-01T00:00:00.
+//!
+//! ```text
+//! abbrev pub date_digits : List ℕ
+//! date_digits = 0 ∷ 1 ∷ 2 ∷ 3 ∷ 5 ∷ 6 ∷ 8 ∷ 9 ∷ 11 ∷ 12 ∷ 14 ∷ 15 ∷ 17 ∷ 18 ∷ []
+//! ```
+//!
+//! <a id="def.are_digits"></a>
+//!
+//! ## `are_digits`
+//!
+//! ```text
+//! abbrev pub are_digits : List ℕ → Bool
+//! are_digits text = list_all (λ i. is_digit (slice_index text i)) date_digits
+//! ```
+//!
+//! Uses: [`is_digit`](#def.is_digit), [`date_digits`](#def.date_digits)
+//!
+//! <a id="def.are_signs"></a>
+//!
+//! ## `are_signs`
+//!
+//! The signs between them: two hyphens, a T and two colons.
+//!
+//! ```text
+//! abbrev pub are_signs : List ℕ → Bool
+//! are_signs text =
+//!     list_all (λ i. nat_eq (slice_index text i) 45) (4 ∷ 7 ∷ [])
+//!     && (nat_eq (slice_index text 10) 84 && list_all (λ i. nat_eq (slice_index text i) 58) (13 ∷ 16 ∷ []))
+//! ```
+//!
+//! <a id="def.two_at"></a>
+//!
+//! ## `two_at`
+//!
+//! The number of the two digits from a place on.
+//!
+//! ```text
+//! abbrev pub two_at : (at : ℕ) → List ℕ → ℕ
+//! two_at at text = (slice_index text at - 48) * 10 + (slice_index text (at + 1) - 48)
+//! ```
+//!
+//! <a id="def.is_time"></a>
+//!
+//! ## `is_time`
+//!
+//! ```text
+//! abbrev pub is_time : List ℕ → Bool
+//! is_time text = (nat_lt (two_at 11 text) 24 && nat_lt (two_at 14 text) 60) && nat_lt (two_at 17 text) 60
+//! ```
+//!
+//! Uses: [`two_at`](#def.two_at)
+//!
+//! <a id="def.second_of_day"></a>
+//!
+//! ## `second_of_day`
+//!
+//! ```text
+//! abbrev pub second_of_day : List ℕ → ℕ
+//! second_of_day text = two_at 11 text * 3600 + two_at 14 text * 60 + two_at 17 text
+//! ```
+//!
+//! Uses: [`two_at`](#def.two_at)
+//!
+//! <a id="def.days_at"></a>
+//!
+//! ## `days_at`
+//!
+//! ```text
+//! abbrev pub days_at : List ℕ → Option ℕ
+//! days_at text = days_in (two_at 0 text * 100 + two_at 2 text) (two_at 5 text) (two_at 8 text)
+//! ```
+//!
+//! Uses: [`days_in`](#def.days_in), [`two_at`](#def.two_at)
+//!
+//! <a id="def.seconds_in"></a>
+//!
+//! ## `seconds_in`
+//!
+//! The number of seconds from the beginning of 1970 to a date and a time of day.
+//!
+//! ```text
+//! abbrev pub seconds_in : List ℕ → Option ℕ
+//! seconds_in text =
+//!     if (are_digits text && are_signs text) && is_time text
+//!     then option_map (λ (days : ℕ). days * 86400 + second_of_day text) (days_at text) else None
+//! ```
+//!
+//! Uses: [`are_digits`](#def.are_digits), [`are_signs`](#def.are_signs), [`is_time`](#def.is_time), [`second_of_day`](#def.second_of_day), [`days_at`](#def.days_at)
+//!
+//! <a id="def.nine_digits"></a>
+//!
+//! ## `nine_digits`
+//!
+//! Decimals of the second in nanoseconds: with zeros (48) after them they are nine.
+//!
+//! ```text
+//! abbrev pub nine_digits : List ℕ → List ℕ
+//! nine_digits ds = ds ++ drop (length ds) (codes "000000000")
+//! ```
+//!
+//! <a id="def.decimals_in"></a>
+//!
+//! ## `decimals_in`
+//!
+//! The nanoseconds after the second: none before a Z (90), or one to nine decimals between a point (46) and a Z.
+//!
+//! ```text
+//! abbrev pub decimals_in : List ℕ → Option ℕ
+//! decimals_in text =
+//!     if nat_eq (length text) 1 && nat_eq (slice_index text 0) 90 then Some 0
+//!     else (if (nat_le 3 (length text) && nat_le (length text) 11)
+//!     && (nat_eq (slice_index text 0) 46 && nat_eq (slice_index text (length text - 1)) 90)
+//!     then digits_in 10 (nine_digits (slice_range text 1 (length text - 1))) else None)
+//! ```
+//!
+//! Uses: [`digits_in`](#def.digits_in), [`nine_digits`](#def.nine_digits)
+//!
+//! <a id="def.unquoted"></a>
+//!
+//! ## `unquoted`
+//!
+//! What is between two quotation marks (34), or the whole word.
+//!
+//! ```text
+//! abbrev pub unquoted : List ℕ → List ℕ
+//! unquoted word =
+//!     if nat_le 2 (length word) && (nat_eq (slice_index word 0) 34 && nat_eq (slice_index word (length word - 1)) 34)
+//!     then slice_range word 1 (length word - 1) else word
+//! ```
+//!
+//! <a id="def.nanoseconds_with"></a>
+//!
+//! ## `nanoseconds_with`
+//!
+//! ```text
+//! abbrev pub nanoseconds_with : Option ℕ → Option ℕ → Option ℕ
+//! nanoseconds_with None decimals = None
+//! nanoseconds_with (Some seconds) None = None
+//! nanoseconds_with (Some seconds) (Some decimals) = Some (seconds * 10 ^ 9 + decimals)
+//! ```
+//!
+//! <a id="def.nanoseconds_in"></a>
+//!
+//! ## `nanoseconds_in`
+//!
+//! ```text
+//! abbrev pub nanoseconds_in : List ℕ → Option ℕ
+//! nanoseconds_in text =
+//!     if nat_lt (length text) 20 then None else nanoseconds_with (seconds_in (take 19 text)) (decimals_in (drop 19 text))
+//! ```
+//!
+//! Uses: [`nanoseconds_with`](#def.nanoseconds_with), [`seconds_in`](#def.seconds_in), [`decimals_in`](#def.decimals_in)
+//!
+//! <a id="def.time_in"></a>
+//!
+//! ## `time_in`
+//!
+//! The time that a word is, with quotation marks or without, as the nanoseconds since the beginning of 1970.
+//!
+//! ```text
+//! abbrev pub time_in : List ℕ → Option ℕ
+//! time_in word = nanoseconds_in (unquoted word)
+//! ```
+//!
+//! Uses: [`nanoseconds_in`](#def.nanoseconds_in), [`unquoted`](#def.unquoted)
+//!
 //! # Subjects
 //!
 //! The fields that words name, and the values that they take.
@@ -1840,6 +2320,45 @@
 //!
 //! Uses: [`Row`](crate::definitions::ether_fields#def.Row), [`Subject`](#def.Subject), [`subject_of`](#def.subject_of)
 //!
+//! <a id="def.length_subject"></a>
+//!
+//! ## `length_subject`
+//!
+//! A length of a packet has 32 bits.
+//!
+//! ```text
+//! abbrev pub length_subject : (field : ℕ) → Subject
+//! length_subject field = record { field = field; first = 0; count = 0; takes = takes.Number 4294967295 }
+//! ```
+//!
+//! Uses: [`Subject`](#def.Subject)
+//!
+//! <a id="def.header_subject"></a>
+//!
+//! ## `header_subject`
+//!
+//! The name of a header.
+//!
+//! ```text
+//! abbrev pub header_subject : Subject
+//! header_subject = record { field = 252; first = 0; count = 0; takes = takes.Header }
+//! ```
+//!
+//! Uses: [`Subject`](#def.Subject)
+//!
+//! <a id="def.time_subject"></a>
+//!
+//! ## `time_subject`
+//!
+//! The time of a packet.
+//!
+//! ```text
+//! abbrev pub time_subject : Subject
+//! time_subject = record { field = 253; first = 0; count = 0; takes = takes.Time }
+//! ```
+//!
+//! Uses: [`Subject`](#def.Subject)
+//!
 //! <a id="def.has_slice"></a>
 //!
 //! ## `has_slice`
@@ -1851,9 +2370,11 @@
 //! has_slice (takes.Number most) first count = false
 //! has_slice (takes.Bytes len) first count = nat_le (first + count) len
 //! has_slice takes.AnyBytes first count = true
+//! has_slice takes.Time first count = false
+//! has_slice takes.Header first count = false
 //! ```
 //!
-//! Uses: [`Takes`](#def.Takes), [`takes.Number`](#def.Takes), [`takes.Bytes`](#def.Takes), [`takes.AnyBytes`](#def.Takes)
+//! Uses: [`Takes`](#def.Takes), [`takes.Number`](#def.Takes), [`takes.Bytes`](#def.Takes), [`takes.AnyBytes`](#def.Takes), [`takes.Time`](#def.Takes), [`takes.Header`](#def.Takes)
 //!
 //! <a id="def.sliced"></a>
 //!
@@ -1894,6 +2415,24 @@
 //!
 //! Uses: [`Subject`](#def.Subject), [`sliced_by`](#def.sliced_by), [`slice_in`](#def.slice_in)
 //!
+//! <a id="def.unnumbered_subject"></a>
+//!
+//! ## `unnumbered_subject`
+//!
+//! The names of headers, and what a capture says of a packet; these fields have no number in the table, and have one
+//! here.
+//!
+//! ```text
+//! abbrev pub unnumbered_subject : List ℕ → Option Subject
+//! unnumbered_subject name =
+//!     if pointwise nat_eq name (codes "headers.header") then Some header_subject
+//!     else (if pointwise nat_eq name (codes "frame.time") then Some time_subject
+//!     else (if pointwise nat_eq name (codes "frame.captured") then Some (length_subject 254)
+//!     else (if pointwise nat_eq name (codes "frame.original") then Some (length_subject 255) else None)))
+//! ```
+//!
+//! Uses: [`Subject`](#def.Subject), [`header_subject`](#def.header_subject), [`time_subject`](#def.time_subject), [`length_subject`](#def.length_subject)
+//!
 //! <a id="def.subject_at"></a>
 //!
 //! ## `subject_at`
@@ -1902,11 +2441,11 @@
 //!
 //! ```text
 //! abbrev pub subject_at : List ℕ → Option ℕ → Option Subject
-//! subject_at word None = subject_if (row_named word)
+//! subject_at word None = option_or (unnumbered_subject word) (subject_if (row_named word))
 //! subject_at word (Some at) = sliced_if (subject_if (row_named (take at word))) (drop at word)
 //! ```
 //!
-//! Uses: [`Subject`](#def.Subject), [`subject_if`](#def.subject_if), [`row_named`](#def.row_named), [`sliced_if`](#def.sliced_if)
+//! Uses: [`Subject`](#def.Subject), [`unnumbered_subject`](#def.unnumbered_subject), [`subject_if`](#def.subject_if), [`row_named`](#def.row_named), [`sliced_if`](#def.sliced_if)
 //!
 //! <a id="def.subject_in"></a>
 //!
@@ -1935,9 +2474,11 @@
 //! number_for (takes.Bytes len) n =
 //!     if nat_le n (greatest_in_bytes len) then Some (record { len = len; number = n }) else None
 //! number_for takes.AnyBytes n = None
+//! number_for takes.Time n = None
+//! number_for takes.Header n = None
 //! ```
 //!
-//! Uses: [`Takes`](#def.Takes), [`Literal`](#def.Literal), [`takes.Number`](#def.Takes), [`takes.Bytes`](#def.Takes), [`greatest_in_bytes`](#def.greatest_in_bytes), [`takes.AnyBytes`](#def.Takes)
+//! Uses: [`Takes`](#def.Takes), [`Literal`](#def.Literal), [`takes.Number`](#def.Takes), [`takes.Bytes`](#def.Takes), [`greatest_in_bytes`](#def.greatest_in_bytes), [`takes.AnyBytes`](#def.Takes), [`takes.Time`](#def.Takes), [`takes.Header`](#def.Takes)
 //!
 //! <a id="def.bytes_for"></a>
 //!
@@ -1950,9 +2491,39 @@
 //! bytes_for (takes.Number most) bytes = None
 //! bytes_for (takes.Bytes len) bytes = if nat_eq len bytes.len then Some bytes else None
 //! bytes_for takes.AnyBytes bytes = Some bytes
+//! bytes_for takes.Time bytes = None
+//! bytes_for takes.Header bytes = None
 //! ```
 //!
-//! Uses: [`Takes`](#def.Takes), [`Literal`](#def.Literal), [`takes.Number`](#def.Takes), [`takes.Bytes`](#def.Takes), [`takes.AnyBytes`](#def.Takes)
+//! Uses: [`Takes`](#def.Takes), [`Literal`](#def.Literal), [`takes.Number`](#def.Takes), [`takes.Bytes`](#def.Takes), [`takes.AnyBytes`](#def.Takes), [`takes.Time`](#def.Takes), [`takes.Header`](#def.Takes)
+//!
+//! <a id="def.time_for"></a>
+//!
+//! ## `time_for`
+//!
+//! A time as a value.
+//!
+//! ```text
+//! abbrev pub time_for : Takes → ℕ → Option Literal
+//! time_for takes.Time n = Some (record { len = 0; number = n })
+//! time_for _ n = None
+//! ```
+//!
+//! Uses: [`Takes`](#def.Takes), [`Literal`](#def.Literal), [`takes.Time`](#def.Takes)
+//!
+//! <a id="def.name_for"></a>
+//!
+//! ## `name_for`
+//!
+//! The name of a header as a value.
+//!
+//! ```text
+//! abbrev pub name_for : Takes → List ℕ → Option Literal
+//! name_for takes.Header name = Some (record { len = length name; number = number name })
+//! name_for _ name = None
+//! ```
+//!
+//! Uses: [`Takes`](#def.Takes), [`Literal`](#def.Literal), [`takes.Header`](#def.Takes)
 //!
 //! **A test**
 //!
@@ -2025,10 +2596,10 @@
 //!
 //! ```text
 //! abbrev pub tested : FieldTest → Primitive
-//! tested t = tested_by t.relation t
+//! tested t = if nat_le 253 t.field then primitives.Frame t else tested_by t.relation t
 //! ```
 //!
-//! Uses: [`tested_by`](#def.tested_by)
+//! Uses: `primitives` (`Primitive`), [`tested_by`](#def.tested_by)
 //!
 //! <a id="def.existence_of"></a>
 //!
@@ -2060,12 +2631,15 @@
 //!     (codes "and", tokens.Join And) ∷ (codes "&&", tokens.Join And) ∷ (codes "or", tokens.Join Or)
 //!     ∷ (codes "||", tokens.Join Or) ∷
 //!     (codes "vlan", tokens.Vlan) ∷ (codes "outer", tokens.Outer) ∷ (codes "inner", tokens.Inner)
-//!     ∷ (codes "macsec", tokens.Macsec) ∷
+//!     ∷ (codes "macsec", tokens.Macsec) ∷ (codes "eth", tokens.Eth) ∷ (codes "sll", tokens.Sll) ∷
 //!     (codes "arp", tokens.Arp) ∷ (codes "ip", tokens.Ip) ∷ (codes "ip6", tokens.Ip6) ∷
 //!     (codes "ether", tokens.Ether) ∷ (codes "proto", tokens.Proto) ∷ (codes "src", tokens.Src)
 //!     ∷ (codes "dst", tokens.Dst) ∷ (codes "host", tokens.Host) ∷
 //!     (codes "broadcast", tokens.Broadcast) ∷ (codes "multicast", tokens.Multicast) ∷
-//!     (codes "refused", tokens.Refused) ∷ (codes "cut", tokens.Cut) ∷ (codes "less", tokens.Less)
+//!     (codes "refused", tokens.Refused) ∷ (codes "fault", tokens.Refused) ∷ (codes "cut", tokens.Cut) ∷ (
+//!       codes "less",
+//!       tokens.Less,
+//!     )
 //!     ∷ (codes "greater", tokens.Greater) ∷
 //!     (codes "==", tokens.Relation Equal) ∷ (codes "!=", tokens.Relation NotEqual) ∷ (codes "<", tokens.Relation Less)
 //!     ∷ (codes "<=", tokens.Relation AtMost) ∷ (codes ">", tokens.Relation Greater)
@@ -2074,7 +2648,7 @@
 //!     ∷ (codes "}", tokens.CloseSet) ∷ (codes ",", tokens.Comma) ∷ []
 //! ```
 //!
-//! Uses: [`Token`](#def.Token), [`tokens.Open`](#def.Token), [`tokens.Close`](#def.Token), [`tokens.Not`](#def.Token), [`tokens.Join`](#def.Token), `And` (`Operator::And`), `Or` (`Operator::Or`), [`tokens.Vlan`](#def.Token), [`tokens.Outer`](#def.Token), [`tokens.Inner`](#def.Token), [`tokens.Macsec`](#def.Token), [`tokens.Arp`](#def.Token), [`tokens.Ip`](#def.Token), [`tokens.Ip6`](#def.Token), [`tokens.Ether`](#def.Token), [`tokens.Proto`](#def.Token), [`tokens.Src`](#def.Token), [`tokens.Dst`](#def.Token), [`tokens.Host`](#def.Token), [`tokens.Broadcast`](#def.Token), [`tokens.Multicast`](#def.Token), [`tokens.Refused`](#def.Token), [`tokens.Cut`](#def.Token), [`tokens.Less`](#def.Token), [`tokens.Greater`](#def.Token), [`tokens.Relation`](#def.Token), `Equal` (`Relation::Equal`), `NotEqual` (`Relation::NotEqual`), `Less` (`Relation::Less`), `AtMost` (`Relation::AtMost`), `Greater` (`Relation::Greater`), `AtLeast` (`Relation::AtLeast`), [`tokens.Mask`](#def.Token), [`tokens.In`](#def.Token), [`tokens.OpenSet`](#def.Token), [`tokens.CloseSet`](#def.Token), [`tokens.Comma`](#def.Token)
+//! Uses: [`Token`](#def.Token), [`tokens.Open`](#def.Token), [`tokens.Close`](#def.Token), [`tokens.Not`](#def.Token), [`tokens.Join`](#def.Token), `And` (`Operator::And`), `Or` (`Operator::Or`), [`tokens.Vlan`](#def.Token), [`tokens.Outer`](#def.Token), [`tokens.Inner`](#def.Token), [`tokens.Macsec`](#def.Token), [`tokens.Eth`](#def.Token), [`tokens.Sll`](#def.Token), [`tokens.Arp`](#def.Token), [`tokens.Ip`](#def.Token), [`tokens.Ip6`](#def.Token), [`tokens.Ether`](#def.Token), [`tokens.Proto`](#def.Token), [`tokens.Src`](#def.Token), [`tokens.Dst`](#def.Token), [`tokens.Host`](#def.Token), [`tokens.Broadcast`](#def.Token), [`tokens.Multicast`](#def.Token), [`tokens.Refused`](#def.Token), [`tokens.Cut`](#def.Token), [`tokens.Less`](#def.Token), [`tokens.Greater`](#def.Token), [`tokens.Relation`](#def.Token), `Equal` (`Relation::Equal`), `NotEqual` (`Relation::NotEqual`), `Less` (`Relation::Less`), `AtMost` (`Relation::AtMost`), `Greater` (`Relation::Greater`), `AtLeast` (`Relation::AtLeast`), [`tokens.Mask`](#def.Token), [`tokens.In`](#def.Token), [`tokens.OpenSet`](#def.Token), [`tokens.CloseSet`](#def.Token), [`tokens.Comma`](#def.Token)
 //!
 //! <a id="def.meaning_among"></a>
 //!
@@ -2112,10 +2686,11 @@
 //! literal word =
 //!     unwrap_or (option_map tokens.Address (address_in word))
 //!     (unwrap_or (option_map tokens.Bytes (literal_in word))
-//!     (unwrap_or (option_map tokens.Field (subject_in word)) (number_token (wide_number_in word))))
+//!     (unwrap_or (option_map tokens.Field (subject_in word))
+//!     (unwrap_or (option_map tokens.Time (time_in word)) (number_token (wide_number_in word)))))
 //! ```
 //!
-//! Uses: [`Token`](#def.Token), [`tokens.Address`](#def.Token), [`address_in`](#def.address_in), [`tokens.Bytes`](#def.Token), [`literal_in`](#def.literal_in), [`tokens.Field`](#def.Token), [`subject_in`](#def.subject_in), [`number_token`](#def.number_token), [`wide_number_in`](#def.wide_number_in)
+//! Uses: [`Token`](#def.Token), [`tokens.Address`](#def.Token), [`address_in`](#def.address_in), [`tokens.Bytes`](#def.Token), [`literal_in`](#def.literal_in), [`tokens.Field`](#def.Token), [`subject_in`](#def.subject_in), [`tokens.Time`](#def.Token), [`time_in`](#def.time_in), [`number_token`](#def.number_token), [`wide_number_in`](#def.wide_number_in)
 //!
 //! <a id="def.token_of"></a>
 //!
@@ -2221,10 +2796,16 @@
 //! value_for takes (tokens.Number (Some n)) = number_for takes n
 //! value_for takes (tokens.Address a) = bytes_for takes (record { len = 6; number = a })
 //! value_for takes (tokens.Bytes bytes) = bytes_for takes bytes
+//! value_for takes (tokens.Time time) = time_for takes time
+//! value_for takes tokens.Eth = name_for takes (codes "eth")
+//! value_for takes tokens.Sll = name_for takes (codes "sll")
+//! value_for takes tokens.Vlan = name_for takes (codes "vlan")
+//! value_for takes tokens.Macsec = name_for takes (codes "macsec")
+//! value_for takes tokens.Arp = name_for takes (codes "arp")
 //! value_for takes _ = None
 //! ```
 //!
-//! Uses: [`Takes`](#def.Takes), [`Token`](#def.Token), [`Literal`](#def.Literal), [`tokens.Number`](#def.Token), [`number_for`](#def.number_for), [`tokens.Address`](#def.Token), [`bytes_for`](#def.bytes_for), [`tokens.Bytes`](#def.Token)
+//! Uses: [`Takes`](#def.Takes), [`Token`](#def.Token), [`Literal`](#def.Literal), [`tokens.Number`](#def.Token), [`number_for`](#def.number_for), [`tokens.Address`](#def.Token), [`bytes_for`](#def.bytes_for), [`tokens.Bytes`](#def.Token), [`tokens.Time`](#def.Token), [`time_for`](#def.time_for), [`tokens.Eth`](#def.Token), [`name_for`](#def.name_for), [`tokens.Sll`](#def.Token), [`tokens.Vlan`](#def.Token), [`tokens.Macsec`](#def.Token), [`tokens.Arp`](#def.Token)
 //!
 //! <a id="def.masked"></a>
 //!
@@ -2315,9 +2896,11 @@
 //! value_kind (takes.Number most) = kinds.ExpectedNumber most
 //! value_kind (takes.Bytes len) = kinds.ExpectedBytes len
 //! value_kind takes.AnyBytes = kinds.ExpectedAnyBytes
+//! value_kind takes.Time = kinds.ExpectedTime
+//! value_kind takes.Header = kinds.ExpectedHeader
 //! ```
 //!
-//! Uses: [`Takes`](#def.Takes), [`takes.Number`](#def.Takes), `kinds` (`FilterErrorKind`), [`takes.Bytes`](#def.Takes), [`takes.AnyBytes`](#def.Takes)
+//! Uses: [`Takes`](#def.Takes), [`takes.Number`](#def.Takes), `kinds` (`FilterErrorKind`), [`takes.Bytes`](#def.Takes), [`takes.AnyBytes`](#def.Takes), [`takes.Time`](#def.Takes), [`takes.Header`](#def.Takes)
 //!
 //! <a id="def.kind_of"></a>
 //!
@@ -3024,7 +3607,8 @@
 //! ```text
 //! pub data Lacks (ts : List Token) : Option Token → FilterErrorKind → Type 0 where
 //!   operand : (next : Option Token) → Fits ts tokens.Not → Lacks ts next kinds.ExpectedOperand
-//!   vlan : (next : Option Token) → Fits ts tokens.Vlan → (Fits ts tokens.Not → ⊥) → Lacks ts next kinds.ExpectedVlan
+//!   vlan : (next : Option Token) → Fits ts tokens.Vlan → (Fits ts tokens.Not → ⊥) → NoValueFollows ts
+//!       → Lacks ts next kinds.ExpectedVlan
 //!   ether_word : (next : Option Token) → Fits ts tokens.Proto → Lacks ts next kinds.ExpectedEtherWord
 //!   address : (next : Option Token) → Fits ts (tokens.Address 0) → NoValueFollows ts → Lacks ts next kinds.ExpectedAddress
 //!   number : (next : Option Token) (most : ℕ) → Fits ts (tokens.Number (Some most))
@@ -3050,7 +3634,7 @@
 //!   unclosed : IsAfterOperand ts → Lacks ts None kinds.Unclosed
 //! ```
 //!
-//! Uses: [`Token`](#def.Token), [`Fits`](#def.Fits), [`tokens.Not`](#def.Token), `kinds` (`FilterErrorKind`), [`tokens.Vlan`](#def.Token), [`tokens.Proto`](#def.Token), [`tokens.Address`](#def.Token), [`NoValueFollows`](#def.NoValueFollows), [`tokens.Number`](#def.Token), [`IsAfterOperand`](#def.IsAfterOperand), [`Subject`](#def.Subject), [`ValueFollows`](#def.ValueFollows), [`value_kind`](#def.value_kind), [`tokens.Relation`](#def.Token), `Equal` (`Relation::Equal`), [`tokens.OpenSet`](#def.Token), [`tokens.Comma`](#def.Token), [`IsUnrelated`](#def.IsUnrelated), [`IsOther`](#def.IsOther), [`tokens.Join`](#def.Token), [`tokens.Close`](#def.Token)
+//! Uses: [`Token`](#def.Token), [`Fits`](#def.Fits), [`tokens.Not`](#def.Token), `kinds` (`FilterErrorKind`), [`tokens.Vlan`](#def.Token), [`NoValueFollows`](#def.NoValueFollows), [`tokens.Proto`](#def.Token), [`tokens.Address`](#def.Token), [`tokens.Number`](#def.Token), [`IsAfterOperand`](#def.IsAfterOperand), [`Subject`](#def.Subject), [`ValueFollows`](#def.ValueFollows), [`value_kind`](#def.value_kind), [`tokens.Relation`](#def.Token), `Equal` (`Relation::Equal`), [`tokens.OpenSet`](#def.Token), [`tokens.Comma`](#def.Token), [`IsUnrelated`](#def.IsUnrelated), [`IsOther`](#def.IsOther), [`tokens.Join`](#def.Token), [`tokens.Close`](#def.Token)
 //!
 //! <a id="def.RefusesExpression"></a>
 //!
@@ -3088,6 +3672,63 @@
 //! ```
 //!
 //! Uses: [`RefusesExpression`](#def.RefusesExpression), [`words_of`](#def.words_of)
+//!
+//! # Prospects
+//!
+//! What can become of a unit of which only the first bytes are there.
+//!
+//! <a id="def.IsCompletion"></a>
+//!
+//! ## `IsCompletion`
+//!
+//! As many bytes as are missing.
+//!
+//! ```text
+//! pub record IsCompletion (packet : Packet) (more : List ℕ) : Type 0 where
+//!   pub are_bytes : IsBytes more
+//!   pub all : length more ≡ packet.original_len - packet.captured_len
+//! ```
+//!
+//! Uses: [`IsBytes`](crate::definitions::ether_base#def.IsBytes)
+//!
+//! <a id="def.AtCompletions"></a>
+//!
+//! ## `AtCompletions`
+//!
+//! It holds of the packet with any such bytes after its frame; its two lengths are unchanged.
+//!
+//! ```text
+//! abbrev pub AtCompletions : Packet → (Walked → Type 0) → Type 0
+//! AtCompletions packet Is =
+//!     (more : List ℕ) (hs : List Header) (e : Ending)
+//!     → IsCompletion packet more → Walk (start_of packet.start) (packet.frame.now ++ more) hs e → Is (walked packet hs e)
+//! ```
+//!
+//! Uses: [`Walked`](#def.Walked), [`Header`](crate::definitions::ether_base#def.Header), [`Ending`](crate::definitions::ether_peel#def.Ending), [`IsCompletion`](#def.IsCompletion), [`Walk`](crate::definitions::ether_peel#def.Walk), [`start_of`](crate::definitions::ether_peel#def.start_of), [`walked`](#def.walked)
+//!
+//! # Later
+//!
+//! What can follow the open unit of a packet that was cut short.
+//!
+//! **Of a packet**
+//!
+//! <a id="def.SomeCompletion"></a>
+//!
+//! ## `SomeCompletion`
+//!
+//! Some completed packet has it.
+//!
+//! ```text
+//! pub record SomeCompletion (packet : Packet) (Is : Walked → Type 0) : Type 0 where
+//!   pub more : List ℕ
+//!   pub headers : List Header
+//!   pub ending : Ending
+//!   pub completes : IsCompletion packet more
+//!   pub walk : Walk (start_of packet.start) (packet.frame.now ++ more) headers ending
+//!   pub holds : Is (walked packet headers ending)
+//! ```
+//!
+//! Uses: [`Walked`](#def.Walked), [`Header`](crate::definitions::ether_base#def.Header), [`Ending`](crate::definitions::ether_peel#def.Ending), [`IsCompletion`](#def.IsCompletion), [`Walk`](crate::definitions::ether_peel#def.Walk), [`start_of`](crate::definitions::ether_peel#def.start_of), [`walked`](#def.walked)
 //!
 //! # Types
 //!
@@ -3243,6 +3884,10 @@
 //!     Bytes(u8),
 //!     /// Any number of bytes.
 //!     AnyBytes,
+//!     /// Times.
+//!     Time,
+//!     /// The names of headers.
+//!     Header,
 //! }
 //! ```
 //!
@@ -3274,7 +3919,7 @@
 //!
 //! ```text
 //! struct Literal {
-//!     /// The number of bytes, or 0 for a number.
+//!     /// The number of bytes, or 0 for a number or a time.
 //!     pub len: u8,
 //!     pub number: u64,
 //! }
@@ -3321,6 +3966,8 @@
 //!     Outer,
 //!     Inner,
 //!     Macsec,
+//!     Eth,
+//!     Sll,
 //!     Arp,
 //!     Ip,
 //!     Ip6,
@@ -3340,6 +3987,8 @@
 //!     Address(u64),
 //!     /// The bytes of a value, other than those of an address.
 //!     Bytes(Literal),
+//!     /// The nanoseconds since the beginning of 1970.
+//!     Time(u64),
 //!     Field(Subject),
 //!     Relation(Relation),
 //!     /// `&`

@@ -6,7 +6,7 @@ use crate::ether_peel::Start;
 use crate::ether_sll2::LinuxSll2Slice;
 
 /// The length in bytes of the frame check sequence of Ethernet.
-const FCS_LEN: usize = 4;
+pub(in crate::ether_content) const FCS_LEN: usize = 4;
 
 /// The part of a packet that is walked, by its link type.
 ///
@@ -169,7 +169,7 @@ pub fn is_cut(packet: &CapturedPacket<'_>) -> bool {
 /// The length of the frame check sequence at the end of the packet before it was cut; 0 if the capture does not give
 /// it.
 #[inline]
-fn fcs_len(packet: &CapturedPacket<'_>) -> usize {
+pub(in crate::ether_content) fn fcs_len(packet: &CapturedPacket<'_>) -> usize {
     usize::from(packet.fcs_len.unwrap_or(0))
 }
 

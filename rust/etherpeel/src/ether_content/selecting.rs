@@ -50,35 +50,8 @@ pub fn selects(filter: &Filter, packet: &CapturedPacket<'_>) -> bool {
     program::selects(filter.instructions(), packet)
 }
 
-/// Returns `true` if a packet was cut, and its captured bytes do not decide whether a filter selects it.
-///
-/// This is so if [`Filter::decide`] needs more bytes of the part that is walked, or if the header of cooked capture v2
-/// was cut short. [`selects`] then returns what holds for the captured bytes. Missing bytes of a frame check sequence
-/// count as bytes that may belong to headers.
-///
-/// ```
-/// use etherpeel::ether_filter::Filter;
-/// use etherpeel::ether_pcap::{CapturedPacket, LinkType};
-/// use etherpeel::ether_content::is_undecided;
-///
-/// # fn main() -> Result<(), Box<dyn std::error::Error>> {
-/// let packet = CapturedPacket {
-///     time: None,
-///     interface: None,
-///     original_len: 60,
-///     link_type: LinkType::ETHERNET,
-///     snap_len: 16,
-///     fcs_len: None,
-///     packet: &[
-///         0xFF, 0xFF, 0xFF, 0xFF, 0xFF, 0xFF, 0x02, 0x00, 0x00, 0x00, 0x00, 0x01, 0x81, 0x00, // Ethernet II
-///         0xB1, 0x23, // the first bytes of a VLAN tag
-///     ],
-/// };
-/// assert!(is_undecided(&Filter::parse(b"vlan 291")?, &packet));
-/// assert!(!is_undecided(&Filter::parse(b"vlan 291 or greater 60")?, &packet));
-/// # Ok(())
-/// # }
-/// ```
+/// Returns `true` if the captured bytes of a packet do not decide whether a filter selects it: if [`decide`] returns
+/// `None`.
 ///
 /// <details><summary>Contract</summary>
 ///
@@ -95,4 +68,56 @@ pub fn selects(filter: &Filter, packet: &CapturedPacket<'_>) -> bool {
 #[inline(always)]
 pub fn is_undecided(filter: &Filter, packet: &CapturedPacket<'_>) -> bool {
     program::is_undecided(filter.instructions(), packet)
+}
+
+/// Decides whether a filter selects a packet of which bytes may be missing: `Some` if that is so, or not so, whatever
+/// the missing bytes are, as [`Filter::decide`] says; `None` if they can change it.
+///
+/// Missing bytes of a frame check sequence change nothing, if the capture gives its length. A packet whose header of
+/// cooked capture was cut is undecided: the header says what is walked.
+///
+/// [`selects`] goes by the captured bytes alone.
+///
+/// ```
+/// use etherpeel::ether_filter::Filter;
+/// use etherpeel::ether_pcap::{CapturedPacket, LinkType};
+/// use etherpeel::ether_content::{decide, selects};
+///
+/// # fn main() -> Result<(), Box<dyn std::error::Error>> {
+/// let packet = CapturedPacket {
+///     time: None,
+///     interface: None,
+///     original_len: 60,
+///     link_type: LinkType::ETHERNET,
+///     snap_len: 16,
+///     fcs_len: None,
+///     packet: &[
+///         0xFF, 0xFF, 0xFF, 0xFF, 0xFF, 0xFF, 0x02, 0x00, 0x00, 0x00, 0x00, 0x01, 0x81, 0x00, // Ethernet II
+///         0xB1, 0x23, // the first bytes of a VLAN tag
+///     ],
+/// };
+/// assert_eq!(decide(&Filter::parse(b"vlan 291")?, &packet), Some(true));
+/// assert_eq!(decide(&Filter::parse(b"vlan 292")?, &packet), None);
+/// assert_eq!(decide(&Filter::parse(b"not vlan")?, &packet), Some(false));
+/// assert!(!selects(&Filter::parse(b"vlan 291")?, &packet));
+/// # Ok(())
+/// # }
+/// ```
+///
+/// <details><summary>Contract</summary>
+///
+/// ```text
+/// ensures { (outcome : Option Bool) → (result ≡ outcome)
+///     ↔ IsOutcome filter.now (captured_packet_view packet.now) outcome }
+/// ```
+///
+/// Words: [`IsOutcome`](crate::definitions::ether_content#def.IsOutcome),
+/// [`captured_packet_view`](crate::definitions::ether_pcap#def.captured_packet_view).
+/// [Notation](crate::definitions::notation)
+///
+/// </details>
+#[must_use]
+#[inline(always)]
+pub fn decide(filter: &Filter, packet: &CapturedPacket<'_>) -> Option<bool> {
+    program::decide(filter.instructions(), packet)
 }

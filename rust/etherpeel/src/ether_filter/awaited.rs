@@ -134,6 +134,12 @@ fn value_for(takes: Takes, token: Token) -> Option<Literal> {
         Token::Number(Some(number)) => takes.number(number),
         Token::Address(number) => takes.bytes(Literal { len: 6, number }),
         Token::Bytes(bytes) => takes.bytes(bytes),
+        Token::Time(time) => takes.time(time),
+        Token::Eth => takes.name(b"eth"),
+        Token::Sll => takes.name(b"sll"),
+        Token::Vlan => takes.name(b"vlan"),
+        Token::Macsec => takes.name(b"macsec"),
+        Token::Arp => takes.name(b"arp"),
         _ => None,
     }
 }
@@ -234,5 +240,7 @@ fn value_kind(takes: Takes) -> FilterErrorKind {
         Takes::Number(most) => FilterErrorKind::ExpectedNumber(most),
         Takes::Bytes(len) => FilterErrorKind::ExpectedBytes(len),
         Takes::AnyBytes => FilterErrorKind::ExpectedAnyBytes,
+        Takes::Time => FilterErrorKind::ExpectedTime,
+        Takes::Header => FilterErrorKind::ExpectedHeader,
     }
 }

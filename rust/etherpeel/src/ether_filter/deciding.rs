@@ -1,11 +1,11 @@
-//! What is known of a primitive if not all bytes of a packet were captured.
+//! Decisions on tests of fields and on joined expressions, if not all bytes of a packet were captured.
 
-use crate::ether_filter::field_test::Relation;
-use crate::ether_filter::matching::{is_of_lengths, matches_primitive};
+use crate::ether_filter::decision::Decision;
+use crate::ether_filter::field_match::matches_field;
+use crate::ether_filter::field_test::{FieldTest, Relation};
 use crate::ether_filter::node::Operator;
 use crate::ether_filter::packet::Packet;
 use crate::ether_filter::primitive::Primitive;
-use crate::ether_filter::seen::Seen;
 use crate::ether_peel::{PeelError, Start, summary};
 use crate::err::Layer;
 
@@ -62,71 +62,65 @@ fn refused_unit(start: Start, frame: &[u8]) -> Option<(usize, Layer)> {
 
 /// Whether a frame ends in a frame check sequence.
 #[inline]
-fn has_fcs(start: Start) -> bool {
+pub(in crate::ether_filter) fn has_fcs(start: Start) -> bool {
     matches!(start, Start::Ethernet2Fcs)
 }
 
 /// The number of bytes of a packet that were not captured.
 #[inline]
-fn lost(packet: &Packet<'_>) -> usize {
+pub(in crate::ether_filter) fn lost(packet: &Packet<'_>) -> usize {
     (packet.original_len as usize).saturating_sub(packet.captured_len)
 }
 
-/// Whether a primitive matches a packet, if that is known.
+/// The decision of a truth that no missing bytes change.
 #[inline]
-pub(in crate::ether_filter) fn known(
-    primitive: Primitive,
-    packet: &Packet<'_>,
-    seen: &Seen,
-    ids: &[u64],
-    opening: Option<Opening>,
-) -> Option<bool> {
-    let is_match = matches_primitive(primitive, packet, seen, ids);
-    if let Some(opening) = opening {
-        if !is_known(primitive, packet, seen, ids, is_match, opening) {
-            return None;
-        }
+pub(in crate::ether_filter) fn decided(truth: bool) -> Decision {
+    if truth {
+        Decision::Matches
+    } else {
+        Decision::Fails
     }
-    Some(is_match)
 }
 
-/// Whether it is known if a primitive matches an open packet. `is_match` says whether it matches the headers so far.
+/// Decides a test of a field by the headers so far.
 #[inline]
-fn is_known(
-    primitive: Primitive,
+pub(in crate::ether_filter) fn decide_field(
+    test: FieldTest,
     packet: &Packet<'_>,
-    seen: &Seen,
-    ids: &[u64],
-    is_match: bool,
-    opening: Opening,
-) -> bool {
-    if is_of_lengths(primitive) {
-        return true;
+    opening: Option<Opening>,
+) -> Decision {
+    let holds = matches_field(test, packet.start, packet.frame);
+    if let Some(opening) = opening {
+        if !is_known(test, holds, opening) {
+            return Decision::Needs(opening.needed);
+        }
     }
+    decided(holds)
+}
+
+/// Whether it is known if a test of a field holds for an open packet. `holds` says whether it does for the headers so
+/// far.
+#[inline]
+fn is_known(test: FieldTest, holds: bool, opening: Opening) -> bool {
     match opening.layer {
-        Some(layer) => !can_tell(layer, primitive)
-            || is_told(primitive, packet, seen, ids, is_match),
+        Some(layer) => !can_tell(layer, test) || asks_any(test.relation) && holds,
         None => false,
     }
 }
 
-/// Whether a primitive can depend on a unit of this layer, or on one after it.
+/// Whether a test of a field can depend on a unit of this layer, or on one after it. Fields with the numbers up to 3 are
+/// of an Ethernet II header.
 #[inline]
-fn can_tell(layer: Layer, primitive: Primitive) -> bool {
+fn can_tell(layer: Layer, test: FieldTest) -> bool {
     match layer {
-        Layer::Arp => match primitive {
-            Primitive::Refused => true,
-            Primitive::Field(_) => !is_of_link(primitive),
-            _ => false,
-        },
         Layer::Ethernet2Header => true,
-        _ => !is_of_link(primitive),
+        _ => test.field > 3,
     }
 }
 
 /// Whether a primitive asks about an Ethernet II header, whose fields have the numbers up to 3.
 #[inline]
-fn is_of_link(primitive: Primitive) -> bool {
+pub(in crate::ether_filter) fn is_of_link(primitive: Primitive) -> bool {
     match primitive {
         Primitive::Source(_)
         | Primitive::Destination(_)
@@ -138,42 +132,53 @@ fn is_of_link(primitive: Primitive) -> bool {
     }
 }
 
-/// Whether the headers so far decide a primitive, whatever headers follow. `is_match` says whether it matches these
-/// headers.
-#[inline]
-fn is_told(
-    primitive: Primitive,
-    packet: &Packet<'_>,
-    seen: &Seen,
-    ids: &[u64],
-    is_match: bool,
-) -> bool {
-    match primitive {
-        Primitive::OuterVlan(_) => matches_primitive(Primitive::Vlan, packet, seen, ids),
-        Primitive::InnerVlan(_) | Primitive::Refused => false,
-        Primitive::Field(test) => asks_any(test.relation) && is_match,
-        _ => is_match,
-    }
-}
-
 /// Whether a test with this relation asks whether any value has it.
 #[inline]
 fn asks_any(relation: Relation) -> bool {
     !matches!(relation, Relation::NotEqual)
 }
 
-/// The value of two joined operands, in Kleene's logic; `None` is unknown.
+/// The decision on two joined operands, in Kleene's logic.
 #[inline]
-pub(in crate::ether_filter) fn joined_value(
-    operator: Operator,
-    left: Option<bool>,
-    right: Option<bool>,
-) -> Option<bool> {
-    match (operator, left, right) {
-        (Operator::And, Some(false), _) | (Operator::And, _, Some(false)) => Some(false),
-        (Operator::And, Some(true), right) => right,
-        (Operator::Or, Some(true), _) | (Operator::Or, _, Some(true)) => Some(true),
-        (Operator::Or, Some(false), right) => right,
-        _ => None,
+pub(in crate::ether_filter) fn joined_decision(operator: Operator, left: Decision, right: Decision) -> Decision {
+    match operator {
+        Operator::And => both(left, right),
+        Operator::Or => either(left, right),
+    }
+}
+
+/// .. by `and`.
+#[inline]
+fn both(left: Decision, right: Decision) -> Decision {
+    match (left, right) {
+        (Decision::Needs(left), Decision::Needs(right)) => Decision::Needs(left.min(right)),
+        (Decision::Needs(len), Decision::Matches) | (Decision::Matches, Decision::Needs(len)) => {
+            Decision::Needs(len)
+        }
+        (Decision::Matches, Decision::Matches) => Decision::Matches,
+        _ => Decision::Fails,
+    }
+}
+
+/// .. by `or`.
+#[inline]
+fn either(left: Decision, right: Decision) -> Decision {
+    match (left, right) {
+        (Decision::Needs(left), Decision::Needs(right)) => Decision::Needs(left.min(right)),
+        (Decision::Needs(len), Decision::Fails) | (Decision::Fails, Decision::Needs(len)) => {
+            Decision::Needs(len)
+        }
+        (Decision::Fails, Decision::Fails) => Decision::Fails,
+        _ => Decision::Matches,
+    }
+}
+
+/// The decision on an expression after `not`.
+#[inline]
+pub(in crate::ether_filter) fn negated_decision(decision: Decision) -> Decision {
+    match decision {
+        Decision::Matches => Decision::Fails,
+        Decision::Fails => Decision::Matches,
+        Decision::Needs(len) => Decision::Needs(len),
     }
 }

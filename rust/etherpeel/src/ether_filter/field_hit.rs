@@ -1,6 +1,7 @@
-//! Whether a header has a tested value of a field.
+//! Whether a header, or what the capture says of a packet, has a tested value of a field.
 
 use crate::ether_filter::field_test::{FieldTest, Relation};
+use crate::ether_filter::packet::{Packet, PacketTime};
 use crate::ether_base::big_endian::{bytes_of_u64, u64_in};
 use crate::ether_peel::PeelUnit;
 use crate::{
@@ -26,6 +27,7 @@ fn link_hit(test: &FieldTest, link: &Ethernet2Slice<'_>) -> Option<bool> {
         1 => bytes_hit(test, &link.destination()),
         2 => bytes_hit(test, &link.source()),
         3 => number_hit(test, u64::from(link.ether_type().0)),
+        252 => bytes_hit(test, b"eth"),
         _ => None,
     }
 }
@@ -39,6 +41,7 @@ fn cooked_hit(test: &FieldTest, link: &LinuxSllSlice<'_>) -> Option<bool> {
         6 => number_hit(test, u64::from(link.sender_address_valid_length())),
         7 => bytes_hit(test, &link.sender_address_full()),
         8 => number_hit(test, u64::from(link.protocol_number())),
+        252 => bytes_hit(test, b"sll"),
         _ => None,
     }
 }
@@ -51,6 +54,7 @@ fn tag_hit(test: &FieldTest, tag: &SingleVlanSlice<'_>) -> Option<bool> {
         10 => number_hit(test, u64::from(tag.drop_eligible_indicator())),
         11 => number_hit(test, u64::from(tag.vlan_identifier().value())),
         12 => number_hit(test, u64::from(tag.ether_type().0)),
+        252 => bytes_hit(test, b"vlan"),
         _ => None,
     }
 }
@@ -74,6 +78,7 @@ fn sec_tag_hit(test: &FieldTest, tag: &MacsecHeaderSlice<'_>) -> Option<bool> {
             MacsecPType::Unmodified(ether_type) => number_hit(test, u64::from(ether_type.0)),
             _ => None,
         },
+        252 => bytes_hit(test, b"macsec"),
         _ => None,
     }
 }
@@ -115,8 +120,30 @@ fn arp_hit(test: &FieldTest, packet: &ArpPacketSlice<'_>) -> Option<bool> {
         31 => bytes_hit(test, packet.sender_protocol_addr()),
         32 => bytes_hit(test, packet.target_hw_addr()),
         33 => bytes_hit(test, packet.target_protocol_addr()),
+        252 => bytes_hit(test, b"arp"),
         _ => None,
     }
+}
+
+/// Whether what the capture says of a packet has the tested relation. `None` if there is no value.
+#[inline]
+pub(in crate::ether_filter) fn frame_hit(test: &FieldTest, packet: &Packet<'_>) -> Option<bool> {
+    match test.field {
+        253 => match packet.time {
+            Some(time) => number_hit(test, nanoseconds(time)),
+            None => None,
+        },
+        254 => number_hit(test, packet.captured_len as u64),
+        255 => number_hit(test, u64::from(packet.original_len)),
+        _ => None,
+    }
+}
+
+/// The nanoseconds since the beginning of 1970, at most those that fit in 64 bits.
+#[inline]
+fn nanoseconds(time: PacketTime) -> u64 {
+    let all = u128::from(time.seconds) * 1_000_000_000 + u128::from(time.nanoseconds);
+    all.min(u128::from(u64::MAX)) as u64
 }
 
 /// Whether a number has the tested relation.

@@ -1,7 +1,8 @@
 //! Whether a test of a field holds for a packet.
 
-use crate::ether_filter::field_hit::unit_hit;
+use crate::ether_filter::field_hit::{frame_hit, unit_hit};
 use crate::ether_filter::field_test::{FieldTest, Relation};
+use crate::ether_filter::packet::Packet;
 use crate::ether_peel::{Peel, Start};
 
 /// What the headers of a packet show of a field.
@@ -52,4 +53,14 @@ pub(in crate::ether_filter) fn matches_field(test: FieldTest, start: Start, fram
             None => return found.answer(test.relation),
         }
     }
+}
+
+/// Whether a test holds of what the capture says of a packet.
+#[inline(never)]
+pub(in crate::ether_filter) fn matches_frame(test: FieldTest, packet: &Packet<'_>) -> bool {
+    let (has_value, has_hit) = match frame_hit(&test, packet) {
+        Some(hit) => (true, hit),
+        None => (false, false),
+    };
+    FieldFound { has_value, has_hit }.answer(test.relation)
 }

@@ -33,13 +33,13 @@ pub(in crate::ether_filter) const MAX_WORDS: usize = 192;
 /// or either |
 /// | `ether broadcast`, `ether multicast` | its Ethernet II header has the broadcast address, or any group address, as
 /// destination |
-/// | `refused` | one of its headers is refused: cut short or malformed |
+/// | `refused`, `fault` | one of its headers is refused: cut short or malformed |
 /// | `cut` | fewer bytes were captured than were on the wire |
 /// | `less N`, `greater N` | it had at most, or at least, `N` bytes on the wire |
-/// | `FIELD` | one of its headers has the field |
+/// | `FIELD` | it has a value of the field |
 /// | `FIELD == V`, `FIELD < V`, `FIELD <= V`, `FIELD > V`, `FIELD >= V` | one of the field's values has this relation
 /// to `V` |
-/// | `FIELD != V` | it has the field, and no value of it is `V` |
+/// | `FIELD != V` | it has a value of the field, and none is `V` |
 /// | `FIELD in {V, V}` | one of the field's values is in the set |
 ///
 /// Each primitive asks about the whole packet, whatever other words the expression has. All VLAN tags and SecTags are
@@ -47,13 +47,17 @@ pub(in crate::ether_filter) const MAX_WORDS: usize = 192;
 ///
 /// `FIELD` is the column name of a field of Ethernet II, cooked capture v1, VLAN tags, SecTags or ARP packets
 /// (`Field::column` of `ether_fields`), as `vlan.pcp` or `arp.spa`. A packet can have several values of a field, as
-/// that of each VLAN tag. After `FIELD & MASK` only the bits of the mask are compared. `FIELD[FIRST:COUNT]` is a slice
-/// of `COUNT` of the field's bytes, up to eight, from the offset `FIRST` on.
+/// that of each VLAN tag. `FIELD` can also be `headers.header`, whose values are the names of these headers, as `vlan`, or
+/// `frame.captured`, `frame.original` or `frame.time`: what the capture says of the packet. After `FIELD & MASK` only
+/// the bits of the mask are compared. `FIELD[FIRST:COUNT]` is a slice of `COUNT` of the field's bytes, up to eight,
+/// from the offset `FIRST` on.
 ///
 /// A number is decimal, without leading zeros, or hexadecimal after `0x`. An address is six pairs of hexadecimal
 /// digits with colons between them, or twelve digits. `V` is a number, or, for fields of bytes, two to eight pairs of
-/// hexadecimal digits with colons, or an address of IPv4, as `10.0.0.1`. Bytes are equal only to as many bytes. Blanks,
-/// parentheses, braces, commas, `!` and the signs of relations separate words.
+/// hexadecimal digits with colons, or an address of IPv4, as `10.0.0.1`. Bytes are equal only to as many bytes. A time
+/// is a date and a time of day in UTC, as `2026-11-01T00:00:00Z`, from 1970 to 2553, with up to nine decimals of the
+/// second, between quotation marks or without. Blanks, parentheses, braces, commas, `!` and the signs of relations
+/// separate words.
 ///
 /// No call allocates memory.
 ///
@@ -70,6 +74,7 @@ pub(in crate::ether_filter) const MAX_WORDS: usize = 192;
 ///     frame: &tagged_arp,
 ///     captured_len: 18,
 ///     original_len: 64,
+///     time: None,
 /// };
 /// for (text, wanted) in [
 ///     (b"vlan 5 and arp".as_slice(), true),
@@ -164,15 +169,18 @@ impl Filter {
     /// Decides whether a packet matches if some of its bytes may be missing.
     ///
     /// `Matches` and `Fails` hold whatever the missing `original_len - captured_len` bytes are. `Needs(n)` means that
-    /// the answer is unknown, and remains unknown while fewer than `n` bytes of the frame are captured.
+    /// the answer is unknown, and remains unknown while fewer than `n` bytes of the frame are captured. The last part
+    /// is not said of filters that test `frame.captured`, which is another number if more bytes are captured.
     ///
-    /// A primitive is unknown if the header that was cut short, or one after it, could still change its answer. `not`,
-    /// `and` and `or` follow Kleene's three-valued logic: `vlan 5 and greater 100` fails for a packet of 64 bytes,
-    /// even if its VLAN tags are unknown. If missing bytes could not complete a header, the result is `Matches` or
-    /// `Fails`, as [`matches`](Self::matches) says.
+    /// A primitive about headers is unknown exactly if some missing bytes make the packet match and others do not; `n` is
+    /// then the least length with which some bytes decide it. So `vlan` matches a frame that was cut within its first
+    /// tag, if the packet had the whole tag. `not`, `and` and `or` follow Kleene's three-valued logic, and `n` is the
+    /// least of what their unknown operands need: `vlan 5 and greater 100` fails for a packet of 64 bytes, even if its
+    /// VLAN tags are unknown.
     ///
-    /// If the frame ends in a frame check sequence, a primitive about headers needs all bytes of the frame, because
-    /// the place of the sequence is not known before.
+    /// A test of a field is unknown as long as the header that was cut short, or one after it, might still have a value
+    /// of the field, even if no value can change the answer; `n` is then the length at which that header is whole. If
+    /// the frame ends in a frame check sequence, such a test needs all bytes of the frame.
     ///
     /// ```
     /// use etherpeel::ether_peel::Start;
@@ -180,19 +188,21 @@ impl Filter {
     ///
     /// let cut_in_tag = [
     ///     0xFF, 0xFF, 0xFF, 0xFF, 0xFF, 0xFF, 0x02, 0x00, 0x00, 0x00, 0x00, 0x01, 0x81, 0x00, // Ethernet II
-    ///     0x00, 0x05, // the first bytes of a VLAN tag
+    ///     0x00, // the first byte of a VLAN tag
     /// ];
     /// let packet = Packet {
     ///     start: Start::Ethernet2,
     ///     frame: &cut_in_tag,
-    ///     captured_len: 16,
+    ///     captured_len: 15,
     ///     original_len: 64,
+    ///     time: None,
     /// };
     /// for (text, wanted) in [
-    ///     (b"vlan 5".as_slice(), Decision::Needs(18)),
-    ///     (b"not vlan".as_slice(), Decision::Needs(18)),
+    ///     (b"vlan".as_slice(), Decision::Matches),
+    ///     (b"vlan 5".as_slice(), Decision::Needs(16)),
+    ///     (b"not macsec".as_slice(), Decision::Needs(17)),
     ///     (b"vlan 5 and greater 100".as_slice(), Decision::Fails),
-    ///     (b"ether broadcast".as_slice(), Decision::Matches),
+    ///     (b"vlan.pcp <= 7".as_slice(), Decision::Needs(18)),
     /// ] {
     ///     let decision = Filter::parse(text).map(|filter| filter.decide(&packet));
     ///     assert_eq!(decision, Ok(wanted));
@@ -207,7 +217,6 @@ impl Filter {
     /// ensures matches { result ≡ Decision.Matches → AtCompletions packet.now (Holds self.now) }
     /// ensures fails { result ≡ Decision.Fails → AtCompletions packet.now (λ w. ¬ (Holds self.now w)) }
     /// ensures needs { (n : ℕ) → result ≡ Decision.Needs n → StaysUnknown packet.now n self.now }
-    /// ensures waits { (n : ℕ) → result ≡ Decision.Needs n → WaitsUntil packet.now n }
     /// ```
     ///
     /// Words: [`Header`](crate::definitions::ether_base#def.Header),
@@ -216,8 +225,7 @@ impl Filter {
     /// [`Says`](crate::definitions::ether_filter#def.Says),
     /// [`AtCompletions`](crate::definitions::ether_filter#def.AtCompletions),
     /// [`Holds`](crate::definitions::ether_filter#def.Holds),
-    /// [`StaysUnknown`](crate::definitions::ether_filter#def.StaysUnknown),
-    /// [`WaitsUntil`](crate::definitions::ether_filter#def.WaitsUntil). [Notation](crate::definitions::notation)
+    /// [`StaysUnknown`](crate::definitions::ether_filter#def.StaysUnknown). [Notation](crate::definitions::notation)
     ///
     /// </details>
     #[must_use]

@@ -55,6 +55,10 @@ pub enum FilterErrorKind {
     ExpectedBytes(u8),
     /// Bytes are expected, as those of an address.
     ExpectedAnyBytes,
+    /// A time is expected, in the form `2026-11-01T00:00:00Z`.
+    ExpectedTime,
+    /// The name of a header is expected.
+    ExpectedHeader,
     /// `{` is expected.
     ExpectedSet,
     /// `,` or `}` is expected.
@@ -100,6 +104,12 @@ impl fmt::Display for FilterErrorKind {
             FilterErrorKind::ExpectedBytes(len) => { write!(f, "expected a value of {len} bytes.") }
             FilterErrorKind::ExpectedAnyBytes => {
                 f.write_str("expected bytes, as 02:00:5e:10:00:01 or 10.0.0.1.")
+            }
+            FilterErrorKind::ExpectedTime => {
+                f.write_str("expected a time, as 2026-11-01T00:00:00Z.")
+            }
+            FilterErrorKind::ExpectedHeader => {
+                f.write_str("expected `eth`, `sll`, `vlan`, `macsec` or `arp`.")
             }
             FilterErrorKind::ExpectedSet => f.write_str("expected `{`."),
             FilterErrorKind::ExpectedSetEnd => f.write_str("expected `,` or `}`."),

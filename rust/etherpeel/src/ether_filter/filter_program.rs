@@ -1,11 +1,12 @@
 //! Runs the instructions of a filter on packets: for filters that are kept in memory of the caller.
 
-use crate::ether_filter::deciding::{Opening, find_opening, joined_value, known};
+use crate::ether_filter::certain::{Certain, decide_test, find_certain};
+use crate::ether_filter::deciding::{Opening, find_opening, joined_decision, negated_decision};
 use crate::ether_filter::decision::Decision;
 use crate::ether_filter::filter::MAX_WORDS;
 use crate::ether_filter::instruction::Instruction;
 use crate::ether_filter::jumps::{HOLDS, jumps_of, past_tags};
-use crate::ether_filter::matching::{matches_instruction, matches_lengths};
+use crate::ether_filter::matching::{matches_capture, matches_instruction};
 use crate::ether_filter::node::Node;
 use crate::ether_filter::packet::Packet;
 use crate::ether_filter::seen::{Seen, Tags, look, tags_seen};
@@ -31,6 +32,7 @@ use arrayvec::ArrayVec;
 ///     frame: &frame,
 ///     captured_len: 18,
 ///     original_len: 64,
+///     time: None,
 /// };
 /// let filter = Filter::parse(b"vlan 5 and not ip")?;
 /// assert!(filter_program::matches(filter.instructions(), &packet));
@@ -55,7 +57,7 @@ use arrayvec::ArrayVec;
 ///
 /// </details>
 #[must_use]
-#[inline]
+#[inline(always)]
 pub fn matches(instructions: &[Instruction], packet: &Packet<'_>) -> bool {
     if let Some(matches) = matches_by_lengths(instructions, packet) {
         return matches;
@@ -69,13 +71,13 @@ pub fn matches(instructions: &[Instruction], packet: &Packet<'_>) -> bool {
     matches_seen(instructions, packet, &seen, &ids)
 }
 
-/// Whether a packet matches, if its two lengths decide this.
+/// Whether a packet matches, if what the capture says of it decides this.
 #[inline(always)]
 fn matches_by_lengths(instructions: &[Instruction], packet: &Packet<'_>) -> Option<bool> {
     let [first, ..] = instructions else {
         return None;
     };
-    matches_lengths(first, packet)?;
+    matches_capture(first, packet)?;
     jumps_by_lengths(instructions, *packet)
 }
 
@@ -87,7 +89,7 @@ fn jumps_by_lengths(instructions: &[Instruction], packet: Packet<'_>) -> Option<
         let instruction = &instructions[at];
         let next = instruction
             .jump
-            .after(matches_lengths(instruction, &packet)?);
+            .after(matches_capture(instruction, &packet)?);
         if next <= at {
             return None; // not reached: each jump leads forward
         }
@@ -195,8 +197,9 @@ fn past_others(instructions: &[Instruction], begin: usize, id: u16) -> usize {
 /// .. past primitives that ask for an identifier that no VLAN tag has.
 #[inline(never)]
 fn past_unseen(instructions: &[Instruction], begin: usize, seen: &Seen, ids: &[u64]) -> usize {
+    let seen = *seen;
     let mut at = begin;
-    while at < instructions.len() && instructions[at].asks_unseen_id(seen, ids) {
+    while at < instructions.len() && instructions[at].asks_unseen_id(&seen, ids) {
         let next = instructions[at].jump.after(false);
         if next <= at {
             return at; // not reached: each jump leads forward
@@ -233,11 +236,11 @@ fn past_unseen(instructions: &[Instruction], begin: usize, seen: &Seen, ids: &[u
 pub fn decide(instructions: &[Instruction], packet: &Packet<'_>) -> Decision {
     let mut ids = [];
     let mut seen = Seen::new();
-    look(packet.start, packet.frame, &mut seen, &mut ids);
+    let certain = find_certain(packet, &mut seen, &mut ids);
     if seen.has_more {
         return decide_by_ids(instructions, *packet);
     }
-    decide_seen(instructions, packet, &seen, &ids)
+    decide_all(instructions, packet, certain, &seen, &ids)
 }
 
 /// .. however many VLAN tags the packet has.
@@ -246,15 +249,16 @@ pub fn decide(instructions: &[Instruction], packet: &Packet<'_>) -> Decision {
 fn decide_by_ids(instructions: &[Instruction], packet: Packet<'_>) -> Decision {
     let mut ids = [0; WORDS];
     let mut seen = Seen::new();
-    look(packet.start, packet.frame, &mut seen, &mut ids);
-    decide_seen(instructions, &packet, &seen, &ids)
+    let certain = find_certain(&packet, &mut seen, &mut ids);
+    decide_all(instructions, &packet, certain, &seen, &ids)
 }
 
-/// .. if this was seen in the packet.
+/// .. if this is certain, and was seen in its certain headers.
 #[inline]
-fn decide_seen(
+fn decide_all(
     instructions: &[Instruction],
     packet: &Packet<'_>,
+    certain: Certain<'_>,
     seen: &Seen,
     ids: &[u64],
 ) -> Decision {
@@ -267,9 +271,9 @@ fn decide_seen(
         let Some(node) = instruction.node() else {
             return Decision::Fails; // not reached: each instruction has a node
         };
-        decide_node(&mut values, node, packet, seen, ids, opening);
+        decide_node(&mut values, node, packet, certain, seen, ids, opening);
     }
-    decision(values.pop().unwrap_or(None), opening)
+    values.pop().unwrap_or(Decision::Fails)
 }
 
 /// The instructions of an expression's nodes.
@@ -284,39 +288,31 @@ pub(in crate::ether_filter) fn instructions_of(nodes: &[Node]) -> ArrayVec<Instr
     instructions
 }
 
-/// The decision on an expression with this value, where `None` is unknown.
-#[inline]
-fn decision(value: Option<bool>, opening: Option<Opening>) -> Decision {
-    match (value, opening) {
-        (Some(true), _) => Decision::Matches,
-        (Some(false), _) => Decision::Fails,
-        (None, Some(opening)) => Decision::Needs(opening.needed),
-        (None, None) => Decision::Fails, // not reached: without an opening every primitive is known
-    }
-}
-
 /// Evaluates one postfix node: pops its operands' values and pushes its own.
 #[inline]
 fn decide_node(
-    values: &mut ArrayVec<Option<bool>, MAX_WORDS>,
+    values: &mut ArrayVec<Decision, MAX_WORDS>,
     node: Node,
     packet: &Packet<'_>,
+    certain: Certain<'_>,
     seen: &Seen,
     ids: &[u64],
     opening: Option<Opening>,
 ) {
     match node {
-        Node::Test(primitive) => values.push(known(primitive, packet, seen, ids, opening)),
+        Node::Test(primitive) => {
+            values.push(decide_test(primitive, packet, certain, seen, ids, opening));
+        }
         Node::Not => {
             if let Some(value) = values.pop() {
-                values.push(value.map(|truth| !truth));
+                values.push(negated_decision(value));
             }
         }
         Node::Join(operator) => {
             let right = values.pop();
             let left = values.pop();
             if let (Some(left), Some(right)) = (left, right) {
-                values.push(joined_value(operator, left, right));
+                values.push(joined_decision(operator, left, right));
             }
         }
     }

@@ -84,6 +84,24 @@ impl Instruction {
         }
     }
 
+    /// The test of what the capture says of a packet.
+    #[inline(always)]
+    pub(in crate::ether_filter) fn frame_test(&self) -> Option<FieldTest> {
+        match frame_relation(self.kind) {
+            Some(relation) => Some(self.field_test_with(relation)),
+            None => None,
+        }
+    }
+
+    /// .. as a primitive.
+    #[inline]
+    fn frame_primitive(&self) -> Option<Primitive> {
+        match frame_relation(self.kind) {
+            Some(relation) => Some(Primitive::Frame(self.field_test_with(relation))),
+            None => None,
+        }
+    }
+
     /// The primitive that the instruction tests; `None` for an operator.
     #[inline]
     pub(in crate::ether_filter) fn primitive(&self) -> Option<Primitive> {
@@ -91,7 +109,7 @@ impl Instruction {
             Some(primitive) => Some(primitive),
             None => match self.field_test() {
                 Some(test) => Some(Primitive::Field(test)),
-                None => None,
+                None => self.frame_primitive(),
             },
         }
     }
@@ -184,17 +202,30 @@ pub(in crate::ether_filter) fn of_primitive(primitive: Primitive) -> Instruction
         Primitive::Cut => plain(12, 0),
         Primitive::Less(len) => plain(13, u64::from(len)),
         Primitive::Greater(len) => plain(14, u64::from(len)),
-        Primitive::Field(test) => of_test(test),
+        Primitive::Field(test) => of_field_test(test),
+        Primitive::Frame(test) => of_frame_test(test),
     }
 }
 
 /// .. of a test of a field.
 #[inline]
-fn of_test(test: FieldTest) -> Instruction {
+fn of_field_test(test: FieldTest) -> Instruction {
+    of_test(relation_number(test.relation), test)
+}
+
+/// .. of a test of what the capture says of a packet.
+#[inline]
+fn of_frame_test(test: FieldTest) -> Instruction {
+    of_test(frame_relation_number(test.relation), test)
+}
+
+/// .. of a test with this kind.
+#[inline]
+fn of_test(kind: u8, test: FieldTest) -> Instruction {
     Instruction {
         operand: test.value,
         mask: test.mask,
-        kind: relation_number(test.relation),
+        kind,
         field: test.field,
         first: test.first,
         count: test.count,
@@ -215,6 +246,32 @@ fn relation_number(relation: Relation) -> u8 {
         Relation::Greater => 23,
         Relation::AtLeast => 24,
     }
+}
+
+/// .. if it tests what the capture says of a packet.
+#[inline]
+fn frame_relation_number(relation: Relation) -> u8 {
+    match relation {
+        Relation::Exists => 25,
+        Relation::Equal => 26,
+        Relation::NotEqual => 27,
+        Relation::Less => 28,
+        Relation::AtMost => 29,
+        Relation::Greater => 30,
+        Relation::AtLeast => 31,
+    }
+}
+
+/// The kinds that ask about headers by a word have numbers below this one.
+pub(in crate::ether_filter) const LENGTH_KINDS: u8 = 12;
+
+/// The kinds of tests of what the capture says of a packet have numbers from this one on.
+pub(in crate::ether_filter) const FRAME_KINDS: u8 = 25;
+
+/// The relation of the tests of what the capture says of a packet whose kind has this number.
+#[inline(always)]
+fn frame_relation(kind: u8) -> Option<Relation> {
+    relation(kind.saturating_sub(7))
 }
 
 /// The relation of the tests whose kind has this number.

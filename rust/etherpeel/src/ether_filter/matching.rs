@@ -1,9 +1,8 @@
 //! Whether a primitive matches a packet.
 
-use crate::ether_filter::field_match::matches_field;
-use crate::ether_filter::instruction::{Instruction, of_primitive};
+use crate::ether_filter::field_match::{matches_field, matches_frame};
+use crate::ether_filter::instruction::{FRAME_KINDS, Instruction, LENGTH_KINDS};
 use crate::ether_filter::packet::Packet;
-use crate::ether_filter::primitive::Primitive;
 use crate::ether_filter::seen::{Seen, is_seen};
 
 /// Whether the primitive of an instruction matches a packet in which this was seen; `None` for an operator.
@@ -17,7 +16,7 @@ pub(in crate::ether_filter) fn matches_instruction(
     if let Some(matches) = is_seen(instruction, seen, ids) {
         return Some(matches);
     }
-    if let Some(matches) = matches_lengths(instruction, packet) {
+    if let Some(matches) = matches_capture(instruction, packet) {
         return Some(matches);
     }
     match instruction.field_test() {
@@ -26,9 +25,31 @@ pub(in crate::ether_filter) fn matches_instruction(
     }
 }
 
-/// Whether the primitive of an instruction matches a packet, if it asks about the packet's two lengths; else `None`.
+/// Whether the primitive of an instruction matches a packet, if it asks what the capture says of the packet; else
+/// `None`.
 #[inline(always)]
-pub(in crate::ether_filter) fn matches_lengths(instruction: &Instruction, packet: &Packet<'_>) -> Option<bool> {
+pub(in crate::ether_filter) fn matches_capture(instruction: &Instruction, packet: &Packet<'_>) -> Option<bool> {
+    if instruction.kind < LENGTH_KINDS {
+        return None;
+    }
+    if instruction.kind >= FRAME_KINDS {
+        return matches_frame_test(instruction, *packet);
+    }
+    matches_lengths(instruction, packet)
+}
+
+/// .. if it tests a field of the capture's.
+#[inline(never)]
+fn matches_frame_test(instruction: &Instruction, packet: Packet<'_>) -> Option<bool> {
+    match instruction.frame_test() {
+        Some(test) => Some(matches_frame(test, &packet)),
+        None => None,
+    }
+}
+
+/// .. if it has a word of its own, as `cut`.
+#[inline(always)]
+fn matches_lengths(instruction: &Instruction, packet: &Packet<'_>) -> Option<bool> {
     let len = (instruction.operand % (1 << 32)) as u32;
     match instruction.kind {
         12 => Some(packet.captured_len < packet.original_len as usize),
@@ -36,27 +57,4 @@ pub(in crate::ether_filter) fn matches_lengths(instruction: &Instruction, packet
         14 => Some(packet.original_len >= len),
         _ => None,
     }
-}
-
-/// Whether a primitive matches a packet in which this was seen.
-#[inline]
-pub(in crate::ether_filter) fn matches_primitive(
-    primitive: Primitive,
-    packet: &Packet<'_>,
-    seen: &Seen,
-    ids: &[u64],
-) -> bool {
-    let Some(matches) = matches_instruction(&of_primitive(primitive), packet, seen, ids) else {
-        return false; // not reached: it is no operator
-    };
-    matches
-}
-
-/// Whether a primitive asks about the two lengths of a packet.
-#[inline]
-pub(in crate::ether_filter) fn is_of_lengths(primitive: Primitive) -> bool {
-    matches!(
-        primitive,
-        Primitive::Cut | Primitive::Less(_) | Primitive::Greater(_)
-    )
 }

@@ -79,6 +79,12 @@ pub(in crate::ether_filter) fn hex_of(digits: &[u8]) -> Option<u64> {
     narrowed(digits_of(digits, 16))
 }
 
+/// The number of up to nine decimal digits.
+#[inline]
+pub(in crate::ether_filter) fn decimal_of(digits: &[u8]) -> Option<u64> {
+    narrowed(digits_of(digits, 10))
+}
+
 /// A number, if it fits in 64 bits.
 #[inline]
 fn narrowed(number: Option<u128>) -> Option<u64> {

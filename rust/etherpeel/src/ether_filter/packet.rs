@@ -1,6 +1,15 @@
 //! What a filter is applied to.
 use crate::ether_peel::Start;
 
+/// When a packet was captured.
+#[derive(Clone, Copy, PartialEq, Eq, Hash, Debug)]
+pub struct PacketTime {
+    /// The seconds since the beginning of 1970, UTC.
+    pub seconds: u64,
+    /// The nanoseconds after them.
+    pub nanoseconds: u32,
+}
+
 /// A packet of a capture.
 #[derive(Clone, Copy, PartialEq, Eq, Debug)]
 pub struct Packet<'a> {
@@ -13,4 +22,6 @@ pub struct Packet<'a> {
     pub captured_len: usize,
     /// The number of bytes of the packet on the wire.
     pub original_len: u32,
+    /// When the packet was captured, if the capture says it.
+    pub time: Option<PacketTime>,
 }

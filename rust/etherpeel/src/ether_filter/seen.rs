@@ -16,7 +16,7 @@ pub(in crate::ether_filter) struct Addresses {
 /// What the headers of a packet show, except for the identifiers of three VLAN tags or more.
 #[derive(Clone, Copy)]
 pub(in crate::ether_filter) struct Seen {
-    is_refused: bool,
+    pub is_refused: bool,
     has_sec_tag: bool,
     has_arp: bool,
     /// Whether there are three VLAN tags or more.
@@ -25,9 +25,9 @@ pub(in crate::ether_filter) struct Seen {
     types: TagTypes,
     link: Option<Addresses>,
     /// The ether type that is announced after the last header.
-    last: Option<u16>,
+    pub last: Option<u16>,
     /// The identifier of the first VLAN tag.
-    outer: Option<u16>,
+    pub outer: Option<u16>,
     /// The identifier of the last VLAN tag, if there are two or more.
     inner: Option<u16>,
 }
@@ -83,7 +83,7 @@ pub(in crate::ether_filter) fn look(start: Start, frame: &[u8], seen: &mut Seen,
 
 /// Adds what a further header shows, which this ether type announces.
 #[inline(always)]
-fn take(seen: &mut Seen, ids: &mut [u64], fields: Fields, announced: Option<u16>) {
+pub(in crate::ether_filter) fn take(seen: &mut Seen, ids: &mut [u64], fields: Fields, announced: Option<u16>) {
     match fields {
         Fields::Link {
             destination,

@@ -3,6 +3,7 @@
 use crate::ether_filter::byte_text::{place_of, slice_of};
 use crate::ether_filter::field_test::{FieldTest, Relation};
 use crate::ether_filter::primitive::Primitive;
+use crate::ether_base::big_endian::u64_in;
 use crate::ether_fields::{Extent, Field, Kind, Section};
 
 /// Which values a field takes.
@@ -14,6 +15,10 @@ pub(in crate::ether_filter) enum Takes {
     Bytes(u8),
     /// Any number of bytes.
     AnyBytes,
+    /// Times.
+    Time,
+    /// The names of headers.
+    Header,
 }
 
 /// A field, or a part of its bytes.
@@ -31,7 +36,7 @@ pub(in crate::ether_filter) struct Subject {
 /// What a field is compared with.
 #[derive(Clone, Copy)]
 pub(in crate::ether_filter) struct Literal {
-    /// The number of bytes, or 0 for a number.
+    /// The number of bytes, or 0 for a number or a time.
     pub len: u8,
     pub number: u64,
 }
@@ -64,6 +69,9 @@ impl Subject {
 /// The primitive of a test of a field: some have words of their own, as `vlan.vid == 5`, which is `vlan 5`.
 #[inline]
 pub(in crate::ether_filter) fn tested(test: FieldTest) -> Primitive {
+    if test.field >= 253 {
+        return Primitive::Frame(test);
+    }
     match test.relation {
         Relation::Exists if test.field == 11 => Primitive::Vlan,
         Relation::Equal if test.count == 0 && test.mask == u64::MAX => match test.field {
@@ -96,6 +104,30 @@ impl Takes {
             _ => None,
         }
     }
+
+    /// The value that the name of a header is, if the field takes it.
+    #[inline]
+    pub(in crate::ether_filter) fn name(self, name: &[u8]) -> Option<Literal> {
+        match self {
+            Takes::Header => Some(Literal {
+                len: name.len() as u8,
+                number: u64_in(name),
+            }),
+            _ => None,
+        }
+    }
+
+    /// The value that a time is, if the field takes it.
+    #[inline]
+    pub(in crate::ether_filter) fn time(self, time: u64) -> Option<Literal> {
+        match self {
+            Takes::Time => Some(Literal {
+                len: 0,
+                number: time,
+            }),
+            _ => None,
+        }
+    }
 }
 
 /// The greatest number in so many bytes, up to eight.
@@ -119,7 +151,39 @@ fn greatest_of(len: u8) -> u64 {
 pub(in crate::ether_filter) fn subject_of(word: &[u8]) -> Option<Subject> {
     match place_of(word, b'[') {
         Some(at) => sliced(name_of(&word[..at])?, slice_of(&word[at..])?),
-        None => name_of(word),
+        None => match unnumbered_subject(word) {
+            Some(subject) => Some(subject),
+            None => name_of(word),
+        },
+    }
+}
+
+/// The names of headers, or what a capture says of a packet, with this name as a column.
+#[inline]
+fn unnumbered_subject(name: &[u8]) -> Option<Subject> {
+    if name == b"headers.header".as_slice() {
+        return Some(whole_subject(252, Takes::Header));
+    }
+    if name == b"frame.time".as_slice() {
+        return Some(whole_subject(253, Takes::Time));
+    }
+    if name == b"frame.captured".as_slice() {
+        return Some(whole_subject(254, Takes::Number(u32::MAX)));
+    }
+    if name == b"frame.original".as_slice() {
+        return Some(whole_subject(255, Takes::Number(u32::MAX)));
+    }
+    None
+}
+
+/// The whole of the field with this number.
+#[inline]
+fn whole_subject(field: u8, takes: Takes) -> Subject {
+    Subject {
+        field,
+        first: 0,
+        count: 0,
+        takes,
     }
 }
 
@@ -151,6 +215,7 @@ fn has_slice(takes: Takes, first: u8, count: u8) -> bool {
         Takes::Number(_) => false,
         Takes::Bytes(len) => u16::from(first) + u16::from(count) <= u16::from(len),
         Takes::AnyBytes => true,
+        Takes::Time | Takes::Header => false,
     }
 }
 

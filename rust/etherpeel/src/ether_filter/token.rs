@@ -5,6 +5,7 @@ use crate::ether_filter::field_test::Relation;
 use crate::ether_filter::node::Operator;
 use crate::ether_filter::numeral::{address_of, wide_number_of};
 use crate::ether_filter::subject::{Literal, Subject, subject_of};
+use crate::ether_filter::time_text::time_of;
 
 /// What a word of an expression means.
 #[derive(Clone, Copy)]
@@ -17,6 +18,8 @@ pub(in crate::ether_filter) enum Token {
     Outer,
     Inner,
     Macsec,
+    Eth,
+    Sll,
     Arp,
     Ip,
     Ip6,
@@ -36,6 +39,8 @@ pub(in crate::ether_filter) enum Token {
     Address(u64),
     /// The bytes of a value, other than those of an address.
     Bytes(Literal),
+    /// The nanoseconds since the beginning of 1970.
+    Time(u64),
     Field(Subject),
     Relation(Relation),
     /// `&`
@@ -55,7 +60,7 @@ struct Keyword {
     token: Token,
 }
 
-const KEYWORDS: [Keyword; 37] = [
+const KEYWORDS: [Keyword; 40] = [
     Keyword {
         spelling: b"(",
         token: Token::Open,
@@ -105,6 +110,14 @@ const KEYWORDS: [Keyword; 37] = [
         token: Token::Macsec,
     },
     Keyword {
+        spelling: b"eth",
+        token: Token::Eth,
+    },
+    Keyword {
+        spelling: b"sll",
+        token: Token::Sll,
+    },
+    Keyword {
         spelling: b"arp",
         token: Token::Arp,
     },
@@ -146,6 +159,10 @@ const KEYWORDS: [Keyword; 37] = [
     },
     Keyword {
         spelling: b"refused",
+        token: Token::Refused,
+    },
+    Keyword {
+        spelling: b"fault",
         token: Token::Refused,
     },
     Keyword {
@@ -220,6 +237,9 @@ pub(in crate::ether_filter) fn token_of(word: &[u8]) -> Token {
     }
     if let Some(subject) = subject_of(word) {
         return Token::Field(subject);
+    }
+    if let Some(time) = time_of(word) {
+        return Token::Time(time);
     }
     match wide_number_of(word) {
         Some(number) => Token::Number(number),

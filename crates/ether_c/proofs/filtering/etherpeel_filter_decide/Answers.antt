@@ -1,18 +1,25 @@
-use Rattle.std.proofs.Common.{refl, inl, inr, subst, sym}
+use Rattle.std.proofs.Common.{◌≡◌, ℕ, refl, sym, subst, ◌∙◌, Bool, true, false}
+use Rattle.std.specs.Prelude.{Some, None}
+use mir.Val.{bool_byte}
 use Rattle.ether_pcap.specs.Capture.{PacketValue}
-use Rattle.ether_content.specs.Selecting.{IsUndecided}
+use Rattle.ether_content.specs.Selecting.{IsOutcome}
+use Rattle.ether_c.specs.Selection.{decision_number}
 use Rattle.ether_c.proofs.filtering.etherpeel_filter_decide.Goals as goal
 
-pub returns-then-is_undecided : goal.returns-then-is_undecided
-returns-then-is_undecided c x program =
-    let is = (c.is_undecided.ensures x (rw c.program.ensures program)).0 c.if-is_undecided.true in
-    inl (subst (λ (p : PacketValue). IsUndecided x p) c.to_packet.ensures is, refl)
+truth_number : (b : Bool) → bool_byte b ≡ decision_number (Some b)
+truth_number true = refl
+truth_number false = refl
 
-pub returns : goal.returns
-returns c x program = inr (
-  λ is.
-      let yes_it_is = (c.is_undecided.ensures x (rw c.program.ensures program)).1
-      (subst (λ (p : PacketValue). IsUndecided x p) (sym c.to_packet.ensures) is) in
-      let never = c.if-is_undecided.false in absurd cc,
-  rw c.from.ensures (c.mark.ensures x (rw c.program-2.ensures program)),
-)
+pub returns-in-Some : goal.returns-in-Some
+returns-in-Some c x program =
+    let b = c.in-Some.is_selected in
+    let is = (c.decide.ensures x (rw c.program.ensures program) (Some b)).0 c.in-Some.is in (
+      Some b,
+      subst (λ (p : PacketValue). IsOutcome x p (Some b)) c.to_packet.ensures is,
+      c.from.ensures ∙ truth_number b,
+    )
+
+pub returns-in-None : goal.returns-in-None
+returns-in-None c x program =
+    let is = (c.decide.ensures x (rw c.program.ensures program) None).0 c.in-None.is in
+    (None, subst (λ (p : PacketValue). IsOutcome x p None) c.to_packet.ensures is, refl)

@@ -3,13 +3,13 @@ use crate::draw::Draw;
 use crate::text::{Text, WithText};
 use crate::walks::drawn_frame;
 use arrayvec::ArrayVec;
-use etherpeel::ether_filter::{Filter, Packet, filter_program, number_of};
+use etherpeel::ether_filter::{Filter, Packet, PacketTime, filter_program, number_of};
 use std::fmt;
 
 /// The words of a drawn filter.
 pub(crate) type Words = ArrayVec<u8, 512>;
 
-static PRIMITIVES: [&[u8]; 34] = [
+static PRIMITIVES: [&[u8]; 41] = [
     b"vlan",
     b"vlan 5",
     b"outer vlan 0x10",
@@ -44,9 +44,16 @@ static PRIMITIVES: [&[u8]; 34] = [
     b"macsec.pn<=0x7fffffff",
     b"sll.addr_len == 6",
     b"vlan.vid == 4096",
+    b"frame.original <= 60",
+    b"frame.captured in {14, 18, 60}",
+    b"frame.time",
+    b"headers.header == vlan",
+    b"headers.header in {sll, macsec}",
+    b"frame.time >= \"2026-11-01T00:00:00Z\"",
+    b"frame.time < 2024-02-29T12:00:00.5Z",
 ];
 
-static WORDS: [&[u8]; 16] = [
+static WORDS: [&[u8]; 17] = [
     b"ether",
     b"vlan",
     b"and",
@@ -63,6 +70,7 @@ static WORDS: [&[u8]; 16] = [
     b"{",
     b"10.0.0.1",
     b"eth.src[4:3]",
+    b"2023-02-29T00:00:00Z",
 ];
 
 /// Calls what reads filters and decides by them.
@@ -78,7 +86,7 @@ pub(crate) fn calls(draw: &mut Draw, text: &mut Text) -> fmt::Result {
 }
 
 fn word_of(draw: &mut Draw) -> &'static [u8] {
-    match WORDS.get(draw.below(16)) {
+    match WORDS.get(draw.below(17)) {
         Some(word) => word,
         None => b"12",
     }
@@ -117,7 +125,7 @@ fn add_term(draw: &mut Draw, words: &mut Words) {
 }
 
 fn primitive_of(draw: &mut Draw) -> &'static [u8] {
-    match PRIMITIVES.get(draw.below(34)) {
+    match PRIMITIVES.get(draw.below(41)) {
         Some(words) => words,
         None => b"arp",
     }
@@ -142,11 +150,16 @@ fn decided(draw: &mut Draw, filter: &Filter, text: &mut Text) -> fmt::Result {
         } else {
             &whole[..draw.below(whole.len() + 1)]
         };
+        let time = draw.flag().then_some(PacketTime {
+            seconds: 1_793_491_200,
+            nanoseconds: 0,
+        });
         let packet = Packet {
             start,
             frame: captured,
             captured_len: captured.len(),
             original_len: (whole.len() + draw.below(3)) as u32,
+            time,
         };
         text.add(&(&packet, &filter.matches(&packet), &filter.decide(&packet)))?;
         text.add(&filter_program::matches(filter.instructions(), &packet))?;

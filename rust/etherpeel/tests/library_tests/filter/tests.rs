@@ -3,5 +3,6 @@ mod content;
 mod deciding;
 mod examples;
 mod fields;
+mod frame;
 mod matching;
 mod refusals;

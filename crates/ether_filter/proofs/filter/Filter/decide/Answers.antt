@@ -3,11 +3,10 @@ use Rattle.etherparse.specs.Header.{Header}
 use Rattle.ether_peel.specs.Grammar.Stack.{Ending, whole, Walk}
 use Rattle.ether_peel.specs.Walker.Start.{start_of}
 use Rattle.ether_peel.proofs.Grammar.Stacks.{some_stack}
-use Rattle.ether_filter.specs.Primitives.{walked}
 use Rattle.ether_filter.specs.Deciding.{Says}
 use Rattle.ether_filter.specs.FilterProgram.{IsProgramOf}
 use Rattle.ether_filter.proofs.Kleene.{knows_so}
-use Rattle.ether_filter.proofs.Completions.{agrees, waits}
+use Rattle.ether_filter.proofs.Completions.{fields_agree}
 use Rattle.ether_filter.proofs.Waiting.{needs_all}
 use Rattle.ether_filter.proofs.filter.Filter.decide.Goals as goal
 
@@ -26,9 +25,8 @@ returns-clause-matches c is more ks f completes walk_on =
     let start = start_of packet.start in
     let ok = c.decide.ensures.bytes in
     let s = some_stack packet.frame.now start (whole start packet.frame.now) ok in
-    knows_so packet s.0 s.1 (walked packet ks f) c.args.self.now true
-    (agrees packet more s.0 ks s.1 f ok completes s.2 walk_on)
-    (subst (Says packet s.0 s.1 c.args.self.now) is (says c s.0 s.1 s.2))
+    knows_so packet s.0 s.1 c.args.self.now true (fields_agree packet s.0 s.1 ok s.2)
+    (subst (Says packet s.0 s.1 c.args.self.now) is (says c s.0 s.1 s.2)) more ks f completes walk_on
 
 pub returns-clause-fails : goal.returns-clause-fails
 returns-clause-fails c is more ks f completes walk_on =
@@ -36,21 +34,14 @@ returns-clause-fails c is more ks f completes walk_on =
     let start = start_of packet.start in
     let ok = c.decide.ensures.bytes in
     let s = some_stack packet.frame.now start (whole start packet.frame.now) ok in
-    knows_so packet s.0 s.1 (walked packet ks f) c.args.self.now false
-    (agrees packet more s.0 ks s.1 f ok completes s.2 walk_on)
-    (subst (Says packet s.0 s.1 c.args.self.now) is (says c s.0 s.1 s.2))
+    knows_so packet s.0 s.1 c.args.self.now false (fields_agree packet s.0 s.1 ok s.2)
+    (subst (Says packet s.0 s.1 c.args.self.now) is (says c s.0 s.1 s.2)) more ks f completes walk_on
 
 pub returns-clause-needs : goal.returns-clause-needs
-returns-clause-needs c n is longer ks f more lt walk_on =
+returns-clause-needs c n is longer ks f none more bytes lt walk_on =
     let packet = c.args.packet.now in
     let start = start_of packet.start in
     let ok = c.decide.ensures.bytes in
     let s = some_stack packet.frame.now start (whole start packet.frame.now) ok in
     let k = subst (Says packet s.0 s.1 c.args.self.now) is (says c s.0 s.1 s.2) in
-    needs_all packet longer s.0 ks s.1 f n c.args.self.now s.2 walk_on more lt k.0 k.1
-
-pub returns-clause-waits : goal.returns-clause-waits
-returns-clause-waits c n is hs ks e f more free lt walk walk_on =
-    let packet = c.args.packet.now in
-    let k = subst (Says packet hs e c.args.self.now) is (says c hs e walk) in
-    waits packet more hs ks e f n free k.0 walk walk_on lt
+    needs_all packet longer s.0 ks s.1 f n c.args.self.now ok bytes s.2 walk_on none more lt k

@@ -4,7 +4,7 @@ use crate::text::Text;
 use etherpeel::ether_fields::{Extent, Field, FieldPlace, Kind, Part, Section, Sizes};
 use etherpeel::ether_filter::{
     Decision, FieldTest, Filter, FilterError, FilterErrorKind, Instruction, Node, Operator, Packet,
-    Primitive, Relation,
+    PacketTime, Primitive, Relation,
 };
 use etherpeel::ether_format::{Columns, Format};
 use etherpeel::ether_output::OutputFault;
@@ -23,7 +23,8 @@ fields! {
     PacketExt<'_> { offset, slice }
     FilterError { offset, kind }
     FieldTest { field, first, count, relation, mask, len, value }
-    Packet<'_> { start, frame, captured_len, original_len }
+    Packet<'_> { start, frame, captured_len, original_len, time }
+    PacketTime { seconds, nanoseconds }
     Field { name, key, column, title, abbreviation, kind, extent, number, symbol, is_member }
     FieldPlace { number, first, len }
     Sizes { hardware, protocol, has_sci, has_payload_type }
@@ -57,13 +58,14 @@ variants! {
         4 ExpectedEtherWord, 5 ExpectedAddress, 6 ExpectedNumber(it), 7 ExpectedRelation,
         8 ExpectedRelationOrOperator, 9 ExpectedBytes(it), 10 ExpectedAnyBytes, 11 ExpectedSet,
         12 ExpectedSetEnd, 13 MixedOperators, 14 Unopened, 15 Unclosed, 16 TooLong,
+        17 ExpectedTime, 18 ExpectedHeader,
     }
     Operator { 0 And, 1 Or }
     Node { 0 Test(it), 1 Not, 2 Join(it) }
     Primitive {
         0 Vlan, 1 VlanId(it), 2 OuterVlan(it), 3 InnerVlan(it), 4 Macsec, 5 EtherType(it),
         6 Source(it), 7 Destination(it), 8 Host(it), 9 Broadcast, 10 Multicast, 11 Refused, 12 Cut,
-        13 Less(it), 14 Greater(it), 15 Field(it),
+        13 Less(it), 14 Greater(it), 15 Field(it), 16 Frame(it),
     }
     Relation { 0 Exists, 1 Equal, 2 NotEqual, 3 Less, 4 AtMost, 5 Greater, 6 AtLeast }
     Extent {

@@ -24,6 +24,7 @@ fn decided(expression: &[u8]) -> Option<[Decision; 6]> {
             frame: FRAME.get(..*cut)?,
             captured_len: *cut,
             original_len: 64,
+            time: None,
         };
         found[i] = filter.decide(&packet);
     }
@@ -36,29 +37,28 @@ const F: Decision = Decision::Fails;
 
 const N14: Decision = Decision::Needs(14);
 
-const N18: Decision = Decision::Needs(18);
+const N17: Decision = Decision::Needs(17);
 
-const N22: Decision = Decision::Needs(22);
+const N21: Decision = Decision::Needs(21);
 
-const N30: Decision = Decision::Needs(30);
+const N27: Decision = Decision::Needs(27);
 
-const N50: Decision = Decision::Needs(50);
-
-/// An expression, and the decisions on the cuts.
+/// An expression, and the decisions on the cuts. Of a header whose ether type is missing its first byte can decide what
+/// follows; of an ARP packet the size of the hardware addresses.
 #[rustfmt::skip]
 static DECIDED: [(&str, [Decision; 6]); 14] = [
-    ("vlan", [N14, N18, M, M, M, M]),
-    ("vlan 5", [N14, N18, N22, M, M, M]),
-    ("outer vlan 5", [N14, N18, F, F, F, F]),
-    ("inner vlan 5", [N14, N18, N22, M, M, M]),
-    ("inner vlan 100", [N14, N18, N22, F, F, F]),
-    ("macsec", [N14, N18, N22, F, F, F]),
+    ("vlan", [N14, M, M, M, M, M]),
+    ("vlan 5", [N14, N17, M, M, M, M]),
+    ("outer vlan 5", [N14, F, F, F, F, F]),
+    ("inner vlan 5", [N14, N17, N21, M, M, M]),
+    ("inner vlan 100", [N14, N17, N21, F, F, F]),
+    ("macsec", [N14, N17, N21, F, F, F]),
     ("ether proto 0x88a8", [N14, M, M, M, M, M]),
-    ("ip", [N14, N18, N22, F, F, F]),
-    ("not ether multicast", [N14, F, F, F, F, F]),
-    ("ether src 02:00:5e:10:00:09", [N14, F, F, F, F, F]),
-    ("refused", [N14, N18, N22, N30, N50, F]),
-    ("cut and vlan 9 and vlan 100", [N14, N18, N22, F, F, F]),
+    ("ip", [N14, N17, N21, F, F, F]),
+    ("not ether multicast", [F, F, F, F, F, F]),
+    ("ether src 02:00:5e:10:00:09", [F, F, F, F, F, F]),
+    ("refused", [N14, N17, N21, N27, F, F]),
+    ("cut and vlan 9 and vlan 100", [N14, N17, N21, F, F, F]),
     ("less 64 or vlan 9", [M, M, M, M, M, M]),
     ("greater 65 and refused", [F, F, F, F, F, F]),
 ];
@@ -79,32 +79,70 @@ const SLL: Start = Start::LinuxSll;
 
 /// A start, the number of captured bytes of the frame, the original length, an expression, and the decision on it.
 #[rustfmt::skip]
-static OTHER: [(Start, usize, u32, &str, Decision); 9] = [
-    (ETH, 16, 18, "vlan", N18),
+static OTHER: [(Start, usize, u32, &str, Decision); 12] = [
+    (ETH, 16, 18, "vlan", M),
     (ETH, 16, 17, "vlan", F),
     (ETH, 16, 17, "refused", M),
     (ETH, 16, 16, "vlan 5 or inner vlan 5", F),
-    (FCS, 31, 64, "vlan 5", Decision::Needs(64)),
-    (FCS, 31, 64, "vlan 5 or less 64", M),
+    (ETH, 0, 64, "ether multicast", Decision::Needs(1)),
+    (ETH, 0, 64, "ether src 02:00:5e:10:00:01", Decision::Needs(7)),
+    (FCS, 31, 64, "vlan 5", M),
+    (FCS, 20, 64, "inner vlan 5", N21),
+    (FCS, 20, 26, "inner vlan 5", M),
     (FCS, 50, 50, "vlan 5", M),
     (SLL, 15, 64, "ether broadcast", F),
-    (SLL, 15, 64, "vlan", Decision::Needs(16)),
+    (SLL, 15, 64, "vlan", F),
 ];
 
 #[test]
 fn packets_of_other_links_are_decided() -> Result<(), Fail> {
     let rt = crate::kit::HostRuntime;
     for &(start, captured_len, original_len, expression, wanted) in &OTHER {
-        let packet = Packet {
-            start,
-            frame: FRAME.get(..captured_len).ok_or("a front")?,
-            captured_len,
-            original_len,
-        };
-        let filter = Filter::parse(expression.as_bytes())
-            .ok()
-            .ok_or("an expression")?;
-        equal!(rt, expression; filter.decide(&packet) => wanted);
+        let frame = FRAME.get(..captured_len).ok_or("a front")?;
+        let found = decision(start, frame, original_len, expression).ok_or("an expression")?;
+        equal!(rt, expression; found => wanted);
+    }
+    Ok(())
+}
+
+/// The decision on a packet.
+fn decision(start: Start, frame: &[u8], original_len: u32, expression: &str) -> Option<Decision> {
+    let filter = Filter::parse(expression.as_bytes()).ok()?;
+    Some(filter.decide(&Packet {
+        start,
+        frame,
+        captured_len: frame.len(),
+        original_len,
+        time: None,
+    }))
+}
+
+/// The first bytes of a frame of 100 bytes, an expression, and the decision on it. The frames begin with a VLAN tag, with
+/// a SecTag whose payload is encrypted and whose SCI is missing, and with an address.
+#[rustfmt::skip]
+static FRONTS: [(&[u8], &str, Decision); 14] = [
+    (b"\xFF\xFF\xFF\xFF\xFF\xFF\x02\0\0\0\0\x07\x81\x00\x00\x09", "vlan", M),
+    (b"\xFF\xFF\xFF\xFF\xFF\xFF\x02\0\0\0\0\x07\x81\x00\x00\x09", "outer vlan 9", M),
+    (b"\xFF\xFF\xFF\xFF\xFF\xFF\x02\0\0\0\0\x07\x81\x00\x00\x09", "vlan 8", N17),
+    (b"\xFF\xFF\xFF\xFF\xFF\xFF\x02\0\0\0\0\x07\x81\x00\x00", "vlan 9", Decision::Needs(16)),
+    (b"\xFF\xFF\xFF\xFF\xFF\xFF\x02\0\0\0\0\x07\x81\x00\x10", "vlan 9", Decision::Needs(16)),
+    (b"\xFF\xFF\xFF\xFF\xFF\xFF\x02\0\0\0\0\x07\x81\x00\x01", "vlan 9", N17),
+    (b"\x02\0\0\0\0\x08\x02\0\0\0\0\x07\x88\xE5\x2C\x00", "vlan", F),
+    (b"\x02\0\0\0\0\x08\x02\0\0\0\0\x07\x88\xE5\x2C\x00", "macsec", M),
+    (b"\x02\0\0\0\0\x08\x02\0\0\0\0\x07\x88\xE5\x2C\x00", "refused or ip", F),
+    (b"\x02\0\0\0\0\x08\x02\0\0\0\0\x07\x88\xE5\x20\x00", "ip", Decision::Needs(29)),
+    (b"\x02\0\0\0\0\x08\x02\0\0\0\0\x07\x88\xE5", "macsec", Decision::Needs(15)),
+    (b"\x02\0\0\0\0\x08", "ether dst 02:00:00:00:00:08", M),
+    (b"\x02\0\0\0\0", "ether dst 02:00:00:00:00:08", Decision::Needs(6)),
+    (b"\x02\0\0\0\0", "ether host 02:00:00:00:01:08", Decision::Needs(7)),
+];
+
+#[test]
+fn what_no_missing_byte_can_change_is_decided() -> Result<(), Fail> {
+    let rt = crate::kit::HostRuntime;
+    for &(frame, expression, wanted) in &FRONTS {
+        let found = decision(ETH, frame, 100, expression).ok_or("an expression")?;
+        equal!(rt, expression; found => wanted);
     }
     Ok(())
 }

@@ -15,6 +15,7 @@ const PACKET: Packet<'static> = Packet {
     frame: &TAGGED_ARP,
     captured_len: 18,
     original_len: 64,
+    time: None,
 };
 
 static FILTERS: [(&str, bool); 3] = [
@@ -37,17 +38,18 @@ const CUT_IN_TAG: Packet<'static> = Packet {
     start: Start::Ethernet2,
     frame: &[
         0xFF, 0xFF, 0xFF, 0xFF, 0xFF, 0xFF, 0x02, 0x00, 0x00, 0x00, 0x00, 0x01, 0x81, 0x00, 0x00,
-        0x05,
     ],
-    captured_len: 16,
+    captured_len: 15,
     original_len: 64,
+    time: None,
 };
 
-static DECISIONS: [(&str, Decision); 4] = [
-    ("vlan 5", Decision::Needs(18)),
-    ("not vlan", Decision::Needs(18)),
+static DECISIONS: [(&str, Decision); 5] = [
+    ("vlan", Decision::Matches),
+    ("vlan 5", Decision::Needs(16)),
+    ("not macsec", Decision::Needs(17)),
     ("vlan 5 and greater 100", Decision::Fails),
-    ("ether broadcast", Decision::Matches),
+    ("vlan.pcp <= 7", Decision::Needs(18)),
 ];
 
 #[test]

@@ -26,11 +26,12 @@ fn matches(text: &str, frame: &[u8]) -> Result<bool, Fail> {
         frame,
         captured_len: frame.len(),
         original_len: frame.len() as u32,
+        time: None,
     }))
 }
 
 #[rustfmt::skip]
-static TESTS: [(&str, bool, bool); 48] = [
+static TESTS: [(&str, bool, bool); 58] = [
     // of the ARP packet, and of the SecTag
     ("vlan.vid", true, false),
     ("vlan.vid == 0x123", true, false),
@@ -80,6 +81,16 @@ static TESTS: [(&str, bool, bool); 48] = [
     ("!arp.op in {2,1}", false, true),
     ("eth.src[0:3] in {00:00:01, 02:00:00}", true, true),
     ("arp.spa in {10.0.0.2, 10.0.0.1} or ip", true, true),
+    ("headers.header", true, true),
+    ("headers.header == eth", true, true),
+    ("headers.header == sll", false, false),
+    ("headers.header == vlan", true, false),
+    ("headers.header == macsec", false, true),
+    ("headers.header == arp", true, false),
+    ("headers.header != arp", false, true),
+    ("headers.header != sll", true, true),
+    ("headers.header in {sll, macsec, arp} && headers.header==eth", true, true),
+    ("not headers.header in {sll, vlan}", false, true),
 ];
 
 #[test]
@@ -95,7 +106,7 @@ fn packets_match_by_their_fields() -> Result<(), Fail> {
 }
 
 #[rustfmt::skip]
-static TEXTS: [(&str, usize, FilterErrorKind); 28] = [
+static TEXTS: [(&str, usize, FilterErrorKind); 34] = [
     ("vlan.vid 5", 9, FilterErrorKind::ExpectedRelationOrOperator),
     ("vlan.vid == 4096", 12, FilterErrorKind::ExpectedNumber(4095)),
     ("vlan.vid ==", 11, FilterErrorKind::ExpectedNumber(4095)),
@@ -122,6 +133,12 @@ static TEXTS: [(&str, usize, FilterErrorKind); 28] = [
     ("arp.op in {1 2", 13, FilterErrorKind::ExpectedSetEnd),
     ("arp.op in {1,", 13, FilterErrorKind::ExpectedNumber(65535)),
     ("arp.op in {1} 2", 14, FilterErrorKind::ExpectedOperator),
+    ("headers.header == 5", 18, FilterErrorKind::ExpectedHeader),
+    ("headers.header == sll2", 18, FilterErrorKind::ExpectedHeader),
+    ("headers.header ==", 17, FilterErrorKind::ExpectedHeader),
+    ("headers.header[0:1] == vlan", 0, FilterErrorKind::ExpectedOperand),
+    ("eth", 0, FilterErrorKind::ExpectedOperand),
+    ("arp.op == arp", 10, FilterErrorKind::ExpectedNumber(65535)),
     ("(vlan.vid", 9, FilterErrorKind::Unclosed),
     ("vlan.vid)", 8, FilterErrorKind::Unopened),
 ];
@@ -136,10 +153,11 @@ fn a_word_that_does_not_fit_after_a_field_is_refused() {
 }
 
 #[rustfmt::skip]
-static DECISIONS: [(&str, Decision); 7] = [
+static DECISIONS: [(&str, Decision); 8] = [
     ("vlan.vid == 0x123", Decision::Matches),
     ("vlan.vid != 0x123", Decision::Needs(22)),
-    ("vlan.vid == 6", Decision::Needs(22)),
+    ("vlan.vid == 6", Decision::Matches),
+    ("vlan.vid == 7", Decision::Needs(21)),
     ("vlan.vid", Decision::Matches),
     ("eth.type == 5 and less 40", Decision::Fails),
     ("eth.type == 5", Decision::Fails),
@@ -156,6 +174,7 @@ fn a_packet_cut_in_its_second_tag_is_decided_by_its_fields() -> Result<(), Fail>
             frame: &TAGGED_ARP[..20],
             captured_len: 20,
             original_len: 50,
+            time: None,
         });
         equal!(rt, text; decision => wanted);
     }

@@ -30,6 +30,7 @@ fn matching(expression: &[u8]) -> Option<[bool; 6]> {
             frame: *frame,
             captured_len: 60,
             original_len: ORIGINAL_LENS[i],
+            time: None,
         };
         found[i] = filter.matches(&packet);
     }
@@ -120,11 +121,13 @@ const TAG: Start = Start::EtherType(EtherType::VLAN_TAGGED_FRAME);
 
 /// A start, a frame, an expression, and whether the frame matches.
 #[rustfmt::skip]
-static OTHER: [(Start, &[u8], &str, bool); 30] = [
+static OTHER: [(Start, &[u8], &str, bool); 32] = [
     (ETH, FOUR_TAGS, "outer vlan 1 and inner vlan 4", true),
     (ETH, FOUR_TAGS, "vlan 3 and vlan 2", true),
     (ETH, FOUR_TAGS, "inner vlan 2 or inner vlan 3", false),
     (ETH, FOUR_TAGS_CUT, "refused and vlan 3", true),
+    (ETH, FOUR_TAGS_CUT, "fault && vlan 3", true),
+    (ETH, FOUR_TAGS, "fault", false),
     (ETH, FOUR_TAGS_CUT, "vlan 4 or ip", false),
     (ETH, TEN_TAGS, "outer vlan 1 and inner vlan 10", true),
     (ETH, TEN_TAGS, "vlan 10 and ip and not refused", true),
@@ -162,6 +165,7 @@ fn packets_of_other_links_match() -> Result<(), Fail> {
             frame,
             captured_len: frame.len(),
             original_len: 60,
+            time: None,
         };
         let filter = Filter::parse(expression.as_bytes())
             .ok()

@@ -1,0 +1,15 @@
+use Rattle.std.proofs.Common.{arith}
+use Rattle.ether_filter.proofs.Iffs.{iff_trans, and_then, and_self}
+use Rattle.ether_filter.proofs.LaterCompletions.{type_follows}
+use Rattle.ether_filter.proofs.prospect.Prospect.type_can_follow.Goals as goal
+
+pub returns-then-self-clause-packets : goal.returns-then-self-clause-packets
+returns-then-self-clause-packets c packet hs kind known room o =
+    iff_trans (and_then c.args.self.can_be_accepted c.can_type.result c.if-self.true
+    (λ t. t, λ t. t) c.can_type.ensures)
+    (type_follows packet hs kind known room c.args.self c.args.number (omega (arith, c.ranges.number)) o)
+
+pub returns-else-self-clause-packets : goal.returns-else-self-clause-packets
+returns-else-self-clause-packets c packet hs kind known room o =
+    iff_trans (and_self c.args.self.can_be_accepted c.if-self.false (λ t. t, λ t. t))
+    (type_follows packet hs kind known room c.args.self c.args.number (omega (arith, c.ranges.number)) o)
