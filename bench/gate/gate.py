@@ -24,6 +24,7 @@ COMMANDS = {
     "lines": [sys.executable, "tests/lines.py"],
     "versions": [sys.executable, "tests/versions.py"],
     "fields": [sys.executable, "fields.py", "--check"],
+    "bindings": [sys.executable, "c/bindings.py", "--check"],
     "options": [sys.executable, "tests/options.py"],
     "scripts": [sys.executable, "tests/scripts.py"],
     "manual pages": [sys.executable, "tests/manual_pages.py"],

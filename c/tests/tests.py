@@ -16,17 +16,18 @@ folder, word = words("FOLDER", "[WORD]")
 word = word or ""
 sys.path.insert(0, folder)
 import etherpeel
+from bounds import numbers
 from compared import drawn_frames, drawn_packets, fronts, short_lists
 from lending import lending
 from nested import nested
 from sources import sources
-from etherpeel import Difference, FaultKind, FieldKind, FieldName, FilterErrorKind, Layer, LenSource, RestKind, Start, Status, _library
+from etherpeel import Difference, FaultKind, FieldKind, FieldName, FilterErrorKind, Layer, LenSource, RestKind, Start, Status, _header, _library
 
 
 def layout():
     sizes = [C.sizeof(t) for t in _library.STRUCTS]
-    check("sizes", sizes, [56, 88, 72, 16, 16, 6, 24, 40, 144, 824, 40, 16, 16, 32, 32, 32, 16, 4616])
-    check("offsets", [getattr(_library.Unit, f).offset for f in
+    check("sizes", sizes, [56, 88, 72, 16, 16, 6, 24, 40, 144, 824, 40, 16, 16, 32, 32, 32, 16, 4616, 6, 72, 16, 64, 32, 72, 128, 40, 64])
+    check("offsets", [getattr(_header.Unit, f).offset for f in
                       ("kind", "closed", "ethernet2", "linux_sll", "vlan", "macsec", "arp")], [32, 36, 38, 54, 70, 80, 104])
     check("version", _library.lib.etherpeel_version(), 0x030000)
     with open(os.path.join(os.path.dirname(os.path.abspath(__file__)), "..", "etherpeel.h"), encoding="ascii") as file:
@@ -444,7 +445,7 @@ TESTS = {
     "layout": layout, "worked examples": worked_examples, "buffers": buffers, "packets": packets, "captures": captures,
     "sources": lambda: sources(CLASSIC, [b"\xff", b""]), "frames of captures": frames_of_captures, "filters": filters, "lines": lines,
     "late texts": late_texts, "fields": fields, "names": names, "cooked v2": cooked_v2, "tags in place": tags_in_place,
-    "headers in place": headers_in_place, "building": building, "wrong words": wrong_words, "nested calls": nested, "lent memory": lending,
+    "headers in place": headers_in_place, "building": building, "wrong words": wrong_words, "nested calls": nested, "lent memory": lending, "numbers": numbers,
     "drawn frames": lambda: drawn_frames(10000), "drawn packets": lambda: drawn_packets(3000), "short lists": short_lists, "fronts": fronts,
 }
 for name, test in TESTS.items():

@@ -7,12 +7,13 @@ import json
 import mmap
 import os
 from functools import lru_cache
-from struct import Struct as PackingStruct, error as PackingError
+from struct import error as PackingError
 from typing import Any, Dict, Iterable, Iterator, List, NamedTuple, Optional, Protocol, Union
 
-from . import _library
-from ._library import READ, Error, Status, filled, get_buffer, lent, lib, number, reader, release_buffer, required, text
-from ._types import Buffer, Field, FieldName, FilterError, FilterErrorKind, LinuxSll2, LinuxSll2Error, Start
+from . import _header, _library
+from ._header import FilterErrorKind, Start, Status
+from ._library import READ, Error, get_buffer, lent, lib, number, reader, release_buffer, required, text, up_to, writer
+from ._types import Buffer, FilterError
 
 
 def start_of_link_type(link_type: int) -> Optional[Start]:
@@ -111,9 +112,9 @@ def capture(source: Union[str, os.PathLike[str], Readable, Buffer]) -> Iterator[
     """
     view = _memory(source)
     with lent(view) as (at, length):
-        count, end = C.c_size_t(), _library.CaptureEnd()
+        count, end = C.c_size_t(), _header.CaptureEnd()
         lib.etherpeel_capture(at, length, None, 0, C.byref(count), C.byref(end))
-        packets = (_library.Captured * count.value)()
+        packets = (_header.Captured * count.value)()
         status = lib.etherpeel_capture(at, length, packets, count.value, C.byref(count), C.byref(end))
     return _Packets(view, at, packets, end if status != Status.DONE else None)
 
@@ -185,7 +186,7 @@ class _Packets:
         while self.next < self.count:
             first = self.next
             count = min(_AT_ONCE, self.count - first)
-            packets = C.cast(C.byref(self.structs, first * _SIZE), C.POINTER(_library.Captured))
+            packets = C.cast(C.byref(self.structs, first * _SIZE), C.POINTER(_header.Captured))
             marks = (C.c_uint8 * count)()
             required(lib.etherpeel_filter_select(read, packets, count, marks, count))
             found = bytes(marks)
@@ -204,7 +205,8 @@ class _Packets:
             return
 
 
-_captured, _SIZE, _new = reader(_library.Captured), C.sizeof(_library.Captured), tuple.__new__
+_captured = reader(_header.Captured, "packet packet_len seconds nanoseconds original_len link_type has_time has_fcs_len fcs_len")
+_SIZE, _new = C.sizeof(_header.Captured), tuple.__new__
 _AT_ONCE = 4096  # packets that a filter is asked of in one call
 
 
@@ -235,20 +237,25 @@ def captured_frame(packet: Captured) -> Optional[Frame]:
     a header of 16 bytes, if the walk would refuse the header only for its hardware type, such as 772 of the loopback device. For
     v2 it is the payload, after a header of 20 bytes, if the header can be read and an ether type announces the payload.
     """
-    frame = _library.Frame()
+    frame = _header.Frame()
     with lent(packet.packet) as (at, length):
-        told = _told(packet, at, length)
-        if lib.etherpeel_captured_frame(C.byref(told), C.byref(frame)) != Status.DONE:
+        if lib.etherpeel_captured_frame(C.byref(told(packet, at, length)), C.byref(frame)) != Status.DONE:
             return None
     view = memoryview(packet.packet).cast("B")[frame.offset:frame.offset + frame.len]
     return Frame(view, frame.offset, Start(frame.start), frame.ether_type if frame.start == Start.ETHER_TYPE else None)
 
 
-def _told(packet, at, length):
-    """A captured packet as a struct of C, without its time. Its bytes are lent."""
-    return _library.Captured(at, length, original_len=number("original_len", packet.original_len, 32),
-                             link_type=number("link_type", packet.link_type, 16), has_fcs_len=packet.fcs_len is not None,
-                             fcs_len=number("fcs_len", packet.fcs_len or 0, 8))
+def told(packet, at, length):
+    """A captured packet as a struct of C. Its bytes are lent."""
+    has_time = packet.time_ns is not None
+    seconds, nanoseconds = divmod(up_to("time_ns", packet.time_ns if has_time else 0, _LAST), 10**9)
+    return _header.Captured(packet=at, packet_len=length, seconds=seconds, nanoseconds=nanoseconds, has_time=has_time,
+                            original_len=number("original_len", packet.original_len, 32),
+                            link_type=number("link_type", packet.link_type, 16), has_fcs_len=packet.fcs_len is not None,
+                            fcs_len=number("fcs_len", packet.fcs_len or 0, 8))
+
+
+_LAST = 2**64 * 10**9 - 1  # the last nanosecond of a time with 64 bits of seconds
 
 
 # ---- packets on one line
@@ -258,10 +265,7 @@ def _line(packet, form, count):
     """The line of a packet in a format, without the line feed at its end."""
     words = form.encode()
     with lent(packet.packet) as (at, length):
-        told = _told(packet, at, length)
-        if packet.time_ns is not None:
-            told.has_time, (told.seconds, told.nanoseconds) = 1, divmod(number("time_ns", packet.time_ns, 94), 10**9)
-        return text(lib.etherpeel_format, words, len(words), number("number", count, 64), C.byref(told))[:-1]
+        return text(lib.etherpeel_format, words, len(words), number("number", count, 64), C.byref(told(packet, at, length)))[:-1]
 
 
 # ---- filters
@@ -304,7 +308,7 @@ _WITH_GREATEST = FilterErrorKind.NUMBER, FilterErrorKind.VLAN_ID_OR_OPERATOR, Fi
 @lru_cache(maxsize=64)
 def _read(expression):
     """The filter that a text means. Calls only read it, so that threads may share it."""
-    words, read, error = expression.encode(), _library.Filter(), _library.FilterError()
+    words, read, error = expression.encode(), _header.Filter(), _header.FilterError()
     if lib.etherpeel_filter_parse(words, len(words), C.byref(read), C.byref(error)) == Status.BAD_FILTER:
         kind = FilterErrorKind(error.kind)
         raise FilterError(text(lib.etherpeel_filter_error_text, words, len(words)), error.offset, kind,
@@ -314,16 +318,17 @@ def _read(expression):
 
 def _selected(read, packets):
     """The packets of any iterable that a filter selects. All share one struct, whose bytes are written at once, and one loan."""
-    told, loan, matches = _library.Captured(), _library.Lent(), lib.etherpeel_filter_matches
-    target, read, passed, lends = memoryview(told).cast("B"), C.byref(read), C.byref(told), C.byref(loan)
+    one, loan, matches = _header.Captured(), _library.Lent(), lib.etherpeel_filter_matches
+    target, read, passed, lends = memoryview(one).cast("B"), C.byref(read), C.byref(one), C.byref(loan)
     for packet in packets:
         get_buffer(packet.packet, lends, READ)
         try:
-            _pack(target, 0, loan.buf or 0, loan.len, packet.original_len, packet.link_type, packet.fcs_len is not None,
-                  packet.fcs_len or 0)
+            time, fcs_len = packet.time_ns, packet.fcs_len
+            _pack(target, 0, loan.buf or 0, loan.len, *(_NO_TIME if time is None else divmod(time, 10**9)), packet.original_len,
+                  packet.link_type, time is not None, fcs_len is not None, fcs_len or 0)
             is_selected = matches(read, passed)
         except PackingError:
-            _told(packet, loan.buf, loan.len)  # says which number has too many bits
+            told(packet, loan.buf, loan.len)  # says which number has too many bits
             raise
         finally:
             release_buffer(lends)
@@ -331,39 +336,5 @@ def _selected(read, packets):
             yield packet
 
 
-_pack = PackingStruct("=QQ12xIH1xBB").pack_into  # a packet without its time
-
-
-# ---- Linux cooked capture v2
-
-
-def linux_sll2(packet: Buffer) -> LinuxSll2:
-    """The header of a packet of Linux cooked capture v2 (LINKTYPE_LINUX_SLL2). If its payload has an ether type, it is walked like
-    any frame: `walk(packet[20:], header.start, ether_type=header.ether_type)`.
-
-    The payload has an ether type unless the protocol numbers of the link are others (netlink, GRE) or have no meaning (IEEE 802.11
-    with radiotap, frame relay). Raises `LinuxSll2Error` if there are fewer than 20 bytes, or the packet type is above 7.
-    """
-    header = _library.LinuxSll2Header()
-    with lent(packet) as (at, length):
-        status = lib.etherpeel_linux_sll2(at, length, C.byref(header))
-    if status == Status.SHORT:
-        raise LinuxSll2Error(f"a header of cooked capture v2 has 20 bytes, and {length} are available", Status.SHORT, None)
-    if status == Status.BAD_PACKET_TYPE:
-        raise LinuxSll2Error(f"the packet type {header.packet_type} is above 7", Status.BAD_PACKET_TYPE, header.packet_type)
-    typed = header.start == Start.ETHER_TYPE
-    return LinuxSll2(header.payload_start, header.protocol, header.interface_index, header.hardware_type, header.packet_type,
-                     header.address_len, bytes(header.address), Start.ETHER_TYPE if typed else None,
-                     header.ether_type if typed else None)
-
-
-def linux_sll2_fields(packet: Buffer) -> List[Field]:
-    """The fields of the header of a packet of Linux cooked capture v2, in their order. Raises as `linux_sll2`."""
-    linux_sll2(packet)
-    with lent(packet) as (at, length):
-        return [field(it) for it in filled(_library.Field, 7, lib.etherpeel_linux_sll2_fields, at, length)]
-
-
-def field(it):
-    """The field in a struct of C."""
-    return Field(FieldName(it.name), it.unit, it.bit_offset, it.bit_len, it.value if it.bit_len <= 64 else None)
+_pack = writer(_header.Captured, "packet packet_len seconds nanoseconds original_len link_type has_time has_fcs_len fcs_len")
+_NO_TIME = 0, 0

@@ -5,8 +5,8 @@ import ctypes as C
 from typing import Optional
 
 from . import _library
-from ._library import Status, lib, required
-from ._types import FieldKind
+from ._header import FieldKind, Status
+from ._library import lib, required
 
 
 def number_name(kind: FieldKind, number: int) -> Optional[str]:

@@ -4,13 +4,15 @@ from __future__ import annotations
 import ctypes as C
 from typing import Optional, Sequence, Union
 
-from . import _library
-from ._library import WRITE, Status, lent, lib, number, required
+from . import _header
+from ._header import Status, UnitKind
+from ._library import WRITE, lent, lib, number, required
 from ._types import (Arp, Buffer, BuildError, Difference, Ethernet2, Header, LinuxSll, Macsec, ReplaceError, Start, Vlan,
                      WritableBuffer, begun)
 
 # the kind of a unit with such a header, and the struct of its fields
-KINDS = {Ethernet2: (1, "ethernet2"), LinuxSll: (2, "linux_sll"), Vlan: (3, "vlan"), Macsec: (4, "macsec"), Arp: (5, "arp")}
+KINDS = {Ethernet2: (UnitKind.ETHERNET2, "ethernet2"), LinuxSll: (UnitKind.LINUX_SLL, "linux_sll"), Vlan: (UnitKind.VLAN, "vlan"),
+         Macsec: (UnitKind.MACSEC, "macsec"), Arp: (UnitKind.ARP, "arp")}
 
 
 def passed(header: Header):
@@ -22,7 +24,7 @@ def passed(header: Header):
     if isinstance(header, Arp):
         values.update(_places(header))
         addresses = b"".join(header[3:])
-    unit = _library.Unit()
+    unit = _header.Unit()
     unit.kind, name = KINDS[type(header)]
     fields = getattr(unit, name)
     for name, kind in fields._fields_:
@@ -62,7 +64,7 @@ def replace_link(frame: WritableBuffer, header: Union[Ethernet2, LinuxSll], star
     Raises `ReplaceError` if it is not replaced, and `BufferError` if the frame can't be written to. No other byte of the frame
     changes: a frame check sequence is unchanged, and doesn't fit the new bytes.
     """
-    (unit, _), error = passed(header), _library.ReplaceError()
+    (unit, _), error = passed(header), _header.ReplaceError()
     with lent(frame, WRITE) as (at, length):
         _replaced(lib.etherpeel_replace_link(Start(start), 0, at, length, C.byref(unit), C.byref(error)), error)
 
@@ -75,7 +77,7 @@ def replace_link_ext(frame: WritableBuffer, index: int, header: Union[Vlan, Macs
 
     Raises as `replace_link`.
     """
-    (unit, _), error, words = passed(header), _library.ReplaceError(), begun(start, ether_type)
+    (unit, _), error, words = passed(header), _header.ReplaceError(), begun(start, ether_type)
     with lent(frame, WRITE) as (at, length):
         words = (*words, at, length, number("index", index, 64))
         _replaced(lib.etherpeel_replace_link_ext(*words, C.byref(unit), C.byref(error)), error)
@@ -84,7 +86,7 @@ def replace_link_ext(frame: WritableBuffer, index: int, header: Union[Vlan, Macs
 def replace_arp(frame: WritableBuffer, packet: Arp, start: Start = Start.ETHERNET2, *, ether_type: Optional[int] = None) -> None:
     """Replaces the ARP packet of a frame, after at most three VLAN tags and SecTags, in place. The addresses of the new packet
     must have the same lengths. Raises as `replace_link`."""
-    (unit, addresses), error, words = passed(packet), _library.ReplaceError(), begun(start, ether_type)
+    (unit, addresses), error, words = passed(packet), _header.ReplaceError(), begun(start, ether_type)
     with lent(frame, WRITE) as (at, length):
         words = (*words, at, length, C.byref(unit), addresses, len(addresses))
         _replaced(lib.etherpeel_replace_arp(*words, C.byref(error)), error)
@@ -107,7 +109,7 @@ def build(headers: Sequence[Header], payload: Buffer = b"", ether_type: Optional
     has_arp = len(headers) > 0 and isinstance(headers[-1], Arp)
     if has_arp != (ether_type is None) or has_arp and len(payload):
         raise ValueError("payload and ether_type are given if no ARP packet is, and else neither is")
-    units, addresses = (_library.Unit * len(headers))(), b""
+    units, addresses = (_header.Unit * len(headers))(), b""
     for index, header in enumerate(headers):
         units[index], addresses = passed(header)
     length = C.c_size_t()

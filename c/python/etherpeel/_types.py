@@ -4,174 +4,13 @@ from __future__ import annotations
 from enum import IntEnum
 from typing import List, NamedTuple, Optional, Tuple, Type, TypeVar, Union
 
-from ._library import Error, Status, lib, number, text
+from ._header import (Decision, Difference, FaultKind, FieldKind, FieldPart, FilterErrorKind, Layer, LenSource, RestKind, Start, Status)
+from ._library import Error, lib, number, text
 
 Buffer = Union[bytes, bytearray, memoryview]
 WritableBuffer = Union[bytearray, memoryview]
 
 # ---- numbers
-
-
-class Start(IntEnum):
-    """What a frame begins with."""
-
-    ETHERNET2 = 1
-    """An Ethernet II header, of a frame without a frame check sequence."""
-    ETHERNET2_FCS = 2
-    """An Ethernet II header, of a frame with a frame check sequence in its last 4 bytes."""
-    LINUX_SLL = 3
-    """A header of Linux cooked capture v1."""
-    ETHER_TYPE = 4
-    """What `ether_type` announces."""
-
-
-class RestKind(IntEnum):
-    """What the bytes that are left are announced as; after a fault, what was expected there."""
-
-    START = 0
-    """The header that the frame begins with, which was not read."""
-    ETHER_TYPE = 1
-    """A protocol, by the ether type in `rest_protocol`."""
-    NETLINK = 2
-    """A protocol of netlink, by the number in `rest_protocol`."""
-    GRE = 3
-    """A protocol of generic routing encapsulation, by the number in `rest_protocol`."""
-    IGNORED = 4
-    """A link whose protocol numbers have no meaning."""
-    SEALED = 5
-    """A payload that MACsec has encrypted or changed, so its protocol is unknown."""
-    AFTER_ARP = 6
-    """What follows an ARP packet: the padding of a short frame."""
-
-
-class FaultKind(IntEnum):
-    """Why a unit is refused."""
-
-    LENGTH = 1
-    """It needs `required_len` bytes; only `len` are available."""
-    PACKET_TYPE = 2
-    """The packet type of a cooked capture is above 7."""
-    HARDWARE_TYPE = 3
-    """It is not known how to read protocol numbers for the hardware type of a cooked capture."""
-    MACSEC_VERSION = 4
-    """The version bit of a SecTag is 1."""
-    MACSEC_SHORT_LEN = 5
-    """The short length of a SecTag with an unmodified payload is 1, too small to include the ether type."""
-
-
-class Layer(IntEnum):
-    """The layer of a length fault."""
-
-    ETHERNET2_HEADER = 1
-    LINUX_SLL_HEADER = 2
-    VLAN_HEADER = 3
-    MACSEC_HEADER = 4
-    MACSEC_PACKET = 5
-    ARP = 6
-
-
-class LenSource(IntEnum):
-    """What gave the length that was available or required in a length fault."""
-
-    SLICE = 1
-    MACSEC_SHORT_LENGTH = 2
-    ARP_ADDRESSES = 3
-
-
-class Difference(IntEnum):
-    """How a header differs, in what it says about what follows it, from the one that it is to replace. Of several differences it
-    is the first in this order."""
-
-    KIND = 1
-    """One header is a VLAN tag and the other a SecTag, or one is of Ethernet II and the other of cooked capture."""
-    ETHER_TYPE = 2
-    """The ether type of an Ethernet II header or VLAN tag."""
-    HARDWARE_TYPE = 3
-    """The hardware type of a cooked capture."""
-    PROTOCOL_TYPE = 4
-    """The protocol number of a cooked capture."""
-    PAYLOAD_TYPE = 5
-    """Whether the payload of a SecTag is encrypted or changed, and its ether type if it is neither."""
-    SHORT_LEN = 6
-    """The short length of a SecTag."""
-    SCI = 7
-    """Whether a SecTag has an SCI."""
-    HARDWARE_SIZE = 8
-    """The length of the hardware addresses of an ARP packet."""
-    PROTOCOL_SIZE = 9
-    """The length of the protocol addresses of an ARP packet."""
-
-
-class FilterErrorKind(IntEnum):
-    """Why a text is not a filter's expression: mostly by what is expected in place of a word."""
-
-    OPERAND = 1
-    """A primitive, `not` or `(` is expected."""
-    OPERATOR = 2
-    """`and`, `or`, `)` or the end of the text is expected."""
-    VLAN = 3
-    """`vlan` is expected."""
-    ETHER_WORD = 4
-    """`proto`, `src`, `dst`, `host`, `broadcast` or `multicast` is expected."""
-    ADDRESS = 5
-    """An address is expected, in the form `xx:xx:xx:xx:xx:xx` or `xxxxxxxxxxxx`."""
-    NUMBER = 6
-    """A number up to `greatest` is expected."""
-    MIXED = 7
-    """`and` and `or` are mixed without parentheses."""
-    UNOPENED = 8
-    """A `)` has no `(`."""
-    UNCLOSED = 9
-    """The text ends before a `(` is closed."""
-    TOO_LONG = 10
-    """There are more than 192 words."""
-    VLAN_ID_OR_OPERATOR = 11
-    """After `vlan`: a number up to `greatest`, `and`, `or`, `)` or the end of the text is expected."""
-    RELATION = 12
-    """`==`, `!=`, `<`, `<=`, `>`, `>=` or `in` is expected."""
-    RELATION_OR_OPERATOR = 13
-    """After a field: one of these, `&`, `and`, `or`, `)` or the end of the text is expected."""
-    BYTES = 14
-    """A value of `greatest` bytes is expected."""
-    ANY_BYTES = 15
-    """Bytes are expected, as those of an address."""
-    SET = 16
-    """`{` is expected."""
-    SET_END = 17
-    """`,` or `}` is expected."""
-    TIME = 18
-    """A time is expected: `2026-11-01T00:00:00Z`."""
-    HEADER = 19
-    """The name of a header is expected: `eth`, `sll`, `vlan`, `macsec` or `arp`."""
-
-
-class FieldKind(IntEnum):
-    """What the value of a field is."""
-
-    NUMBER = 1
-    """A number."""
-    FLAG = 2
-    """A bit, 1 if it is set."""
-    TRUTH = 3
-    """Whether something holds; no field has it, but columns do."""
-    ETHER_TYPE = 4
-    """An ether type, or another protocol number in its place."""
-    HARDWARE_TYPE = 5
-    """A hardware type of ARP, or the ARPHRD_ number of a cooked capture."""
-    PACKET_TYPE = 6
-    """How a packet of a cooked capture was sent."""
-    OPERATION = 7
-    """An operation of ARP."""
-    LINK_TYPE = 8
-    """A link type of captures; no field has it, but a column does."""
-    BYTES = 9
-    """Bytes, as those of an address."""
-    PROTOCOL_ADDRESS = 10
-    """An address of the protocol of an ARP packet: of IPv4, or another one."""
-    WORD = 11
-    """One of some words; no field has it, but columns do."""
-    TIME = 12
-    """A time; no field has it, but a column does."""
 
 
 class FieldName(IntEnum):
@@ -223,17 +62,17 @@ class FieldName(IntEnum):
     @property
     def column(self) -> str:
         """Its name as a column, as `vlan.vid`."""
-        return text(lib.etherpeel_field_text, self, 1)
+        return text(lib.etherpeel_field_text, self, FieldPart.COLUMN)
 
     @property
     def title(self) -> str:
         """What its standard calls it, as `VLAN identifier`."""
-        return text(lib.etherpeel_field_text, self, 2)
+        return text(lib.etherpeel_field_text, self, FieldPart.TITLE)
 
     @property
     def abbreviation(self) -> str:
         """The abbreviation of its standard, as `VID`; "" if there is none."""
-        return text(lib.etherpeel_field_text, self, 3)
+        return text(lib.etherpeel_field_text, self, FieldPart.ABBREVIATION)
 
     @property
     def kind(self) -> FieldKind:

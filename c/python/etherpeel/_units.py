@@ -4,26 +4,34 @@ The memory that the call writes to is kept for a later one. No two calls have th
 nor one that a signal handler or `__del__` makes while another is being read.
 """
 import ctypes as C
-import struct
 
-from . import _library
-from ._library import reader
+from . import _header
+from ._header import UnitKind
+from ._library import CALLS, reader
 from ._types import Arp, Ethernet2, LinuxSll, Macsec, Unit, Vlan
 
-_SIZE = C.sizeof(_library.Unit)
+_SIZE = C.sizeof(_header.Unit)
 _TAGS = 3  # the call reads no more tags
 _SHORT = 9_216  # a jumbo frame of Ethernet
 
 
 _idle = []  # what no call has: `pop` and `append` are atomic
-_call = _library.CALLS["packet"]
-_head = reader(_library.Unit, ("offset", "header_len", "payload_start", "payload_end", "kind", "closed"))
-_ethernet2, _linux_sll, _vlan, _macsec, _arp = (
-    reader(kind) for kind in (_library.Ethernet2, _library.LinuxSll, _library.Vlan, _library.Macsec, _library.Arp))
+_call = CALLS["packet"]
+_head = reader(_header.Unit, "offset header_len payload_start payload_end kind closed")
+_ethernet2 = reader(_header.Ethernet2, "destination source ether_type has_fcs")
+_linux_sll = reader(_header.LinuxSll, "packet_type hardware_type address_len address protocol")
+_vlan = reader(_header.Vlan, "vid ether_type pcp dei")
+_macsec = reader(_header.Macsec, "sci packet_number ether_type end_station sci_present single_copy_broadcast encrypted changed"
+                                 " association_number short_len")
+_arp = reader(_header.Arp, "sender_hardware sender_protocol target_hardware target_protocol hardware_type protocol_type operation"
+                           " hardware_size protocol_size")
 _at_ethernet2, _at_linux_sll, _at_vlan, _at_macsec, _at_arp = (
-    getattr(_library.Unit, name).offset for name in ("ethernet2", "linux_sll", "vlan", "macsec", "arp"))
-_found = struct.Struct(f"={_library.Headers.found.offset}xQ").unpack_from
-_fault = struct.Struct(f"={_library.Headers.found.offset + _library.Found.fault.offset + _library.Fault.kind.offset}xI").unpack_from
+    getattr(_header.Unit, name).offset for name in ("ethernet2", "linux_sll", "vlan", "macsec", "arp"))
+_found = reader(_header.Found, "units")
+_fault = reader(_header.Fault, "kind")
+_at_found = _header.Headers.found.offset
+_at_fault = _at_found + _header.Found.fault.offset
+_ETHERNET2, _VLAN, _MACSEC, _ARP = map(int, (UnitKind.ETHERNET2, UnitKind.VLAN, UnitKind.MACSEC, UnitKind.ARP))
 _new = tuple.__new__
 
 
@@ -38,7 +46,7 @@ def bytes_of(frame):
 
 def _room():
     """A struct to write to, and its bytes."""
-    headers = _library.Headers()
+    headers = _header.Headers()
     return C.byref(headers), memoryview(headers).cast("B")
 
 
@@ -56,22 +64,22 @@ def units_of(frame, start, ether_type):
 
 def _units_in(room, frame, start, ether_type):
     target, memory = room
-    if _call(start, ether_type, frame, len(frame), target) or _fault(memory)[0]:
+    if _call(start, ether_type, frame, len(frame), target) or _fault(memory, _at_fault)[0]:
         return None
     units, tags, at = [], 0, 0
-    for _ in range(_found(memory)[0]):
+    for _ in range(_found(memory, _at_found)[0]):
         offset, header_len, payload_start, payload_end, kind, closed = _head(memory, at)
-        if kind == 1:
+        if kind == _ETHERNET2:
             destination, source, ether_type, has_fcs = _ethernet2(memory, at + _at_ethernet2)
             header = _new(Ethernet2, (destination, source, ether_type, has_fcs == 1))
-        elif kind == 3:
+        elif kind == _VLAN:
             vid, ether_type, pcp, dei = _vlan(memory, at + _at_vlan)
             header = _new(Vlan, (vid, pcp, dei == 1, ether_type))
             tags += 1
-        elif kind == 4:
+        elif kind == _MACSEC:
             header = _sec_tag(memory, at + _at_macsec)
             tags += 1
-        elif kind == 5:
+        elif kind == _ARP:
             header = _arp_packet(memory, at + _at_arp, frame)
         else:
             header = _new(LinuxSll, _linux_sll(memory, at + _at_linux_sll))

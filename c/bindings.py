@@ -1,0 +1,171 @@
+"""Writes what the Python package has of etherpeel.h: its numbers as enumerations, its structs, and the types of its calls.
+
+    python3 c/bindings.py
+    python3 c/bindings.py --check
+
+The result is c/python/etherpeel/_header.py. Only the numbers of fields are not there: fields.py writes them, from the table that those in
+etherpeel.h are made of. With --check this writes nothing, compares, and prints 'N passed, M failed' last.
+"""
+import argparse
+import os
+import re
+import sys
+import textwrap
+
+HERE = os.path.dirname(os.path.abspath(__file__))
+TARGET = "python/etherpeel/_header.py"
+WIDTH = 120
+HEAD = '''"""The numbers, structs and calls of etherpeel.h, as c/bindings.py writes them."""
+import ctypes as C
+from enum import IntEnum
+
+u8, u16, u32, u64, size = C.c_uint8, C.c_uint16, C.c_uint32, C.c_uint64, C.c_size_t
+'''
+NUMBERS = {"uint8_t": "u8", "uint16_t": "u16", "uint32_t": "u32", "uint64_t": "u64", "size_t": "size", "int": "C.c_int"}
+# The numbers of fields are made elsewhere; those of structs are their order in STRUCTS.
+ELSEWHERE = "field_name", "struct"
+# Numbers for nothing, for which Python has None.
+NOTHING = "ETHERPEEL_FAULT_NONE", "ETHERPEEL_DISCARDED_NOT"
+# What is said of an enumeration whose comment is about calls from C.
+TOLD = {
+    "start": "What a frame begins with.",
+    "layer": "The layer of a length fault.",
+    "len_source": "What gave the length that was available or required in a length fault.",
+    "decision": "Whether a filter selects a packet, as far as its captured bytes tell.",
+}
+ENUM = re.compile(r"^/\* ([^/]*?)\*/\nenum etherpeel_(\w+) \{\n(.*?)^\};", re.M | re.S)
+STRUCT = re.compile(r"^typedef struct etherpeel_\w+ \{\n(.*?)^\} etherpeel_(\w+);", re.M | re.S)
+CALL = re.compile(r"^(uint32_t|size_t) etherpeel_(\w+)\(([^;{]*)\);", re.M)
+MEMBER = re.compile(r"( *)/\*(.*?)\*/\n|    (\w+) = (\d+),?\n|(\n)", re.S)
+
+
+def camel(name):
+    """The name of a class in Python, of that of a struct or an enumeration in C."""
+    return "".join(word.capitalize() for word in name.split("_"))
+
+
+class Header:
+    """What etherpeel.h declares."""
+
+    def __init__(self, text):
+        self.version = [int(it) for it in re.search(r"VERSION_MAJOR (\d+)\n#define ETHERPEEL_VERSION_MINOR (\d+)", text).groups()]
+        self.enums = [(name, comment, body) for comment, name, body in ENUM.findall(text)]
+        self.structs = [(name, body) for body, name in STRUCT.findall(text)]
+        self.calls = CALL.findall(text)
+        self.prefixes = {name: prefix_of(body) for name, _, body in self.enums}
+
+    def told(self, comment):
+        """The text of a comment, with the names of Python in place of those of C."""
+        text = " ".join(line.lstrip(" *") for line in comment.split("\n")).strip()
+        text = re.sub(r"enum etherpeel_(\w+)", lambda it: f"`{camel(it[1])}`", text)
+        text = re.sub(r"etherpeel_(\w+)", r"`\1`", text)
+        return re.sub(r"ETHERPEEL_(\w+)", lambda it: f"`{self.short(it[0])}`", text)
+
+    def short(self, number):
+        """A number of C without the prefix that all of its enumeration have."""
+        prefixes = [it for it in self.prefixes.values() if number.startswith(it)]
+        return number[len(max(prefixes, key=len)):]
+
+
+def prefix_of(body):
+    """What the names of an enumeration have in common, up to an underscore."""
+    common = os.path.commonprefix(re.findall(r"^    (ETHERPEEL_\w+) = ", body, re.M))
+    return common[:common.rindex("_") + 1]
+
+
+def quoted(text, indent):
+    """A text as a docstring."""
+    return textwrap.fill(f'"""{text}"""', WIDTH, initial_indent=indent, subsequent_indent=indent) + "\n"
+
+
+def enumeration(header, name, comment, body):
+    """An enumeration as a class. A comment is the docstring of the number after it, or one on all numbers up to the next empty line."""
+    lines, waiting = [f"class {camel(name)}(IntEnum):\n", quoted(TOLD.get(name) or header.told(comment), "    ")], None
+    for _, text, number, value, gap in MEMBER.findall(body):
+        if gap and waiting:
+            lines += textwrap.wrap(waiting, WIDTH, initial_indent="\n    # ", subsequent_indent="    # ", replace_whitespace=False)
+            lines.append("\n")
+            waiting = None
+        elif number and number not in NOTHING:
+            lines.append(f"\n    {header.short(number)} = {value}\n" + (quoted(waiting, "    ") if waiting else ""))
+        waiting = header.told(text) if text else None
+    return "".join(lines)
+
+
+def field(line):
+    """The name of a struct's field, and its type."""
+    kind, star, name, count = re.match(r"    (?:const )?(\w+) (\*?)(\w+)(?:\[(\d+)\])?;", line).groups()
+    code = type_of(kind, star)
+    return f'("{name}", {code} * {count})' if count else f'("{name}", {code})'
+
+
+def type_of(kind, star):
+    """A type of C, or a pointer to it. A pointer to bytes or text is an address."""
+    if star and kind in ("uint8_t", "char", "void"):
+        return "C.c_void_p"
+    if kind not in NUMBERS and not kind.startswith("etherpeel_"):
+        sys.exit(f"etherpeel.h: the type {kind} is not known")
+    code = NUMBERS.get(kind) or camel(kind[len("etherpeel_"):])
+    return f"C.POINTER({code})" if star else code
+
+
+def struct(name, body):
+    fields = [field(line) for line in body.splitlines() if re.match(r"    (const )?\w+ \*?\w+(\[\d+\])?;", line)]
+    if len(fields) != body.count(";") - len(re.findall(r"/\*[^/]*?;[^/]*?\*/", body)):
+        sys.exit(f"etherpeel.h: a field of etherpeel_{name} can't be read")
+    return laid_out(f"class {camel(name)}(C.Structure):\n    _fields_ = [", fields, "]\n")
+
+
+def call(result, name, words):
+    """What a call takes and returns."""
+    types = []
+    for word in words.replace("\n", " ").split(","):
+        told = re.match(r" *(?:const )?(\w+) (\*?)\w+(\[\d+\])?$", word)
+        if told:
+            types.append(type_of(told[1], told[2] or told[3]))
+        elif word != "void":
+            sys.exit(f"etherpeel.h: '{word}' of etherpeel_{name} can't be read")
+    return laid_out(f'    "{name}": ({NUMBERS[result]}, [', types, "]),\n")
+
+
+def laid_out(before, items, after):
+    """Items with a comma between two, in lines that are not too long."""
+    column = len(before) - before.rfind("\n") - 1
+    lines = textwrap.wrap(", ".join(item.replace(" ", "\0") for item in items), WIDTH - column - len(after) + 1)
+    return before + ("\n" + " " * column).join(lines).replace("\0", " ") + after
+
+
+def module(header):
+    """The text of the module."""
+    major, minor = header.version
+    parts = [HEAD + f"MAJOR, VERSION = {major}, {major << 16 | minor << 8:#08x}\n"]
+    parts += [enumeration(header, *it) for it in header.enums if it[0] not in ELSEWHERE]
+    parts += [struct(*it) for it in header.structs]
+    order = next(body for name, _, body in header.enums if name == "struct")
+    names = [camel(it.lower()) for it in re.findall(r"STRUCT_(\w+) = ", order)]
+    parts.append("# the structs in the order of enum etherpeel_struct, from 1 on\n" + laid_out("STRUCTS = [", names, "]\n"))
+    calls = "".join(call(*it) for it in header.calls)
+    parts.append(f"# what each call returns, and what it takes\nCALLS = {{\n{calls}}}\n")
+    return "\n\n".join(parts)
+
+
+def main():
+    words = argparse.ArgumentParser(description=__doc__, formatter_class=argparse.RawDescriptionHelpFormatter)
+    words.add_argument("--check", action="store_true", help="compare in place of writing")
+    is_check = words.parse_args().check
+    with open(f"{HERE}/etherpeel.h", encoding="ascii") as file:
+        text = module(Header(file.read()))
+    if not is_check:
+        with open(f"{HERE}/{TARGET}", "w", encoding="ascii") as file:
+            file.write(text)
+        return 0
+    with open(f"{HERE}/{TARGET}", encoding="ascii") as file:
+        failed = file.read() != text
+    if failed:
+        print(f"c/{TARGET} is not what python3 c/bindings.py writes")
+    print(f"{1 - failed} passed, {int(failed)} failed")
+    return int(failed)
+
+
+if __name__ == "__main__":
+    sys.exit(main())
