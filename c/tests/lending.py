@@ -27,7 +27,11 @@ CALLS = {
     "frame": (lambda it: etherpeel.captured_frame(captured(it)) and None, TAGGED),
     "select": (lambda it: len(list(etherpeel.select("vlan", [captured(it)]))), TAGGED),
     "select with a wrong number": (lambda it: len(list(etherpeel.select("vlan", [captured(it)._replace(original_len=2**32)]))), TAGGED),
-    "capture": (lambda it: len(list(etherpeel.capture(it))), CAPTURE),
+    "filter": (lambda it: etherpeel.Filter("vlan").matches(it), TAGGED),
+    "filter of a packet": (lambda it: etherpeel.Filter("vlan").decide(captured(it)), TAGGED),
+    "filter of a tag": (lambda it: etherpeel.Filter("vlan").matches(it, etherpeel.Start.ETHER_TYPE, ether_type=0x8100), TAGGED[14:]),
+    "filter of a wrong packet": (lambda it: etherpeel.Filter("vlan").matches(captured(it)._replace(fcs_len=256)), TAGGED),
+    "capture": (lambda it: len(list(etherpeel.capture(it))), CAPTURE), "open": (lambda it: len(etherpeel.open(it)), CAPTURE),
     "select of a capture": (lambda it: len(list(etherpeel.select("vlan", etherpeel.capture(it)))), CAPTURE),
 }
 

@@ -51,6 +51,10 @@ CALLS = {
     "cooked v2": lambda: (etherpeel.linux_sll2(COOKED_V2), etherpeel.linux_sll2_fields(COOKED_V2)),
     "capture": lambda: [(bytes(it.packet), *it[1:], etherpeel.captured_frame(it).offset) for it in etherpeel.capture(CAPTURE)],
     "select": lambda: [it.time_ns for it in etherpeel.select("vlan", etherpeel.capture(CAPTURE))],
+    "open": lambda: [bytes(it.packet) for it in etherpeel.open(CAPTURE)[1:]],
+    "filter": lambda: [etherpeel.Filter("vlan").matches(it) for it in (TAGGED, ARP)] + etherpeel.Filter("arp").select(etherpeel.open(CAPTURE)),
+    "decision": lambda: etherpeel.Filter("vlan 291").decide(etherpeel.Captured(memoryview(TAGGED[:16]), None, 1, 19, None)),
+    "line": lambda: etherpeel.open(CAPTURE)[0].columns("frame.time,vlan.vid"),
     "select of a list": lambda: [it.time_ns for it in etherpeel.select("vlan", list(etherpeel.capture(CAPTURE)))],
 }
 

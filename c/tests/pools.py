@@ -114,6 +114,9 @@ def results_of_calls():
     frame = etherpeel.captured_frame(whole[0])
     for way, it in copies(frame):
         check(f"a frame, {way}", it and (type(it), type(it.bytes), it), (etherpeel.Frame, memoryview, frame))
+    for filter_of in (etherpeel.Filter("vlan 5"), etherpeel.Filter("arp or cut")):
+        for way, it in copies(filter_of):
+            check(f"a filter, {way}", it and (type(it), it, it.matches(TAGGED)), (etherpeel.Filter, filter_of, False))
     packet = etherpeel.packet(TAGGED[:16])
     for way, it in copies(packet):
         check(f"results, {way}", (it, it and it.summary.fault.kind is FaultKind.LENGTH), (packet, True))
@@ -126,27 +129,32 @@ def read(content):
     return list(etherpeel.capture(content))
 
 
+def marked(asked, content):
+    """Which packets of a capture a filter selects, with the filter. It runs in a worker."""
+    return asked, asked.select(etherpeel.open(content))
+
+
 def by_multiprocessing(method):
     with multiprocessing.get_context(method).Pool(2) as pool:
-        return results(lambda content: pool.apply_async(read, (content,)).get())
+        return results(lambda call, *words: pool.apply_async(call, words).get())
 
 
 def by_futures(method):
     with concurrent.futures.ProcessPoolExecutor(2, multiprocessing.get_context(method)) as pool:
-        return results(lambda content: pool.submit(read, content).result())
+        return results(lambda call, *words: pool.submit(call, *words).result())
 
 
 def by_dask(_):
     from dask.distributed import Client
     with Client(n_workers=2, dashboard_address=None) as client:
-        return results(lambda content: client.submit(read, content).result())
+        return results(lambda call, *words: client.submit(call, *words).result())
 
 
 def results(call):
-    """What workers raise of a cut capture, and return of a whole one."""
-    error = error_of(lambda: call(CAPTURE[:50]))
-    whole = [bytes(packet.packet) for packet in call(CAPTURE)]
-    return f"{type(error).__name__} {error.offset} {error.needed} {whole}"
+    """What workers raise of a cut capture, and return of a whole one and of a filter."""
+    error = error_of(lambda: call(read, CAPTURE[:50]))
+    whole = [bytes(packet.packet) for packet in call(read, CAPTURE)]
+    return f"{type(error).__name__} {error.offset} {error.needed} {whole} {call(marked, etherpeel.Filter('cut'), CAPTURE)}"
 
 
 POOLS = {"multiprocessing": by_multiprocessing, "futures": by_futures, "dask": by_dask}
@@ -174,7 +182,7 @@ def in_time(python, *asked):
 def main():
     errors()
     results_of_calls()
-    expected = "CaptureError 41 16 [b'\\xff', b'']"
+    expected = "CaptureError 41 16 [b'\\xff', b''] (etherpeel.Filter('cut'), [False, True])"
     for method in multiprocessing.get_all_start_methods():
         for pool in ("multiprocessing", "futures"):
             check(f"{pool}, {method}", in_time(sys.executable, pool, method), expected)

@@ -16,10 +16,12 @@ folder, word = words("FOLDER", "[WORD]")
 word = word or ""
 sys.path.insert(0, folder)
 import etherpeel
+from asking import asking
 from bounds import numbers
 from compared import drawn_frames, drawn_packets, fronts, short_lists
 from lending import lending
 from nested import nested
+from opened import opened
 from sources import sources
 from etherpeel import Difference, FaultKind, FieldKind, FieldName, FilterErrorKind, Layer, LenSource, RestKind, Start, Status, _header, _library
 
@@ -445,7 +447,8 @@ TESTS = {
     "layout": layout, "worked examples": worked_examples, "buffers": buffers, "packets": packets, "captures": captures,
     "sources": lambda: sources(CLASSIC, [b"\xff", b""]), "frames of captures": frames_of_captures, "filters": filters, "lines": lines,
     "late texts": late_texts, "fields": fields, "names": names, "cooked v2": cooked_v2, "tags in place": tags_in_place,
-    "headers in place": headers_in_place, "building": building, "wrong words": wrong_words, "nested calls": nested, "lent memory": lending, "numbers": numbers,
+    "headers in place": headers_in_place, "building": building, "wrong words": wrong_words, "nested calls": nested, "lent memory": lending, "numbers": numbers, "asking": lambda: asking(CLASSIC, [b""]),
+    "opened": lambda: opened(CLASSIC, [b"\xff", b""], TAGGED, captured(COOKED_V2, 276)),
     "drawn frames": lambda: drawn_frames(10000), "drawn packets": lambda: drawn_packets(3000), "short lists": short_lists, "fronts": fronts,
 }
 for name, test in TESTS.items():

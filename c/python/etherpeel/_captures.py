@@ -1,19 +1,17 @@
-"""Captures, filters, and Linux cooked capture v2."""
+"""Capture files, and their packets."""
 from __future__ import annotations
 
 import ctypes as C
-import io
 import json
-import mmap
 import os
-from functools import lru_cache
-from struct import error as PackingError
-from typing import Any, Dict, Iterable, Iterator, List, NamedTuple, Optional, Protocol, Union
+from typing import Any, Dict, Iterator, List, NamedTuple, Optional, Protocol, Sequence, Union, overload
 
-from . import _header, _library
-from ._header import FilterErrorKind, Start, Status
-from ._library import READ, Error, get_buffer, lent, lib, number, reader, release_buffer, required, text, up_to, writer
-from ._types import Buffer, FilterError
+from . import _header
+from ._header import Start, Status
+from ._library import Error, lent, lib, number, reader, text, up_to
+from ._sources import content_of
+from ._types import Buffer, Field, Packet, Summary, Unit
+from ._walks import fields, packet as packet_of, summary, walk
 
 
 def start_of_link_type(link_type: int) -> Optional[Start]:
@@ -44,6 +42,11 @@ class Captured(NamedTuple):
         if start == Start.ETHERNET2 and self.fcs_len == 4 and len(self.packet) == self.original_len:
             return Start.ETHERNET2_FCS
         return start
+
+    @property
+    def frame(self) -> Optional[Frame]:
+        """The part of the packet that is walked, as `captured_frame` returns it; None if nothing is walked."""
+        return captured_frame(self)
 
     def json(self, number: int = 1) -> str:
         """The packet as an object of JSON, as `ether_capture --format json` prints it."""
@@ -95,124 +98,142 @@ class Readable(Protocol):
     def read(self) -> bytes: ...
 
 
+class Capture(Sequence[Captured]):
+    """The packets of a capture file, in their order: a sequence, as `open` returns it.
+
+    If the file can't be read to its end, a loop over it raises a `CaptureError` after the last packet; `fault` has the same error. The
+    length, an index and a slice are about the packets before the fault, and raise nothing for it. At the end of a `with`, or by
+    `close`, the capture gives its memory back; packets that were taken from it keep theirs.
+    """
+
+    def __init__(self, source: Union[str, os.PathLike[str], Readable, Buffer]) -> None:
+        self._view, self._broken = content_of(source)
+        with lent(self._view) as (at, length):
+            count, end = C.c_size_t(), _header.CaptureEnd()
+            lib.etherpeel_capture(at, length, None, 0, C.byref(count), C.byref(end))
+            structs = (_header.Captured * count.value)()
+            status = lib.etherpeel_capture(at, length, structs, count.value, C.byref(count), C.byref(end))
+        self._at, self._structs, self._end, self._status = at, structs, end, status
+        self._memory = memoryview(structs).cast("B") if len(structs) else b""
+
+    @property
+    def fault(self) -> Optional[CaptureError]:
+        """Why the packets end before the file does; None if they don't."""
+        self._all()
+        if self._broken and self._status != Status.BAD_CAPTURE:
+            return CaptureError(f"At byte {self._end.offset}: {self._broken}", self._end.offset, self._end.needed)
+        if self._status == Status.DONE:
+            return None
+        with lent(self._view) as (at, length):
+            return CaptureError(text(lib.etherpeel_capture_fault_text, at, length), self._end.offset, self._end.needed)
+
+    def close(self) -> None:
+        """Gives the memory of the file back, once no packet that was taken from the capture is in use. After it the capture can't be
+        used."""
+        self._view = self._structs = self._memory = None
+
+    def __len__(self) -> int:
+        return len(self._all())
+
+    def __iter__(self) -> Iterator[Captured]:
+        return Packets(self)
+
+    @overload
+    def __getitem__(self, index: int) -> Captured: ...
+
+    @overload
+    def __getitem__(self, index: slice) -> List[Captured]: ...
+
+    def __getitem__(self, index: Union[int, slice]) -> Union[Captured, List[Captured]]:
+        places = range(len(self))[index]
+        return self._packet(places) if isinstance(places, int) else [self._packet(at) for at in places]
+
+    def __enter__(self) -> Capture:
+        return self
+
+    def __exit__(self, *_: object) -> None:
+        self.close()
+
+    def __repr__(self) -> str:
+        return f"<etherpeel.Capture with {len(self._structs)} packets>" if self._structs is not None else "<etherpeel.Capture, closed>"
+
+    def _all(self):
+        """The packets as C wrote them, so one call can apply a filter to many; the capture keeps their bytes where they are."""
+        if self._structs is None:
+            raise ValueError("the capture is closed")
+        return self._structs
+
+    def _packet(self, index):
+        """The packet at an index that is not negative."""
+        if self._memory is None:
+            raise ValueError("the capture is closed")
+        (address, packet_len, seconds, nanoseconds, original_len, link_type, has_time, has_fcs_len,
+         fcs_len) = _captured(self._memory, index * SIZE)
+        start = address - self._at if packet_len else 0
+        return _new(Captured, (self._view[start:start + packet_len], seconds * 10**9 + nanoseconds if has_time else None, link_type,
+                               original_len, fcs_len if has_fcs_len else None))
+
+
+_captured = reader(_header.Captured, "packet packet_len seconds nanoseconds original_len link_type has_time has_fcs_len fcs_len")
+SIZE, _new = C.sizeof(_header.Captured), tuple.__new__
+
+
+def open(source: Union[str, os.PathLike[str], Readable, Buffer]) -> Capture:
+    """The packets of a classic pcap or pcapng file. The source is a path, `-` for standard input, a file that is open for reading, or
+    the bytes of a file; each may be compressed with gzip, bzip2, xz, or, from Python 3.14 on, zstd.
+
+        with etherpeel.open("f.pcapng.gz") as packets:
+            for packet in packets:
+                print(packet.brief())
+
+    Each packet takes 40 bytes of memory. A file on disk is mapped into memory, an open one from its position on. Every other source
+    is read at once by its `read()`, and what is compressed is unpacked into memory. If a mapped file is truncated while its packets
+    are in use, the system kills the process (SIGBUS). So read a file that another program may truncate, as `tcpdump -W` does:
+    `open(file.read())`.
+
+    Raises `OSError` if the file can't be opened or read. If its content can't be read to the end, that is the `fault` of the capture.
+    """
+    return Capture(source)
+
+
 def capture(source: Union[str, os.PathLike[str], Readable, Buffer]) -> Iterator[Captured]:
-    """The packets of a classic pcap or pcapng file. The source is a path, a file that is open for reading, or the bytes of a file.
+    """The packets of a capture file one by one: an iterator over `open(source)`.
 
         for packet in etherpeel.capture("f.pcap"):
-            frame = etherpeel.captured_frame(packet)
-            if frame:
-                print(etherpeel.packet(frame.bytes, frame.start, ether_type=frame.ether_type).vlan_ids)
+            print(packet.columns("frame.time,vlan.vid"))
 
-    Raises `CaptureError` after the last packet if the file can't be read to its end. Each packet takes 40 bytes of memory.
-
-    A file on disk is mapped into memory, an open one from its position on. Every other source is read at once by its `read()`: pipes,
-    and compressed files that `gzip.open`, `bz2.open` or `lzma.open` opens. If a mapped file is truncated while its packets are in
-    use, the system kills the process (SIGBUS). So read a file that another program may truncate, as `tcpdump -W` does:
-    `capture(file.read())`.
+    Raises `CaptureError` after the last packet if the file can't be read to its end.
     """
-    view = _memory(source)
-    with lent(view) as (at, length):
-        count, end = C.c_size_t(), _header.CaptureEnd()
-        lib.etherpeel_capture(at, length, None, 0, C.byref(count), C.byref(end))
-        packets = (_header.Captured * count.value)()
-        status = lib.etherpeel_capture(at, length, packets, count.value, C.byref(count), C.byref(end))
-    return _Packets(view, at, packets, end if status != Status.DONE else None)
+    return iter(open(source))
 
 
-def _memory(source):
-    """A view of the bytes of a source."""
-    if isinstance(source, (str, os.PathLike)):
-        with open(source, "rb") as file:
-            return _content(file)
-    if hasattr(source, "read") and not isinstance(source, mmap.mmap):
-        return _content(getattr(source, "buffer", source))
-    return memoryview(source).cast("B")
+class Packets(Iterator[Captured]):
+    """An iterator over a capture. A signal handler may take packets of it: between a test of `next` and the assignment there is no
+    call, in which a handler could run."""
 
+    __slots__ = ("capture", "next", "count", "is_at_end")
 
-def _content(file):
-    """A view of the bytes of an open file from its position on. Only a plain file has the bytes that its descriptor names: a
-    compressed one has a descriptor too."""
-    raw = file.raw if type(file) in (io.BufferedReader, io.BufferedRandom) else file
-    if type(raw) is io.FileIO:
-        try:
-            where = file.tell()
-            return memoryview(mmap.mmap(file.fileno(), 0, access=mmap.ACCESS_READ))[where:]
-        except (OSError, ValueError):
-            pass  # a pipe, or an empty file
-    return memoryview(file.read())
-
-
-class _Packets:
-    """The packets of a capture, and then the error if they end before the file. Their structs are kept as C wrote them, so one
-    call can apply a filter to many; the view keeps the bytes where they are.
-
-    A signal handler may take packets of the same capture: between a test of `next` and the assignment there is no call, in which
-    a handler could run."""
-
-    __slots__ = ("view", "at", "structs", "memory", "end", "next", "count")
-
-    def __init__(self, view, at, structs, end):
-        self.view, self.at, self.structs, self.end, self.next, self.count = view, at, structs, end, 0, len(structs)
-        self.memory = memoryview(structs).cast("B") if len(structs) else b""
-
-    def __iter__(self):
-        return self
+    def __init__(self, capture):
+        self.capture, self.next, self.count, self.is_at_end = capture, 0, len(capture), False
 
     def __next__(self):
         index = self.next
         if index == self.count:
-            self._stop()
+            self.stop()
         self.next = index + 1
-        return self._packet(index)
+        return self.capture._packet(index)
 
-    def _packet(self, index):
-        (address, packet_len, seconds, nanoseconds, original_len, link_type, has_time, has_fcs_len,
-         fcs_len) = _captured(self.memory, index * _SIZE)
-        start = address - self.at if packet_len else 0
-        return _new(Captured, (self.view[start:start + packet_len], seconds * 10**9 + nanoseconds if has_time else None, link_type,
-                               original_len, fcs_len if has_fcs_len else None))
-
-    def _stop(self):
+    def stop(self):
         """Raises the error, once, if there is one, and then `StopIteration`."""
-        end, self.end = self.end, None
-        if end:
-            with lent(self.view) as (at, length):
-                said = text(lib.etherpeel_capture_fault_text, at, length)
-            raise CaptureError(said, end.offset, end.needed)
+        is_at_end, self.is_at_end = self.is_at_end, True
+        fault = None if is_at_end else self.capture.fault
+        if fault:
+            raise fault
         raise StopIteration
-
-    def selected(self, read):
-        """The remaining packets that a filter selects."""
-        while self.next < self.count:
-            first = self.next
-            count = min(_AT_ONCE, self.count - first)
-            packets = C.cast(C.byref(self.structs, first * _SIZE), C.POINTER(_header.Captured))
-            marks = (C.c_uint8 * count)()
-            required(lib.etherpeel_filter_select(read, packets, count, marks, count))
-            found = bytes(marks)
-            at = found.find(1)
-            while at >= 0:
-                index = first + at
-                if self.next <= index:  # else others took it meanwhile
-                    self.next = index + 1
-                    yield self._packet(index)
-                at = found.find(1, self.next - first)
-            if self.next < first + count:
-                self.next = first + count
-        try:
-            self._stop()
-        except StopIteration:
-            return
-
-
-_captured = reader(_header.Captured, "packet packet_len seconds nanoseconds original_len link_type has_time has_fcs_len fcs_len")
-_SIZE, _new = C.sizeof(_header.Captured), tuple.__new__
-_AT_ONCE = 4096  # packets that a filter is asked of in one call
 
 
 class Frame(NamedTuple):
-    """The part of a captured packet that is walked, as in `walk(frame.bytes, frame.start, ether_type=frame.ether_type)`. It is
-    pickled with a copy of its bytes."""
+    """The part of a captured packet that is walked, as in `frame.walk()`. It is pickled with a copy of its bytes."""
 
     bytes: memoryview
     """The bytes that are walked, where they are in the packet."""
@@ -221,6 +242,22 @@ class Frame(NamedTuple):
     start: Start
     ether_type: Optional[int]
     """The ether type that announces the frame, with `Start.ETHER_TYPE`; else None."""
+
+    def walk(self, *, limit: Optional[int] = None) -> List[Unit]:
+        """The units of the frame, as `etherpeel.walk` returns them. Offsets count from the start of the frame."""
+        return walk(self.bytes, self.start, ether_type=self.ether_type, limit=limit)
+
+    def packet(self) -> Packet:
+        """All headers of the frame, as `etherpeel.packet` returns them."""
+        return packet_of(self.bytes, self.start, ether_type=self.ether_type)
+
+    def summary(self, *, limit: Optional[int] = None) -> Summary:
+        """The result of the walk through the frame, as `etherpeel.summary` returns it."""
+        return summary(self.bytes, self.start, ether_type=self.ether_type, limit=limit)
+
+    def fields(self) -> List[Field]:
+        """The fields of the frame's headers, as `etherpeel.fields` returns them."""
+        return fields(self.bytes, self.start, ether_type=self.ether_type)
 
     def __copy__(self) -> Frame:
         return self
@@ -266,75 +303,3 @@ def _line(packet, form, count):
     words = form.encode()
     with lent(packet.packet) as (at, length):
         return text(lib.etherpeel_format, words, len(words), number("number", count, 64), C.byref(told(packet, at, length)))[:-1]
-
-
-# ---- filters
-
-
-def select(expression: str, packets: Iterable[Captured]) -> Iterator[Captured]:
-    """The packets that a filter selects, in their order, as they are asked for.
-
-        with open("f.pcap", "rb") as file:
-            for packet in etherpeel.select("vlan 291 and not arp", etherpeel.capture(file)):
-                print(packet.time_ns)
-
-    The expression is in words of pcap-filter(7): a primitive, or several with `not`, `and`, `or` and parentheses. Primitives:
-
-        vlan, vlan N            a VLAN tag; one with the identifier N
-        outer vlan N            the first VLAN tag has the identifier N
-        inner vlan N            the last of two or more VLAN tags has the identifier N
-        macsec                  a MACsec SecTag
-        ether proto N           the ether type N is announced; arp, ip, ip6 for 0x0806, 0x0800, 0x86DD
-        ether src A, dst A      the address of the source or the destination; ether host A for either
-        ether broadcast         the destination is all stations; ether multicast for any group
-        refused                 a header is cut short or malformed
-        cut                     fewer bytes were captured than were on the wire
-        less N, greater N       at most, or at least, N bytes were on the wire
-
-    The expression is about the frame that `captured_frame` returns. A packet for which that is None is never selected, not even
-    by `not`.
-
-    Raises `FilterError`, before any packet is read, if the text is not an expression.
-    """
-    read = _read(expression)
-    if isinstance(packets, _Packets):
-        return packets.selected(read)
-    return _selected(read, packets)
-
-
-_WITH_GREATEST = FilterErrorKind.NUMBER, FilterErrorKind.VLAN_ID_OR_OPERATOR, FilterErrorKind.BYTES
-
-
-@lru_cache(maxsize=64)
-def _read(expression):
-    """The filter that a text means. Calls only read it, so that threads may share it."""
-    words, read, error = expression.encode(), _header.Filter(), _header.FilterError()
-    if lib.etherpeel_filter_parse(words, len(words), C.byref(read), C.byref(error)) == Status.BAD_FILTER:
-        kind = FilterErrorKind(error.kind)
-        raise FilterError(text(lib.etherpeel_filter_error_text, words, len(words)), error.offset, kind,
-                          error.greatest if kind in _WITH_GREATEST else None)
-    return read
-
-
-def _selected(read, packets):
-    """The packets of any iterable that a filter selects. All share one struct, whose bytes are written at once, and one loan."""
-    one, loan, matches = _header.Captured(), _library.Lent(), lib.etherpeel_filter_matches
-    target, read, passed, lends = memoryview(one).cast("B"), C.byref(read), C.byref(one), C.byref(loan)
-    for packet in packets:
-        get_buffer(packet.packet, lends, READ)
-        try:
-            time, fcs_len = packet.time_ns, packet.fcs_len
-            _pack(target, 0, loan.buf or 0, loan.len, *(_NO_TIME if time is None else divmod(time, 10**9)), packet.original_len,
-                  packet.link_type, time is not None, fcs_len is not None, fcs_len or 0)
-            is_selected = matches(read, passed)
-        except PackingError:
-            told(packet, loan.buf, loan.len)  # says which number has too many bits
-            raise
-        finally:
-            release_buffer(lends)
-        if is_selected:
-            yield packet
-
-
-_pack = writer(_header.Captured, "packet packet_len seconds nanoseconds original_len link_type has_time has_fcs_len fcs_len")
-_NO_TIME = 0, 0
