@@ -23,6 +23,7 @@ from lending import lending
 from nested import nested
 from opened import opened
 from sources import sources
+from wording import addresses, wrong_words
 from etherpeel import Difference, FaultKind, FieldKind, FieldName, FilterErrorKind, Layer, LenSource, RestKind, Start, Status, _header, _library
 
 
@@ -400,7 +401,7 @@ def headers_in_place():
             check(str(error), (error.status, error.tags, error.difference, bytes(words[0])), (*expected, before))
     check("wrong values", [raised(call, *words) for call, words in (
         (etherpeel.replace_link, (frame, ethernet2._replace(source=bytes(5)))), (etherpeel.replace_link_ext, (frame, 0, etherpeel.Vlan(-1))),
-        (etherpeel.replace_arp, (around[1:], reply._replace(target_protocol=b""))))], [ValueError] * 3)
+        (etherpeel.replace_arp, (around[1:], reply._replace(target_protocol=b""))))], [etherpeel.ReplaceError] * 3)
     check("immutable", raised(etherpeel.replace_link, bytes(TAGGED), ethernet2), BufferError)
 
 
@@ -428,26 +429,15 @@ def building():
         except etherpeel.BuildError as error:
             check(str(error), (error.status, error.index), expected)
     check("sealed ARP", raised(etherpeel.build, [link, sealed, arp]), etherpeel.BuildError)
-    for words in (([link],), ([link], b"E"), ([link, arp], b"E"), ([link, arp], b"", 0x0806), ([link], b"", 65536),
-                  ([link, etherpeel.Vlan(2**16)], b"", 1)):
+    for words in (([link],), ([link], b"E"), ([link, arp], b"E"), ([link, arp], b"", 0x0806), ([link], b"", 65536)):
         check("wrong words", raised(etherpeel.build, *words), ValueError)
-
-
-def wrong_words():
-    check("start", raised(etherpeel.walk, TAGGED, 9), ValueError)
-    check("no ether type", raised(etherpeel.walk, TAGGED, Start.ETHER_TYPE), ValueError)
-    check("an ether type", raised(etherpeel.walk, TAGGED, ether_type=0x8100), ValueError)
-    check("ether type", raised(etherpeel.walk, TAGGED, Start.ETHER_TYPE, ether_type=65536), ValueError)
-    check("limit", raised(etherpeel.walk, TAGGED, limit=-1), ValueError)
-    check("text", raised(etherpeel.walk, "ff"), TypeError)
-    check("not contiguous", raised(etherpeel.walk, memoryview(TAGGED)[::2]), BufferError)
 
 
 TESTS = {
     "layout": layout, "worked examples": worked_examples, "buffers": buffers, "packets": packets, "captures": captures,
     "sources": lambda: sources(CLASSIC, [b"\xff", b""]), "frames of captures": frames_of_captures, "filters": filters, "lines": lines,
     "late texts": late_texts, "fields": fields, "names": names, "cooked v2": cooked_v2, "tags in place": tags_in_place,
-    "headers in place": headers_in_place, "building": building, "wrong words": wrong_words, "nested calls": nested, "lent memory": lending, "numbers": numbers, "asking": lambda: asking(CLASSIC, [b""]),
+    "headers in place": headers_in_place, "building": building, "wrong words": wrong_words, "addresses": addresses, "nested calls": nested, "lent memory": lending, "numbers": numbers, "asking": lambda: asking(CLASSIC, [b""]),
     "opened": lambda: opened(CLASSIC, [b"\xff", b""], TAGGED, captured(COOKED_V2, 276)),
     "drawn frames": lambda: drawn_frames(10000), "drawn packets": lambda: drawn_packets(3000), "short lists": short_lists, "fronts": fronts,
 }

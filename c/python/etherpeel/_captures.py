@@ -8,7 +8,7 @@ from typing import Any, Dict, Iterator, List, NamedTuple, Optional, Protocol, Se
 
 from . import _header
 from ._header import Start, Status
-from ._library import Error, lent, lib, number, reader, text, up_to
+from ._library import Error, StatusError, lent, lib, number, reader, text, up_to
 from ._sources import content_of
 from ._types import Buffer, Field, Packet, Summary, Unit
 from ._walks import fields, packet as packet_of, summary, walk
@@ -66,7 +66,11 @@ class Captured(NamedTuple):
 
             source, vids = packet.columns("eth.src,vlan.vid")
 
-        Raises `ValueError` if a name is not that of a column, or if there are more than 32."""
+        Raises `Error` if a name is not that of a column, or if there are more than 32."""
+        if not isinstance(names, str):
+            raise TypeError(f"names is a str, not {type(names).__name__}")
+        if names in ("json", "brief"):
+            raise _no_columns(names)
         return _line(self, names, number).split("\t")
 
     def __copy__(self) -> Captured:
@@ -302,4 +306,11 @@ def _line(packet, form, count):
     """The line of a packet in a format, without the line feed at its end."""
     words = form.encode()
     with lent(packet.packet) as (at, length):
-        return text(lib.etherpeel_format, words, len(words), number("number", count, 64), C.byref(told(packet, at, length)))[:-1]
+        try:
+            return text(lib.etherpeel_format, words, len(words), number("number", count, 64), C.byref(told(packet, at, length)))[:-1]
+        except StatusError as error:
+            raise _no_columns(form) if error.status == Status.BAD_FORMAT else Error("the line has more than 65,536 bytes") from None
+
+
+def _no_columns(names):
+    return Error(f"{names!r} does not name 1 to 32 columns")

@@ -192,7 +192,7 @@ def _selected(read, packets):
     one, loan, matches = _header.Captured(), Lent(), lib.etherpeel_filter_matches
     target, read, passed, lends = memoryview(one).cast("B"), C.byref(read), C.byref(one), C.byref(loan)
     for packet in packets:
-        get_buffer(packet.packet, lends, READ)
+        get_buffer(_bytes_of(packet), lends, READ)
         try:
             time, fcs_len = packet.time_ns, packet.fcs_len
             _pack(target, 0, loan.buf or 0, loan.len, *(_NO_TIME if time is None else divmod(time, 10**9)), packet.original_len,
@@ -205,6 +205,13 @@ def _selected(read, packets):
             release_buffer(lends)
         if is_selected:
             yield packet
+
+
+def _bytes_of(packet):
+    try:
+        return packet.packet
+    except AttributeError:
+        raise TypeError(f"a packet is a Captured, not {type(packet).__name__}") from None
 
 
 _pack = writer(_header.Captured, "packet packet_len seconds nanoseconds original_len link_type has_time has_fcs_len fcs_len")

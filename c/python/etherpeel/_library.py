@@ -68,9 +68,17 @@ def up_to(name, value, greatest):
     return value
 
 
+class StatusError(Error):
+    """A call returned a status that its caller did not expect."""
+
+    def __init__(self, status):
+        super().__init__(Status(status).name)
+        self.status = status
+
+
 def required(status):
     if status != Status.DONE:
-        raise Error(Status(status).name)
+        raise StatusError(status)
 
 
 def text(call, *words, room=512):

@@ -5,6 +5,7 @@ import ctypes as C
 from typing import Optional, Sequence, Union
 
 from . import _header
+from ._addresses import hardware_address, protocol_address
 from ._header import Status, UnitKind
 from ._library import WRITE, lent, lib, number, required
 from ._types import (Arp, Buffer, BuildError, Difference, Ethernet2, Header, LinuxSll, Macsec, ReplaceError, Start, Vlan,
@@ -13,41 +14,59 @@ from ._types import (Arp, Buffer, BuildError, Difference, Ethernet2, Header, Lin
 # the kind of a unit with such a header, and the struct of its fields
 KINDS = {Ethernet2: (UnitKind.ETHERNET2, "ethernet2"), LinuxSll: (UnitKind.LINUX_SLL, "linux_sll"), Vlan: (UnitKind.VLAN, "vlan"),
          Macsec: (UnitKind.MACSEC, "macsec"), Arp: (UnitKind.ARP, "arp")}
+# the bits of fields that are narrower than their type in C
+BITS = {"vid": 12, "pcp": 3, "dei": 1, "association_number": 2, "short_len": 6, "end_station": 1, "sci_present": 1,
+        "single_copy_broadcast": 1, "encrypted": 1, "changed": 1, "has_fcs": 1, "packet_type": 3}
+ADDRESSES = {"sender_hardware": hardware_address, "sender_protocol": protocol_address, "target_hardware": hardware_address,
+             "target_protocol": protocol_address}
 
 
-def passed(header: Header):
+def passed(header: Header, where: str):
     """A header as a unit of C, and the bytes that have the addresses of an ARP packet. Raises a `ValueError` if a value does not
-    fit its field."""
+    fit its field, and a `TypeError` if it is of another type."""
+    if type(header) not in KINDS:
+        raise TypeError(f"{where} is an Ethernet2, LinuxSll, Vlan, Macsec or Arp, not {type(header).__name__}")
     values, addresses = header._asdict(), b""
     if isinstance(header, Macsec):
         values.update(sci=header.sci or 0, sci_present=header.sci is not None, ether_type=header.ether_type or 0)
     if isinstance(header, Arp):
-        values.update(_places(header))
-        addresses = b"".join(header[3:])
+        told = [call(f"{name} of {where}", values[name]) for name, call in ADDRESSES.items()]
+        values.update(_places(where, *told))
+        addresses = b"".join(told)
     unit = _header.Unit()
     unit.kind, name = KINDS[type(header)]
     fields = getattr(unit, name)
     for name, kind in fields._fields_:
-        setattr(fields, name, _fitting(name, kind, values[name]))
+        setattr(fields, name, _fitting(name, where, kind, values[name]))
     return unit, addresses
 
 
-def _places(packet):
+def _places(where, *addresses):
     """The sizes of the addresses of an ARP packet, and the offset of each."""
-    hardware, protocol = len(packet.sender_hardware), len(packet.sender_protocol)
-    if len(packet.target_hardware) != hardware or len(packet.target_protocol) != protocol:
-        raise ValueError("the addresses of sender and target differ in length")
+    hardware, protocol, *targets = map(len, addresses)
+    if targets != [hardware, protocol]:
+        raise ValueError(f"the addresses of sender and target of {where} differ in length")
     return {"hardware_size": hardware, "protocol_size": protocol, "sender_hardware": 0, "sender_protocol": hardware,
             "target_hardware": hardware + protocol, "target_protocol": 2 * hardware + protocol}
 
 
-def _fitting(name, kind, value):
+def _fitting(name, where, kind, value):
     """A value in the type of its field."""
+    told = f"{name} of {where}"
     if issubclass(kind, C.Array):
+        value = hardware_address(told, value)
         if len(value) != C.sizeof(kind):
-            raise ValueError(f"{name} has {C.sizeof(kind)} bytes, not {len(value)}")
+            raise ValueError(f"{told} has {C.sizeof(kind)} bytes, not {len(value)}")
         return kind(*value)
-    return number(name, value, 8 * C.sizeof(kind))
+    return number(told, value, BITS.get(name, 8 * C.sizeof(kind)))
+
+
+def _new(header):
+    """A header that is to replace another one, as a unit of C."""
+    try:
+        return passed(header, "the header")
+    except ValueError as error:
+        raise ReplaceError(Status.BAD_FIELD, text=str(error)) from None
 
 
 def _replaced(status, error):
@@ -64,7 +83,7 @@ def replace_link(frame: WritableBuffer, header: Union[Ethernet2, LinuxSll], star
     Raises `ReplaceError` if it is not replaced, and `BufferError` if the frame can't be written to. No other byte of the frame
     changes: a frame check sequence is unchanged, and doesn't fit the new bytes.
     """
-    (unit, _), error = passed(header), _header.ReplaceError()
+    (unit, _), error = _new(header), _header.ReplaceError()
     with lent(frame, WRITE) as (at, length):
         _replaced(lib.etherpeel_replace_link(Start(start), 0, at, length, C.byref(unit), C.byref(error)), error)
 
@@ -77,7 +96,7 @@ def replace_link_ext(frame: WritableBuffer, index: int, header: Union[Vlan, Macs
 
     Raises as `replace_link`.
     """
-    (unit, _), error, words = passed(header), _header.ReplaceError(), begun(start, ether_type)
+    (unit, _), error, words = _new(header), _header.ReplaceError(), begun(start, ether_type)
     with lent(frame, WRITE) as (at, length):
         words = (*words, at, length, number("index", index, 64))
         _replaced(lib.etherpeel_replace_link_ext(*words, C.byref(unit), C.byref(error)), error)
@@ -86,7 +105,7 @@ def replace_link_ext(frame: WritableBuffer, index: int, header: Union[Vlan, Macs
 def replace_arp(frame: WritableBuffer, packet: Arp, start: Start = Start.ETHERNET2, *, ether_type: Optional[int] = None) -> None:
     """Replaces the ARP packet of a frame, after at most three VLAN tags and SecTags, in place. The addresses of the new packet
     must have the same lengths. Raises as `replace_link`."""
-    (unit, addresses), error, words = passed(packet), _header.ReplaceError(), begun(start, ether_type)
+    (unit, addresses), error, words = _new(packet), _header.ReplaceError(), begun(start, ether_type)
     with lent(frame, WRITE) as (at, length):
         words = (*words, at, length, C.byref(unit), addresses, len(addresses))
         _replaced(lib.etherpeel_replace_arp(*words, C.byref(error)), error)
@@ -111,7 +130,10 @@ def build(headers: Sequence[Header], payload: Buffer = b"", ether_type: Optional
         raise ValueError("payload and ether_type are given if no ARP packet is, and else neither is")
     units, addresses = (_header.Unit * len(headers))(), b""
     for index, header in enumerate(headers):
-        units[index], addresses = passed(header)
+        try:
+            units[index], addresses = passed(header, f"the header at index {index}")
+        except ValueError as error:
+            raise BuildError(Status.BAD_FIELD, index, str(error)) from None
     length = C.c_size_t()
     with lent(addresses if has_arp else payload) as (at, payload_len):
         words = (units, len(headers), number("ether_type", ether_type or 0, 16), at, payload_len)

@@ -18,9 +18,16 @@ def _changed(status):
 
 def _told(tag):
     """A tag as a struct of C."""
-    if not (0 <= tag.vid < 4096 and 0 <= tag.pcp < 8 and 0 <= tag.dei < 2):
-        raise TagError(Status.BAD_FIELD)
-    return _header.Vlan(vid=tag.vid, pcp=tag.pcp, dei=tag.dei)
+    if not isinstance(tag, Vlan):
+        raise TypeError(f"tag is a Vlan, not {type(tag).__name__}")
+    return _header.Vlan(vid=_fitting("vid", tag.vid, 12), pcp=_fitting("pcp", tag.pcp, 3), dei=_fitting("dei", tag.dei, 1))
+
+
+def _fitting(name, value, bits):
+    try:
+        return number(name, value, bits)
+    except ValueError as error:
+        raise TagError(Status.BAD_FIELD, str(error)) from None
 
 
 def pop_vlan(frame: WritableBuffer, start: Start = Start.ETHERNET2) -> Vlan:
@@ -55,9 +62,7 @@ def set_vlan_id(frame: WritableBuffer, index: int, vid: int, start: Start = Star
     Raises `TagError` if there is no VLAN tag at the index, or the identifier is above 4095, and `BufferError` if the frame
     can't be written to.
     """
-    if not 0 <= vid < 65536:
-        raise TagError(Status.BAD_FIELD)
-    words = begun(start, ether_type)
+    words, vid = begun(start, ether_type), _fitting("vid", vid, 12)
     with lent(frame, WRITE) as (at, length):
         _changed(lib.etherpeel_set_vlan_id(*words, at, length, number("index", index, 64), vid))
 

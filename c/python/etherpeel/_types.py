@@ -4,6 +4,7 @@ from __future__ import annotations
 from enum import IntEnum
 from typing import List, NamedTuple, Optional, Tuple, Type, TypeVar, Union
 
+from ._addresses import Address, hardware_address, protocol_address
 from ._header import (Decision, Difference, FaultKind, FieldKind, FieldPart, FilterErrorKind, Layer, LenSource, RestKind, Start, Status)
 from ._library import Error, lib, number, text
 
@@ -130,9 +131,7 @@ class Fed(NamedTuple):
     """The fault of the walk of these bytes, if there is one."""
 
 
-class Ethernet2(NamedTuple):
-    """An Ethernet II header (IEEE 802.3, 3.2.3 to 3.2.6)."""
-
+class _Ethernet2(NamedTuple):
     destination: bytes
     source: bytes
     ether_type: int = 0
@@ -140,9 +139,17 @@ class Ethernet2(NamedTuple):
     """Whether a frame check sequence follows, in the 4 bytes from `payload_end` on."""
 
 
-class LinuxSll(NamedTuple):
-    """A header of Linux cooked capture v1."""
+class Ethernet2(_Ethernet2):
+    """An Ethernet II header (IEEE 802.3, 3.2.3 to 3.2.6). The addresses may be given as text, such as "02:00:00:00:00:01"."""
 
+    __slots__ = ()
+
+    def __new__(cls, destination: Address, source: Address, ether_type: int = 0, has_fcs: bool = False) -> Ethernet2:
+        return super().__new__(cls, hardware_address("destination", destination), hardware_address("source", source), ether_type,
+                               has_fcs)
+
+
+class _LinuxSll(NamedTuple):
     packet_type: int
     """0 to 7: to us, to all, to a group, to someone else, by us .."""
     hardware_type: int
@@ -152,6 +159,18 @@ class LinuxSll(NamedTuple):
     address: bytes
     """The sender's address, truncated or padded to 8 bytes."""
     protocol: int = 0
+
+
+class LinuxSll(_LinuxSll):
+    """A header of Linux cooked capture v1. The address may be given as text, such as "02:00:00:00:00:01", and is then padded to the 8
+    bytes of its field."""
+
+    __slots__ = ()
+
+    def __new__(cls, packet_type: int, hardware_type: int, address_len: int, address: Address, protocol: int = 0) -> LinuxSll:
+        value = hardware_address("address", address)
+        return super().__new__(cls, packet_type, hardware_type, address_len, value.ljust(8, b"\0") if isinstance(address, str) else value,
+                               protocol)
 
 
 class Vlan(NamedTuple):
@@ -183,9 +202,7 @@ class Macsec(NamedTuple):
     """The ether type after the tag, None if the payload is encrypted or changed."""
 
 
-class Arp(NamedTuple):
-    """An ARP packet (RFC 826)."""
-
+class _Arp(NamedTuple):
     hardware_type: int
     protocol_type: int
     operation: int
@@ -194,6 +211,19 @@ class Arp(NamedTuple):
     sender_protocol: bytes
     target_hardware: bytes
     target_protocol: bytes
+
+
+class Arp(_Arp):
+    """An ARP packet (RFC 826). The addresses may be given as text, such as "02:00:00:00:00:01" and "10.0.0.1"."""
+
+    __slots__ = ()
+
+    def __new__(cls, hardware_type: int, protocol_type: int, operation: int, sender_hardware: Address, sender_protocol: Address,
+                target_hardware: Address, target_protocol: Address) -> Arp:
+        return super().__new__(cls, hardware_type, protocol_type, operation, hardware_address("sender_hardware", sender_hardware),
+                               protocol_address("sender_protocol", sender_protocol),
+                               hardware_address("target_hardware", target_hardware),
+                               protocol_address("target_protocol", target_protocol))
 
 
 Header = Union[Ethernet2, LinuxSll, Vlan, Macsec, Arp]
@@ -272,8 +302,8 @@ class Packet(NamedTuple):
 class TagError(Error):
     """A VLAN tag is not taken off, put in or changed. The frame is then unchanged."""
 
-    def __init__(self, status: Status):
-        super().__init__(_TAG_ERRORS[status])
+    def __init__(self, status: Status, text: Optional[str] = None):
+        super().__init__(text or _TAG_ERRORS[status])
         self.status = status
         """The number of the reason."""
 
@@ -294,9 +324,9 @@ _TAG_ERRORS = {
 class ReplaceError(Error):
     """A header is not replaced: the text says why. The frame is then unchanged."""
 
-    def __init__(self, status: Status, tags: Optional[int] = None, difference: Optional[Difference] = None):
+    def __init__(self, status: Status, tags: Optional[int] = None, difference: Optional[Difference] = None, text: Optional[str] = None):
         told = difference and difference.name.replace("_", " ").lower()
-        super().__init__(_REPLACE_ERRORS[status].format(tags=tags, difference=told))
+        super().__init__(text or _REPLACE_ERRORS[status].format(tags=tags, difference=told))
         self.status = status
         """The number of the reason."""
         self.tags = tags
@@ -318,8 +348,8 @@ _REPLACE_ERRORS = {
 class BuildError(Error):
     """A packet is not built: the text says why."""
 
-    def __init__(self, status: Status, index: Optional[int] = None):
-        super().__init__(_BUILD_ERRORS[status].format(index=index))
+    def __init__(self, status: Status, index: Optional[int] = None, text: Optional[str] = None):
+        super().__init__(text or _BUILD_ERRORS[status].format(index=index))
         self.status = status
         """The number of the reason."""
         self.index = index
