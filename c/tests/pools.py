@@ -26,6 +26,7 @@ SECONDS = 60
 # a classic file with two packets, of one byte and of none; its last record header begins at byte 41 and has 16 bytes
 CAPTURE = bytes.fromhex("a1b2c3d4 00020004 00000000 00000000 0000ffff 00000001"
                         "00000001 00000002 00000001 00000001 ff 00000003 00000004 00000000 00000009")
+STATION = ADDRESSES[6:]
 LINK, TAG = etherpeel.Ethernet2(b"\xff" * 6, ADDRESSES[6:], 0x0800), etherpeel.Vlan(1)
 
 
@@ -134,6 +135,11 @@ def marked(asked, content):
     return asked, asked.select(etherpeel.open(content))
 
 
+def bridged(bridge):
+    """Where a station is that a bridge has seen, and where a frame to it goes. It runs in a worker."""
+    return bridge.find(5, STATION).port, sorted(bridge.receive(1, 1, STATION + bytes.fromhex("020000000002 0800")).untagged)
+
+
 def by_multiprocessing(method):
     with multiprocessing.get_context(method).Pool(2) as pool:
         return results(lambda call, *words: pool.apply_async(call, words).get())
@@ -154,7 +160,11 @@ def results(call):
     """What workers raise of a cut capture, and return of a whole one and of a filter."""
     error = error_of(lambda: call(read, CAPTURE[:50]))
     whole = [bytes(packet.packet) for packet in call(read, CAPTURE)]
-    return f"{type(error).__name__} {error.offset} {error.needed} {whole} {call(marked, etherpeel.Filter('cut'), CAPTURE)}"
+    bridge = etherpeel.Bridge()
+    for port in range(3):
+        bridge.set_port(port, pvid=5)
+    bridge.receive(0, 0, bytes(6) + STATION + b"\x08\0")
+    return f"{call(bridged, bridge)} {type(error).__name__} {error.offset} {error.needed} {whole} {call(marked, etherpeel.Filter('cut'), CAPTURE)}"
 
 
 POOLS = {"multiprocessing": by_multiprocessing, "futures": by_futures, "dask": by_dask}
@@ -182,7 +192,7 @@ def in_time(python, *asked):
 def main():
     errors()
     results_of_calls()
-    expected = "CaptureError 41 16 [b'\\xff', b''] (etherpeel.Filter('cut'), [False, True])"
+    expected = "(0, [0]) CaptureError 41 16 [b'\\xff', b''] (etherpeel.Filter('cut'), [False, True])"
     for method in multiprocessing.get_all_start_methods():
         for pool in ("multiprocessing", "futures"):
             check(f"{pool}, {method}", in_time(sys.executable, pool, method), expected)

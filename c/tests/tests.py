@@ -18,6 +18,7 @@ sys.path.insert(0, folder)
 import etherpeel
 from asking import asking
 from bounds import numbers
+from bridging import bridging
 from compared import drawn_frames, drawn_packets, fronts, short_lists
 from lending import lending
 from nested import nested
@@ -437,7 +438,7 @@ TESTS = {
     "layout": layout, "worked examples": worked_examples, "buffers": buffers, "packets": packets, "captures": captures,
     "sources": lambda: sources(CLASSIC, [b"\xff", b""]), "frames of captures": frames_of_captures, "filters": filters, "lines": lines,
     "late texts": late_texts, "fields": fields, "names": names, "cooked v2": cooked_v2, "tags in place": tags_in_place,
-    "headers in place": headers_in_place, "building": building, "wrong words": wrong_words, "addresses": addresses, "nested calls": nested, "lent memory": lending, "numbers": numbers, "asking": lambda: asking(CLASSIC, [b""]),
+    "headers in place": headers_in_place, "building": building, "wrong words": wrong_words, "addresses": addresses, "bridging": bridging, "nested calls": nested, "lent memory": lending, "numbers": numbers, "asking": lambda: asking(CLASSIC, [b""]),
     "opened": lambda: opened(CLASSIC, [b"\xff", b""], TAGGED, captured(COOKED_V2, 276)),
     "drawn frames": lambda: drawn_frames(10000), "drawn packets": lambda: drawn_packets(3000), "short lists": short_lists, "fronts": fronts,
 }

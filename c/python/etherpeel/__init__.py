@@ -12,10 +12,12 @@ is, without a copy; only `pop_vlan`, `push_vlan`, `set_..` and `replace_..` writ
 `Start.ETHER_TYPE`, `ether_type` announces it. With a `limit`, at most that many VLAN tags and SecTags are read.
 Offsets count bytes from the start of the frame. docs/C.md of the repository says what is proved of each call.
 """
+from ._bridge import Bridge, Port, Received, Sighting
 from ._captures import Capture, CaptureError, Captured, Frame, capture, captured_frame, open, start_of_link_type
 from ._cooked import linux_sll2, linux_sll2_fields
 from ._filters import Filter, select
-from ._header import Decision, Difference, FaultKind, FieldKind, FilterErrorKind, Layer, LenSource, RestKind, Start, Status
+from ._header import (BridgeKind, Decision, Difference, Discarded, FaultKind, FieldKind, FilterErrorKind, FrameTypes, Layer,
+                      LenSource, RestKind, Start, Status)
 from ._library import Error
 from ._names import number_name
 from ._replacing import build, replace_arp, replace_link, replace_link_ext
@@ -25,12 +27,13 @@ from ._types import (Arp, BuildError, Ethernet2, Fault, Fed, Field, FieldName, F
 from ._walks import completion, fault_text, feed, fields, missing, packet, summary, walk, write_back, write_back_into
 
 __all__ = [
-    "Arp", "BuildError", "Capture", "CaptureError", "Captured", "Decision", "Difference", "Error", "Ethernet2", "Fault",
-    "FaultKind", "Fed", "Field", "FieldKind", "FieldName", "Filter", "FilterError", "FilterErrorKind", "Frame", "Header",
-    "Layer", "LenSource", "LinuxSll", "LinuxSll2", "LinuxSll2Error", "Macsec", "Packet", "Refused", "ReplaceError",
-    "RestKind", "Start", "Status", "Summary", "TagError", "Unit", "Vlan", "build", "capture", "captured_frame",
-    "completion", "fault_text", "feed", "fields", "linux_sll2", "linux_sll2_fields", "missing", "number_name", "open",
-    "packet", "pop_vlan", "push_vlan", "replace_arp", "replace_link", "replace_link_ext", "select", "set_tpid",
-    "set_vlan_id", "set_vlan_tag", "start_of_link_type", "summary", "walk", "write_back", "write_back_into",
+    "Arp", "Bridge", "BridgeKind", "BuildError", "Capture", "CaptureError", "Captured", "Decision", "Difference",
+    "Discarded", "Error", "Ethernet2", "Fault", "FaultKind", "Fed", "Field", "FieldKind", "FieldName", "Filter",
+    "FilterError", "FilterErrorKind", "Frame", "FrameTypes", "Header", "Layer", "LenSource", "LinuxSll", "LinuxSll2",
+    "LinuxSll2Error", "Macsec", "Packet", "Port", "Received", "Refused", "ReplaceError", "RestKind", "Sighting",
+    "Start", "Status", "Summary", "TagError", "Unit", "Vlan", "build", "capture", "captured_frame", "completion",
+    "fault_text", "feed", "fields", "linux_sll2", "linux_sll2_fields", "missing", "number_name", "open", "packet",
+    "pop_vlan", "push_vlan", "replace_arp", "replace_link", "replace_link_ext", "select", "set_tpid", "set_vlan_id",
+    "set_vlan_tag", "start_of_link_type", "summary", "walk", "write_back", "write_back_into",
 ]
 __version__ = "3.0.0"
