@@ -175,6 +175,12 @@ callers_in_python() {
     else
         echo "left out: the package compared with scapy, since no Python with scapy was found"
     fi
+    mypy=$(python_with mypy "$python" /usr/bin/python3)
+    if [ -n "$mypy" ]; then
+        run "The types of the package, $mypy" "$mypy" tests/typed.py "$work/package"
+    else
+        echo "left out: the types of the package, since no Python with mypy was found"
+    fi
     # each word is one argument, or none
     run "Python and other processes" "$python" tests/pools.py "$work/package" $dask
 }

@@ -2,14 +2,17 @@
 from __future__ import annotations
 
 from enum import IntEnum
-from typing import List, NamedTuple, Optional, Tuple, Type, TypeVar, Union
+from typing import TYPE_CHECKING, List, NamedTuple, Optional, Tuple, Type, TypeVar, Union
 
 from ._addresses import Address, hardware_address, protocol_address
-from ._header import (Decision, Difference, FaultKind, FieldKind, FieldPart, FilterErrorKind, Layer, LenSource, RestKind, Start, Status)
+from ._header import Difference, FaultKind, FieldKind, FieldPart, FilterErrorKind, Layer, LenSource, RestKind, Start, Status
 from ._library import Error, lib, number, text
 
-Buffer = Union[bytes, bytearray, memoryview]
-WritableBuffer = Union[bytearray, memoryview]
+if TYPE_CHECKING:  # whatever the type checker takes for memory: also mmap, arrays and structs of ctypes
+    from _typeshed import ReadableBuffer as Buffer, WriteableBuffer as WritableBuffer
+else:
+    Buffer = Union[bytes, bytearray, memoryview]
+    WritableBuffer = Union[bytearray, memoryview]
 
 # ---- numbers
 
