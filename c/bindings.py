@@ -1,10 +1,12 @@
-"""Writes what the Python package has of etherpeel.h: its numbers as enumerations, its structs, and the types of its calls.
+"""Writes what the Python package has of etherpeel.h: its numbers as enumerations, its structs, and the types of its
+calls.
 
     python3 c/bindings.py
     python3 c/bindings.py --check
 
-The result is c/python/etherpeel/_header.py. Only the numbers of fields are not there: fields.py writes them, from the table that those in
-etherpeel.h are made of. With --check this writes nothing, compares, and prints 'N passed, M failed' last.
+The result is c/python/etherpeel/_header.py. Only the numbers of fields are not there: fields.py writes them, from the
+table that those in etherpeel.h are made of. With --check this writes nothing, compares, and prints 'N passed, M failed'
+last.
 """
 import argparse
 import os
@@ -48,7 +50,8 @@ class Header:
     """What etherpeel.h declares."""
 
     def __init__(self, text):
-        self.version = [int(it) for it in re.search(r"VERSION_MAJOR (\d+)\n#define ETHERPEEL_VERSION_MINOR (\d+)", text).groups()]
+        version = re.search(r"VERSION_MAJOR (\d+)\n#define ETHERPEEL_VERSION_MINOR (\d+)", text)
+        self.version = int(version[1]), int(version[2])
         self.enums = [(name, comment, body) for comment, name, body in ENUM.findall(text)]
         self.structs = [(name, body) for body, name in STRUCT.findall(text)]
         self.calls = CALL.findall(text)
@@ -79,12 +82,13 @@ def quoted(text, indent):
 
 
 def enumeration(header, name, comment, body):
-    """An enumeration as a class. A comment is the docstring of the number after it, or one on all numbers up to the next empty line."""
+    """An enumeration as a class. A comment is the docstring of the number after it, or one on all numbers up to the
+    next empty line."""
     lines, waiting = [f"class {camel(name)}(IntEnum):\n", quoted(TOLD.get(name) or header.told(comment), "    ")], None
     for _, text, number, value, gap in MEMBER.findall(body):
         if gap and waiting:
-            lines += textwrap.wrap(waiting, WIDTH, initial_indent="\n    # ", subsequent_indent="    # ", replace_whitespace=False)
-            lines.append("\n")
+            told = textwrap.fill(waiting, WIDTH, initial_indent="    # ", subsequent_indent="    # ")
+            lines.append(f"\n{told}\n")
             waiting = None
         elif number and number not in NOTHING:
             lines.append(f"\n    {header.short(number)} = {value}\n" + (quoted(waiting, "    ") if waiting else ""))
@@ -143,7 +147,8 @@ def module(header):
     parts += [struct(*it) for it in header.structs]
     order = next(body for name, _, body in header.enums if name == "struct")
     names = [camel(it.lower()) for it in re.findall(r"STRUCT_(\w+) = ", order)]
-    parts.append("# the structs in the order of enum etherpeel_struct, from 1 on\n" + laid_out("STRUCTS = [", names, "]\n"))
+    structs = laid_out("STRUCTS = [", names, "]\n")
+    parts.append(f"# the structs in the order of enum etherpeel_struct, from 1 on\n{structs}")
     calls = "".join(call(*it) for it in header.calls)
     parts.append(f"# what each call returns, and what it takes\nCALLS = {{\n{calls}}}\n")
     return "\n\n".join(parts)

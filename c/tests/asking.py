@@ -11,8 +11,8 @@ from etherpeel import Decision, Filter, Start
 
 FAILS, MATCHES, UNDECIDED = Decision
 COOKED = bytes.fromhex("0004 0001 0006 020000000001abcd 8100 0007 0800")
-# a packet of which 16 bytes were captured: the identifier of its VLAN tag is there, but the ether type after it is not. By its captured
-# bytes alone it has no tag, for that is cut short; whatever the missing bytes are, it has one.
+# a packet of which 16 bytes were captured: the identifier of its VLAN tag is there, but the ether type after it is not.
+# By its captured bytes alone it has no tag, for that is cut short; whatever the missing bytes are, it has one.
 CUT = etherpeel.Captured(memoryview(TAGGED[:16]), None, 1, len(TAGGED), None)
 
 
@@ -26,7 +26,8 @@ def frames():
     for text, frame, start, ether_type, expected in (
             ("vlan 7", COOKED, Start.LINUX_SLL, None, True), ("sll.packet_type == 4", COOKED, Start.LINUX_SLL, None, True),
             ("refused", COOKED, Start.ETHERNET2, None, False), ("vlan 7", COOKED[16:], Start.ETHER_TYPE, 0x8100, True),
-            ("eth or sll or not vlan", COOKED[16:], Start.ETHER_TYPE, 0x8100, None), ("ether proto 0x8100", COOKED[16:], Start.ETHER_TYPE, 0x8100, True),
+            ("eth or sll or not vlan", COOKED[16:], Start.ETHER_TYPE, 0x8100, None),
+            ("ether proto 0x8100", COOKED[16:], Start.ETHER_TYPE, 0x8100, True),
             ("less 4", COOKED[16:], Start.ETHER_TYPE, 0x8100, True), ("greater 5", COOKED[16:], Start.ETHER_TYPE, 0x8100, False),
             ("cut", COOKED[16:], Start.ETHER_TYPE, 0x8100, False), ("refused", COOKED[16:19], Start.ETHER_TYPE, 0x8100, True),
             ("frame.original == 4", COOKED[16:], Start.ETHER_TYPE, 0x8100, True), ("arp", b"", Start.ETHER_TYPE, 0x0806, True),
@@ -86,7 +87,7 @@ def values():
         check("no filter", [raised(call, it) for it in ("vlan 4096", "", "vlan\0")], [etherpeel.FilterError] * 3)
     check("no packet", [raised(vlan.matches, it) for it in ("vlan", None, 5, [TAGGED])], [TypeError] * 4)
     check("wrong words", [raised(vlan.matches, TAGGED, *it) for it in ((9,), (Start.ETHER_TYPE,))], [ValueError] * 2)
-    check("a wrong ether type", [raised(vlan.matches, TAGGED, ether_type=0x8100), raised(vlan.matches, b"", 4, ether_type=65536)], [ValueError] * 2)
+    check("a wrong ether type", [raised(vlan.matches, *it, ether_type=65536) for it in ((TAGGED,), (b"", 4))], [ValueError] * 2)
 
 
 def threads():

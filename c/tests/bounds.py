@@ -1,5 +1,5 @@
-"""Each number of headers, packets of captures and arguments at 0, 1 and its greatest value, by each way in which the package reads and
-writes it. The bytes of headers are put together here, by the figures of their standards."""
+"""Each number of headers, packets of captures and arguments at 0, 1 and its greatest value, by each way in which the
+package reads and writes it. The bytes of headers are put together here, by the figures of their standards."""
 import struct
 
 import etherpeel
@@ -194,7 +194,8 @@ def packets_written():
 
 def greatest():
     """What errors say of numbers."""
-    for text, number in (("vlan 4096", 4095), ("ether proto 65536", 65535), ("vlan.pcp == 8", 7), ("vlan.dei == 2", 1), ("less 4294967296", 2**32 - 1)):
+    for text, number in (("vlan 4096", 4095), ("ether proto 65536", 65535), ("vlan.pcp == 8", 7), ("vlan.dei == 2", 1),
+                         ("less 4294967296", 2**32 - 1)):
         try:
             etherpeel.select(text, [])
             check(text, False, True)
@@ -207,9 +208,11 @@ def greatest():
         except etherpeel.ReplaceError as error:
             check(f"{tags} tags", error.tags, tags)
     for value in (8, 65535):
-        check(f"packet type {value}", etherpeel.summary(encoded(COOKED._replace(packet_type=value)), Start.LINUX_SLL).fault[-2:], (value, None))
+        frame = encoded(COOKED._replace(packet_type=value))
+        check(f"packet type {value}", etherpeel.summary(frame, Start.LINUX_SLL).fault[-2:], (value, None))
     for value in (0, 65535):
-        check(f"hardware type {value}", etherpeel.summary(encoded(COOKED._replace(hardware_type=value)), Start.LINUX_SLL).fault[-2:], (None, value))
+        frame = encoded(COOKED._replace(hardware_type=value))
+        check(f"hardware type {value}", etherpeel.summary(frame, Start.LINUX_SLL).fault[-2:], (None, value))
     for value in (0, 1, 65535):
         check(f"what {value} announces", etherpeel.summary(encoded(LINK._replace(ether_type=value))).rest_protocol, value)
 

@@ -1,4 +1,5 @@
-"""The bridge of the package: where frames go by IEEE 802.1Q, what leaves, what is learned, and settings that are refused."""
+"""The bridge of the package: where frames go by IEEE 802.1Q, what leaves, what is learned, and settings that are
+refused."""
 import copy
 import pickle
 import threading
@@ -12,7 +13,8 @@ REST = bytes.fromhex("0800 4500")
 
 
 def frame(destination, source, *tags, rest=REST):
-    """A frame with tags, each of its ether type, priority, drop eligible indicator and VLAN identifier (IEEE 802.1Q, 9.5 and 9.6)."""
+    """A frame with tags, each of its ether type, priority, drop eligible indicator and VLAN identifier (IEEE 802.1Q,
+    9.5 and 9.6)."""
     told = b"".join(tpid.to_bytes(2, "big") + (pcp << 13 | dei << 12 | vid).to_bytes(2, "big") for tpid, pcp, dei, vid in tags)
     return bytes.fromhex((destination + source).replace(":", "")) + told + rest
 
@@ -188,19 +190,26 @@ def forgetting():
 def wrong_settings():
     bridge = small()
     before, rows = dict(bridge.ports), [
-        (bridge.set_port, (256,), {}, "port is 0 to 255, not 256"), (bridge.set_port, (0,), {"pvid": 0}, "pvid is 1 to 4094, not 0"),
-        (bridge.set_port, (0,), {"pvid": 4095}, "pvid is 1 to 4094, not 4095"), (bridge.set_port, (0,), {"tagged": [5, 4096]}, "tagged is 0 to 4095, not 4096"),
+        (bridge.set_port, (256,), {}, "port is 0 to 255, not 256"),
+        (bridge.set_port, (0,), {"pvid": 0}, "pvid is 1 to 4094, not 0"),
+        (bridge.set_port, (0,), {"pvid": 4095}, "pvid is 1 to 4094, not 4095"),
+        (bridge.set_port, (0,), {"tagged": [5, 4096]}, "tagged is 1 to 4094, not 4096"),
         (bridge.set_port, (0,), {"untagged": [0]}, "untagged is 1 to 4094, not 0"),
         (bridge.set_port, (0,), {"tagged": [5], "untagged": [5]}, "the VLAN 5 is both tagged and untagged"),
-        (bridge.set_port, (0,), {"tagged": [5], "frame_types": 0}, "a port without a pvid accepts FrameTypes.VLAN_TAGGED alone"),
+        (bridge.set_port, (0,), {"frame_types": 0}, "a port without a pvid accepts FrameTypes.VLAN_TAGGED alone"),
         (bridge.set_port, (0,), {"pvid": 5, "default_priority": 8}, "default_priority is 0 to 7, not 8"),
         (bridge.set_port, (0,), {"pvid": 5, "frame_types": 4}, "4 is not a valid FrameTypes"),
-        (Bridge, (), {"ageing_time": 2**32}, "ageing_time is 0 to 4294967295, not 4294967296"), (Bridge, (), {"key": b"short"}, "key has 16 bytes, not 5"),
-        (Bridge, (), {"forwarded": [16]}, "forwarded is 0 to 15, not 16"), (Bridge, (), {"kind": 3}, "3 is not a valid BridgeKind"),
-        (bridge.find, (4095, ONE), {}, "vid is 1 to 4094, not 4095"), (bridge.find, (5, "02:00"), {}, "address has 6 bytes, not 2"),
-        (bridge.set_static, (5, ONE, [256]), {}, "port is 0 to 255, not 256"), (bridge.receive, (-1, 0, b""), {}, "now is 0 to 4294967295, not -1"),
+        (Bridge, (), {"ageing_time": 2**32}, "ageing_time is 0 to 4294967295, not 4294967296"),
+        (Bridge, (), {"key": b"short"}, "key has 16 bytes, not 5"),
+        (Bridge, (), {"forwarded": [16]}, "forwarded is 0 to 15, not 16"),
+        (Bridge, (), {"kind": 3}, "3 is not a valid BridgeKind"),
+        (bridge.find, (4095, ONE), {}, "vid is 1 to 4094, not 4095"),
+        (bridge.find, (5, "02:00"), {}, "address has 6 bytes, not 2"),
+        (bridge.set_static, (5, ONE, [256]), {}, "port is 0 to 255, not 256"),
+        (bridge.receive, (-1, 0, b""), {}, "now is 0 to 4294967295, not -1"),
         (bridge.forget, (), {"port": 0, "address": ONE}, "stations are forgotten by a port or by an address, not by both"),
-        (bridge.forget, (), {"port": 256}, "port is 0 to 255, not 256"), (bridge.forget, (), {"vid": 0}, "vid is 1 to 4094, not 0")]
+        (bridge.forget, (), {"port": 256}, "port is 0 to 255, not 256"),
+        (bridge.forget, (), {"vid": 0}, "vid is 1 to 4094, not 0")]
     for call, words, named, text in rows:
         try:
             call(*words, **named)

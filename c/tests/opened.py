@@ -102,7 +102,8 @@ def compressed(content, expected, path):
 
 
 def damaged(content, expected):
-    """Compressed files with whole packets up to where they can't be unpacked: the fault is that, unless the packets end before it."""
+    """Compressed files with whole packets up to where they can't be unpacked: the fault is that, unless the packets end
+    before it."""
     record = RECORD.pack(1, 0, 999, 999) + bytes(range(111)) * 9
     whole = content + record * 300
     packed = gzip.compress(whole, 1)

@@ -438,9 +438,11 @@ TESTS = {
     "layout": layout, "worked examples": worked_examples, "buffers": buffers, "packets": packets, "captures": captures,
     "sources": lambda: sources(CLASSIC, [b"\xff", b""]), "frames of captures": frames_of_captures, "filters": filters, "lines": lines,
     "late texts": late_texts, "fields": fields, "names": names, "cooked v2": cooked_v2, "tags in place": tags_in_place,
-    "headers in place": headers_in_place, "building": building, "wrong words": wrong_words, "addresses": addresses, "bridging": bridging, "nested calls": nested, "lent memory": lending, "numbers": numbers, "asking": lambda: asking(CLASSIC, [b""]),
-    "opened": lambda: opened(CLASSIC, [b"\xff", b""], TAGGED, captured(COOKED_V2, 276)),
-    "drawn frames": lambda: drawn_frames(10000), "drawn packets": lambda: drawn_packets(3000), "short lists": short_lists, "fronts": fronts,
+    "headers in place": headers_in_place, "building": building, "wrong words": wrong_words, "addresses": addresses,
+    "numbers": numbers, "asking": lambda: asking(CLASSIC, [b""]),
+    "opened": lambda: opened(CLASSIC, [b"\xff", b""], TAGGED, captured(COOKED_V2, 276)), "bridging": bridging,
+    "nested calls": nested, "lent memory": lending, "drawn frames": lambda: drawn_frames(10000),
+    "drawn packets": lambda: drawn_packets(3000), "short lists": short_lists, "fronts": fronts,
 }
 for name, test in TESTS.items():
     if word in name:

@@ -1,5 +1,6 @@
-"""Whether the types that the package declares are those that a caller needs: typed.py FOLDER, where FOLDER has the package. mypy, which this
-Python has, checks a program with its strict options; and the program is run. The last line is 'N passed, M failed'.
+"""Whether the types that the package declares are those that a caller needs: typed.py FOLDER, where FOLDER has the
+package. mypy, which this Python has, checks a program with its strict options; and the program is run. The last line is
+'N passed, M failed'.
 """
 import os
 import subprocess

@@ -1,4 +1,5 @@
-"""Wrong words, and what the errors say of them: which field of which header, and what is expected. And addresses as text."""
+"""Wrong words, and what the errors say of them: which field of which header, and what is expected. And addresses as
+text."""
 import io
 import pickle
 

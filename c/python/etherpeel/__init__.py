@@ -13,7 +13,7 @@
 What there is, by what it is about:
 
     a frame             walk, packet, summary, fields, missing, completion, feed, fault_text, write_back
-    a frame, changed    pop_vlan, push_vlan, set_vlan_id, set_vlan_tag, set_tpid, replace_link, replace_link_ext, replace_arp
+    a frame, changed    pop_vlan, push_vlan, set_vlan_id, set_vlan_tag, set_tpid, replace_link, ..
     a new packet        build
     a capture file      open, capture, Captured, Frame
     a filter            Filter, select
@@ -21,21 +21,22 @@ What there is, by what it is about:
     names               FieldName, number_name
     a switch            Bridge
 
-A frame is any object with contiguous memory, such as `bytes`, `bytearray`, `memoryview`, `mmap` or an array. It is read where it is,
-without a copy; only `pop_vlan`, `push_vlan`, `set_..` and `replace_..` write to it. `start` says what it begins with; with
-`Start.ETHER_TYPE`, `ether_type` announces it. With a `limit`, at most that many VLAN tags and SecTags are read. Offsets count bytes
-from the start of the frame. An address that is passed is bytes, or text such as "02:00:00:00:00:01".
+A frame is any object with contiguous memory, such as `bytes`, `bytearray`, `memoryview`, `mmap` or an array. It is read
+where it is, without a copy; only `pop_vlan`, `push_vlan`, `set_..` and `replace_..` write to it. `start` says what it
+begins with; with `Start.ETHER_TYPE`, `ether_type` announces it. With a `limit`, at most that many VLAN tags and SecTags
+are read. Offsets count bytes from the start of the frame. An address that is passed is bytes, or text such as
+"02:00:00:00:00:01".
 
-Each error is an `Error`, which is a `ValueError`; words of a wrong type raise `TypeError`. Results are named tuples. Results, errors,
-filters and bridges can be pickled. Threads can make calls at once, except for calls that change the same frame. docs/C.md of the
-repository says what is proved of each call.
+Each error is an `Error`, which is a `ValueError`; words of a wrong type raise `TypeError`. Results are named tuples.
+Results, errors, filters and bridges can be pickled. Threads can make calls at once, except for calls that change the
+same frame. docs/C.md of the repository says what is proved of each call.
 """
 from ._bridge import Bridge, Port, Received, Sighting
 from ._captures import Capture, CaptureError, Captured, Frame, capture, captured_frame, open, start_of_link_type
 from ._cooked import linux_sll2, linux_sll2_fields
 from ._filters import Filter, select
-from ._header import (BridgeKind, Decision, Difference, Discarded, FaultKind, FieldKind, FilterErrorKind, FrameTypes, Layer,
-                      LenSource, RestKind, Start, Status)
+from ._header import (BridgeKind, Decision, Difference, Discarded, FaultKind, FieldKind, FilterErrorKind, FrameTypes,
+                      Layer, LenSource, RestKind, Start, Status)
 from ._library import Error
 from ._names import number_name
 from ._replacing import build, replace_arp, replace_link, replace_link_ext

@@ -11,7 +11,7 @@ from typing import Any, Dict, FrozenSet, Iterable, Mapping, NamedTuple, Optional
 from . import _header
 from ._addresses import Address, station
 from ._header import BridgeKind, Discarded, Forgotten, FrameTypes, Status
-from ._library import Error, declare, lent, lib, number, required
+from ._library import Error, between, declare, lent, lib, number, required
 from ._types import Buffer
 
 # These calls are short, so they keep the interpreter's lock: threads can share a bridge.
@@ -28,15 +28,15 @@ class Port(NamedTuple):
     """
 
     pvid: Optional[int] = None
-    """The VLAN of a frame that comes in without a VLAN identifier, 1 to 4094. The frames of this VLAN leave without a tag, unless it
-    is in `tagged`. None if each frame has to name its VLAN."""
+    """The VLAN of a frame that comes in without a VLAN identifier, 1 to 4094. The frames of this VLAN leave without a
+    tag, unless it is in `tagged`. None if each frame has to name its VLAN."""
     tagged: FrozenSet[int] = frozenset()
     """The VLANs whose frames leave with a tag."""
     untagged: FrozenSet[int] = frozenset()
     """The VLANs, besides `pvid`, whose frames leave without a tag."""
     frame_types: FrameTypes = FrameTypes.ALL
-    """Which frames it accepts. By default those of its VLANs: with a tag if there is no `pvid`, without a VLAN identifier if there is
-    nothing else, and all otherwise."""
+    """Which frames it accepts. By default those of its VLANs: with a tag if there is no `pvid`, without a VLAN
+    identifier if there is nothing else, and all otherwise."""
     refuses_second_tag: bool = True
     """Whether it discards a frame with a second tag of the bridge's kind."""
     ingress_filtering: bool = True
@@ -81,8 +81,8 @@ class Sighting(NamedTuple):
 
 
 class Bridge:
-    """A bridge with VLANs (IEEE 802.1Q), which learns where stations are. It has no network interfaces: the caller passes each frame that
-    came in, and sends what leaves.
+    """A bridge with VLANs (IEEE 802.1Q), which learns where stations are. It has no network interfaces: the caller
+    passes each frame that came in, and sends what leaves.
 
         bridge = etherpeel.Bridge()
         bridge.set_port(0, pvid=5)
@@ -92,13 +92,14 @@ class Bridge:
         for port, content in bridge.leaving(received, frame).items():
             send(port, content)
 
-    Frames are from the Ethernet II header on, without a frame check sequence. `kind` says which tags the bridge reads and writes; tags of
-    the other kind are payload. A sighting of a station counts for `ageing_time` seconds. Each VLAN learns in a table of its own, for up to
-    4 times `buckets` stations. `forwarded` has the numbers 0 to 15 of the addresses 01-80-C2-00-00-0X whose frames are forwarded, against the
-    standard. `key` is 16 random bytes, by which the table is ordered; by default the system chooses them.
+    Frames are from the Ethernet II header on, without a frame check sequence. `kind` says which tags the bridge reads
+    and writes; tags of the other kind are payload. A sighting of a station counts for `ageing_time` seconds. Each VLAN
+    learns in a table of its own, for up to 4 times `buckets` stations. `forwarded` has the numbers 0 to 15 of the
+    addresses 01-80-C2-00-00-0X whose frames are forwarded, against the standard. `key` is 16 random bytes, by which the
+    table is ordered; by default the system chooses them.
 
-    **Nothing stops a frame in a loop**: there is no spanning tree. A caller that has one gets its frames as `reserved`, and sets `learning` and
-    `forwarding` of the ports.
+    **Nothing stops a frame in a loop**: there is no spanning tree. A caller that has one gets its frames as `reserved`,
+    and sets `learning` and `forwarding` of the ports.
 
     Threads can share a bridge, and it can be pickled with all that it has learned.
     """
@@ -124,13 +125,14 @@ class Bridge:
         """The ports, by their numbers."""
         return MappingProxyType(self._ports)
 
-    def set_port(self, port: int, *, pvid: Optional[int] = None, tagged: Iterable[int] = (), untagged: Iterable[int] = (),
-                 frame_types: Optional[FrameTypes] = None, refuses_second_tag: bool = True, ingress_filtering: bool = True,
-                 default_priority: int = 0, learning: bool = True, forwarding: bool = True, isolated: bool = False,
-                 mirror: bool = False) -> None:
-        """Sets up the port with a number from 0 to 255, with the settings of a `Port`. Stations of VLANs that the port leaves are
-        forgotten. Raises `ValueError` if a setting is out of range; then nothing changes."""
-        vlans = [frozenset(_vid(name, it) for it in them) for name, them in (("tagged", tagged), ("untagged", untagged))]
+    def set_port(self, port: int, *, pvid: Optional[int] = None, tagged: Iterable[int] = (),
+                 untagged: Iterable[int] = (), frame_types: Optional[FrameTypes] = None,
+                 refuses_second_tag: bool = True, ingress_filtering: bool = True, default_priority: int = 0,
+                 learning: bool = True, forwarding: bool = True, isolated: bool = False, mirror: bool = False) -> None:
+        """Sets up the port with a number from 0 to 255, with the settings of a `Port`. Stations of VLANs that the port
+        leaves are forgotten. Raises `ValueError` if a setting is out of range; then nothing changes."""
+        vlans = [frozenset(_vid(name, it) for it in them)
+                 for name, them in (("tagged", tagged), ("untagged", untagged))]
         if pvid is not None:
             _vid("pvid", pvid)
         default = _default_types(pvid, *vlans)
@@ -144,8 +146,8 @@ class Bridge:
                                       bool(isolated), bool(mirror)))
 
     def change_port(self, port: int, **settings: Any) -> None:
-        """Changes some settings of a port, as in `bridge.change_port(1, learning=False, forwarding=False)`. Raises `KeyError` if
-        there is no such port; otherwise as `set_port`."""
+        """Changes some settings of a port, as in `bridge.change_port(1, learning=False, forwarding=False)`. Raises
+        `KeyError` if there is no such port; otherwise as `set_port`."""
         old = self._ports[port]
         words = old._asdict()
         if old.frame_types == _default_types(*old[:3]):
@@ -158,8 +160,8 @@ class Bridge:
         self._replace_port(port, None)
 
     def set_static(self, vid: int, address: Address, ports: Iterable[int]) -> None:
-        """Sets where frames to an address in a VLAN go, whatever the bridge has learned: through those of these ports that are members
-        of the VLAN."""
+        """Sets where frames to an address in a VLAN go, whatever the bridge has learned: through those of these ports
+        that are members of the VLAN."""
         key = _vid("vid", vid), station("address", address)
         self._static = {**self._static, key: frozenset(number("port", it, 8) for it in ports)}
         self._set_up()
@@ -174,18 +176,20 @@ class Bridge:
     # ---- frames
 
     def receive(self, now: float, port: int, frame: Buffer) -> Received:
-        """Learns the port of a frame's source, and decides where the frame goes. `now` is in seconds, by a clock that does not go back,
-        as `time.monotonic`. Raises `KeyError` if the bridge has no such port."""
+        """Learns the port of a frame's source, and decides where the frame goes. `now` is in seconds, by a clock that
+        does not go back, as `time.monotonic`. Raises `KeyError` if the bridge has no such port."""
         bridge, table, ports, _ = self._told
         found = _header.Received()
         with lent(frame) as (at, length):
-            required(_switch.etherpeel_switch_receive(bridge, table, len(table), number("now", int(now), 32), port, ports[port], at, length,
-                                                      found))
-        return Received(_numbers(found.tagged), _numbers(found.untagged), found.vid, found.priority, found.drop_eligible == 1,
-                        found.reserved == 1, Discarded(found.discarded) if found.discarded else None)
+            words = bridge, table, len(table), number("now", int(now), 32), port, ports[port], at, length, found
+            required(_switch.etherpeel_switch_receive(*words))
+        return Received(_numbers(found.tagged), _numbers(found.untagged), found.vid, found.priority,
+                        found.drop_eligible == 1, found.reserved == 1,
+                        Discarded(found.discarded) if found.discarded else None)
 
     def tagged(self, received: Received, frame: Buffer) -> bytes:
-        """The frame as it leaves with the tag of its VLAN. Raises `Error` if it was discarded, or is not the one that was received."""
+        """The frame as it leaves with the tag of its VLAN. Raises `Error` if it was discarded, or is not the one that
+        was received."""
         return self._left(_switch.etherpeel_switch_tagged, received, frame)
 
     def untagged(self, received: Received, frame: Buffer) -> bytes:
@@ -205,25 +209,28 @@ class Bridge:
     def find(self, vid: int, address: Address) -> Optional[Sighting]:
         """The last sighting of a station in a VLAN, which may have aged; None if there is none."""
         bridge, table, _, _ = self._told
-        sighting = _header.Sighting()
-        status = _switch.etherpeel_switch_find(bridge, table, len(table), _vid("vid", vid), station("address", address), sighting)
+        words, sighting = (_vid("vid", vid), station("address", address)), _header.Sighting()
+        status = _switch.etherpeel_switch_find(bridge, table, len(table), *words, sighting)
         if status == Status.STAYS:
             return None
         required(status)
         return Sighting(sighting.port, sighting.time)
 
-    def forget(self, *, vid: Optional[int] = None, port: Optional[int] = None, address: Optional[Address] = None) -> None:
-        """Forgets stations: all, or those that were seen last at a port, or the one with an address; in one VLAN or in all. Frames to
-        them then go to all members of their VLAN. A spanning tree asks for this, and so does a port that goes down."""
+    def forget(self, *, vid: Optional[int] = None, port: Optional[int] = None,
+               address: Optional[Address] = None) -> None:
+        """Forgets stations: all, or those that were seen last at a port, or the one with an address; in one VLAN or in
+        all. Frames to them then go to all members of their VLAN. A spanning tree asks for this, and so does a port that
+        goes down."""
         if port is not None and address is not None:
             raise ValueError("stations are forgotten by a port or by an address, not by both")
-        what = Forgotten.ALL if port is None and address is None else Forgotten.STATION if port is None else Forgotten.PORT
+        what = Forgotten.STATION if address is not None else Forgotten.ALL if port is None else Forgotten.PORT
         table, count = self._table, len(self._table)
         if vid is not None:
             first = self._parts.get(_vid("vid", vid))
             if first is None:
                 return
-            table, count = C.cast(C.byref(table, first * C.sizeof(_header.Bucket)), C.POINTER(_header.Bucket)), self._buckets
+            begin = C.byref(table, first * C.sizeof(_header.Bucket))
+            table, count = C.cast(begin, C.POINTER(_header.Bucket)), self._buckets
         required(_switch.etherpeel_switch_forget(table, count, what, number("port", port or 0, 8),
                                                  bytes(6) if address is None else station("address", address)))
 
@@ -240,12 +247,13 @@ class Bridge:
             self.forget(vid=vid, port=port)
 
     def _set_up(self):
-        """Makes the structs of the settings anew, and takes them in use at once: a call of another thread has the old ones or the new."""
-        vlans = (_header.SwitchVlan * (max(map(max, filter(None, map(_members, self._ports.values()))), default=0) + 1))()
-        states = _header.PortStates()
+        """Makes the structs of the settings anew, and takes them in use at once: a call of another thread has the old
+        ones or the new."""
+        vids = frozenset().union(*map(_members, self._ports.values()))
+        vlans, states = (_header.SwitchVlan * (max(vids, default=0) + 1))(), _header.PortStates()
         for at, port in self._ports.items():
             _add_port(vlans, states, at, port)
-        self._give_parts([vid for vid, vlan in enumerate(vlans) if any(vlan.members.words)])
+        self._give_parts(sorted(vids))
         for vid, first in self._parts.items():
             if vid < len(vlans):
                 vlans[vid].first_bucket, vlans[vid].buckets = first, self._buckets
@@ -253,12 +261,11 @@ class Bridge:
         for entry, ((vid, address), ports) in zip(static, self._static.items()):
             entry.vid, entry.address = vid, (C.c_uint8 * 6)(*address)
             _put(entry.ports, ports)
-        told = _header.Bridge(key=(C.c_uint64 * 2)(*struct.unpack("=QQ", self._key)), ports=C.pointer(states), vlans=vlans,
-                              vlan_count=len(vlans), static_entries=static, static_entry_count=len(self._static),
+        key = (C.c_uint64 * 2)(*struct.unpack("=QQ", self._key))
+        told = _header.Bridge(key=key, ports=C.pointer(states), vlans=vlans, vlan_count=len(vlans),
+                              static_entries=static, static_entry_count=len(self._static),
                               ageing_time=self._ageing_time, forwarded=self._forwarded, kind=self._kind)
-        ports = {at: _header.Port(pvid=port.pvid or 1, frame_types=port.frame_types, refuses_second_tag=port.refuses_second_tag,
-                                  ingress_filtering=port.ingress_filtering, default_priority=port.default_priority)
-                 for at, port in self._ports.items()}
+        ports = {at: _port(port) for at, port in self._ports.items()}
         self._told = told, self._table, ports, (states, vlans, static)
 
     def _give_parts(self, vids):
@@ -273,7 +280,8 @@ class Bridge:
     def _left(self, call, received, frame):
         if received.discarded:
             raise Error(f"the frame was discarded: {received.discarded.name}")
-        told = _header.Received(vid=received.vid, kind=self._kind, priority=received.priority, drop_eligible=received.drop_eligible)
+        told = _header.Received(vid=received.vid, kind=self._kind, priority=received.priority,
+                                drop_eligible=received.drop_eligible)
         buffer, at = bytearray(4) + bytes(memoryview(frame)), C.c_size_t()
         with lent(buffer) as (first, length):
             status = call(told, first, length, at)
@@ -297,9 +305,7 @@ class Bridge:
 
 def _vid(name, value):
     """The identifier of a VLAN."""
-    if not 1 <= number(name, value, 12) <= 4094:
-        raise ValueError(f"{name} is 1 to 4094, not {value}")
-    return value
+    return between(name, value, 1, 4094)
 
 
 def _members(port):
@@ -314,14 +320,20 @@ def _default_types(pvid, tagged, untagged):
     return FrameTypes.ALL if (tagged | untagged) - {pvid} or pvid in tagged else FrameTypes.UNTAGGED_AND_PRIORITY_TAGGED
 
 
+def _port(port):
+    """A port as a struct of C."""
+    return _header.Port(pvid=port.pvid or 1, frame_types=port.frame_types, refuses_second_tag=port.refuses_second_tag,
+                        ingress_filtering=port.ingress_filtering, default_priority=port.default_priority)
+
+
 def _add_port(vlans, states, at, port):
     """Adds a port to its VLANs, and to what it may do now."""
     for vid in _members(port):
         _put(vlans[vid].members, (at,))
         if vid not in port.tagged:
             _put(vlans[vid].untagged, (at,))
-    for has, ports in ((port.learning, states.learning), (port.forwarding, states.forwarding), (port.isolated, states.isolated),
-                       (port.mirror, states.mirrors)):
+    for has, ports in ((port.learning, states.learning), (port.forwarding, states.forwarding),
+                       (port.isolated, states.isolated), (port.mirror, states.mirrors)):
         if has:
             _put(ports, (at,))
 

@@ -8,7 +8,7 @@ from typing import Any, Dict, Iterator, List, NamedTuple, Optional, Protocol, Se
 
 from . import _header
 from ._header import Start, Status
-from ._library import Error, StatusError, lent, lib, number, reader, text, up_to
+from ._library import Error, StatusError, between, lent, lib, number, reader, text
 from ._sources import content_of
 from ._types import Buffer, Field, Packet, Summary, Unit
 from ._walks import fields, packet as packet_of, summary, walk
@@ -35,9 +35,9 @@ class Captured(NamedTuple):
 
     @property
     def start(self) -> Optional[Start]:
-        """How the walk of the packet starts; None if no walk starts with such a packet, as for Linux cooked capture v2, whose
-        payload `captured_frame` returns. An Ethernet frame that was not cut has a frame check sequence if the file gives it 4
-        bytes."""
+        """How the walk of the packet starts; None if no walk starts with such a packet, as for Linux cooked capture v2,
+        whose payload `captured_frame` returns. An Ethernet frame that was not cut has a frame check sequence if the
+        file gives it 4 bytes."""
         start = start_of_link_type(self.link_type)
         if start == Start.ETHERNET2 and self.fcs_len == 4 and len(self.packet) == self.original_len:
             return Start.ETHERNET2_FCS
@@ -61,8 +61,8 @@ class Captured(NamedTuple):
         return _line(self, "brief", number)
 
     def columns(self, names: str, number: int = 1) -> List[str]:
-        """The columns of these names, with a comma between two, as `ether_capture --fields` prints them. A column has the values
-        of all headers that have the field, with a comma between two, or is empty.
+        """The columns of these names, with a comma between two, as `ether_capture --fields` prints them. A column has
+        the values of all headers that have the field, with a comma between two, or is empty.
 
             source, vids = packet.columns("eth.src,vlan.vid")
 
@@ -105,9 +105,9 @@ class Readable(Protocol):
 class Capture(Sequence[Captured]):
     """The packets of a capture file, in their order: a sequence, as `open` returns it.
 
-    If the file can't be read to its end, a loop over it raises a `CaptureError` after the last packet; `fault` has the same error. The
-    length, an index and a slice are about the packets before the fault, and raise nothing for it. At the end of a `with`, or by
-    `close`, the capture gives its memory back; packets that were taken from it keep theirs.
+    If the file can't be read to its end, a loop over it raises a `CaptureError` after the last packet; `fault` has the
+    same error. The length, an index and a slice are about the packets before the fault, and raise nothing for it. At
+    the end of a `with`, or by `close`, the capture gives its memory back; packets that were taken from it keep theirs.
     """
 
     def __init__(self, source: Union[str, os.PathLike[str], Readable, Buffer]) -> None:
@@ -132,8 +132,8 @@ class Capture(Sequence[Captured]):
             return CaptureError(text(lib.etherpeel_capture_fault_text, at, length), self._end.offset, self._end.needed)
 
     def close(self) -> None:
-        """Gives the memory of the file back, once no packet that was taken from the capture is in use. After it the capture can't be
-        used."""
+        """Gives the memory of the file back, once no packet that was taken from the capture is in use. After it the
+        capture can't be used."""
         self._view = self._structs = self._memory = None
 
     def __len__(self) -> int:
@@ -159,10 +159,13 @@ class Capture(Sequence[Captured]):
         self.close()
 
     def __repr__(self) -> str:
-        return f"<etherpeel.Capture with {len(self._structs)} packets>" if self._structs is not None else "<etherpeel.Capture, closed>"
+        if self._structs is None:
+            return "<etherpeel.Capture, closed>"
+        return f"<etherpeel.Capture with {len(self._structs)} packets>"
 
     def _all(self):
-        """The packets as C wrote them, so one call can apply a filter to many; the capture keeps their bytes where they are."""
+        """The packets as C wrote them, so one call can apply a filter to many; the capture keeps their bytes where they
+        are."""
         if self._structs is None:
             raise ValueError("the capture is closed")
         return self._structs
@@ -174,28 +177,31 @@ class Capture(Sequence[Captured]):
         (address, packet_len, seconds, nanoseconds, original_len, link_type, has_time, has_fcs_len,
          fcs_len) = _captured(self._memory, index * SIZE)
         start = address - self._at if packet_len else 0
-        return _new(Captured, (self._view[start:start + packet_len], seconds * 10**9 + nanoseconds if has_time else None, link_type,
-                               original_len, fcs_len if has_fcs_len else None))
+        time = seconds * 10**9 + nanoseconds if has_time else None
+        return _new(Captured, (self._view[start:start + packet_len], time, link_type, original_len,
+                               fcs_len if has_fcs_len else None))
 
 
-_captured = reader(_header.Captured, "packet packet_len seconds nanoseconds original_len link_type has_time has_fcs_len fcs_len")
+FIELDS = "packet packet_len seconds nanoseconds original_len link_type has_time has_fcs_len fcs_len"
+_captured = reader(_header.Captured, FIELDS)
 SIZE, _new = C.sizeof(_header.Captured), tuple.__new__
 
 
 def open(source: Union[str, os.PathLike[str], Readable, Buffer]) -> Capture:
-    """The packets of a classic pcap or pcapng file. The source is a path, `-` for standard input, a file that is open for reading, or
-    the bytes of a file; each may be compressed with gzip, bzip2, xz, or, from Python 3.14 on, zstd.
+    """The packets of a classic pcap or pcapng file. The source is a path, `-` for standard input, a file that is open
+    for reading, or the bytes of a file; each may be compressed with gzip, bzip2, xz, or, from Python 3.14 on, zstd.
 
         with etherpeel.open("f.pcapng.gz") as packets:
             for packet in packets:
                 print(packet.brief())
 
-    Each packet takes 40 bytes of memory. A file on disk is mapped into memory, an open one from its position on. Every other source
-    is read at once by its `read()`, and what is compressed is unpacked into memory. If a mapped file is truncated while its packets
-    are in use, the system kills the process (SIGBUS). So read a file that another program may truncate, as `tcpdump -W` does:
-    `open(file.read())`.
+    Each packet takes 40 bytes of memory. A file on disk is mapped into memory, an open one from its position on. Every
+    other source is read at once by its `read()`, and what is compressed is unpacked into memory. If a mapped file is
+    truncated while its packets are in use, the system kills the process (SIGBUS). So read a file that another program
+    may truncate, as `tcpdump -W` does: `open(file.read())`.
 
-    Raises `OSError` if the file can't be opened or read. If its content can't be read to the end, that is the `fault` of the capture.
+    Raises `OSError` if the file can't be opened or read. If its content can't be read to the end, that is the `fault`
+    of the capture.
     """
     return Capture(source)
 
@@ -212,8 +218,8 @@ def capture(source: Union[str, os.PathLike[str], Readable, Buffer]) -> Iterator[
 
 
 class Packets(Iterator[Captured]):
-    """An iterator over a capture. A signal handler may take packets of it: between a test of `next` and the assignment there is no
-    call, in which a handler could run."""
+    """An iterator over a capture. A signal handler may take packets of it: between a test of `next` and the assignment
+    there is no call, in which a handler could run."""
 
     __slots__ = ("capture", "next", "count", "is_at_end")
 
@@ -273,10 +279,11 @@ class Frame(NamedTuple):
 def captured_frame(packet: Captured) -> Optional[Frame]:
     """The part of a captured packet that is walked, by its link type; None if nothing is walked.
 
-    For Ethernet it is the packet, without its frame check sequence; that remains only if the file gives it four bytes and the
-    packet was not cut. For Linux cooked capture v1 it is the packet without a frame check sequence; but it is the payload, after
-    a header of 16 bytes, if the walk would refuse the header only for its hardware type, such as 772 of the loopback device. For
-    v2 it is the payload, after a header of 20 bytes, if the header can be read and an ether type announces the payload.
+    For Ethernet it is the packet, without its frame check sequence; that remains only if the file gives it four bytes
+    and the packet was not cut. For Linux cooked capture v1 it is the packet without a frame check sequence; but it is
+    the payload, after a header of 16 bytes, if the walk would refuse the header only for its hardware type, such as 772
+    of the loopback device. For v2 it is the payload, after a header of 20 bytes, if the header can be read and an ether
+    type announces the payload.
     """
     frame = _header.Frame()
     with lent(packet.packet) as (at, length):
@@ -289,7 +296,7 @@ def captured_frame(packet: Captured) -> Optional[Frame]:
 def told(packet, at, length):
     """A captured packet as a struct of C. Its bytes are lent."""
     has_time = packet.time_ns is not None
-    seconds, nanoseconds = divmod(up_to("time_ns", packet.time_ns if has_time else 0, _LAST), 10**9)
+    seconds, nanoseconds = divmod(between("time_ns", packet.time_ns if has_time else 0, 0, _LAST), 10**9)
     return _header.Captured(packet=at, packet_len=length, seconds=seconds, nanoseconds=nanoseconds, has_time=has_time,
                             original_len=number("original_len", packet.original_len, 32),
                             link_type=number("link_type", packet.link_type, 16), has_fcs_len=packet.fcs_len is not None,
@@ -307,9 +314,12 @@ def _line(packet, form, count):
     words = form.encode()
     with lent(packet.packet) as (at, length):
         try:
-            return text(lib.etherpeel_format, words, len(words), number("number", count, 64), C.byref(told(packet, at, length)))[:-1]
+            words = words, len(words), number("number", count, 64), C.byref(told(packet, at, length))
+            return text(lib.etherpeel_format, *words)[:-1]
         except StatusError as error:
-            raise _no_columns(form) if error.status == Status.BAD_FORMAT else Error("the line has more than 65,536 bytes") from None
+            if error.status == Status.BAD_FORMAT:
+                raise _no_columns(form) from None
+            raise Error("the line has more than 65,536 bytes") from None
 
 
 def _no_columns(names):

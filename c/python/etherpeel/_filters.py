@@ -4,12 +4,12 @@ from __future__ import annotations
 import ctypes as C
 import struct
 from functools import lru_cache
-from typing import Iterable, Iterator, List, Optional, Tuple, Type, Union
+from typing import Any, Iterable, Iterator, List, Optional, Tuple, Type, Union
 
 from . import _header
-from ._captures import SIZE, Capture, Captured, Packets, told
+from ._captures import FIELDS, SIZE, Capture, Captured, Packets, told
 from ._header import Decision, FilterErrorKind, Start, Status
-from ._library import READ, Lent, get_buffer, lent, lib, release_buffer, required, text, writer
+from ._library import READ, Lent, get_buffer, lib, release_buffer, required, text, writer
 from ._types import Buffer, FilterError, begun
 
 
@@ -21,7 +21,8 @@ class Filter:
             if vlan_5.matches(packet):
                 print(packet.time_ns)
 
-    The expression is in words of pcap-filter(7): a primitive, or several with `not`, `and`, `or` and parentheses. Primitives:
+    The expression is in words of pcap-filter(7): a primitive, or several with `not`, `and`, `or` and parentheses.
+    Primitives:
 
         vlan, vlan N            a VLAN tag; one with the identifier N
         outer vlan N            the first VLAN tag has the identifier N
@@ -39,14 +40,15 @@ class Filter:
         eth.src[0:3] == V       a slice of the field's bytes
         frame.time > V          the packet's time, as 2026-11-01T00:00:00Z; also frame.captured and frame.original
 
-    The expression is about the frame that `captured_frame` returns. A packet for which that is None is never selected, not even by
-    `not`.
+    The expression is about the frame that `captured_frame` returns. A packet for which that is None is never selected,
+    not even by `not`.
 
-    **Packets that were cut.** `matches` and `select` go by the captured bytes alone, as if the packet ended with them: `not vlan 5` holds
-    for a packet that was cut before its tag. `decide` returns `Decision.UNDECIDED` for each packet for which the missing bytes count.
+    **Packets that were cut.** `matches` and `select` go by the captured bytes alone, as if the packet ended with them:
+    `not vlan 5` holds for a packet that was cut before its tag. `decide` returns `Decision.UNDECIDED` for each packet
+    for which the missing bytes count.
 
-    A filter can be pickled and used by several threads at once. Two filters are equal if their texts are. Raises `FilterError` if the text
-    is not an expression.
+    A filter can be pickled and used by several threads at once. Two filters are equal if their texts are. Raises
+    `FilterError` if the text is not an expression.
     """
 
     __slots__ = "_text", "_read"
@@ -60,22 +62,24 @@ class Filter:
         """The expression."""
         return self._text
 
-    def matches(self, packet: Union[Captured, Buffer], start: Start = Start.ETHERNET2, *, ether_type: Optional[int] = None) -> bool:
+    def matches(self, packet: Union[Captured, Buffer], start: Start = Start.ETHERNET2, *,
+                ether_type: Optional[int] = None) -> bool:
         """Whether the filter selects a packet by its captured bytes, or a frame.
 
-        A frame that is given as bytes begins with what `start` says, was not cut, and has no time; one of cooked capture is read as
-        `captured_frame` does. `start` and `ether_type` count for such a frame alone.
+        A frame that is given as bytes begins with what `start` says, was not cut, and has no time; one of cooked
+        capture is read as `captured_frame` does. `start` and `ether_type` count for such a frame alone.
         """
         return self._asked(lib.etherpeel_filter_matches, packet, start, ether_type) == 1
 
-    def decide(self, packet: Union[Captured, Buffer], start: Start = Start.ETHERNET2, *, ether_type: Optional[int] = None) -> Decision:
-        """Whether the filter selects a packet whatever the bytes are that were cut off, up to its original length. If that depends on
-        them, the packet is `Decision.UNDECIDED`. A frame that is given as bytes never is."""
+    def decide(self, packet: Union[Captured, Buffer], start: Start = Start.ETHERNET2, *,
+               ether_type: Optional[int] = None) -> Decision:
+        """Whether the filter selects a packet whatever the bytes are that were cut off, up to its original length. If
+        that depends on them, the packet is `Decision.UNDECIDED`. A frame that is given as bytes never is."""
         return Decision(self._asked(lib.etherpeel_filter_decide, packet, start, ether_type))
 
     def select(self, packets: Iterable[Union[Captured, Buffer]]) -> List[bool]:
-        """What `matches` returns for each packet; frames that are given as bytes begin with an Ethernet II header. For a `Capture`
-        these are the packets before its `fault`, which raises nothing."""
+        """What `matches` returns for each packet; frames that are given as bytes begin with an Ethernet II header. For
+        a `Capture` these are the packets before its `fault`, which raises nothing."""
         if isinstance(packets, Capture):
             return [mark == 1 for mark in marks(self._read, packets, 0, len(packets))]
         return [self.matches(packet) for packet in packets]
@@ -83,12 +87,18 @@ class Filter:
     def _asked(self, call, packet, start, ether_type):
         if not isinstance(packet, Captured):
             packet = self._captured(packet, *begun(start, ether_type))
-        with lent(packet.packet) as (at, length):
-            return call(self._read, told(packet, at, length))
+        try:
+            room = _idle.pop()
+        except IndexError:
+            room = _room()
+        try:
+            return _asked_in(room, call, self._read, packet)
+        finally:
+            _idle.append(room)
 
     def _captured(self, frame, start, ether_type):
-        """A frame as a captured packet. Without a link's header it becomes one of cooked capture v2: no filter is about the header of
-        that, but for its length among the captured bytes."""
+        """A frame as a captured packet. Without a link's header it becomes one of cooked capture v2: no filter is about
+        the header of that, but for its length among the captured bytes."""
         view = memoryview(frame)
         if start != Start.ETHER_TYPE:
             link_type, fcs_len = _LINKS[start]
@@ -124,8 +134,8 @@ def select(expression: Union[str, Filter], packets: Iterable[Captured]) -> Itera
         for packet in etherpeel.select("vlan 291 and not arp", etherpeel.open("f.pcap")):
             print(packet.time_ns)
 
-    `Filter` says what an expression is, and what is selected of packets that were cut. Raises `FilterError`, before any packet is read,
-    if the text is not an expression.
+    `Filter` says what an expression is, and what is selected of packets that were cut. Raises `FilterError`, before any
+    packet is read, if the text is not an expression.
     """
     read = expression._read if isinstance(expression, Filter) else _read(expression)
     if isinstance(packets, Capture):
@@ -188,23 +198,38 @@ _AT_ONCE = 4096  # packets that a filter is asked of in one call
 
 
 def _selected(read, packets):
-    """The packets of any iterable that a filter selects. All share one struct, whose bytes are written at once, and one loan."""
-    one, loan, matches = _header.Captured(), Lent(), lib.etherpeel_filter_matches
-    target, read, passed, lends = memoryview(one).cast("B"), C.byref(read), C.byref(one), C.byref(loan)
+    """The packets of any iterable that a filter selects. All share one room."""
+    room, matches = _room(), lib.etherpeel_filter_matches
     for packet in packets:
-        get_buffer(_bytes_of(packet), lends, READ)
-        try:
-            time, fcs_len = packet.time_ns, packet.fcs_len
-            _pack(target, 0, loan.buf or 0, loan.len, *(_NO_TIME if time is None else divmod(time, 10**9)), packet.original_len,
-                  packet.link_type, time is not None, fcs_len is not None, fcs_len or 0)
-            is_selected = matches(read, passed)
-        except struct.error:
-            told(packet, loan.buf, loan.len)  # says which number has too many bits
-            raise
-        finally:
-            release_buffer(lends)
-        if is_selected:
+        if _asked_in(room, matches, read, packet):
             yield packet
+
+
+# A packet is passed in memory that is kept for a later one. No two calls have the same at a time: neither those of
+# other threads, nor one that a signal handler makes while another is being made.
+_idle: List[Any] = []  # what no call has: `pop` and `append` are atomic
+
+
+def _room():
+    """A struct for a packet, and its bytes; and a loan."""
+    one, loan = _header.Captured(), Lent()
+    return C.byref(one), memoryview(one).cast("B"), loan, C.byref(loan)
+
+
+def _asked_in(room, call, read, packet):
+    """What a call returns of a packet, which is written to a struct at once."""
+    passed, memory, loan, lends = room
+    get_buffer(_bytes_of(packet), lends, READ)
+    try:
+        time, fcs_len = packet.time_ns, packet.fcs_len
+        _pack(memory, 0, loan.buf or 0, loan.len, *(_NO_TIME if time is None else divmod(time, 10**9)),
+              packet.original_len, packet.link_type, time is not None, fcs_len is not None, fcs_len or 0)
+        return call(read, passed)
+    except struct.error:
+        told(packet, loan.buf, loan.len)  # says which number has too many bits
+        raise
+    finally:
+        release_buffer(lends)
 
 
 def _bytes_of(packet):
@@ -214,5 +239,5 @@ def _bytes_of(packet):
         raise TypeError(f"a packet is a Captured, not {type(packet).__name__}") from None
 
 
-_pack = writer(_header.Captured, "packet packet_len seconds nanoseconds original_len link_type has_time has_fcs_len fcs_len")
+_pack = writer(_header.Captured, FIELDS)
 _NO_TIME = 0, 0

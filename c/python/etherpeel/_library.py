@@ -10,8 +10,8 @@ from ._header import MAJOR, STRUCTS, VERSION, Status, size, u8, u16, u32, u64
 
 
 class Error(ValueError):
-    """The base class of this package's errors. Two errors are equal if they have the same type, text and fields. An error can be
-    pickled, so a worker process can raise it to its caller."""
+    """The base class of this package's errors. Two errors are equal if they have the same type, text and fields. An
+    error can be pickled, so a worker process can raise it to its caller."""
 
     def __reduce__(self):
         return copyreg.__newobj__, (type(self), *self.args), vars(self) or None
@@ -54,17 +54,19 @@ CALLS = {name: getattr(lib, "etherpeel_" + name) for name in _header.CALLS}
 
 
 def number(name, value, bits):
-    """The value, if it is a number that fits in so many bits; else raises a `ValueError`, or a `TypeError` if it is no integer."""
-    return up_to(name, value, (1 << bits) - 1)
+    """The value, if it is a number that fits in so many bits; else raises a `ValueError`, or a `TypeError` if it is no
+    integer."""
+    return between(name, value, 0, (1 << bits) - 1)
 
 
-def up_to(name, value, greatest):
+def between(name, value, least, greatest):
+    """The value, if it is an integer from the least to the greatest one; else raises as `number`."""
     try:
         value = operator.index(value)
     except TypeError:
         raise TypeError(f"{name} is an int, not {type(value).__name__}") from None
-    if not 0 <= value <= greatest:
-        raise ValueError(f"{name} is 0 to {greatest}, not {value}")
+    if not least <= value <= greatest:
+        raise ValueError(f"{name} is {least} to {greatest}, not {value}")
     return value
 
 
@@ -105,8 +107,8 @@ CODES = {u8: "B", u16: "H", u32: "I", u64: "Q", size: "Q", C.c_void_p: "Q", u8 *
 
 
 def reader(kind, names):
-    """A function that reads these fields of a struct, which are in this order, from an offset in memory on. `struct` reads all of them
-    faster than `ctypes` reads one."""
+    """A function that reads these fields of a struct, which are in this order, from an offset in memory on. `struct`
+    reads all of them faster than `ctypes` reads one."""
     return _packing(kind, names).unpack_from
 
 
@@ -127,9 +129,9 @@ def _packing(kind, names):
 
 
 class Lent(C.Structure):
-    _fields_ = [("buf", C.c_void_p), ("obj", C.c_void_p), ("len", C.c_ssize_t), ("itemsize", C.c_ssize_t), ("readonly", C.c_int),
-                ("ndim", C.c_int), ("format", C.c_void_p), ("shape", C.c_void_p), ("strides", C.c_void_p), ("suboffsets", C.c_void_p),
-                ("internal", C.c_void_p)]
+    _fields_ = [("buf", C.c_void_p), ("obj", C.c_void_p), ("len", C.c_ssize_t), ("itemsize", C.c_ssize_t),
+                ("readonly", C.c_int), ("ndim", C.c_int), ("format", C.c_void_p), ("shape", C.c_void_p),
+                ("strides", C.c_void_p), ("suboffsets", C.c_void_p), ("internal", C.c_void_p)]
 
 
 get_buffer, release_buffer = C.pythonapi.PyObject_GetBuffer, C.pythonapi.PyBuffer_Release

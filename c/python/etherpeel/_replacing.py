@@ -8,22 +8,22 @@ from . import _header
 from ._addresses import hardware_address, protocol_address
 from ._header import Status, UnitKind
 from ._library import WRITE, lent, lib, number, required
-from ._types import (Arp, Buffer, BuildError, Difference, Ethernet2, Header, LinuxSll, Macsec, ReplaceError, Start, Vlan,
-                     WritableBuffer, begun)
+from ._types import (Arp, Buffer, BuildError, Difference, Ethernet2, Header, LinuxSll, Macsec, ReplaceError, Start,
+                     Vlan, WritableBuffer, begun)
 
 # the kind of a unit with such a header, and the struct of its fields
-KINDS = {Ethernet2: (UnitKind.ETHERNET2, "ethernet2"), LinuxSll: (UnitKind.LINUX_SLL, "linux_sll"), Vlan: (UnitKind.VLAN, "vlan"),
-         Macsec: (UnitKind.MACSEC, "macsec"), Arp: (UnitKind.ARP, "arp")}
+KINDS = {Ethernet2: (UnitKind.ETHERNET2, "ethernet2"), LinuxSll: (UnitKind.LINUX_SLL, "linux_sll"),
+         Vlan: (UnitKind.VLAN, "vlan"), Macsec: (UnitKind.MACSEC, "macsec"), Arp: (UnitKind.ARP, "arp")}
 # the bits of fields that are narrower than their type in C
 BITS = {"vid": 12, "pcp": 3, "dei": 1, "association_number": 2, "short_len": 6, "end_station": 1, "sci_present": 1,
         "single_copy_broadcast": 1, "encrypted": 1, "changed": 1, "has_fcs": 1, "packet_type": 3}
-ADDRESSES = {"sender_hardware": hardware_address, "sender_protocol": protocol_address, "target_hardware": hardware_address,
-             "target_protocol": protocol_address}
+ADDRESSES = {"sender_hardware": hardware_address, "sender_protocol": protocol_address,
+             "target_hardware": hardware_address, "target_protocol": protocol_address}
 
 
 def passed(header: Header, where: str):
-    """A header as a unit of C, and the bytes that have the addresses of an ARP packet. Raises a `ValueError` if a value does not
-    fit its field, and a `TypeError` if it is of another type."""
+    """A header as a unit of C, and the bytes that have the addresses of an ARP packet. Raises a `ValueError` if a value
+    does not fit its field, and a `TypeError` if it is of another type."""
     if type(header) not in KINDS:
         raise TypeError(f"{where} is an Ethernet2, LinuxSll, Vlan, Macsec or Arp, not {type(header).__name__}")
     values, addresses = header._asdict(), b""
@@ -77,11 +77,11 @@ def _replaced(status, error):
 
 
 def replace_link(frame: WritableBuffer, header: Union[Ethernet2, LinuxSll], start: Start = Start.ETHERNET2) -> None:
-    """Replaces the link's header at the front of a frame, in place. The new header must be of the same kind, and have the same
-    ether type, or the same hardware type and protocol number.
+    """Replaces the link's header at the front of a frame, in place. The new header must be of the same kind, and have
+    the same ether type, or the same hardware type and protocol number.
 
-    Raises `ReplaceError` if it is not replaced, and `BufferError` if the frame can't be written to. No other byte of the frame
-    changes: a frame check sequence is unchanged, and doesn't fit the new bytes.
+    Raises `ReplaceError` if it is not replaced, and `BufferError` if the frame can't be written to. No other byte of
+    the frame changes: a frame check sequence is unchanged, and doesn't fit the new bytes.
     """
     (unit, _), error = _new(header), _header.ReplaceError()
     with lent(frame, WRITE) as (at, length):
@@ -90,9 +90,9 @@ def replace_link(frame: WritableBuffer, header: Union[Ethernet2, LinuxSll], star
 
 def replace_link_ext(frame: WritableBuffer, index: int, header: Union[Vlan, Macsec], start: Start = Start.ETHERNET2, *,
                      ether_type: Optional[int] = None) -> None:
-    """Replaces a VLAN tag or SecTag, in place. The index counts VLAN tags and SecTags, the outermost from 0. A new VLAN tag must
-    have the ether type of the old one. A new SecTag must be encrypted or changed as the old one is, have an SCI exactly if that
-    has one, and have its short length and ether type.
+    """Replaces a VLAN tag or SecTag, in place. The index counts VLAN tags and SecTags, the outermost from 0. A new VLAN
+    tag must have the ether type of the old one. A new SecTag must be encrypted or changed as the old one is, have an
+    SCI exactly if that has one, and have its short length and ether type.
 
     Raises as `replace_link`.
     """
@@ -102,9 +102,10 @@ def replace_link_ext(frame: WritableBuffer, index: int, header: Union[Vlan, Macs
         _replaced(lib.etherpeel_replace_link_ext(*words, C.byref(unit), C.byref(error)), error)
 
 
-def replace_arp(frame: WritableBuffer, packet: Arp, start: Start = Start.ETHERNET2, *, ether_type: Optional[int] = None) -> None:
-    """Replaces the ARP packet of a frame, after at most three VLAN tags and SecTags, in place. The addresses of the new packet
-    must have the same lengths. Raises as `replace_link`."""
+def replace_arp(frame: WritableBuffer, packet: Arp, start: Start = Start.ETHERNET2, *,
+                ether_type: Optional[int] = None) -> None:
+    """Replaces the ARP packet of a frame, after at most three VLAN tags and SecTags, in place. The addresses of the new
+    packet must have the same lengths. Raises as `replace_link`."""
     (unit, addresses), error, words = _new(packet), _header.ReplaceError(), begun(start, ether_type)
     with lent(frame, WRITE) as (at, length):
         words = (*words, at, length, C.byref(unit), addresses, len(addresses))
@@ -116,12 +117,13 @@ def build(headers: Sequence[Header], payload: Buffer = b"", ether_type: Optional
 
         etherpeel.build([etherpeel.Ethernet2(destination, source), etherpeel.Vlan(291)], payload, 0x0800)
 
-    The first header is of Ethernet II, or of cooked capture with the hardware type 1. Up to eight VLAN tags and SecTags follow,
-    outermost first, and then an ARP packet in place of the payload if there is one. Only the last tag, before a payload, may be a
-    SecTag whose payload is encrypted or changed. The ether type of each header is set by what follows it. Before a VLAN tag, an
-    ether type that announces one is kept: 0x8100, 0x88A8 or 0x9100. Any other becomes 0x88A8 if another VLAN tag directly follows
-    that tag, else 0x8100. The short length of each SecTag is set to the number of bytes after it, with the two of its ether type
-    if it has one, and to 0 if there are more than 63. There is no frame check sequence.
+    The first header is of Ethernet II, or of cooked capture with the hardware type 1. Up to eight VLAN tags and SecTags
+    follow, outermost first, and then an ARP packet in place of the payload if there is one. Only the last tag, before a
+    payload, may be a SecTag whose payload is encrypted or changed. The ether type of each header is set by what follows
+    it. Before a VLAN tag, an ether type that announces one is kept: 0x8100, 0x88A8 or 0x9100. Any other becomes 0x88A8
+    if another VLAN tag directly follows that tag, else 0x8100. The short length of each SecTag is set to the number of
+    bytes after it, with the two of its ether type if it has one, and to 0 if there are more than 63. There is no frame
+    check sequence.
 
     Raises `BuildError` if there is no such packet.
     """

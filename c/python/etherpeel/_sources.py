@@ -17,7 +17,8 @@ _FORMS = [
 
 
 def content_of(source):
-    """A view of the bytes of a capture file, unpacked if they are compressed; and why they can't be unpacked further, or None."""
+    """A view of the bytes of a capture file, unpacked if they are compressed; and why they can't be unpacked further,
+    or None."""
     view = _memory(source)
     for magic, name, make in _FORMS:
         if view[:len(magic)] == magic:
@@ -41,8 +42,8 @@ def _memory(source):
 
 
 def _content(file):
-    """A view of the bytes of an open file from its position on. Only a plain file has the bytes that its descriptor names: a
-    compressed one has a descriptor too."""
+    """A view of the bytes of an open file from its position on. Only a plain file has the bytes that its descriptor
+    names: a compressed one has a descriptor too."""
     raw = file.raw if type(file) in (io.BufferedReader, io.BufferedRandom) else file
     if type(raw) is io.FileIO:
         try:

@@ -5,7 +5,8 @@ from enum import IntEnum
 from typing import TYPE_CHECKING, List, NamedTuple, Optional, Tuple, Type, TypeVar, Union
 
 from ._addresses import Address, hardware_address, protocol_address
-from ._header import Difference, FaultKind, FieldKind, FieldPart, FilterErrorKind, Layer, LenSource, RestKind, Start, Status
+from ._header import (Difference, FaultKind, FieldKind, FieldPart, FilterErrorKind, Layer, LenSource, RestKind, Start,
+                      Status)
 from ._library import Error, lib, number, text
 
 if TYPE_CHECKING:  # whatever the type checker takes for memory: also mmap, arrays and structs of ctypes
@@ -143,13 +144,14 @@ class _Ethernet2(NamedTuple):
 
 
 class Ethernet2(_Ethernet2):
-    """An Ethernet II header (IEEE 802.3, 3.2.3 to 3.2.6). The addresses may be given as text, such as "02:00:00:00:00:01"."""
+    """An Ethernet II header (IEEE 802.3, 3.2.3 to 3.2.6). The addresses may be given as text, such as
+    "02:00:00:00:00:01"."""
 
     __slots__ = ()
 
     def __new__(cls, destination: Address, source: Address, ether_type: int = 0, has_fcs: bool = False) -> Ethernet2:
-        return super().__new__(cls, hardware_address("destination", destination), hardware_address("source", source), ether_type,
-                               has_fcs)
+        return super().__new__(cls, hardware_address("destination", destination), hardware_address("source", source),
+                               ether_type, has_fcs)
 
 
 class _LinuxSll(NamedTuple):
@@ -165,15 +167,17 @@ class _LinuxSll(NamedTuple):
 
 
 class LinuxSll(_LinuxSll):
-    """A header of Linux cooked capture v1. The address may be given as text, such as "02:00:00:00:00:01", and is then padded to the 8
-    bytes of its field."""
+    """A header of Linux cooked capture v1. The address may be given as text, such as "02:00:00:00:00:01", and is then
+    padded to the 8 bytes of its field."""
 
     __slots__ = ()
 
-    def __new__(cls, packet_type: int, hardware_type: int, address_len: int, address: Address, protocol: int = 0) -> LinuxSll:
+    def __new__(cls, packet_type: int, hardware_type: int, address_len: int, address: Address,
+                protocol: int = 0) -> LinuxSll:
         value = hardware_address("address", address)
-        return super().__new__(cls, packet_type, hardware_type, address_len, value.ljust(8, b"\0") if isinstance(address, str) else value,
-                               protocol)
+        if isinstance(address, str):
+            value = value.ljust(8, b"\0")
+        return super().__new__(cls, packet_type, hardware_type, address_len, value, protocol)
 
 
 class Vlan(NamedTuple):
@@ -221,9 +225,10 @@ class Arp(_Arp):
 
     __slots__ = ()
 
-    def __new__(cls, hardware_type: int, protocol_type: int, operation: int, sender_hardware: Address, sender_protocol: Address,
-                target_hardware: Address, target_protocol: Address) -> Arp:
-        return super().__new__(cls, hardware_type, protocol_type, operation, hardware_address("sender_hardware", sender_hardware),
+    def __new__(cls, hardware_type: int, protocol_type: int, operation: int, sender_hardware: Address,
+                sender_protocol: Address, target_hardware: Address, target_protocol: Address) -> Arp:
+        return super().__new__(cls, hardware_type, protocol_type, operation,
+                               hardware_address("sender_hardware", sender_hardware),
                                protocol_address("sender_protocol", sender_protocol),
                                hardware_address("target_hardware", target_hardware),
                                protocol_address("target_protocol", target_protocol))
@@ -285,7 +290,8 @@ class Unit(NamedTuple):
 
 
 class Packet(NamedTuple):
-    """All headers of a frame with at most three VLAN tags and SecTags, its VLAN identifiers and its least snap length."""
+    """All headers of a frame with at most three VLAN tags and SecTags, its VLAN identifiers and its least snap
+    length."""
 
     units: List[Unit]
     """The headers, outermost first, up to the fault if there is one."""
@@ -294,8 +300,8 @@ class Packet(NamedTuple):
     vlan_ids: Tuple[int, ...]
     """The identifiers of the VLAN tags, outermost first."""
     min_snap_len: int
-    """The least length to which the frame can be cut without losing one of `units`; it is then read without a check sequence. A fourth
-    tag, and what follows it, are not among these."""
+    """The least length to which the frame can be cut without losing one of `units`; it is then read without a check
+    sequence. A fourth tag, and what follows it, are not among these."""
 
     def first(self, kind: Type[H]) -> Optional[H]:
         """The first header of a type, as in `packet.first(Arp)`; None if there is none."""
@@ -327,7 +333,8 @@ _TAG_ERRORS = {
 class ReplaceError(Error):
     """A header is not replaced: the text says why. The frame is then unchanged."""
 
-    def __init__(self, status: Status, tags: Optional[int] = None, difference: Optional[Difference] = None, text: Optional[str] = None):
+    def __init__(self, status: Status, tags: Optional[int] = None, difference: Optional[Difference] = None,
+                 text: Optional[str] = None):
         told = difference and difference.name.replace("_", " ").lower()
         super().__init__(text or _REPLACE_ERRORS[status].format(tags=tags, difference=told))
         self.status = status
@@ -385,7 +392,8 @@ class FilterError(Error):
     def __init__(self, text: str, offset: int, kind: FilterErrorKind, greatest: Optional[int]):
         super().__init__(text)
         self.offset = offset
-        """The offset in bytes of the first word that does not fit, or the length of the text if words are missing at its end."""
+        """The offset in bytes of the first word that does not fit, or the length of the text if words are missing at
+        its end."""
         self.kind = kind
         self.greatest = greatest
         """The greatest number that is expected, with `FilterErrorKind.NUMBER` and `VLAN_ID_OR_OPERATOR`; the number of

@@ -1,7 +1,7 @@
 """The units of a frame, read from the bytes that one call of the library writes.
 
-The memory that the call writes to is kept for a later one. No two calls have the same at a time: neither those of other threads,
-nor one that a signal handler or `__del__` makes while another is being read.
+The memory that the call writes to is kept for a later one. No two calls have the same at a time: neither those of other
+threads, nor one that a signal handler or `__del__` makes while another is being read.
 """
 import ctypes as C
 
@@ -21,10 +21,10 @@ _head = reader(_header.Unit, "offset header_len payload_start payload_end kind c
 _ethernet2 = reader(_header.Ethernet2, "destination source ether_type has_fcs")
 _linux_sll = reader(_header.LinuxSll, "packet_type hardware_type address_len address protocol")
 _vlan = reader(_header.Vlan, "vid ether_type pcp dei")
-_macsec = reader(_header.Macsec, "sci packet_number ether_type end_station sci_present single_copy_broadcast encrypted changed"
-                                 " association_number short_len")
-_arp = reader(_header.Arp, "sender_hardware sender_protocol target_hardware target_protocol hardware_type protocol_type operation"
-                           " hardware_size protocol_size")
+_macsec = reader(_header.Macsec, "sci packet_number ether_type end_station sci_present single_copy_broadcast encrypted"
+                                 " changed association_number short_len")
+_arp = reader(_header.Arp, "sender_hardware sender_protocol target_hardware target_protocol hardware_type protocol_type"
+                           " operation hardware_size protocol_size")
 _at_ethernet2, _at_linux_sll, _at_vlan, _at_macsec, _at_arp = (
     getattr(_header.Unit, name).offset for name in ("ethernet2", "linux_sll", "vlan", "macsec", "arp"))
 _found = reader(_header.Found, "units")
@@ -89,16 +89,17 @@ def _units_in(room, frame, start, ether_type):
 
 
 def _sec_tag(memory, at):
-    (sci, packet_number, ether_type, end_station, sci_present, single_copy_broadcast, encrypted, changed, association_number,
-     short_len) = _macsec(memory, at)
+    (sci, packet_number, ether_type, end_station, sci_present, single_copy_broadcast, encrypted, changed,
+     association_number, short_len) = _macsec(memory, at)
     return _new(Macsec, (packet_number, association_number, short_len, encrypted == 1, changed == 1, end_station == 1,
                          single_copy_broadcast == 1, sci if sci_present else None,
                          None if encrypted or changed else ether_type))
 
 
 def _arp_packet(memory, at, frame):
-    (sender_hardware, sender_protocol, target_hardware, target_protocol, hardware_type, protocol_type, operation, hardware,
-     protocol) = _arp(memory, at)
+    (sender_hardware, sender_protocol, target_hardware, target_protocol, hardware_type, protocol_type, operation,
+     hardware, protocol) = _arp(memory, at)
     return _new(Arp, (hardware_type, protocol_type, operation, frame[sender_hardware:sender_hardware + hardware],
-                      frame[sender_protocol:sender_protocol + protocol], frame[target_hardware:target_hardware + hardware],
+                      frame[sender_protocol:sender_protocol + protocol],
+                      frame[target_hardware:target_hardware + hardware],
                       frame[target_protocol:target_protocol + protocol]))

@@ -7,8 +7,8 @@ from typing import List, Optional
 from . import _header
 from ._header import FaultKind, Layer, LenSource, RestKind, Start, Status, UnitKind
 from ._library import CALLS, WRITE, Error, filled, lent, lib, number, required, text
-from ._types import (Arp, Buffer, Ethernet2, Fault, Fed, Field, FieldName, LinuxSll, Macsec, Packet, Refused, Summary, Unit, Vlan,
-                     WritableBuffer, begun)
+from ._types import (Arp, Buffer, Ethernet2, Fault, Fed, Field, FieldName, LinuxSll, Macsec, Packet, Refused, Summary,
+                     Unit, Vlan, WritableBuffer, begun)
 from ._units import bytes_of, units_of
 
 
@@ -38,7 +38,8 @@ def _ethernet2(unit, _):
 
 def _linux_sll(unit, _):
     header = unit.linux_sll
-    return LinuxSll(header.packet_type, header.hardware_type, header.address_len, bytes(header.address), header.protocol)
+    return LinuxSll(header.packet_type, header.hardware_type, header.address_len, bytes(header.address),
+                    header.protocol)
 
 
 def vlan_of(tag):
@@ -62,8 +63,8 @@ def _arp(unit, at):
                C.string_at(at + packet.target_hardware, hardware), C.string_at(at + packet.target_protocol, protocol))
 
 
-_HEADERS = {UnitKind.ETHERNET2: _ethernet2, UnitKind.LINUX_SLL: _linux_sll, UnitKind.VLAN: lambda unit, _: vlan_of(unit.vlan),
-            UnitKind.MACSEC: _macsec, UnitKind.ARP: _arp}
+_HEADERS = {UnitKind.ETHERNET2: _ethernet2, UnitKind.LINUX_SLL: _linux_sll,
+            UnitKind.VLAN: lambda unit, _: vlan_of(unit.vlan), UnitKind.MACSEC: _macsec, UnitKind.ARP: _arp}
 
 
 def _unit(unit, at):
@@ -119,8 +120,8 @@ def summary(frame: Buffer, start: Start = Start.ETHERNET2, *, ether_type: Option
 
 
 def packet(frame: Buffer, start: Start = Start.ETHERNET2, *, ether_type: Optional[int] = None) -> Packet:
-    """All headers of a frame in one call, with at most three VLAN tags and SecTags. A refused unit is the `fault` of the
-    `summary`, and raises no exception."""
+    """All headers of a frame in one call, with at most three VLAN tags and SecTags. A refused unit is the `fault` of
+    the `summary`, and raises no exception."""
     headers = _header.Headers()
     with lent(frame) as (at, length):
         required(_call("packet", start, ether_type, at, length, None, C.byref(headers)))
@@ -129,8 +130,8 @@ def packet(frame: Buffer, start: Start = Start.ETHERNET2, *, ether_type: Optiona
 
 
 def fields(frame: Buffer, start: Start = Start.ETHERNET2, *, ether_type: Optional[int] = None) -> List[Field]:
-    """The fields of a frame's headers, in the order of the frame, except that a frame check sequence follows the fields of the
-    Ethernet II header. If a unit is refused, these are the fields of the units before it."""
+    """The fields of a frame's headers, in the order of the frame, except that a frame check sequence follows the fields
+    of the Ethernet II header. If a unit is refused, these are the fields of the units before it."""
     with lent(frame) as (at, length):
         words = (*begun(start, ether_type), at, length)
         return [field(it) for it in filled(_header.Field, 32, lib.etherpeel_fields, *words)]
@@ -172,8 +173,8 @@ def completion(frame: Buffer, start: Start = Start.ETHERNET2, *, ether_type: Opt
 
 def write_back(frame: Buffer, start: Start = Start.ETHERNET2, *, ether_type: Optional[int] = None,
                limit: Optional[int] = None) -> bytes:
-    """The bytes of a frame's headers, and the bytes after them: the front of the frame up to `rest_end`, except that the two
-    reserved bits of each SecTag are 0."""
+    """The bytes of a frame's headers, and the bytes after them: the front of the frame up to `rest_end`, except that
+    the two reserved bits of each SecTag are 0."""
     with lent(frame) as (at, length):
         target, count = C.create_string_buffer(length), C.c_size_t()
         required(_call("write_back", start, ether_type, at, length, limit, target, length, C.byref(count)))
@@ -184,8 +185,8 @@ def write_back_into(target: WritableBuffer, frame: Buffer, start: Start = Start.
                     ether_type: Optional[int] = None, limit: Optional[int] = None) -> int:
     """Writes to the front of a target what `write_back` returns, and returns the number of these bytes.
 
-    Raises `Error` if the target is too short or shares memory with the frame, and `BufferError` if it can't be written to. In
-    each case it is unchanged.
+    Raises `Error` if the target is too short or shares memory with the frame, and `BufferError` if it can't be written
+    to. In each case it is unchanged.
     """
     count = C.c_size_t()
     with lent(frame) as (at, length), lent(target, WRITE) as (to, room):
