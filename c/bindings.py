@@ -35,9 +35,10 @@ TOLD = {
     "len_source": "What gave the length that was available or required in a length fault.",
     "decision": "Whether a filter selects a packet, as far as its captured bytes tell.",
 }
-ENUM = re.compile(r"^/\* ([^/]*?)\*/\nenum etherpeel_(\w+) \{\n(.*?)^\};", re.M | re.S)
+ENUM = re.compile(r"^/\* ((?:(?!\*/).)*)\*/\nenum etherpeel_(\w+) \{\n(.*?)^\};", re.M | re.S)
 STRUCT = re.compile(r"^typedef struct etherpeel_\w+ \{\n(.*?)^\} etherpeel_(\w+);", re.M | re.S)
-CALL = re.compile(r"^(uint32_t|size_t) etherpeel_(\w+)\(([^;{]*)\);", re.M)
+CALL = re.compile(r"^(\w+) etherpeel_(\w+)\(([^;{]*)\);", re.M)
+COMMENT = re.compile(r"/\*.*?\*/", re.S)
 MEMBER = re.compile(r"( *)/\*(.*?)\*/\n|    (\w+) = (\d+),?\n|(\n)", re.S)
 
 
@@ -56,6 +57,9 @@ class Header:
         self.structs = [(name, body) for body, name in STRUCT.findall(text)]
         self.calls = CALL.findall(text)
         self.prefixes = {name: prefix_of(body) for name, _, body in self.enums}
+        for what, found in (("enum etherpeel_", self.enums), ("typedef struct", self.structs)):
+            if len(found) != len(re.findall(f"^{what}", text, re.M)):
+                sys.exit(f"etherpeel.h: a declaration that begins with '{what}' can't be read")
 
     def told(self, comment):
         """The text of a comment, with the names of Python in place of those of C."""
@@ -85,6 +89,8 @@ def enumeration(header, name, comment, body):
     """An enumeration as a class. A comment is the docstring of the number after it, or one on all numbers up to the
     next empty line."""
     lines, waiting = [f"class {camel(name)}(IntEnum):\n", quoted(TOLD.get(name) or header.told(comment), "    ")], None
+    if len(re.findall(r"    \w+ = \d+,?$", body, re.M)) != COMMENT.sub("", body).count("="):
+        sys.exit(f"etherpeel.h: a number of enum etherpeel_{name} can't be read")
     for _, text, number, value, gap in MEMBER.findall(body):
         if gap and waiting:
             told = textwrap.fill(waiting, WIDTH, initial_indent="    # ", subsequent_indent="    # ")
@@ -96,9 +102,12 @@ def enumeration(header, name, comment, body):
     return "".join(lines)
 
 
-def field(line):
+def field(struct_name, line):
     """The name of a struct's field, and its type."""
-    kind, star, name, count = re.match(r"    (?:const )?(\w+) (\*?)(\w+)(?:\[(\d+)\])?;", line).groups()
+    told = re.fullmatch(r"    (?:const )?(\w+) (\*?)(\w+)(?:\[(\d+)\])?;", line)
+    if not told:
+        sys.exit(f"etherpeel.h: '{line.strip()}' of etherpeel_{struct_name} can't be read")
+    kind, star, name, count = told.groups()
     code = type_of(kind, star)
     return f'("{name}", {code} * {count})' if count else f'("{name}", {code})'
 
@@ -114,9 +123,8 @@ def type_of(kind, star):
 
 
 def struct(name, body):
-    fields = [field(line) for line in body.splitlines() if re.match(r"    (const )?\w+ \*?\w+(\[\d+\])?;", line)]
-    if len(fields) != body.count(";") - len(re.findall(r"/\*[^/]*?;[^/]*?\*/", body)):
-        sys.exit(f"etherpeel.h: a field of etherpeel_{name} can't be read")
+    lines = [line.rstrip() for line in COMMENT.sub("", body).splitlines() if line.strip()]
+    fields = [field(name, line) for line in lines]
     return laid_out(f"class {camel(name)}(C.Structure):\n    _fields_ = [", fields, "]\n")
 
 
@@ -129,7 +137,8 @@ def call(result, name, words):
             types.append(type_of(told[1], told[2] or told[3]))
         elif word != "void":
             sys.exit(f"etherpeel.h: '{word}' of etherpeel_{name} can't be read")
-    return laid_out(f'    "{name}": ({NUMBERS[result]}, [', types, "]),\n")
+    returned = "None" if result == "void" else type_of(result, "")
+    return laid_out(f'    "{name}": ({returned}, [', types, "]),\n")
 
 
 def laid_out(before, items, after):

@@ -28,7 +28,7 @@ def content_of(source):
 
 def _memory(source):
     """A view of the bytes of a source."""
-    if source == "-":
+    if isinstance(source, str) and source == "-":
         source = sys.stdin
     if isinstance(source, (str, os.PathLike)):
         with open(source, "rb") as file:
