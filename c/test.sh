@@ -169,6 +169,7 @@ callers_in_python() {
     cp -r python/etherpeel "$work/package"
     cp "$work/libetherpeel.so.3" "$work/package/etherpeel"
     run "Python, $python" "$python" tests/tests.py "$work/package"
+    if [ -n "$cc" ]; then run "The structs in Python" "$python" tests/layout.py "$cc" "$work/package"; fi
     scapy=$(python_with scapy "$python" /usr/bin/python3)
     if [ -n "$scapy" ]; then
         run "Python and scapy, $scapy" "$scapy" tests/scapy_fields.py "$work/package"
