@@ -11,7 +11,7 @@ from etherpeel import Decision, Filter, Start
 
 FAILS, MATCHES, UNDECIDED = Decision
 COOKED = bytes.fromhex("0004 0001 0006 020000000001abcd 8100 0007 0800")
-# a packet of which 16 bytes were captured: the identifier of its VLAN tag is there, but the ether type after it is not.
+# a packet that was cut to 16 bytes: the identifier of its VLAN tag is there, but the ether type after it is not.
 # By its captured bytes alone it has no tag, for that is cut short; whatever the missing bytes are, it has one.
 CUT = etherpeel.Captured(memoryview(TAGGED[:16]), None, 1, len(TAGGED), None)
 

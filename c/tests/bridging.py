@@ -218,7 +218,8 @@ def wrong_settings():
             check(text, str(error), text)
     check("nothing changed", bridge.ports, before)
     check("wrong types", [raised(bridge.set_port, *words) for words in (("0",), (0, 5))] + [
-        raised(bridge.set_port, 0, pvid="5"), raised(bridge.receive, 0, 0, "frame"), raised(bridge.set_port, 0, colour=1)], [TypeError] * 5)
+        raised(bridge.set_port, 0, pvid="5"), raised(bridge.receive, 0, 0, "frame"), raised(bridge.set_port, 0, colour=1),
+        raised(Bridge, key=16)], [TypeError] * 6)
 
 
 def copies():

@@ -95,8 +95,8 @@ class Bridge:
     Frames are from the Ethernet II header on, without a frame check sequence. `kind` says which tags the bridge reads
     and writes; tags of the other kind are payload. A sighting of a station counts for `ageing_time` seconds. Each VLAN
     learns in a table of its own, for up to 4 times `buckets` stations. `forwarded` has the numbers 0 to 15 of the
-    addresses 01-80-C2-00-00-0X whose frames are forwarded, against the standard. `key` is 16 random bytes, by which the
-    table is ordered; by default the system chooses them.
+    addresses 01-80-C2-00-00-0X whose frames are forwarded, against the standard. `key` is 16 random bytes: nobody
+    who does not know them can choose addresses that crowd out others. By default the system chooses them.
 
     **Nothing stops a frame in a loop**: there is no spanning tree. A caller that has one gets its frames as `reserved`,
     and sets `learning` and `forwarding` of the ports.
@@ -109,7 +109,7 @@ class Bridge:
         self._kind, self._ageing_time = BridgeKind(kind), number("ageing_time", ageing_time, 32)
         self._buckets = number("buckets", buckets, 20)
         self._forwarded = sum(1 << it for it in {number("forwarded", it, 4) for it in forwarded})
-        self._key = os.urandom(16) if key is None else bytes(key)
+        self._key = os.urandom(16) if key is None else memoryview(key).tobytes()
         if len(self._key) != 16:
             raise ValueError(f"key has 16 bytes, not {len(self._key)}")
         self._ports: Dict[int, Port] = {}
@@ -234,7 +234,7 @@ class Bridge:
         required(_switch.etherpeel_switch_forget(table, count, what, number("port", port or 0, 8),
                                                  bytes(6) if address is None else station("address", address)))
 
-    # ---- what C is told
+    # ---- the structs of C
 
     def _replace_port(self, port, new):
         ports = dict(self._ports)

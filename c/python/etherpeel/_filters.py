@@ -164,7 +164,7 @@ def _parsed(expression):
 
 
 def marks(read, capture, first, count):
-    """For each of so many packets of a capture, from the first on, 1 if a filter selects it, else 0."""
+    """For `count` packets of a capture, from the index `first` on, 1 if a filter selects the packet, else 0."""
     if not count:
         return b""
     found = (C.c_uint8 * count)()

@@ -54,7 +54,7 @@ CALLS = {name: getattr(lib, "etherpeel_" + name) for name in _header.CALLS}
 
 
 def number(name, value, bits):
-    """The value, if it is a number that fits in so many bits; else raises a `ValueError`, or a `TypeError` if it is no
+    """The value, if it is an integer of at most `bits` bits; else raises a `ValueError`, or a `TypeError` if it is no
     integer."""
     return between(name, value, 0, (1 << bits) - 1)
 

@@ -86,7 +86,7 @@ def _unpack(view, begin, make, target):
 
 
 def _after_zeros(view, at):
-    """The place after the zeros that some programs put behind a stream."""
+    """The place after the zeros that some programs append to a stream."""
     while at < len(view):
         rest = bytes(view[at:at + _CHUNK]).lstrip(b"\0")
         at = min(at + _CHUNK, len(view)) - len(rest)
