@@ -21,9 +21,9 @@ HEAD = '''"""The numbers, structs and calls of etherpeel.h, as c/bindings.py wri
 import ctypes as C
 from enum import IntEnum
 
-u8, u16, u32, u64, size = C.c_uint8, C.c_uint16, C.c_uint32, C.c_uint64, C.c_size_t
+u8, u16, u32, u64, i64, size = C.c_uint8, C.c_uint16, C.c_uint32, C.c_uint64, C.c_int64, C.c_size_t
 '''
-NUMBERS = {"uint8_t": "u8", "uint16_t": "u16", "uint32_t": "u32", "uint64_t": "u64", "size_t": "size", "int": "C.c_int"}
+NUMBERS = {"uint8_t": "u8", "uint16_t": "u16", "uint32_t": "u32", "uint64_t": "u64", "int64_t": "i64", "size_t": "size", "int": "C.c_int"}
 # The numbers of fields are made elsewhere; those of structs are their order in STRUCTS.
 ELSEWHERE = "field_name", "struct"
 # Numbers for nothing, for which Python has None.

@@ -10,11 +10,16 @@
  *   Frame    `bytes` and `file` point to `len` bytes, which are read and never written; `frame` and
  *            `buffer` to `len` bytes, which the calls that change headers write to. NULL is allowed
  *            if `len` is 0.
- *   Targets  `units`, `fields`, `packets`, `matches`, `target`, `fill` and `text` point to as many
- *            elements as `room` says; what etherpeel_build and etherpeel_select read to `count`.
- *            NULL is allowed if that is 0. A pointer to one struct or number must not be NULL. The
- *            memory must be aligned for its type. Memory that is only written to need not be
- *            initialized, except for `packets` and an etherpeel_frame.
+ *   Targets  `units`, `fields`, `packets`, `rows`, `matches`, `target`, `fill` and `text` point to
+ *            as many elements as `room` says; what etherpeel_build, etherpeel_write_frame,
+ *            etherpeel_rows and etherpeel_select read to `count`. NULL is allowed if that is 0. A
+ *            pointer to one struct or number must not be NULL. The memory must be aligned for its
+ *            type. Memory that is only written to need not be initialized, except for `packets` and
+ *            an etherpeel_frame.
+ *   Structs  Pointers in a struct, and the lengths of what they point to, must be right. All other
+ *            numbers may be any: those that don't fit are refused, as ETHERPEEL_BAD_FIELD or
+ *            ETHERPEEL_BAD_KIND, or the call says what they mean. A filter or a table of stations
+ *            that no call has written gives some result, and no access outside what was passed.
  *   Overlap  What a call may write to must not overlap the frame, nor anything else that the call
  *            may write to.
  *   Keeping  No call keeps a pointer after it returns.
@@ -23,17 +28,18 @@
  *   Order    Numbers that are passed, and those of structs, are in the byte order of the machine
  *            (host byte order); addresses are bytes in the order of the frame.
  *   Result   ETHERPEEL_DONE, or why the call did nothing; etherpeel_capture, etherpeel_select,
- *            etherpeel_linux_sll2, etherpeel_build and those that replace headers say what they
- *            write even then. After ETHERPEEL_UNKNOWN_START nothing was written at all; after
- *            ETHERPEEL_NO_ROOM only the length that the target needs, if the call gives one; after
- *            ETHERPEEL_NO_TEXT only the length 0.
+ *            etherpeel_linux_sll2, etherpeel_build, etherpeel_write_frame and those that replace
+ *            headers say what they write even then. After ETHERPEEL_UNKNOWN_START nothing was
+ *            written at all; after ETHERPEEL_NO_ROOM only the length that the target needs, if the
+ *            call gives one; after ETHERPEEL_NO_TEXT only the length 0.
  *   Memory   No call allocates, blocks, or stores anything between calls, so each is thread-safe.
  *            etherpeel_completion and etherpeel_fault_text take some 2.5 KB of stack,
- *            etherpeel_fields 5 KB, etherpeel_replace_arp 14 KB, etherpeel_build 18 KB, the calls
- *            for filters 40 KB, etherpeel_format 70 KB, the calls for capture files 300 KB, and all
- *            others less than 1 KB.
+ *            etherpeel_fields 5 KB, etherpeel_replace_arp 14 KB, etherpeel_build and
+ *            etherpeel_write_frame 18 KB, the calls for filters 40 KB, etherpeel_format 70 KB, the
+ *            calls for capture files 300 KB, and all others less than 1 KB.
  *   Time     Linear in the number of headers, at most len / 4 in a frame, or of units in a capture
- *            file. etherpeel_write_back also copies the frame, etherpeel_build the payload.
+ *            file. etherpeel_write_back and etherpeel_write_frame also copy the frame,
+ *            etherpeel_build the payload.
  *   Limits   Most calls have a form `.._limited`, which reads at most `limit` VLAN tags and
  *            SecTags. The ether type after the last of these announces nothing: the walk ends there
  *            without a fault.
@@ -576,6 +582,27 @@ typedef struct etherpeel_captured {
     uint8_t fcs_len;       /* that length in bytes, before the packet was cut; else 0 */
 } etherpeel_captured;
 
+/* The time in the row of a packet that has none, or none before the year 2262: NaT of NumPy. */
+#define ETHERPEEL_NO_TIME INT64_MIN
+
+/* A packet as a row of a table. */
+typedef struct etherpeel_row {
+    int64_t time;         /* in nanoseconds since 1970, UTC; or ETHERPEEL_NO_TIME */
+    uint64_t destination; /* of an Ethernet II header, the first byte the most significant one */
+    uint64_t source;
+    size_t captured_len;
+    size_t fault_offset;   /* where the refused header is in the frame; 0 if none is refused */
+    uint32_t original_len; /* the length of the packet before it was cut */
+    uint32_t fault;        /* enum etherpeel_fault_kind; 0 if no header is refused */
+    uint16_t link_type;    /* as in etherpeel_captured */
+    uint16_t ether_type;   /* what announces the bytes after the headers; 0 if no ether type does */
+    uint16_t vlan_ids[3];  /* the identifiers of the VLAN tags, outermost first, then 0 */
+    uint16_t vlan_count;   /* the number of VLAN tags */
+    uint8_t has_addresses; /* 1 if the packet begins with an Ethernet II header */
+    uint8_t has_macsec;    /* 1 if it has a SecTag */
+    uint8_t has_arp;       /* 1 if it has an ARP packet */
+} etherpeel_row;
+
 /* The part of a captured packet that is walked: its bytes, and what to pass with them to the calls
  * for frames. */
 typedef struct etherpeel_frame {
@@ -736,7 +763,8 @@ enum etherpeel_struct {
     ETHERPEEL_STRUCT_SWITCH_VLAN = 24,
     ETHERPEEL_STRUCT_PORT_STATES = 25,
     ETHERPEEL_STRUCT_STATIC_ENTRY = 26,
-    ETHERPEEL_STRUCT_BRIDGE = 27
+    ETHERPEEL_STRUCT_BRIDGE = 27,
+    ETHERPEEL_STRUCT_ROW = 28
 };
 
 /* etherpeel_version - the version of the library, as ETHERPEEL_VERSION is that of this header
@@ -787,7 +815,8 @@ static inline int etherpeel_fits(void) {
            etherpeel_sizeof(ETHERPEEL_STRUCT_SWITCH_VLAN) == sizeof(etherpeel_switch_vlan) &&
            etherpeel_sizeof(ETHERPEEL_STRUCT_PORT_STATES) == sizeof(etherpeel_port_states) &&
            etherpeel_sizeof(ETHERPEEL_STRUCT_STATIC_ENTRY) == sizeof(etherpeel_static_entry) &&
-           etherpeel_sizeof(ETHERPEEL_STRUCT_BRIDGE) == sizeof(etherpeel_bridge);
+           etherpeel_sizeof(ETHERPEEL_STRUCT_BRIDGE) == sizeof(etherpeel_bridge) &&
+           etherpeel_sizeof(ETHERPEEL_STRUCT_ROW) == sizeof(etherpeel_row);
 }
 
 /* etherpeel_start_of_link_type - the number of enum etherpeel_start for packets of a link type, 0
@@ -1109,6 +1138,32 @@ uint32_t etherpeel_build(const etherpeel_unit *units, size_t count, uint16_t eth
                          const uint8_t *payload, size_t payload_len, uint8_t *target, size_t room,
                          size_t *written_len);
 
+/* etherpeel_write_frame - a frame with other headers, and its padding and trailers
+ *
+ * Writes the headers of units[0] .. units[count - 1] to the front of `target`, and after them the
+ * bytes of a frame from `rest_start` on: what follows its headers, with padding, the integrity
+ * check value of MACsec, and a frame check sequence. The units are those of etherpeel_build, but a
+ * cooked capture may have any hardware type, and any tag may follow another. No field is set by
+ * what follows it. If the last unit is of ETHERPEEL_UNIT_ARP, its addresses are read from the
+ * frame, as by etherpeel_replace_arp.
+ * The units that etherpeel_walk wrote give the frame again, but for the reserved bits of SecTags,
+ * if `rest_start` is where the last header ends: its offset plus its header_len. If a program
+ * changes units first, they give the frame with these changes. No integrity check value and no
+ * frame check sequence is computed anew.
+ * *written_len is the length of the new frame. The bytes of `target` after it are unchanged.
+ * Returns ETHERPEEL_DONE, or the first of these that applies; then `target` is unchanged. For the
+ * first unit that is wrong, whose index is then *written_len: ETHERPEEL_BAD_KIND, also if there is
+ * no unit; ETHERPEEL_BAD_FIELD; ETHERPEEL_TOO_MANY_TAGS for the ninth tag. ETHERPEEL_BAD_FIELD, and
+ * *written_len is `count`, if `rest_start` exceeds `len`. ETHERPEEL_NO_ROOM if `room` is smaller
+ * than the length of the new frame, which is *written_len.
+ * Overlap: neither `target` nor *written_len may overlap the units, the frame or one another.
+ * Every number is in host byte order, addresses in that of the packet. Thread-safe; takes no
+ * memory, and some 18 KB of stack.
+ */
+uint32_t etherpeel_write_frame(const etherpeel_unit *units, size_t count, const uint8_t *bytes,
+                               size_t len, size_t rest_start, uint8_t *target, size_t room,
+                               size_t *written_len);
+
 /* ---- Capture files ----
  *
  * Classic pcap and pcapng files, of either byte order. `file` points to the `len` bytes of a whole
@@ -1144,6 +1199,33 @@ uint32_t etherpeel_capture(const uint8_t *file, size_t len, etherpeel_captured *
 uint32_t etherpeel_capture_fault_text(const uint8_t *file, size_t len, char *text, size_t room,
                                       size_t *text_len);
 
+/* etherpeel_capture_header - how a classic capture file begins
+ *
+ * Writes to `header` the 24 bytes with which a file begins that etherpeel_capture and libpcap read:
+ * little-endian, with times in nanoseconds. `link_type` is a LINKTYPE_ number, `snap_len` is the
+ * length to which longer packets were cut, as 262144, and `fcs_len` is the length in bytes of the
+ * frame check sequence at the end of each packet, 0 to say nothing of it.
+ * Returns ETHERPEEL_DONE; or ETHERPEEL_BAD_FIELD if `fcs_len` is odd or above 30, and then nothing
+ * is written.
+ * Every number is in host byte order. Thread-safe; takes no memory.
+ */
+uint32_t etherpeel_capture_header(uint16_t link_type, uint32_t snap_len, uint8_t fcs_len,
+                                  uint8_t *header);
+
+/* etherpeel_capture_record - what a classic capture file has before the bytes of a packet
+ *
+ * Writes to `header` 16 bytes: the time of the packet and its two lengths. In a file that begins as
+ * etherpeel_capture_header says, these and the packet_len bytes of the packet follow what was
+ * written before. The file's link type is that of all its packets; link_type, has_fcs_len and
+ * fcs_len are not read here. A packet without a time gets the time 0.
+ * Returns ETHERPEEL_DONE; or ETHERPEEL_BAD_FIELD if its seconds don't fit in 32 bits, as from the
+ * year 2106 on, its nanoseconds are a second or more, or it has more than 262,144 captured bytes,
+ * and then nothing is written.
+ * Overlap: `header` must overlap neither *packet nor its bytes. Every number is in host byte order.
+ * Thread-safe; takes no memory.
+ */
+uint32_t etherpeel_capture_record(const etherpeel_captured *packet, uint8_t *header);
+
 /* etherpeel_captured_frame - the part of a captured packet that is walked
  *
  * Sets *frame by the link type of a packet that etherpeel_capture wrote. For Ethernet it is the
@@ -1159,6 +1241,19 @@ uint32_t etherpeel_capture_fault_text(const uint8_t *file, size_t len, char *tex
  * host byte order. Thread-safe; takes no memory.
  */
 uint32_t etherpeel_captured_frame(const etherpeel_captured *packet, etherpeel_frame *frame);
+
+/* etherpeel_rows - a table of packets: a row for each of them
+ *
+ * Sets rows[i] to what is known of packets[i], for each of the `count` packets; NULL is allowed if
+ * `count` is 0. The headers are those that etherpeel_packet finds in the frame that
+ * etherpeel_captured_frame sets. Elements of `rows` from `count` on are unchanged.
+ * Returns ETHERPEEL_DONE, or ETHERPEEL_NO_ROOM if `room` is smaller than `count`; then nothing is
+ * written.
+ * Overlap: `rows` must not overlap the packets and their bytes. Every number is in host byte order.
+ * Thread-safe; takes no memory.
+ */
+uint32_t etherpeel_rows(const etherpeel_captured *packets, size_t count, etherpeel_row *rows,
+                        size_t room);
 
 /* ---- Packets on one line ---- */
 

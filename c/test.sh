@@ -176,6 +176,8 @@ callers_in_python() {
     else
         echo "left out: the package compared with scapy, since no Python with scapy was found"
     fi
+    tables=$(python_with pandas "$python" /usr/bin/python3)
+    run "Tables, ${tables:=$python}" "$tables" tests/tables.py "$work/package"
     mypy=$(python_with mypy "$python" /usr/bin/python3)
     if [ -n "$mypy" ]; then
         run "The types of the package, $mypy" "$mypy" tests/typed.py "$work/package"

@@ -25,6 +25,7 @@ from planted_faults import FAULTS
 
 TOP = os.path.dirname(os.path.dirname(os.path.abspath(__file__)))
 SECONDS = 300  # for one test
+WITH_PANDAS = "/usr/bin/python3" if os.path.exists("/usr/bin/python3") else sys.executable  # that of Debian, which has its pandas
 WORKERS = 3
 C_SWITCH = '#define _GNU_SOURCE\n#include <stdlib.h>\nstatic int planted(int number) { return getenv("PLANTED") && atoi(getenv("PLANTED")) == number; }\n'
 RUST_SWITCH = """
@@ -156,7 +157,8 @@ class Trial:
         if path.endswith(".py"):
             folder = self.python(number, fault)
             words = [["tests.py", folder, word] for word in ("lent", "nested", "")]
-            return [[sys.executable, f"{c_tests}/{name}", *others] for name, *others in [*words, ["pools.py", folder]]]
+            tables = [WITH_PANDAS, f"{c_tests}/tables.py", folder]
+            return [*([sys.executable, f"{c_tests}/{name}", *others] for name, *others in [*words, ["pools.py", folder]]), tables]
         if path.endswith(".js"):
             return [[sys.executable, f"{self.page(number, fault)}/test.py"]]
         if "examples" in path:

@@ -5,6 +5,7 @@
 #include "fields.h"
 #include "naming.h"
 #include "switching.h"
+#include "writing.h"
 
 /* ---- frames: the two addresses are to all stations, from 02:00:00:00:00:01 ---- */
 
@@ -1669,6 +1670,11 @@ int main(void) {
     replacing_arp();
     building();
     not_building();
+    writing_frames();
+    not_writing_frames();
+    layout_of_rows();
+    rows();
+    writing_captures();
     unknown_starts();
     no_frame();
     drawn_frames();

@@ -44,6 +44,23 @@ def buffers() -> None:
         pass
 
 
+def tables() -> None:
+    packets = etherpeel.open(CLASSIC)
+    table: etherpeel.Table = packets.table()
+    row: etherpeel.Row = table[0]
+    ids: Tuple[int, ...] = row.vlan_ids
+    rows: List[etherpeel.Row] = table[:]
+    written = io.BytesIO()
+    with etherpeel.Writer(written) as writer:
+        writer.write(packets[0])
+        writer.write(FRAME, time_ns=0)
+        try:
+            writer.write(7)  # type: ignore[arg-type]
+        except TypeError:
+            pass
+    assert ids == (291,) and rows == [row]
+
+
 def headers() -> None:
     packet: etherpeel.Packet = etherpeel.packet(FRAME)
     tag = packet.first(etherpeel.Vlan)
@@ -113,6 +130,7 @@ def bridge() -> None:
 
 
 buffers()
+tables()
 headers()
 filters()
 captures(pathlib.Path("f.pcap"))

@@ -14,8 +14,9 @@ What there is, by what it is about:
 
     a frame             walk, packet, summary, fields, missing, completion, feed, fault_text, write_back
     a frame, changed    pop_vlan, push_vlan, set_vlan_id, set_vlan_tag, set_tpid, replace_link, ..
-    a new packet        build
-    a capture file      open, capture, Captured, Frame
+    a new packet        build, write_frame
+    a capture file      open, capture, Captured, Frame, Writer
+    a table             Capture.table, Table, Row
     a filter            Filter, select
     cooked capture v2   linux_sll2, linux_sll2_fields
     names               FieldName, number_name
@@ -40,19 +41,22 @@ from ._header import (BridgeKind, Decision, Difference, Discarded, FaultKind, Fi
 from ._library import Error
 from ._names import number_name
 from ._replacing import build, replace_arp, replace_link, replace_link_ext
+from ._tables import Row, Table
 from ._tags import pop_vlan, push_vlan, set_tpid, set_vlan_id, set_vlan_tag
 from ._types import (Arp, BuildError, Ethernet2, Fault, Fed, Field, FieldName, FilterError, Header, LinuxSll, LinuxSll2,
                      LinuxSll2Error, Macsec, Packet, Refused, ReplaceError, Summary, TagError, Unit, Vlan)
 from ._walks import completion, fault_text, feed, fields, missing, packet, summary, walk, write_back, write_back_into
+from ._writing import Writer, write_frame
 
 __all__ = [
     "Arp", "Bridge", "BridgeKind", "BuildError", "Capture", "CaptureError", "Captured", "Decision", "Difference",
     "Discarded", "Error", "Ethernet2", "Fault", "FaultKind", "Fed", "Field", "FieldKind", "FieldName", "Filter",
     "FilterError", "FilterErrorKind", "Frame", "FrameTypes", "Header", "Layer", "LenSource", "LinuxSll", "LinuxSll2",
-    "LinuxSll2Error", "Macsec", "Packet", "Port", "Received", "Refused", "ReplaceError", "RestKind", "Sighting",
-    "Start", "Status", "Summary", "TagError", "Unit", "Vlan", "build", "capture", "captured_frame", "completion",
-    "fault_text", "feed", "fields", "linux_sll2", "linux_sll2_fields", "missing", "number_name", "open", "packet",
-    "pop_vlan", "push_vlan", "replace_arp", "replace_link", "replace_link_ext", "select", "set_tpid", "set_vlan_id",
-    "set_vlan_tag", "start_of_link_type", "summary", "walk", "write_back", "write_back_into",
+    "LinuxSll2Error", "Macsec", "Packet", "Port", "Received", "Refused", "ReplaceError", "RestKind", "Row", "Sighting",
+    "Start", "Status", "Summary", "Table", "TagError", "Unit", "Vlan", "Writer", "build", "capture", "captured_frame",
+    "completion", "fault_text", "feed", "fields", "linux_sll2", "linux_sll2_fields", "missing", "number_name", "open",
+    "packet", "pop_vlan", "push_vlan", "replace_arp", "replace_link", "replace_link_ext", "select", "set_tpid",
+    "set_vlan_id", "set_vlan_tag", "start_of_link_type", "summary", "walk", "write_back", "write_back_into",
+    "write_frame",
 ]
 __version__ = "3.0.0"

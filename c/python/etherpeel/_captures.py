@@ -10,6 +10,7 @@ from . import _header
 from ._header import Start, Status
 from ._library import Error, StatusError, between, lent, lib, number, reader, text
 from ._sources import content_of
+from ._tables import Table, table_of
 from ._types import Buffer, Field, Packet, Summary, Unit
 from ._walks import fields, packet as packet_of, summary, walk
 
@@ -130,6 +131,15 @@ class Capture(Sequence[Captured]):
             return None
         with lent(self._view) as (at, length):
             return CaptureError(text(lib.etherpeel_capture_fault_text, at, length), self._end.offset, self._end.needed)
+
+    def table(self) -> Table:
+        """A table with a row of numbers for each packet: time, lengths, addresses, VLAN identifiers, ether type, fault. One call
+        writes all rows.
+
+            frame = etherpeel.open("f.pcap").table().to_pandas()
+            frame.groupby("vlan_1")["original_len"].sum()
+        """
+        return table_of(self._all())
 
     def close(self) -> None:
         """Gives the memory of the file back, once no packet that was taken from the capture is in use. After it the

@@ -2,7 +2,7 @@
 import ctypes as C
 from enum import IntEnum
 
-u8, u16, u32, u64, size = C.c_uint8, C.c_uint16, C.c_uint32, C.c_uint64, C.c_size_t
+u8, u16, u32, u64, i64, size = C.c_uint8, C.c_uint16, C.c_uint32, C.c_uint64, C.c_int64, C.c_size_t
 MAJOR, VERSION = 3, 0x030000
 
 
@@ -478,6 +478,12 @@ class Captured(C.Structure):
                 ("original_len", u32), ("link_type", u16), ("has_time", u8), ("has_fcs_len", u8), ("fcs_len", u8)]
 
 
+class Row(C.Structure):
+    _fields_ = [("time", i64), ("destination", u64), ("source", u64), ("captured_len", size), ("fault_offset", size),
+                ("original_len", u32), ("fault", u32), ("link_type", u16), ("ether_type", u16), ("vlan_ids", u16 * 3),
+                ("vlan_count", u16), ("has_addresses", u8), ("has_macsec", u8), ("has_arp", u8)]
+
+
 class Frame(C.Structure):
     _fields_ = [("bytes", C.c_void_p), ("len", size), ("offset", size), ("start", u32), ("ether_type", u16)]
 
@@ -547,7 +553,7 @@ class Bucket(C.Structure):
 # the structs in the order of enum etherpeel_struct, from 1 on
 STRUCTS = [Fault, Found, Fed, Ethernet2, LinuxSll, Vlan, Macsec, Arp, Unit, Headers, Captured, CaptureEnd, FilterError,
            Frame, Field, LinuxSll2Header, ReplaceError, Filter, Port, Received, Sighting, Bucket, Ports, SwitchVlan,
-           PortStates, StaticEntry, Bridge]
+           PortStates, StaticEntry, Bridge, Row]
 
 
 # what each call returns, and what it takes
@@ -580,9 +586,13 @@ CALLS = {
     "replace_link_ext": (u32, [u32, u16, C.c_void_p, size, size, C.POINTER(Unit), C.POINTER(ReplaceError)]),
     "replace_arp": (u32, [u32, u16, C.c_void_p, size, C.POINTER(Unit), C.c_void_p, size, C.POINTER(ReplaceError)]),
     "build": (u32, [C.POINTER(Unit), size, u16, C.c_void_p, size, C.c_void_p, size, C.POINTER(size)]),
+    "write_frame": (u32, [C.POINTER(Unit), size, C.c_void_p, size, size, C.c_void_p, size, C.POINTER(size)]),
     "capture": (u32, [C.c_void_p, size, C.POINTER(Captured), size, C.POINTER(size), C.POINTER(CaptureEnd)]),
     "capture_fault_text": (u32, [C.c_void_p, size, C.c_void_p, size, C.POINTER(size)]),
+    "capture_header": (u32, [u16, u32, u8, C.c_void_p]),
+    "capture_record": (u32, [C.POINTER(Captured), C.c_void_p]),
     "captured_frame": (u32, [C.POINTER(Captured), C.POINTER(Frame)]),
+    "rows": (u32, [C.POINTER(Captured), size, C.POINTER(Row), size]),
     "format": (u32, [C.c_void_p, size, size, C.POINTER(Captured), C.c_void_p, size, C.POINTER(size)]),
     "format_limited": (u32, [C.c_void_p, size, size, C.POINTER(Captured), size, C.c_void_p, size, C.POINTER(size)]),
     "field_text": (u32, [u32, u32, C.c_void_p, size, C.POINTER(size)]),

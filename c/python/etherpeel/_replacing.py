@@ -41,6 +41,17 @@ def passed(header: Header, where: str):
     return unit, addresses
 
 
+def all_passed(headers):
+    """Headers as units of C, and the bytes that have the addresses of an ARP packet at the end."""
+    units, addresses = (_header.Unit * len(headers))(), b""
+    for index, header in enumerate(headers):
+        try:
+            units[index], addresses = passed(header, f"the header at index {index}")
+        except ValueError as error:
+            raise BuildError(Status.BAD_FIELD, index, str(error)) from None
+    return units, addresses
+
+
 def _places(where, *addresses):
     """The sizes of the addresses of an ARP packet, and the offset of each."""
     hardware, protocol, *targets = map(len, addresses)
@@ -130,12 +141,7 @@ def build(headers: Sequence[Header], payload: Buffer = b"", ether_type: Optional
     has_arp = len(headers) > 0 and isinstance(headers[-1], Arp)
     if has_arp != (ether_type is None) or has_arp and len(payload):
         raise ValueError("payload and ether_type are given if no ARP packet is, and else neither is")
-    units, addresses = (_header.Unit * len(headers))(), b""
-    for index, header in enumerate(headers):
-        try:
-            units[index], addresses = passed(header, f"the header at index {index}")
-        except ValueError as error:
-            raise BuildError(Status.BAD_FIELD, index, str(error)) from None
+    units, addresses = all_passed(headers)
     length = C.c_size_t()
     with lent(addresses if has_arp else payload) as (at, payload_len):
         words = (units, len(headers), number("ether_type", ether_type or 0, 16), at, payload_len)

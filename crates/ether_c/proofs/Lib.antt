@@ -3,8 +3,9 @@ pub mod CapturedGiven
 pub mod Addresses
 pub mod BuiltTags
 pub mod BuiltParts
-pub mod Marks
+pub mod EachPut
 pub mod FieldLists
 pub mod FieldsGiven
 pub mod ReceivedGiven
 pub mod PacketGiven
+pub mod RowsGiven

@@ -1,5 +1,5 @@
 -- What the calls about filters do.
-use Rattle.std.specs.Prelude.{◌≡◌, ◌⊎◌, ℕ, ◌<◌, ◌≤◌, List, ◌++◌, length, take, drop, Result, IfOk, IfErr}
+use Rattle.std.specs.Prelude.{◌≡◌, ◌⊎◌, ℕ, List, take, Result, IfOk, IfErr}
 use Rattle.ether_filter.specs.Expressions.{Expression}
 use Rattle.ether_filter.specs.FilterProgram.{IsProgramOf}
 use Rattle.ether_filter.specs.Texts.{IsExpressionOf}
@@ -11,9 +11,10 @@ use Rattle.ether_filter.specs.declared.filter_error.FilterErrorKind.TheVariants 
 use Rattle.ether_c.specs.declared.ether_captured.EtherCaptured.{EtherCaptured}
 use Rattle.ether_c.specs.declared.filter.EtherFilter.{EtherFilter}
 use Rattle.ether_c.specs.declared.ether_filter_error.EtherFilterError.{EtherFilterError}
-use Rattle.ether_c.specs.Numbers.{done, no_room, no_text}
+use Rattle.ether_c.specs.Numbers.{done, no_text}
 use Rattle.ether_c.specs.Calls.{PutsBytes}
-use Rattle.ether_c.specs.Selection.{AreMarks}
+use Rattle.ether_c.specs.Puts.{PutsEach}
+use Rattle.ether_c.specs.Selection.{IsMark}
 
 -- ---- refusals
 
@@ -58,12 +59,9 @@ c_filter_error e = record {
 
 -- ---- selection
 
--- The array has a mark for each packet, from its front on, and then what it held before; or it is too short, and
--- unchanged.
-pub record PutsMarks (x : Expression) (packets : List EtherCaptured) (old new : List ℕ) (status : ℕ) : Type 0 where
-  pub put : length packets ≤ length old
-      → (marks : List ℕ) × AreMarks x packets marks × (new ≡ marks ++ drop (length packets) old) × (status ≡ done)
-  pub kept : length old < length packets → (new ≡ old) × (status ≡ no_room)
+-- the array gets a mark for each packet
+abbrev pub PutsMarks : Expression → (packets : List EtherCaptured) → (old new : List ℕ) → (status : ℕ) → Type 0
+PutsMarks x packets old new status = PutsEach (IsMark x) packets old new status
 
 -- the text means an expression, which selects packets; or it does not, and no mark is written
 pub record GivesSelection (text : List ℕ) (packets : List EtherCaptured) (old new : List ℕ)

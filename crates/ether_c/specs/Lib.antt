@@ -9,6 +9,7 @@ pub mod Views
 pub mod Tags
 pub mod Packet
 pub mod Captured
+pub mod Puts
 pub mod Selection
 pub mod Filters
 pub mod CapturedFrame
@@ -19,6 +20,9 @@ pub mod FieldTexts
 pub mod CookedV2
 pub mod Passed
 pub mod Replacing
+pub mod CaptureWriting
+pub mod Rows
 pub mod Building
+pub mod FrameWriting
 pub mod Switching
 pub mod Formatting

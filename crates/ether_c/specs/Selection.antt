@@ -1,5 +1,5 @@
 -- Which packets of a capture a filter selects.
-use Rattle.std.specs.Prelude.{◌≡◌, ◌⊎◌, ℕ, List, [], ◌∷◌, nat_eq, Option, Some, None, Bool, true, false, if◌then◌else◌}
+use Rattle.std.specs.Prelude.{◌≡◌, ◌⊎◌, ℕ, nat_eq, Option, Some, None, Bool, true, false, if◌then◌else◌}
 use Rattle.ether_filter.specs.Expressions.{Expression}
 use Rattle.ether_pcap.specs.Capture.{TimeValue, PacketValue}
 use Rattle.ether_content.specs.Selecting.{IsOutcome, Selects}
@@ -40,9 +40,3 @@ decision_number (Some false) = 0
 abbrev pub IsDecision : Expression → EtherCaptured → (number : ℕ) → Type 0
 IsDecision x c number = (outcome : Option Bool) × IsOutcome x (packet_value c) outcome
     × (number ≡ decision_number outcome)
-
--- .. for each packet
-abbrev pub AreMarks : Expression → List EtherCaptured → (marks : List ℕ) → Type 0
-AreMarks x [] [] = Unit {0}
-AreMarks x (c ∷ cs) (m ∷ ms) = IsMark x c m × AreMarks x cs ms
-AreMarks _ _ _ = ⊥

@@ -5,7 +5,8 @@ ghost use Rattle.ether_c.specs.Library.{version_number, struct_size};
 use crate::{
     EtherArp, EtherBridge, EtherCaptureEnd, EtherCaptured, EtherEthernet2, EtherFault, EtherFed,
     EtherField, EtherFilter, EtherFilterError, EtherFound, EtherFrame, EtherHeaders, EtherLinuxSll,
-    EtherLinuxSll2, EtherMacsec, EtherPort, EtherReceived, EtherReplaceError, EtherUnit, EtherVlan,
+    EtherLinuxSll2, EtherMacsec, EtherPort, EtherReceived, EtherReplaceError, EtherRow, EtherUnit,
+    EtherVlan,
 };
 use ether_switch::{PortSet, PortStates, Sighting, StaticEntry, StationBucket, VlanConfig};
 
@@ -51,6 +52,7 @@ pub extern "C" fn etherpeel_sizeof(number: u32) -> usize
         25 => size_of::<PortStates>(),
         26 => size_of::<StaticEntry>(),
         27 => size_of::<EtherBridge<'_>>(),
+        28 => size_of::<EtherRow>(),
         _ => 0,
     }
 }

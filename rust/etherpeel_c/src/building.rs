@@ -6,20 +6,20 @@ use etherpeel::ether_packet::{BuildError, PacketBuilder, PacketContent};
 use etherpeel::{ArpPacket, EtherType, LinkExtHeader, LinkHeader, SingleVlanHeader};
 
 /// The most VLAN tags and SecTags of a packet.
-const MAX_TAGS: usize = 8;
+pub(crate) const MAX_TAGS: usize = 8;
 
 /// The number of the kind of unit that is an ARP packet.
 const ARP_KIND: u32 = 5;
 
 /// Why units do not make a packet: the status of the call, and the index of the unit that is wrong.
-type Refusal = (u32, usize);
+pub(crate) type Refusal = (u32, usize);
 
 /// The parts of a packet, except for its tags.
-struct PacketParts {
-    link: LinkHeader,
+pub(crate) struct PacketParts {
+    pub(crate) link: LinkHeader,
     /// The number of tags.
-    tags: usize,
-    arp: Option<ArpPacket>,
+    pub(crate) tags: usize,
+    pub(crate) arp: Option<ArpPacket>,
 }
 
 /// Writes a packet to the front of a target: the headers of the units, and the payload. If the last unit is an ARP
@@ -63,7 +63,7 @@ pub unsafe extern "C" fn etherpeel_build(
 }
 
 /// The parts of the packet that the units make; its tags are written to an array.
-fn parts(
+pub(crate) fn parts(
     units: &[EtherUnit],
     bytes: &[u8],
     tags: &mut [LinkExtHeader; MAX_TAGS],
@@ -124,7 +124,11 @@ fn passed_arp(units: &[EtherUnit], bytes: &[u8]) -> Result<Option<ArpPacket>, u3
 }
 
 /// An ARP packet if there is one, else a payload.
-fn content<'a>(arp: &'a Option<ArpPacket>, ether_type: u16, payload: &'a [u8]) -> PacketContent<'a> {
+pub(crate) fn content<'a>(
+    arp: &'a Option<ArpPacket>,
+    ether_type: u16,
+    payload: &'a [u8],
+) -> PacketContent<'a> {
     match arp {
         Some(packet) => PacketContent::Arp(packet),
         None => PacketContent::Payload(EtherType(ether_type), payload),

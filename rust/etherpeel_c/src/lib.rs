@@ -16,6 +16,8 @@ pub mod building;
 #[rustfmt::skip]
 pub mod capture_fault_text;
 #[rustfmt::skip]
+pub mod capture_writing;
+#[rustfmt::skip]
 pub mod captured_frame;
 #[rustfmt::skip]
 pub mod capturing;
@@ -50,6 +52,8 @@ mod ether_received;
 #[rustfmt::skip]
 mod ether_replace_error;
 #[rustfmt::skip]
+mod ether_row;
+#[rustfmt::skip]
 mod ether_unit;
 #[rustfmt::skip]
 pub mod fault_text;
@@ -71,6 +75,8 @@ pub mod filter_error_text;
 pub mod filtering;
 #[rustfmt::skip]
 pub mod formatting;
+#[rustfmt::skip]
+pub mod frame_writing;
 #[rustfmt::skip]
 pub mod library;
 #[rustfmt::skip]
@@ -95,6 +101,8 @@ mod putting;
 pub mod reading_packet;
 #[rustfmt::skip]
 pub mod replacing;
+#[rustfmt::skip]
+pub mod rows;
 #[rustfmt::skip]
 pub mod selecting;
 #[rustfmt::skip]
@@ -138,6 +146,8 @@ pub use ether_port::EtherPort;
 pub use ether_received::EtherReceived;
 #[rustfmt::skip]
 pub use ether_replace_error::EtherReplaceError;
+#[rustfmt::skip]
+pub use ether_row::EtherRow;
 #[rustfmt::skip]
 pub use ether_unit::{EtherArp, EtherEthernet2, EtherLinuxSll, EtherMacsec, EtherUnit, EtherVlan};
 #[rustfmt::skip]

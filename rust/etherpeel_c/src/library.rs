@@ -3,7 +3,8 @@
 use crate::{
     EtherArp, EtherBridge, EtherCaptureEnd, EtherCaptured, EtherEthernet2, EtherFault, EtherFed,
     EtherField, EtherFilter, EtherFilterError, EtherFound, EtherFrame, EtherHeaders, EtherLinuxSll,
-    EtherLinuxSll2, EtherMacsec, EtherPort, EtherReceived, EtherReplaceError, EtherUnit, EtherVlan,
+    EtherLinuxSll2, EtherMacsec, EtherPort, EtherReceived, EtherReplaceError, EtherRow, EtherUnit,
+    EtherVlan,
 };
 use etherpeel::ether_switch::{PortSet, PortStates, Sighting, StaticEntry, StationBucket, VlanConfig};
 
@@ -61,6 +62,7 @@ pub extern "C" fn etherpeel_sizeof(number: u32) -> usize {
         25 => size_of::<PortStates>(),
         26 => size_of::<StaticEntry>(),
         27 => size_of::<EtherBridge<'_>>(),
+        28 => size_of::<EtherRow>(),
         _ => 0,
     }
 }
