@@ -4,25 +4,26 @@ With `-` in place of the scheduler's address, two workers are started on this ma
 """
 import sys
 
+import numpy
 from dask.distributed import Client
 
 import etherpeel
 
+TAGS = 0x8100, 0x88A8, 0x9100, 0x88E5  # what announces a VLAN tag or a SecTag
+
 
 def vlans(path):
     """The VLANs of a capture, up to where it can't be read on, and the reason if it can't."""
-    found, reason = set(), None
     try:
-        for captured in etherpeel.capture(path):
-            frame = etherpeel.captured_frame(captured)
-            if frame:
-                fields = etherpeel.fields(frame.bytes, frame.start, ether_type=frame.ether_type)
-                found.update(field.value for field in fields if field.name == etherpeel.FieldName.VLAN_VID)
-    except etherpeel.CaptureError as error:
-        reason = str(error)
+        packets = etherpeel.open(path)
     except OSError as error:
-        reason = error.strerror
-    return sorted(found), reason
+        return [], error.strerror
+    rows = numpy.asarray(packets.table())
+    found = set(rows["vlan_ids"][numpy.arange(3) < rows["vlan_count"][:, None]].tolist())
+    for at in numpy.flatnonzero(numpy.isin(rows["ether_type"], TAGS)):  # a row has three tags at most
+        fields = packets[at].frame.fields()
+        found.update(field.value for field in fields if field.name == etherpeel.FieldName.VLAN_VID)
+    return sorted(found), packets.fault and str(packets.fault)
 
 
 def main(scheduler, *paths):
