@@ -3,18 +3,18 @@ use Rattle.std.proofs.Common.{◌≡◌, ℕ, suc, ◌+◌, ◌≤◌, ◌<◌, 
 use Rattle.std.specs.Prelude.{slice_index_or}
 use Rattle.std.proofs.Math.Seq.{take-suc}
 use Rattle.std.proofs.lemmas.List.{append_assoc, length-drop, length-take-le, drop-drop, take_all}
-use Rattle.ether_c.specs.Puts.{AllFit, PutsEach}
+use Rattle.ether_c.specs.Puts.{AllMatched, PutsEach}
 use Rattle.ether_c.specs.Numbers.{done}
 use Rattle.ether_c.proofs.UnitsGiven.{put_at}
 
 fit-append : {A B : Type 0} (Fits : A → B → Type 0) (items : List A) (values : List B) (a : A) (b : B)
-    → AllFit Fits items values → Fits a b → AllFit Fits (items ++ a ∷ []) (values ++ b ∷ [])
+    → AllMatched Fits items values → Fits a b → AllMatched Fits (items ++ a ∷ []) (values ++ b ∷ [])
 fit-append Fits [] [] a b are is = (is, tt)
 fit-append Fits [] (v ∷ vs) a b are is = absurd are
 fit-append Fits (c ∷ cs) [] a b are is = absurd are
 fit-append Fits (c ∷ cs) (v ∷ vs) a b are is = (are.0, fit-append Fits cs vs a b are.1 is)
 
-fit-length : {A B : Type 0} (Fits : A → B → Type 0) (items : List A) (values : List B) → AllFit Fits items values
+fit-length : {A B : Type 0} (Fits : A → B → Type 0) (items : List A) (values : List B) → AllMatched Fits items values
     → length items ≡ length values
 fit-length Fits [] [] are = refl
 fit-length Fits [] (v ∷ vs) are = absurd are
@@ -24,7 +24,7 @@ fit-length Fits (c ∷ cs) (v ∷ vs) are = ap suc (fit-length Fits cs vs are.1)
 -- after so many items
 pub record PutSoFar {A B : Type 0} (Fits : A → B → Type 0) (items : List A) (old new : List B) (at : ℕ) : Type 0 where
   pub values : List B
-  pub are : AllFit Fits (take at items) values
+  pub are : AllMatched Fits (take at items) values
   pub held : new ≡ values ++ drop at old
 
 pub put_next_value : {A B : Type 0} (Fits : A → B → Type 0) (items : List A) (old mid new : List B) (at : ℕ) (b : B)
@@ -40,7 +40,7 @@ put_next_value {A} {B} Fits items old mid new at b d lt room a is put =
     let left : 0 < length (drop at old) = let e = length-drop at old in omega arith in
     record {
       values = a.values ++ b ∷ [];
-      are = subst (λ (l : List A). AllFit Fits l (a.values ++ b ∷ [])) (sym front)
+      are = subst (λ (l : List A). AllMatched Fits l (a.values ++ b ∷ [])) (sym front)
           (fit-append Fits (take at items) a.values c b a.are is);
       held = put ∙ (λ i. set (a.held i) (sym counted i) b) ∙ put_at a.values (drop at old) b left
           ∙ ap (λ (l : List B). a.values ++ b ∷ l) (drop-drop 1 at old)

@@ -35,7 +35,8 @@ pub data GivesRest (p : PacketBuilder) (count : ℕ) (frame : List ℕ) (at : �
       → GivesRest p count frame at old new len status
 
 -- The units make headers, which are written before the rest of a frame; or they make none, and nothing is written.
-pub data GivesFrame (us : List EtherUnit) (frame : List ℕ) (at : ℕ) (old new : List ℕ) (len status : ℕ) : Type 0 where
+pub data GivesFrameWritten (us : List EtherUnit) (frame : List ℕ) (at : ℕ) (old new : List ℕ)
+    (len status : ℕ) : Type 0 where
   given : (p : PacketBuilder) → PassesHeaders us frame p → GivesRest p (length us) frame at old new len status
-      → GivesFrame us frame at old new len status
-  no_packet : PassesNoPacket us frame status len → new ≡ old → GivesFrame us frame at old new len status
+      → GivesFrameWritten us frame at old new len status
+  no_packet : PassesNoPacket us frame status len → new ≡ old → GivesFrameWritten us frame at old new len status

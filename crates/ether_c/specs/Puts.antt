@@ -3,15 +3,15 @@ use Rattle.std.specs.Prelude.{◌≡◌, ℕ, ◌<◌, ◌≤◌, List, [], ◌�
 use Rattle.ether_c.specs.Numbers.{done, no_room}
 
 -- each item of one list fits the value at the same index of the other
-abbrev pub AllFit : {A B : Type 0} → (A → B → Type 0) → List A → List B → Type 0
-AllFit Fits [] [] = Unit {0}
-AllFit Fits (a ∷ items) (b ∷ values) = Fits a b × AllFit Fits items values
-AllFit Fits _ _ = ⊥
+abbrev pub AllMatched : {A B : Type 0} → (A → B → Type 0) → List A → List B → Type 0
+AllMatched Fits [] [] = Unit {0}
+AllMatched Fits (a ∷ items) (b ∷ values) = Fits a b × AllMatched Fits items values
+AllMatched Fits _ _ = ⊥
 
 -- The array has a value for each item, from its front on, and then what it held before; or it is too short, and
 -- unchanged.
 pub record PutsEach {A B : Type 0} (Fits : A → B → Type 0) (items : List A) (old new : List B)
     (status : ℕ) : Type 0 where
   pub put : length items ≤ length old
-      → (values : List B) × AllFit Fits items values × (new ≡ values ++ drop (length items) old) × (status ≡ done)
+      → (values : List B) × AllMatched Fits items values × (new ≡ values ++ drop (length items) old) × (status ≡ done)
   pub kept : length old < length items → (new ≡ old) × (status ≡ no_room)

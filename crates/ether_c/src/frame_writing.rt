@@ -1,7 +1,7 @@
 //! Writes whole frames for callers in C.
 ghost use Rattle.std.specs.Prelude.{◌≡◌, [], length};
 ghost use Rattle.ether_packet.specs.Builder.{content_payload};
-ghost use Rattle.ether_c.specs.FrameWriting.{GivesFrame, GivesRest, GivesWritten};
+ghost use Rattle.ether_c.specs.FrameWriting.{GivesFrameWritten, GivesRest, GivesWritten};
 
 use crate::EtherUnit;
 use crate::building::{MAX_TAGS, content, parts};
@@ -19,7 +19,7 @@ pub extern "C" fn etherpeel_write_frame(
     target: &mut [u8],
     len: &mut usize,
 ) -> u32
-    ensures { GivesFrame units.now bytes.now rest_start target.old target.new len.new result }
+    ensures { GivesFrameWritten units.now bytes.now rest_start target.old target.new len.new result }
 {
     let mut tags = [LinkExtHeader::Vlan(SingleVlanHeader::default()); MAX_TAGS];
     let (status, given) = match parts(units, bytes, &mut tags) {

@@ -12,7 +12,7 @@ use etherpeel::{LinkExtHeader, SingleVlanHeader};
 /// <details><summary>Contract</summary>
 ///
 /// ```text
-/// ensures { GivesFrame units.now bytes.now rest_start target.old target.new len.new result }
+/// ensures { GivesFrameWritten units.now bytes.now rest_start target.old target.new len.new result }
 /// ```
 ///
 /// </details>
