@@ -29,6 +29,7 @@ pub fn selects(instructions: &[Instruction], packet: &CapturedPacket<'_>) -> boo
 }
 
 /// Whether a filter's expression holds of the walk of a packet.
+#[inline(always)]
 fn holds(
     instructions: &[Instruction],
     start: Start,
@@ -96,7 +97,7 @@ pub fn decide(instructions: &[Instruction], packet: &CapturedPacket<'_>) -> Opti
     decide_cut(instructions, packet)
 }
 
-/// .. of which bytes are missing before the frame check sequence.
+/// .. whose bytes before the frame check sequence are not all there.
 #[inline(never)]
 fn decide_cut(instructions: &[Instruction], packet: &CapturedPacket<'_>) -> Option<bool>
     requires { 0 < missing_len (captured_packet_view packet.now) }

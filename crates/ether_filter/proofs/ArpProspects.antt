@@ -1,4 +1,4 @@
--- What an ARP packet of which fewer than eight bytes are there can come to.
+-- What an ARP packet can be if fewer than eight of its bytes are there.
 use Rattle.std.proofs.Common.{◌≡◌, ℕ, zero, suc, ◌+◌, ◌-◌, ◌*◌, ◌<◌, ◌≤◌, List, ◌++◌, length, refl, sym, ap, ◌∙◌, arith, inl, inr, nat_lt, nat_le}
 use Rattle.std.specs.Prelude.{get_or, replicate, slice_range}
 use Rattle.std.proofs.lemmas.Bool.{cases_lt, ltb-true, lt-ltb, leb-true, le-leb}

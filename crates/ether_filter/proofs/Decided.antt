@@ -170,7 +170,7 @@ lengths_say packet hs e p false d free iff same =
     subst (Says packet hs e (Test p)) (sym same) (known_exact packet hs e false p free
     (λ more ks f c walk m. let t = (iff (walked packet ks f) refl).1 m in cc))
 
--- a primitive of which the capture says nothing does not ask about it
+-- a primitive does not ask what the capture does not say
 left_by : (s : Instruction) (p : Primitive) (f : Frame) (o : Option Primitive)
     → primitive_numbered s.kind s.operand ≡ o → primitive_of s ≡ Some p → is_of_field p ≡ false
     → capture_truth s f ≡ None → is_of_lengths p ≡ false

@@ -41,7 +41,7 @@ early l room ok inside le =
     arp_prospect l room 8 1028 ok inside (omega (arith, get_or_past l 4 0 le, get_or_past l 5 0 (omega (arith, le))))
     (omega (arith, get_or_past l 4 255 le, get_or_past l 5 255 (omega (arith, le))))
 
--- it can come to the same
+-- the same can follow
 arp_moved : (known l : List ℕ) (room : ℕ) (p : Prospect) → IsBytes known → IsBytes l → length known ≤ 4
     → length l ≤ 4 → length known ≤ room → length l ≤ room → IsProspect kinds.Arp known room p
     → IsProspect kinds.Arp l room p

@@ -1,4 +1,4 @@
--- What completed packets come to, for proofs about a primitive.
+-- What a primitive decides on completed packets, for proofs.
 use Rattle.std.proofs.Common.{◌≡◌, ℕ, ◌-◌, ◌<◌, List, [], ◌∷◌, ◌++◌, refl, sym, ap, subst, ◌∙◌, Bool, true, false, IsTrue}
 use Rattle.std.specs.Prelude.{is_some, replicate}
 use Rattle.std.proofs.lemmas.List.{append-nil, length-replicate}
@@ -28,7 +28,7 @@ use Rattle.ether_filter.proofs.Typed.{zeros_are_bytes}
 
 -- ---- a primitive as a test
 
--- what each completed packet comes to
+-- what is decided on each completed packet
 abbrev pub Every : Packet → (List Header → Ending → Type 0) → Type 0
 Every packet Is =
     (more : List ℕ) (ks : List Header) (e : Ending) → IsCompletion packet more

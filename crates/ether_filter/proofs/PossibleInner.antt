@@ -108,7 +108,7 @@ tag_ids (headers.LinuxSll h) later is = absurd cc
 tag_ids (headers.Macsec h) later is = absurd cc
 tag_ids (headers.Arp h) later is = absurd cc
 
--- ---- after a VLAN tag of which not all bytes are there
+-- ---- after a VLAN tag whose bytes are not all there
 
 abbrev pub OwnInnerHolds : List Header → List ℕ → ℕ → Prospect → ℕ → Type 0
 OwnInnerHolds hs known room p n =

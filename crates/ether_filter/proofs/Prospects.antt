@@ -1,4 +1,4 @@
--- What a unit that ends in an ether type can come to.
+-- What a unit can be that ends in an ether type.
 use Rattle.std.proofs.Common.{◌≡◌, ℕ, ◌+◌, ◌-◌, ◌<◌, ◌≤◌, List, ◌++◌, length, drop, refl, sym, ap, subst, ◌∙◌, arith, true, false}
 use Rattle.std.specs.Prelude.{None, slice_range, get_or, replicate}
 use Rattle.std.proofs.lemmas.List.{length-append, length-replicate, get_or_append_left}

@@ -1,4 +1,4 @@
--- What a SecTag of which the first two bytes are there can come to.
+-- What a SecTag can be if its first two bytes are there.
 use Rattle.std.proofs.Common.{◌≡◌, ℕ, zero, suc, ◌+◌, ◌-◌, ◌*◌, ◌%◌, ◌<◌, ◌≤◌, List, [], ◌∷◌, ◌++◌, length, refl, sym, ap, subst, ◌∙◌, arith, inl, inr, ◌⊎◌, Bool, true, false, IsTrue, ◌↔◌}
 use Rattle.std.specs.Prelude.{Option, Some, None, slice_range, replicate, unwrap_or, option_map}
 use Rattle.std.proofs.lemmas.Bool.{ne_eqb, le-ltb}

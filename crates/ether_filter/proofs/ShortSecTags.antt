@@ -1,4 +1,4 @@
--- What a SecTag of which one byte or none is there can come to.
+-- What a SecTag can be if one of its bytes is there, or none.
 use Rattle.std.proofs.Common.{◌≡◌, ℕ, zero, suc, ◌+◌, ◌-◌, ◌*◌, ◌<◌, ◌≤◌, List, [], ◌∷◌, length, refl, sym, ap, ◌∙◌, arith, inl, inr, ◌⊎◌, Bool, true, false, IsTrue, ◌↔◌, cond}
 use Rattle.std.specs.Prelude.{Some, None, nat_eq, nat_lt, ◌||◌, slice_range, get_or, unwrap_or}
 use Rattle.std.proofs.lemmas.Bool.{ltb-true, ltb-false}

@@ -1,4 +1,4 @@
--- What the header of a cooked capture of which fewer than 16 bytes are there can come to.
+-- What the header of a cooked capture can be if fewer than 16 of its bytes are there.
 use Rattle.std.proofs.Common.{◌≡◌, ℕ, ◌+◌, ◌-◌, ◌*◌, ◌<◌, ◌≤◌, List, [], ◌∷◌, ◌++◌, length, append_assoc, refl, sym, ap, subst, ◌∙◌, arith, inl, inr, ◌⊎◌, Bool, true, false, cond, nat_lt, nat_eq, ◌||◌}
 use Rattle.std.specs.Prelude.{get_or, replicate, slice_range, ◌==◌}
 use Rattle.std.proofs.lemmas.Bool.{cases_lt, ltb-true, lt-ltb, eqb-true, cases_eq}
@@ -170,7 +170,7 @@ front_ethernet known packet high low hardware room bytes f on is =
       | inr few ↦ omega (arith, f.hardware_is, zero_high, one, get_or_past known 3 low few)
     ]
 
--- ---- bytes of which at least four are there, with these numbers
+-- ---- at least four bytes, with these numbers
 
 record Filled (known : List ℕ) (low : ℕ) : Type 0 where
   list : List ℕ

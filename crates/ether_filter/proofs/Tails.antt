@@ -25,7 +25,7 @@ use Rattle.ether_filter.specs.declared.prospect.Prospect.{Prospect}
 use Rattle.ether_filter.specs.Prospects.{IsCompletion, Continues, AreRefused, AreAccepted, payload_bytes, Offers, IsProspect, IsOpen}
 use Rattle.ether_filter.proofs.Read.{Begins, begins}
 
--- A packet is open at a unit, of which any bytes that go on from the known ones can come; others may, too.
+-- A packet is open at a unit: any bytes that go on from the known ones can be the unit's; others may, too.
 pub record Opens (packet : Packet) (hs : List Header) (kind : Kind) (known : List ℕ) (room : ℕ) : Type 0 where
   pub expected : Expectation
   pub window : Window

@@ -46,7 +46,7 @@ LacksAddress known place address =
 
 -- ---- the fields of the open unit
 
--- what an identifier can come to
+-- which identifiers are possible
 abbrev pub FitsId : (known : List ℕ) (id : ℕ) → Can → Type 0
 FitsId known id own = (room : ℕ) → 4 ≤ room → IsAmong known room (λ bytes. (vlan_of bytes).vid ≡ id) own
 

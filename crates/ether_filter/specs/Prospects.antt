@@ -1,4 +1,4 @@
--- What can become of a unit of which only the first bytes are there.
+-- What a unit can be if only its first bytes are there.
 use Rattle.std.specs.Prelude.{◌≡◌, ℕ, ◌+◌, ◌-◌, ◌*◌, ◌/◌, ◌<◌, ◌≤◌, List, ◌∷◌, ◌++◌, length, take, slice_range, get_or, Option, Some, None, unwrap_or, option_map, IsTrue, ◌↔◌}
 use Rattle.ether_filter.specs.declared.packet.Packet.{Packet}
 use Rattle.etherparse.specs.Types.LenSource.{LenSource}
@@ -52,7 +52,7 @@ abbrev pub payload_bytes : Header → List ℕ → List ℕ
 payload_bytes h bytes = let n = header_len h in
     slice_range bytes n (unwrap_or (option_map (λ p. n + p) (payload_len h)) (length bytes))
 
--- Each packet of which the first bytes were captured, and whose missing bytes are these, has these headers, and then in
+-- Each packet whose first bytes were captured, and whose missing bytes are these, has these headers, and then in
 -- a window, which is the same for all of them, a unit of this kind. Of that window the known bytes are captured; the
 -- others can be any.
 pub record IsOpen (packet : Packet) (hs : List Header) (kind : Kind) (known : List ℕ) (room : ℕ) : Type 0 where
@@ -89,7 +89,7 @@ IsTypeAt known place Nothing = ⊥
 IsTypeAt known place Any = length known ≤ place
 IsTypeAt known place (High b) = (place < length known) × (get_or known place 0 ≡ b)
 
--- what a unit of a kind can come to
+-- what a unit of a kind can be
 pub record IsProspect (kind : Kind) (known : List ℕ) (room : ℕ) (p : Prospect) : Type 0 where
   -- some bytes that go on are refused, and some are accepted
   pub refused : IsTrue p.can_be_refused ↔ ((bytes : List ℕ) × Continues known room bytes × AreRefused kind bytes)
@@ -108,7 +108,7 @@ pub record IsProspect (kind : Kind) (known : List ℕ) (room : ℕ) (p : Prospec
       → (bytes : List ℕ) × (h : Header) × Continues known room bytes × AreAccepted kind bytes h
       × (next_after h ≡ EtherType t) × (payload_bytes h bytes ≡ rest)
 
--- A unit of a kind has this many bytes, of which the last two are an ether type, and is refused only if it has fewer.
+-- A unit of a kind has this many bytes. Its last two are an ether type, and it is refused only if it has fewer.
 pub record IsFixed (kind : Kind) (len : ℕ) : Type 0 where
   pub short : (bytes : List ℕ) → length bytes < len → AreRefused kind bytes
   pub header : (bytes : List ℕ) → IsBytes bytes → len ≤ length bytes → Header

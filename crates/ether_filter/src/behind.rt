@@ -97,7 +97,7 @@ fn behind_front(known: &[u8], first: u8, second: u8, room: usize) -> Option<Behi
     }
 }
 
-/// The payload of a SecTag of which the header is all there, if it is accepted.
+/// The payload of a SecTag whose header is all there, if it is accepted.
 fn behind_sec_tag(known: &[u8], room: usize) -> Option<Behind>
     requires whole { IsWhole open_kinds.Macsec known.now }
     requires inside { length known.now ≤ room }

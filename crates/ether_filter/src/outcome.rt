@@ -1,4 +1,4 @@
-//! What a primitive comes to, by what is certain of a packet that was cut short.
+//! What a primitive decides, by what is certain of a packet that was cut short.
 ghost use Rattle.std.specs.Prelude.{◌≡◌, ◌↔◌, ◌<◌, ◌≤◌, ◌^◌, IsTrue, List, is_some, false, length};
 ghost use Rattle.etherparse.specs.Bytes.{IsBytes};
 ghost use Rattle.etherparse.specs.Header.{Header};

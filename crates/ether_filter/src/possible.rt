@@ -238,7 +238,7 @@ pub(crate) fn possible_after(
     }
 }
 
-/// Whether a primitive that tests no field can match a packet, of which this is the first unit that is not whole, and
+/// Whether a primitive that tests no field can match a packet whose first unit that is not whole is this one, and
 /// whether it can fail, if the packet has any bytes in place of those that are missing.
 pub(crate) fn possible(
     primitive: Primitive,

@@ -1,4 +1,4 @@
-//! What can become of a unit of which only the first bytes are there.
+//! What a unit can be if only its first bytes are there.
 ghost use Rattle.std.specs.Prelude.{◌≡◌, ◌↔◌, ◌<◌, ◌≤◌, ◌+◌, ℕ, [], ◌∷◌, IsTrue, get_or, length};
 ghost use Rattle.etherparse.specs.Bytes.{IsBytes};
 ghost use Rattle.etherparse.specs.Kind.{Kind};
@@ -104,7 +104,7 @@ impl Prospect {
     }
 }
 
-/// What is known of the ether type at a place, of which no more than the first byte is there.
+/// What is known of the ether type at a place if at most its first byte is there.
 pub(crate) fn type_at(known: &[u8], place: usize) -> Announced
     ensures { IsTypeAt known.now place result }
 {
@@ -180,7 +180,7 @@ fn type_after_capture(known: &[u8], hardware: usize) -> Announced
     }
 }
 
-/// What the header of a cooked capture can come to of which fewer than 16 bytes are there.
+/// What the header of a cooked capture can be if fewer than 16 of its bytes are there.
 pub(crate) fn sll_prospect(known: &[u8], room: usize) -> Prospect
     requires few { length known.now < 16 }
     requires inside { length known.now ≤ room }
@@ -258,7 +258,7 @@ fn type_after_tag(known: &[u8], first: u8) -> Announced
     }
 }
 
-/// What a SecTag can come to that begins with these two bytes.
+/// What a SecTag can be that begins with these two bytes.
 fn of_front(known: &[u8], first: u8, second: u8, room: usize) -> Prospect
     requires inside { length known.now ≤ room }
     requires least { 6 ≤ room }
@@ -277,7 +277,7 @@ fn of_front(known: &[u8], first: u8, second: u8, room: usize) -> Prospect
     }
 }
 
-/// What a SecTag can come to of which this byte alone is there.
+/// What a SecTag can be if this byte alone is there.
 fn of_first(first: u8, room: usize) -> Prospect
     requires { 6 ≤ room }
     ensures { IsProspect kinds.Macsec (first ∷ []) room result }
@@ -302,7 +302,7 @@ fn of_first(first: u8, room: usize) -> Prospect
     }
 }
 
-/// What a SecTag can come to of which no byte is there.
+/// What a SecTag can be if none of its bytes is there.
 fn of_nothing(room: usize) -> Prospect
     requires { 6 ≤ room }
     ensures { IsProspect kinds.Macsec [] room result }
@@ -323,7 +323,7 @@ fn of_nothing(room: usize) -> Prospect
     }
 }
 
-/// What a SecTag can come to of which not all bytes of the header are there.
+/// What a SecTag can be if not all bytes of its header are there.
 pub(crate) fn tag_prospect(known: &[u8], room: usize) -> Prospect
     requires few { IsShortTag known.now }
     requires inside { length known.now ≤ room }
@@ -350,7 +350,7 @@ fn byte_or(known: &[u8], at: usize, other: u8) -> usize
     }
 }
 
-/// What an ARP packet can come to of which fewer than eight bytes are there.
+/// What an ARP packet can be if fewer than eight of its bytes are there.
 pub(crate) fn arp_prospect(known: &[u8], room: usize) -> Prospect
     requires inside { length known.now ≤ room }
     ensures { IsProspect kinds.Arp known.now room result }
@@ -365,7 +365,7 @@ pub(crate) fn arp_prospect(known: &[u8], room: usize) -> Prospect
     }
 }
 
-/// What a unit can come to of which only these bytes are there.
+/// What a unit can be if only these of its bytes are there.
 pub(crate) fn prospect_of(kind: OpenKind, known: &[u8], room: usize) -> Prospect
     requires few { IsCut kind known.now }
     requires inside { length known.now ≤ room }

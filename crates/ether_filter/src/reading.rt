@@ -41,7 +41,7 @@ pub(crate) struct Reading {
 }
 
 impl Reading {
-    /// An expression of which nothing is read yet.
+    /// The expression before its first character is read.
     pub fn new() -> Reading
         ensures { state_of result ≡ begun }
     {

@@ -3675,7 +3675,7 @@
 //!
 //! # Prospects
 //!
-//! What can become of a unit of which only the first bytes are there.
+//! What a unit can be if only its first bytes are there.
 //!
 //! <a id="def.IsCompletion"></a>
 //!

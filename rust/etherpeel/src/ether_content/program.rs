@@ -35,7 +35,7 @@ pub fn selects(instructions: &[Instruction], packet: &CapturedPacket<'_>) -> boo
 }
 
 /// Whether a filter's expression holds of the walk of a packet.
-#[inline]
+#[inline(always)]
 fn holds(
     instructions: &[Instruction],
     start: Start,
@@ -121,7 +121,7 @@ pub fn decide(instructions: &[Instruction], packet: &CapturedPacket<'_>) -> Opti
     decide_cut(instructions, packet)
 }
 
-/// .. of which bytes are missing before the frame check sequence.
+/// .. whose bytes before the frame check sequence are not all there.
 #[inline(never)]
 fn decide_cut(instructions: &[Instruction], packet: &CapturedPacket<'_>) -> Option<bool> {
     if is_header_cut(packet) || has_other_fcs(packet) {

@@ -70,7 +70,7 @@ pub fn is_undecided(filter: &Filter, packet: &CapturedPacket<'_>) -> bool {
     program::is_undecided(filter.instructions(), packet)
 }
 
-/// Decides whether a filter selects a packet of which bytes may be missing: `Some` if that is so, or not so, whatever
+/// Decides whether a filter selects a packet whose bytes may not all be there: `Some` if it does, or does not, whatever
 /// the missing bytes are, as [`Filter::decide`] says; `None` if they can change it.
 ///
 /// Missing bytes of a frame check sequence change nothing, if the capture gives its length. A packet whose header of

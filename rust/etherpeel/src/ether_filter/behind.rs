@@ -73,7 +73,7 @@ fn behind_front(known: &[u8], first: u8, second: u8, room: usize) -> Option<Behi
     }
 }
 
-/// The payload of a SecTag of which the header is all there, if it is accepted.
+/// The payload of a SecTag whose header is all there, if it is accepted.
 #[inline]
 fn behind_sec_tag(known: &[u8], room: usize) -> Option<Behind> {
     match known {

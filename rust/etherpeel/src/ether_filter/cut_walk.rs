@@ -108,7 +108,7 @@ pub(in crate::ether_filter) fn first_bytes(bytes: &[u8], len: usize) -> &[u8] {
     &bytes[..len.min(bytes.len())]
 }
 
-/// Walks through a frame of which `total` bytes were on the wire, as far as the headers are certain. Keeps what they show
+/// Walks through a frame that had `total` bytes on the wire, as far as the headers are certain. Keeps what they show
 /// as `look` does.
 #[inline]
 pub(in crate::ether_filter) fn cut_walk<'a>(

@@ -1,4 +1,4 @@
-//! What a primitive comes to, by what is certain of a packet that was cut short.
+//! What a primitive decides, by what is certain of a packet that was cut short.
 
 use crate::ether_filter::cut_walk::{CutEnd, CutUnit};
 use crate::ether_filter::deciding::{decided, lost};

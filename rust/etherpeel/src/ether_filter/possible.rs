@@ -196,7 +196,7 @@ pub(in crate::ether_filter) fn possible_after(
     }
 }
 
-/// Whether a primitive that tests no field can match a packet, of which this is the first unit that is not whole, and
+/// Whether a primitive that tests no field can match a packet whose first unit that is not whole is this one, and
 /// whether it can fail, if the packet has any bytes in place of those that are missing.
 #[inline]
 pub(in crate::ether_filter) fn possible(

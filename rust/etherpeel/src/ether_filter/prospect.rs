@@ -1,4 +1,4 @@
-//! What can become of a unit of which only the first bytes are there.
+//! What a unit can be if only its first bytes are there.
 
 /// The kind of a unit that is not whole.
 #[derive(Clone, Copy)]
@@ -88,7 +88,7 @@ impl Prospect {
     }
 }
 
-/// What is known of the ether type at a place, of which no more than the first byte is there.
+/// What is known of the ether type at a place if at most its first byte is there.
 #[inline]
 pub(in crate::ether_filter) fn type_at(known: &[u8], place: usize) -> Announced {
     match known.get(place) {
@@ -145,7 +145,7 @@ fn type_after_capture(known: &[u8], hardware: usize) -> Announced {
     }
 }
 
-/// What the header of a cooked capture can come to of which fewer than 16 bytes are there.
+/// What the header of a cooked capture can be if fewer than 16 of its bytes are there.
 #[inline]
 pub(in crate::ether_filter) fn sll_prospect(known: &[u8], room: usize) -> Prospect {
     if room < 16 {
@@ -215,7 +215,7 @@ fn type_after_tag(known: &[u8], first: u8) -> Announced {
     }
 }
 
-/// What a SecTag can come to that begins with these two bytes.
+/// What a SecTag can be that begins with these two bytes.
 #[inline]
 fn of_front(known: &[u8], first: u8, second: u8, room: usize) -> Prospect {
     match room_after(first, second, room) {
@@ -229,7 +229,7 @@ fn of_front(known: &[u8], first: u8, second: u8, room: usize) -> Prospect {
     }
 }
 
-/// What a SecTag can come to of which this byte alone is there.
+/// What a SecTag can be if this byte alone is there.
 #[inline]
 fn of_first(first: u8, room: usize) -> Prospect {
     let len = tag_len(first);
@@ -252,7 +252,7 @@ fn of_first(first: u8, room: usize) -> Prospect {
     }
 }
 
-/// What a SecTag can come to of which no byte is there.
+/// What a SecTag can be if none of its bytes is there.
 #[inline]
 fn of_nothing(room: usize) -> Prospect {
     if room < 8 {
@@ -271,7 +271,7 @@ fn of_nothing(room: usize) -> Prospect {
     }
 }
 
-/// What a SecTag can come to of which not all bytes of the header are there.
+/// What a SecTag can be if not all bytes of its header are there.
 #[inline]
 pub(in crate::ether_filter) fn tag_prospect(known: &[u8], room: usize) -> Prospect {
     if room < 6 {
@@ -293,7 +293,7 @@ fn byte_or(known: &[u8], at: usize, other: u8) -> usize {
     }
 }
 
-/// What an ARP packet can come to of which fewer than eight bytes are there.
+/// What an ARP packet can be if fewer than eight of its bytes are there.
 #[inline]
 pub(in crate::ether_filter) fn arp_prospect(known: &[u8], room: usize) -> Prospect {
     let least = 8 + 2 * byte_or(known, 4, 0) + 2 * byte_or(known, 5, 0);
@@ -306,7 +306,7 @@ pub(in crate::ether_filter) fn arp_prospect(known: &[u8], room: usize) -> Prospe
     }
 }
 
-/// What a unit can come to of which only these bytes are there.
+/// What a unit can be if only these of its bytes are there.
 #[inline]
 pub(in crate::ether_filter) fn prospect_of(kind: OpenKind, known: &[u8], room: usize) -> Prospect {
     match kind {

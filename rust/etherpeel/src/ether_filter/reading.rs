@@ -37,7 +37,7 @@ pub(in crate::ether_filter) struct Reading {
 }
 
 impl Reading {
-    /// An expression of which nothing is read yet.
+    /// The expression before its first character is read.
     ///
     /// <details><summary>Contract</summary>
     ///
