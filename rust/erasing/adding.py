@@ -7,16 +7,16 @@ ORDER = "Clone Copy PartialEq Eq PartialOrd Ord Hash Debug Default Error".split(
 # means something else with them.
 DERIVED = {
     **dict.fromkeys("Peel PcapRecords".split(), ["Clone"]),
-    **dict.fromkeys("CapturePackets CaptureReader".split(), ["Clone", "Debug"]),
-    **dict.fromkeys("HexNumber OutputBuffer Progress".split(), ["Debug"]),
+    **dict.fromkeys("CapturePackets CaptureReader PcapngOptions".split(), ["Clone", "Debug"]),
+    **dict.fromkeys("HexNumber InterfaceSlice OutputBuffer".split(), ["Debug"]),
     **dict.fromkeys(
         "ExtPlaces Filter PacketBuilder PacketContent PacketParts PacketSlice PacketUnits".split(),
         ["Clone", "PartialEq", "Eq"],
     ),
     **dict.fromkeys(
         """Bridge CaptureInterface Content EthernetFront ExtKind ExtPlace Field FieldTest Forgotten FrameWindow
-        Instruction Jump LinkKind Node Operator PortConfig PortStates Primitive Received Relation StaticEntry
-        StationBucket VlanConfig""".split(),
+        Instruction Jump LinkKind Node Operator PortConfig PortStates Primitive ReadUnit ReaderState Received Relation
+        StaticEntry StationBucket UnitContent VlanConfig""".split(),
         ["PartialEq", "Eq"],
     ),
 }
@@ -36,7 +36,7 @@ SERIALIZED = {
     **dict.fromkeys("MacsecAn MacsecShortLen VlanPcp".split(), "u8"),
 }
 # Types of which a value does nothing if it is not used, and what the compiler then says.
-MUST_USE = dict.fromkeys(["Peel", "PcapRecords", "CapturePackets"], "iterators are lazy and do nothing unless consumed")
+MUST_USE = dict.fromkeys(["Peel", "PcapRecords", "PcapngOptions", "CapturePackets"], "iterators are lazy and do nothing unless consumed")
 
 
 def derives(tokens):

@@ -20,8 +20,8 @@ use Rattle.ether_pcap.specs.Views.{order_of}
 use Rattle.ether_pcap.specs.CaptureViews.{capture_interface_view, interfaces_view, expectation_of}
 use Rattle.ether_pcap.specs.declared.byte_order.ByteOrder.{ByteOrder}
 use Rattle.ether_pcap.specs.declared.classic.file_header.FileHeader.{FileHeader}
-use Rattle.ether_pcap.specs.declared.capture.capture_reader.Progress.{Progress}
-use Rattle.ether_pcap.specs.declared.capture.capture_reader.Progress.TheVariants as progress
+use Rattle.ether_pcap.specs.declared.capture.reader_state.ReaderState.{ReaderState}
+use Rattle.ether_pcap.specs.declared.capture.reader_state.ReaderState.TheVariants as states
 use Rattle.ether_pcap.specs.declared.pcapng.interface_description.InterfaceDescription.{InterfaceDescription}
 use Rattle.ether_pcap.specs.declared.capture.capture_interface.CaptureInterface.{CaptureInterface}
 
@@ -70,29 +70,29 @@ record_unit bytes h r len p is n e =
 
 -- ---- what is expected, by what a reader has read
 
-pub section_unit : (most : ℕ) (p : Progress) (interfaces : List CaptureInterface) (bytes : List ℕ) (order : Order)
+pub section_unit : (most : ℕ) (p : ReaderState) (interfaces : List CaptureInterface) (bytes : List ℕ) (order : Order)
     (b : BlockValue) (len : ℕ)
-    → ((h : FileHeader) → p ≡ progress.Classic h → ⊥)
+    → ((h : FileHeader) → p ≡ states.Classic h → ⊥)
     → IsSection bytes order b → len ≡ 12 + length b.body
     → Begins bytes (expectation_of most p interfaces) len None (Blocks most order [])
-section_unit most progress.Nothing interfaces bytes order b len none is e = rw e (first_section most order b is)
-section_unit most (progress.Classic h) interfaces bytes order b len none is e = absurd (none h refl)
-section_unit most (progress.Section old) interfaces bytes order b len none is e =
+section_unit most states.Nothing interfaces bytes order b len none is e = rw e (first_section most order b is)
+section_unit most (states.Classic h) interfaces bytes order b len none is e = absurd (none h refl)
+section_unit most (states.Section old) interfaces bytes order b len none is e =
     rw e (section most (order_of old) order (interfaces_view interfaces) b is)
 
-pub section_not_read : (most : ℕ) (p : Progress) (interfaces : List CaptureInterface) (bytes : List ℕ)
+pub section_not_read : (most : ℕ) (p : ReaderState) (interfaces : List CaptureInterface) (bytes : List ℕ)
     (r : SectionRefusal)
-    → ((h : FileHeader) → p ≡ progress.Classic h → ⊥)
+    → ((h : FileHeader) → p ≡ states.Classic h → ⊥)
     → HasSectionType bytes → RefusesSection bytes r → RefusesCapture bytes (expectation_of most p interfaces)
     (Section r)
-section_not_read most progress.Nothing interfaces bytes r none has is = first_section_refused most r has is
-section_not_read most (progress.Classic h) interfaces bytes r none has is = absurd (none h refl)
-section_not_read most (progress.Section old) interfaces bytes r none has is =
+section_not_read most states.Nothing interfaces bytes r none has is = first_section_refused most r has is
+section_not_read most (states.Classic h) interfaces bytes r none has is = absurd (none h refl)
+section_not_read most (states.Section old) interfaces bytes r none has is =
     section_refused most (order_of old) (interfaces_view interfaces) r has is
 
-pub nothing_read : (most : ℕ) (p : Progress) (interfaces : List CaptureInterface)
-    → ((h : FileHeader) → p ≡ progress.Classic h → ⊥)
-    → ((o : ByteOrder) → p ≡ progress.Section o → ⊥) → expectation_of most p interfaces ≡ Beginning most
-nothing_read most progress.Nothing interfaces classic pcapng = refl
-nothing_read most (progress.Classic h) interfaces classic pcapng = absurd (classic h refl)
-nothing_read most (progress.Section o) interfaces classic pcapng = absurd (pcapng o refl)
+pub nothing_read : (most : ℕ) (p : ReaderState) (interfaces : List CaptureInterface)
+    → ((h : FileHeader) → p ≡ states.Classic h → ⊥)
+    → ((o : ByteOrder) → p ≡ states.Section o → ⊥) → expectation_of most p interfaces ≡ Beginning most
+nothing_read most states.Nothing interfaces classic pcapng = refl
+nothing_read most (states.Classic h) interfaces classic pcapng = absurd (classic h refl)
+nothing_read most (states.Section o) interfaces classic pcapng = absurd (pcapng o refl)

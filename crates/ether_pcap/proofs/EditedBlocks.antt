@@ -1,5 +1,5 @@
 -- A block whose packet is edited, from its parts.
-use Rattle.std.proofs.Common.{◌≡◌, ℕ, ◌+◌, ◌-◌, ◌<◌, ◌≤◌, List, ◌++◌, length, drop, sym, ap, ◌∙◌, arith, append_assoc, Some, None, rules}
+use Rattle.std.proofs.Common.{◌≡◌, ℕ, ◌+◌, ◌-◌, ◌<◌, ◌≤◌, List, ◌++◌, length, drop, sym, ap, ◌∙◌, arith, append_assoc, length-append, Some, None, rules}
 use Rattle.std.specs.Prelude.{Bool, slice_range, if◌then◌else◌}
 use Rattle.std.proofs.lemmas.Bool.{lt-ltb, le-ltb}
 use Rattle.ether_base.proofs.SubLists.{length-part, part_of_part, part_join, rest_of_part}
@@ -10,7 +10,17 @@ use Rattle.ether_pcap.specs.Capture.{EnhancedPacket}
 use Rattle.ether_pcap.specs.Options.{padded}
 use Rattle.ether_pcap.specs.Writing.{bytes_of, zeros}
 use Rattle.ether_pcap.specs.Editing.{EditedValue, edited_body, block_bytes, edited_block}
-use Rattle.ether_pcap.proofs.EditUnits.{length-edited_body}
+use Rattle.ether_pcap.proofs.EditUnits.{length-edited_body, length-zeros}
+
+-- the length of the parts of a block
+pub length-parts : (header packet options trailer : List ℕ) (n : ℕ) → length header ≡ 28 → length trailer ≡ 4
+    → length (header ++ packet ++ zeros n ++ options ++ trailer) ≡ 32 + length packet + n + length options
+length-parts header packet options trailer n front back =
+    let a = length-append (header ++ packet ++ zeros n ++ options) trailer in
+    let b = length-append (header ++ packet ++ zeros n) options in
+    let c = length-append (header ++ packet) (zeros n) in
+    let d = length-append header packet in
+    omega (arith, a, b, c, d, length-zeros n, front, back)
 
 -- the parts of a body after a front
 parts_joined : (front a b c w o p z d body all : List ℕ) → body ≡ (a ++ b ++ c) ++ w ++ o ++ p ++ z ++ d

@@ -1,12 +1,12 @@
 -- The interfaces of a changed copy.
-use Rattle.std.proofs.Common.{◌≡◌, ◌⊎◌, ℕ, ◌+◌, ◌<◌, ◌≤◌, List, [], ◌∷◌, ◌++◌, length, take, drop, map, min, max, refl, sym, ap, subst, ◌∙◌, arith, inl, inr, Some, None, rules}
+use Rattle.std.proofs.Common.{◌≡◌, ℕ, ◌+◌, ◌≤◌, List, [], ◌∷◌, ◌++◌, length, take, drop, map, min, max, refl, sym, ap, subst, ◌∙◌, inl, inr, Some, None, rules}
 use Rattle.std.specs.Prelude.{Option, All}
 use Rattle.std.proofs.Math.Seq.{drop-length}
 use Rattle.std.proofs.lemmas.List.{drop_at, drop-map, map-append, length-map}
 use Rattle.std.proofs.lemmas.List.Elements.{All-nil, All-cons, All-head, All-tail}
 use Rattle.ether_pcap.specs.Capture.{PacketValue, CaptureInterfaceValue, CaptureExpectation, Beginning, Records, Blocks, Begins}
 use Rattle.ether_pcap.specs.Editing.{EditedValue}
-use Rattle.ether_pcap.specs.CopiedUnits.{ModeValue, Changed, raised_len, raised_interface, expected_in, other_unit, packet_after}
+use Rattle.ether_pcap.specs.CopiedUnits.{Changed, raised_len, raised_interface, expected_in, other_unit, packet_after}
 use Rattle.ether_pcap.specs.Copies.{CopyFault, Copies, ended, refused, not_edited, keeps, leaves}
 use Rattle.ether_pcap.specs.Copies as copies
 use Rattle.ether_pcap.specs.Interfaces.{described_between, HasInterfaces, here, unit, adjusted_len, IsLike, AreAlike, KeepsInterfaces}

@@ -8,6 +8,8 @@ mod Bodies
 mod Sections
 mod Options
 mod Captures
+mod UnitsRead
+mod UnitOptions
 mod CaptureTimes
 pub mod CaptureLengths
 pub mod CaptureLocality

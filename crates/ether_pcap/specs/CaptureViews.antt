@@ -7,8 +7,8 @@ use Rattle.ether_pcap.specs.PcapngViews.{section_refusal_view, block_refusal_vie
 use Rattle.ether_pcap.specs.declared.capture.timestamp.Timestamp.{Timestamp}
 use Rattle.ether_pcap.specs.declared.capture.captured_packet.CapturedPacket.{CapturedPacket}
 use Rattle.ether_pcap.specs.declared.capture.capture_interface.CaptureInterface.{CaptureInterface}
-use Rattle.ether_pcap.specs.declared.capture.capture_reader.Progress.{Progress}
-use Rattle.ether_pcap.specs.declared.capture.capture_reader.Progress.TheVariants as progress
+use Rattle.ether_pcap.specs.declared.capture.reader_state.ReaderState.{ReaderState}
+use Rattle.ether_pcap.specs.declared.capture.reader_state.ReaderState.TheVariants as states
 use Rattle.ether_pcap.specs.declared.capture.capture_error.CaptureError.{CaptureError}
 use Rattle.ether_pcap.specs.declared.capture.capture_error.CaptureError.TheVariants as errors
 
@@ -48,7 +48,7 @@ abbrev pub interfaces_view : List CaptureInterface → List CaptureInterfaceValu
 interfaces_view interfaces = map capture_interface_view interfaces
 
 -- what a reader expects that has read this, keeps these interfaces, and has room for `most` of them
-abbrev pub expectation_of : (most : ℕ) → Progress → List CaptureInterface → CaptureExpectation
-expectation_of most progress.Nothing interfaces = Beginning most
-expectation_of most (progress.Classic header) interfaces = Records (file_header_view header)
-expectation_of most (progress.Section order) interfaces = Blocks most (order_of order) (interfaces_view interfaces)
+abbrev pub expectation_of : (most : ℕ) → ReaderState → List CaptureInterface → CaptureExpectation
+expectation_of most states.Nothing interfaces = Beginning most
+expectation_of most (states.Classic header) interfaces = Records (file_header_view header)
+expectation_of most (states.Section order) interfaces = Blocks most (order_of order) (interfaces_view interfaces)

@@ -14,6 +14,8 @@ pub mod PcapngTexts
 pub mod Capture
 pub mod Writing
 pub mod CaptureViews
+pub mod ReadUnits
+pub mod OptionReading
 pub mod CaptureTexts
 pub mod CaptureReading
 pub mod CaptureLaws

@@ -14,7 +14,8 @@ mod word_bytes;
 pub use byte_order::ByteOrder;
 pub use capture::{
     CaptureError, CaptureFault, CaptureInterface, CapturePackets, CaptureReader, CaptureUnit,
-    CapturedPacket, CopiedUnit, CopyMode, EditedUnit, InterfaceTable, Timestamp,
+    CapturedPacket, CopiedUnit, CopyMode, DescribedInterfaces, EditedUnit, InterfaceSlice,
+    InterfaceTable, ReadUnit, ReaderState, Timestamp, UnitContent,
 };
 pub use classic::{
     FileHeader, FileHeaderError, PcapRecord, PcapRecords, RecordError, RecordFault,
@@ -22,6 +23,6 @@ pub use classic::{
 };
 pub use link_type::LinkType;
 pub use pcapng::{
-    BlockError, BodyError, EnhancedPacket, InterfaceDescription, PcapngBlock, SectionError,
-    SectionHeader, SimplePacket,
+    BlockError, BodyError, EnhancedPacket, InterfaceDescription, PcapngBlock, PcapngOption,
+    PcapngOptions, SectionError, SectionHeader, SimplePacket,
 };

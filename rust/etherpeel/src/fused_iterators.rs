@@ -2,7 +2,7 @@
 //! contracts say it.
 
 #[cfg(feature = "pcap")]
-use crate::ether_pcap::{CapturePackets, PcapRecords};
+use crate::ether_pcap::{CapturePackets, PcapRecords, PcapngOptions};
 use crate::ether_peel::Peel;
 use core::iter::FusedIterator;
 
@@ -13,3 +13,6 @@ impl FusedIterator for PcapRecords<'_> {}
 
 #[cfg(feature = "pcap")]
 impl FusedIterator for CapturePackets<'_> {}
+
+#[cfg(feature = "pcap")]
+impl FusedIterator for PcapngOptions<'_> {}

@@ -115,8 +115,8 @@ table! {
 table! {
     [Clone Copy PartialEq Eq Hash]
         ether_pcap::ByteOrder, ether_pcap::LinkType, ether_pcap::capture::CaptureInterface,
-        ether_pcap::capture::CopyMode,
-        ether_pcap::capture::Timestamp, ether_pcap::classic::FileHeader, ether_pcap::classic::TimestampResolution;
+        ether_pcap::capture::CopyMode, ether_pcap::capture::ReaderState, ether_pcap::capture::Timestamp,
+        ether_pcap::classic::FileHeader, ether_pcap::classic::TimestampResolution;
     [Clone Copy PartialEq Eq Hash Error]
         ether_pcap::capture::CaptureError, ether_pcap::capture::CaptureFault, ether_pcap::classic::FileHeaderError,
         ether_pcap::classic::RecordError, ether_pcap::classic::RecordFault, ether_pcap::pcapng::BlockError,
@@ -124,12 +124,16 @@ table! {
     [Clone Copy PartialEq Eq]
         ether_pcap::capture::CaptureUnit<'static>, ether_pcap::capture::CapturedPacket<'static>,
         ether_pcap::capture::CopiedUnit<'static>, ether_pcap::capture::EditedUnit<'static>,
+        ether_pcap::capture::ReadUnit<'static>, ether_pcap::capture::UnitContent<'static>,
         ether_pcap::classic::PcapRecord<'static>, ether_pcap::pcapng::EnhancedPacket<'static>,
         ether_pcap::pcapng::InterfaceDescription<'static>, ether_pcap::pcapng::PcapngBlock<'static>,
-        ether_pcap::pcapng::SectionHeader<'static>, ether_pcap::pcapng::SimplePacket<'static>;
+        ether_pcap::pcapng::PcapngOption<'static>, ether_pcap::pcapng::SectionHeader<'static>,
+        ether_pcap::pcapng::SimplePacket<'static>;
+    [Clone Copy] ether_pcap::capture::InterfaceSlice<'static>;
     [Clone] ether_pcap::capture::CaptureReader<ArrayVec<ether_pcap::capture::CaptureInterface, 16>>;
     [Clone Iterator FusedIterator]
-        ether_pcap::capture::CapturePackets<'static>, ether_pcap::classic::PcapRecords<'static>;
+        ether_pcap::capture::CapturePackets<'static>, ether_pcap::classic::PcapRecords<'static>,
+        ether_pcap::pcapng::PcapngOptions<'static>;
 }
 
 #[cfg(feature = "content")]
@@ -230,4 +234,16 @@ fn captures_bound_their_items() {
     file[23] = 1;
     let records = ether_pcap::PcapRecords::from_slice(&file).unwrap();
     assert_eq!(records.size_hint(), (0, Some(2)));
+}
+
+/// A block has at most one option for each four bytes; none follows one that is cut.
+#[cfg(feature = "pcap")]
+#[test]
+fn options_bound_their_items_and_end_for_ever() {
+    let bytes = [0, 1, 0, 1, 0x41, 0, 0, 0, 0, 2, 0, 9];
+    let mut options = ether_pcap::PcapngOptions::from_slice(ether_pcap::ByteOrder::BigEndian, &bytes);
+    assert_eq!(options.size_hint(), (0, Some(3)));
+    assert_eq!(options.next().map(|it| (it.code, it.value)), Some((1, &b"A"[..])));
+    assert_eq!(options.size_hint(), (0, Some(1)));
+    assert!((0..9).all(|_| options.next().is_none()));
 }

@@ -1,34 +1,18 @@
 //! A reader of capture files of either format, one unit at a time.
-ghost use Rattle.std.specs.Prelude.{◌≡◌, ℕ, ◌<◌, ◌≤◌, ◌↔◌, length, Some, None, IfSome, IfOk, IfErr, OnErr, IsTrue, if◌then◌else◌};
+ghost use Rattle.std.specs.Prelude.{◌≡◌, ℕ, ◌<◌, ◌≤◌, ◌↔◌, length, Some, None, IfSome, IfOk, IfErr, OnOk, OnErr, IsTrue, if◌then◌else◌};
 ghost use Rattle.std.specs.Option.{option_map};
-ghost use Rattle.ether_pcap.specs.FileHeader.{FileHeaderValue, IsFileHeader};
-ghost use Rattle.ether_pcap.specs.Capture.{CaptureExpectation, Beginning, Records, Begins, HasBegun, RefusesCapture, required_len};
-ghost use Rattle.ether_pcap.specs.CopiedUnits.{changed_unit as unit_in, copied_bytes, copy_mode_view, other_unit, packet_unit};
+ghost use Rattle.ether_pcap.specs.Capture.{CaptureExpectation, Beginning, Begins, HasBegun, RefusesCapture, TooManyInterfaces, required_len};
+ghost use Rattle.ether_pcap.specs.CopiedUnits.{copied_bytes, copy_mode_view, other_unit, packet_unit};
 ghost use Rattle.ether_pcap.specs.Editing.{EditsUnit, HasEditedPacket, padding_of};
-ghost use Rattle.ether_pcap.specs.Section.{HasSectionType, IsSection, RefusesSection};
-ghost use Rattle.ether_pcap.specs.Views.{file_header_view};
-ghost use Rattle.ether_pcap.specs.PcapngViews.{block_view, section_refusal_view};
 ghost use Rattle.ether_pcap.specs.CaptureViews.{captured_packet_view, capture_refusal_view};
+ghost use Rattle.ether_pcap.specs.ReadUnits.{HasRoom, IsFull, interfaces_after, packet_in, state_after};
 
-use crate::capture::capture_blocks::read_block;
-use crate::capture::copying::{changed_block, changed_header, changed_section, keeps_block};
-use crate::capture::editing::{edited_block, edited_record};
+use crate::capture::described_interfaces::InterfaceSlice;
 use crate::{
-    ByteOrder, CaptureError, CaptureUnit, CapturedPacket, CopiedUnit, CopyMode, EditedUnit,
-    FileHeader, InterfaceTable, PcapRecord, PcapngBlock, SectionHeader, Timestamp,
+    CaptureError, CaptureUnit, CapturedPacket, CopiedUnit, CopyMode, EditedUnit, InterfaceTable,
+    ReaderState, UnitContent,
 };
 use std::marker::Model;
-
-/// How far a file was read.
-#[derive(Clone, Copy)]
-pub(crate) enum Progress {
-    /// Nothing.
-    Nothing,
-    /// The header of a classic file.
-    Classic(FileHeader),
-    /// A section header of a pcapng file, in this byte order.
-    Section(ByteOrder),
-}
 
 /// Reads capture files of the classic pcap format and of pcapng, one unit at a time.
 ///
@@ -60,7 +44,7 @@ pub(crate) enum Progress {
 /// ```
 #[derive(Drop)]
 pub struct CaptureReader<T: InterfaceTable> {
-    progress: Progress,
+    state: ReaderState,
     interfaces: T,
 }
 
@@ -70,7 +54,7 @@ impl<T: InterfaceTable> Model for CaptureReader<T> {
 
     ghost Value = { CaptureExpectation };
 
-    ghost view = { λ r. expectation_of T.most r.progress (T.items r.interfaces) };
+    ghost view = { λ r. expectation_of T.most r.state (T.items r.interfaces) };
 }
 
 impl<T: InterfaceTable> CaptureReader<T> {
@@ -79,7 +63,7 @@ impl<T: InterfaceTable> CaptureReader<T> {
         ensures { result ≡ Beginning T.most }
     {
         CaptureReader {
-            progress: Progress::Nothing,
+            state: ReaderState::Nothing,
             interfaces,
         }
     }
@@ -88,7 +72,7 @@ impl<T: InterfaceTable> CaptureReader<T> {
     pub fn has_begun(&self) -> bool
         ensures { IsTrue result ↔ HasBegun self.now }
     {
-        !matches!(self.progress, Progress::Nothing)
+        !matches!(self.state, ReaderState::Nothing)
     }
 
     /// Reads the unit at the front of a slice. Bytes after the unit are ignored.
@@ -117,34 +101,9 @@ impl<T: InterfaceTable> CaptureReader<T> {
         self.read_unit(bytes)
     }
 
-    /// The unit of a packet with other captured bytes and another original length.
-    ///
-    /// `unit` must have exactly the bytes of the unit that this reader read last. The captured and the original length
-    /// change, and in a block also both total lengths and the padding, which is then all zeros. Time, interface and
-    /// options are unchanged.
-    ///
-    /// Returns `None` for a simple packet, whose block gives no captured length; if `packet` has more than
-    /// [`PcapRecord::MAX_CAPTURED_LEN`] bytes; if `original_len` does not fit in 32 bits; and if the block would be
-    /// longer than [`PcapngBlock::MAX_LEN`]. If the unit is not a packet, nothing is claimed of the result.
-    ///
-    /// ```
-    /// let file = [
-    ///     0xA1, 0xB2, 0xC3, 0xD4, 0x00, 0x02, 0x00, 0x04, 0x00, 0x00, 0x00, 0x00, // file header
-    ///     0x00, 0x00, 0x00, 0x00, 0x00, 0x00, 0xFF, 0xFF, 0x00, 0x00, 0x00, 0x01, //
-    ///     0x00, 0x00, 0x00, 0x01, 0x00, 0x00, 0x00, 0x02, 0x00, 0x00, 0x00, 0x03, 0x00, 0x00, 0x00, 0x3C, // record
-    ///     0xAA, 0xBB, 0xCC,
-    /// ];
-    /// let mut reader = CaptureReader::new(ArrayVec::<CaptureInterface, 16>::new());
-    /// let header_len = reader.read(&file)?.len;
-    /// let record_len = reader.read(&file[header_len..])?.len;
-    /// let unit = &file[header_len..header_len + record_len];
-    /// let header = [
-    ///     0x00, 0x00, 0x00, 0x01, 0x00, 0x00, 0x00, 0x02, 0x00, 0x00, 0x00, 0x02, 0x00, 0x00, 0x00, 0x3B,
-    /// ];
-    /// let packet = &[0xAA, 0xCC];
-    /// assert_eq!(rt; reader.edit_unit(unit, packet, 59), Some(EditedUnit::Record { header, packet }));
-    /// ```
-    #[tactic(auto, using(crate::proofs::EditPackets::has_edited_packet))]
+    /// The unit of a packet with other captured bytes and another original length, as [`ReaderState::edit_unit`]
+    /// gives it. `unit` must have exactly the bytes of the unit that this reader read last.
+    #[inline(always)]
     pub fn edit_unit<'a>(
         &self,
         unit: &'a [u8],
@@ -157,80 +116,29 @@ impl<T: InterfaceTable> CaptureReader<T> {
             result }
         ensures padding { IfSome result (λ u. padding_of u ≤ 3) }
     {
-        if packet.len() > PcapRecord::MAX_CAPTURED_LEN as usize
-            || original_len > u64::from(u32::MAX)
-        {
-            return None;
-        }
-        let original_len = original_len as u32;
-        match self.progress {
-            Progress::Nothing => None,
-            Progress::Classic(header) => edited_record(&header, unit, packet, original_len),
-            Progress::Section(byte_order) => edited_block(byte_order, unit, packet, original_len),
-        }
+        self.state.edit_unit(unit, packet, original_len)
     }
 
-    /// The bytes that a copy has for a unit without a packet.
-    ///
-    /// `unit` must have exactly the bytes of the unit that this reader read last. With [`CopyMode::Exact`] they are
-    /// copied as they are. With [`CopyMode::Changed`] the snap length of a file header or an interface description is
-    /// raised, so that it is still a bound if an edit makes packets longer; a section header gives no section length;
-    /// and a custom block of type [`PcapngBlock::UNCOPIED_CUSTOM`] is left out.
-    ///
-    /// ```
-    /// let file = [
-    ///     0xA1, 0xB2, 0xC3, 0xD4, 0x00, 0x02, 0x00, 0x04, 0x00, 0x00, 0x00, 0x00, // file header
-    ///     0x00, 0x00, 0x00, 0x00, 0x00, 0x00, 0x00, 0x60, 0x00, 0x00, 0x00, 0x01, //
-    /// ];
-    /// let mut reader = CaptureReader::new(ArrayVec::<CaptureInterface, 16>::new());
-    /// let header_len = reader.read(&file)?.len;
-    /// let copied = reader.copy_unit(CopyMode::Changed { raise: 4 }, &file[..header_len]);
-    /// let wanted = CopiedUnit::SnapLen {
-    ///     front: &file[..16],
-    ///     snap_len: [0x00, 0x00, 0x00, 0x64],
-    ///     rest: &file[20..],
-    /// };
-    /// assert_eq!(rt; copied, wanted);
-    /// ```
+    /// The bytes that a copy has for a unit without a packet, as [`ReaderState::copy_unit`] gives them. `unit` must
+    /// have exactly the bytes of the unit that this reader read last.
+    #[inline(always)]
     pub fn copy_unit<'a>(&self, mode: CopyMode, unit: &'a [u8]) -> CopiedUnit<'a>
         ensures { (x : CaptureExpectation) → Begins unit.now x (length unit.now) None self.now
             → copied_bytes result ≡ other_unit (copy_mode_view mode) self.now unit.now }
     {
-        match mode {
-            CopyMode::Exact => CopiedUnit::Same(unit),
-            CopyMode::Changed { raise } => self.changed_unit(raise, unit),
-        }
+        self.state.copy_unit(mode, unit)
     }
 
-    /// The bytes that a changed copy has for a unit without a packet.
-    fn changed_unit<'a>(&self, raise: u32, unit: &'a [u8]) -> CopiedUnit<'a>
-        ensures { (x : CaptureExpectation) → Begins unit.now x (length unit.now) None self.now
-            → copied_bytes result ≡ unit_in raise self.now unit.now }
-    {
-        match self.progress {
-            Progress::Nothing => CopiedUnit::Same(unit),
-            Progress::Classic(header) => changed_header(&header, raise, unit),
-            Progress::Section(_) if begins_section(unit) => changed_section(unit),
-            Progress::Section(byte_order) => changed_block(byte_order, raise, unit),
-        }
-    }
-
-    /// Tests that a copy can have the unit of a packet that is not edited, unchanged.
-    ///
-    /// `unit` must have exactly the bytes of the unit that this reader read last, and `packet` must be its packet. The
-    /// captured length of a simple packet is not stored: it follows from the snap length. So a simple packet that was
-    /// cut can't be copied where the snap length is raised.
+    /// Tests that a copy can have the unit of a packet that is not edited, unchanged, as
+    /// [`ReaderState::copies_packet`] does. `unit` must have exactly the bytes of the unit that this reader read last,
+    /// and `packet` must be its packet.
+    #[inline(always)]
     pub fn copies_packet(&self, mode: CopyMode, unit: &[u8], packet: &CapturedPacket<'_>) -> bool
         ensures { Begins unit.now self.now (length unit.now) (Some (captured_packet_view packet.now)) self.now
             → packet_unit (copy_mode_view mode) self.now (captured_packet_view packet.now) unit.now
             ≡ (if result then Some unit.now else None) }
     {
-        match (mode, self.progress) {
-            (CopyMode::Changed { raise }, Progress::Section(byte_order)) => {
-                keeps_block(byte_order, raise, unit, packet)
-            }
-            _ => true,
-        }
+        self.state.copies_packet(mode, unit, packet)
     }
 
     /// Does as `read`.
@@ -241,69 +149,49 @@ impl<T: InterfaceTable> CaptureReader<T> {
         ensures refused { IfErr result (λ e. RefusesCapture bytes.now self.old (capture_refusal_view e)) }
         ensures same { OnErr result (self.new ≡ self.old) }
     {
-        if let Progress::Classic(header) = self.progress {
-            return read_record(&header, bytes);
+        let interfaces = InterfaceSlice(self.interfaces.interfaces());
+        let unit = self.state.read(&interfaces, bytes)?;
+        if let UnitContent::Packet(packet) = unit.content {
+            return Ok(CaptureUnit {
+                len: unit.len,
+                packet: Some(packet),
+            });
         }
-        if begins_section(bytes) {
-            let section = match SectionHeader::from_slice(bytes) {
-                Ok(section) => section,
-                Err(error) => return Err(CaptureError::Section(error)),
-            };
-            let byte_order = section.byte_order;
-            let len = section.block.block_len();
-            self.progress = Progress::Section(byte_order);
-            self.interfaces.remove_all();
-            return Ok(CaptureUnit { len, packet: None });
-        }
-        if let Progress::Section(byte_order) = self.progress {
-            return read_block(byte_order, &mut self.interfaces, bytes);
-        }
-        let header = match FileHeader::from_slice(bytes) {
-            Ok(header) => header,
-            Err(error) => return Err(CaptureError::File(error)),
-        };
-        self.progress = Progress::Classic(header);
+        keep(&mut self.state, &mut self.interfaces, &unit.content)?;
         Ok(CaptureUnit {
-            len: FileHeader::LEN,
+            len: unit.len,
             packet: None,
         })
     }
 }
 
-/// Tests that a slice begins with the type of a section header.
-fn begins_section(bytes: &[u8]) -> bool
-    ensures { IsTrue result ↔ HasSectionType bytes.now }
+/// Keeps what a unit says of those after it, if there is room.
+fn keep<T: InterfaceTable>(
+    state: &mut ReaderState,
+    interfaces: &mut T,
+    content: &UnitContent<'_>,
+) -> Result<(), CaptureError>
+    ensures room { OnOk result (HasRoom T.most (T.items interfaces.old) content.now) }
+    ensures state { OnOk result (state.new ≡ state_after state.old content.now) }
+    ensures interfaces { OnOk result
+        (T.items interfaces.new ≡ interfaces_after (T.items interfaces.old) content.now) }
+    ensures full { OnErr result (IsFull T.most (T.items interfaces.old) content.now) }
+    ensures error { IfErr result (λ e. capture_refusal_view e ≡ TooManyInterfaces) }
+    ensures same_state { OnErr result (state.new ≡ state.old) }
+    ensures same_interfaces { OnErr result (T.items interfaces.new ≡ T.items interfaces.old) }
 {
-    bytes.len() >= 4 && ByteOrder::BigEndian.u32_at(bytes, 0) == PcapngBlock::SECTION_HEADER
-}
-
-/// Reads the record at the front of a slice.
-#[tactic(auto, using(crate::specs::Capture::file_record_refused))]
-fn read_record<'a>(header: &FileHeader, bytes: &'a [u8]) -> Result<CaptureUnit<'a>, CaptureError>
-    ensures unit { IfOk result (λ u. Begins bytes.now
-        (Records (file_header_view header.now))
-        u.len
-        (option_map captured_packet_view u.packet)
-        (Records (file_header_view header.now))) }
-    ensures refused { IfErr result (λ e. RefusesCapture bytes.now
-        (Records (file_header_view header.now))
-        (capture_refusal_view e)) }
-{
-    let record = match PcapRecord::from_slice(header, bytes) {
-        Ok(record) => record,
-        Err(error) => return Err(CaptureError::Record(error)),
-    };
-    let time = Timestamp::from_nanoseconds(record.nanoseconds(header.resolution));
-    Ok(CaptureUnit {
-        len: record.record_len(),
-        packet: Some(CapturedPacket {
-            time: Some(time),
-            interface: None,
-            original_len: record.original_len,
-            link_type: header.link_type,
-            snap_len: header.snap_len,
-            fcs_len: header.fcs_len,
-            packet: record.packet,
-        }),
-    })
+    match content {
+        UnitContent::FileHeader(header) => *state = ReaderState::Classic(*header),
+        UnitContent::Section(byte_order) => {
+            *state = ReaderState::Section(*byte_order);
+            interfaces.remove_all();
+        }
+        UnitContent::Interface(interface) => {
+            if !interfaces.add(*interface) {
+                return Err(CaptureError::TooManyInterfaces);
+            }
+        }
+        UnitContent::Packet(_) | UnitContent::Other => {}
+    }
+    Ok(())
 }

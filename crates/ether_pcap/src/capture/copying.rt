@@ -13,8 +13,9 @@ use crate::{ByteOrder, CapturedPacket, CopiedUnit, FileHeader, PcapRecord, Pcapn
 
 /// The file header with its snap length raised.
 pub(crate) fn changed_header<'a>(header: &FileHeader, raise: u32, unit: &'a [u8]) -> CopiedUnit<'a>
-    ensures { 24 ≤ length unit.now → copied_bytes result
+    ensures bytes { 24 ≤ length unit.now → copied_bytes result
         ≡ with_bytes 16 (bytes_of (file_header_view header.now).order 4 (raised raise header.now.snap_len)) unit.now }
+    ensures len { length (copied_bytes result) ≤ length unit.now }
 {
     if unit.len() < FileHeader::LEN {
         return CopiedUnit::Same(unit);
@@ -25,7 +26,8 @@ pub(crate) fn changed_header<'a>(header: &FileHeader, raise: u32, unit: &'a [u8]
 
 /// The section header without a section length.
 pub(crate) fn changed_section<'a>(unit: &'a [u8]) -> CopiedUnit<'a>
-    ensures { 24 ≤ length unit.now → copied_bytes result ≡ with_bytes 16 no_section_len unit.now }
+    ensures bytes { 24 ≤ length unit.now → copied_bytes result ≡ with_bytes 16 no_section_len unit.now }
+    ensures len { length (copied_bytes result) ≤ length unit.now }
 {
     if unit.len() < 24 {
         return CopiedUnit::Same(unit);
@@ -38,8 +40,9 @@ pub(crate) fn changed_section<'a>(unit: &'a [u8]) -> CopiedUnit<'a>
 
 /// What a copy has for a block that is neither a section header nor a packet.
 pub(crate) fn changed_block<'a>(order: ByteOrder, raise: u32, block: &'a [u8]) -> CopiedUnit<'a>
-    ensures { 4 ≤ length block.now → (field (order_of order) block.now 0 4 ≡ 1 → 16 ≤ length block.now)
+    ensures bytes { 4 ≤ length block.now → (field (order_of order) block.now 0 4 ≡ 1 → 16 ≤ length block.now)
         → copied_bytes result ≡ block_in raise (order_of order) block.now }
+    ensures len { length (copied_bytes result) ≤ length block.now }
 {
     if block.len() < 4 {
         return CopiedUnit::Same(block);
@@ -53,8 +56,9 @@ pub(crate) fn changed_block<'a>(order: ByteOrder, raise: u32, block: &'a [u8]) -
 
 /// The interface description with its snap length raised.
 fn changed_interface<'a>(order: ByteOrder, raise: u32, block: &'a [u8]) -> CopiedUnit<'a>
-    ensures { 16 ≤ length block.now → copied_bytes result
+    ensures bytes { 16 ≤ length block.now → copied_bytes result
         ≡ with_bytes 12 (bytes_of (order_of order) 4 (raised raise (field (order_of order) block.now 12 16))) block.now }
+    ensures len { length (copied_bytes result) ≤ length block.now }
 {
     if block.len() < 16 {
         return CopiedUnit::Same(block);
@@ -83,7 +87,8 @@ pub(crate) fn keeps_block(
 /// The unit with another snap length at the offset `at`.
 fn with_snap_len<'a>(order: ByteOrder, at: usize, snap_len: u32, unit: &'a [u8]) -> CopiedUnit<'a>
     requires { at + 4 ≤ length unit.now }
-    ensures { copied_bytes result ≡ with_bytes at (bytes_of (order_of order) 4 snap_len) unit.now }
+    ensures bytes { copied_bytes result ≡ with_bytes at (bytes_of (order_of order) 4 snap_len) unit.now }
+    ensures len { length (copied_bytes result) ≤ length unit.now }
 {
     CopiedUnit::SnapLen {
         front: &unit[..at],

@@ -1,7 +1,7 @@
 //! The units of edited packets.
 ghost use Rattle.std.specs.Prelude.{◌≡◌, ℕ, ◌+◌, ◌-◌, ◌≤◌, List, ◌++◌, length, slice_range, Some, IfSome};
 ghost use Rattle.std.specs.Option.{option_map};
-ghost use Rattle.ether_pcap.specs.Block.{IsTotalLen};
+ghost use Rattle.ether_pcap.specs.Block.{IsTotalLen, max_block_len};
 ghost use Rattle.ether_pcap.specs.Bodies.{EnhancedPacketValue, IsEnhancedPacket};
 ghost use Rattle.ether_pcap.specs.Writing.{bytes_of};
 ghost use Rattle.ether_pcap.specs.Capture.{PacketValue, CaptureInterfaceValue, Begins, Records, Blocks, EnhancedPacket as Enhanced};
@@ -18,7 +18,9 @@ pub(crate) fn edited_record<'a>(
     packet: &'a [u8],
     original_len: u32,
 ) -> Option<EditedUnit<'a>>
+    requires { length packet.now ≤ 262144 }
     ensures padding { IfSome result (λ u. padding_of u ≤ 3) }
+    ensures len { IfSome result (λ u. length (unit_bytes u) ≤ max_block_len) }
     ensures unit { (p : PacketValue)
         → Begins unit.now (Records (file_header_view header.now)) (length unit.now) (Some p)
         (Records (file_header_view header.now))
@@ -50,6 +52,7 @@ pub(crate) fn edited_block<'a>(
 ) -> Option<EditedUnit<'a>>
     requires { length packet.now ≤ 262144 }
     ensures padding { IfSome result (λ u. padding_of u ≤ 3) }
+    ensures len { IfSome result (λ u. length (unit_bytes u) ≤ max_block_len) }
     ensures unit { (most : ℕ) (interfaces : List CaptureInterfaceValue) (p : PacketValue)
         → Begins block.now (Blocks most (order_of order) interfaces) (length block.now) (Some p)
         (Blocks most (order_of order) interfaces)
@@ -76,6 +79,7 @@ fn edited_enhanced_packet<'a>(
 ) -> Option<EditedUnit<'a>>
     requires { length packet.now ≤ 262144 }
     ensures padding { IfSome result (λ u. padding_of u ≤ 3) }
+    ensures len { IfSome result (λ u. length (unit_bytes u) ≤ max_block_len) }
     ensures unit { (number_len : ℕ) (v : EnhancedPacketValue) → IsTotalLen (length block.now)
         → IsEnhancedPacket number_len (order_of order) (slice_range block.now 8 (length block.now - 4)) v
         → option_map unit_bytes result ≡ block_with (Enhanced number_len) (order_of order) (length v.packet)

@@ -49,7 +49,7 @@ pub struct EnhancedPacket<'a> {
     pub original_len: u32,
     /// The captured bytes of the packet.
     pub packet: &'a [u8],
-    /// The bytes of the options.
+    /// The bytes of the options, over which [`PcapngOptions`](crate::PcapngOptions) iterates.
     pub options: &'a [u8],
 }
 

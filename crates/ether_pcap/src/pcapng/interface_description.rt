@@ -9,7 +9,7 @@ ghost use Rattle.ether_pcap.specs.PcapngViews.{interface_view, body_refusal_view
 
 use crate::pcapng::pcapng_option::{option_value, u64_option};
 use crate::word_bytes::{four_words, half_words, len_word, three_words, word};
-use crate::{BodyError, ByteOrder, LinkType, PcapngBlock};
+use crate::{BodyError, ByteOrder, LinkType, PcapngBlock, PcapngOption};
 
 /// The code of the option with the resolution of times, `if_tsresol`.
 const TIME_RESOLUTION: u16 = 9;
@@ -35,11 +35,14 @@ const TIME_OFFSET: u16 = 14;
 /// ```
 /// let body = [
 ///     0x00, 0x01, 0x00, 0x00, 0x00, 0x04, 0x00, 0x00, // link type, snap length
+///     0x00, 0x02, 0x00, 0x04, 0x65, 0x74, 0x68, 0x30, // if_name
 ///     0x00, 0x0D, 0x00, 0x01, 0x04, 0x00, 0x00, 0x00, // if_fcslen
 /// ];
 /// let interface = InterfaceDescription::from_body(ByteOrder::BigEndian, &body)?;
 /// assert_eq!(rt; interface.link_type, LinkType::ETHERNET);
 /// assert_eq!(rt; interface.snap_len, 262_144);
+/// assert_eq!(rt; interface.name(), Some(b"eth0".as_slice()));
+/// assert_eq!(rt; interface.description(), None);
 /// assert_eq!(rt; interface.fcs_len(), Some(4));
 /// ```
 #[derive(Clone, Copy, PartialEq, Eq, Debug)]
@@ -50,7 +53,7 @@ pub struct InterfaceDescription<'a> {
     pub link_type: LinkType,
     /// The length in bytes to which longer packets were cut when they were captured; 0 if there is no limit.
     pub snap_len: u32,
-    /// The bytes of the options.
+    /// The bytes of the options, over which [`PcapngOptions`](crate::PcapngOptions) iterates.
     pub options: &'a [u8],
 }
 
@@ -144,6 +147,22 @@ impl<'a> InterfaceDescription<'a> {
             → MatchOption result (value_of code all ≡ None) (λ value. value_of code all ≡ Some value.now) }
     {
         option_value(self.byte_order, self.options, code)
+    }
+
+    /// The value of the option `if_name`: the name of the interface on its machine, in UTF-8.
+    pub fn name(&self) -> Option<&'a [u8]>
+        ensures { (all : List OptionValue) → HasOptions (order_of self.now.byte_order) self.now.options.now all
+            → MatchOption result (value_of 2 all ≡ None) (λ name. value_of 2 all ≡ Some name.now) }
+    {
+        self.option(PcapngOption::INTERFACE_NAME)
+    }
+
+    /// The value of the option `if_description`, in UTF-8.
+    pub fn description(&self) -> Option<&'a [u8]>
+        ensures { (all : List OptionValue) → HasOptions (order_of self.now.byte_order) self.now.options.now all
+            → MatchOption result (value_of 3 all ≡ None) (λ text. value_of 3 all ≡ Some text.now) }
+    {
+        self.option(PcapngOption::INTERFACE_DESCRIPTION)
     }
 
     /// The value of the option `if_fcslen`, if it has one byte: the length of the frame check sequence at the end of

@@ -1,5 +1,5 @@
 //! The options at the end of a block of a pcapng file.
-ghost use Rattle.std.specs.Prelude.{◌≡◌, ◌+◌, List, length, drop, MatchOption, Some, None};
+ghost use Rattle.std.specs.Prelude.{◌≡◌, ◌↔◌, ◌+◌, List, length, drop, MatchOption, Some, None, IsTrue};
 ghost use Rattle.ether_pcap.specs.Options.{OptionValue, BeginsOption, HasOptions, padded, value_of, number_of};
 ghost use Rattle.ether_pcap.specs.Views.{order_of};
 ghost use Rattle.ether_pcap.specs.PcapngViews.{option_view};
@@ -7,17 +7,35 @@ ghost use Rattle.ether_pcap.specs.PcapngViews.{option_view};
 use crate::ByteOrder;
 use crate::word_bytes::padded_len;
 
-/// A view of an option of a block: its code and its value, without the padding.
-#[derive(Clone, Copy)]
-pub(crate) struct PcapngOption<'a> {
+/// An option of a block: its code and its value (draft-ietf-opsawg-pcapng, section 3.5).
+///
+/// What a code means depends on the type of the block; only that of a comment is the same in each.
+#[derive(Clone, Copy, PartialEq, Eq, Debug)]
+pub struct PcapngOption<'a> {
+    /// The code.
     pub code: u16,
+    /// The value, without its padding. The value of a text is UTF-8, and has no 0 at its end.
     pub value: &'a [u8],
 }
 
 impl<'a> PcapngOption<'a> {
+    /// The code of a comment on the block, `opt_comment`. A block may have several.
+    pub const COMMENT: u16 = 1;
+    /// The code of an interface's name, `if_name`, in an interface description.
+    pub const INTERFACE_NAME: u16 = 2;
+    /// The code of an interface's description, `if_description`, in an interface description.
+    pub const INTERFACE_DESCRIPTION: u16 = 3;
+
+    /// Tests that the option is a comment on the block.
+    pub fn is_comment(&self) -> bool
+        ensures { IsTrue result ↔ (self.now.code ≡ 1) }
+    {
+        self.code == PcapngOption::COMMENT
+    }
+
     /// Reads the option at the front of a slice. Returns `None` if the slice begins with the end of options, or ends
     /// within an option.
-    pub fn first(byte_order: ByteOrder, slice: &'a [u8]) -> Option<PcapngOption<'a>>
+    pub(crate) fn first(byte_order: ByteOrder, slice: &'a [u8]) -> Option<PcapngOption<'a>>
         ensures { MatchOption result
             ((o : OptionValue) → BeginsOption (order_of byte_order) slice.now o → ⊥)
             (λ o. BeginsOption (order_of byte_order) slice.now (option_view o)) }
@@ -40,7 +58,7 @@ impl<'a> PcapngOption<'a> {
     }
 
     /// The length of the option in bytes, with its padding.
-    pub fn option_len(&self) -> usize
+    pub(crate) fn option_len(&self) -> usize
         ensures { result ≡ 4 + padded (length self.now.value.now) }
     {
         4 + padded_len(self.value.len())

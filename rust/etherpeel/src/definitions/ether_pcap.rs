@@ -884,17 +884,6 @@
 //!
 //! Uses: [`InterfaceValue`](#def.InterfaceValue)
 //!
-//! <a id="def.option_view"></a>
-//!
-//! ## `option_view`
-//!
-//! ```text
-//! abbrev pub option_view : PcapngOption → OptionValue
-//! option_view o = record { code = o.code; value = o.value.now }
-//! ```
-//!
-//! Uses: [`PcapngOption`](#def.PcapngOption), [`OptionValue`](#def.OptionValue)
-//!
 //! <a id="def.enhanced_packet_view"></a>
 //!
 //! ## `enhanced_packet_view`
@@ -1584,6 +1573,198 @@
 //!
 //! Uses: [`CaptureInterfaceValue`](#def.CaptureInterfaceValue)
 //!
+//! <a id="def.interfaces_view"></a>
+//!
+//! ## `interfaces_view`
+//!
+//! ```text
+//! abbrev pub interfaces_view : List CaptureInterface → List CaptureInterfaceValue
+//! interfaces_view interfaces = map capture_interface_view interfaces
+//! ```
+//!
+//! Uses: [`CaptureInterfaceValue`](#def.CaptureInterfaceValue), [`capture_interface_view`](#def.capture_interface_view)
+//!
+//! <a id="def.expectation_of"></a>
+//!
+//! ## `expectation_of`
+//!
+//! What a reader expects that has read this, keeps these interfaces, and has room for `most` of them.
+//!
+//! ```text
+//! abbrev pub expectation_of : (most : ℕ) → ReaderState → List CaptureInterface → CaptureExpectation
+//! expectation_of most states.Nothing interfaces = Beginning most
+//! expectation_of most (states.Classic header) interfaces = Records (file_header_view header)
+//! expectation_of most (states.Section order) interfaces = Blocks most (order_of order) (interfaces_view interfaces)
+//! ```
+//!
+//! Uses: [`CaptureExpectation`](#def.CaptureExpectation), `states` (`ReaderState`), [`Beginning`](#def.CaptureExpectation), [`Records`](#def.CaptureExpectation), [`file_header_view`](#def.file_header_view), [`Blocks`](#def.CaptureExpectation), [`order_of`](#def.order_of), [`interfaces_view`](#def.interfaces_view)
+//!
+//! # Read units
+//!
+//! What a unit of a capture file says, and what is known after it.
+//!
+//! <a id="def.ReadUnits.packet_in"></a>
+//!
+//! ## `packet_in`
+//!
+//! Its packet, if it has one.
+//!
+//! ```text
+//! abbrev pub packet_in : UnitContent → Option PacketValue
+//! packet_in (contents.Packet p) = Some (captured_packet_view p)
+//! packet_in _ = None
+//! ```
+//!
+//! Uses: [`PacketValue`](#def.PacketValue), `contents` (`UnitContent`), [`captured_packet_view`](#def.captured_packet_view)
+//!
+//! <a id="def.state_after"></a>
+//!
+//! ## `state_after`
+//!
+//! How far the file was read after it.
+//!
+//! ```text
+//! abbrev pub state_after : ReaderState → UnitContent → ReaderState
+//! state_after state (contents.FileHeader h) = states.Classic h
+//! state_after state (contents.Section order) = states.Section order
+//! state_after state _ = state
+//! ```
+//!
+//! Uses: `contents` (`UnitContent`), `states` (`ReaderState`)
+//!
+//! <a id="def.IsNotClassic"></a>
+//!
+//! ## `IsNotClassic`
+//!
+//! Not in a classic file: each of its units is a record.
+//!
+//! ```text
+//! abbrev pub IsNotClassic : ReaderState → Type 0
+//! IsNotClassic (states.Classic h) = ⊥
+//! IsNotClassic _ = ⊤
+//! ```
+//!
+//! Uses: `states` (`ReaderState`)
+//!
+//! <a id="def.interfaces_after"></a>
+//!
+//! ## `interfaces_after`
+//!
+//! The interfaces that its section has described after it.
+//!
+//! ```text
+//! abbrev pub interfaces_after : List CaptureInterface → UnitContent → List CaptureInterface
+//! interfaces_after interfaces (contents.Section order) = []
+//! interfaces_after interfaces (contents.Interface i) = interfaces ++ i ∷ []
+//! interfaces_after interfaces _ = interfaces
+//! ```
+//!
+//! Uses: `contents` (`UnitContent`)
+//!
+//! <a id="def.HasRoom"></a>
+//!
+//! ## `HasRoom`
+//!
+//! A table for `most` interfaces has room for these.
+//!
+//! ```text
+//! abbrev pub HasRoom : (most : ℕ) → List CaptureInterface → UnitContent → Type 0
+//! HasRoom most interfaces (contents.Interface i) = length interfaces < most
+//! HasRoom most interfaces _ = ⊤
+//! ```
+//!
+//! Uses: `contents` (`UnitContent`)
+//!
+//! <a id="def.IsFull"></a>
+//!
+//! ## `IsFull`
+//!
+//! > `HasRoom`: a table for `most` interfaces has room for these
+//!
+//! .. or is full.
+//!
+//! ```text
+//! abbrev pub IsFull : (most : ℕ) → List CaptureInterface → UnitContent → Type 0
+//! IsFull most interfaces (contents.Interface i) = most ≤ length interfaces
+//! IsFull most interfaces _ = ⊥
+//! ```
+//!
+//! Uses: `contents` (`UnitContent`)
+//!
+//! <a id="def.ReadsUnit"></a>
+//!
+//! ## `ReadsUnit`
+//!
+//! Bytes begin with this unit, whatever the room for interfaces; where there is none for the one that it describes, it
+//! is refused.
+//!
+//! ```text
+//! pub record ReadsUnit (bytes : List ℕ) (state : ReaderState) (interfaces : List CaptureInterface)
+//!     (u : ReadUnit) : Type 0 where
+//!   pub unit : (most : ℕ) → HasRoom most interfaces u.content
+//!       → Begins bytes (expectation_of most state interfaces) u.len (packet_in u.content)
+//!       (expectation_of most (state_after state u.content) (interfaces_after interfaces u.content))
+//!   pub full : (most : ℕ) → IsFull most interfaces u.content
+//!       → RefusesCapture bytes (expectation_of most state interfaces) TooManyInterfaces
+//! ```
+//!
+//! Uses: [`HasRoom`](#def.HasRoom), [`Begins`](#def.Begins), [`expectation_of`](#def.expectation_of), [`packet_in`](#def.ReadUnits.packet_in), [`state_after`](#def.state_after), [`interfaces_after`](#def.interfaces_after), [`IsFull`](#def.IsFull), [`RefusesCapture`](#def.RefusesCapture), [`TooManyInterfaces`](#def.CaptureRefusal)
+//!
+//! # Option reading
+//!
+//! The options of a unit of a capture file, and an iterator over them.
+//!
+//! **Units**
+//!
+//! <a id="def.options_in"></a>
+//!
+//! ## `options_in`
+//!
+//! The bytes of the options in the body of a block: they follow the 8 bytes of an interface description (4.2), or the
+//! 20 bytes of a packet and its captured bytes with their padding (4.3, appendix A). A simple packet has none (4.4), and
+//! those of other blocks are not read.
+//!
+//! ```text
+//! abbrev pub options_in : BlockKind → Order → (body : List ℕ) → List ℕ
+//! options_in InterfaceDescription order body = drop 8 body
+//! options_in (EnhancedPacket number_len) order body = drop (20 + padded (field order body 12 16)) body
+//! options_in _ order body = []
+//! ```
+//!
+//! Uses: [`BlockKind`](#def.BlockKind), [`Order`](#def.Order), [`InterfaceDescription`](#def.BlockKind), [`EnhancedPacket`](#def.BlockKind), [`padded`](#def.padded), [`field`](#def.field)
+//!
+//! <a id="def.HasOptionBytes"></a>
+//!
+//! ## `HasOptionBytes`
+//!
+//! Bytes begin with a unit of a pcapng file whose options, in this order, are these bytes. Those of a section header
+//! follow 16 bytes (4.1).
+//!
+//! ```text
+//! pub data HasOptionBytes (bytes : List ℕ) : ReaderState → ByteOrder → List ℕ → Type 0 where
+//!   section : (state : ReaderState) (order : ByteOrder) (b : BlockValue) → IsNotClassic state
+//!       → IsSection bytes (order_of order) b → HasOptionBytes bytes state order (drop 16 b.body)
+//!   block : (order : ByteOrder) (b : BlockValue) → ¬ (HasSectionType bytes) → BeginsBlock (order_of order) bytes b
+//!       → HasOptionBytes bytes (states.Section order) order
+//!       (options_in (kind_of_block b.block_type) (order_of order) b.body)
+//! ```
+//!
+//! Uses: [`BlockValue`](#def.BlockValue), [`IsNotClassic`](#def.IsNotClassic), [`IsSection`](#def.IsSection), [`order_of`](#def.order_of), [`HasSectionType`](#def.HasSectionType), [`BeginsBlock`](#def.BeginsBlock), `states` (`ReaderState`), [`options_in`](#def.options_in), [`kind_of_block`](#def.kind_of_block)
+//!
+//! **An iterator**
+//!
+//! <a id="def.OptionsState"></a>
+//!
+//! ## `OptionsState`
+//!
+//! The byte order, and the bytes that are left to read.
+//!
+//! ```text
+//! pub record OptionsState : Type 0 where
+//!   pub byte_order : ByteOrder
+//!   pub rest : List ℕ
+//! ```
+//!
 //! # Capture reading
 //!
 //! The state of an iterator over the packets of a file, and what a call of next returns, by the packets that are left
@@ -2154,21 +2335,4 @@
 //! ```
 //!
 //! Uses: [`Order`](#def.Order), [`EnhancedPacketValue`](#def.EnhancedPacketValue), [`max_captured_len`](#def.max_captured_len), [`IsTotalLen`](#def.IsTotalLen), [`packet_block_len`](#def.packet_block_len), [`BeginsBlock`](#def.BeginsBlock), [`packet_padding`](#def.packet_padding), [`bytes_of`](#def.bytes_of), [`packet_body`](#def.packet_body), [`IsEnhancedPacket`](#def.IsEnhancedPacket)
-//!
-//! # Types
-//!
-//! Types that are not public. Definitions use them as they are declared.
-//!
-//! <a id="def.PcapngOption"></a>
-//!
-//! ## `PcapngOption`
-//!
-//! A view of an option of a block: its code and its value, without the padding.
-//!
-//! ```text
-//! struct PcapngOption<'a> {
-//!     pub code: u16,
-//!     pub value: &'a [u8],
-//! }
-//! ```
 //!

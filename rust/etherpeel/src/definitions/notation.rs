@@ -40,6 +40,7 @@
 //! | `CapturePackets` | [`CaptureState`](crate::definitions::ether_pcap#def.CaptureState) |
 //! | `CaptureReader` | [`CaptureExpectation`](crate::definitions::ether_pcap#def.CaptureExpectation) |
 //! | `PcapRecords` | [`RecordState`](crate::definitions::ether_pcap#def.RecordState) |
+//! | `PcapngOptions` | [`OptionsState`](crate::definitions::ether_pcap#def.OptionsState) |
 //!
 //! # Statements
 //!

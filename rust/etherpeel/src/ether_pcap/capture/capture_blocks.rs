@@ -2,78 +2,72 @@
 
 use crate::ether_pcap::pcapng::enhanced_packet::packet_of_body;
 use crate::ether_pcap::{
-    ByteOrder, CaptureError, CaptureInterface, CaptureUnit, CapturedPacket, InterfaceTable,
-    PcapngBlock, SimplePacket,
+    ByteOrder, CaptureError, CaptureInterface, CapturedPacket, DescribedInterfaces, PcapngBlock,
+    ReadUnit, SimplePacket, UnitContent,
 };
 
 /// Reads the block at the front of bytes that do not begin with a section header.
 #[inline(always)]
-pub(in crate::ether_pcap) fn read_block<'a, T: InterfaceTable>(
+pub(in crate::ether_pcap) fn read_block<'a, I: DescribedInterfaces>(
     byte_order: ByteOrder,
-    interfaces: &mut T,
+    interfaces: &I,
     bytes: &'a [u8],
-) -> Result<CaptureUnit<'a>, CaptureError> {
+) -> Result<ReadUnit<'a>, CaptureError> {
     let block = match PcapngBlock::from_slice(byte_order, bytes) {
         Ok(block) => block,
         Err(error) => return Err(CaptureError::Block(error)),
     };
-    let packet = read_body(byte_order, interfaces, block)?;
-    Ok(CaptureUnit {
-        len: block.block_len(),
-        packet,
-    })
+    match read_body(byte_order, interfaces, block) {
+        Ok(content) => Ok(ReadUnit {
+            len: block.block_len(),
+            content,
+        }),
+        Err(error) => Err(error),
+    }
 }
 
-/// Returns the block's packet, if it has one. Appends the interface if the block describes one.
-#[inline]
-fn read_body<'a, T: InterfaceTable>(
+/// Reads what a block says, by its type.
+#[inline(always)]
+fn read_body<'a, I: DescribedInterfaces>(
     byte_order: ByteOrder,
-    interfaces: &mut T,
+    interfaces: &I,
     block: PcapngBlock<'a>,
-) -> Result<Option<CapturedPacket<'a>>, CaptureError> {
+) -> Result<UnitContent<'a>, CaptureError> {
     match block.block_type {
         PcapngBlock::INTERFACE_DESCRIPTION => {
-            add_interface(byte_order, interfaces, block.body)?;
-            Ok(None)
+            let interface = described(byte_order, block.body)?;
+            Ok(UnitContent::Interface(interface))
         }
         PcapngBlock::SIMPLE_PACKET => {
-            let packet = simple_packet(byte_order, interfaces.interfaces(), block.body)?;
-            Ok(Some(packet))
+            let packet = simple_packet(byte_order, interfaces, block.body)?;
+            Ok(UnitContent::Packet(packet))
         }
         PcapngBlock::ENHANCED_PACKET => {
-            let packet = enhanced_packet(byte_order, interfaces.interfaces(), true, block.body)?;
-            Ok(Some(packet))
+            let packet = enhanced_packet(byte_order, interfaces, true, block.body)?;
+            Ok(UnitContent::Packet(packet))
         }
         PcapngBlock::PACKET => {
-            let packet = enhanced_packet(byte_order, interfaces.interfaces(), false, block.body)?;
-            Ok(Some(packet))
+            let packet = enhanced_packet(byte_order, interfaces, false, block.body)?;
+            Ok(UnitContent::Packet(packet))
         }
-        _ => Ok(None),
+        _ => Ok(UnitContent::Other),
     }
 }
 
-/// Appends the interface that the body of an interface description describes.
+/// Reads the body of an interface description.
 #[inline]
-fn add_interface<T: InterfaceTable>(
-    byte_order: ByteOrder,
-    interfaces: &mut T,
-    body: &[u8],
-) -> Result<(), CaptureError> {
-    let interface = match CaptureInterface::from_body(byte_order, body) {
-        Ok(interface) => interface,
-        Err(error) => return Err(CaptureError::Body(error)),
-    };
-    if !interfaces.add(interface) {
-        return Err(CaptureError::TooManyInterfaces);
+fn described(byte_order: ByteOrder, body: &[u8]) -> Result<CaptureInterface, CaptureError> {
+    match CaptureInterface::from_body(byte_order, body) {
+        Ok(interface) => Ok(interface),
+        Err(error) => Err(CaptureError::Body(error)),
     }
-    Ok(())
 }
 
 /// Reads the body of a simple packet, whose interface is the first of the section.
 #[inline]
-fn simple_packet<'a>(
+fn simple_packet<'a, I: DescribedInterfaces>(
     byte_order: ByteOrder,
-    interfaces: &[CaptureInterface],
+    interfaces: &I,
     body: &'a [u8],
 ) -> Result<CapturedPacket<'a>, CaptureError> {
     let Some(interface) = interface_at(interfaces, 0) else {
@@ -96,9 +90,9 @@ fn simple_packet<'a>(
 
 /// Reads the body of an enhanced packet, or of an obsolete packet block.
 #[inline]
-fn enhanced_packet<'a>(
+fn enhanced_packet<'a, I: DescribedInterfaces>(
     byte_order: ByteOrder,
-    interfaces: &[CaptureInterface],
+    interfaces: &I,
     is_enhanced: bool,
     body: &'a [u8],
 ) -> Result<CapturedPacket<'a>, CaptureError> {
@@ -131,11 +125,6 @@ fn first_of(of_packet: Option<u8>, of_interface: Option<u8>) -> Option<u8> {
 
 /// The interface with this number, counted from 0.
 #[inline]
-pub(in crate::ether_pcap) fn interface_at(interfaces: &[CaptureInterface], number: u32) -> Option<CaptureInterface> {
-    let index = number as usize;
-    if index < interfaces.len() {
-        Some(interfaces[index])
-    } else {
-        None
-    }
+fn interface_at<I: DescribedInterfaces>(interfaces: &I, number: u32) -> Option<CaptureInterface> {
+    interfaces.interface(number)
 }

@@ -1,23 +1,10 @@
 //! A reader of capture files of either format, one unit at a time.
 
-use crate::ether_pcap::capture::capture_blocks::read_block;
-use crate::ether_pcap::capture::copying::{changed_block, changed_header, changed_section, keeps_block};
-use crate::ether_pcap::capture::editing::{edited_block, edited_record};
+use crate::ether_pcap::capture::described_interfaces::InterfaceSlice;
 use crate::ether_pcap::{
-    ByteOrder, CaptureError, CaptureUnit, CapturedPacket, CopiedUnit, CopyMode, EditedUnit,
-    FileHeader, InterfaceTable, PcapRecord, PcapngBlock, SectionHeader, Timestamp,
+    CaptureError, CaptureUnit, CapturedPacket, CopiedUnit, CopyMode, EditedUnit, InterfaceTable,
+    ReaderState, UnitContent,
 };
-
-/// How far a file was read.
-#[derive(Clone, Copy, Debug)]
-pub(in crate::ether_pcap) enum Progress {
-    /// Nothing.
-    Nothing,
-    /// The header of a classic file.
-    Classic(FileHeader),
-    /// A section header of a pcapng file, in this byte order.
-    Section(ByteOrder),
-}
 
 /// Reads capture files of the classic pcap format and of pcapng, one unit at a time.
 ///
@@ -55,7 +42,7 @@ pub(in crate::ether_pcap) enum Progress {
 /// ```
 #[derive(Clone, Debug)]
 pub struct CaptureReader<T: InterfaceTable> {
-    progress: Progress,
+    state: ReaderState,
     interfaces: T,
 }
 
@@ -76,7 +63,7 @@ impl<T: InterfaceTable> CaptureReader<T> {
     #[inline]
     pub fn new(interfaces: T) -> CaptureReader<T> {
         CaptureReader {
-            progress: Progress::Nothing,
+            state: ReaderState::Nothing,
             interfaces,
         }
     }
@@ -95,7 +82,7 @@ impl<T: InterfaceTable> CaptureReader<T> {
     #[must_use]
     #[inline]
     pub fn has_begun(&self) -> bool {
-        !matches!(self.progress, Progress::Nothing)
+        !matches!(self.state, ReaderState::Nothing)
     }
 
     /// Reads the unit at the front of a slice. Bytes after the unit are ignored.
@@ -135,39 +122,8 @@ impl<T: InterfaceTable> CaptureReader<T> {
         self.read_unit(bytes)
     }
 
-    /// The unit of a packet with other captured bytes and another original length.
-    ///
-    /// `unit` must have exactly the bytes of the unit that this reader read last. The captured and the original length
-    /// change, and in a block also both total lengths and the padding, which is then all zeros. Time, interface and
-    /// options are unchanged.
-    ///
-    /// Returns `None` for a simple packet, whose block gives no captured length; if `packet` has more than
-    /// [`PcapRecord::MAX_CAPTURED_LEN`] bytes; if `original_len` does not fit in 32 bits; and if the block would be
-    /// longer than [`PcapngBlock::MAX_LEN`]. If the unit is not a packet, nothing is claimed of the result.
-    ///
-    /// ```
-    /// use etherpeel::ether_pcap::{CaptureInterface, CaptureReader, EditedUnit};
-    /// use arrayvec::ArrayVec;
-    ///
-    /// # fn main() -> Result<(), Box<dyn std::error::Error>> {
-    /// let file = [
-    ///     0xA1, 0xB2, 0xC3, 0xD4, 0x00, 0x02, 0x00, 0x04, 0x00, 0x00, 0x00, 0x00, // file header
-    ///     0x00, 0x00, 0x00, 0x00, 0x00, 0x00, 0xFF, 0xFF, 0x00, 0x00, 0x00, 0x01, //
-    ///     0x00, 0x00, 0x00, 0x01, 0x00, 0x00, 0x00, 0x02, 0x00, 0x00, 0x00, 0x03, 0x00, 0x00, 0x00, 0x3C, // record
-    ///     0xAA, 0xBB, 0xCC,
-    /// ];
-    /// let mut reader = CaptureReader::new(ArrayVec::<CaptureInterface, 16>::new());
-    /// let header_len = reader.read(&file)?.len;
-    /// let record_len = reader.read(&file[header_len..])?.len;
-    /// let unit = &file[header_len..header_len + record_len];
-    /// let header = [
-    ///     0x00, 0x00, 0x00, 0x01, 0x00, 0x00, 0x00, 0x02, 0x00, 0x00, 0x00, 0x02, 0x00, 0x00, 0x00, 0x3B,
-    /// ];
-    /// let packet = &[0xAA, 0xCC];
-    /// assert_eq!(reader.edit_unit(unit, packet, 59), Some(EditedUnit::Record { header, packet }));
-    /// # Ok(())
-    /// # }
-    /// ```
+    /// The unit of a packet with other captured bytes and another original length, as [`ReaderState::edit_unit`]
+    /// gives it. `unit` must have exactly the bytes of the unit that this reader read last.
     ///
     /// <details><summary>Contract</summary>
     ///
@@ -185,54 +141,18 @@ impl<T: InterfaceTable> CaptureReader<T> {
     ///
     /// </details>
     #[must_use]
-    #[inline]
+    #[inline(always)]
     pub fn edit_unit<'a>(
         &self,
         unit: &'a [u8],
         packet: &'a [u8],
         original_len: u64,
     ) -> Option<EditedUnit<'a>> {
-        if packet.len() > PcapRecord::MAX_CAPTURED_LEN as usize
-            || original_len > u64::from(u32::MAX)
-        {
-            return None;
-        }
-        let original_len = original_len as u32;
-        match self.progress {
-            Progress::Nothing => None,
-            Progress::Classic(header) => edited_record(&header, unit, packet, original_len),
-            Progress::Section(byte_order) => edited_block(byte_order, unit, packet, original_len),
-        }
+        self.state.edit_unit(unit, packet, original_len)
     }
 
-    /// The bytes that a copy has for a unit without a packet.
-    ///
-    /// `unit` must have exactly the bytes of the unit that this reader read last. With [`CopyMode::Exact`] they are
-    /// copied as they are. With [`CopyMode::Changed`] the snap length of a file header or an interface description is
-    /// raised, so that it is still a bound if an edit makes packets longer; a section header gives no section length;
-    /// and a custom block of type [`PcapngBlock::UNCOPIED_CUSTOM`] is left out.
-    ///
-    /// ```
-    /// use etherpeel::ether_pcap::{CaptureInterface, CaptureReader, CopiedUnit, CopyMode};
-    /// use arrayvec::ArrayVec;
-    ///
-    /// # fn main() -> Result<(), Box<dyn std::error::Error>> {
-    /// let file = [
-    ///     0xA1, 0xB2, 0xC3, 0xD4, 0x00, 0x02, 0x00, 0x04, 0x00, 0x00, 0x00, 0x00, // file header
-    ///     0x00, 0x00, 0x00, 0x00, 0x00, 0x00, 0x00, 0x60, 0x00, 0x00, 0x00, 0x01, //
-    /// ];
-    /// let mut reader = CaptureReader::new(ArrayVec::<CaptureInterface, 16>::new());
-    /// let header_len = reader.read(&file)?.len;
-    /// let copied = reader.copy_unit(CopyMode::Changed { raise: 4 }, &file[..header_len]);
-    /// let wanted = CopiedUnit::SnapLen {
-    ///     front: &file[..16],
-    ///     snap_len: [0x00, 0x00, 0x00, 0x64],
-    ///     rest: &file[20..],
-    /// };
-    /// assert_eq!(copied, wanted);
-    /// # Ok(())
-    /// # }
-    /// ```
+    /// The bytes that a copy has for a unit without a packet, as [`ReaderState::copy_unit`] gives them. `unit` must
+    /// have exactly the bytes of the unit that this reader read last.
     ///
     /// <details><summary>Contract</summary>
     ///
@@ -250,30 +170,14 @@ impl<T: InterfaceTable> CaptureReader<T> {
     ///
     /// </details>
     #[must_use]
-    #[inline]
+    #[inline(always)]
     pub fn copy_unit<'a>(&self, mode: CopyMode, unit: &'a [u8]) -> CopiedUnit<'a> {
-        match mode {
-            CopyMode::Exact => CopiedUnit::Same(unit),
-            CopyMode::Changed { raise } => self.changed_unit(raise, unit),
-        }
+        self.state.copy_unit(mode, unit)
     }
 
-    /// The bytes that a changed copy has for a unit without a packet.
-    #[inline]
-    fn changed_unit<'a>(&self, raise: u32, unit: &'a [u8]) -> CopiedUnit<'a> {
-        match self.progress {
-            Progress::Nothing => CopiedUnit::Same(unit),
-            Progress::Classic(header) => changed_header(&header, raise, unit),
-            Progress::Section(_) if begins_section(unit) => changed_section(unit),
-            Progress::Section(byte_order) => changed_block(byte_order, raise, unit),
-        }
-    }
-
-    /// Tests that a copy can have the unit of a packet that is not edited, unchanged.
-    ///
-    /// `unit` must have exactly the bytes of the unit that this reader read last, and `packet` must be its packet. The
-    /// captured length of a simple packet is not stored: it follows from the snap length. So a simple packet that was
-    /// cut can't be copied where the snap length is raised.
+    /// Tests that a copy can have the unit of a packet that is not edited, unchanged, as
+    /// [`ReaderState::copies_packet`] does. `unit` must have exactly the bytes of the unit that this reader read last,
+    /// and `packet` must be its packet.
     ///
     /// <details><summary>Contract</summary>
     ///
@@ -291,72 +195,49 @@ impl<T: InterfaceTable> CaptureReader<T> {
     ///
     /// </details>
     #[must_use]
-    #[inline]
+    #[inline(always)]
     pub fn copies_packet(&self, mode: CopyMode, unit: &[u8], packet: &CapturedPacket<'_>) -> bool {
-        match (mode, self.progress) {
-            (CopyMode::Changed { raise }, Progress::Section(byte_order)) => {
-                keeps_block(byte_order, raise, unit, packet)
-            }
-            _ => true,
-        }
+        self.state.copies_packet(mode, unit, packet)
     }
 
     /// Does as `read`.
     #[inline(always)]
     fn read_unit<'a>(&mut self, bytes: &'a [u8]) -> Result<CaptureUnit<'a>, CaptureError> {
-        if let Progress::Classic(header) = self.progress {
-            return read_record(&header, bytes);
+        let interfaces = InterfaceSlice(self.interfaces.interfaces());
+        let unit = self.state.read(&interfaces, bytes)?;
+        if let UnitContent::Packet(packet) = unit.content {
+            return Ok(CaptureUnit {
+                len: unit.len,
+                packet: Some(packet),
+            });
         }
-        if begins_section(bytes) {
-            let section = match SectionHeader::from_slice(bytes) {
-                Ok(section) => section,
-                Err(error) => return Err(CaptureError::Section(error)),
-            };
-            let byte_order = section.byte_order;
-            let len = section.block.block_len();
-            self.progress = Progress::Section(byte_order);
-            self.interfaces.remove_all();
-            return Ok(CaptureUnit { len, packet: None });
-        }
-        if let Progress::Section(byte_order) = self.progress {
-            return read_block(byte_order, &mut self.interfaces, bytes);
-        }
-        let header = match FileHeader::from_slice(bytes) {
-            Ok(header) => header,
-            Err(error) => return Err(CaptureError::File(error)),
-        };
-        self.progress = Progress::Classic(header);
+        keep(&mut self.state, &mut self.interfaces, &unit.content)?;
         Ok(CaptureUnit {
-            len: FileHeader::LEN,
+            len: unit.len,
             packet: None,
         })
     }
 }
 
-/// Tests that a slice begins with the type of a section header.
+/// Keeps what a unit says of those after it, if there is room.
 #[inline]
-fn begins_section(bytes: &[u8]) -> bool {
-    bytes.len() >= 4 && ByteOrder::BigEndian.u32_at(bytes, 0) == PcapngBlock::SECTION_HEADER
-}
-
-/// Reads the record at the front of a slice.
-#[inline]
-fn read_record<'a>(header: &FileHeader, bytes: &'a [u8]) -> Result<CaptureUnit<'a>, CaptureError> {
-    let record = match PcapRecord::from_slice(header, bytes) {
-        Ok(record) => record,
-        Err(error) => return Err(CaptureError::Record(error)),
-    };
-    let time = Timestamp::from_nanoseconds(record.nanoseconds(header.resolution));
-    Ok(CaptureUnit {
-        len: record.record_len(),
-        packet: Some(CapturedPacket {
-            time: Some(time),
-            interface: None,
-            original_len: record.original_len,
-            link_type: header.link_type,
-            snap_len: header.snap_len,
-            fcs_len: header.fcs_len,
-            packet: record.packet,
-        }),
-    })
+fn keep<T: InterfaceTable>(
+    state: &mut ReaderState,
+    interfaces: &mut T,
+    content: &UnitContent<'_>,
+) -> Result<(), CaptureError> {
+    match content {
+        UnitContent::FileHeader(header) => *state = ReaderState::Classic(*header),
+        UnitContent::Section(byte_order) => {
+            *state = ReaderState::Section(*byte_order);
+            interfaces.remove_all();
+        }
+        UnitContent::Interface(interface) => {
+            if !interfaces.add(*interface) {
+                return Err(CaptureError::TooManyInterfaces);
+            }
+        }
+        UnitContent::Packet(_) | UnitContent::Other => {}
+    }
+    Ok(())
 }

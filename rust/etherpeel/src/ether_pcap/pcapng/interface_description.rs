@@ -2,7 +2,7 @@
 
 use crate::ether_pcap::pcapng::pcapng_option::{option_value, u64_option};
 use crate::ether_pcap::word_bytes::{four_words, half_words, len_word, three_words, word};
-use crate::ether_pcap::{BodyError, ByteOrder, LinkType, PcapngBlock};
+use crate::ether_pcap::{BodyError, ByteOrder, LinkType, PcapngBlock, PcapngOption};
 
 /// The code of the option with the resolution of times, `if_tsresol`.
 const TIME_RESOLUTION: u16 = 9;
@@ -31,11 +31,14 @@ const TIME_OFFSET: u16 = 14;
 /// # fn main() -> Result<(), Box<dyn std::error::Error>> {
 /// let body = [
 ///     0x00, 0x01, 0x00, 0x00, 0x00, 0x04, 0x00, 0x00, // link type, snap length
+///     0x00, 0x02, 0x00, 0x04, 0x65, 0x74, 0x68, 0x30, // if_name
 ///     0x00, 0x0D, 0x00, 0x01, 0x04, 0x00, 0x00, 0x00, // if_fcslen
 /// ];
 /// let interface = InterfaceDescription::from_body(ByteOrder::BigEndian, &body)?;
 /// assert_eq!(interface.link_type, LinkType::ETHERNET);
 /// assert_eq!(interface.snap_len, 262_144);
+/// assert_eq!(interface.name(), Some(b"eth0".as_slice()));
+/// assert_eq!(interface.description(), None);
 /// assert_eq!(interface.fcs_len(), Some(4));
 /// # Ok(())
 /// # }
@@ -48,7 +51,7 @@ pub struct InterfaceDescription<'a> {
     pub link_type: LinkType,
     /// The length in bytes to which longer packets were cut when they were captured; 0 if there is no limit.
     pub snap_len: u32,
-    /// The bytes of the options.
+    /// The bytes of the options, over which [`PcapngOptions`](crate::ether_pcap::PcapngOptions) iterates.
     pub options: &'a [u8],
 }
 
@@ -212,6 +215,48 @@ impl<'a> InterfaceDescription<'a> {
     #[inline]
     pub fn option(&self, code: u16) -> Option<&'a [u8]> {
         option_value(self.byte_order, self.options, code)
+    }
+
+    /// The value of the option `if_name`: the name of the interface on its machine, in UTF-8.
+    ///
+    /// <details><summary>Contract</summary>
+    ///
+    /// ```text
+    /// ensures { (all : List OptionValue) → HasOptions (order_of self.now.byte_order) self.now.options.now all
+    ///     → MatchOption result (value_of 2 all ≡ None) (λ name. value_of 2 all ≡ Some name.now) }
+    /// ```
+    ///
+    /// Words: [`OptionValue`](crate::definitions::ether_pcap#def.OptionValue),
+    /// [`HasOptions`](crate::definitions::ether_pcap#def.HasOptions),
+    /// [`order_of`](crate::definitions::ether_pcap#def.order_of),
+    /// [`value_of`](crate::definitions::ether_pcap#def.value_of). [Notation](crate::definitions::notation)
+    ///
+    /// </details>
+    #[must_use]
+    #[inline]
+    pub fn name(&self) -> Option<&'a [u8]> {
+        self.option(PcapngOption::INTERFACE_NAME)
+    }
+
+    /// The value of the option `if_description`, in UTF-8.
+    ///
+    /// <details><summary>Contract</summary>
+    ///
+    /// ```text
+    /// ensures { (all : List OptionValue) → HasOptions (order_of self.now.byte_order) self.now.options.now all
+    ///     → MatchOption result (value_of 3 all ≡ None) (λ text. value_of 3 all ≡ Some text.now) }
+    /// ```
+    ///
+    /// Words: [`OptionValue`](crate::definitions::ether_pcap#def.OptionValue),
+    /// [`HasOptions`](crate::definitions::ether_pcap#def.HasOptions),
+    /// [`order_of`](crate::definitions::ether_pcap#def.order_of),
+    /// [`value_of`](crate::definitions::ether_pcap#def.value_of). [Notation](crate::definitions::notation)
+    ///
+    /// </details>
+    #[must_use]
+    #[inline]
+    pub fn description(&self) -> Option<&'a [u8]> {
+        self.option(PcapngOption::INTERFACE_DESCRIPTION)
     }
 
     /// The value of the option `if_fcslen`, if it has one byte: the length of the frame check sequence at the end of

@@ -3,34 +3,46 @@
 use crate::ether_pcap::ByteOrder;
 use crate::ether_pcap::word_bytes::padded_len;
 
-/// A view of an option of a block: its code and its value, without the padding.
-#[derive(Clone, Copy)]
-pub(in crate::ether_pcap) struct PcapngOption<'a> {
+/// An option of a block: its code and its value (draft-ietf-opsawg-pcapng, section 3.5).
+///
+/// What a code means depends on the type of the block; only that of a comment is the same in each.
+#[derive(Clone, Copy, PartialEq, Eq, Debug)]
+pub struct PcapngOption<'a> {
+    /// The code.
     pub code: u16,
+    /// The value, without its padding. The value of a text is UTF-8, and has no 0 at its end.
     pub value: &'a [u8],
 }
 
 impl<'a> PcapngOption<'a> {
-    /// Reads the option at the front of a slice. Returns `None` if the slice begins with the end of options, or ends
-    /// within an option.
+    /// The code of a comment on the block, `opt_comment`. A block may have several.
+    pub const COMMENT: u16 = 1;
+    /// The code of an interface's name, `if_name`, in an interface description.
+    pub const INTERFACE_NAME: u16 = 2;
+    /// The code of an interface's description, `if_description`, in an interface description.
+    pub const INTERFACE_DESCRIPTION: u16 = 3;
+
+    /// Tests that the option is a comment on the block.
     ///
     /// <details><summary>Contract</summary>
     ///
     /// ```text
-    /// ensures { MatchOption result
-    ///     ((o : OptionValue) → BeginsOption (order_of byte_order) slice.now o → ⊥)
-    ///     (λ o. BeginsOption (order_of byte_order) slice.now (option_view o)) }
+    /// ensures { IsTrue result ↔ (self.now.code ≡ 1) }
     /// ```
     ///
-    /// Words: [`OptionValue`](crate::definitions::ether_pcap#def.OptionValue),
-    /// [`BeginsOption`](crate::definitions::ether_pcap#def.BeginsOption),
-    /// [`order_of`](crate::definitions::ether_pcap#def.order_of),
-    /// [`option_view`](crate::definitions::ether_pcap#def.option_view). [Notation](crate::definitions::notation)
+    /// [Notation](crate::definitions::notation)
     ///
     /// </details>
     #[must_use]
     #[inline]
-    pub fn first(byte_order: ByteOrder, slice: &'a [u8]) -> Option<PcapngOption<'a>> {
+    pub fn is_comment(&self) -> bool {
+        self.code == PcapngOption::COMMENT
+    }
+
+    /// Reads the option at the front of a slice. Returns `None` if the slice begins with the end of options, or ends
+    /// within an option.
+    #[inline]
+    pub(in crate::ether_pcap) fn first(byte_order: ByteOrder, slice: &'a [u8]) -> Option<PcapngOption<'a>> {
         if slice.len() < 4 {
             return None;
         }
@@ -49,19 +61,8 @@ impl<'a> PcapngOption<'a> {
     }
 
     /// The length of the option in bytes, with its padding.
-    ///
-    /// <details><summary>Contract</summary>
-    ///
-    /// ```text
-    /// ensures { result ≡ 4 + padded (length self.now.value.now) }
-    /// ```
-    ///
-    /// Words: [`padded`](crate::definitions::ether_pcap#def.padded). [Notation](crate::definitions::notation)
-    ///
-    /// </details>
-    #[must_use]
     #[inline]
-    pub fn option_len(&self) -> usize {
+    pub(in crate::ether_pcap) fn option_len(&self) -> usize {
         4 + padded_len(self.value.len())
     }
 }

@@ -3,12 +3,15 @@
 mod blocks;
 mod captures;
 mod classic;
+mod copies;
 mod editing;
 mod examples;
 mod interfaces;
+mod options;
 mod packets;
 mod pcapng_captures;
 mod sections;
+mod states;
 mod texts;
 mod units;
 

@@ -7,11 +7,11 @@ use Rattle.ether_pcap.proofs.Options.{some_options}
 use Rattle.ether_pcap.proofs.capture.capture_blocks.enhanced_packet.Goals as goal
 
 pub returns-in_default-clause-refused : goal.returns-in_default-clause-refused
-returns-in_default-clause-refused c most =
+returns-in_default-clause-refused g c most =
     enhanced_alone _ (enhanced_packet_view c.in-Ok.packet) c.in-Ok.ensures.packet c.in_default.ensures
 
 pub returns-clause-packet : goal.returns-clause-packet
-returns-clause-packet c most =
+returns-clause-packet g c most =
     let p = enhanced_packet_view c.in-Ok.packet in
     let i = capture_interface_view c.in-Some.interface in
     let all = some_options (order_of c.args.byte_order) p.options in

@@ -1,5 +1,6 @@
-use Rattle.ether_pcap.proofs.Captures.{is_at}
+use Rattle.ether_pcap.proofs.UnitsRead.{looked_up}
 use Rattle.ether_pcap.proofs.capture.capture_blocks.interface_at.Goals as goal
 
-pub returns-then-index-interfaces : goal.returns-then-index-interfaces
-returns-then-index-interfaces c = is_at c.args.interfaces.now c.args.number _ c.if-index-interfaces.true
+pub returns : goal.returns
+returns g c =
+    looked_up (g.I.DescribedInterfaces.items c.args.interfaces.now) c.args.number c.interface.result c.interface.ensures

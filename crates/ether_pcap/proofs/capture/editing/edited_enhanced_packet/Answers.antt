@@ -1,9 +1,9 @@
-use Rattle.std.proofs.Common.{◌≡◌, ◌-◌, ◌+◌, ℕ, length, ap, ◌∙◌, arith}
+use Rattle.std.proofs.Common.{◌≡◌, ◌-◌, ◌+◌, ℕ, length, take, drop, ap, ◌∙◌, arith, rules}
 use Rattle.std.specs.Prelude.{slice_range}
 use Rattle.ether_pcap.specs.Options.{padded}
 use Rattle.ether_pcap.specs.Editing.{EditedValue}
 use Rattle.ether_pcap.specs.Views.{order_of}
-use Rattle.ether_pcap.proofs.EditedBlocks.{captured_at, padded_within, too_long_block, written_block}
+use Rattle.ether_pcap.proofs.EditedBlocks.{captured_at, length-parts, padded_within, too_long_block, written_block}
 use Rattle.ether_pcap.proofs.capture.editing.edited_enhanced_packet.Goals as goal
 
 pub returns-then-captured_len-gt-MAX_CAPTURED_LEN-clause-unit :
@@ -50,3 +50,14 @@ returns-clause-unit c number_len v sound is =
     (omega (arith, at, to))
     (omega (arith, c.if-total_len.false))
     c.len_word.ensures
+
+pub returns-clause-len : goal.returns-clause-len
+returns-clause-len c =
+    let at = 28 + c.padded_len-options_at.result in
+    let front : length c.block_header.result ≡ 28 = search rules in
+    let back : length c.len_word.result ≡ 4 = search rules in
+    let parts =
+    length-parts c.block_header.result c.args.packet.now
+    (take (length c.args.block.now - 4 - at) (drop at c.args.block.now)) c.len_word.result
+    (c.padded_len-padded.result - length c.args.packet.now) front back in
+    omega (arith, parts, c.if-total_len.false, c.padded_len-padded.ensures)

@@ -1,0 +1,77 @@
+//! An iterator over the options at the end of a block.
+ghost use Rattle.std.specs.Prelude.{◌≡◌};
+ghost use Rattle.ether_pcap.specs.OptionReading.{OptionsState};
+
+use crate::pcapng::pcapng_option::bytes_from;
+use crate::{ByteOrder, PcapngOption};
+use std::marker::Model;
+
+/// The options at the end of a block, one after the other, up to the end of options, or up to one that is cut.
+///
+/// ```
+/// let bytes = [
+///     0x00, 0x02, 0x00, 0x04, 0x65, 0x74, 0x68, 0x30, // if_name: eth0
+///     0x00, 0x0D, 0x00, 0x01, 0x04, 0x00, 0x00, 0x00, // if_fcslen: 4
+///     0x00, 0x00, 0x00, 0x00, // the end of options
+/// ];
+/// let mut options = PcapngOptions::from_slice(ByteOrder::BigEndian, &bytes);
+/// let name = PcapngOption {
+///     code: PcapngOption::INTERFACE_NAME,
+///     value: b"eth0",
+/// };
+/// let fcs_len = PcapngOption {
+///     code: 13,
+///     value: &[4],
+/// };
+/// assert_eq!(rt; options.next(), Some(name));
+/// assert_eq!(rt; options.next(), Some(fcs_len));
+/// assert_eq!(rt; options.next(), None);
+/// ```
+#[derive(Drop)]
+pub struct PcapngOptions<'a> {
+    byte_order: ByteOrder,
+    rest: &'a [u8],
+}
+
+impl<'a> Model for PcapngOptions<'a> {
+    ghost use Rattle.ether_pcap.specs.OptionReading.{OptionsState};
+
+    ghost Value = { OptionsState };
+
+    ghost view = { λ a. record { byte_order = a.byte_order; rest = a.rest.now } };
+}
+
+impl<'a> PcapngOptions<'a> {
+    /// An iterator over the options that these bytes begin with, as
+    /// [`InterfaceDescription::options`](crate::InterfaceDescription::options) are.
+    pub fn from_slice(byte_order: ByteOrder, options: &'a [u8]) -> PcapngOptions<'a>
+        ensures { result ≡ record { byte_order = byte_order; rest = options.now } }
+    {
+        PcapngOptions {
+            byte_order,
+            rest: options,
+        }
+    }
+}
+
+impl<'a> Iterator for PcapngOptions<'a> {
+    type Item = PcapngOption<'a>;
+
+    ghost use Rattle.ether_pcap.specs.OptionReading.{OptionGives, items_left};
+
+    ghost next_gives = { OptionGives };
+
+    ghost remaining = { items_left };
+
+    /// Returns the next option.
+    fn next(&mut self) -> Option<PcapngOption<'a>> {
+        let option = PcapngOption::first(self.byte_order, self.rest)?;
+        self.rest = bytes_from(self.rest, option.option_len());
+        Some(option)
+    }
+
+    /// At most one option for each four bytes left.
+    fn size_hint(&self) -> (usize, Option<usize>) {
+        (0, Some(self.rest.len() / 4))
+    }
+}
