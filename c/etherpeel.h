@@ -14,8 +14,8 @@
  *            as many elements as `room` says; what etherpeel_build, etherpeel_write_frame,
  *            etherpeel_rows and etherpeel_select read to `count`. NULL is allowed if that is 0. A
  *            pointer to one struct or number must not be NULL. The memory must be aligned for its
- *            type. Memory that is only written to need not be initialized, except for `packets` and
- *            an etherpeel_frame.
+ *            type. Memory that is only written to need not be initialized, except for `packets`,
+ *            `packet` and an etherpeel_frame.
  *   Structs  Pointers in a struct, and the lengths of what they point to, must be right. All other
  *            numbers may be any: those that don't fit are refused, as ETHERPEEL_BAD_FIELD or
  *            ETHERPEEL_BAD_KIND, or the call says what they mean. A filter or a table of stations
@@ -27,16 +27,18 @@
  *            Offsets count bytes from the start of the frame; those of fields count bits.
  *   Order    Numbers that are passed, and those of structs, are in the byte order of the machine
  *            (host byte order); addresses are bytes in the order of the frame.
- *   Result   ETHERPEEL_DONE, or why the call did nothing; etherpeel_capture, etherpeel_select,
- *            etherpeel_linux_sll2, etherpeel_build, etherpeel_write_frame and those that replace
- *            headers say what they write even then. After ETHERPEEL_UNKNOWN_START nothing was
- *            written at all; after ETHERPEEL_NO_ROOM only the length that the target needs, if the
- *            call gives one; after ETHERPEEL_NO_TEXT only the length 0.
+ *   Result   ETHERPEEL_DONE, or why the call did nothing; etherpeel_capture,
+ *            etherpeel_reader_read, etherpeel_select, etherpeel_linux_sll2, etherpeel_build,
+ *            etherpeel_write_frame and those that replace headers say what they write even then.
+ *            After ETHERPEEL_UNKNOWN_START nothing was written at all; after ETHERPEEL_NO_ROOM only
+ *            the length that the target needs, if the call gives one; after ETHERPEEL_NO_TEXT only
+ *            the length 0.
  *   Memory   No call allocates, blocks, or stores anything between calls, so each is thread-safe.
- *            etherpeel_completion and etherpeel_fault_text take some 2.5 KB of stack,
- *            etherpeel_fields 5 KB, etherpeel_replace_arp 14 KB, etherpeel_build and
- *            etherpeel_write_frame 18 KB, the calls for filters 40 KB, etherpeel_format 70 KB, the
- *            calls for capture files 300 KB, and all others less than 1 KB.
+ *            etherpeel_reader_fault_text takes some 1.5 KB of stack, etherpeel_completion and
+ *            etherpeel_fault_text 2.5 KB, etherpeel_fields 5 KB, etherpeel_replace_arp 14 KB,
+ *            etherpeel_build and etherpeel_write_frame 18 KB, the calls for filters 40 KB,
+ *            etherpeel_format 70 KB, etherpeel_capture and etherpeel_capture_fault_text 300 KB, and
+ *            all others less than 1 KB.
  *   Time     Linear in the number of headers, at most len / 4 in a frame, or of units in a capture
  *            file. etherpeel_write_back and etherpeel_write_frame also copy the frame,
  *            etherpeel_build the payload.
@@ -135,7 +137,10 @@ enum etherpeel_status {
     ETHERPEEL_STAYS = 21,
 
     /* The text names no format of a packet. */
-    ETHERPEEL_BAD_FORMAT = 22
+    ETHERPEEL_BAD_FORMAT = 22,
+
+    /* The unit of a packet can't be edited, or a copy can't have it. */
+    ETHERPEEL_UNCOPIED = 23
 };
 
 /* What a frame begins with: the parameter `start` of each call. The parameter `ether_type` is read
@@ -150,6 +155,16 @@ enum etherpeel_start {
     /* What `ether_type` announces: a VLAN tag, a SecTag, an ARP packet, or a payload that is not
      * read further. */
     ETHERPEEL_START_ETHER_TYPE = 4
+};
+
+/* How far a capture file was read: `state` of etherpeel_reader. */
+enum etherpeel_reader_state {
+    /* Nothing of the file was read. */
+    ETHERPEEL_READER_BEGINNING = 0,
+    /* The header of a classic file was read. Records follow. */
+    ETHERPEEL_READER_CLASSIC = 1,
+    /* The header of a section of a pcapng file was read. Blocks follow. */
+    ETHERPEEL_READER_SECTION = 2
 };
 
 /* The kind of a unit. */
@@ -297,7 +312,7 @@ enum etherpeel_decision {
     ETHERPEEL_FAILS = 0,
     /* The filter selects the packet. */
     ETHERPEEL_MATCHES = 1,
-    /* The packet was cut, and its captured bytes do not decide whether the filter selects it. */
+    /* The packet or frame was cut, and its bytes do not decide whether the filter selects it. */
     ETHERPEEL_UNDECIDED = 2
 };
 
@@ -619,6 +634,53 @@ typedef struct etherpeel_capture_end {
     size_t needed; /* the minimum length of this unit if ETHERPEEL_SHORT is returned, else 0 */
 } etherpeel_capture_end;
 
+/* How far a capture file was read. All 0 is the beginning of a file. */
+typedef struct etherpeel_reader {
+    size_t interface_count;   /* how many interfaces the section has described so far */
+    uint32_t snap_len;        /* of a classic file */
+    uint16_t link_type;       /* of a classic file */
+    uint8_t state;            /* enum etherpeel_reader_state */
+    uint8_t is_little_endian; /* 0 if the file or the section has the highest byte first */
+    uint8_t has_nanoseconds;  /* 0 if times of a classic file are in microseconds */
+    uint8_t has_fcs_len;      /* 1 if a classic file gives the length of the frame check sequence */
+    uint8_t fcs_len;          /* that length in bytes; else 0 */
+} etherpeel_reader;
+
+/* An interface that a section of a pcapng file describes. */
+typedef struct etherpeel_interface {
+    uint64_t time_offset; /* seconds that are added to each time, in two's complement */
+    uint32_t snap_len;    /* the most bytes captured of a packet; 0 if there is no limit */
+    uint16_t link_type;   /* what its packets begin with: etherpeel_start_of_link_type */
+    uint8_t has_fcs_len;  /* 1 if the section gives the length of the frame check sequence */
+    uint8_t fcs_len;      /* that length in bytes; else 0 */
+    uint8_t has_time_resolution; /* 1 if the section gives the unit of times; else microseconds */
+    uint8_t time_resolution; /* 10^-n seconds for n below 128, else 2^-(n - 128) seconds */
+} etherpeel_interface;
+
+/* A header, record or block of a capture file that was read. */
+typedef struct etherpeel_read_unit {
+    size_t len;            /* its length in bytes; 0 if it was not read */
+    size_t needed;         /* its minimum length if ETHERPEEL_SHORT is returned, else 0 */
+    uint32_t interface;    /* the number of the packet's interface in its section; else 0 */
+    uint8_t has_packet;    /* 1 if it has a packet */
+    uint8_t has_interface; /* 1 if the packet has an interface; one of a classic file does not */
+} etherpeel_read_unit;
+
+/* The codes of options whose values are texts, in UTF-8 without a 0 byte at the end. The first is
+ * for each block, the others are for interface descriptions. */
+enum etherpeel_option_code {
+    ETHERPEEL_OPTION_COMMENT = 1,
+    ETHERPEEL_OPTION_INTERFACE_NAME = 2,
+    ETHERPEEL_OPTION_INTERFACE_DESCRIPTION = 3
+};
+
+/* An option of a block of a pcapng file. */
+typedef struct etherpeel_option {
+    const uint8_t *value; /* in the block, without padding */
+    size_t value_len;
+    uint16_t code; /* what the value is, by the type of the block: enum etherpeel_option_code */
+} etherpeel_option;
+
 /* A header of Linux cooked capture v2, and what to pass with its payload to calls for frames. */
 typedef struct etherpeel_linux_sll2_header {
     size_t payload_start;     /* 20 */
@@ -764,7 +826,11 @@ enum etherpeel_struct {
     ETHERPEEL_STRUCT_PORT_STATES = 25,
     ETHERPEEL_STRUCT_STATIC_ENTRY = 26,
     ETHERPEEL_STRUCT_BRIDGE = 27,
-    ETHERPEEL_STRUCT_ROW = 28
+    ETHERPEEL_STRUCT_READER = 28,
+    ETHERPEEL_STRUCT_INTERFACE = 29,
+    ETHERPEEL_STRUCT_READ_UNIT = 30,
+    ETHERPEEL_STRUCT_ROW = 31,
+    ETHERPEEL_STRUCT_OPTION = 32
 };
 
 /* etherpeel_version - the version of the library, as ETHERPEEL_VERSION is that of this header
@@ -816,7 +882,11 @@ static inline int etherpeel_fits(void) {
            etherpeel_sizeof(ETHERPEEL_STRUCT_PORT_STATES) == sizeof(etherpeel_port_states) &&
            etherpeel_sizeof(ETHERPEEL_STRUCT_STATIC_ENTRY) == sizeof(etherpeel_static_entry) &&
            etherpeel_sizeof(ETHERPEEL_STRUCT_BRIDGE) == sizeof(etherpeel_bridge) &&
-           etherpeel_sizeof(ETHERPEEL_STRUCT_ROW) == sizeof(etherpeel_row);
+           etherpeel_sizeof(ETHERPEEL_STRUCT_READER) == sizeof(etherpeel_reader) &&
+           etherpeel_sizeof(ETHERPEEL_STRUCT_INTERFACE) == sizeof(etherpeel_interface) &&
+           etherpeel_sizeof(ETHERPEEL_STRUCT_READ_UNIT) == sizeof(etherpeel_read_unit) &&
+           etherpeel_sizeof(ETHERPEEL_STRUCT_ROW) == sizeof(etherpeel_row) &&
+           etherpeel_sizeof(ETHERPEEL_STRUCT_OPTION) == sizeof(etherpeel_option);
 }
 
 /* etherpeel_start_of_link_type - the number of enum etherpeel_start for packets of a link type, 0
@@ -1255,6 +1325,115 @@ uint32_t etherpeel_captured_frame(const etherpeel_captured *packet, etherpeel_fr
 uint32_t etherpeel_rows(const etherpeel_captured *packets, size_t count, etherpeel_row *rows,
                         size_t room);
 
+/* ---- Capture files as streams ----
+ *
+ * Classic pcap and pcapng files, read unit by unit: from a pipe, or a file that is longer than the
+ * memory. A unit is the header or a record of a classic file, or a block of a pcapng file. The
+ * caller keeps an etherpeel_reader, which is all 0 at the beginning of a file, and an array with the
+ * interfaces of the section. Both hold numbers alone, so a copy of both goes on from the same place.
+ */
+
+/* etherpeel_reader_read - the unit at the front of bytes of a capture file
+ *
+ * Returns ETHERPEEL_DONE if the unit is read. unit->len is its length: pass the bytes after it to
+ * the next call. If unit->has_packet is 1, *packet is its packet, which points into `bytes`; else
+ * *packet is unchanged. *reader says where the file goes on, and interfaces[0] .. are those that
+ * the section has described so far, reader->interface_count of them. The header of a section ends
+ * the section before it, and sets this number to 0. Bytes after the unit are ignored.
+ * Returns ETHERPEEL_SHORT if the bytes end within the unit. unit->needed is more than `len`: call
+ * again with that many bytes at least. If there are no more, the file is cut short; but if `len` is
+ * 0, and reader->state is not ETHERPEEL_READER_BEGINNING, it is complete. A unit needs at most
+ * 16 MiB.
+ * Returns ETHERPEEL_BAD_CAPTURE if the unit can't be read, however many bytes follow, or if it
+ * describes an interface for which the array has no room. After these two statuses only *unit is
+ * set, and all of it is 0 except for `needed`.
+ * Returns ETHERPEEL_BAD_FIELD if reader->state is not a number of enum etherpeel_reader_state, or
+ * reader->interface_count is above `room`, and then writes nothing. All other values are taken as
+ * they are, also if no call has written them.
+ * `room` is the length of the array `interfaces`; 0 will do for classic files. The elements that
+ * reader->interface_count counts must be initialized, and so must *packet, which may be all 0.
+ * Overlap: bytes, *reader, interfaces, *packet and *unit must not overlap. Every number is in host
+ * byte order, whatever its order in the file. Thread-safe; takes no memory.
+ */
+uint32_t etherpeel_reader_read(etherpeel_reader *reader, etherpeel_interface *interfaces,
+                               size_t room, const uint8_t *bytes, size_t len,
+                               etherpeel_captured *packet, etherpeel_read_unit *unit);
+
+/* etherpeel_reader_fault_text - why the unit at the front of bytes can't be read, in English
+ *
+ * Takes what was passed to a call of etherpeel_reader_read that returned ETHERPEEL_SHORT or
+ * ETHERPEEL_BAD_CAPTURE. Writes the text to the front of `text`, in ASCII with no 0 byte at its
+ * end. *text_len is its length, fewer than 512 bytes; it is 0 if the unit can be read.
+ * Returns ETHERPEEL_DONE; ETHERPEEL_NO_ROOM if `text_room` is smaller than *text_len, and then
+ * `text` is unchanged; or ETHERPEEL_BAD_FIELD if etherpeel_reader_read would, and then nothing is
+ * written. ETHERPEEL_NO_TEXT is not ruled out by proof; after it *text_len is 0, and `text` is
+ * unchanged.
+ * Overlap: text and *text_len must overlap neither each other nor what is read. Every number is in
+ * host byte order. Thread-safe; takes no memory.
+ */
+uint32_t etherpeel_reader_fault_text(const etherpeel_reader *reader,
+                                     const etherpeel_interface *interfaces, size_t room,
+                                     const uint8_t *bytes, size_t len, char *text, size_t text_room,
+                                     size_t *text_len);
+
+/* etherpeel_reader_options - the options of the unit at the front of bytes of a pcapng file
+ *
+ * Those of a section header, an interface description, an enhanced packet or an obsolete packet
+ * block: the name of an interface, comments and others. *count is their number, and the array gets
+ * as many as it has room for; elements after them are unchanged. Their values point into `bytes`.
+ * Options are read up to the end of options, or up to one that is cut. What a code means depends on
+ * the block: it is an interface description if etherpeel_reader_read has raised
+ * reader->interface_count by 1, and a packet if unit->has_packet is 1. Simple packets have no
+ * options, and those of other blocks are not read: *count is 0, as it is if etherpeel_reader_read
+ * can't read the unit, or in a classic file.
+ * Returns ETHERPEEL_DONE; or ETHERPEEL_BAD_FIELD if reader->state is not a number of enum
+ * etherpeel_reader_state, and then writes nothing. *reader may be from before or after the unit was
+ * read.
+ * `room` is the length of the array `options`, which must be initialized, and may be all 0.
+ * Overlap: bytes, *reader, options and *count must not overlap. Every number is in host byte order.
+ * Thread-safe; takes no memory.
+ */
+uint32_t etherpeel_reader_options(const etherpeel_reader *reader, const uint8_t *bytes, size_t len,
+                                  etherpeel_option *options, size_t room, size_t *count);
+
+/* etherpeel_reader_edit - the unit of a packet with other captured bytes
+ *
+ * `bytes` must be exactly those of the unit that was read, and *reader must be from after it.
+ * Writes the unit to the front of `target`, with these captured bytes and this original length.
+ * Time, interface and options are unchanged. *written is the length of the unit.
+ * Returns ETHERPEEL_DONE; ETHERPEEL_NO_ROOM if `room` is smaller than *written; or
+ * ETHERPEEL_UNCOPIED for a simple packet, whose block gives no captured length, if `packet_len` is
+ * above 262,144 or `original_len` above 4,294,967,295, or if the block would have more than 16 MiB;
+ * *written is then 0. After both, `target` is unchanged. Returns ETHERPEEL_BAD_FIELD if
+ * reader->state is not a number of enum etherpeel_reader_state, and then writes nothing. If the
+ * bytes are not the unit of a packet, some bytes are written, or one of these is returned.
+ * Overlap: target and *written must overlap neither each other nor what is read. Every number is in
+ * host byte order, whatever its order in the file. Thread-safe; takes no memory.
+ */
+uint32_t etherpeel_reader_edit(const etherpeel_reader *reader, const uint8_t *bytes, size_t len,
+                               const uint8_t *packet, size_t packet_len, uint64_t original_len,
+                               uint8_t *target, size_t room, size_t *written);
+
+/* etherpeel_reader_copy - what a copy has for a unit, if some packets are edited or left out
+ *
+ * `bytes` must be exactly those of the unit that was read, `has_packet` what etherpeel_read_unit
+ * says of it, and *reader and the `interface_room` elements of `interfaces` from after it. Writes
+ * what the copy has to the front of `target`: snap lengths are raised by `raise`, which must be at
+ * least the number of bytes by which an edit makes a packet longer; a section header gives no
+ * section length; a custom block that is not meant to be copied is left out, and *written is then
+ * 0; all other units are unchanged. *written is the number of bytes.
+ * Returns ETHERPEEL_DONE; ETHERPEEL_NO_ROOM if `room` is smaller than *written; or
+ * ETHERPEEL_UNCOPIED for a simple packet that was cut at a snap length that is raised, since its
+ * block gives no captured length; *written is then 0. After both, `target` is unchanged. Returns
+ * ETHERPEEL_BAD_FIELD if etherpeel_reader_read would for this reader, and then writes nothing.
+ * Overlap: target and *written must overlap neither each other nor what is read. Every number is in
+ * host byte order, whatever its order in the file. Thread-safe; takes no memory.
+ */
+uint32_t etherpeel_reader_copy(const etherpeel_reader *reader,
+                               const etherpeel_interface *interfaces, size_t interface_room,
+                               uint32_t raise, uint32_t has_packet, const uint8_t *bytes,
+                               size_t len, uint8_t *target, size_t room, size_t *written);
+
 /* ---- Packets on one line ---- */
 
 /* etherpeel_format - a packet on one line, as ether_capture prints it
@@ -1426,6 +1605,23 @@ uint32_t etherpeel_filter_matches(const etherpeel_filter *filter, const etherpee
  * no memory.
  */
 uint32_t etherpeel_filter_decide(const etherpeel_filter *filter, const etherpeel_captured *packet);
+
+/* etherpeel_filter_frame - whether a filter selects a frame, and how many of its bytes decide it
+ *
+ * Does as etherpeel_filter_decide for a frame that had `original_len` bytes before it was cut, and
+ * that has no time. Sets *decision to a number of enum etherpeel_decision, and *needed to 0; but
+ * after ETHERPEEL_UNDECIDED to a length below which the filter remains undecided, whatever bytes
+ * follow these, so that a reader can ask for as many. frame.captured and cut are about the bytes
+ * that are passed, as if no more were captured.
+ * Returns ETHERPEEL_DONE; or ETHERPEEL_UNKNOWN_START, and then writes nothing. For a filter that
+ * etherpeel_filter_parse did not write, nothing is claimed of what is written.
+ * Overlap: *decision and *needed must overlap neither each other nor what is read.
+ * Every number is in host byte order. Thread-safe, also with one filter in several threads; takes
+ * no memory.
+ */
+uint32_t etherpeel_filter_frame(const etherpeel_filter *filter, uint32_t start, uint16_t ether_type,
+                                const uint8_t *bytes, size_t len, uint32_t original_len,
+                                uint32_t *decision, size_t *needed);
 
 /* etherpeel_filter_select - the packets that a filter selects
  *

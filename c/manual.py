@@ -15,6 +15,7 @@ GROUPS = {
     "Headers replaced in place": ("etherpeel_replacing", "headers replaced in place"),
     "Packets built": ("etherpeel_building", "packets built from headers and a payload"),
     "Capture files": ("etherpeel_captures", "the packets of capture files"),
+    "Capture files as streams": ("etherpeel_readers", "capture files read unit by unit"),
     "Packets on one line": ("etherpeel_lines", "packets on one line"),
     "Names": ("etherpeel_names", "what fields and numbers are called"),
     "Linux cooked capture v2": ("etherpeel_cooked_v2", "headers of Linux cooked capture v2"),

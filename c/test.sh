@@ -196,12 +196,14 @@ if [ -n "$python" ]; then callers_in_python; fi
 if [ "$with" = built ] && [ -n "$cc" ]; then
     run "The examples" sh tests/examples.sh "$cc" "$library" "" "$work"
     run "docs/C.md" "${PYTHON:-python3}" tests/c_document.py "$cc" "$library" "$work/page"
+    run "The copies of captures" "${PYTHON:-python3}" tests/copies.py "$cc" "$library" "$work/copies"
 fi
 if [ -n "$cc" ] && [ -n "$python" ]; then
     run "The examples" sh tests/examples.sh "$cc" "$library" "$python" "$work"
     run "The VLANs of captures" "$python" tests/vlan_examples.py "$work/vlans" "$work/package" $dask
     run "The recipe for dask" "$python" tests/recipes.py "$cc" "$PWD/$library" "$work/recipes"
     run "docs/C.md" "$python" tests/c_document.py "$cc" "$PWD/$library" "$work/page"
+    run "The copies of captures" "$python" tests/copies.py "$cc" "$PWD/$library" "$work/copies"
     if [ -x ../crates/ether_tool/out/ether_tool ]; then
         run "The lines of the tool" sh tests/lines.sh "$cc" "$library" "$python" "$work"
     else

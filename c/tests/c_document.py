@@ -36,6 +36,28 @@ int main(int argc, char **argv) {
     return moved == NULL || move_to_vlan(buffer, len, 4096) != NULL;
 }
 """
+# What becomes of c/examples/sample.pcap if it comes from a pipe: the first bytes that the program takes, its packets, what is returned.
+# Its file header has 24 bytes; the longest of its four records has 58, so that many bytes of memory are enough.
+READ = {
+    (190, 190): (4, 0),
+    (190, 58): (4, 0),
+    (190, 57): (1, 12),
+    (24, 58): (0, 0),
+    (100, 58): (1, 12),
+    (0, 58): (0, 12),
+}
+READING = """
+#include <stdio.h>
+#include <stdlib.h>
+static int found;
+void use_packet(const etherpeel_captured *packet) { found += packet->packet_len > 0; }
+int main(int argc, char **argv) {
+    static uint8_t buffer[190];
+    const uint32_t status = read_capture(0, buffer, (size_t)atoi(argv[argc - 1]));
+    printf("%d %u", found, status);
+    return 0;
+}
+"""
 cc, library, work = words("CC", "LIBRARY", "FOLDER")
 runner = os.environ.get("RUNNER", "").split()
 clone, bin = f"{work}/clone", f"{work}/bin"
@@ -100,15 +122,31 @@ def run(commands):
     return said
 
 
+def built(name, code):
+    """The path of a program that has an example, or None if it can't be built."""
+    path = f"{work}/{name}"
+    done = subprocess.run([cc, *WARNINGS, "-o", path, "-", "-x", "none", library], input=code, capture_output=True, text=True)
+    check(f"{name} is built", done.returncode == 0, done.stderr)
+    return path if done.returncode == 0 else None
+
+
 def moves(code):
     """Runs the example that moves a frame to another VLAN."""
-    path, addresses = f"{work}/moves", "ffffffffffff020000000001"
-    done = subprocess.run([cc, *WARNINGS, "-o", path, "-", "-x", "none", library], input=code + MOVING, capture_output=True, text=True)
-    check("move_to_vlan is built", done.returncode == 0, done.stderr)
-    for frame, wanted in MOVED.items() if done.returncode == 0 else ():
+    path, addresses = built("move_to_vlan", code + MOVING), "ffffffffffff020000000001"
+    for frame, wanted in MOVED.items() if path else ():
         ran = subprocess.run([*runner, path, addresses + frame.replace(" ", "")], stdout=subprocess.PIPE, text=True)
         found = (ran.stdout, ran.returncode)
         check(f"{frame} in the VLAN 7", found == (addresses + wanted.replace(" ", ""), 0), found)
+
+
+def reads(code):
+    """Runs the example that reads a capture from a pipe."""
+    path = built("read_capture", code + READING)
+    with open(f"{TOP}/c/examples/sample.pcap", "rb") as file:
+        capture = file.read()
+    for (len_, room), wanted in READ.items() if path else ():
+        ran = subprocess.run([*runner, path, str(room)], input=capture[:len_], stdout=subprocess.PIPE)
+        check(f"{len_} bytes in {room}", ran.stdout.decode() == "%d %d" % wanted, ran.stdout)
 
 
 def main():
@@ -143,6 +181,7 @@ def main():
         done = subprocess.run([cc, *WARNINGS, "-c", "-o", os.devnull, "-"], input=code, capture_output=True, text=True)
         check("an example in C", done.returncode == 0, done.stderr)
     moves(*(code for code in codes if "move_to_vlan" in code))
+    reads(*(code for code in codes if "read_capture" in code))
     print(f"{counts[True]} passed, {counts[False]} failed")
 
 

@@ -44,7 +44,7 @@ static void layout_of_a_switch(void) {
     CHECK(etherpeel_sizeof(ETHERPEEL_STRUCT_PORT) == 6 &&
           etherpeel_sizeof(ETHERPEEL_STRUCT_RECEIVED) == 72 &&
           etherpeel_sizeof(ETHERPEEL_STRUCT_BUCKET) == 64 &&
-          etherpeel_sizeof(ETHERPEEL_STRUCT_BRIDGE) == 64 && etherpeel_sizeof(29) == 0);
+          etherpeel_sizeof(ETHERPEEL_STRUCT_BRIDGE) == 64 && etherpeel_sizeof(33) == 0);
 }
 
 static etherpeel_ports no_ports(void) {

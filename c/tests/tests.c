@@ -2,8 +2,10 @@
  * "N passed, M failed". */
 #define _DEFAULT_SOURCE
 #include "check.h"
+#include "copying.h"
 #include "fields.h"
 #include "naming.h"
+#include "reading.h"
 #include "switching.h"
 #include "writing.h"
 
@@ -852,6 +854,98 @@ static void filtering(void) {
     }
 }
 
+/* whether this is decided of the first bytes of a frame of 60 bytes, and so many bytes decide it */
+static int decides(const char *expression, const uint8_t *frame, size_t len, uint32_t wanted,
+                   size_t wanted_len) {
+    const guarded page = guarded_page();
+    etherpeel_captured p = captured_of(frame, len, 1);
+    etherpeel_filter filter;
+    etherpeel_filter_error error;
+    uint32_t decision = 99;
+    size_t needed = 99;
+    p.original_len = 60;
+    if (etherpeel_filter_parse(expression, strlen(expression), &filter, &error)) return 0;
+    const uint32_t status =
+        etherpeel_filter_frame(&filter, ETHERPEEL_START_ETHERNET2, 0, copied(page, frame, len), len,
+                               60, &decision, &needed);
+    release(page);
+    return status == ETHERPEEL_DONE && decision == wanted && needed == wanted_len &&
+           decision == etherpeel_filter_decide(&filter, &p);
+}
+
+/* filters of frames that were cut, and of frames from each start */
+static void deciding_frames(void) {
+    const uint8_t *t = TAGGED;
+    /* IEEE 802.1Q, 9.3: the ether type of the tag is the bytes 12 and 13, its control information
+     * is the bytes 14 and 15, and the next ether type ends at 18 */
+    CHECK(decides("vlan", t, 14, ETHERPEEL_MATCHES, 0));
+    CHECK(decides("vlan", t, 15, ETHERPEEL_MATCHES, 0));
+    CHECK(decides("vlan", t, 13, ETHERPEEL_UNDECIDED, 14));
+    CHECK(decides("vlan 5", t, 14, ETHERPEEL_UNDECIDED, 16));
+    /* this tag has another identifier, but a second tag may follow */
+    CHECK(decides("vlan 5", t, 15, ETHERPEEL_UNDECIDED, 17));
+    CHECK(decides("vlan 5", t, 18, ETHERPEEL_FAILS, 0));
+    CHECK(decides("outer vlan 5", t, 15, ETHERPEEL_FAILS, 0));
+    CHECK(decides("vlan 291", t, 15, ETHERPEEL_UNDECIDED, 16));
+    CHECK(decides("vlan 291", t, 16, ETHERPEEL_MATCHES, 0));
+    CHECK(decides("vlan 291 and less 59", t, 14, ETHERPEEL_FAILS, 0));
+    CHECK(decides("not vlan", t, 14, ETHERPEEL_FAILS, 0));
+    /* a test of a field needs the whole header */
+    CHECK(decides("vlan.pcp == 5", t, 16, ETHERPEEL_UNDECIDED, 18));
+    CHECK(decides("vlan.pcp == 5", t, 18, ETHERPEEL_MATCHES, 0));
+    CHECK(decides("ether dst ff:ff:ff:ff:ff:ff", t, 5, ETHERPEEL_UNDECIDED, 6));
+    CHECK(decides("ether dst ff:ff:ff:ff:ff:ff", t, 6, ETHERPEEL_MATCHES, 0));
+    CHECK(decides("ether dst ff:ff:ff:ff:ff:fe", t, 6, ETHERPEEL_FAILS, 0));
+    /* RFC 826: 8 bytes precede the addresses, of 6 and 4 bytes, each of two stations */
+    CHECK(decides("arp.op == 1", ARP, 14, ETHERPEEL_UNDECIDED, 22));
+    CHECK(decides("arp.op == 1", ARP, 22, ETHERPEEL_UNDECIDED, 42));
+    CHECK(decides("arp.op == 1", ARP, 42, ETHERPEEL_MATCHES, 0));
+    CHECK(decides("frame.time", t, 0, ETHERPEEL_FAILS, 0));
+}
+
+/* frames that were not cut are decided, as etherpeel_filter_matches does; and calls without a frame
+ */
+static void deciding_whole_frames(void) {
+    static const char *const expressions[] = {"vlan",    "vlan 291", "not vlan.vid == 5",
+                                              "refused", "cut",      "ether src 02:00:00:00:00:01"};
+    static const uint32_t starts[] = {0, 5, 257, 0xFFFFFFFFu};
+    etherpeel_filter filter;
+    etherpeel_filter_error error;
+    uint32_t decision = 99;
+    size_t needed = 99;
+    for (size_t i = 0; i < COUNT(expressions); i++) {
+        const char *x = expressions[i];
+        CHECK(etherpeel_filter_parse(x, strlen(x), &filter, &error) == ETHERPEEL_DONE);
+        for (size_t len = 0; len <= sizeof TAGGED; len++) {
+            const etherpeel_captured p = captured_of(TAGGED, len, 1);
+            decision = 99, needed = 99;
+            CHECK(etherpeel_filter_frame(&filter, ETHERPEEL_START_ETHERNET2, 0, TAGGED, len,
+                                         (uint32_t)len, &decision, &needed) == ETHERPEEL_DONE &&
+                  decision == etherpeel_filter_matches(&filter, &p) && needed == 0);
+        }
+    }
+    /* a frame that begins with the tag of the ether type 0x8100 */
+    CHECK(etherpeel_filter_parse("vlan 291", 8, &filter, &error) == ETHERPEEL_DONE);
+    CHECK(etherpeel_filter_frame(&filter, ETHERPEEL_START_ETHER_TYPE, 0x8100, NULL, 0, 60,
+                                 &decision, &needed) == ETHERPEEL_DONE &&
+          decision == ETHERPEEL_UNDECIDED && needed == 2);
+    CHECK(etherpeel_filter_frame(&filter, ETHERPEEL_START_ETHER_TYPE, 0x8100, TAGGED + 14, 2, 60,
+                                 &decision, &needed) == ETHERPEEL_DONE &&
+          decision == ETHERPEEL_MATCHES && needed == 0);
+    decision = 99, needed = 99;
+    for (size_t i = 0; i < COUNT(starts); i++)
+        CHECK(etherpeel_filter_frame(&filter, starts[i], 0x8100, TAGGED, sizeof TAGGED, 60,
+                                     &decision, &needed) == ETHERPEEL_UNKNOWN_START);
+    CHECK(decision == 99 && needed == 99);
+    /* memory that holds no filter */
+    for (unsigned byte = 0; byte < 256; byte++) {
+        memset(&filter, (int)byte, sizeof filter);
+        CHECK(etherpeel_filter_frame(&filter, ETHERPEEL_START_ETHERNET2, 0, TAGGED, 15, 60,
+                                     &decision, &needed) == ETHERPEEL_DONE &&
+              decision <= 2);
+    }
+}
+
 static void selecting(void) {
     static const char expected[] = "At byte 5: expected a number up to 4095.";
     etherpeel_captured p = captured_of(CHECKED, sizeof CHECKED, 1);
@@ -1647,11 +1741,33 @@ int main(void) {
     packets();
     captures();
     captures_that_end_early();
+    layout_of_a_reader();
+    reading_a_classic_file();
+    reading_sections();
+    reading_in_pieces();
+    reading_cut_and_changed_files();
+    units_that_are_refused();
+    readers_that_are_none();
+    layout_of_an_option();
+    options_of_an_interface();
+    options_of_packets_and_sections();
+    units_without_options();
+    edited_packets();
+    packets_that_are_not_edited();
+    longest_blocks();
+    copied_snap_lengths();
+    copied_blocks();
+    copied_packets();
+    the_longest_simple_packet();
+    units_of_readers_that_are_none();
+    units_that_are_changed();
     packets_on_one_line();
     lines_that_are_not_written();
     captured_frames();
     selecting();
     filtering();
+    deciding_frames();
+    deciding_whole_frames();
     fields();
     fields_of_addresses();
     fields_without_room();

@@ -1,5 +1,5 @@
 -- The packets of a capture file that is under way, in an array.
-use Rattle.std.proofs.Common.{◌≡◌, ℕ, ◌+◌, suc, List, [], ◌∷◌, ◌++◌, length, set, false, refl, sym, ap, ◌∙◌, arith, rules}
+use Rattle.std.proofs.Common.{◌≡◌, ℕ, ◌+◌, List, [], ◌∷◌, ◌++◌, length, set, false, refl, sym, ap, ◌∙◌, arith, rules}
 use Rattle.std.specs.Prelude.{Option, Some, None, Result, Ok, Err}
 use Rattle.std.proofs.Math.Seq.{take-nil}
 use Rattle.std.proofs.lemmas.List.{append_assoc, append-nil, length-append}
@@ -12,22 +12,7 @@ use Rattle.ether_pcap.proofs.CaptureSome.{some_packets}
 use Rattle.ether_c.specs.declared.ether_captured.EtherCaptured.{EtherCaptured}
 use Rattle.ether_c.specs.Captured.{HoldsPacket, HoldPackets, HasCaptured}
 use Rattle.ether_c.proofs.UnitsGiven.{Holds, put_next}
-
--- ---- packets that are given
-
-given-append : (cs : List EtherCaptured) (ps : List PacketValue) (c : EtherCaptured) (p : PacketValue)
-    → HoldPackets cs ps → HoldsPacket c p
-    → HoldPackets (cs ++ c ∷ []) (ps ++ p ∷ [])
-given-append [] [] c p are is = (is, tt)
-given-append [] (q ∷ qs) c p are is = absurd are
-given-append (d ∷ ds) [] c p are is = absurd are
-given-append (d ∷ ds) (q ∷ qs) c p are is = (are.0, given-append ds qs c p are.1 is)
-
-given-length : (cs : List EtherCaptured) (ps : List PacketValue) → HoldPackets cs ps → length cs ≡ length ps
-given-length [] [] are = refl
-given-length [] (q ∷ qs) are = absurd are
-given-length (d ∷ ds) [] are = absurd are
-given-length (d ∷ ds) (q ∷ qs) are = ap suc (given-length ds qs are.1)
+use Rattle.ether_c.proofs.EachPut.{fit-append, fit-length}
 
 -- ---- what comes next
 
@@ -131,7 +116,7 @@ captured_packet file s t q count old mid new c a gives is put =
       parts = a.parts ∙ ap (λ (l : List PacketValue). a.before ++ l) n.parts
           ∙ sym (append_assoc a.before (p ∷ []) n.later);
       given = a.given ++ c ∷ [];
-      are = given-append a.given a.before c p a.are is;
+      are = fit-append HoldsPacket a.given a.before c p a.are is;
       counted = let e = length-append a.given (c ∷ []) in omega arith;
       held = put ∙ put_next a.given old mid c count a.counted a.held;
     }
@@ -145,9 +130,9 @@ all_given file s count old new a none = search (rules, append-nil)
 pub captured_fault : (file : List ℕ) (s t : CaptureState) (f : CaptureFault) (count : ℕ) (old new : List EtherCaptured)
     → CapturedSoFar file s count old new
     → CaptureGives s (Some (Err f)) t → HasCaptured file old new count (Some f)
-captured_fault file s t f count old new a gives = search (rules, all_given, given-length)
+captured_fault file s t f count old new a gives = search (rules, all_given, fit-length)
 
 pub captured_none : (file : List ℕ) (s t : CaptureState) (count : ℕ) (old new : List EtherCaptured)
     → CapturedSoFar file s count old new
     → CaptureGives s None t → HasCaptured file old new count None
-captured_none file s t count old new a gives = search (rules, none_next, all_given, given-length)
+captured_none file s t count old new a gives = search (rules, none_next, all_given, fit-length)

@@ -7,15 +7,15 @@ use Rattle.ether_c.specs.Puts.{AllMatched, PutsEach}
 use Rattle.ether_c.specs.Numbers.{done}
 use Rattle.ether_c.proofs.UnitsGiven.{put_at}
 
-fit-append : {A B : Type 0} (Fits : A → B → Type 0) (items : List A) (values : List B) (a : A) (b : B)
+pub fit-append : {A B : Type 0} (Fits : A → B → Type 0) (items : List A) (values : List B) (a : A) (b : B)
     → AllMatched Fits items values → Fits a b → AllMatched Fits (items ++ a ∷ []) (values ++ b ∷ [])
 fit-append Fits [] [] a b are is = (is, tt)
 fit-append Fits [] (v ∷ vs) a b are is = absurd are
 fit-append Fits (c ∷ cs) [] a b are is = absurd are
 fit-append Fits (c ∷ cs) (v ∷ vs) a b are is = (are.0, fit-append Fits cs vs a b are.1 is)
 
-fit-length : {A B : Type 0} (Fits : A → B → Type 0) (items : List A) (values : List B) → AllMatched Fits items values
-    → length items ≡ length values
+pub fit-length : {A B : Type 0} (Fits : A → B → Type 0) (items : List A) (values : List B)
+    → AllMatched Fits items values → length items ≡ length values
 fit-length Fits [] [] are = refl
 fit-length Fits [] (v ∷ vs) are = absurd are
 fit-length Fits (c ∷ cs) [] are = absurd are

@@ -1,11 +1,14 @@
 pub mod UnitsGiven
-pub mod CapturedGiven
 pub mod Addresses
 pub mod BuiltTags
 pub mod BuiltParts
 pub mod EachPut
+pub mod CapturedGiven
+pub mod OptionsGiven
 pub mod FieldLists
 pub mod FieldsGiven
 pub mod ReceivedGiven
 pub mod PacketGiven
+pub mod UnitsRead
 pub mod RowsGiven
+pub mod CopiesPut

@@ -1,5 +1,5 @@
 -- The packets of a capture file in the array that a caller in C passes.
-use Rattle.std.specs.Prelude.{◌≡◌, ℕ, ◌+◌, List, [], ◌∷◌, ◌++◌, length, take, drop, Option, Some, None, unwrap_or, IfSome, ◌⊎◌}
+use Rattle.std.specs.Prelude.{◌≡◌, ℕ, ◌+◌, List, [], ◌++◌, length, take, drop, Option, Some, None, unwrap_or, IfSome, ◌⊎◌}
 use Rattle.std.specs.Option.{option_map}
 use Rattle.ether_pcap.specs.Capture.{TimeValue, PacketValue, Beginning, HasPackets, required_len}
 use Rattle.ether_pcap.specs.CaptureReading.{max_interfaces}
@@ -10,6 +10,7 @@ use Rattle.ether_c.specs.declared.ether_captured.EtherCaptured.{EtherCaptured}
 use Rattle.ether_c.specs.declared.capturing.EtherCaptureEnd.{EtherCaptureEnd}
 use Rattle.ether_c.specs.Numbers.{done, no_text}
 use Rattle.ether_c.specs.Calls.{PutsBytes}
+use Rattle.ether_c.specs.Puts.{AllMatched}
 
 -- ---- packets
 
@@ -32,9 +33,7 @@ pub record HoldsPacket (c : EtherCaptured) (p : PacketValue) : Type 0 where
 
 -- each packet, in the order of the file
 abbrev pub HoldPackets : List EtherCaptured → List PacketValue → Type 0
-HoldPackets [] [] = Unit {0}
-HoldPackets (c ∷ cs) (p ∷ ps) = HoldsPacket c p × HoldPackets cs ps
-HoldPackets _ _ = ⊥
+HoldPackets = AllMatched HoldsPacket
 
 -- ---- a file
 

@@ -1,6 +1,13 @@
 -- What the calls about filters do.
 use Rattle.std.specs.Prelude.{◌≡◌, ◌⊎◌, ℕ, List, take, Result, IfOk, IfErr}
+use Rattle.etherparse.specs.Header.{Header}
+use Rattle.ether_peel.specs.Grammar.Stack.{Ending, Walk}
+use Rattle.ether_peel.specs.Walker.Start.{start_of}
 use Rattle.ether_filter.specs.Expressions.{Expression}
+use Rattle.ether_filter.specs.Deciding.{Says}
+use Rattle.ether_filter.specs.declared.decision.Decision.{Decision}
+use Rattle.ether_filter.specs.declared.decision.Decision.TheVariants as decisions
+use Rattle.ether_filter.specs.declared.packet.Packet.{Packet}
 use Rattle.ether_filter.specs.FilterProgram.{IsProgramOf}
 use Rattle.ether_filter.specs.Texts.{IsExpressionOf}
 use Rattle.ether_filter.specs.Refusals.{RefusesText}
@@ -84,6 +91,26 @@ pub record GivesFilter (text : List ℕ) (old new : EtherFilter) (error_old erro
   pub ok : IfOk parsed (λ x. IsExpressionOf text x × IsFilterOf new x × (error_new ≡ error_old) × (status ≡ done))
   pub refused : IfErr parsed (λ e. RefusesText text e
       × (new ≡ old) × (error_new ≡ c_filter_error e) × (status ≡ bad_filter))
+
+-- ---- frames
+
+-- what an expression decides for a frame
+abbrev pub decided_number : Decision → ℕ
+decided_number decisions.Fails = 0
+decided_number decisions.Matches = 1
+decided_number (decisions.Needs n) = 2
+
+-- the length that it needs; 0 if the frame decides
+abbrev pub needed_len : Decision → ℕ
+needed_len (decisions.Needs n) = n
+needed_len _ = 0
+
+pub record GivesDecision (x : Expression) (p : Packet) (number needed status : ℕ) : Type 0 where
+  pub decision : Decision
+  pub says : (hs : List Header) (e : Ending) → Walk (start_of p.start) p.frame.now hs e → Says p hs e x decision
+  pub number_is : number ≡ decided_number decision
+  pub needed_is : needed ≡ needed_len decision
+  pub status_is : status ≡ done
 
 -- ---- texts
 

@@ -8,9 +8,12 @@ pub mod Walk
 pub mod Views
 pub mod Tags
 pub mod Packet
-pub mod Captured
 pub mod Puts
+pub mod Captured
 pub mod Selection
+pub mod Reading
+pub mod UnitOptions
+pub mod Copying
 pub mod Filters
 pub mod CapturedFrame
 pub mod FieldTables

@@ -35,7 +35,11 @@ struct_size number =
     else (if nat_eq number 25 then 128
     else (if nat_eq number 26 then 40
     else (if nat_eq number 27 then 64
-    else (if nat_eq number 28 then 64 else 0)))))))))))))))))))))))))))
+    else (if nat_eq number 28 then 24
+    else (if nat_eq number 29 then 24
+    else (if nat_eq number 30 then 24
+    else (if nat_eq number 31 then 64
+    else (if nat_eq number 32 then 24 else 0)))))))))))))))))))))))))))))))
 
 -- The starts for the link types LINKTYPE_ETHERNET and LINKTYPE_LINUX_SLL (www.tcpdump.org/linktypes.html), by their
 -- numbers; 0 for any other. libpcap's DLT_EN10MB and DLT_LINUX_SLL have the same numbers.

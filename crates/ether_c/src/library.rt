@@ -4,9 +4,9 @@ ghost use Rattle.ether_c.specs.Library.{version_number, struct_size};
 
 use crate::{
     EtherArp, EtherBridge, EtherCaptureEnd, EtherCaptured, EtherEthernet2, EtherFault, EtherFed,
-    EtherField, EtherFilter, EtherFilterError, EtherFound, EtherFrame, EtherHeaders, EtherLinuxSll,
-    EtherLinuxSll2, EtherMacsec, EtherPort, EtherReceived, EtherReplaceError, EtherRow, EtherUnit,
-    EtherVlan,
+    EtherField, EtherFilter, EtherFilterError, EtherFound, EtherFrame, EtherHeaders,
+    EtherInterface, EtherLinuxSll, EtherLinuxSll2, EtherMacsec, EtherOption, EtherPort,
+    EtherReadUnit, EtherReader, EtherReceived, EtherReplaceError, EtherRow, EtherUnit, EtherVlan,
 };
 use ether_switch::{PortSet, PortStates, Sighting, StaticEntry, StationBucket, VlanConfig};
 
@@ -52,7 +52,11 @@ pub extern "C" fn etherpeel_sizeof(number: u32) -> usize
         25 => size_of::<PortStates>(),
         26 => size_of::<StaticEntry>(),
         27 => size_of::<EtherBridge<'_>>(),
-        28 => size_of::<EtherRow>(),
+        28 => size_of::<EtherReader>(),
+        29 => size_of::<EtherInterface>(),
+        30 => size_of::<EtherReadUnit>(),
+        31 => size_of::<EtherRow>(),
+        32 => size_of::<EtherOption<'_>>(),
         _ => 0,
     }
 }

@@ -61,6 +61,9 @@ pub(crate) const STAYS: u32 = 21;
 /// The text names no format.
 pub(crate) const BAD_FORMAT: u32 = 22;
 
+/// The unit of a packet can't be edited, or a copy can't have it.
+pub(crate) const UNCOPIED: u32 = 23;
+
 /// The status for a VLAN tag that is not taken off, put in or changed.
 pub(crate) fn tag_error(error: &TagError) -> u32
     ensures { result ≡ tag_error_status error.now }

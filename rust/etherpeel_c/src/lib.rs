@@ -26,6 +26,10 @@ pub mod completing;
 #[rustfmt::skip]
 pub mod cooked_v2;
 #[rustfmt::skip]
+pub mod copying;
+#[rustfmt::skip]
+pub mod deciding_frames;
+#[rustfmt::skip]
 mod ether_bridge;
 #[rustfmt::skip]
 mod ether_captured;
@@ -44,9 +48,17 @@ mod ether_frame;
 #[rustfmt::skip]
 mod ether_headers;
 #[rustfmt::skip]
+mod ether_interface;
+#[rustfmt::skip]
 mod ether_linux_sll2;
 #[rustfmt::skip]
+mod ether_option;
+#[rustfmt::skip]
 mod ether_port;
+#[rustfmt::skip]
+mod ether_read_unit;
+#[rustfmt::skip]
+mod ether_reader;
 #[rustfmt::skip]
 mod ether_received;
 #[rustfmt::skip]
@@ -98,6 +110,10 @@ pub mod pushing;
 #[rustfmt::skip]
 mod putting;
 #[rustfmt::skip]
+pub mod reader_fault_text;
+#[rustfmt::skip]
+pub mod reading_captures;
+#[rustfmt::skip]
 pub mod reading_packet;
 #[rustfmt::skip]
 pub mod replacing;
@@ -113,6 +129,8 @@ pub mod statuses;
 mod summarizing;
 #[rustfmt::skip]
 pub mod switching;
+#[rustfmt::skip]
+pub mod unit_options;
 #[rustfmt::skip]
 pub mod walking;
 #[rustfmt::skip]
@@ -139,9 +157,17 @@ pub use ether_frame::EtherFrame;
 #[rustfmt::skip]
 pub use ether_headers::EtherHeaders;
 #[rustfmt::skip]
+pub use ether_interface::EtherInterface;
+#[rustfmt::skip]
 pub use ether_linux_sll2::EtherLinuxSll2;
 #[rustfmt::skip]
+pub use ether_option::EtherOption;
+#[rustfmt::skip]
 pub use ether_port::EtherPort;
+#[rustfmt::skip]
+pub use ether_read_unit::EtherReadUnit;
+#[rustfmt::skip]
+pub use ether_reader::EtherReader;
 #[rustfmt::skip]
 pub use ether_received::EtherReceived;
 #[rustfmt::skip]
