@@ -1,21 +1,22 @@
-"""Writes what the Python package has of etherpeel.h: its numbers as enumerations, its structs, and the types of its
-calls.
+"""Writes what the Python package and the page have of etherpeel.h: its numbers as enumerations, its structs, and for
+Python the types of its calls.
 
     python3 c/bindings.py
     python3 c/bindings.py --check
 
-The result is c/python/etherpeel/_header.py. Only the numbers of fields are not there: fields.py writes them, from the
-table that those in etherpeel.h are made of. With --check this writes nothing, compares, and prints 'N passed, M failed'
-last.
+The results are c/python/etherpeel/_header.py and page/header.js. Only the numbers of fields are not in the first:
+fields.py writes them, from the table that those in etherpeel.h are made of. With --check this writes nothing, compares,
+and prints 'N passed, M failed' last.
 """
 import argparse
+import json
 import os
 import re
 import sys
 import textwrap
 
 HERE = os.path.dirname(os.path.abspath(__file__))
-TARGET = "python/etherpeel/_header.py"
+TOP = os.path.dirname(HERE)
 WIDTH = 120
 HEAD = '''"""The numbers, structs and calls of etherpeel.h, as c/bindings.py writes them."""
 import ctypes as C
@@ -23,7 +24,21 @@ from enum import IntEnum
 
 u8, u16, u32, u64, i64, size = C.c_uint8, C.c_uint16, C.c_uint32, C.c_uint64, C.c_int64, C.c_size_t
 '''
+SCRIPT_HEAD = """// The numbers and structs of etherpeel.h, as c/bindings.py writes them.
+
+// the numbers of each enumeration
+const ENUMS = {
+"""
+SCRIPT_STRUCTS = """};
+
+// the size of each struct; and of each field its offset, the size of a number or the name of a struct, and how many
+// elements an array has
+const STRUCTS = {
+"""
 NUMBERS = {"uint8_t": "u8", "uint16_t": "u16", "uint32_t": "u32", "uint64_t": "u64", "int64_t": "i64", "size_t": "size", "int": "C.c_int"}
+# The sizes of numbers, and of an address, in the memory of the page's module.
+SIZES = {"uint8_t": 1, "uint16_t": 2, "uint32_t": 4, "uint64_t": 8, "int64_t": 8, "size_t": 8, "int": 4}
+ADDRESS_SIZE = 8
 # The numbers of fields are made elsewhere; those of structs are their order in STRUCTS.
 ELSEWHERE = "field_name", "struct"
 # Numbers for nothing, for which Python has None.
@@ -39,6 +54,7 @@ ENUM = re.compile(r"^/\* ((?:(?!\*/).)*)\*/\nenum etherpeel_(\w+) \{\n(.*?)^\};"
 STRUCT = re.compile(r"^typedef struct etherpeel_\w+ \{\n(.*?)^\} etherpeel_(\w+);", re.M | re.S)
 CALL = re.compile(r"^(\w+) etherpeel_(\w+)\(([^;{]*)\);", re.M)
 COMMENT = re.compile(r"/\*.*?\*/", re.S)
+FIELD = re.compile(r"    (?:const )?(\w+) (\*?)(\w+)(?:\[(\d+)\])?;")
 MEMBER = re.compile(r"( *)/\*(.*?)\*/\n|    (\w+) = (\d+),?\n|(\n)", re.S)
 
 
@@ -102,12 +118,18 @@ def enumeration(header, name, comment, body):
     return "".join(lines)
 
 
-def field(struct_name, line):
+def fields_of(struct_name, body):
+    """The fields of a struct: the type, `*` for a pointer, the name, and the number of elements of an array."""
+    for line in COMMENT.sub("", body).splitlines():
+        told = FIELD.fullmatch(line.rstrip())
+        if line.strip() and not told:
+            sys.exit(f"etherpeel.h: '{line.strip()}' of etherpeel_{struct_name} can't be read")
+        if told:
+            yield told.groups()
+
+
+def field(kind, star, name, count):
     """The name of a struct's field, and its type."""
-    told = re.fullmatch(r"    (?:const )?(\w+) (\*?)(\w+)(?:\[(\d+)\])?;", line)
-    if not told:
-        sys.exit(f"etherpeel.h: '{line.strip()}' of etherpeel_{struct_name} can't be read")
-    kind, star, name, count = told.groups()
     code = type_of(kind, star)
     return f'("{name}", {code} * {count})' if count else f'("{name}", {code})'
 
@@ -123,8 +145,7 @@ def type_of(kind, star):
 
 
 def struct(name, body):
-    lines = [line.rstrip() for line in COMMENT.sub("", body).splitlines() if line.strip()]
-    fields = [field(name, line) for line in lines]
+    fields = [field(*it) for it in fields_of(name, body)]
     return laid_out(f"class {camel(name)}(C.Structure):\n    _fields_ = [", fields, "]\n")
 
 
@@ -163,22 +184,63 @@ def module(header):
     return "\n\n".join(parts)
 
 
+def layouts(header):
+    """The size of each struct, and its fields: the name, the offset, the size of a number or the name of a struct, and
+    the number of elements of an array."""
+    sizes, found = {name: (size, size) for name, size in SIZES.items()}, {}
+    for name, body in header.structs:
+        at, greatest, fields = 0, 1, []
+        for kind, star, field_name, count in fields_of(name, body):
+            size, alignment = (ADDRESS_SIZE, ADDRESS_SIZE) if star else sizes[kind]
+            at += -at % alignment
+            is_struct = kind.startswith("etherpeel_") and not star
+            fields.append((field_name, at, kind[len("etherpeel_"):] if is_struct else size, count))
+            at += size * int(count or 1)
+            greatest = max(greatest, alignment)
+        at += -at % greatest
+        sizes[f"etherpeel_{name}"] = at, greatest
+        found[name] = at, fields
+    return found
+
+
+def script(header):
+    """The text of the page's script."""
+    lines = [SCRIPT_HEAD]
+    for name, _, body in header.enums:
+        numbers = re.findall(r"^    (ETHERPEEL_\w+) = (\d+)", body, re.M)
+        items = [f"{number[len(header.prefixes[name]):]}: {value}" for number, value in numbers]
+        lines.append(laid_out(f"  {name}: {{ ", items, " },\n"))
+    lines.append(SCRIPT_STRUCTS)
+    for name, (size, fields) in layouts(header).items():
+        items = [f"{it}: {json.dumps([at, kind, *([int(count)] if count else [])])}" for it, at, kind, count in fields]
+        lines.append(laid_out(f"  {name}: {{ size: {size}, fields: {{ ", items, " } },\n"))
+    return "".join(lines) + "};\n"
+
+
+# What is written, by the path below the top.
+TARGETS = {"c/python/etherpeel/_header.py": module, "page/header.js": script}
+
+
 def main():
     words = argparse.ArgumentParser(description=__doc__, formatter_class=argparse.RawDescriptionHelpFormatter)
     words.add_argument("--check", action="store_true", help="compare in place of writing")
     is_check = words.parse_args().check
     with open(f"{HERE}/etherpeel.h", encoding="ascii") as file:
-        text = module(Header(file.read()))
+        header = Header(file.read())
+    texts = {target: text_of(header) for target, text_of in TARGETS.items()}
     if not is_check:
-        with open(f"{HERE}/{TARGET}", "w", encoding="ascii") as file:
-            file.write(text)
+        for target, text in texts.items():
+            with open(f"{TOP}/{target}", "w", encoding="ascii") as file:
+                file.write(text)
         return 0
-    with open(f"{HERE}/{TARGET}", encoding="ascii") as file:
-        failed = file.read() != text
-    if failed:
-        print(f"c/{TARGET} is not what python3 c/bindings.py writes")
-    print(f"{1 - failed} passed, {int(failed)} failed")
-    return int(failed)
+    failed = 0
+    for target, text in texts.items():
+        with open(f"{TOP}/{target}", encoding="ascii") as file:
+            if file.read() != text:
+                failed += 1
+                print(f"{target} is not what python3 c/bindings.py writes")
+    print(f"{len(texts) - failed} passed, {failed} failed")
+    return int(failed > 0)
 
 
 if __name__ == "__main__":

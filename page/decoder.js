@@ -1,20 +1,20 @@
-// The calls of the module, and the structs and numbers of c/etherpeel.h that they pass.
+// The calls of the module, and what is read of the structs that they fill.
 
-const DONE = 0;
-const STARTS = { eth: 1, fcs: 2, sll: 3, type: 4 };
+const { DONE } = ENUMS.status;
+const KINDS = ENUMS.field_kind;
+// what a frame begins with, by the words of the page's links
+const STARTS = {
+  eth: ENUMS.start.ETHERNET2, fcs: ENUMS.start.ETHERNET2_FCS, sll: ENUMS.start.LINUX_SLL, type: ENUMS.start.ETHER_TYPE,
+};
 const PAGE = 65536;
 const SCRATCH_LEN = 16 * PAGE;
 // the kind of a header of cooked capture v2, which is no unit of a walk
 const LINUX_SLL2 = 6;
-const SIZES = { captured: 40, unit: 144, field: 32, frame: 32 };
 // the length of the longest text that a call writes, and that of the longest expression
 const TEXT_LEN = PAGE;
 const EXPRESSION_LEN = 4096;
 // how many tags of a packet its line in the list names
 const LINE_TAGS = 1000;
-// enum etherpeel_field_part and enum etherpeel_field_kind
-const PARTS = { title: 2, abbreviation: 3 };
-const KINDS = { flag: 2, etherType: 4, linkType: 8, bytes: 9, protocolAddress: 10 };
 
 const decodeText = (bytes) => new TextDecoder().decode(bytes);
 const encodeText = (text) => new TextEncoder().encode(text);
@@ -80,6 +80,14 @@ class Decoder {
     return new DataView(this.calls.memory.buffer).getBigUint64(at, true);
   }
 
+  // reads the numbers of a struct, by their names in c/etherpeel.h
+  struct(name, at) {
+    return (field) => {
+      const [offset, size] = STRUCTS[name].fields[field];
+      return this.number(at + offset, size);
+    };
+  }
+
   // the text that a call writes to a target of TEXT_LEN bytes, or "" if it writes none
   text(call) {
     const [target, len] = [this.scratch + SCRATCH_LEN - TEXT_LEN, this.scratch];
@@ -96,9 +104,9 @@ class Decoder {
     const file = [BigInt(this.put(bytes)), BigInt(bytes.length)];
     const status = this.calls.etherpeel_capture(...file, 16n, 0n, BigInt(count), BigInt(end));
     this.count = this.number(count, 8);
-    const needed = this.number(end + 8, 8);
-    this.packets = this.place(this.count * SIZES.captured);
-    this.bytes(this.packets, this.count * SIZES.captured).fill(0);
+    const needed = this.struct("capture_end", end)("needed");
+    this.packets = this.place(this.count * STRUCTS.captured.size);
+    this.bytes(this.packets, this.count * STRUCTS.captured.size).fill(0);
     this.calls.etherpeel_capture(...file, BigInt(this.packets), BigInt(this.count), BigInt(count), BigInt(end));
     const fault = this.text((...target) => this.calls.etherpeel_capture_fault_text(...file, ...target));
     this.matches = this.place(this.count);
@@ -106,16 +114,20 @@ class Decoder {
     return { count: this.count, isWhole: status === DONE, needed, fault };
   }
 
+  packetAt(index) {
+    return this.packets + index * STRUCTS.captured.size;
+  }
+
   packet(index) {
-    const at = this.packets + index * SIZES.captured;
+    const read = this.struct("captured", this.packetAt(index));
     return {
-      at: this.number(at, 8),
-      len: this.number(at + 8, 8),
-      seconds: this.number(at + 16, 8),
-      nanoseconds: this.number(at + 24, 4),
-      originalLen: this.number(at + 28, 4),
-      linkType: this.number(at + 32, 2),
-      hasTime: this.number(at + 34, 1) === 1,
+      at: read("packet"),
+      len: read("packet_len"),
+      seconds: read("seconds"),
+      nanoseconds: read("nanoseconds"),
+      originalLen: read("original_len"),
+      linkType: read("link_type"),
+      hasTime: read("has_time") === 1,
     };
   }
 
@@ -125,7 +137,7 @@ class Decoder {
     const at = this.scratch + 4096;
     this.bytes(at, format.length).set(format);
     const words = [BigInt(at), BigInt(format.length), BigInt(index + 1)];
-    const packet = BigInt(this.packets + index * SIZES.captured);
+    const packet = BigInt(this.packetAt(index));
     const call = (...to) => this.calls.etherpeel_format_limited(...words, packet, BigInt(LINE_TAGS), ...to);
     return this.text(call).trimEnd();
   }
@@ -133,14 +145,11 @@ class Decoder {
   // what is walked of a packet: its frame, and what that begins with; none of a link type that isn't known
   frameOf(index) {
     const frame = this.scratch;
-    const status = this.calls.etherpeel_captured_frame(BigInt(this.packets + index * SIZES.captured), BigInt(frame));
+    const status = this.calls.etherpeel_captured_frame(BigInt(this.packetAt(index)), BigInt(frame));
     if (status !== DONE) return null;
+    const read = this.struct("frame", frame);
     return {
-      at: this.number(frame, 8),
-      len: this.number(frame + 8, 8),
-      offset: this.number(frame + 16, 8),
-      start: this.number(frame + 24, 4),
-      etherType: this.number(frame + 28, 2),
+      at: read("bytes"), len: read("len"), offset: read("offset"), start: read("start"), etherType: read("ether_type"),
     };
   }
 
@@ -153,7 +162,7 @@ class Decoder {
     const words = [BigInt(at), BigInt(text.length)];
     const packets = [BigInt(this.packets), BigInt(this.count), BigInt(this.matches), BigInt(this.count)];
     if (this.calls.etherpeel_select(...words, ...packets, BigInt(error)) !== DONE) {
-      const offset = this.number(error, 8);
+      const offset = this.struct("filter_error", error)("offset");
       return { error: this.text((...target) => this.calls.etherpeel_filter_error_text(...words, ...target)), offset };
     }
     const matches = this.bytes(this.matches, this.count);
@@ -191,37 +200,45 @@ class Decoder {
   }
 
   units(frame) {
-    return this.array((...to) => this.calls.etherpeel_walk(...this.words(frame), ...to), SIZES.unit, 64, (at) => ({
-      offset: this.number(at, 8),
-      headerLen: this.number(at + 8, 8),
-      payloadStart: this.number(at + 16, 8),
-      payloadEnd: this.number(at + 24, 8),
-      kind: this.number(at + 32, 4),
-      isClosed: this.number(at + 36, 1) === 1,
-    }));
+    const call = (...to) => this.calls.etherpeel_walk(...this.words(frame), ...to);
+    return this.array(call, STRUCTS.unit.size, 64, (at) => this.unit(at));
+  }
+
+  unit(at) {
+    const read = this.struct("unit", at);
+    return {
+      offset: read("offset"),
+      headerLen: read("header_len"),
+      payloadStart: read("payload_start"),
+      payloadEnd: read("payload_end"),
+      kind: read("kind"),
+      isClosed: read("closed") === 1,
+    };
   }
 
   fields(frame) {
     const call = (...to) => this.calls.etherpeel_fields(...this.words(frame), ...to);
-    return this.array(call, SIZES.field, 64, (at) => this.field(at));
+    return this.array(call, STRUCTS.field.size, 64, (at) => this.field(at));
   }
 
   field(at) {
+    const read = this.struct("field", at);
     return {
-      bit: this.number(at, 8),
-      bits: this.number(at + 8, 8),
-      value: this.big(at + 16),
-      unit: this.number(at + 24, 4),
-      name: this.number(at + 28, 4),
+      bit: read("bit_offset"),
+      bits: read("bit_len"),
+      value: this.big(at + STRUCTS.field.fields.value[0]),
+      unit: read("unit"),
+      name: read("name"),
     };
   }
 
   // what a field is called, and what its value is
   fieldTold(name) {
     if (!this.told.has(name)) {
+      const { TITLE, ABBREVIATION } = ENUMS.field_part;
       const part = (which) => this.text((...to) => this.calls.etherpeel_field_text(name, which, ...to));
       const kind = this.calls.etherpeel_field_kind(name);
-      this.told.set(name, { title: part(PARTS.title), abbreviation: part(PARTS.abbreviation), kind });
+      this.told.set(name, { title: part(TITLE), abbreviation: part(ABBREVIATION), kind });
     }
     return this.told.get(name);
   }
@@ -236,10 +253,10 @@ class Decoder {
     const words = [BigInt(packet.at), BigInt(packet.len)];
     const header = this.scratch;
     if (this.calls.etherpeel_linux_sll2(...words, BigInt(header)) !== DONE) return null;
-    const end = this.number(header, 8);
-    const protocol = this.number(header + 16, 2);
+    const read = this.struct("linux_sll2_header", header);
+    const [end, protocol] = [read("payload_start"), read("protocol")];
     const call = (...to) => this.calls.etherpeel_linux_sll2_fields(...words, ...to);
-    const fields = this.array(call, SIZES.field, 64, (at) => this.field(at));
+    const fields = this.array(call, STRUCTS.field.size, 64, (at) => this.field(at));
     const unit = {
       offset: 0, headerLen: end, payloadStart: end, payloadEnd: packet.len, kind: LINUX_SLL2, isClosed: false,
     };
@@ -250,15 +267,17 @@ class Decoder {
   ending(frame) {
     const found = this.scratch;
     this.calls.etherpeel_summary(...this.words(frame), BigInt(found));
+    const read = this.struct("found", found);
+    const readFault = this.struct("fault", found + STRUCTS.found.fields.fault[0]);
     const ending = {
-      restStart: this.number(found + 8, 8),
-      restEnd: this.number(found + 16, 8),
-      restKind: this.number(found + 80, 4),
-      restProtocol: this.number(found + 84, 2),
-      isFault: this.number(found + 24 + 32, 4) !== 0,
-      faultOffset: this.number(found + 24, 8),
-      requiredLen: this.number(found + 24 + 8, 8),
-      missing: this.number(found + 24 + 24, 8),
+      restStart: read("rest_start"),
+      restEnd: read("rest_end"),
+      restKind: read("rest_kind"),
+      restProtocol: read("rest_protocol"),
+      isFault: readFault("kind") !== ENUMS.fault_kind.NONE,
+      faultOffset: readFault("offset"),
+      requiredLen: readFault("required_len"),
+      missing: readFault("missing"),
     };
     ending.fault = this.text((...target) => this.calls.etherpeel_fault_text(...this.words(frame), ...target));
     return ending;

@@ -2,14 +2,13 @@
 
 const SHOWN_LEN = 4096;
 const LINK_LINUX_SLL2 = 276;
-// by enum etherpeel_unit_kind, and 6 for cooked capture v2
+const UNITS = ENUMS.unit_kind;
 const HEADERS = {
-  1: "Ethernet II", 2: "Linux cooked capture v1", 3: "VLAN tag", 4: "MACsec SecTag", 5: "ARP",
-  6: "Linux cooked capture v2",
+  [UNITS.ETHERNET2]: "Ethernet II", [UNITS.LINUX_SLL]: "Linux cooked capture v1", [UNITS.VLAN]: "VLAN tag",
+  [UNITS.MACSEC]: "MACsec SecTag", [UNITS.ARP]: "ARP", [LINUX_SLL2]: "Linux cooked capture v2",
 };
-// the fields of ARP that says what a protocol address is, and of Ethernet after the payload
-const PROTOCOL_TYPE = 26;
-const CHECK_SEQUENCE = 34;
+// the field that says what a protocol address of ARP is, and the one after the payload of Ethernet
+const { ARP_PROTOCOL_TYPE, FCS } = ENUMS.field_name;
 const IPV4 = 0x0800n;
 
 function element(name, properties = {}, ...children) {
@@ -29,7 +28,7 @@ const pair = (byte) => byte.toString(16).padStart(2, "0");
 
 // a number, and what numbers of this kind call it
 function named(decoder, kind, number) {
-  const text = kind === KINDS.etherType ? hex(number, 4) : String(number);
+  const text = kind === KINDS.ETHER_TYPE ? hex(number, 4) : String(number);
   const name = decoder.nameOf(kind, number);
   return name ? `${text} (${name})` : text;
 }
@@ -37,22 +36,23 @@ function named(decoder, kind, number) {
 // the value of a field of this kind
 function valueText(decoder, kind, field, bytes, isIpv4) {
   switch (kind) {
-    case KINDS.flag: return field.value ? "1 (set)" : "0";
-    case KINDS.bytes: return Array.from(bytes, pair).join(":");
-    case KINDS.protocolAddress: return isIpv4 ? bytes.join(".") : Array.from(bytes, pair).join(":");
+    case KINDS.FLAG: return field.value ? "1 (set)" : "0";
+    case KINDS.BYTES: return Array.from(bytes, pair).join(":");
+    case KINDS.PROTOCOL_ADDRESS: return isIpv4 ? bytes.join(".") : Array.from(bytes, pair).join(":");
     default: return named(decoder, kind, field.value);
   }
 }
 
-// what the bytes that are left are announced as, by enum etherpeel_rest_kind
+// what the bytes that are left are announced as
 function restName(decoder, kind, number) {
+  const kinds = ENUMS.rest_kind;
   switch (kind) {
-    case 0: return "the first header, which was not read";
-    case 1: return `payload of type ${named(decoder, KINDS.etherType, number)}`;
-    case 2: return `netlink, protocol ${number}`;
-    case 3: return `GRE, protocol ${hex(number, 4)}`;
-    case 4: return "a link whose protocol numbers have no meaning";
-    case 5: return "payload that MACsec protects";
+    case kinds.START: return "the first header, which was not read";
+    case kinds.ETHER_TYPE: return `payload of type ${named(decoder, KINDS.ETHER_TYPE, number)}`;
+    case kinds.NETLINK: return `netlink, protocol ${number}`;
+    case kinds.GRE: return `GRE, protocol ${hex(number, 4)}`;
+    case kinds.IGNORED: return "a link whose protocol numbers have no meaning";
+    case kinds.SEALED: return "payload that MACsec protects";
     default: return "what follows the ARP packet";
   }
 }
@@ -80,7 +80,7 @@ function readHeaders(decoder, frame, packet) {
   const isSll2 = packet.linkType === LINK_LINUX_SLL2;
   const first = isSll2 ? decoder.linuxSll2(packet) : null;
   const refused = isSll2 ? "no header of cooked capture v2" : "";
-  const text = first ? `protocol ${named(decoder, KINDS.etherType, first.protocol)}` : refused;
+  const text = first ? `protocol ${named(decoder, KINDS.ETHER_TYPE, first.protocol)}` : refused;
   const read = frame ? readFrame(decoder, frame) : notWalked(packet, first ? first.unit.headerLen : 0, text);
   const by = frame ? frame.offset : 0;
   const units = read.units.map((unit) => ({
@@ -122,7 +122,7 @@ class FrameView {
     const title = element("summary", { className: `unit kind${unit.kind}` },
       element("b", { textContent: HEADERS[unit.kind] }), ` ${places(unit.offset, unit.offset + unit.headerLen)}`);
     const rows = fields.map((field) => this.fieldNode(field));
-    if (unit.kind !== 5) rows.push(this.payloadNode(unit));
+    if (unit.kind !== UNITS.ARP) rows.push(this.payloadNode(unit));
     const node = element("details", { open: true }, title, element("ul", {}, ...rows));
     this.target(title, unit.offset * 8, (unit.offset + unit.headerLen) * 8);
     return node;
@@ -132,7 +132,7 @@ class FrameView {
     const { title, abbreviation, kind } = this.decoder.fieldTold(field.name);
     const first = this.read.at + Math.floor(field.bit / 8);
     const bytes = this.decoder.bytes(first, Math.ceil(field.bits / 8));
-    const type = this.read.fields.find((other) => other.unit === field.unit && other.name === PROTOCOL_TYPE);
+    const type = this.read.fields.find((other) => other.unit === field.unit && other.name === ARP_PROTOCOL_TYPE);
     const isIpv4 = type?.value === IPV4 && bytes.length === 4;
     const value = valueText(this.decoder, kind, field, bytes, isIpv4);
     const label = element("span", { className: "name" }, title);
@@ -206,8 +206,8 @@ class FrameView {
     const paint = (start, end, name) => kinds.fill(name, Math.min(start, len), Math.min(end, len));
     paint(ending.restStart, ending.restEnd, ending.isFault ? "unread" : "left");
     units.forEach((unit) => paint(unit.offset, unit.offset + unit.headerLen, `kind${unit.kind}`));
-    const sequences = this.read.fields.filter((field) => field.name === CHECK_SEQUENCE);
-    sequences.forEach((field) => paint(field.bit / 8, (field.bit + field.bits) / 8, "kind1"));
+    const sequences = this.read.fields.filter((field) => field.name === FCS);
+    sequences.forEach((field) => paint(field.bit / 8, (field.bit + field.bits) / 8, `kind${UNITS.ETHERNET2}`));
     return kinds;
   }
 

@@ -194,7 +194,7 @@ class Page {
     const about = [`Packet ${number}`, `${day} ${time}`.trim(), count(packet.len, "byte")];
     if (packet.len < packet.originalLen) about.push(`cut from ${count(packet.originalLen, "byte")}`);
     const frame = this.decoder.frameOf(index);
-    const link = this.decoder.nameOf(KINDS.linkType, packet.linkType);
+    const link = this.decoder.nameOf(KINDS.LINK_TYPE, packet.linkType);
     about.push(link || `link type ${packet.linkType}`);
     this.showFrame(frame, packet, about);
     if (!link) $("about").append(" · headers of this link type are not read");
@@ -211,8 +211,8 @@ class Page {
 
   // the frame's own address
   link(frame) {
-    const type = `type-${frame.etherType.toString(16).padStart(4, "0")}`;
-    const word = { 1: "eth", 2: "fcs", 3: "sll", 4: type }[frame.start];
+    const [name] = Object.entries(STARTS).find(([, start]) => start === frame.start);
+    const word = name === "type" ? `type-${frame.etherType.toString(16).padStart(4, "0")}` : name;
     const text = Array.from(this.decoder.bytes(frame.at, frame.len), pair).join("");
     return element("a", { href: `#${word}:${text}`, textContent: "link to this frame" });
   }

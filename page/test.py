@@ -36,6 +36,16 @@ def test_examples(page):
         check(f"{name}, ending", said.startswith(ending) or said == ending, said)
 
 
+WRONG_SIZES = """Object.entries(ENUMS.struct).filter(([name, number]) =>
+    Number(page.decoder.calls.etherpeel_sizeof(number)) !== STRUCTS[name.toLowerCase()].size).map(([name]) => name)"""
+
+
+def test_structs(page):
+    """The structs of the script have the sizes of those in the module."""
+    page.open(INDEX)
+    check("the sizes of structs", page.evaluate(WRONG_SIZES) == [], page.evaluate(WRONG_SIZES))
+
+
 def test_captures(page, folder):
     for name, data in [("classic.pcap", classic(PACKETS)), ("little.pcap", classic(PACKETS, order="<")),
                        ("blocks.pcapng", pcapng(PACKETS))]:
@@ -582,7 +592,8 @@ def main():
                          test_accessible_list, test_compressed, test_files, test_many, test_long, test_narrow,
                          test_against_tshark]:
                 test(page, folder)
-            for test in [test_bytes, test_arp_addresses, test_accessible, test_input, test_old_browser, test_silence]:
+            for test in [test_structs, test_bytes, test_arp_addresses, test_accessible, test_input, test_old_browser,
+                         test_silence]:
                 test(page)
             if given.pictures:
                 pictures(page, given.pictures, folder)

@@ -86,6 +86,9 @@ class Status(IntEnum):
     BAD_FORMAT = 22
     """The text names no format of a packet."""
 
+    UNCOPIED = 23
+    """The unit of a packet can't be edited, or a copy can't have it."""
+
 
 class Start(IntEnum):
     """What a frame begins with."""
@@ -101,6 +104,19 @@ class Start(IntEnum):
 
     ETHER_TYPE = 4
     """What `ether_type` announces: a VLAN tag, a SecTag, an ARP packet, or a payload that is not read further."""
+
+
+class ReaderState(IntEnum):
+    """How far a capture file was read: `state` of `reader`."""
+
+    BEGINNING = 0
+    """Nothing of the file was read."""
+
+    CLASSIC = 1
+    """The header of a classic file was read. Records follow."""
+
+    SECTION = 2
+    """The header of a section of a pcapng file was read. Blocks follow."""
 
 
 class UnitKind(IntEnum):
@@ -297,7 +313,7 @@ class Decision(IntEnum):
     """The filter selects the packet."""
 
     UNDECIDED = 2
-    """The packet was cut, and its captured bytes do not decide whether the filter selects it."""
+    """The packet or frame was cut, and its bytes do not decide whether the filter selects it."""
 
 
 class FieldPart(IntEnum):
@@ -419,6 +435,17 @@ class Forgotten(IntEnum):
     """The station with an address."""
 
 
+class OptionCode(IntEnum):
+    """The codes of options whose values are texts, in UTF-8 without a 0 byte at the end. The first is for each block,
+    the others are for interface descriptions."""
+
+    COMMENT = 1
+
+    INTERFACE_NAME = 2
+
+    INTERFACE_DESCRIPTION = 3
+
+
 class Fault(C.Structure):
     _fields_ = [("offset", size), ("required_len", size), ("len", size), ("missing", size), ("kind", u32),
                 ("layer", u32), ("len_source", u32), ("packet_type", u16), ("hardware_type", u16), ("closed", u8)]
@@ -492,6 +519,24 @@ class CaptureEnd(C.Structure):
     _fields_ = [("offset", size), ("needed", size)]
 
 
+class Reader(C.Structure):
+    _fields_ = [("interface_count", size), ("snap_len", u32), ("link_type", u16), ("state", u8),
+                ("is_little_endian", u8), ("has_nanoseconds", u8), ("has_fcs_len", u8), ("fcs_len", u8)]
+
+
+class Interface(C.Structure):
+    _fields_ = [("time_offset", u64), ("snap_len", u32), ("link_type", u16), ("has_fcs_len", u8), ("fcs_len", u8),
+                ("has_time_resolution", u8), ("time_resolution", u8)]
+
+
+class ReadUnit(C.Structure):
+    _fields_ = [("len", size), ("needed", size), ("interface", u32), ("has_packet", u8), ("has_interface", u8)]
+
+
+class Option(C.Structure):
+    _fields_ = [("value", C.c_void_p), ("value_len", size), ("code", u16)]
+
+
 class LinuxSll2Header(C.Structure):
     _fields_ = [("payload_start", size), ("interface_index", u32), ("start", u32), ("protocol", u16),
                 ("ether_type", u16), ("hardware_type", u16), ("packet_type", u8), ("address_len", u8),
@@ -553,7 +598,7 @@ class Bucket(C.Structure):
 # the structs in the order of enum etherpeel_struct, from 1 on
 STRUCTS = [Fault, Found, Fed, Ethernet2, LinuxSll, Vlan, Macsec, Arp, Unit, Headers, Captured, CaptureEnd, FilterError,
            Frame, Field, LinuxSll2Header, ReplaceError, Filter, Port, Received, Sighting, Bucket, Ports, SwitchVlan,
-           PortStates, StaticEntry, Bridge, Row]
+           PortStates, StaticEntry, Bridge, Reader, Interface, ReadUnit, Row, Option]
 
 
 # what each call returns, and what it takes
@@ -593,6 +638,15 @@ CALLS = {
     "capture_record": (u32, [C.POINTER(Captured), C.c_void_p]),
     "captured_frame": (u32, [C.POINTER(Captured), C.POINTER(Frame)]),
     "rows": (u32, [C.POINTER(Captured), size, C.POINTER(Row), size]),
+    "reader_read": (u32, [C.POINTER(Reader), C.POINTER(Interface), size, C.c_void_p, size, C.POINTER(Captured),
+                          C.POINTER(ReadUnit)]),
+    "reader_fault_text": (u32, [C.POINTER(Reader), C.POINTER(Interface), size, C.c_void_p, size, C.c_void_p, size,
+                                C.POINTER(size)]),
+    "reader_options": (u32, [C.POINTER(Reader), C.c_void_p, size, C.POINTER(Option), size, C.POINTER(size)]),
+    "reader_edit": (u32, [C.POINTER(Reader), C.c_void_p, size, C.c_void_p, size, u64, C.c_void_p, size,
+                          C.POINTER(size)]),
+    "reader_copy": (u32, [C.POINTER(Reader), C.POINTER(Interface), size, u32, u32, C.c_void_p, size, C.c_void_p,
+                          size, C.POINTER(size)]),
     "format": (u32, [C.c_void_p, size, size, C.POINTER(Captured), C.c_void_p, size, C.POINTER(size)]),
     "format_limited": (u32, [C.c_void_p, size, size, C.POINTER(Captured), size, C.c_void_p, size, C.POINTER(size)]),
     "field_text": (u32, [u32, u32, C.c_void_p, size, C.POINTER(size)]),
@@ -604,6 +658,7 @@ CALLS = {
     "filter_parse": (u32, [C.c_void_p, size, C.POINTER(Filter), C.POINTER(FilterError)]),
     "filter_matches": (u32, [C.POINTER(Filter), C.POINTER(Captured)]),
     "filter_decide": (u32, [C.POINTER(Filter), C.POINTER(Captured)]),
+    "filter_frame": (u32, [C.POINTER(Filter), u32, u16, C.c_void_p, size, u32, C.POINTER(u32), C.POINTER(size)]),
     "filter_select": (u32, [C.POINTER(Filter), C.POINTER(Captured), size, C.c_void_p, size]),
     "filter_error_text": (u32, [C.c_void_p, size, C.c_void_p, size, C.POINTER(size)]),
     "switch_receive": (u32, [C.POINTER(Bridge), C.POINTER(Bucket), size, u32, u8, C.POINTER(Port), C.c_void_p, size,
