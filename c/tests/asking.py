@@ -14,6 +14,13 @@ COOKED = bytes.fromhex("0004 0001 0006 020000000001abcd 8100 0007 0800")
 # a packet that was cut to 16 bytes: the identifier of its VLAN tag is there, but the ether type after it is not.
 # By its captured bytes alone it has no tag, for that is cut short; whatever the missing bytes are, it has one.
 CUT = etherpeel.Captured(memoryview(TAGGED[:16]), None, 1, len(TAGGED), None)
+# Linux cooked capture v2, and v1 of the loopback device, each with a VLAN tag after its header
+V2 = bytes.fromhex("8100 0000 00000003 0001 04 06 0200000000010000 b123 0800 45") + bytes(20)
+LOOPBACK = bytes.fromhex("0000 0304 0006 0000000000000000 8100 b123 0800 45") + bytes(20)
+
+
+def cut(packet, link_type, length):
+    return etherpeel.Captured(memoryview(packet[:length]), None, link_type, len(packet), None)
 
 
 def frames():
@@ -53,6 +60,38 @@ def cut_packets():
     check("no link type", [Filter(it).decide(CUT._replace(link_type=105)) for it in ("arp", "not arp")], [FAILS, FAILS])
     late = CUT._replace(time_ns=1_800_000_000_000_000_000)  # in 2027
     check("a time", [Filter('frame.time > "2026-11-01T00:00:00Z"').decide(it) for it in (late, CUT)], [MATCHES, FAILS])
+
+
+def needed():
+    """How many bytes decide: an ether type that begins with 07 announces no header, and an ARP packet may have addresses of no bytes."""
+    for text, frame, words, expected in (
+            ("vlan", b"", {}, 13), ("vlan", TAGGED[:12], {}, 13), ("vlan", TAGGED[:13], {}, 14), ("vlan", TAGGED[:14], {}, None),
+            ("vlan 5", TAGGED[:14], {}, 16), ("vlan 5", TAGGED[:16], {}, 17), ("vlan 291", TAGGED[:15], {}, 16), ("vlan 291", TAGGED[:16], {}, None),
+            ("arp.op == 1", ARP[:14], {}, 22), ("arp", ARP[:14], {}, None), ("arp", memoryview(ARP)[:13], {}, 14),
+            ("ether src 02:00:00:00:00:01", b"", {}, 7),
+            ("vlan 5", b"", {"start": Start.ETHER_TYPE, "ether_type": 0x8100}, 2), ("vlan 5", COOKED[:14], {"start": Start.LINUX_SLL}, 15),
+            ("greater 100 and vlan", b"", {}, 13), ("greater 100 and vlan", b"", {"original_len": 60}, None), ("cut", b"", {}, None),
+            ("less 60 and vlan", b"", {}, None), ("less 60 and vlan", b"", {"original_len": 60}, 13),
+            ("vlan", TAGGED[:12], {"original_len": 12}, None)):
+        check(f"{text} of {len(frame)} bytes, {words}", Filter(text).needed(frame, **words), expected)
+    check("a cut packet", [Filter(text).needed(CUT) for text in ("ip", "vlan 291", "less 18", "ip and greater 19")], [17, None, None, 17])
+    check("lengths of a frame of cooked capture",
+          [Filter(f"greater {it} and vlan 5").needed(cut(V2, 276, 20)) for it in (22, 40)], [22, 21])
+    for text, packet, link_type, lengths in (
+            ("vlan 5", V2, 276, [20] * 20 + [22, 23, 23]), ("cut", V2, 276, [20] * 20 + [None] * 2),
+            ("vlan 5", LOOPBACK, 113, [16] * 16 + [18, 19, 19]),
+            ("vlan 5", COOKED[:14] + V2[20:], 113, [16] * 16), ("arp", COOKED, 105, [None] * 9)):
+        check(f"{text} of link type {link_type}", [Filter(text).needed(cut(packet, link_type, at)) for at in range(len(lengths))], lengths)
+    for text in ("vlan 5", "not vlan", "arp.op == 1", "arp.spa == 10.0.0.1 or vlan", "refused", "ip", "macsec or arp", "less 40", "ether multicast"):
+        for packet, link_type in ((TAGGED, 1), (ARP, 1), (COOKED, 113), (V2, 276), (LOOPBACK, 113), (COOKED + bytes(9), 105)):
+            decided = [Filter(text).decide(cut(packet, link_type, at)) for at in range(len(packet) + 1)]
+            found = [Filter(text).needed(cut(packet, link_type, at)) for at in range(len(packet) + 1)]
+            wrong = [at for at, least in enumerate(found) if (least is None) != (decided[at] != UNDECIDED)
+                     or least is not None and (least <= at or {UNDECIDED} != set(decided[at:least]))]
+            check(f"{text} before the bytes that are needed, link type {link_type}", wrong, [])
+    check("wrong words", [raised(Filter("arp").needed, *it) for it in ((5,), ("ff",), (b"", 9), (b"", Start.ETHER_TYPE))],
+          [TypeError] * 2 + [ValueError] * 2)
+    check("a wrong length", [raised(Filter("arp").needed, b"", original_len=it) for it in (-1, 2**32, "1")], [ValueError] * 2 + [TypeError])
 
 
 def many(content, expected):
@@ -108,6 +147,7 @@ def threads():
 def asking(content, expected):
     frames()
     cut_packets()
+    needed()
     many(content, expected)
     values()
     threads()

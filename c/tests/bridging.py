@@ -244,10 +244,11 @@ def copies():
 
 
 def threads():
-    """Four threads that pass frames through one bridge, each in a VLAN of its own, while a fifth changes a port."""
+    """Four threads that pass frames through one bridge, each in a VLAN of its own, while a fifth changes a port. It adds no VLAN."""
     bridge, wrong = Bridge(buckets=4), []
     for port in range(12):
         bridge.set_port(port, pvid=port // 3 + 1)
+    bridge.set_port(20, pvid=8, tagged=[9, 10])
     done = threading.Event()
 
     def passes(vid):

@@ -19,11 +19,13 @@ import etherpeel
 from asking import asking
 from bounds import numbers
 from bridging import bridging
+from copying import copying
 from compared import drawn_frames, drawn_packets, fronts, short_lists
 from lending import lending
 from nested import nested
 from opened import opened
 from sources import sources
+from streams import streams
 from wording import addresses, wrong_words
 from written import written
 from etherpeel import Difference, FaultKind, FieldKind, FieldName, FilterErrorKind, Layer, LenSource, RestKind, Start, Status, _header, _library
@@ -31,7 +33,7 @@ from etherpeel import Difference, FaultKind, FieldKind, FieldName, FilterErrorKi
 
 def layout():
     sizes = [C.sizeof(t) for t in _library.STRUCTS]
-    check("sizes", sizes, [56, 88, 72, 16, 16, 6, 24, 40, 144, 824, 40, 16, 16, 32, 32, 32, 16, 4616, 6, 72, 16, 64, 32, 72, 128, 40, 64, 64])
+    check("sizes", sizes, [56, 88, 72, 16, 16, 6, 24, 40, 144, 824, 40, 16, 16, 32, 32, 32, 16, 4616, 6, 72, 16, 64, 32, 72, 128, 40, 64, 24, 24, 24, 64, 24])
     check("offsets", [getattr(_header.Unit, f).offset for f in
                       ("kind", "closed", "ethernet2", "linux_sll", "vlan", "macsec", "arp")], [32, 36, 38, 54, 70, 80, 104])
     check("version", _library.lib.etherpeel_version(), 0x030000)
@@ -443,7 +445,7 @@ TESTS = {
     "numbers": numbers, "asking": lambda: asking(CLASSIC, [b""]),
     "opened": lambda: opened(CLASSIC, [b"\xff", b""], TAGGED, captured(COOKED_V2, 276)), "bridging": bridging,
     "nested calls": nested, "lent memory": lending, "drawn frames": lambda: drawn_frames(10000),
-    "drawn packets": lambda: drawn_packets(3000), "written": written, "short lists": short_lists, "fronts": fronts,
+    "drawn packets": lambda: drawn_packets(3000), "written": written, "streams": streams, "copying": copying, "short lists": short_lists, "fronts": fronts,
 }
 for name, test in TESTS.items():
     if word in name:

@@ -12,7 +12,9 @@ from checks import check, counts, words
 # What is ignored must be wrong: mypy refuses a comment that ignores nothing.
 PROGRAM = '''
 import array
+import contextlib
 import ctypes
+import gzip
 import io
 import mmap
 import pathlib
@@ -98,6 +100,31 @@ def captures(path: pathlib.Path) -> None:
     first.time_ns + 1  # type: ignore[operator]
 
 
+def streams(path: pathlib.Path) -> None:
+    with etherpeel.Reader(path) as reader:
+        packet: etherpeel.Captured = next(reader)
+        interface: Optional[etherpeel.Interface] = reader.interface
+        name: Optional[str] = interface.name if interface else None
+        comments: Tuple[str, ...] = reader.comments
+        interfaces: List[etherpeel.Interface] = reader.interfaces
+        assert (len(packet.packet), name, comments, interfaces) == (19, None, (), etherpeel.open(path).interfaces)
+    with path.open("rb") as file, gzip.open(io.BytesIO(gzip.compress(CLASSIC))) as unpacked:
+        found: Iterator[etherpeel.Captured] = etherpeel.select("vlan", etherpeel.Reader(file))
+        assert len(list(found)) == len(list(etherpeel.Reader(unpacked))) == len(list(etherpeel.Reader(bytearray(CLASSIC)))) == 1
+    with etherpeel.Copy(str(path), io.BytesIO(), growth=4) as copy:
+        edits: etherpeel.Copy = copy
+        for packet in edits:
+            edits.edit(bytearray(4) + packet.packet, original_len=60)
+            edits.leave_out()
+    needed: Optional[int] = etherpeel.Filter("vlan").needed(FRAME[:13], original_len=60)
+    one: Optional[etherpeel.Interface] = etherpeel.open(path).interface(0)
+    assert needed == 14 and one is None
+    with contextlib.suppress(TypeError):
+        etherpeel.Reader(7)  # type: ignore[arg-type]
+    with contextlib.suppress(TypeError):
+        etherpeel.Copy(path, io.BytesIO(), "4")  # type: ignore[arg-type]
+
+
 def filters() -> None:
     vlan = etherpeel.Filter("vlan 291")
     one: bool = vlan.matches(FRAME, etherpeel.Start.ETHERNET2)
@@ -134,6 +161,7 @@ tables()
 headers()
 filters()
 captures(pathlib.Path("f.pcap"))
+streams(pathlib.Path("f.pcap"))
 try:
     bridge()
 except TypeError as error:

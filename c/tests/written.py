@@ -40,7 +40,7 @@ def not_written():
             ("link type", lambda: writer.write(cooked), ValueError), ("time", lambda: writer.write(b"", time_ns=2**32 * 10**9), ValueError),
             ("length", lambda: writer.write(bytes(262145)), ValueError), ("text", lambda: writer.write("ff"), TypeError),
             ("before 1970", lambda: writer.write(b"", time_ns=-1), ValueError), ("odd", lambda: etherpeel.Writer(file, fcs_len=3), ValueError),
-            ("no number", lambda: etherpeel.Writer(file, 65536), ValueError), ("no target", lambda: etherpeel.Writer(7), AttributeError)):
+            ("no number", lambda: etherpeel.Writer(file, 65536), ValueError), ("no target", lambda: etherpeel.Writer(7), TypeError)):
         check(what, (raised(call), file.getvalue()), (kind, HEADER))
     writer.write(b"", time_ns=2**32 * 10**9 - 1)
     check("last time", etherpeel.open(file.getvalue())[0].time_ns, 2**32 * 10**9 - 1)

@@ -101,7 +101,8 @@ class Bridge:
     **Nothing stops a frame in a loop**: there is no spanning tree. A caller that has one gets its frames as `reserved`,
     and sets `learning` and `forwarding` of the ports.
 
-    Threads can share a bridge, and it can be pickled with all that it has learned.
+    Threads can share a bridge, and it can be pickled with all that it has learned. A frame that comes in while another
+    thread adds a VLAN may be learned in vain; then the next frame to its station leaves by all ports of the VLAN.
     """
 
     def __init__(self, *, kind: BridgeKind = BridgeKind.CUSTOMER, ageing_time: int = 300, buckets: int = 1024,

@@ -9,6 +9,7 @@ from typing import Any, Dict, Iterator, List, NamedTuple, Optional, Protocol, Se
 from . import _header
 from ._header import Start, Status
 from ._library import Error, StatusError, between, lent, lib, number, reader, text
+from ._reading import Interface, interfaces_of
 from ._sources import content_of
 from ._tables import Table, table_of
 from ._types import Buffer, Field, Packet, Summary, Unit
@@ -25,7 +26,7 @@ class Captured(NamedTuple):
     """A packet of a capture file. It is pickled with a copy of its bytes."""
 
     packet: memoryview
-    """The captured bytes, where they are in the file."""
+    """The captured bytes, where they are in the file; a `Reader` copies them."""
     time_ns: Optional[int]
     """The time of the capture in nanoseconds since 1970, UTC, if it has one."""
     link_type: int
@@ -120,6 +121,7 @@ class Capture(Sequence[Captured]):
             status = lib.etherpeel_capture(at, length, structs, count.value, C.byref(count), C.byref(end))
         self._at, self._structs, self._end, self._status = at, structs, end, status
         self._memory = memoryview(structs).cast("B") if len(structs) else b""
+        self._described: Any = None
 
     @property
     def fault(self) -> Optional[CaptureError]:
@@ -140,6 +142,18 @@ class Capture(Sequence[Captured]):
             frame.groupby("vlan_1")["original_len"].sum()
         """
         return table_of(self._all())
+
+    @property
+    def interfaces(self) -> List[Interface]:
+        """The interfaces that the sections of a pcapng file describe, in the order of the file; none in a classic
+        file."""
+        return list(self._all_described()[0])
+
+    def interface(self, index: int) -> Optional[Interface]:
+        """The interface of the packet at an index; None in a classic file."""
+        interfaces, places = self._all_described()
+        place = places[index]
+        return interfaces[place] if place >= 0 else None
 
     def close(self) -> None:
         """Gives the memory of the file back, once no packet that was taken from the capture is in use. After it the
@@ -180,16 +194,30 @@ class Capture(Sequence[Captured]):
             raise ValueError("the capture is closed")
         return self._structs
 
+    def _all_described(self):
+        """The interfaces, and the place of each packet's interface among them. The file is read for them once."""
+        self._all()
+        if self._described is None:
+            with lent(self._view) as (at, _):
+                self._described = interfaces_of(at or 0, self._end.offset)
+        return self._described
+
     def _packet(self, index):
         """The packet at an index that is not negative."""
         if self._memory is None:
             raise ValueError("the capture is closed")
-        (address, packet_len, seconds, nanoseconds, original_len, link_type, has_time, has_fcs_len,
-         fcs_len) = _captured(self._memory, index * SIZE)
-        start = address - self._at if packet_len else 0
-        time = seconds * 10**9 + nanoseconds if has_time else None
-        return _new(Captured, (self._view[start:start + packet_len], time, link_type, original_len,
-                               fcs_len if has_fcs_len else None))
+        address, length, others = packet_values(self._memory, index * SIZE)
+        start = address - self._at if length else 0
+        return _new(Captured, (self._view[start:start + length], *others))
+
+
+def packet_values(memory, offset):
+    """What a struct of C in memory says of a packet: the address of its bytes, their number, and all other values of a
+    `Captured`."""
+    (address, packet_len, seconds, nanoseconds, original_len, link_type, has_time, has_fcs_len,
+     fcs_len) = _captured(memory, offset)
+    time = seconds * 10**9 + nanoseconds if has_time else None
+    return address, packet_len, (time, link_type, original_len, fcs_len if has_fcs_len else None)
 
 
 FIELDS = "packet packet_len seconds nanoseconds original_len link_type has_time has_fcs_len fcs_len"
@@ -208,7 +236,7 @@ def open(source: Union[str, os.PathLike[str], Readable, Buffer]) -> Capture:
     Each packet takes 40 bytes of memory. A file on disk is mapped into memory, an open one from its position on. Every
     other source is read at once by its `read()`, and what is compressed is unpacked into memory. If a mapped file is
     truncated while its packets are in use, the system kills the process (SIGBUS). So read a file that another program
-    may truncate, as `tcpdump -W` does: `open(file.read())`.
+    may truncate, as `tcpdump -W` does: `open(file.read())`. A `Reader` reads a file of any length in constant memory.
 
     Raises `OSError` if the file can't be opened or read. If its content can't be read to the end, that is the `fault`
     of the capture.

@@ -9,7 +9,7 @@ from typing import Any, Iterable, Iterator, List, Optional, Tuple, Type, Union
 from . import _header
 from ._captures import FIELDS, SIZE, Capture, Captured, Packets, told
 from ._header import Decision, FilterErrorKind, Start, Status
-from ._library import READ, Lent, get_buffer, lib, release_buffer, required, text, writer
+from ._library import READ, Lent, get_buffer, lent, lib, number, release_buffer, required, text, writer
 from ._types import Buffer, FilterError, begun
 
 
@@ -77,12 +77,48 @@ class Filter:
         that depends on them, the packet is `Decision.UNDECIDED`. A frame that is given as bytes never is."""
         return Decision(self._asked(lib.etherpeel_filter_decide, packet, start, ether_type))
 
+    def needed(self, packet: Union[Captured, Buffer], start: Start = Start.ETHERNET2, *,
+               ether_type: Optional[int] = None, original_len: Optional[int] = None) -> Optional[int]:
+        """How many bytes a decision needs at least: with fewer the filter stays undecided, whatever bytes follow those
+        that are there. None if these decide. A program that reads a frame in parts can ask for as many:
+
+            etherpeel.Filter("vlan").needed(frame[:12])   # 13: no VLAN tag follows if that byte is 0x08
+
+        A frame that is given as bytes had `original_len` bytes before it was cut. By default its length is not known;
+        `less`, `greater` and `frame.original` then take it for 4294967295, the greatest. `cut` and `frame.captured` are
+        about the bytes that are given.
+
+        For a packet of a capture the bytes are those of the packet, and the result is None where `decide` decides. The
+        primitives about lengths are then about its `frame`. If the header of a cooked capture is cut, the result is the
+        length of that header, whatever the filter is.
+        """
+        if isinstance(packet, Captured):
+            return self._needed_of(packet)
+        total = 2**32 - 1 if original_len is None else number("original_len", original_len, 32)
+        decision, needed = C.c_uint32(), C.c_size_t()
+        with lent(packet) as (at, length):
+            words = self._read, *begun(start, ether_type), at, length, total
+            required(lib.etherpeel_filter_frame(*words, C.byref(decision), C.byref(needed)))
+        return needed.value if decision.value == Decision.UNDECIDED else None
+
     def select(self, packets: Iterable[Union[Captured, Buffer]]) -> List[bool]:
         """What `matches` returns for each packet; frames that are given as bytes begin with an Ethernet II header. For
         a `Capture` these are the packets before its `fault`, which raises nothing."""
         if isinstance(packets, Capture):
             return [mark == 1 for mark in marks(self._read, packets, 0, len(packets))]
         return [self.matches(packet) for packet in packets]
+
+    def _needed_of(self, packet):
+        """How many bytes of a packet of a capture decide."""
+        if self.decide(packet) != Decision.UNDECIDED:
+            return None
+        captured_len, header_len = len(packet.packet), _HEADER_LENS.get(packet.link_type, 0)
+        if captured_len < header_len:
+            return header_len
+        frame = packet.frame
+        total = len(frame.bytes) + packet.original_len - captured_len
+        needed = self.needed(frame.bytes, frame.start, ether_type=frame.ether_type, original_len=total)
+        return captured_len + 1 if needed is None else frame.offset + needed
 
     def _asked(self, call, packet, start, ether_type):
         if not isinstance(packet, Captured):
@@ -125,6 +161,7 @@ class Filter:
 
 
 _LINKS = {Start.ETHERNET2: (1, None), Start.ETHERNET2_FCS: (1, 4), Start.LINUX_SLL: (113, None)}
+_HEADER_LENS = {113: 16, 276: 20}  # of cooked captures, by the link type
 _WITH_GREATEST = FilterErrorKind.NUMBER, FilterErrorKind.VLAN_ID_OR_OPERATOR, FilterErrorKind.BYTES
 
 

@@ -83,14 +83,19 @@ def required(status):
         raise StatusError(status)
 
 
-def text(call, *words, room=512):
-    """The text that a call with these words writes. It is called again if there is not enough room."""
+def written(call, *words, room=512):
+    """The bytes that a call with these words writes. It is called again if there is not enough room."""
     target, count = C.create_string_buffer(room), C.c_size_t()
     status = call(*words, target, room, C.byref(count))
     if status == Status.NO_ROOM:
-        return text(call, *words, room=count.value)
+        return written(call, *words, room=count.value)
     required(status)
-    return target.raw[:count.value].decode("ascii")
+    return target.raw[:count.value]
+
+
+def text(call, *words):
+    """The text that a call with these words writes."""
+    return written(call, *words).decode("ascii")
 
 
 def filled(kind, room, call, *words):

@@ -3,7 +3,7 @@ from __future__ import annotations
 
 import ctypes as C
 import os
-from typing import BinaryIO, Optional, Sequence, Union
+from typing import BinaryIO, Optional, Sequence, Tuple, Union
 
 from ._captures import Captured, told
 from ._header import Status
@@ -35,6 +35,23 @@ def write_frame(headers: Sequence[Header], rest: Buffer = b"") -> bytes:
     return target.raw
 
 
+def opened_target(target: Union[str, os.PathLike[str], BinaryIO]) -> Tuple[BinaryIO, bool]:
+    """The file that a target names, and whether it was opened here."""
+    if isinstance(target, (str, os.PathLike)):
+        return open(target, "wb"), True
+    if not hasattr(target, "write"):
+        raise TypeError(f"target is a path, or a file that is open for writing, not {type(target).__name__}")
+    return target, False
+
+
+def write_all(file: BinaryIO, content: bytes) -> None:
+    """Writes all bytes, also to a file that takes some of them at a time."""
+    count = file.write(content)
+    while isinstance(count, int) and count < len(content):
+        content = content[count:]
+        count = file.write(content)
+
+
 class Writer:
     """Writes a classic capture file, which libpcap reads: little-endian, with times in nanoseconds.
 
@@ -55,9 +72,8 @@ class Writer:
         if length % 2 or length > 30:
             raise ValueError(f"fcs_len is even, and at most 30, not {length}")
         required(lib.etherpeel_capture_header(self._link_type, number("snap_len", snap_len, 32), length, header))
-        self._is_own = isinstance(target, (str, os.PathLike))
-        self._file = open(target, "wb") if isinstance(target, (str, os.PathLike)) else target
-        self._file.write(bytes(header))
+        self._file, self._is_own = opened_target(target)
+        write_all(self._file, bytes(header))
 
     def write(self, packet: Union[Captured, Buffer], time_ns: Optional[int] = None, original_len: Optional[int] = None) -> None:
         """Writes a packet: one of a capture, or bytes that were captured at a time in nanoseconds since 1970, of a packet that had a
@@ -74,7 +90,7 @@ class Writer:
         with lent(packet.packet) as (at, length):
             if lib.etherpeel_capture_record(C.byref(told(packet, at, length)), header):
                 raise ValueError("the packet has more than 262144 bytes" if length > 262144 else "time_ns is above 32 bits of seconds")
-        self._file.write(bytes(header) + packet.packet)
+        write_all(self._file, bytes(header) + packet.packet)
 
     def close(self) -> None:
         """Closes the file, if the writer has opened it."""
