@@ -10,12 +10,12 @@
  *   Frame    `bytes` and `file` point to `len` bytes, which are read and never written; `frame` and
  *            `buffer` to `len` bytes, which the calls that change headers write to. NULL is allowed
  *            if `len` is 0.
- *   Targets  `units`, `fields`, `packets`, `rows`, `matches`, `target`, `fill` and `text` point to
- *            as many elements as `room` says; what etherpeel_build, etherpeel_write_frame,
+ *   Targets  `units`, `fields`, `packets`, `options`, `rows`, `matches`, `target`, `fill` and `text`
+ *            point to as many elements as `room` says; what etherpeel_build, etherpeel_write_frame,
  *            etherpeel_rows and etherpeel_select read to `count`. NULL is allowed if that is 0. A
  *            pointer to one struct or number must not be NULL. The memory must be aligned for its
  *            type. Memory that is only written to need not be initialized, except for `packets`,
- *            `packet` and an etherpeel_frame.
+ *            `packet`, `options` and an etherpeel_frame.
  *   Structs  Pointers in a struct, and the lengths of what they point to, must be right. All other
  *            numbers may be any: those that don't fit are refused, as ETHERPEEL_BAD_FIELD or
  *            ETHERPEEL_BAD_KIND, or the call says what they mean. A filter or a table of stations
@@ -28,11 +28,12 @@
  *   Order    Numbers that are passed, and those of structs, are in the byte order of the machine
  *            (host byte order); addresses are bytes in the order of the frame.
  *   Result   ETHERPEEL_DONE, or why the call did nothing; etherpeel_capture,
- *            etherpeel_reader_read, etherpeel_select, etherpeel_linux_sll2, etherpeel_build,
- *            etherpeel_write_frame and those that replace headers say what they write even then.
- *            After ETHERPEEL_UNKNOWN_START nothing was written at all; after ETHERPEEL_NO_ROOM only
- *            the length that the target needs, if the call gives one; after ETHERPEEL_NO_TEXT only
- *            the length 0.
+ *            etherpeel_reader_read, etherpeel_reader_edit, etherpeel_reader_copy,
+ *            etherpeel_select, etherpeel_linux_sll2, etherpeel_build, etherpeel_write_frame and
+ *            those that replace headers say what they write even then. After
+ *            ETHERPEEL_UNKNOWN_START nothing was written at all; after ETHERPEEL_NO_ROOM only the
+ *            length that the target needs, if the call gives one; after ETHERPEEL_NO_TEXT only the
+ *            length 0.
  *   Memory   No call allocates, blocks, or stores anything between calls, so each is thread-safe.
  *            etherpeel_reader_fault_text takes some 1.5 KB of stack, etherpeel_completion and
  *            etherpeel_fault_text 2.5 KB, etherpeel_fields 5 KB, etherpeel_replace_arp 14 KB,
