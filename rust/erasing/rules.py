@@ -182,9 +182,14 @@ def sources(tokens):
                     cut(tokens, k, after)
 
 
+# Functions that `#[inline(always)]` makes faster in Rattle and slower by cargo.
+HINTED = {"edit_unit", "copy_unit", "copies_packet"}
+
+
 def inline_hints(tokens):
-    """`#[inline]` is written before each function with a body but `fmt`. Rattle compiles all crates as one module, and so
-    inlines across crates; cargo does so only where this says it may. It changes no result."""
+    """`#[inline]` is written before each function with a body but `fmt`, and in place of `#[inline(always)]` before those
+    of the table. Rattle compiles all crates as one module, and so inlines across crates; cargo does so only where this
+    says it may. It changes no result."""
     for i in range(len(tokens) - 1, -1, -1):
         if tokens[i].text != "fn" or tokens[i + 1].text == "fmt" or tokens[head_end(tokens, i)].text != "{":
             continue
@@ -194,6 +199,10 @@ def inline_hints(tokens):
             new = lex("#[inline]")[:-1]
             new[0].before, tokens[start].before = tokens[start].before, "\n" + lead
             tokens[start:start] = new
+        elif tokens[i + 1].text in HINTED:
+            for at, after in places(tokens[:i], "#[inline(always)]"):
+                if at >= start:
+                    respell(tokens, at, after, "#[inline]")
 
 
 def paths(tokens, crate, spelled):

@@ -141,7 +141,7 @@ impl<T: InterfaceTable> CaptureReader<T> {
     ///
     /// </details>
     #[must_use]
-    #[inline(always)]
+    #[inline]
     pub fn edit_unit<'a>(
         &self,
         unit: &'a [u8],
@@ -170,7 +170,7 @@ impl<T: InterfaceTable> CaptureReader<T> {
     ///
     /// </details>
     #[must_use]
-    #[inline(always)]
+    #[inline]
     pub fn copy_unit<'a>(&self, mode: CopyMode, unit: &'a [u8]) -> CopiedUnit<'a> {
         self.state.copy_unit(mode, unit)
     }
@@ -195,7 +195,7 @@ impl<T: InterfaceTable> CaptureReader<T> {
     ///
     /// </details>
     #[must_use]
-    #[inline(always)]
+    #[inline]
     pub fn copies_packet(&self, mode: CopyMode, unit: &[u8], packet: &CapturedPacket<'_>) -> bool {
         self.state.copies_packet(mode, unit, packet)
     }

@@ -61,7 +61,7 @@ impl ReaderState {
     ///
     /// </details>
     #[must_use]
-    #[inline(always)]
+    #[inline]
     pub fn edit_unit<'a>(
         &self,
         unit: &'a [u8],
@@ -133,7 +133,7 @@ impl ReaderState {
     ///
     /// </details>
     #[must_use]
-    #[inline(always)]
+    #[inline]
     pub fn copy_unit<'a>(&self, mode: CopyMode, unit: &'a [u8]) -> CopiedUnit<'a> {
         match mode {
             CopyMode::Exact => CopiedUnit::Same(unit),
@@ -178,7 +178,7 @@ impl ReaderState {
     ///
     /// </details>
     #[must_use]
-    #[inline(always)]
+    #[inline]
     pub fn copies_packet(&self, mode: CopyMode, unit: &[u8], packet: &CapturedPacket<'_>) -> bool {
         match (mode, self) {
             (CopyMode::Changed { raise }, ReaderState::Section(byte_order)) => {
