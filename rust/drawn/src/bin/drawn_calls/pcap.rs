@@ -4,7 +4,7 @@ use crate::draw::Draw;
 use crate::text::{Text, WithText};
 use etherpeel::ether_pcap::{
     ByteOrder, CaptureInterface, EnhancedPacket, FileHeader, InterfaceDescription, PcapRecord,
-    PcapRecords, PcapngBlock, SectionHeader, SimplePacket, TimestampResolution,
+    PcapRecords, PcapngBlock, ReaderState, SectionHeader, SimplePacket, TimestampResolution,
 };
 use std::fmt;
 
@@ -104,10 +104,21 @@ fn blocks(draw: &mut Draw, bytes: &[u8], text: &mut Text) -> fmt::Result {
         match PcapngBlock::from_slice(order, rest) {
             Ok(block) => {
                 text.add(&(&block, &block.block_len()))?;
+                options(order, rest, text)?;
                 body(draw, order, block.body, text)?;
                 rest = rest.get(block.block_len()..).unwrap_or(&[]);
             }
             Err(error) => return text.add(&WithText(&error)),
+        }
+    }
+    Ok(())
+}
+
+/// The options of a block.
+fn options(order: ByteOrder, unit: &[u8], text: &mut Text) -> fmt::Result {
+    if let Some(options) = ReaderState::Section(order).options(unit) {
+        for option in options {
+            text.add(&(&option.code, &option.value, &option.is_comment()))?;
         }
     }
     Ok(())
@@ -142,6 +153,7 @@ fn described(
         &interface.trailer_to_bytes(),
     ))?;
     text.add(&(&interface.option(draw.short() % 16), &interface.fcs_len()))?;
+    text.add(&(&interface.name(), &interface.description()))?;
     text.add(&(&interface.time_resolution(), &interface.time_offset()))
 }
 
