@@ -113,5 +113,5 @@ ROWS = [
      f"{VLAN_SENDER} > {ALL} vlan 291 pcp 5 dei ARP who-has 10.9.0.1 tell 10.9.0.2"],
     ["2", "2023-11-14", "22:13:21.000005", "16 of 60", f"{SECOND} > {FIRST} IPv4 2 bytes (16 of 60 bytes)"],
     ["3", "2023-11-14", "22:13:22.000005", "19 of 60",
-     f"{VLAN_SENDER} > {ALL} vlan 1 pcp 0 fault at 18: needs 4 bytes, has 1 (19 of 60 bytes)"],
+     f"{VLAN_SENDER} > {ALL} vlan 1 pcp 0 fault at 18: vlan needs 4 bytes, has 1 (19 of 60 bytes)"],
 ]

@@ -90,7 +90,7 @@ def test_rows(page, folder):
             ("six2.pcap", linked(276, SLL2), when, f"if 3 cooked type 0 from {reply}"),
             ("four2.pcap", linked(276, v2 + "04 c000020100000000"), when, "if 3 cooked type 0 from c0:00:02:01 IPv4 0 bytes"),
             ("long2.pcap", linked(276, v2 + "14 0102030405060708"), when, "if 3 cooked type 0 from 01:02:03:04:05:06:07:08"),
-            ("short.pcap", linked(1, IPV4[:26]), when, "fault at 0: needs 14 bytes, has 13"),
+            ("short.pcap", linked(1, IPV4[:26]), when, "fault at 0: Ethernet II needs 14 bytes, has 13"),
             ("nano.pcap", nano, ["2023-11-14", "22:13:21.123456789"], ROWS[1][4]),
             ("far.pcapng", far, ["", "253402300800.000005"], ROWS[1][4].partition(" (")[0])]:
         page.open(INDEX)

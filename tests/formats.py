@@ -111,6 +111,9 @@ PACKETS = [
     ("a packet type without a meaning", cooked("0008 0001 0006 0200000000010000 0800", 1), 1, [
         packet(1, "2023-11-14T22:13:20.000000000Z", 113, 16, 16, [], fault=fault(0, "sll_packet_type", value=8)),
     ]),
+    ("a header of cooked capture v1 that is cut", cooked("0004 0001 0006 020000000001 0000 08", 1), 1, [
+        packet(1, "2023-11-14T22:13:20.000000000Z", 113, 15, 15, [], fault=fault(0, "length", 16, 15, "slice")),
+    ]),
     # LINKTYPE_LINUX_SLL2: a VLAN tag, GRE, and a header that is cut
     ("cooked capture v2", classic()[:20] + joined("00000114") + b"".join(joined("6553f100 00000000", f"{len(it):08x}" * 2) + it for it in (
         joined("8100 0000 00000003 0001 02 06 0200000000010000 0005 0800"), joined("0800 0000 00000003 030a 04 09 0a00000100000000 45"),
@@ -128,13 +131,13 @@ PACKETS = [
 # The same packets as lines for the eye, in which a person reads what the members say.
 BRIEF_LINES = {
     "a classic capture": [
-        f"1 2023-11-14T22:13:20.123456Z {STATION} > {BROADCAST} vlan 1 pcp 0 fault at 18: needs 4 bytes, has 1 (19 of 60 bytes)",
+        f"1 2023-11-14T22:13:20.123456Z {STATION} > {BROADCAST} vlan 1 pcp 0 fault at 18: vlan needs 4 bytes, has 1 (19 of 60 bytes)",
         f"2 2023-11-14T22:13:21.000005Z {STATION} > {BROADCAST} vlan 291 pcp 5 dei IPv4 28 bytes"],
     "check sequences": [
         "1 1970-01-01T00:00:01.000000002Z 02:00:00:00:00:02 > 02:00:00:00:00:01 0x88B5 2 bytes",
         "2 1970-01-01T00:00:01.999999999Z 02:00:00:00:00:02 > 02:00:00:00:00:01 0x88B5 2 bytes (18 of 20 bytes)"],
     "sections": [
-        f"1 2023-11-14T22:13:20.123456Z {STATION} > {BROADCAST} fault at 14: needs 4 bytes, has 0 (14 of 46 bytes)",
+        f"1 2023-11-14T22:13:20.123456Z {STATION} > {BROADCAST} fault at 14: vlan needs 4 bytes, has 0 (14 of 46 bytes)",
         "2 2023-11-14T22:13:20.123456789Z cooked type 4 from 02:00:00:00:00:01 IPv4 1 bytes",
         f"3 - {STATION} > {BROADCAST} vlan 291 pcp 5 dei IPv4 0 bytes", "4 1970-01-01T00:00:00.000001Z skipped 1 bytes"],
     "ARP": [
@@ -148,17 +151,22 @@ BRIEF_LINES = {
     "cooked capture v1": ["1 2023-11-14T22:13:20.000000Z cooked type 0 from 00:00:00:00:00:00 vlan 5 pcp 0 IPv4 0 bytes"],
     "netlink": ["1 2023-11-14T22:13:20.000000Z cooked type 4 from  sll_netlink 1 bytes"],
     "a packet type without a meaning": ["1 2023-11-14T22:13:20.000000Z fault at 0: packet type 8"],
+    "a header of cooked capture v1 that is cut": ["1 2023-11-14T22:13:20.000000Z fault at 0: cooked header needs 16 bytes, has 15"],
     "cooked capture v2": [
         "1 2023-11-14T22:13:20.000000Z if 3 cooked type 2 from 02:00:00:00:00:01 vlan 5 pcp 0 IPv4 0 bytes",
         "2 2023-11-14T22:13:20.000000Z if 3 cooked type 4 from 0a:00:00:01:00:00:00:00 sll_gre 1 bytes",
-        "3 2023-11-14T22:13:20.000000Z fault at 0: needs 20 bytes, has 6"],
+        "3 2023-11-14T22:13:20.000000Z fault at 0: cooked header needs 20 bytes, has 6"],
 }
-# The names of protocols (the IEEE registry of ether types), and other operations of ARP.
+# The names of protocols (the IEEE registry of ether types), other operations of ARP, and headers that are cut: an ARP packet has 28 bytes with addresses
+# of 6 and 4, a SecTag 16 with an SCI and an ether type, and here a payload of 8 - 2 bytes (IEEE 802.1AE, 9.7).
 BRIEF_ENDS = [
     ("86dd 60", "IPv6 1 bytes"), ("8847", "MPLS 0 bytes"), ("8863", "PPPoE discovery 0 bytes"), ("8864", "PPPoE 0 bytes"), ("888e", "EAPOL 0 bytes"),
     ("88cc", "LLDP 0 bytes"), ("88f7", "PTP 0 bytes"), ("05dc", "0x05DC 0 bytes"), ("0842", "Wake-on-LAN 0 bytes"),
     ("8808 0001", "flow control 2 bytes"), ("9000", "0x9000 0 bytes"),
     ("0806 0001 0800 06 04 0003 020000000001 0a000001 000000000000 0a000002", "ARP op 3 from 10.0.0.1 to 10.0.0.2"),
+    ("0806 0001 0800 06 04 0001 020000000001", "fault at 14: ARP needs 28 bytes, has 14"),
+    ("88e5 20 00 00000001", "fault at 14: macsec needs 16 bytes, has 6"),
+    ("88e5 21 08 00000007 0200000000010001 0800 11223344", "fault at 14: macsec packet needs 22 bytes, has 20"),
 ]
 
 # The example of `write_packet`: 14 of 60 bytes, captured a microsecond after a full second.

@@ -8,6 +8,8 @@ use Rattle.etherparse.specs.Vlan.{VlanValue}
 use Rattle.etherparse.specs.Macsec.{SecTagValue}
 use Rattle.etherparse.specs.Arp.{ArpValue}
 use Rattle.etherparse.specs.NumberText.{hex_number}
+use Rattle.etherparse.specs.Types.Layer.{Layer}
+use Rattle.etherparse.specs.Types.Layer.TheVariants as layers
 use Rattle.etherparse.specs.Header.{Header}
 use Rattle.etherparse.specs.Header as headers
 use Rattle.ether_base.specs.Texts.NumberText.{description_in}
@@ -113,11 +115,23 @@ brief_rest len rests.AfterArp = []
 brief_rest len (rests.EtherType t) = codes " " ++ (type_text t.0 ++ (codes " " ++ (decimal len ++ codes " bytes")))
 brief_rest len kind = codes " " ++ (kind_word kind ++ (codes " " ++ (decimal len ++ codes " bytes")))
 
-abbrev pub lengths_text : (required available : ℕ) → List ℕ
-lengths_text required available = codes "needs " ++ (decimal required ++ (codes " bytes, has " ++ decimal available))
+-- what was cut: a header, or a SecTag with the payload whose length it gives (IEEE 802.1AE, 9.7). The walk reads no
+-- other layer.
+abbrev pub layer_word : Layer → List ℕ
+layer_word layers.Ethernet2Header = codes "Ethernet II "
+layer_word layers.LinuxSllHeader = codes "cooked header "
+layer_word layers.VlanHeader = codes "vlan "
+layer_word layers.MacsecHeader = codes "macsec "
+layer_word layers.MacsecPacket = codes "macsec packet "
+layer_word layers.Arp = codes "ARP "
+layer_word _ = []
+
+abbrev pub lengths_text : Layer → (required available : ℕ) → List ℕ
+lengths_text layer required available =
+    layer_word layer ++ (codes "needs " ++ (decimal required ++ (codes " bytes, has " ++ decimal available)))
 
 abbrev pub brief_cause : Cause → List ℕ
-brief_cause (Length required available source) = lengths_text required available
+brief_cause (Length required available source layer) = lengths_text layer required available
 brief_cause (UnknownPacketType n) = codes "packet type " ++ decimal n
 brief_cause (UnknownHardwareType n) = codes "hardware type " ++ decimal n
 brief_cause Version = codes "version 1 of MACsec"

@@ -182,7 +182,7 @@ kind_value _ = Nothing
 
 -- what is wrong, in a word
 abbrev pub cause_word : Cause → List ℕ
-cause_word (causes.Length required available source) = codes "length"
+cause_word (causes.Length required available source layer) = codes "length"
 cause_word (causes.UnknownPacketType n) = codes "sll_packet_type"
 cause_word (causes.UnknownHardwareType n) = codes "sll_hardware_type"
 cause_word causes.Version = codes "macsec_version"
@@ -190,15 +190,15 @@ cause_word causes.ShortLength = codes "macsec_short_len"
 
 -- bytes that are required and available, and what names the number of those that are available
 abbrev pub cause_required : Cause → Value
-cause_required (causes.Length required available source) = Number required
+cause_required (causes.Length required available source layer) = Number required
 cause_required _ = Nothing
 
 abbrev pub cause_available : Cause → Value
-cause_available (causes.Length required available source) = Number available
+cause_available (causes.Length required available source layer) = Number available
 cause_available _ = Nothing
 
 abbrev pub cause_source : Cause → Value
-cause_source (causes.Length required available source) = Word (source_text source)
+cause_source (causes.Length required available source layer) = Word (source_text source)
 cause_source _ = Nothing
 
 -- a number that has no meaning

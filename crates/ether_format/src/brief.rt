@@ -1,5 +1,5 @@
 //! Writes the parts of a line for the eye: the packet's number and time, its headers, and how the walk ends.
-ghost use Rattle.std.specs.Prelude.{◌++◌, ◌-◌, ◌≤◌, codes, take};
+ghost use Rattle.std.specs.Prelude.{◌++◌, ◌-◌, ◌≡◌, ◌≤◌, codes, take};
 ghost use Rattle.etherparse.specs.Arp.{arp_of};
 ghost use Rattle.etherparse.specs.Ethernet2.{ethernet2_of};
 ghost use Rattle.etherparse.specs.LinuxSll.{linux_sll_of};
@@ -11,7 +11,7 @@ ghost use Rattle.ether_content.specs.ContentViews.{cooked_view};
 ghost use Rattle.ether_pcap.specs.CaptureViews.{captured_packet_view};
 ghost use Rattle.ether_sll2.specs.LinuxSll2.{linux_sll2_of};
 ghost use Rattle.ether_output.specs.OutputBuffer.{Takes};
-ghost use Rattle.ether_format.specs.Brief.{address_text, arp_other, arp_reply, arp_request, brief_arp, brief_cause, brief_cooked_v2, brief_cut, brief_end, brief_ethernet2, brief_front, brief_header, brief_macsec, brief_moment, brief_rest, brief_vlan, cooked_text, fault_text, fraction_text, type_text};
+ghost use Rattle.ether_format.specs.Brief.{address_text, arp_other, arp_reply, arp_request, brief_arp, brief_cause, brief_cooked_v2, brief_cut, brief_end, brief_ethernet2, brief_front, brief_header, brief_macsec, brief_moment, brief_rest, brief_vlan, cooked_text, fault_text, fraction_text, layer_word, lengths_text, type_text};
 ghost use Rattle.ether_output.specs.Decimals.{two_digits};
 ghost use Rattle.ether_format.specs.Spelling.{colon_text};
 ghost use Rattle.ether_peel.specs.Walker.UnitHeader.{unit_header};
@@ -32,6 +32,7 @@ use ether_output::{OutputBuffer, Sink, hex_type, write_decimal, write_number};
 use ether_pcap::CapturedPacket;
 use ether_peel::{PeelUnit, RestKind};
 use ether_sll2::LinuxSll2Slice;
+use etherparse::err::Layer;
 use etherparse::{
     ArpPacketSlice, EtherType, Ethernet2Slice, LinuxSllSlice, MacsecHeaderSlice, SingleVlanSlice,
 };
@@ -266,9 +267,8 @@ fn write_cause<W: Sink>(cause: &Cause, out: &mut OutputBuffer<'_, W>)
     ensures { Takes W.contents W.can_fail out.old (brief_cause cause.now) out.new }
 {
     match cause {
-        Cause::Length(required, available, _) => {
-            write_number(out, b"needs ", *required as u64);
-            write_number(out, b" bytes, has ", *available as u64);
+        Cause::Length(required, available, _, layer) => {
+            write_lengths(*layer, *required, *available, out);
         }
         Cause::UnknownPacketType(number) => {
             write_number(out, b"packet type ", u64::from(*number));
@@ -278,6 +278,35 @@ fn write_cause<W: Sink>(cause: &Cause, out: &mut OutputBuffer<'_, W>)
         }
         Cause::Version => out.append(b"version 1 of MACsec"),
         Cause::ShortLength => out.append(b"short length 1"),
+    }
+}
+
+/// Writes `LAYER needs REQUIRED bytes, has AVAILABLE`.
+fn write_lengths<W: Sink>(
+    layer: Layer,
+    required: usize,
+    available: usize,
+    out: &mut OutputBuffer<'_, W>,
+)
+    ensures { Takes W.contents W.can_fail out.old (lengths_text layer required available) out.new }
+{
+    out.append(layer_word(layer).as_bytes());
+    write_number(out, b"needs ", required as u64);
+    write_number(out, b" bytes, has ", available as u64);
+}
+
+/// The word for a layer that was cut, and a space.
+fn layer_word(layer: Layer) -> &'static str
+    ensures { result.now ≡ layer_word layer }
+{
+    match layer {
+        Layer::Ethernet2Header => "Ethernet II ",
+        Layer::LinuxSllHeader => "cooked header ",
+        Layer::VlanHeader => "vlan ",
+        Layer::MacsecHeader => "macsec ",
+        Layer::MacsecPacket => "macsec packet ",
+        Layer::Arp => "ARP ",
+        _ => "",
     }
 }
 

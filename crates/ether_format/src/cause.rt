@@ -5,14 +5,15 @@ ghost use Rattle.ether_format.specs.Causes.{cause_of_v2, cause_shown, linux_sll_
 
 use ether_peel::PeelError;
 use ether_sll2::LinuxSll2Error;
+use etherparse::err::Layer;
 use etherparse::{LenSource, err};
 
 /// What is wrong with the bytes that should be a header.
 #[derive(Clone, Copy, Debug)]
 pub enum Cause {
-    /// They are fewer than are required: how many are required and available, and what names the number of those that
-    /// are available.
-    Length(usize, usize, LenSource),
+    /// They are fewer than are required: how many are required and available, what names the number of those that are
+    /// available, and the layer that was read. A header of cooked capture of either version is `LinuxSllHeader`.
+    Length(usize, usize, LenSource, Layer),
     /// The packet type of a cooked capture has no meaning.
     UnknownPacketType(u16),
     /// The hardware type of a cooked capture is not supported.
@@ -29,9 +30,12 @@ impl Cause {
         ensures { result ≡ cause_shown error.now }
     {
         match error {
-            PeelError::Len(error) => {
-                Cause::Length(error.required_len, error.len, error.len_source)
-            }
+            PeelError::Len(error) => Cause::Length(
+                error.required_len,
+                error.len,
+                error.len_source,
+                error.layer,
+            ),
             PeelError::LinuxSll(error) => linux_sll_cause(error),
             PeelError::Macsec(error) => macsec_cause(error),
         }
@@ -42,9 +46,12 @@ impl Cause {
         ensures { result ≡ cause_of_v2 (refusal_view error.now) }
     {
         match error {
-            LinuxSll2Error::Len { required_len, len } => {
-                Cause::Length(*required_len, *len, LenSource::Slice)
-            }
+            LinuxSll2Error::Len { required_len, len } => Cause::Length(
+                *required_len,
+                *len,
+                LenSource::Slice,
+                Layer::LinuxSllHeader,
+            ),
             LinuxSll2Error::PacketType(number) => Cause::UnknownPacketType(u16::from(*number)),
         }
     }

@@ -137,7 +137,7 @@ fn cause_word(cause: &Cause) -> &'static str
     ensures { result.now ≡ cause_word cause.now }
 {
     match cause {
-        Cause::Length(_, _, _) => "length",
+        Cause::Length(_, _, _, _) => "length",
         Cause::UnknownPacketType(_) => "sll_packet_type",
         Cause::UnknownHardwareType(_) => "sll_hardware_type",
         Cause::Version => "macsec_version",
@@ -150,7 +150,7 @@ fn required_value<'a>(cause: &Cause) -> Value<'a>
     ensures { value_view result ≡ cause_required cause.now }
 {
     match cause {
-        Cause::Length(required, _, _) => Value::Number(*required as u64),
+        Cause::Length(required, _, _, _) => Value::Number(*required as u64),
         _ => Value::Nothing,
     }
 }
@@ -160,7 +160,7 @@ fn available_value<'a>(cause: &Cause) -> Value<'a>
     ensures { value_view result ≡ cause_available cause.now }
 {
     match cause {
-        Cause::Length(_, available, _) => Value::Number(*available as u64),
+        Cause::Length(_, available, _, _) => Value::Number(*available as u64),
         _ => Value::Nothing,
     }
 }
@@ -170,7 +170,7 @@ fn source_value<'a>(cause: &Cause) -> Value<'a>
     ensures { value_view result ≡ cause_source cause.now }
 {
     match cause {
-        Cause::Length(_, _, source) => Value::Word(source_of(*source)),
+        Cause::Length(_, _, source, _) => Value::Word(source_of(*source)),
         _ => Value::Nothing,
     }
 }

@@ -398,7 +398,7 @@
 //!
 //! ```text
 //! abbrev pub cause_of : Refusal → Cause
-//! cause_of (refusals.Length required len source layer) = Length required len source
+//! cause_of (refusals.Length required len source layer) = Length required len source layer
 //! cause_of (refusals.UnsupportedPacketType n) = UnknownPacketType n
 //! cause_of (refusals.UnsupportedHardwareType n) = UnknownHardwareType n
 //! cause_of refusals.UnexpectedVersion = Version
@@ -415,11 +415,11 @@
 //!
 //! ```text
 //! abbrev pub cause_of_v2 : LinuxSll2Refusal → Cause
-//! cause_of_v2 (Short required len) = Length required len sources.Slice
+//! cause_of_v2 (Short required len) = Length required len sources.Slice layers.LinuxSllHeader
 //! cause_of_v2 (PacketType n) = UnknownPacketType n
 //! ```
 //!
-//! Uses: [`LinuxSll2Refusal`](crate::definitions::ether_sll2#def.LinuxSll2Refusal), [`Cause`](#def.Cause), [`Short`](crate::definitions::ether_sll2#def.LinuxSll2Refusal), [`Length`](#def.Cause), `sources` (`LenSource`), [`PacketType`](crate::definitions::ether_sll2#def.LinuxSll2Refusal), [`UnknownPacketType`](#def.Cause)
+//! Uses: [`LinuxSll2Refusal`](crate::definitions::ether_sll2#def.LinuxSll2Refusal), [`Cause`](#def.Cause), [`Short`](crate::definitions::ether_sll2#def.LinuxSll2Refusal), [`Length`](#def.Cause), `sources` (`LenSource`), `layers` (`Layer`), [`PacketType`](crate::definitions::ether_sll2#def.LinuxSll2Refusal), [`UnknownPacketType`](#def.Cause)
 //!
 //! # Told
 //!
@@ -791,7 +791,7 @@
 //!
 //! ```text
 //! abbrev pub cause_word : Cause → List ℕ
-//! cause_word (causes.Length required available source) = codes "length"
+//! cause_word (causes.Length required available source layer) = codes "length"
 //! cause_word (causes.UnknownPacketType n) = codes "sll_packet_type"
 //! cause_word (causes.UnknownHardwareType n) = codes "sll_hardware_type"
 //! cause_word causes.Version = codes "macsec_version"
@@ -808,7 +808,7 @@
 //!
 //! ```text
 //! abbrev pub cause_required : Cause → Value
-//! cause_required (causes.Length required available source) = Number required
+//! cause_required (causes.Length required available source layer) = Number required
 //! cause_required _ = Nothing
 //! ```
 //!
@@ -820,7 +820,7 @@
 //!
 //! ```text
 //! abbrev pub cause_available : Cause → Value
-//! cause_available (causes.Length required available source) = Number available
+//! cause_available (causes.Length required available source layer) = Number available
 //! cause_available _ = Nothing
 //! ```
 //!
@@ -832,7 +832,7 @@
 //!
 //! ```text
 //! abbrev pub cause_source : Cause → Value
-//! cause_source (causes.Length required available source) = Word (source_text source)
+//! cause_source (causes.Length required available source layer) = Word (source_text source)
 //! cause_source _ = Nothing
 //! ```
 //!
@@ -1416,14 +1416,37 @@
 //!
 //! Uses: `rests` (`RestKind`), [`type_text`](#def.type_text), [`kind_word`](#def.kind_word)
 //!
+//! <a id="def.layer_word"></a>
+//!
+//! ## `layer_word`
+//!
+//! What was cut: a header, or a SecTag with the payload whose length it gives (IEEE 802.1AE, 9.7). The walk reads no
+//! other layer.
+//!
+//! ```text
+//! abbrev pub layer_word : Layer → List ℕ
+//! layer_word layers.Ethernet2Header = codes "Ethernet II "
+//! layer_word layers.LinuxSllHeader = codes "cooked header "
+//! layer_word layers.VlanHeader = codes "vlan "
+//! layer_word layers.MacsecHeader = codes "macsec "
+//! layer_word layers.MacsecPacket = codes "macsec packet "
+//! layer_word layers.Arp = codes "ARP "
+//! layer_word _ = []
+//! ```
+//!
+//! Uses: `layers` (`Layer`)
+//!
 //! <a id="def.lengths_text"></a>
 //!
 //! ## `lengths_text`
 //!
 //! ```text
-//! abbrev pub lengths_text : (required available : ℕ) → List ℕ
-//! lengths_text required available = codes "needs " ++ (decimal required ++ (codes " bytes, has " ++ decimal available))
+//! abbrev pub lengths_text : Layer → (required available : ℕ) → List ℕ
+//! lengths_text layer required available =
+//!     layer_word layer ++ (codes "needs " ++ (decimal required ++ (codes " bytes, has " ++ decimal available)))
 //! ```
+//!
+//! Uses: [`layer_word`](#def.layer_word)
 //!
 //! <a id="def.brief_cause"></a>
 //!
@@ -1431,7 +1454,7 @@
 //!
 //! ```text
 //! abbrev pub brief_cause : Cause → List ℕ
-//! brief_cause (Length required available source) = lengths_text required available
+//! brief_cause (Length required available source layer) = lengths_text layer required available
 //! brief_cause (UnknownPacketType n) = codes "packet type " ++ decimal n
 //! brief_cause (UnknownHardwareType n) = codes "hardware type " ++ decimal n
 //! brief_cause Version = codes "version 1 of MACsec"
@@ -1900,9 +1923,9 @@
 //!
 //! ```text
 //! enum Cause {
-//!     /// They are fewer than are required: how many are required and available, and what names the number of those that
-//!     /// are available.
-//!     Length(usize, usize, LenSource),
+//!     /// They are fewer than are required: how many are required and available, what names the number of those that are
+//!     /// available, and the layer that was read. A header of cooked capture of either version is `LinuxSllHeader`.
+//!     Length(usize, usize, LenSource, Layer),
 //!     /// The packet type of a cooked capture has no meaning.
 //!     UnknownPacketType(u16),
 //!     /// The hardware type of a cooked capture is not supported.

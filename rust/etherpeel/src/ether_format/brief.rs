@@ -15,6 +15,7 @@ use crate::ether_output::{OutputBuffer, Sink, hex_type, write_decimal, write_num
 use crate::ether_pcap::CapturedPacket;
 use crate::ether_peel::{PeelUnit, RestKind};
 use crate::ether_sll2::LinuxSll2Slice;
+use crate::err::Layer;
 use crate::{
     ArpPacketSlice, EtherType, Ethernet2Slice, LinuxSllSlice, MacsecHeaderSlice, SingleVlanSlice,
 };
@@ -226,9 +227,8 @@ fn write_fault<W: Sink>(start: usize, cause: &Cause, out: &mut OutputBuffer<'_, 
 #[inline]
 fn write_cause<W: Sink>(cause: &Cause, out: &mut OutputBuffer<'_, W>) {
     match cause {
-        Cause::Length(required, available, _) => {
-            write_number(out, b"needs ", *required as u64);
-            write_number(out, b" bytes, has ", *available as u64);
+        Cause::Length(required, available, _, layer) => {
+            write_lengths(*layer, *required, *available, out);
         }
         Cause::UnknownPacketType(number) => {
             write_number(out, b"packet type ", u64::from(*number));
@@ -238,6 +238,33 @@ fn write_cause<W: Sink>(cause: &Cause, out: &mut OutputBuffer<'_, W>) {
         }
         Cause::Version => out.append(b"version 1 of MACsec"),
         Cause::ShortLength => out.append(b"short length 1"),
+    }
+}
+
+/// Writes `LAYER needs REQUIRED bytes, has AVAILABLE`.
+#[inline]
+fn write_lengths<W: Sink>(
+    layer: Layer,
+    required: usize,
+    available: usize,
+    out: &mut OutputBuffer<'_, W>,
+) {
+    out.append(layer_word(layer).as_bytes());
+    write_number(out, b"needs ", required as u64);
+    write_number(out, b" bytes, has ", available as u64);
+}
+
+/// The word for a layer that was cut, and a space.
+#[inline]
+fn layer_word(layer: Layer) -> &'static str {
+    match layer {
+        Layer::Ethernet2Header => "Ethernet II ",
+        Layer::LinuxSllHeader => "cooked header ",
+        Layer::VlanHeader => "vlan ",
+        Layer::MacsecHeader => "macsec ",
+        Layer::MacsecPacket => "macsec packet ",
+        Layer::Arp => "ARP ",
+        _ => "",
     }
 }
 

@@ -2,14 +2,15 @@
 
 use crate::ether_peel::PeelError;
 use crate::ether_sll2::LinuxSll2Error;
+use crate::err::Layer;
 use crate::{LenSource, err};
 
 /// What is wrong with the bytes that should be a header.
 #[derive(Clone, Copy, Debug)]
 pub enum Cause {
-    /// They are fewer than are required: how many are required and available, and what names the number of those that
-    /// are available.
-    Length(usize, usize, LenSource),
+    /// They are fewer than are required: how many are required and available, what names the number of those that are
+    /// available, and the layer that was read. A header of cooked capture of either version is `LinuxSllHeader`.
+    Length(usize, usize, LenSource, Layer),
     /// The packet type of a cooked capture has no meaning.
     UnknownPacketType(u16),
     /// The hardware type of a cooked capture is not supported.
@@ -25,9 +26,12 @@ impl Cause {
     #[inline]
     pub(in crate::ether_format) fn of(error: &PeelError) -> Cause {
         match error {
-            PeelError::Len(error) => {
-                Cause::Length(error.required_len, error.len, error.len_source)
-            }
+            PeelError::Len(error) => Cause::Length(
+                error.required_len,
+                error.len,
+                error.len_source,
+                error.layer,
+            ),
             PeelError::LinuxSll(error) => linux_sll_cause(error),
             PeelError::Macsec(error) => macsec_cause(error),
         }
@@ -37,9 +41,12 @@ impl Cause {
     #[inline]
     pub(in crate::ether_format) fn of_v2(error: &LinuxSll2Error) -> Cause {
         match error {
-            LinuxSll2Error::Len { required_len, len } => {
-                Cause::Length(*required_len, *len, LenSource::Slice)
-            }
+            LinuxSll2Error::Len { required_len, len } => Cause::Length(
+                *required_len,
+                *len,
+                LenSource::Slice,
+                Layer::LinuxSllHeader,
+            ),
             LinuxSll2Error::PacketType(number) => Cause::UnknownPacketType(u16::from(*number)),
         }
     }

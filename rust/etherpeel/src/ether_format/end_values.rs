@@ -118,7 +118,7 @@ pub(in crate::ether_format) fn fault_value<'a>(
 #[inline]
 fn cause_word(cause: &Cause) -> &'static str {
     match cause {
-        Cause::Length(_, _, _) => "length",
+        Cause::Length(_, _, _, _) => "length",
         Cause::UnknownPacketType(_) => "sll_packet_type",
         Cause::UnknownHardwareType(_) => "sll_hardware_type",
         Cause::Version => "macsec_version",
@@ -130,7 +130,7 @@ fn cause_word(cause: &Cause) -> &'static str {
 #[inline]
 fn required_value<'a>(cause: &Cause) -> Value<'a> {
     match cause {
-        Cause::Length(required, _, _) => Value::Number(*required as u64),
+        Cause::Length(required, _, _, _) => Value::Number(*required as u64),
         _ => Value::Nothing,
     }
 }
@@ -139,7 +139,7 @@ fn required_value<'a>(cause: &Cause) -> Value<'a> {
 #[inline]
 fn available_value<'a>(cause: &Cause) -> Value<'a> {
     match cause {
-        Cause::Length(_, available, _) => Value::Number(*available as u64),
+        Cause::Length(_, available, _, _) => Value::Number(*available as u64),
         _ => Value::Nothing,
     }
 }
@@ -148,7 +148,7 @@ fn available_value<'a>(cause: &Cause) -> Value<'a> {
 #[inline]
 fn source_value<'a>(cause: &Cause) -> Value<'a> {
     match cause {
-        Cause::Length(_, _, source) => Value::Word(source_of(*source)),
+        Cause::Length(_, _, source, _) => Value::Word(source_of(*source)),
         _ => Value::Nothing,
     }
 }
