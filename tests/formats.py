@@ -1,6 +1,6 @@
 """Tests `ether_capture --format json`, `--format brief` and `--fields`: by worked examples, and with programs that read JSON or captures.
 
-`ether_capture.py` runs `examples`, `other_programs.py` runs `readers`.
+`ether_capture.py` runs `examples`, `other_programs.py` runs `readers` and `llc_lengths`.
 """
 import datetime
 import json
@@ -103,6 +103,12 @@ PACKETS = [
             placed("sll", 0, 16, 20, packet_type=0, hw_type=772, addr_len=6, addr="00:00:00:00:00:00", protocol=0x8100),
             vlan(16, 20, 0, 0, 5, 0x0800)], rest=rest(20, 20, "ether_type", 0x0800)),
     ]),
+    # the number of a cooked capture that says LLC (4) is not a length
+    ("LLC in a cooked capture", cooked("0004 0304 0006 0000000000000000 0004 424203", 1), 0, [
+        packet(1, "2023-11-14T22:13:20.000000000Z", 113, 19, 19, [
+            placed("sll", 0, 16, 19, packet_type=4, hw_type=772, addr_len=6, addr="00:00:00:00:00:00", protocol=4)],
+               rest=rest(16, 19, "ether_type", 4)),
+    ]),
     ("netlink", cooked("0004 0338 0000 0000000000000000 0010 aa", 1), 0, [
         packet(1, "2023-11-14T22:13:20.000000000Z", 113, 17, 17, [
             placed("sll", 0, 16, 17, packet_type=4, hw_type=824, addr_len=0, addr="", protocol=16)],
@@ -149,6 +155,7 @@ BRIEF_LINES = {
         f"3 2023-11-14T22:13:20.000000Z 02:00:00:00:00:01 > {BROADCAST} fault at 14: version 1 of MACsec",
         f"4 2023-11-14T22:13:20.000000Z 02:00:00:00:00:01 > {BROADCAST} fault at 14: short length 1"],
     "cooked capture v1": ["1 2023-11-14T22:13:20.000000Z cooked type 0 from 00:00:00:00:00:00 vlan 5 pcp 0 IPv4 0 bytes"],
+    "LLC in a cooked capture": ["1 2023-11-14T22:13:20.000000Z cooked type 4 from 00:00:00:00:00:00 0x0004 3 bytes"],
     "netlink": ["1 2023-11-14T22:13:20.000000Z cooked type 4 from  sll_netlink 1 bytes"],
     "a packet type without a meaning": ["1 2023-11-14T22:13:20.000000Z fault at 0: packet type 8"],
     "a header of cooked capture v1 that is cut": ["1 2023-11-14T22:13:20.000000Z fault at 0: cooked header needs 16 bytes, has 15"],
@@ -161,9 +168,18 @@ BRIEF_LINES = {
 # of 6 and 4, a SecTag 16 with an SCI and an ether type, and here a payload of 8 - 2 bytes (IEEE 802.1AE, 9.7).
 BRIEF_ENDS = [
     ("86dd 60", "IPv6 1 bytes"), ("8847", "MPLS 0 bytes"), ("8863", "PPPoE discovery 0 bytes"), ("8864", "PPPoE 0 bytes"), ("888e", "EAPOL 0 bytes"),
-    ("88cc", "LLDP 0 bytes"), ("88f7", "PTP 0 bytes"), ("05dc", "0x05DC 0 bytes"), ("0842", "Wake-on-LAN 0 bytes"),
+    ("88cc", "LLDP 0 bytes"), ("88f7", "PTP 0 bytes"), ("05dd", "0x05DD 0 bytes"), ("0600", "0x0600 0 bytes"), ("0842", "Wake-on-LAN 0 bytes"),
     ("8808 0001", "flow control 2 bytes"), ("9000", "0x9000 0 bytes"),
     ("0806 0001 0800 06 04 0003 020000000001 0a000001 000000000000 0a000002", "ARP op 3 from 10.0.0.1 to 10.0.0.2"),
+    # IEEE 802.3, 3.2.6: a number of at most 1500 is a length. A frame of the spanning tree (IEEE 802.1D, 9.3.1: 35 bytes after three of LLC) with padding;
+    # SNAP (RFC 1042); NetWare's raw frames, which have 0xFF where LLC has its addresses; addresses that are not both those of the spanning tree; no or one
+    # byte of LLC, also before padding; after a VLAN tag
+    ("0026 424203 0000000000 80000200000c0001 00000000 80000200000c0001 8001 0000 1400 0200 0f00 0000000000000000", "802.3 len 38 STP 46 bytes"),
+    ("0008 aaaa03 00000c 2000", "802.3 len 8 SNAP 8 bytes"), ("0022 ffff 0022", "802.3 len 34 LLC dsap 0xFF ssap 0xFF 4 bytes"),
+    ("0003 0a1b03", "802.3 len 3 LLC dsap 0x0A ssap 0x1B 3 bytes"), ("0003 42aa03", "802.3 len 3 LLC dsap 0x42 ssap 0xAA 3 bytes"),
+    ("0003 aa4203", "802.3 len 3 LLC dsap 0xAA ssap 0x42 3 bytes"), ("0002 4242", "802.3 len 2 STP 2 bytes"), ("0001 4242", "802.3 len 1 2 bytes"),
+    ("0000 4242", "802.3 len 0 2 bytes"), ("05dc 42", "802.3 len 1500 1 bytes"), ("0026", "802.3 len 38 0 bytes"),
+    ("8100 0005 0026 424203", "vlan 5 pcp 0 802.3 len 38 STP 3 bytes"),
     ("0806 0001 0800 06 04 0001 020000000001", "fault at 14: ARP needs 28 bytes, has 14"),
     ("88e5 20 00 00000001", "fault at 14: macsec needs 16 bytes, has 6"),
     ("88e5 21 08 00000007 0200000000010001 0800 11223344", "fault at 14: macsec packet needs 22 bytes, has 20"),
@@ -366,6 +382,25 @@ def as_tshark(packet):
     return [*(str(packet[it]) for it in ("number", "captured", "original")), seconds_of(packet["time"]), link["dst"], link["src"],
             of(customer, "vid"), of(customer, "pcp"), of(customer, "dei"), of(service, "vid"), of(arp, "op"), of(arp, "sha"), of(arp, "spa"),
             of(arp, "tha"), of(arp, "tpa"), ",".join(f"0x{it['an']:02x}" for it in macsec), of(macsec, "pn"), of(macsec, "e"), of(macsec, "c")]
+
+
+def llc_lengths(program):
+    """Lengths of IEEE 802.3, and the addresses of LLC after them: what a line for the eye says of 200 drawn frames is what `tcpdump -e` says."""
+    draw = random.Random(802_3)
+    even = range(0, 256, 2)  # the lowest bit of an address is not part of its name
+    saps = [(0x42, 0x42), (0xAA, 0xAA), *((draw.choice(even), draw.choice(even)) for _ in range(198))]
+    wanted = [(draw.randrange(3, 80), *it) for it in saps]
+    frames = [joined("0180c2000000 020000000001", f"{len_:04x} {dsap:02x}{ssap:02x}03") + bytes(77) for len_, dsap, ssap in wanted]
+    with tempfile.NamedTemporaryFile(suffix=".pcap") as pcap:
+        pcap.write(classic(*frames))
+        pcap.flush()
+        ours, theirs = (subprocess.run([*words, pcap.name], capture_output=True, text=True, check=False).stdout
+                        for words in ([program, *BRIEF], ["tcpdump", "-e", "-n", "-t", "-r"]))
+    said = re.findall(r" 802\.3 len (\d+) (STP|SNAP|LLC dsap (0x..) ssap (0x..)) 80 bytes\n", ours)
+    named = {"STP": ("0x42", "0x42"), "SNAP": ("0xAA", "0xAA")}
+    read = [(int(len_), *(int(it, 16) for it in named.get(words, sap))) for len_, words, *sap in ((it[0], it[1], *it[2:]) for it in said)]
+    found = re.findall(r", 802\.3, length (\d+): LLC, dsap .*? \((0x..)\) Individual, ssap .*? \((0x..)\) Command", theirs)
+    return [("lengths for the eye", read, wanted), ("lengths by tcpdump", [(int(a), int(b, 16), int(c, 16)) for a, b, c in found], wanted)]
 
 
 def schema(program):

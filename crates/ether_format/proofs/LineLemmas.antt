@@ -36,12 +36,13 @@ headers_visited contents can_fail v out (h ∷ hs) w new visited =
 -- ---- a whole line
 
 pub whole_line : (line : Line) (number : ℕ) (p : PacketValue) (moment : Option Moment) (hs : List Told) (end : End)
-    → front_text line number p moment ++ (headers_text line true hs ++ (end_text line end ++ tail_text line p))
+    → front_text line number p moment ++ (headers_text line true hs ++ (end_text line p end ++ tail_text line p))
     ≡ line_text line number p moment hs end
 whole_line Json number p moment hs end =
     λ i. json_front number p moment ++ (all_objects hs i ++ append-nil (json_end end) i)
 whole_line Brief number p moment hs end =
-    ap (λ l. brief_front number moment ++ (l ++ (brief_end end ++ (brief_cut p ++ codes "\n")))) (brief_headers true hs)
+    ap (λ l. brief_front number moment ++ (l ++ (brief_end p end ++ (brief_cut p ++ codes "\n"))))
+    (brief_headers true hs)
 
 -- ---- in a format
 

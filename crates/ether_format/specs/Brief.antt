@@ -1,5 +1,5 @@
 -- A packet as a line for the eye.
-use Rattle.std.specs.Prelude.{ℕ, ◌-◌, ◌%◌, nat_eq, List, [], ◌++◌, length, take, codes, Bool, Option, Some, None, if◌then◌else◌}
+use Rattle.std.specs.Prelude.{ℕ, ◌-◌, ◌%◌, nat_eq, nat_le, ◌&&◌, List, [], ◌∷◌, ◌++◌, length, take, slice_range, codes, Bool, true, Option, Some, None, if◌then◌else◌}
 use Rattle.std.specs.List.{flat_map}
 use Rattle.std.specs.Fmt.{decimal}
 use Rattle.etherparse.specs.Bytes.{spelled}
@@ -12,7 +12,7 @@ use Rattle.etherparse.specs.Types.Layer.{Layer}
 use Rattle.etherparse.specs.Types.Layer.TheVariants as layers
 use Rattle.etherparse.specs.Header.{Header}
 use Rattle.etherparse.specs.Header as headers
-use Rattle.ether_base.specs.Texts.NumberText.{description_in}
+use Rattle.ether_base.specs.Texts.NumberText.{description_in, hex_byte}
 use Rattle.ether_fields.specs.Names.{ether_type_names}
 use Rattle.ether_sll2.specs.LinuxSll2.{LinuxSll2Value}
 use Rattle.ether_pcap.specs.Capture.{PacketValue}
@@ -109,11 +109,45 @@ name_or_number None t = hex_number t
 unfoldable pub type_text : ℕ → List ℕ
 type_text t = name_or_number (description_in ether_type_names t) t
 
+-- both addresses of LLC are this one
+abbrev pub are_both : (dsap ssap sap : ℕ) → Bool
+are_both dsap ssap sap = nat_eq dsap sap && nat_eq ssap sap
+
+abbrev pub other_saps : (dsap ssap : ℕ) → List ℕ
+other_saps dsap ssap = codes " LLC dsap 0x" ++ (hex_byte true dsap ++ (codes " ssap 0x" ++ hex_byte true ssap))
+
+-- the addresses of LLC (ISO/IEC 8802-2, 3.2): 0x42 is that of the spanning tree (IEEE 802.1Q, 8.13.3), 0xAA that of
+-- SNAP (RFC 1042, "Header Format")
+abbrev pub saps_text : (dsap ssap : ℕ) → List ℕ
+saps_text dsap ssap =
+    if are_both dsap ssap 0x42 then codes " STP"
+    else (if are_both dsap ssap 0xAA then codes " SNAP" else other_saps dsap ssap)
+
+-- client data begins with the two addresses of LLC, if both are there
+unfoldable pub llc_text : List ℕ → List ℕ
+llc_text (dsap ∷ ssap ∷ more) = saps_text dsap ssap
+llc_text _ = []
+
+-- a length, and what the bytes that it counts begin with
+abbrev pub counted_text : ℕ → (rest : List ℕ) → List ℕ
+counted_text n rest = codes "802.3 len " ++ (decimal n ++ llc_text (take n rest))
+
+-- A number of at most 1500 is a length and not a type (IEEE 802.3, 3.2.6), in a frame of Ethernet (link type 1).
+abbrev pub is_length : PacketValue → ℕ → Bool
+is_length p n = nat_le n 1500 && nat_eq p.link_type 1
+
+abbrev pub announced_text : PacketValue → ℕ → (rest : List ℕ) → List ℕ
+announced_text p n rest = if is_length p n then counted_text n rest else type_text n
+
 -- what is left, and its length; the padding after an ARP packet is left out
-abbrev pub brief_rest : (len : ℕ) → RestKind → List ℕ
-brief_rest len rests.AfterArp = []
-brief_rest len (rests.EtherType t) = codes " " ++ (type_text t.0 ++ (codes " " ++ (decimal len ++ codes " bytes")))
-brief_rest len kind = codes " " ++ (kind_word kind ++ (codes " " ++ (decimal len ++ codes " bytes")))
+abbrev pub brief_rest : PacketValue → (start finish : ℕ) → RestKind → List ℕ
+brief_rest p start finish rests.AfterArp = []
+brief_rest p start finish (rests.EtherType t) =
+    codes " "
+    ++ (announced_text p t.0 (slice_range p.packet start finish)
+    ++ (codes " " ++ (decimal (finish - start) ++ codes " bytes")))
+brief_rest p start finish kind =
+    codes " " ++ (kind_word kind ++ (codes " " ++ (decimal (finish - start) ++ codes " bytes")))
 
 -- what was cut: a header, or a SecTag with the payload whose length it gives (IEEE 802.1AE, 9.7). The walk reads no
 -- other layer.
@@ -140,10 +174,10 @@ brief_cause ShortLength = codes "short length 1"
 abbrev pub fault_text : (start : ℕ) → Cause → List ℕ
 fault_text start cause = codes " fault at " ++ (decimal start ++ (codes ": " ++ brief_cause cause))
 
-abbrev pub brief_end : End → List ℕ
-brief_end (Rest start finish kind) = brief_rest (finish - start) kind
-brief_end (Skipped len) = codes " skipped " ++ (decimal len ++ codes " bytes")
-brief_end (Fault start closed cause) = fault_text start cause
+abbrev pub brief_end : PacketValue → End → List ℕ
+brief_end p (Rest start finish kind) = brief_rest p start finish kind
+brief_end p (Skipped len) = codes " skipped " ++ (decimal len ++ codes " bytes")
+brief_end p (Fault start closed cause) = fault_text start cause
 
 -- ---- the packet
 
@@ -172,4 +206,4 @@ brief_front number moment = decimal number ++ (codes " " ++ brief_time moment)
 
 abbrev pub brief_line : ℕ → PacketValue → Option Moment → List Told → End → List ℕ
 brief_line number p moment headers end =
-    brief_front number moment ++ (flat_map brief_told headers ++ (brief_end end ++ (brief_cut p ++ codes "\n")))
+    brief_front number moment ++ (flat_map brief_told headers ++ (brief_end p end ++ (brief_cut p ++ codes "\n")))

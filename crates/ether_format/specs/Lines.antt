@@ -30,9 +30,9 @@ abbrev pub headers_text : Line → (first : Bool) → List Told → List ℕ
 headers_text line first [] = []
 headers_text line first (h ∷ hs) = header_text line first h ++ headers_text line false hs
 
-abbrev pub end_text : Line → End → List ℕ
-end_text Json end = json_end end
-end_text Brief end = brief_end end
+abbrev pub end_text : Line → PacketValue → End → List ℕ
+end_text Json p end = json_end end
+end_text Brief p end = brief_end p end
 
 abbrev pub tail_text : Line → PacketValue → List ℕ
 tail_text Json p = []

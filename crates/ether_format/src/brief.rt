@@ -1,5 +1,5 @@
 //! Writes the parts of a line for the eye: the packet's number and time, its headers, and how the walk ends.
-ghost use Rattle.std.specs.Prelude.{◌++◌, ◌-◌, ◌≡◌, ◌≤◌, codes, take};
+ghost use Rattle.std.specs.Prelude.{◌++◌, ◌-◌, ◌≡◌, ◌≤◌, codes, drop, take, true};
 ghost use Rattle.etherparse.specs.Arp.{arp_of};
 ghost use Rattle.etherparse.specs.Ethernet2.{ethernet2_of};
 ghost use Rattle.etherparse.specs.LinuxSll.{linux_sll_of};
@@ -7,11 +7,12 @@ ghost use Rattle.etherparse.specs.Macsec.{sec_tag_of, tag_bytes};
 ghost use Rattle.etherparse.specs.Vlan.{vlan_of};
 ghost use Rattle.std.specs.Fmt.{decimal};
 ghost use Rattle.etherparse.specs.Header as headers;
+ghost use Rattle.ether_base.specs.Texts.NumberText.{hex_byte};
 ghost use Rattle.ether_content.specs.ContentViews.{cooked_view};
 ghost use Rattle.ether_pcap.specs.CaptureViews.{captured_packet_view};
 ghost use Rattle.ether_sll2.specs.LinuxSll2.{linux_sll2_of};
 ghost use Rattle.ether_output.specs.OutputBuffer.{Takes};
-ghost use Rattle.ether_format.specs.Brief.{address_text, arp_other, arp_reply, arp_request, brief_arp, brief_cause, brief_cooked_v2, brief_cut, brief_end, brief_ethernet2, brief_front, brief_header, brief_macsec, brief_moment, brief_rest, brief_vlan, cooked_text, fault_text, fraction_text, layer_word, lengths_text, type_text};
+ghost use Rattle.ether_format.specs.Brief.{address_text, announced_text, are_both, arp_other, arp_reply, arp_request, brief_arp, brief_cause, brief_cooked_v2, brief_cut, brief_end, brief_ethernet2, brief_front, brief_header, brief_macsec, brief_moment, brief_rest, brief_vlan, cooked_text, counted_text, fault_text, fraction_text, layer_word, lengths_text, llc_text, other_saps, saps_text, type_text, word_if};
 ghost use Rattle.ether_output.specs.Decimals.{two_digits};
 ghost use Rattle.ether_format.specs.Spelling.{colon_text};
 ghost use Rattle.ether_peel.specs.Walker.UnitHeader.{unit_header};
@@ -29,7 +30,7 @@ use crate::values::used;
 use ether_content::{CookedHeader, is_cut};
 use ether_fields::{Kind, name_of};
 use ether_output::{OutputBuffer, Sink, hex_type, write_decimal, write_number};
-use ether_pcap::CapturedPacket;
+use ether_pcap::{CapturedPacket, LinkType};
 use ether_peel::{PeelUnit, RestKind};
 use ether_sll2::LinuxSll2Slice;
 use etherparse::err::Layer;
@@ -197,25 +198,37 @@ fn write_linux_sll2<W: Sink>(packet: &LinuxSll2Slice<'_>, out: &mut OutputBuffer
 }
 
 /// Writes how the walk through a packet ends, after a space.
-pub(crate) fn write_brief_end<W: Sink>(end: &End, out: &mut OutputBuffer<'_, W>)
-    ensures { Takes W.contents W.can_fail out.old (brief_end end.now) out.new }
+pub(crate) fn write_brief_end<W: Sink>(
+    packet: &CapturedPacket<'_>,
+    end: &End,
+    out: &mut OutputBuffer<'_, W>,
+)
+    ensures { Takes W.contents W.can_fail out.old (brief_end (captured_packet_view packet.now) end.now) out.new }
 {
     match end {
-        End::Rest(start, end, kind) => write_rest(end.saturating_sub(*start), kind, out),
+        End::Rest(start, end, kind) => write_rest(packet, *start, *end, kind, out),
         End::Skipped(len) => write_skipped(*len, out),
         End::Fault(start, _, cause) => write_fault(*start, cause, out),
     }
 }
 
 /// Writes what is left, and its length; nothing for the padding after an ARP packet.
-fn write_rest<W: Sink>(len: usize, kind: &RestKind, out: &mut OutputBuffer<'_, W>)
-    ensures { Takes W.contents W.can_fail out.old (brief_rest len kind.now) out.new }
+fn write_rest<W: Sink>(
+    packet: &CapturedPacket<'_>,
+    start: usize,
+    end: usize,
+    kind: &RestKind,
+    out: &mut OutputBuffer<'_, W>,
+)
+    ensures { Takes W.contents W.can_fail out.old (brief_rest (captured_packet_view packet.now) start end kind.now)
+        out.new }
 {
+    let len = end.saturating_sub(start);
     match kind {
         RestKind::AfterArp => {}
         RestKind::EtherType(ether_type) => {
             out.append(b" ");
-            write_type(*ether_type, out);
+            write_announced(packet, *ether_type, start, len, out);
             write_len(len, out);
         }
         _ => {
@@ -224,6 +237,91 @@ fn write_rest<W: Sink>(len: usize, kind: &RestKind, out: &mut OutputBuffer<'_, W
             write_len(len, out);
         }
     }
+}
+
+/// Writes an ether type, or a length of IEEE 802.3 and what the bytes that it counts begin with.
+fn write_announced<W: Sink>(
+    packet: &CapturedPacket<'_>,
+    ether_type: EtherType,
+    start: usize,
+    len: usize,
+    out: &mut OutputBuffer<'_, W>,
+)
+    ensures { Takes W.contents W.can_fail out.old (announced_text (captured_packet_view packet.now) ether_type.0
+        (take len (drop start packet.now.packet.now))) out.new }
+{
+    if ether_type.0 <= 1500 && packet.link_type == LinkType::ETHERNET {
+        write_counted(
+            ether_type.0,
+            first_of(after(packet.packet, start), len),
+            out,
+        );
+    } else {
+        write_type(ether_type, out);
+    }
+}
+
+/// The bytes from an offset on, or none if there are fewer.
+fn after(bytes: &[u8], start: usize) -> &[u8]
+    ensures { result.now ≡ drop start bytes.now }
+{
+    &bytes[start.min(bytes.len())..]
+}
+
+/// Writes `802.3 len LEN`, and what the first LEN bytes begin with.
+#[inline(never)]
+fn write_counted<W: Sink>(len: u16, rest: &[u8], out: &mut OutputBuffer<'_, W>)
+    ensures { Takes W.contents W.can_fail out.old (counted_text len rest.now) out.new }
+{
+    write_number(out, b"802.3 len ", u64::from(len));
+    write_llc(first_of(rest, usize::from(len)), out);
+}
+
+/// Writes the two addresses of LLC, if both are there.
+fn write_llc<W: Sink>(bytes: &[u8], out: &mut OutputBuffer<'_, W>)
+    ensures { Takes W.contents W.can_fail out.old (llc_text bytes.now) out.new }
+{
+    if bytes.len() >= 2 {
+        write_saps(bytes[0], bytes[1], out);
+    }
+}
+
+/// Writes ` STP`, ` SNAP` or ` LLC dsap DSAP ssap SSAP`.
+fn write_saps<W: Sink>(dsap: u8, ssap: u8, out: &mut OutputBuffer<'_, W>)
+    ensures { Takes W.contents W.can_fail out.old (saps_text dsap ssap) out.new }
+{
+    if are_both(dsap, ssap, 0x42) {
+        out.append(b" STP");
+    } else if are_both(dsap, ssap, 0xAA) {
+        out.append(b" SNAP");
+    } else {
+        write_other_saps(dsap, ssap, out);
+    }
+}
+
+/// Whether both addresses are this one.
+fn are_both(dsap: u8, ssap: u8, sap: u8) -> bool
+    ensures { result ≡ are_both dsap ssap sap }
+{
+    dsap == sap && ssap == sap
+}
+
+/// Writes ` LLC dsap DSAP ssap SSAP`.
+fn write_other_saps<W: Sink>(dsap: u8, ssap: u8, out: &mut OutputBuffer<'_, W>)
+    ensures { Takes W.contents W.can_fail out.old (other_saps dsap ssap) out.new }
+{
+    out.append(b" LLC dsap 0x");
+    out.append_array(upper_pair(dsap));
+    out.append(b" ssap 0x");
+    out.append_array(upper_pair(ssap));
+}
+
+/// The two digits of a byte, in upper case.
+fn upper_pair(byte: u8) -> [u8; 2]
+    ensures { result ≡ hex_byte true byte }
+{
+    let digits = hex_type(EtherType(u16::from(byte)));
+    [digits[4], digits[5]]
 }
 
 /// Writes ` LEN bytes`.

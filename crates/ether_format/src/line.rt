@@ -60,7 +60,7 @@ pub(crate) fn write_line<W: Sink>(
         is_first: true,
     };
     let end = visit(packet, limit, &mut headers, out);
-    write_end(line, &end, out);
+    write_end(line, packet, &end, out);
     write_tail(line, packet, out);
     end.is_accepted()
 }
@@ -99,12 +99,17 @@ fn write_header<W: Sink>(
 
 /// Writes how the walk through the headers of a packet ends.
 #[inline(always)]
-fn write_end<W: Sink>(line: Line, end: &End, out: &mut OutputBuffer<'_, W>)
-    ensures { Takes W.contents W.can_fail out.old (end_text line end.now) out.new }
+fn write_end<W: Sink>(
+    line: Line,
+    packet: &CapturedPacket<'_>,
+    end: &End,
+    out: &mut OutputBuffer<'_, W>,
+)
+    ensures { Takes W.contents W.can_fail out.old (end_text line (captured_packet_view packet.now) end.now) out.new }
 {
     match line {
         Line::Json => write_json_end(end, out),
-        Line::Brief => write_brief_end(end, out),
+        Line::Brief => write_brief_end(packet, end, out),
     }
 }
 

@@ -1401,6 +1401,95 @@
 //!
 //! Uses: [`name_or_number`](#def.name_or_number), [`description_in`](crate::definitions::ether_base#def.description_in), [`ether_type_names`](crate::definitions::ether_fields#def.ether_type_names)
 //!
+//! <a id="def.are_both"></a>
+//!
+//! ## `are_both`
+//!
+//! Both addresses of LLC are this one.
+//!
+//! ```text
+//! abbrev pub are_both : (dsap ssap sap : ℕ) → Bool
+//! are_both dsap ssap sap = nat_eq dsap sap && nat_eq ssap sap
+//! ```
+//!
+//! <a id="def.other_saps"></a>
+//!
+//! ## `other_saps`
+//!
+//! ```text
+//! abbrev pub other_saps : (dsap ssap : ℕ) → List ℕ
+//! other_saps dsap ssap = codes " LLC dsap 0x" ++ (hex_byte true dsap ++ (codes " ssap 0x" ++ hex_byte true ssap))
+//! ```
+//!
+//! Uses: [`hex_byte`](crate::definitions::ether_base#def.hex_byte)
+//!
+//! <a id="def.saps_text"></a>
+//!
+//! ## `saps_text`
+//!
+//! The addresses of LLC (ISO/IEC 8802-2, 3.2): 0x42 is that of the spanning tree (IEEE 802.1Q, 8.13.3), 0xAA that of
+//! SNAP (RFC 1042, "Header Format").
+//!
+//! ```text
+//! abbrev pub saps_text : (dsap ssap : ℕ) → List ℕ
+//! saps_text dsap ssap =
+//!     if are_both dsap ssap 0x42 then codes " STP"
+//!     else (if are_both dsap ssap 0xAA then codes " SNAP" else other_saps dsap ssap)
+//! ```
+//!
+//! Uses: [`are_both`](#def.are_both), [`other_saps`](#def.other_saps)
+//!
+//! <a id="def.llc_text"></a>
+//!
+//! ## `llc_text`
+//!
+//! Client data begins with the two addresses of LLC, if both are there.
+//!
+//! ```text
+//! unfoldable pub llc_text : List ℕ → List ℕ
+//! llc_text (dsap ∷ ssap ∷ more) = saps_text dsap ssap
+//! llc_text _ = []
+//! ```
+//!
+//! Uses: [`saps_text`](#def.saps_text)
+//!
+//! <a id="def.counted_text"></a>
+//!
+//! ## `counted_text`
+//!
+//! A length, and what the bytes that it counts begin with.
+//!
+//! ```text
+//! abbrev pub counted_text : ℕ → (rest : List ℕ) → List ℕ
+//! counted_text n rest = codes "802.3 len " ++ (decimal n ++ llc_text (take n rest))
+//! ```
+//!
+//! Uses: [`llc_text`](#def.llc_text)
+//!
+//! <a id="def.is_length"></a>
+//!
+//! ## `is_length`
+//!
+//! A number of at most 1500 is a length and not a type (IEEE 802.3, 3.2.6), in a frame of Ethernet (link type 1).
+//!
+//! ```text
+//! abbrev pub is_length : PacketValue → ℕ → Bool
+//! is_length p n = nat_le n 1500 && nat_eq p.link_type 1
+//! ```
+//!
+//! Uses: [`PacketValue`](crate::definitions::ether_pcap#def.PacketValue)
+//!
+//! <a id="def.announced_text"></a>
+//!
+//! ## `announced_text`
+//!
+//! ```text
+//! abbrev pub announced_text : PacketValue → ℕ → (rest : List ℕ) → List ℕ
+//! announced_text p n rest = if is_length p n then counted_text n rest else type_text n
+//! ```
+//!
+//! Uses: [`PacketValue`](crate::definitions::ether_pcap#def.PacketValue), [`is_length`](#def.is_length), [`counted_text`](#def.counted_text), [`type_text`](#def.type_text)
+//!
 //! <a id="def.brief_rest"></a>
 //!
 //! ## `brief_rest`
@@ -1408,13 +1497,17 @@
 //! What is left, and its length; the padding after an ARP packet is left out.
 //!
 //! ```text
-//! abbrev pub brief_rest : (len : ℕ) → RestKind → List ℕ
-//! brief_rest len rests.AfterArp = []
-//! brief_rest len (rests.EtherType t) = codes " " ++ (type_text t.0 ++ (codes " " ++ (decimal len ++ codes " bytes")))
-//! brief_rest len kind = codes " " ++ (kind_word kind ++ (codes " " ++ (decimal len ++ codes " bytes")))
+//! abbrev pub brief_rest : PacketValue → (start finish : ℕ) → RestKind → List ℕ
+//! brief_rest p start finish rests.AfterArp = []
+//! brief_rest p start finish (rests.EtherType t) =
+//!     codes " "
+//!     ++ (announced_text p t.0 (slice_range p.packet start finish)
+//!     ++ (codes " " ++ (decimal (finish - start) ++ codes " bytes")))
+//! brief_rest p start finish kind =
+//!     codes " " ++ (kind_word kind ++ (codes " " ++ (decimal (finish - start) ++ codes " bytes")))
 //! ```
 //!
-//! Uses: `rests` (`RestKind`), [`type_text`](#def.type_text), [`kind_word`](#def.kind_word)
+//! Uses: [`PacketValue`](crate::definitions::ether_pcap#def.PacketValue), `rests` (`RestKind`), [`announced_text`](#def.announced_text), [`kind_word`](#def.kind_word)
 //!
 //! <a id="def.layer_word"></a>
 //!
@@ -1479,13 +1572,13 @@
 //! ## `brief_end`
 //!
 //! ```text
-//! abbrev pub brief_end : End → List ℕ
-//! brief_end (Rest start finish kind) = brief_rest (finish - start) kind
-//! brief_end (Skipped len) = codes " skipped " ++ (decimal len ++ codes " bytes")
-//! brief_end (Fault start closed cause) = fault_text start cause
+//! abbrev pub brief_end : PacketValue → End → List ℕ
+//! brief_end p (Rest start finish kind) = brief_rest p start finish kind
+//! brief_end p (Skipped len) = codes " skipped " ++ (decimal len ++ codes " bytes")
+//! brief_end p (Fault start closed cause) = fault_text start cause
 //! ```
 //!
-//! Uses: [`End`](#def.End), [`Rest`](#def.End), [`brief_rest`](#def.brief_rest), [`Skipped`](#def.End), [`Fault`](#def.End), [`fault_text`](#def.fault_text)
+//! Uses: [`PacketValue`](crate::definitions::ether_pcap#def.PacketValue), [`End`](#def.End), [`Rest`](#def.End), [`brief_rest`](#def.brief_rest), [`Skipped`](#def.End), [`Fault`](#def.End), [`fault_text`](#def.fault_text)
 //!
 //! **The packet**
 //!
@@ -1562,7 +1655,7 @@
 //! ```text
 //! abbrev pub brief_line : ℕ → PacketValue → Option Moment → List Told → End → List ℕ
 //! brief_line number p moment headers end =
-//!     brief_front number moment ++ (flat_map brief_told headers ++ (brief_end end ++ (brief_cut p ++ codes "\n")))
+//!     brief_front number moment ++ (flat_map brief_told headers ++ (brief_end p end ++ (brief_cut p ++ codes "\n")))
 //! ```
 //!
 //! Uses: [`PacketValue`](crate::definitions::ether_pcap#def.PacketValue), [`Told`](#def.Told), [`End`](#def.End), [`brief_front`](#def.brief_front), [`brief_told`](#def.brief_told), [`brief_end`](#def.brief_end), [`brief_cut`](#def.brief_cut)

@@ -12,7 +12,7 @@ use crate::ether_format::values::used;
 use crate::ether_content::{CookedHeader, is_cut};
 use crate::ether_fields::{Kind, name_of};
 use crate::ether_output::{OutputBuffer, Sink, hex_type, write_decimal, write_number};
-use crate::ether_pcap::CapturedPacket;
+use crate::ether_pcap::{CapturedPacket, LinkType};
 use crate::ether_peel::{PeelUnit, RestKind};
 use crate::ether_sll2::LinuxSll2Slice;
 use crate::err::Layer;
@@ -166,9 +166,13 @@ fn write_linux_sll2<W: Sink>(packet: &LinuxSll2Slice<'_>, out: &mut OutputBuffer
 
 /// Writes how the walk through a packet ends, after a space.
 #[inline]
-pub(in crate::ether_format) fn write_brief_end<W: Sink>(end: &End, out: &mut OutputBuffer<'_, W>) {
+pub(in crate::ether_format) fn write_brief_end<W: Sink>(
+    packet: &CapturedPacket<'_>,
+    end: &End,
+    out: &mut OutputBuffer<'_, W>,
+) {
     match end {
-        End::Rest(start, end, kind) => write_rest(end.saturating_sub(*start), kind, out),
+        End::Rest(start, end, kind) => write_rest(packet, *start, *end, kind, out),
         End::Skipped(len) => write_skipped(*len, out),
         End::Fault(start, _, cause) => write_fault(*start, cause, out),
     }
@@ -176,12 +180,19 @@ pub(in crate::ether_format) fn write_brief_end<W: Sink>(end: &End, out: &mut Out
 
 /// Writes what is left, and its length; nothing for the padding after an ARP packet.
 #[inline]
-fn write_rest<W: Sink>(len: usize, kind: &RestKind, out: &mut OutputBuffer<'_, W>) {
+fn write_rest<W: Sink>(
+    packet: &CapturedPacket<'_>,
+    start: usize,
+    end: usize,
+    kind: &RestKind,
+    out: &mut OutputBuffer<'_, W>,
+) {
+    let len = end.saturating_sub(start);
     match kind {
         RestKind::AfterArp => {}
         RestKind::EtherType(ether_type) => {
             out.append(b" ");
-            write_type(*ether_type, out);
+            write_announced(packet, *ether_type, start, len, out);
             write_len(len, out);
         }
         _ => {
@@ -190,6 +201,81 @@ fn write_rest<W: Sink>(len: usize, kind: &RestKind, out: &mut OutputBuffer<'_, W
             write_len(len, out);
         }
     }
+}
+
+/// Writes an ether type, or a length of IEEE 802.3 and what the bytes that it counts begin with.
+#[inline]
+fn write_announced<W: Sink>(
+    packet: &CapturedPacket<'_>,
+    ether_type: EtherType,
+    start: usize,
+    len: usize,
+    out: &mut OutputBuffer<'_, W>,
+) {
+    if ether_type.0 <= 1500 && packet.link_type == LinkType::ETHERNET {
+        write_counted(
+            ether_type.0,
+            first_of(after(packet.packet, start), len),
+            out,
+        );
+    } else {
+        write_type(ether_type, out);
+    }
+}
+
+/// The bytes from an offset on, or none if there are fewer.
+#[inline]
+fn after(bytes: &[u8], start: usize) -> &[u8] {
+    &bytes[start.min(bytes.len())..]
+}
+
+/// Writes `802.3 len LEN`, and what the first LEN bytes begin with.
+#[inline(never)]
+fn write_counted<W: Sink>(len: u16, rest: &[u8], out: &mut OutputBuffer<'_, W>) {
+    write_number(out, b"802.3 len ", u64::from(len));
+    write_llc(first_of(rest, usize::from(len)), out);
+}
+
+/// Writes the two addresses of LLC, if both are there.
+#[inline]
+fn write_llc<W: Sink>(bytes: &[u8], out: &mut OutputBuffer<'_, W>) {
+    if bytes.len() >= 2 {
+        write_saps(bytes[0], bytes[1], out);
+    }
+}
+
+/// Writes ` STP`, ` SNAP` or ` LLC dsap DSAP ssap SSAP`.
+#[inline]
+fn write_saps<W: Sink>(dsap: u8, ssap: u8, out: &mut OutputBuffer<'_, W>) {
+    if are_both(dsap, ssap, 0x42) {
+        out.append(b" STP");
+    } else if are_both(dsap, ssap, 0xAA) {
+        out.append(b" SNAP");
+    } else {
+        write_other_saps(dsap, ssap, out);
+    }
+}
+
+/// Whether both addresses are this one.
+#[inline]
+fn are_both(dsap: u8, ssap: u8, sap: u8) -> bool {
+    dsap == sap && ssap == sap
+}
+
+/// Writes ` LLC dsap DSAP ssap SSAP`.
+#[inline]
+fn write_other_saps<W: Sink>(dsap: u8, ssap: u8, out: &mut OutputBuffer<'_, W>) {
+    out.append(b" LLC dsap 0x");
+    out.append_array(upper_pair(dsap));
+    out.append(b" ssap 0x");
+    out.append_array(upper_pair(ssap));
+}
+
+/// The two digits of a byte, in upper case.
+#[inline]
+fn upper_pair(byte: u8) -> [u8; 2] {
+    let digits = hex_type(EtherType(u16::from(byte)));
+    [digits[4], digits[5]]
 }
 
 /// Writes ` LEN bytes`.

@@ -47,7 +47,7 @@ pub(in crate::ether_format) fn write_line<W: Sink>(
         is_first: true,
     };
     let end = visit(packet, limit, &mut headers, out);
-    write_end(line, &end, out);
+    write_end(line, packet, &end, out);
     write_tail(line, packet, out);
     end.is_accepted()
 }
@@ -82,10 +82,15 @@ fn write_header<W: Sink>(
 
 /// Writes how the walk through the headers of a packet ends.
 #[inline(always)]
-fn write_end<W: Sink>(line: Line, end: &End, out: &mut OutputBuffer<'_, W>) {
+fn write_end<W: Sink>(
+    line: Line,
+    packet: &CapturedPacket<'_>,
+    end: &End,
+    out: &mut OutputBuffer<'_, W>,
+) {
     match line {
         Line::Json => write_json_end(end, out),
-        Line::Brief => write_brief_end(end, out),
+        Line::Brief => write_brief_end(packet, end, out),
     }
 }
 
