@@ -150,8 +150,8 @@ BRIEF_LINES = {
         f"1 2023-11-14T22:13:20.000000Z 02:00:00:00:00:01 > {BROADCAST} ARP who-has 10.0.0.2 tell 10.0.0.1",
         f"2 2023-11-14T22:13:20.000000Z 02:00:00:00:00:01 > {BROADCAST} ARP reply 01:02 is-at 02:00:00:00:00:01"],
     "SecTags": [
-        f"1 2023-11-14T22:13:20.000000Z 02:00:00:00:00:01 > {BROADCAST} macsec an 1 pn 7 IPv4 6 bytes",
-        f"2 2023-11-14T22:13:20.000000Z 02:00:00:00:00:01 > {BROADCAST} macsec an 2 pn 1 sealed 2 bytes",
+        f"1 2023-11-14T22:13:20.000000Z 02:00:00:00:00:01 > {BROADCAST} macsec an 1 pn 7 sci 02:00:00:00:00:01/1 IPv4 6 bytes",
+        f"2 2023-11-14T22:13:20.000000Z 02:00:00:00:00:01 > {BROADCAST} macsec an 2 pn 1 encrypted changed sealed 2 bytes",
         f"3 2023-11-14T22:13:20.000000Z 02:00:00:00:00:01 > {BROADCAST} fault at 14: version 1 of MACsec",
         f"4 2023-11-14T22:13:20.000000Z 02:00:00:00:00:01 > {BROADCAST} fault at 14: short length 1"],
     "cooked capture v1": ["1 2023-11-14T22:13:20.000000Z cooked type 0 from 00:00:00:00:00:00 vlan 5 pcp 0 IPv4 0 bytes"],
@@ -180,6 +180,12 @@ BRIEF_ENDS = [
     ("0003 aa4203", "802.3 len 3 LLC dsap 0xAA ssap 0x42 3 bytes"), ("0002 4242", "802.3 len 2 STP 2 bytes"), ("0001 4242", "802.3 len 1 2 bytes"),
     ("0000 4242", "802.3 len 0 2 bytes"), ("05dc 42", "802.3 len 1500 1 bytes"), ("0026", "802.3 len 38 0 bytes"),
     ("8100 0005 0026 424203", "vlan 5 pcp 0 802.3 len 38 STP 3 bytes"),
+    # IEEE 802.1AE, 9.5 and 9.9: each of the bits ES, SCB, E and C; the SecTag of the first test vector of its annex C
+    ("88e5 40 00 00000001 0800", "macsec an 0 pn 1 es IPv4 0 bytes"), ("88e5 10 00 00000001 0800", "macsec an 0 pn 1 scb IPv4 0 bytes"),
+    ("88e5 08 00 00000001 aa", "macsec an 0 pn 1 encrypted sealed 1 bytes"), ("88e5 04 00 00000001 aa", "macsec an 0 pn 1 changed sealed 1 bytes"),
+    ("88e5 5f 00 00000001 aa", "macsec an 3 pn 1 es scb encrypted changed sealed 1 bytes"),
+    ("88e5 22 2a b2c28465 12153524c0895e81 0800 0f101112131415161718191a1b1c1d1e1f202122232425262728292a2b2c2d2e2f3031323334 0001"
+     "f09478a9b09007d06f46e9b6a1da25dd", "macsec an 2 pn 2999092325 sci 12:15:35:24:c0:89/24193 IPv4 40 bytes"),
     ("0806 0001 0800 06 04 0001 020000000001", "fault at 14: ARP needs 28 bytes, has 14"),
     ("88e5 20 00 00000001", "fault at 14: macsec needs 16 bytes, has 6"),
     ("88e5 21 08 00000007 0200000000010001 0800 11223344", "fault at 14: macsec packet needs 22 bytes, has 20"),

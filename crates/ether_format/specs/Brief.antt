@@ -1,11 +1,11 @@
 -- A packet as a line for the eye.
-use Rattle.std.specs.Prelude.{ℕ, ◌-◌, ◌%◌, nat_eq, nat_le, ◌&&◌, List, [], ◌∷◌, ◌++◌, length, take, slice_range, codes, Bool, true, Option, Some, None, if◌then◌else◌}
+use Rattle.std.specs.Prelude.{ℕ, ◌-◌, ◌%◌, ◌^◌, nat_eq, nat_le, ◌&&◌, List, [], ◌∷◌, ◌++◌, length, take, slice_range, codes, Bool, true, Option, Some, None, if◌then◌else◌}
 use Rattle.std.specs.List.{flat_map}
 use Rattle.std.specs.Fmt.{decimal}
 use Rattle.etherparse.specs.Bytes.{spelled}
 use Rattle.etherparse.specs.Ethernet2.{Ethernet2Value}
 use Rattle.etherparse.specs.Vlan.{VlanValue}
-use Rattle.etherparse.specs.Macsec.{SecTagValue}
+use Rattle.etherparse.specs.Macsec.{SecTagValue, encrypted_of, changed_of}
 use Rattle.etherparse.specs.Arp.{ArpValue}
 use Rattle.etherparse.specs.NumberText.{hex_number}
 use Rattle.etherparse.specs.Types.Layer.{Layer}
@@ -43,8 +43,24 @@ abbrev pub brief_vlan : VlanValue → List ℕ
 brief_vlan v =
     codes " vlan " ++ (decimal v.vid ++ (codes " pcp " ++ (decimal v.pcp ++ word_if (nat_eq v.dei 1) (codes " dei"))))
 
+-- a secure channel: the address of its system, and its port (IEEE 802.1AE, 9.9)
+abbrev pub sci_text : Option ℕ → List ℕ
+sci_text None = []
+sci_text (Some sci) = codes " sci " ++ (colon_text (take 6 (spelled 8 sci)) ++ (codes "/" ++ decimal (sci % 2 ^ 16)))
+
+-- the bits ES, SCB, E and C, each as a word if it is set (IEEE 802.1AE, 9.5)
+abbrev pub macsec_bits : SecTagValue → List ℕ
+macsec_bits t =
+    word_if (nat_eq t.end_station 1) (codes " es")
+    ++ (word_if (nat_eq t.single_copy_broadcast 1) (codes " scb")
+    ++ (word_if (nat_eq (encrypted_of t.payload_type) 1) (codes " encrypted")
+    ++ word_if (nat_eq (changed_of t.payload_type) 1) (codes " changed")))
+
 abbrev pub brief_macsec : SecTagValue → List ℕ
-brief_macsec t = codes " macsec an " ++ (decimal t.association_number ++ (codes " pn " ++ decimal t.packet_number))
+brief_macsec t =
+    codes " macsec an "
+    ++ (decimal t.association_number
+    ++ (codes " pn " ++ (decimal t.packet_number ++ (sci_text t.sci ++ macsec_bits t))))
 
 -- an address of a protocol, of IPv4 with dots
 abbrev pub address_text : (protocol : ℕ) → List ℕ → List ℕ

@@ -1,5 +1,5 @@
 //! Writes the parts of a line for the eye: the packet's number and time, its headers, and how the walk ends.
-ghost use Rattle.std.specs.Prelude.{◌++◌, ◌-◌, ◌≡◌, ◌≤◌, codes, drop, take, true};
+ghost use Rattle.std.specs.Prelude.{◌++◌, ◌-◌, ◌≡◌, ◌≤◌, codes, drop, nat_eq, take, true};
 ghost use Rattle.etherparse.specs.Arp.{arp_of};
 ghost use Rattle.etherparse.specs.Ethernet2.{ethernet2_of};
 ghost use Rattle.etherparse.specs.LinuxSll.{linux_sll_of};
@@ -12,7 +12,7 @@ ghost use Rattle.ether_content.specs.ContentViews.{cooked_view};
 ghost use Rattle.ether_pcap.specs.CaptureViews.{captured_packet_view};
 ghost use Rattle.ether_sll2.specs.LinuxSll2.{linux_sll2_of};
 ghost use Rattle.ether_output.specs.OutputBuffer.{Takes};
-ghost use Rattle.ether_format.specs.Brief.{address_text, announced_text, are_both, arp_other, arp_reply, arp_request, brief_arp, brief_cause, brief_cooked_v2, brief_cut, brief_end, brief_ethernet2, brief_front, brief_header, brief_macsec, brief_moment, brief_rest, brief_vlan, cooked_text, counted_text, fault_text, fraction_text, layer_word, lengths_text, llc_text, other_saps, saps_text, type_text, word_if};
+ghost use Rattle.ether_format.specs.Brief.{address_text, announced_text, are_both, arp_other, arp_reply, arp_request, brief_arp, brief_cause, brief_cooked_v2, brief_cut, brief_end, brief_ethernet2, brief_front, brief_header, brief_macsec, brief_moment, brief_rest, brief_vlan, cooked_text, counted_text, fault_text, fraction_text, layer_word, lengths_text, llc_text, macsec_bits, other_saps, saps_text, sci_text, type_text, word_if};
 ghost use Rattle.ether_output.specs.Decimals.{two_digits};
 ghost use Rattle.ether_format.specs.Spelling.{colon_text};
 ghost use Rattle.ether_peel.specs.Walker.UnitHeader.{unit_header};
@@ -26,7 +26,7 @@ use crate::found_header::FoundHeader;
 use crate::spelling::{
     first_of, has_date, mac_text, nine_digits, write_colons, write_date, write_dotted,
 };
-use crate::values::used;
+use crate::values::{changed_bit, encrypted_bit, used};
 use ether_content::{CookedHeader, is_cut};
 use ether_fields::{Kind, name_of};
 use ether_output::{OutputBuffer, Sink, hex_type, write_decimal, write_number};
@@ -88,12 +88,44 @@ fn write_vlan<W: Sink>(slice: &SingleVlanSlice<'_>, out: &mut OutputBuffer<'_, W
     }
 }
 
-/// Writes ` macsec an AN pn PN`: the association number and the packet number.
+/// Writes ` macsec an AN pn PN`: the association number and the packet number; then the SCI and the bits.
 fn write_macsec<W: Sink>(tag: &MacsecHeaderSlice<'_>, out: &mut OutputBuffer<'_, W>)
     ensures { Takes W.contents W.can_fail out.old (brief_macsec (sec_tag_of (tag_bytes tag.now))) out.new }
 {
     write_number(out, b" macsec an ", u64::from(tag.an().value()));
     write_number(out, b" pn ", tag.packet_nr() as u64);
+    write_sci(tag.sci(), out);
+    write_macsec_bits(tag, out);
+}
+
+/// Writes ` sci ADDRESS/PORT`, if there is an SCI.
+fn write_sci<W: Sink>(sci: Option<u64>, out: &mut OutputBuffer<'_, W>)
+    ensures { Takes W.contents W.can_fail out.old (sci_text sci) out.new }
+{
+    if let Some(sci) = sci {
+        out.append(b" sci ");
+        write_colons(first_of(&sci.to_be_bytes(), 6), out);
+        write_number(out, b"/", sci % 65_536);
+    }
+}
+
+/// Writes a word for each bit of a SecTag that is set.
+fn write_macsec_bits<W: Sink>(tag: &MacsecHeaderSlice<'_>, out: &mut OutputBuffer<'_, W>)
+    ensures { Takes W.contents W.can_fail out.old (macsec_bits (sec_tag_of (tag_bytes tag.now))) out.new }
+{
+    write_if(u64::from(tag.endstation_id()), b" es", out);
+    write_if(u64::from(tag.tci_scb()), b" scb", out);
+    write_if(encrypted_bit(tag.ptype()), b" encrypted", out);
+    write_if(changed_bit(tag.ptype()), b" changed", out);
+}
+
+/// Writes a word if a bit is 1.
+fn write_if<W: Sink>(bit: u64, word: &[u8], out: &mut OutputBuffer<'_, W>)
+    ensures { Takes W.contents W.can_fail out.old (word_if (nat_eq bit 1) word.now) out.new }
+{
+    if bit == 1 {
+        out.append(word);
+    }
 }
 
 /// Writes an ARP packet: as a request, a reply, or another operation by its number.

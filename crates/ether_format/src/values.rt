@@ -184,7 +184,7 @@ pub(crate) fn macsec_value<'a>(tag: &MacsecHeaderSlice<'_>, index: usize) -> Opt
 }
 
 /// 1 if the payload of a SecTag is encrypted.
-fn encrypted_bit(payload_type: MacsecPType) -> u64
+pub(crate) fn encrypted_bit(payload_type: MacsecPType) -> u64
     ensures { result ≡ encrypted_of (payload_type_view payload_type) }
 {
     match payload_type {
@@ -194,7 +194,7 @@ fn encrypted_bit(payload_type: MacsecPType) -> u64
 }
 
 /// 1 if the payload of a SecTag is changed.
-fn changed_bit(payload_type: MacsecPType) -> u64
+pub(crate) fn changed_bit(payload_type: MacsecPType) -> u64
     ensures { result ≡ changed_of (payload_type_view payload_type) }
 {
     match payload_type {

@@ -1224,16 +1224,50 @@
 //!
 //! Uses: [`VlanValue`](crate::definitions::ether_base#def.VlanValue), [`word_if`](#def.word_if)
 //!
+//! <a id="def.sci_text"></a>
+//!
+//! ## `sci_text`
+//!
+//! A secure channel: the address of its system, and its port (IEEE 802.1AE, 9.9).
+//!
+//! ```text
+//! abbrev pub sci_text : Option ℕ → List ℕ
+//! sci_text None = []
+//! sci_text (Some sci) = codes " sci " ++ (colon_text (take 6 (spelled 8 sci)) ++ (codes "/" ++ decimal (sci % 2 ^ 16)))
+//! ```
+//!
+//! Uses: [`colon_text`](#def.colon_text), [`spelled`](crate::definitions::ether_base#def.spelled)
+//!
+//! <a id="def.macsec_bits"></a>
+//!
+//! ## `macsec_bits`
+//!
+//! The bits ES, SCB, E and C, each as a word if it is set (IEEE 802.1AE, 9.5).
+//!
+//! ```text
+//! abbrev pub macsec_bits : SecTagValue → List ℕ
+//! macsec_bits t =
+//!     word_if (nat_eq t.end_station 1) (codes " es")
+//!     ++ (word_if (nat_eq t.single_copy_broadcast 1) (codes " scb")
+//!     ++ (word_if (nat_eq (encrypted_of t.payload_type) 1) (codes " encrypted")
+//!     ++ word_if (nat_eq (changed_of t.payload_type) 1) (codes " changed")))
+//! ```
+//!
+//! Uses: [`SecTagValue`](crate::definitions::ether_base#def.SecTagValue), [`word_if`](#def.word_if), [`encrypted_of`](crate::definitions::ether_base#def.encrypted_of), [`changed_of`](crate::definitions::ether_base#def.changed_of)
+//!
 //! <a id="def.brief_macsec"></a>
 //!
 //! ## `brief_macsec`
 //!
 //! ```text
 //! abbrev pub brief_macsec : SecTagValue → List ℕ
-//! brief_macsec t = codes " macsec an " ++ (decimal t.association_number ++ (codes " pn " ++ decimal t.packet_number))
+//! brief_macsec t =
+//!     codes " macsec an "
+//!     ++ (decimal t.association_number
+//!     ++ (codes " pn " ++ (decimal t.packet_number ++ (sci_text t.sci ++ macsec_bits t))))
 //! ```
 //!
-//! Uses: [`SecTagValue`](crate::definitions::ether_base#def.SecTagValue)
+//! Uses: [`SecTagValue`](crate::definitions::ether_base#def.SecTagValue), [`sci_text`](#def.sci_text), [`macsec_bits`](#def.macsec_bits)
 //!
 //! <a id="def.address_text"></a>
 //!

@@ -8,7 +8,7 @@ use crate::ether_format::found_header::FoundHeader;
 use crate::ether_format::spelling::{
     first_of, has_date, mac_text, nine_digits, write_colons, write_date, write_dotted,
 };
-use crate::ether_format::values::used;
+use crate::ether_format::values::{changed_bit, encrypted_bit, used};
 use crate::ether_content::{CookedHeader, is_cut};
 use crate::ether_fields::{Kind, name_of};
 use crate::ether_output::{OutputBuffer, Sink, hex_type, write_decimal, write_number};
@@ -65,11 +65,40 @@ fn write_vlan<W: Sink>(slice: &SingleVlanSlice<'_>, out: &mut OutputBuffer<'_, W
     }
 }
 
-/// Writes ` macsec an AN pn PN`: the association number and the packet number.
+/// Writes ` macsec an AN pn PN`: the association number and the packet number; then the SCI and the bits.
 #[inline]
 fn write_macsec<W: Sink>(tag: &MacsecHeaderSlice<'_>, out: &mut OutputBuffer<'_, W>) {
     write_number(out, b" macsec an ", u64::from(tag.an().value()));
     write_number(out, b" pn ", tag.packet_nr() as u64);
+    write_sci(tag.sci(), out);
+    write_macsec_bits(tag, out);
+}
+
+/// Writes ` sci ADDRESS/PORT`, if there is an SCI.
+#[inline]
+fn write_sci<W: Sink>(sci: Option<u64>, out: &mut OutputBuffer<'_, W>) {
+    if let Some(sci) = sci {
+        out.append(b" sci ");
+        write_colons(first_of(&sci.to_be_bytes(), 6), out);
+        write_number(out, b"/", sci % 65_536);
+    }
+}
+
+/// Writes a word for each bit of a SecTag that is set.
+#[inline]
+fn write_macsec_bits<W: Sink>(tag: &MacsecHeaderSlice<'_>, out: &mut OutputBuffer<'_, W>) {
+    write_if(u64::from(tag.endstation_id()), b" es", out);
+    write_if(u64::from(tag.tci_scb()), b" scb", out);
+    write_if(encrypted_bit(tag.ptype()), b" encrypted", out);
+    write_if(changed_bit(tag.ptype()), b" changed", out);
+}
+
+/// Writes a word if a bit is 1.
+#[inline]
+fn write_if<W: Sink>(bit: u64, word: &[u8], out: &mut OutputBuffer<'_, W>) {
+    if bit == 1 {
+        out.append(word);
+    }
 }
 
 /// Writes an ARP packet: as a request, a reply, or another operation by its number.

@@ -146,7 +146,7 @@ pub(in crate::ether_format) fn macsec_value<'a>(tag: &MacsecHeaderSlice<'_>, ind
 
 /// 1 if the payload of a SecTag is encrypted.
 #[inline]
-fn encrypted_bit(payload_type: MacsecPType) -> u64 {
+pub(in crate::ether_format) fn encrypted_bit(payload_type: MacsecPType) -> u64 {
     match payload_type {
         MacsecPType::EncryptedUnmodified | MacsecPType::Encrypted => 1,
         _ => 0,
@@ -155,7 +155,7 @@ fn encrypted_bit(payload_type: MacsecPType) -> u64 {
 
 /// 1 if the payload of a SecTag is changed.
 #[inline]
-fn changed_bit(payload_type: MacsecPType) -> u64 {
+pub(in crate::ether_format) fn changed_bit(payload_type: MacsecPType) -> u64 {
     match payload_type {
         MacsecPType::Modified | MacsecPType::Encrypted => 1,
         _ => 0,
